@@ -1,0 +1,165 @@
+//! Changesets.
+ghost use Rattle.std.specs.Prelude.{◌≡◌, ◌↔◌, IsTrue, MatchOption, IfOk, Ok, Err};
+ghost use Rattle.hex.specs.Hex.{IsBytes};
+ghost use Rattle.hg_changeset.specs.Node.{node_cmp};
+ghost use Rattle.hg_changeset.specs.Contents.{contents};
+ghost use Rattle.hg_changeset.specs.Changeset.{node_of, lesser, greater, is_given_twice, IsNormalFormOf, IsChangeset, changeset_of, changeset_fault};
+
+use crate::node::Node;
+use sha1::Sha1;
+use std::alloc::AllocError;
+use std::cmp::Ordering;
+use std::marker::Model;
+use thiserror::Error;
+
+/// The most bytes that a text may have.
+pub const TEXT_LIMIT: usize = 1_048_576;
+
+/// Why two parents and a text make no changeset.
+#[derive(Clone, Copy, PartialEq, Eq, Debug, Error)]
+pub enum ChangesetError {
+    #[error("SameParent")]
+    SameParent,
+    #[error("TextTooLong")]
+    TextTooLong,
+    #[error("NullNode")]
+    NullNode,
+}
+
+/// A changeset: at most two parents, a text, and the id that these give.
+#[derive(Drop)]
+pub struct Changeset {
+    node: Node,
+    first: Node,
+    second: Node,
+    text: Vec<u8>,
+}
+
+impl Model for Changeset {
+    ghost use Rattle.std.specs.Prelude.{◌≡◌};
+    ghost use Rattle.hg_changeset.specs.Contents.{Contents, contents};
+
+    ghost Value = { Contents };
+
+    ghost use Rattle.hg_changeset.specs.Changeset.{node_of, IsChangeset};
+
+    ghost view = { λ c. contents c.first c.second c.text.items };
+
+    ghost invariant = { λ c. (c.node ≡ node_of (contents c.first c.second c.text.items)) × IsChangeset (contents c.first c.second c.text.items) };
+}
+
+impl Changeset {
+    /// The changeset of these parents, in either order, and this text.
+    pub fn new(p: Node, q: Node, text: Vec<u8>) -> Result<Changeset, ChangesetError>
+        ensures { MatchOption (changeset_fault p q text.items)
+            (result ≡ Ok (changeset_of p q text.items))
+            (λ fault. result ≡ Err fault) }
+    {
+        let (first, second) = match normal_form(p, q) {
+            Some(parents) => parents,
+            None => return Err(ChangesetError::SameParent),
+        };
+        if text.len() > TEXT_LIMIT {
+            return Err(ChangesetError::TextTooLong);
+        }
+        let node = id_of(first, second, &text);
+        if node.is_null() {
+            return Err(ChangesetError::NullNode);
+        }
+        Ok(Changeset {
+            node,
+            first,
+            second,
+            text,
+        })
+    }
+
+    /// The id.
+    pub fn node(&self) -> Node
+        ensures id { result ≡ node_of self.now }
+        ensures changeset { IsChangeset self.now }
+    {
+        self.node
+    }
+
+    /// The parents, in normal form.
+    pub fn parents(&self) -> (Node, Node)
+        ensures { result ≡ (self.now.first, self.now.second) }
+    {
+        (self.first, self.second)
+    }
+
+    /// The text.
+    pub fn text(&self) -> &[u8]
+        ensures { result.now ≡ self.now.text }
+    {
+        &self.text
+    }
+
+    /// Whether the other changeset has the same parents and the same text.
+    pub fn is_same(&self, other: &Changeset) -> bool
+        ensures { IsTrue result ↔ (self.now ≡ other.now) }
+    {
+        self.first == other.first
+            && self.second == other.second
+            && self.text.as_slice() == other.text.as_slice()
+    }
+
+    /// An equal changeset.
+    pub fn copy(&self) -> Result<Changeset, AllocError>
+        ensures { IfOk result (λ c. c ≡ self.now) }
+    {
+        Ok(Changeset {
+            node: self.node,
+            first: self.first,
+            second: self.second,
+            text: self.text.clone()?,
+        })
+    }
+}
+
+// The two parents with a null one last, otherwise the lesser first; none where one parent is given twice.
+fn normal_form(p: Node, q: Node) -> Option<(Node, Node)>
+    ensures {
+        MatchOption result
+            (IsTrue (is_given_twice p q))
+            (λ parents. IsNormalFormOf p q parents.0 parents.1)
+    }
+{
+    let p_is_null = p.is_null();
+    if q.is_null() {
+        return Some((p, q));
+    }
+    if p_is_null {
+        return Some((q, p));
+    }
+    match p.cmp(&q) {
+        Ordering::Less => Some((p, q)),
+        Ordering::Equal => None,
+        Ordering::Greater => Some((q, p)),
+    }
+}
+
+// The id of the changeset with these parents and this text: its SHA-1, the lesser parent first.
+fn id_of(p: Node, q: Node, text: &[u8]) -> Node
+    ensures id { result ≡ node_of (contents p q text.now) }
+    ensures bytes { IsBytes text.now }
+{
+    let mut hasher = Sha1::new();
+    hasher.update(&lesser(p, q).0);
+    hasher.update(&greater(p, q).0);
+    hasher.update(text);
+    Node(hasher.finalize())
+}
+
+fn lesser(p: Node, q: Node) -> Node
+    ensures { result ≡ lesser p q }
+{
+    if p.cmp(&q).is_gt() { q } else { p }
+}
+
+fn greater(p: Node, q: Node) -> Node
+    ensures { result ≡ greater p q }
+{
+    if p.cmp(&q).is_gt() { p } else { q }
+}
