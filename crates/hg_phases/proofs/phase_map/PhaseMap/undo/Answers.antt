@@ -1,0 +1,19 @@
+use Rattle.std.proofs.Common.{set, ◌≡◌, ◌<◌, sym, ap, ◌∙◌, ◌++◌, ◌∷◌, [], length, subst, All, Some}
+use Rattle.std.proofs.lemmas.List.{length-set}
+use Rattle.std.proofs.lemmas.List.Elements.{All-pop}
+use Rattle.hg_phases.specs.declared.phase_map.Lowered.{Lowered}
+use Rattle.hg_phases.specs.Log.{restored}
+use Rattle.hg_phases.proofs.LogLemmas.{restored-push}
+use Rattle.hg_phases.proofs.phase_map.PhaseMap.undo.Goals as goal
+
+pub loop-place-preserved : goal.loop-place-preserved
+loop-place-preserved c =
+    let phases = c.loop-place.self in
+    let rest = c.pop.new.self.items in
+    let e : Lowered = c.in-Some.field-0 in
+    let items : c.loop-place.log.items ≡ rest ++ e ∷ [] = c.in-Some.ensures.items in
+    let set_is : c.set.new.self ≡ set phases e.place e.had = cc in
+    record {
+      within = λ k d l. rw (set_is, length-set) ((All-pop (λ e. e.place < length phases) c.loop-place.log.items rest (Some e) items c.loop-place.invariant.within).0 k d l);
+      rest = ap (λ ks. restored ks rest) set_is ∙ sym (restored-push phases rest e) ∙ ap (restored phases) (sym items) ∙ c.loop-place.invariant.rest;
+    }

@@ -1,0 +1,12 @@
+use Rattle.std.proofs.Common.{◌≡◌, ◌<◌, length, vec_len, All}
+use Rattle.hg_phases.specs.Log.{restored}
+use Rattle.hg_phases.proofs.phase_map.PhaseMap.undo.Given as goal
+
+abbrev pub invariant-loop-place : goal.invariant-loop-place
+invariant-loop-place l = record {
+  within : All (λ e. e.place < length l.self) l.log.items;
+  rest : restored l.self l.log.items ≡ restored l.fn.self l.fn.log.items;
+}
+
+abbrev pub decreases-loop-place : goal.decreases-loop-place
+decreases-loop-place l = vec_len l.log

@@ -1,0 +1,12 @@
+//! How far a changeset may be passed on.
+
+/// The phase of a changeset: each is below the next.
+#[derive(Clone, Copy, PartialEq, Eq, PartialOrd, Ord, Hash, Debug)]
+pub enum Phase {
+    /// Passed on for good: the changeset isn't rewritten any more.
+    Public,
+    /// Passed on, and may still be rewritten.
+    Draft,
+    /// Not passed on.
+    Secret,
+}

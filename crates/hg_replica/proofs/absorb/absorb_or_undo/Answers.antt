@@ -1,0 +1,23 @@
+use Rattle.std.proofs.Common.{◌≡◌, ◌∷◌, [], ◌∙◌, length, take, sym, ap, subst}
+use Rattle.hg_phases.specs.State.{state_of}
+use Rattle.hg_phases.specs.Least.{PartValue, IsLeast}
+use Rattle.hg_phases.proofs.LawLemmas.{least-valid}
+use Rattle.hg_replica.proofs.AbsorbLemmas.{refusal_at_state, same_part}
+use Rattle.hg_replica.proofs.absorb.absorb_or_undo.Goals as goal
+
+pub returns-in-Ok-clause-inside : goal.returns-in-Ok-clause-inside
+returns-in-Ok-clause-inside c =
+    let done = c.in-Ok.ensures.absorbed in
+    (c.in-Ok.ensures.len, least-valid (state_of c.args.graph.now c.args.phases.now) _ (state_of c.absorb_logged.new.graph c.absorb_logged.new.phases) done.least c.requires.valid)
+
+pub returns-clause-answer : goal.returns-clause-answer
+returns-clause-answer c =
+    let k : PartValue = record { changesets = c.deref.result.now; bounds = c.deref-2.result.now } in
+    let e : k ≡ c.args.part.now = same_part _ _ _ _ c.args.part.now c.deref.ensures.value c.deref-2.ensures.value c.part.view_is in
+    let h = c.in-Err.ensures in
+    let before = c.len-before.ensures.len in
+    let graph_is : c.truncate-in-Err.new.self ≡ c.args.graph.now = c.truncate-in-Err.ensures ∙ ap (λ n. take n c.absorb_logged.new.graph) before ∙ h.kept in
+    let phases_are : c.truncate.new.self ≡ c.args.phases.now = c.truncate.ensures ∙ (λ t. take (before t) (c.undo.ensures t)) ∙ h.undoes in (
+      refusal_at_state c.args.graph.now c.args.phases.now k c.args.part.now c.in-Err.fault c.requires.len e h.refusal,
+      λ t. state_of (graph_is t) (phases_are t),
+    )

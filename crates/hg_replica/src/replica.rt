@@ -1,0 +1,73 @@
+//! The replica: a graph of changesets, with a phase for each.
+ghost use Rattle.std.specs.Prelude.{IfOk, MatchOption, [], ◌≡◌};
+ghost use Rattle.hg_phases.specs.State.{changesets, state_of, Holds, IsPhaseOf, IsValid};
+ghost use Rattle.hg_replica.specs.Answer.{AbsorbAnswer};
+
+use crate::absorb::absorb_or_undo;
+use crate::fault::Fault;
+use crate::part::{Change, Part};
+use hg_changeset::Node;
+use hg_graph::Graph;
+use hg_phases::{Phase, PhaseMap};
+use std::alloc::{AllocError, Global};
+use std::marker::Model;
+
+/// A replica of one repository: its changesets and their phases. No changeset has a lower phase than a parent of it.
+#[derive(Drop)]
+pub struct Replica {
+    graph: Graph,
+    phases: PhaseMap,
+    alloc: Global,
+}
+
+impl Model for Replica {
+    ghost use Rattle.std.specs.Prelude.{◌≡◌, length};
+    ghost use Rattle.hg_phases.specs.State.{State, IsValid, state_of};
+
+    ghost Value = { State };
+
+    ghost view = { λ replica. state_of replica.graph replica.phases };
+
+    ghost invariant = { λ replica. (length replica.phases ≡ length replica.graph) × IsValid (state_of replica.graph replica.phases) };
+}
+
+impl Replica {
+    /// The replica that holds nothing.
+    pub fn new(alloc: Global) -> Replica
+        ensures { result ≡ state_of [] [] }
+    {
+        Replica {
+            graph: Graph::new(alloc),
+            phases: PhaseMap::new(alloc),
+            alloc,
+        }
+    }
+
+    /// The graph of its changesets.
+    pub fn graph(&self) -> &Graph
+        ensures graph { result.now ≡ changesets self.now }
+        ensures valid { IsValid self.now }
+    {
+        &self.graph
+    }
+
+    /// The phase of the changeset with this id, if it is held.
+    pub fn phase_of(&self, node: Node) -> Result<Option<Phase>, AllocError>
+        ensures phase { IfOk result (λ phase. MatchOption phase (¬ (Holds self.now node)) (IsPhaseOf self.now node)) }
+        ensures valid { IsValid self.now }
+    {
+        match self.graph.place(node) {
+            Some(place) => Ok(Some(self.phases.at(place))),
+            None => Ok(None),
+        }
+    }
+
+    /// Takes in a part: the replica goes to the least state above its own that covers the part. What is new stands
+    /// last, in the part's order. The first fault is told, of the changesets in their order and then of the bounds in
+    /// theirs; a refusal leaves the replica as it was.
+    pub fn absorb(&mut self, part: &Part) -> Result<Change, Fault>
+        ensures { AbsorbAnswer self.old part.now result self.new }
+    {
+        absorb_or_undo(&mut self.graph, &mut self.phases, self.alloc, part)
+    }
+}

@@ -1,0 +1,11 @@
+use Rattle.std.proofs.Common.{◌≡◌, ◌≤◌, ◌+◌, length}
+use Rattle.std.specs.Io.KnownBytes.{Consumes}
+use Rattle.hgfleet.proofs.input.read_script.Given as goal
+
+abbrev pub invariant-loop : goal.invariant-loop
+invariant-loop g l = record {
+  bytes : Consumes (g.R.Read.remaining l.fn.reader) (g.R.Read.remaining l.reader) l.text.items;
+  counted : l.counter ≤ length l.text.items;
+  stepped : l.steps ≡ l.fn.steps + l.counter;
+  limit : length l.text.items ≤ 1048576;
+}

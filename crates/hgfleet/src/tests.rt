@@ -1,0 +1,161 @@
+//! Scripts over readers and writers of every kind, byte for byte.
+use crate::fault::RunFault;
+use crate::script::run_script;
+use std::alloc::Global;
+use std::io;
+use std::io::{Error, ErrorKind, Read, Write};
+use std::process::Abort;
+
+// Gives one byte a read.
+#[derive(Drop)]
+struct OneByte<'a>(&'a [u8]);
+
+impl Read for OneByte<'_> {
+    fn read(&mut self, buf: &mut [u8]) -> io::Result<usize> {
+        match (self.0.split_first(), buf.first_mut()) {
+            (Some((first, rest)), Some(place)) => {
+                *place = *first;
+                self.0 = rest;
+                Ok(1)
+            }
+            _ => Ok(0),
+        }
+    }
+}
+
+// Gives the letter x a number of times, one a read, and then fails.
+#[derive(Drop)]
+struct Failing(usize);
+
+impl Read for Failing {
+    fn read(&mut self, buf: &mut [u8]) -> io::Result<usize> {
+        if self.0 == 0 {
+            return Err(Error::from(ErrorKind::Interrupted));
+        }
+        match buf.first_mut() {
+            Some(place) => {
+                *place = b'#';
+                self.0 -= 1;
+                Ok(1)
+            }
+            None => Ok(0),
+        }
+    }
+}
+
+// Takes a number of writes, and then fails.
+#[derive(Drop)]
+struct Full(usize);
+
+impl Write for Full {
+    fn write(&mut self, buf: &[u8]) -> io::Result<usize> {
+        if self.0 == 0 {
+            return Err(Error::from(ErrorKind::WriteZero));
+        }
+        self.0 -= 1;
+        Ok(buf.len())
+    }
+
+    fn flush(&mut self) -> io::Result<()> {
+        Ok(())
+    }
+}
+
+// Runs the script, and compares what it prints and how it ends.
+fn expect(rt: &impl Abort, alloc: Global, script: &[u8], output: &[u8], ending: &str) {
+    let mut reader = script;
+    let mut writer = Vec::new(alloc);
+    let done = run_script(alloc, &mut reader, &mut writer);
+    assert_eq!(rt; writer.as_slice(), output);
+    expect_ending(rt, alloc, done, ending);
+}
+
+// The text of the fault, or nothing.
+fn expect_ending(rt: &impl Abort, alloc: Global, done: Result<(), RunFault>, ending: &str) {
+    let text = match done {
+        Ok(()) => String::new(alloc),
+        Err(fault) => format!(in alloc; "{fault}").expect(rt, "memory"),
+    };
+    assert_eq!(rt; text.as_str(), ending);
+}
+
+#[test]
+fn two_commits_and_a_report(rt: HostRuntime) {
+    let script = b"node A\ncommit A a draft\ncommit A b draft a\nreport A\n";
+    let output = b"report A\na draft\nb draft\n2 changesets 0 markers\n";
+    expect(&rt, rt.alloc(), script, output, "");
+    let mut writer = Vec::new(rt.alloc());
+    let done = run_script(rt.alloc(), &mut OneByte(script), &mut writer);
+    assert_eq!(rt; writer.as_slice(), output.as_slice());
+    expect_ending(&rt, rt.alloc(), done, "");
+}
+
+#[test]
+fn refused_commits(rt: HostRuntime) {
+    let script = b"node A\nnode B\ncommit A a draft\ncommit B b draft a\ncommit A m draft a a\ncommit A a draft\ncommit A s secret\ncommit A t draft s\nreport A\n";
+    let output = b"4: rewrite 1 Unknown\n5: rewrite 8 Fault\n6: rewrite 9 Exists\nreport A\na draft\ns secret\nt secret\n3 changesets 0 markers\n";
+    expect(&rt, rt.alloc(), script, output, "");
+}
+
+#[test]
+fn lines_are_read_as_words(rt: HostRuntime) {
+    let script = b"# a comment\n\n   \n  node   A  \r\ncommit A a-1._Z draft\nreport A";
+    expect(&rt, rt.alloc(), script, b"report A\na-1._Z draft\n1 changesets 0 markers\n", "");
+    expect(&rt, rt.alloc(), b"", b"", "");
+}
+
+#[test]
+fn each_fault_of_a_line(rt: HostRuntime) {
+    for (script, ending) in [
+        ("node A\nnod B\n", "line 2: unknown command"),
+        (" # x\n", "line 1: unknown command"),
+        ("node\n", "line 1: wrong number of words"),
+        ("commit A a\n", "line 1: wrong number of words"),
+        ("commit A a draft b c d\n", "line 1: wrong number of words"),
+        ("report A B\n", "line 1: wrong number of words"),
+        ("node A/B\n", "line 1: bad name"),
+        ("node A\t\n", "line 1: bad name"),
+        ("node A\r", "line 1: bad name"),
+        ("node abcdefghijklmnopqrstuvwxyz0123456\n", "line 1: bad name"),
+        ("commit A a? public\n", "line 1: bad name"),
+        ("commit A a public\n", "line 1: bad phase"),
+        ("commit A a Draft b\n", "line 1: bad phase"),
+        ("commit A a draft\n", "line 1: unknown name"),
+        ("report A\n", "line 1: unknown name"),
+        ("node A\ncommit A a draft b\n", "line 2: unknown name"),
+        ("node A\n\nnode A\n", "line 3: name is taken"),
+        (
+            "node A\ncommit A a draft\ncommit A b draft\ncommit A b draft a\n",
+            "line 4: name is taken",
+        ),
+    ] {
+        expect(&rt, rt.alloc(), script.as_bytes(), b"", ending);
+    }
+}
+
+#[test]
+fn limits_of_lines_and_scripts(rt: HostRuntime) {
+    let alloc = rt.alloc();
+    let mut script = vec![in alloc; b'#'; 4096].expect(&rt, "memory");
+    expect(&rt, alloc, &script, b"", "");
+    script.push(b'#').expect(&rt, "memory");
+    expect(&rt, alloc, &script, b"", "line 1: line is too long");
+    let mut long = vec![in alloc; b'\n'; 1_048_576].expect(&rt, "memory");
+    expect(&rt, alloc, &long, b"", "");
+    long.push(b'\n').expect(&rt, "memory");
+    expect(&rt, alloc, &long, b"", "script is too long");
+}
+
+#[test]
+fn readers_and_writers_that_fail(rt: HostRuntime) {
+    let alloc = rt.alloc();
+    let mut writer = Vec::new(alloc);
+    let done = run_script(alloc, &mut Failing(10), &mut writer);
+    assert!(rt; writer.is_empty());
+    expect_ending(&rt, alloc, done, "read fault");
+    let mut script: &[u8] = b"node A\nreport A\nreport A\n";
+    let done = run_script(alloc, &mut script, &mut Full(1));
+    expect_ending(&rt, alloc, done, "write fault");
+    assert_eq!(rt; RunFault::Write.status(), 1);
+    assert_eq!(rt; RunFault::NoMemory.status(), 3);
+}
