@@ -64,20 +64,20 @@ module _ (s : State) (a : Asked) (p_known : IsKnown s a.p) (q_known : IsKnown s 
 
     parents_held : (m : Node) → IsParent c m → Holds s m
     parents_held m h = elim (parent_of_made a m (subst (λ x. IsParent x m) is_made.1 h)) [
-        | inl e ↦ parent_known m a.p h.0 e p_known
-        | inr e ↦ parent_known m a.q h.0 e q_known
-      ]
+      | inl e ↦ parent_known m a.p h.0 e p_known
+      | inr e ↦ parent_known m a.q h.0 e q_known
+    ]
 
     module _ (new : ¬ (Holds s n)) where
       admitted : (k : Phase) → IsAdmitted s (record { changesets = c ∷ []; bounds = (node_of c, k) ∷ [] })
       admitted k = record {
-          parents = λ i d at m h. inl (parents_held m (subst (λ x. IsParent x m) (sym (first_only c d i at)) h));
-          bounds = λ b h. inr (0, omega arith, ap (λ (x : Node × Phase). x.0) (only (node_of c, k) b h));
-          apart = λ x d inside other same. elim other [
-            | inl h ↦ absurd (new (subst (Holds s) (sym (is_id ∙ ap node_of (only c x inside) ∙ same)) (node_held (changesets s) d h.0 h.1 h.2)))
-            | inr h ↦ sym (only c x inside) ∙ only c d h
-          ];
-        }
+        parents = λ i d at m h. inl (parents_held m (subst (λ x. IsParent x m) (sym (first_only c d i at)) h));
+        bounds = λ b h. inr (0, omega arith, ap (λ (x : Node × Phase). x.0) (only (node_of c, k) b h));
+        apart = λ x d inside other same. elim other [
+          | inl h ↦ absurd (new (subst (Holds s) (sym (is_id ∙ ap node_of (only c x inside) ∙ same)) (node_held (changesets s) d h.0 h.1 h.2)))
+          | inr h ↦ sym (only c x inside) ∙ only c d h
+        ];
+      }
 
       -- it is new, with these parents' phases
       pub accepted : (j k h : Phase) → IsParentPhase s a.p j → IsParentPhase s a.q k → h ≡ highest (asked_phase a.secret) (highest j k)

@@ -96,8 +96,9 @@ pub fn read_args(alloc: Global, words: &[&str]) -> Result<Wanted, ArgumentFault>
 fn parse(alloc: Global, words: &[&str]) -> Result<(), Error>
     ensures run { IsRun (map (λ s. s.now) words.now) → IfErr result (λ e. kind_of e ≡ ErrorKind.OutOfMemory) }
 {
-    let run = Command::new(alloc, "run")
-        .about("Does the script of standard input and prints its reports");
+    let run = Command::new(alloc, "run").about(
+        "Does the script of standard input and prints its reports",
+    );
     let command = Command::new(alloc, "hgfleet")
         .about("Runs scripts of a fleet of Mercurial repositories")
         .after_help(SCRIPT_HELP)

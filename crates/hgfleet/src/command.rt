@@ -68,7 +68,11 @@ fn read_optional_name<'a>(word: Option<&'a [u8]>) -> Result<Option<&'a [u8]>, Li
 }
 
 fn read_name<'a>(word: &'a [u8]) -> Result<&'a [u8], LineFault> {
-    if is_name(word) { Ok(word) } else { Err(LineFault::BadName) }
+    if is_name(word) {
+        Ok(word)
+    } else {
+        Err(LineFault::BadName)
+    }
 }
 
 // Whether the phase is secret; draft is the other one.

@@ -14,7 +14,14 @@ use std::alloc::{AllocError, Global};
 /// Decides the commit of an entry on two parents, of which the null id stands for an absent one.
 ///
 /// The new changeset's phase is the highest of what is asked, draft or secret, and its parents' phases.
-pub fn decide_commit(alloc: Global, replica: &Replica, p: Node, q: Node, entry: &Entry, is_secret: bool) -> Result<Part, Refusal>
+pub fn decide_commit(
+    alloc: Global,
+    replica: &Replica,
+    p: Node,
+    q: Node,
+    entry: &Entry,
+    is_secret: bool,
+) -> Result<Part, Refusal>
     ensures { CommitAnswer replica.now (record { p = p; q = q; entry = entry.now; secret = is_secret }) result }
 {
     check_known(replica, p)?;
@@ -77,7 +84,11 @@ fn highest(first: Phase, second: Phase) -> Phase
 fn asked_phase(is_secret: bool) -> Phase
     ensures { result ≡ asked_phase is_secret }
 {
-    if is_secret { Phase::Secret } else { Phase::Draft }
+    if is_secret {
+        Phase::Secret
+    } else {
+        Phase::Draft
+    }
 }
 
 // The part with one changeset and a bound on it.

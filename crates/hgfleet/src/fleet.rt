@@ -28,7 +28,12 @@ impl Fleet {
     }
 
     /// Does the command of the line with this number.
-    pub fn execute<W: Write>(&mut self, number: usize, command: Command<'_>, writer: &mut W) -> Result<(), RunFault> {
+    pub fn execute<W: Write>(
+        &mut self,
+        number: usize,
+        command: Command<'_>,
+        writer: &mut W,
+    ) -> Result<(), RunFault> {
         match command {
             Command::Node(at) => self.add_replica(number, at),
             Command::Commit(commit) => self.commit(number, commit, writer),
@@ -46,19 +51,37 @@ impl Fleet {
     }
 
     // The operation is decided before its new label is looked at: a refusal is printed, and the script goes on.
-    fn commit<W: Write>(&mut self, number: usize, commit: Commit<'_>, writer: &mut W) -> Result<(), RunFault> {
+    fn commit<W: Write>(
+        &mut self,
+        number: usize,
+        commit: Commit<'_>,
+        writer: &mut W,
+    ) -> Result<(), RunFault> {
         let first = self.parent(number, commit.first)?;
         let second = self.parent(number, commit.second)?;
         let replica = self.replica(number, commit.at)?;
         let entry = entry_of(self.alloc, commit.label)?;
         match decide_commit(self.alloc, replica, first, second, &entry, commit.is_secret) {
             Ok(part) => self.accept(number, commit, &part, writer),
-            Err(refusal) => print_refusal(self.alloc, writer, number, "rewrite", refusal.number(), &refusal),
+            Err(refusal) => print_refusal(
+                self.alloc,
+                writer,
+                number,
+                "rewrite",
+                refusal.number(),
+                &refusal,
+            ),
         }
     }
 
     // Takes in the part of a commit, and binds its label.
-    fn accept<W: Write>(&mut self, number: usize, commit: Commit<'_>, part: &Part, writer: &mut W) -> Result<(), RunFault> {
+    fn accept<W: Write>(
+        &mut self,
+        number: usize,
+        commit: Commit<'_>,
+        part: &Part,
+        writer: &mut W,
+    ) -> Result<(), RunFault> {
         for changeset in &part.changesets {
             if !self.may_name(commit.label, changeset.node()) {
                 return Err(RunFault::Line(number, LineFault::NameTaken));
@@ -70,7 +93,14 @@ impl Fleet {
         };
         match replica.absorb(part) {
             Ok(_) => self.bind(commit.label, part),
-            Err(fault) => print_refusal(self.alloc, writer, number, "replica", fault.number(), &fault),
+            Err(fault) => print_refusal(
+                self.alloc,
+                writer,
+                number,
+                "replica",
+                fault.number(),
+                &fault,
+            ),
         }
     }
 

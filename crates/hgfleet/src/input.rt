@@ -16,7 +16,11 @@ const CHUNK: usize = 8192;
 
 /// Reads to the end, with at most one read more than a script may have bytes. A read that fails, an interrupted one
 /// too, isn't tried again. Each read is one step.
-pub fn read_script<R: Read, L: Ledger>(alloc: Global, reader: &mut R, steps: &mut Steps<L>) -> Result<Vec<u8>, RunFault>
+pub fn read_script<R: Read, L: Ledger>(
+    alloc: Global,
+    reader: &mut R,
+    steps: &mut Steps<L>,
+) -> Result<Vec<u8>, RunFault>
     ensures whole { IfOk result (λ text. IfSome (R.remaining reader.old) (λ bytes. bytes ≡ text.items)) }
     ensures limit { IfOk result (λ text. length text.items ≤ 1048576) }
     ensures too_long { IsErrOf result RunFault.ScriptTooLong → IfSome (R.remaining reader.old) (λ bytes. 1048576 < length bytes) }
@@ -35,7 +39,11 @@ pub fn read_script<R: Read, L: Ledger>(alloc: Global, reader: &mut R, steps: &mu
 }
 
 // One read, which is one step. It answers how many bytes were appended.
-fn read_more<R: Read, L: Ledger>(reader: &mut R, text: &mut Vec<u8>, steps: &mut Steps<L>) -> Result<usize, RunFault>
+fn read_more<R: Read, L: Ledger>(
+    reader: &mut R,
+    text: &mut Vec<u8>,
+    steps: &mut Steps<L>,
+) -> Result<usize, RunFault>
     ensures counted { IfOk result (λ n. length text.new.items ≡ length text.old.items + n) }
     ensures bytes { OnOk result ((all : Option (List ℕ)) → Consumes all (R.remaining reader.old) text.old.items → Consumes all (R.remaining reader.new) text.new.items) }
     ensures end { IfOk result (λ n. n ≡ 0 → IsAtEnd (R.remaining reader.new)) }

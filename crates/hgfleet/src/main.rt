@@ -15,7 +15,6 @@ mod output;
 mod refusal;
 mod script;
 mod steps;
-
 #[cfg(test)]
 mod tests;
 

@@ -17,7 +17,14 @@ pub fn print_line<W: Write>(writer: &mut W, line: &mut Vec<u8>) -> Result<(), Ru
 
 /// Writes the line that says which refusal the line with this number met. Want of memory, which has no number, ends the
 /// script instead.
-pub fn print_refusal<W: Write>(alloc: Global, writer: &mut W, line: usize, word: &str, number: Option<u8>, name: &impl Display) -> Result<(), RunFault> {
+pub fn print_refusal<W: Write>(
+    alloc: Global,
+    writer: &mut W,
+    line: usize,
+    word: &str,
+    number: Option<u8>,
+    name: &impl Display,
+) -> Result<(), RunFault> {
     let number = match number {
         Some(number) => number,
         None => return Err(RunFault::NoMemory),

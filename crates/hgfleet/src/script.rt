@@ -15,11 +15,20 @@ use std::sync::ledger::{Blank, Ledger};
 /// Reads a script, does its lines in order, and prints what they report, one write for each line.
 ///
 /// It makes at most 1,048,577 reads. What was printed before a fault stays.
-pub fn run_script<R: Read, W: Write>(alloc: Global, reader: &mut R, writer: &mut W) -> Result<(), RunFault> {
+pub fn run_script<R: Read, W: Write>(
+    alloc: Global,
+    reader: &mut R,
+    writer: &mut W,
+) -> Result<(), RunFault> {
     run_counted::<R, W, Brand>(alloc, reader, writer, Blank::new(1))
 }
 
-fn run_counted<R: Read, W: Write, L: Ledger>(alloc: Global, reader: &mut R, writer: &mut W, blank: Blank) -> Result<(), RunFault>
+fn run_counted<R: Read, W: Write, L: Ledger>(
+    alloc: Global,
+    reader: &mut R,
+    writer: &mut W,
+    blank: Blank,
+) -> Result<(), RunFault>
     requires name { blank.name ≡ L.name }
     requires parts { blank.parts ≡ L.parts }
     requires some { 0 < blank.parts }
@@ -29,7 +38,12 @@ fn run_counted<R: Read, W: Write, L: Ledger>(alloc: Global, reader: &mut R, writ
 }
 
 // The engine: a step is a read.
-fn run_in_steps<R: Read, W: Write, L: Ledger>(alloc: Global, reader: &mut R, writer: &mut W, steps: &mut Steps<L>) -> Result<(), RunFault>
+fn run_in_steps<R: Read, W: Write, L: Ledger>(
+    alloc: Global,
+    reader: &mut R,
+    writer: &mut W,
+    steps: &mut Steps<L>,
+) -> Result<(), RunFault>
     ensures reads { steps.new ≤ steps.old + 1048577 }
 {
     let text = read_script(alloc, reader, steps)?;
@@ -46,7 +60,13 @@ fn run_lines<W: Write>(alloc: Global, text: &[u8], writer: &mut W) -> Result<(),
     Ok(())
 }
 
-fn run_line<W: Write>(alloc: Global, fleet: &mut Fleet, number: usize, line: &[u8], writer: &mut W) -> Result<(), RunFault> {
+fn run_line<W: Write>(
+    alloc: Global,
+    fleet: &mut Fleet,
+    number: usize,
+    line: &[u8],
+    writer: &mut W,
+) -> Result<(), RunFault> {
     if !is_short(line) {
         return Err(RunFault::Line(number, LineFault::TooLong));
     }

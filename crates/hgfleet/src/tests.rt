@@ -92,15 +92,23 @@ fn two_commits_and_a_report(rt: HostRuntime) {
 
 #[test]
 fn refused_commits(rt: HostRuntime) {
-    let script = b"node A\nnode B\ncommit A a draft\ncommit B b draft a\ncommit A m draft a a\ncommit A a draft\ncommit A s secret\ncommit A t draft s\nreport A\n";
-    let output = b"4: rewrite 1 Unknown\n5: rewrite 8 Fault\n6: rewrite 9 Exists\nreport A\na draft\ns secret\nt secret\n3 changesets 0 markers\n";
+    let script =
+        b"node A\nnode B\ncommit A a draft\ncommit B b draft a\ncommit A m draft a a\ncommit A a draft\ncommit A s secret\ncommit A t draft s\nreport A\n";
+    let output =
+        b"4: rewrite 1 Unknown\n5: rewrite 8 Fault\n6: rewrite 9 Exists\nreport A\na draft\ns secret\nt secret\n3 changesets 0 markers\n";
     expect(&rt, rt.alloc(), script, output, "");
 }
 
 #[test]
 fn lines_are_read_as_words(rt: HostRuntime) {
     let script = b"# a comment\n\n   \n  node   A  \r\ncommit A a-1._Z draft\nreport A";
-    expect(&rt, rt.alloc(), script, b"report A\na-1._Z draft\n1 changesets 0 markers\n", "");
+    expect(
+        &rt,
+        rt.alloc(),
+        script,
+        b"report A\na-1._Z draft\n1 changesets 0 markers\n",
+        "",
+    );
     expect(&rt, rt.alloc(), b"", b"", "");
 }
 
@@ -116,7 +124,10 @@ fn each_fault_of_a_line(rt: HostRuntime) {
         ("node A/B\n", "line 1: bad name"),
         ("node A\t\n", "line 1: bad name"),
         ("node A\r", "line 1: bad name"),
-        ("node abcdefghijklmnopqrstuvwxyz0123456\n", "line 1: bad name"),
+        (
+            "node abcdefghijklmnopqrstuvwxyz0123456\n",
+            "line 1: bad name",
+        ),
         ("commit A a? public\n", "line 1: bad name"),
         ("commit A a public\n", "line 1: bad phase"),
         ("commit A a Draft b\n", "line 1: bad phase"),
