@@ -1,12 +1,10 @@
 -- The normal form of two parents.
-use Rattle.std.proofs.Common.{◌≡◌, ◌≢◌, ℕ, List, Bool, true, false, not, ◌&&◌, if◌then◌else◌, inl, inr, refl, sym, ap, subst, ◌∙◌}
-use Rattle.std.specs.Ordering.{is_gt}
+use Rattle.std.proofs.Common.{◌≡◌, ◌≢◌, true, inl, inr, refl, sym, ◌∙◌}
 use Rattle.std.specs.declared.cmp.Ordering.TheVariants.{Less, Greater}
 use Rattle.hg_changeset.specs.declared.node.Node.{Node}
-use Rattle.hg_changeset.specs.Node.{node_eq, node_cmp, null_node, IsNode}
-use Rattle.hg_changeset.specs.Contents.{Contents, contents}
-use Rattle.hg_changeset.specs.Changeset.{lesser, greater, is_given_twice, changeset_of, IsNormalFormOf}
-use Rattle.hg_changeset.proofs.NodeLemmas.{node_itself, node_apart, node_eq_laws, same_not_less, greater_is_less}
+use Rattle.hg_changeset.specs.Node.{node_cmp, null_node, IsNode}
+use Rattle.hg_changeset.specs.Changeset.{is_given_twice, IsNormalFormOf}
+use Rattle.hg_changeset.proofs.NodeLemmas.{node_itself, node_apart, same_not_less, greater_is_less}
 
 module _ (p q : Node) (p_node : IsNode p) (q_node : IsNode q) where
   -- the first parent is absent
@@ -26,11 +24,11 @@ module _ (p q : Node) (p_node : IsNode p) (q_node : IsNode q) where
     -- both are there, and in order
     pub in_order : node_cmp p q ≡ Less → IsNormalFormOf p q p q
     in_order l = record {
-        once = rw (node_apart p q (λ same. same_not_less p q same l)) refl;
-        order = λ text. rw (node_apart q null_node q_there, node_apart p null_node p_there, l) refl;
-        normal = inr (p_there, l);
-        nodes = (p_node, q_node);
-      }
+      once = rw (node_apart p q (λ same. same_not_less p q same l)) refl;
+      order = λ text. rw (node_apart q null_node q_there, node_apart p null_node p_there, l) refl;
+      normal = inr (p_there, l);
+      nodes = (p_node, q_node);
+    }
 
     -- both are there, in the other order
     pub out_of_order : node_cmp p q ≡ Greater → IsNormalFormOf p q q p

@@ -1,3 +1,5 @@
 pub mod NodeLemmas
 pub mod ChangesetLemmas
+pub mod ExtrasLemmas
+pub mod DescriptionLemmas
 pub mod EntryLemmas

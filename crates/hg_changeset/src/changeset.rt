@@ -1,30 +1,61 @@
 //! Changesets.
-ghost use Rattle.std.specs.Prelude.{◌≡◌, ◌↔◌, IsTrue, MatchOption, IfOk, Ok, Err};
+//!
+//! A changeset has at most two parents and a text, and is named by the SHA-1 of these. Its parents are an unordered
+//! pair, which is kept in normal form: an absent parent, the null id, stands last, otherwise the lesser stands first.
+ghost use Rattle.std.specs.Prelude.{◌≡◌, ◌↔◌, ◌≤◌, length, Some, IsTrue, MatchOption, IfOk, Ok, Err};
 ghost use Rattle.hex.specs.Hex.{IsBytes};
-ghost use Rattle.hg_changeset.specs.Node.{node_cmp};
 ghost use Rattle.hg_changeset.specs.Contents.{contents};
-ghost use Rattle.hg_changeset.specs.Changeset.{node_of, lesser, greater, is_given_twice, IsNormalFormOf, IsChangeset, changeset_of, changeset_fault};
+ghost use Rattle.hg_changeset.specs.Changeset.{node_of, lesser, greater, is_given_twice, IsNormal, IsNormalFormOf, IsChangeset, changeset_of, changeset_fault, text_limit};
+ghost use Rattle.hg_changeset.specs.Refusals.{changeset_error_number, changeset_error_name};
 
 use crate::node::Node;
 use sha1::Sha1;
 use std::alloc::AllocError;
 use std::cmp::Ordering;
+use std::error::Error;
+use std::fmt;
 use std::marker::Model;
-use thiserror::Error;
 
 /// The most bytes that a text may have.
 pub const TEXT_LIMIT: usize = 1_048_576;
 
 /// Why two parents and a text make no changeset.
-#[derive(Clone, Copy, PartialEq, Eq, Debug, Error)]
+#[derive(Clone, Copy, PartialEq, Eq, Debug)]
 pub enum ChangesetError {
-    #[error("SameParent")]
+    /// Both parents are one changeset.
     SameParent,
-    #[error("TextTooLong")]
+    /// The text has more than [`TEXT_LIMIT`] bytes.
     TextTooLong,
-    #[error("NullNode")]
+    /// The id would be the null id.
     NullNode,
 }
+
+impl ChangesetError {
+    /// The refusal's number, from 1 in the order in which they are tried.
+    pub fn number(self) -> u8
+        ensures { result ≡ changeset_error_number self }
+    {
+        match self {
+            ChangesetError::SameParent => 1,
+            ChangesetError::TextTooLong => 2,
+            ChangesetError::NullNode => 3,
+        }
+    }
+}
+
+impl fmt::Display for ChangesetError {
+    ghost output = { λ refusal. Some (changeset_error_name refusal) };
+
+    fn fmt<W: fmt::Write>(&self, f: &mut fmt::Formatter<W>) -> fmt::Result {
+        match *self {
+            ChangesetError::SameParent => write!(f, "SameParent"),
+            ChangesetError::TextTooLong => write!(f, "TextTooLong"),
+            ChangesetError::NullNode => write!(f, "NullNode"),
+        }
+    }
+}
+
+impl Error for ChangesetError {}
 
 /// A changeset: at most two parents, a text, and the id that these give.
 #[derive(Drop)]
@@ -50,6 +81,9 @@ impl Model for Changeset {
 
 impl Changeset {
     /// The changeset of these parents, in either order, and this text.
+    ///
+    /// Refuses [`ChangesetError::SameParent`], then [`ChangesetError::TextTooLong`], then
+    /// [`ChangesetError::NullNode`].
     pub fn new(p: Node, q: Node, text: Vec<u8>) -> Result<Changeset, ChangesetError>
         ensures { MatchOption (changeset_fault p q text.items)
             (result ≡ Ok (changeset_of p q text.items))
@@ -84,14 +118,17 @@ impl Changeset {
 
     /// The parents, in normal form.
     pub fn parents(&self) -> (Node, Node)
-        ensures { result ≡ (self.now.first, self.now.second) }
+        ensures parents { result ≡ (self.now.first, self.now.second) }
+        ensures normal { IsNormal result.0 result.1 }
     {
         (self.first, self.second)
     }
 
     /// The text.
     pub fn text(&self) -> &[u8]
-        ensures { result.now ≡ self.now.text }
+        ensures text { result.now ≡ self.now.text }
+        ensures within { length result.now ≤ text_limit }
+        ensures bytes { IsBytes result.now }
     {
         &self.text
     }
@@ -120,11 +157,9 @@ impl Changeset {
 
 // The two parents with a null one last, otherwise the lesser first; none where one parent is given twice.
 fn normal_form(p: Node, q: Node) -> Option<(Node, Node)>
-    ensures {
-        MatchOption result
-            (IsTrue (is_given_twice p q))
-            (λ parents. IsNormalFormOf p q parents.0 parents.1)
-    }
+    ensures { MatchOption result
+        (IsTrue (is_given_twice p q))
+        (λ parents. IsNormalFormOf p q parents.0 parents.1) }
 {
     let p_is_null = p.is_null();
     if q.is_null() {

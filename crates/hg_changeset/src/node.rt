@@ -1,28 +1,58 @@
 //! Node ids.
-ghost use Rattle.std.specs.Prelude.{◌≡◌, ◌≢◌, ◌↔◌, ◌*◌, nat_eq, replicate, ℕ, IsTrue, IsOk, IfOk, IsErrOf, length, Ok};
+//!
+//! A node id is 20 bytes, and names a changeset by what it contains. Ids are ordered as byte strings. In text an
+//! id is 40 hexadecimal digits, which are written in lower case and read in either case.
+ghost use Rattle.std.specs.Prelude.{◌≡◌, ◌↔◌, ◌*◌, nat_eq, replicate, IsTrue, IsOk, IfOk, length, Some};
 ghost use Rattle.std.specs.List.{AllPass};
 ghost use lib.Pointwise.{pointwise};
-ghost use Rattle.hex.specs.Hex.{decode_of, encode_lower, is_hex_digit, IsBytes};
-ghost use Rattle.hg_changeset.specs.Node.{null_node, node_cmp, node_eq, IsNode};
+ghost use Rattle.hex.specs.Hex.{encode_lower, is_hex_digit, IsBytes};
+ghost use Rattle.hg_changeset.specs.Node.{null_node, IsNode, id_value, node_of_hex};
+ghost use Rattle.hg_changeset.specs.Refusals.{node_error_number, node_error_name};
 
 use hex::{FromHex, encode_to_slice};
-use thiserror::Error;
+use std::error::Error;
+use std::fmt;
 
 /// A node id.
 #[derive(Clone, Copy, PartialEq, Eq, PartialOrd, Ord, Hash, Debug)]
 pub struct Node(pub [u8; 20]);
 
 /// Why a text is no node id.
-#[derive(Clone, Copy, PartialEq, Eq, Debug, Error)]
+#[derive(Clone, Copy, PartialEq, Eq, Debug)]
 pub enum NodeError {
-    #[error("BadLength")]
+    /// It hasn't 40 bytes.
     BadLength,
-    #[error("BadDigit")]
+    /// It has 40 bytes, and one of them is no hexadecimal digit.
     BadDigit,
 }
 
+impl NodeError {
+    /// The refusal's number, from 1 in the order in which they are tried.
+    pub fn number(self) -> u8
+        ensures { result ≡ node_error_number self }
+    {
+        match self {
+            NodeError::BadLength => 1,
+            NodeError::BadDigit => 2,
+        }
+    }
+}
+
+impl fmt::Display for NodeError {
+    ghost output = { λ refusal. Some (node_error_name refusal) };
+
+    fn fmt<W: fmt::Write>(&self, f: &mut fmt::Formatter<W>) -> fmt::Result {
+        match *self {
+            NodeError::BadLength => write!(f, "BadLength"),
+            NodeError::BadDigit => write!(f, "BadDigit"),
+        }
+    }
+}
+
+impl Error for NodeError {}
+
 impl Node {
-    /// The null id, which stands for an absent parent.
+    /// The null id: 20 zero bytes, which stand for an absent parent.
     pub const NULL: Node = Node([0; 20]);
 
     /// Whether this is the null id.
@@ -34,10 +64,14 @@ impl Node {
     }
 
     /// Reads 40 hexadecimal digits, of either case.
+    ///
+    /// Refuses [`NodeError::BadLength`], then [`NodeError::BadDigit`].
     pub fn from_hex(text: &[u8]) -> Result<Node, NodeError>
-        ensures value { IfOk result (λ node. decode_of text.now ≡ Ok node.0) }
-        ensures length { IsErrOf result NodeError.BadLength ↔ (length text.now ≢ 40) }
+        ensures exact { result ≡ node_of_hex text.now }
+
+        // So BadDigit comes exactly where 40 bytes aren't all digits.
         ensures accepts { IsOk result ↔ ((length text.now ≡ 40) × AllPass is_hex_digit text.now) }
+        ensures node { IfOk result IsNode }
     {
         if text.len() != 40 {
             return Err(NodeError::BadLength);
@@ -50,10 +84,11 @@ impl Node {
 
     /// The 40 hexadecimal digits, in lower case.
     pub fn to_hex(self) -> [u8; 40]
-        ensures { result ≡ encode_lower self.0 }
+        ensures digits { result ≡ encode_lower self.0 }
+        ensures reads_back { id_value result ≡ Some self }
     {
         let mut text = [0u8; 40];
-        let _ = encode_to_slice(self.0.as_slice(), &mut text);
+        write_hex(&self.0, &mut text);
         text
     }
 }
@@ -64,4 +99,13 @@ fn are_null(bytes: &[u8]) -> bool
     ensures bytes { IsBytes bytes.now }
 {
     bytes == Node::NULL.0.as_slice()
+}
+
+// Writes the digits of the bytes.
+fn write_hex(bytes: &[u8], text: &mut [u8])
+    requires { length text.old ≡ 2 * length bytes.now }
+    ensures digits { text.new ≡ encode_lower bytes.now }
+    ensures bytes { IsBytes bytes.now }
+{
+    let _ = encode_to_slice(bytes, text);
 }

@@ -4,7 +4,7 @@
 //! each had: the log is the queue of the walk, the answer, and what takes the lowering back.
 ghost use Rattle.std.specs.Prelude.{OnOk, slice_set, All, IfOk, IfSome, MatchOption, OnErr, length, take, slice_get, Some, [], ◌∷◌, ◌++◌, ℕ, List, ◌≡◌, ◌<◌};
 ghost use Rattle.hg_changeset.specs.declared.node.Node.{Node};
-ghost use Rattle.hg_graph.specs.Marks.{IsAt};
+ghost use Rattle.hg_graph.specs.Places.{IsAt};
 ghost use Rattle.hg_phases.specs.State.{state_of, IsValid};
 ghost use Rattle.hg_phases.specs.Least.{IsLeast, bound_alone};
 ghost use Rattle.hg_phases.specs.Log.{IsLog, restored, IsOneLowered, IsUnlowered};
@@ -90,7 +90,13 @@ impl PhaseMap {
     ///
     /// The log is the queue as well: what was logged has its parents still to be seen to. Where a phase is low enough
     /// the walk stops, since the ancestors' phases are no higher.
-    pub fn lower(&mut self, graph: &Graph, log: &mut Vec<Lowered>, place: usize, phase: Phase) -> Result<(), AllocError>
+    pub fn lower(
+        &mut self,
+        graph: &Graph,
+        log: &mut Vec<Lowered>,
+        place: usize,
+        phase: Phase,
+    ) -> Result<(), AllocError>
         requires len { length self.old ≡ length graph.now }
         requires within { place < length self.old }
         requires valid { IsValid (state_of graph.now self.old) }
@@ -102,15 +108,20 @@ impl PhaseMap {
         let mut i = log.len();
         self.lower_one(log, place, phase)?;
         while i < log.len() {
-            let (first, second) = graph.parent_places(log[i].place);
-            self.lower_found(log, first, phase)?;
-            self.lower_found(log, second, phase)?;
+            let parents = graph.parent_places(log[i].place);
+            self.lower_found(log, parents.first, phase)?;
+            self.lower_found(log, parents.second, phase)?;
             i += 1;
         }
         Ok(())
     }
 
-    fn lower_found(&mut self, log: &mut Vec<Lowered>, place: Option<usize>, phase: Phase) -> Result<(), AllocError>
+    fn lower_found(
+        &mut self,
+        log: &mut Vec<Lowered>,
+        place: Option<usize>,
+        phase: Phase,
+    ) -> Result<(), AllocError>
         requires { IfSome place (λ p. p < length self.old) }
         ensures lowered { OnOk result (MatchOption place (IsUnlowered self.old log.old.items self.new log.new.items) (λ p. IsOneLowered phase p self.old log.old.items self.new log.new.items)) }
         ensures unchanged { OnErr result (IsUnlowered self.old log.old.items self.new log.new.items) }
@@ -121,7 +132,12 @@ impl PhaseMap {
         }
     }
 
-    fn lower_one(&mut self, log: &mut Vec<Lowered>, place: usize, phase: Phase) -> Result<(), AllocError>
+    fn lower_one(
+        &mut self,
+        log: &mut Vec<Lowered>,
+        place: usize,
+        phase: Phase,
+    ) -> Result<(), AllocError>
         requires { place < length self.old }
         ensures lowered { OnOk result (IsOneLowered phase place self.old log.old.items self.new log.new.items) }
         ensures unchanged { OnErr result (IsUnlowered self.old log.old.items self.new log.new.items) }
@@ -137,17 +153,18 @@ impl PhaseMap {
     /// Takes back what was logged.
     pub fn undo(&mut self, log: &mut Vec<Lowered>)
         requires { All (λ e. e.place < length self.old) log.old.items }
-        ensures { self.new ≡ restored self.old log.old.items }
+        ensures restored { self.new ≡ restored self.old log.old.items }
+        ensures emptied { log.new.items ≡ [] }
     {
         while let Some(Lowered { place, had }) = log.pop() {
             self.set(place, had);
         }
     }
 
-    fn set(&mut self, place: usize, phase: Phase)
-        requires { place < length self.old }
-        ensures { self.new ≡ slice_set self.old place phase }
+    fn set(&mut self, at: usize, phase: Phase)
+        requires { at < length self.old }
+        ensures { self.new ≡ slice_set self.old at phase }
     {
-        self.phases[place] = phase;
+        self.phases[at] = phase;
     }
 }

@@ -13,7 +13,7 @@ use Rattle.hg_changeset.specs.Contents.{Contents}
 use Rattle.hg_changeset.specs.Changeset.{node_of}
 use Rattle.hg_changeset.proofs.NodeLemmas.{same_node}
 use Rattle.hg_graph.specs.Graph.{IsGraph, nodes}
-use Rattle.hg_graph.specs.Marks.{IsAt}
+use Rattle.hg_graph.specs.Places.{IsAt}
 use Rattle.hg_graph.proofs.GraphLemmas.{Contains-from_place, place_from_Contains}
 use Rattle.hg_graph.proofs.MarkLemmas.{same_place, IsAt-from}
 use Rattle.hg_phases.specs.declared.phase.Phase.{Phase}
@@ -142,14 +142,6 @@ module _ (held more cs : List Contents) (had rest ks new : List Phase) (phase : 
       λ w. let e = logged_down n w in listed_of (nodes cs) (length held) log e.0 n e.1 e.2 e.3,
     );
   }
-
--- one more node from a place on
-pub drop_more : (ns : List Node) (before i : ℕ) (n : Node) → before ≤ i → slice_get ns i ≡ Some n → drop before (take (i + 1) ns) ≡ drop before (take i ns) ++ n ∷ []
-drop_more ns before i n le at =
-    let within : i < length ns = slice_get_within ns i n at in
-    let short : before ≤ length (take i ns) = omega (arith, length-take i ns) in
-    ap (drop before) (take_more ns i n within ∙ ap (λ m. take i ns ++ m ∷ []) (get_or_from_slice_get ns i n n at))
-    ∙ drop-append-le before (take i ns) (n ∷ []) short
 
 -- the phase at the place of a node
 pub phase_at : (cs : List Contents) (ks : List Phase) (n : Node) (p : ℕ) (k : Phase) → IsAt cs n p → slice_get ks p ≡ Some k → IsPhaseOf (state_of cs ks) n k

@@ -4,11 +4,11 @@
 //! node is found, then the public bounds are lowered to, and then the draft ones, so that each place goes down once.
 //! Secret bounds say nothing more. A refusal takes back what was done: the log of what was lowered restores the phases,
 //! and what was added stands last, so it is cut off. Nothing costs more than the part and what it lowers.
-ghost use Rattle.std.specs.Prelude.{OnOk, IfOk, MatchResult, All, length, take, drop, slice_get, Some, [], ◌∷◌, ◌++◌, ℕ, List, Contains, ◌≡◌, ◌<◌, ◌≤◌};
+ghost use Rattle.std.specs.Prelude.{OnOk, IfOk, MatchResult, All, length, take, [], ◌∷◌, List, ◌≡◌, ◌<◌};
 ghost use Rattle.std.specs.List.{flat_map};
 ghost use Rattle.hg_changeset.specs.declared.node.Node.{Node};
 ghost use Rattle.hg_graph.specs.Graph.{IsGraph, nodes};
-ghost use Rattle.hg_graph.specs.Marks.{IsAt};
+ghost use Rattle.hg_graph.specs.Places.{IsAt};
 ghost use Rattle.hg_phases.specs.declared.phase.Phase.{Phase};
 ghost use Rattle.hg_phases.specs.State.{state_of, IsValid};
 ghost use Rattle.hg_phases.specs.Log.{IsLog, restored};
@@ -81,67 +81,57 @@ fn absorb_logged(
     ensures refusal { MatchResult result (λ _. Unit {0}) (IsRefusal graph.old (record { changesets = changesets.now; bounds = bounds.now })) }
 {
     let before = graph.len();
-    let found = match add_checked(graph, phases, alloc, changesets, bounds) {
+    let added = match add_changesets(graph, phases, alloc, changesets) {
+        Ok(added) => added,
+        Err(fault) => return Err(fault),
+    };
+    let found = match find_bounds(graph, alloc, bounds) {
         Ok(found) => found,
         Err(fault) => return Err(fault),
     };
     lower_to(graph, phases, log, &found, Phase::Public)?;
     lower_to(graph, phases, log, &found, Phase::Draft)?;
-    let added = nodes_since(graph, alloc, before)?;
     let lowered = nodes_before(graph, alloc, log, before)?;
     Ok(Change { added, lowered })
 }
 
-// Adds the changesets, and finds the bounds' nodes.
-fn add_checked(
+// Adds the changesets that aren't held, and tells their nodes.
+fn add_changesets(
     graph: &mut Graph,
     phases: &mut PhaseMap,
     alloc: Global,
     changesets: &[Changeset],
-    bounds: &[(Node, Phase)],
-) -> Result<Vec<FoundBound>, Fault>
+) -> Result<Vec<Node>, Fault>
     requires graph { IsGraph graph.old }
     requires len { length phases.old ≡ length graph.old }
     ensures kept { take (length graph.old) graph.new ≡ graph.old }
     ensures undoes { take (length graph.old) phases.new ≡ phases.old }
-    ensures added { OnOk result (IsAdded graph.old phases.old changesets.now (length changesets.now) graph.new phases.new) }
-    ensures found { IfOk result (λ found. AreFound graph.new bounds.now found.items) }
-    ensures refusal { MatchResult result (λ _. Unit {0}) (IsRefusal graph.old (record { changesets = changesets.now; bounds = bounds.now })) }
-{
-    match add_changesets(graph, phases, changesets) {
-        Ok(()) => find_bounds(graph, alloc, bounds),
-        Err(fault) => Err(fault),
-    }
-}
-
-fn add_changesets(
-    graph: &mut Graph,
-    phases: &mut PhaseMap,
-    changesets: &[Changeset],
-) -> Result<(), Fault>
-    requires graph { IsGraph graph.old }
-    requires len { length phases.old ≡ length graph.old }
-    ensures kept { take (length graph.old) graph.new ≡ graph.old }
-    ensures undoes { take (length graph.old) phases.new ≡ phases.old }
-    ensures added { OnOk result (IsAdded graph.old phases.old changesets.now (length changesets.now) graph.new phases.new) }
+    ensures added { IfOk result (λ added. IsAdded graph.old phases.old changesets.now (length changesets.now) graph.new phases.new added.items) }
     ensures refusal { (bounds : List (Node × Phase)) → MatchResult result (λ _. Unit {0}) (IsRefusal graph.old (record { changesets = changesets.now; bounds = bounds })) }
 {
+    let mut added = Vec::new(alloc);
     for changeset in changesets {
-        match add_one(graph, phases, changeset) {
+        match add_one(graph, phases, &mut added, changeset) {
             Ok(()) => {}
             Err(fault) => return Err(fault),
         }
     }
-    Ok(())
+    Ok(added)
 }
 
-// Adds a copy of the changeset, as secret, unless it is held.
-fn add_one(graph: &mut Graph, phases: &mut PhaseMap, changeset: &Changeset) -> Result<(), Fault>
-    ensures { OneAdded graph.old phases.old changeset.now result graph.new phases.new }
+// Adds a copy of the changeset, as secret, and tells its node, unless it is held.
+fn add_one(
+    graph: &mut Graph,
+    phases: &mut PhaseMap,
+    added: &mut Vec<Node>,
+    changeset: &Changeset,
+) -> Result<(), Fault>
+    ensures { OneAdded graph.old phases.old added.old.items changeset.now result graph.new phases.new added.new.items }
 {
     match graph.add_copy(changeset) {
         Ok(Added::New) => {
             phases.push(Phase::Secret)?;
+            added.push(changeset.node())?;
             Ok(())
         }
         Ok(Added::Known) => Ok(()),
@@ -230,21 +220,6 @@ fn lower_bound(
     } else {
         Ok(())
     }
-}
-
-// The nodes from a place on.
-fn nodes_since(graph: &Graph, alloc: Global, before: usize) -> Result<Vec<Node>, AllocError>
-    requires { before ≤ length graph.now }
-    ensures { IfOk result (λ found. found.items ≡ drop before (nodes graph.now)) }
-{
-    let mut found = Vec::with_capacity(alloc, graph.len() - before)?;
-    for place in before..graph.len() {
-        match graph.node_at(place) {
-            Some(node) => found.push(node)?,
-            None => {}
-        }
-    }
-    Ok(found)
 }
 
 // The nodes of what was logged and stands before a place.

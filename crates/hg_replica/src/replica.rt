@@ -43,6 +43,17 @@ impl Replica {
         }
     }
 
+    /// An equal replica, in the same order.
+    pub fn copy(&self) -> Result<Replica, AllocError>
+        ensures { IfOk result (λ replica. replica ≡ self.now) }
+    {
+        Ok(Replica {
+            graph: self.graph.copy()?,
+            phases: self.phases.copy()?,
+            alloc: self.alloc,
+        })
+    }
+
     /// The graph of its changesets.
     pub fn graph(&self) -> &Graph
         ensures graph { result.now ≡ changesets self.now }

@@ -1,5 +1,4 @@
-use Rattle.std.proofs.Common.{◌≡◌, true, false, sym, ◌∙◌}
-use Rattle.hg_changeset.specs.Node.{null_node}
+use Rattle.std.proofs.Common.{sym, ◌∙◌}
 use Rattle.hg_changeset.proofs.NodeLemmas.{node_cmp_exact}
 use Rattle.hg_changeset.proofs.ChangesetLemmas.{first_absent, in_order, out_of_order, named_twice}
 use Rattle.hg_changeset.proofs.changeset.normal_form.Goals as goal

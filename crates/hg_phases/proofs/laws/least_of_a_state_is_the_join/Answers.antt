@@ -1,4 +1,4 @@
-use Rattle.hg_phases.proofs.JoinLemmas.{join-least}
+use Rattle.hg_phases.proofs.JoinLemmas.{join-least, least-itself}
 use Rattle.hg_phases.proofs.laws.least_of_a_state_is_the_join.Goals as goal
 
 pub returns-clause-first : goal.returns-clause-first
@@ -9,3 +9,6 @@ returns-clause-second c s t u l = (join-least s t u l).1
 
 pub returns-clause-below_each : goal.returns-clause-below_each
 returns-clause-below_each c s t u v l valid above_s above_t = (join-least s t u l).2 v valid above_s above_t
+
+pub returns-clause-idempotent : goal.returns-clause-idempotent
+returns-clause-idempotent c s valid = least-itself s valid

@@ -17,7 +17,7 @@ returns-clause-answer c =
     let h = c.in-Err.ensures in
     let before = c.len-before.ensures.len in
     let graph_is : c.truncate-in-Err.new.self ≡ c.args.graph.now = c.truncate-in-Err.ensures ∙ ap (λ n. take n c.absorb_logged.new.graph) before ∙ h.kept in
-    let phases_are : c.truncate.new.self ≡ c.args.phases.now = c.truncate.ensures ∙ (λ t. take (before t) (c.undo.ensures t)) ∙ h.undoes in (
+    let phases_are : c.truncate.new.self ≡ c.args.phases.now = c.truncate.ensures ∙ (λ t. take (before t) (c.undo.ensures.restored t)) ∙ h.undoes in (
       refusal_at_state c.args.graph.now c.args.phases.now k c.args.part.now c.in-Err.fault c.requires.len e h.refusal,
       λ t. state_of (graph_is t) (phases_are t),
     )

@@ -25,8 +25,8 @@ loop-i-init c =
     let start = IsWalked-start cs place c.args.phase c.args.self.now c.args.log.now.items (node_of d.0) (IsAt-from cs place d.0 (node_of d.0) d.1 refl) c.lower_one.new.self c.lower_one.new.log.items c.in_ok-lower_one.ensures.lowered in
     subst (IsWalked cs place c.args.phase c.args.self.now c.args.log.now.items c.lower_one.new.self c.lower_one.new.log.items) (sym (c.len-i.ensures ∙ c.args.log.now.ok.0)) start
 
-pub parent_places-first-requires : goal.parent_places-first-requires
-parent_places-first-requires c =
+pub parent_places-parents-requires : goal.parent_places-parents-requires
+parent_places-parents-requires c =
     let e = c.index.result.now in
     let at = read c.loop-i.log.items c.loop-i.i c.len.result e c.loop-i-test.true (c.len.ensures ∙ c.loop-i.log.ok.0) c.index.ensures in
     logged_within c.args.graph.now c.args.place c.args.phase c.args.self.now c.args.log.now.items c.loop-i.self c.loop-i.log.items c.loop-i.i c.loop-i.invariant e at c.requires.len
@@ -37,7 +37,7 @@ lower_found-requires c =
     let e = c.index.result.now in
     let at = read c.loop-i.log.items c.loop-i.i c.len.result e c.loop-i-test.true (c.len.ensures ∙ c.loop-i.log.ok.0) c.index.ensures in
     first_within c.args.graph.now c.args.place c.args.phase c.args.self.now c.args.log.now.items graph c.loop-i.self c.loop-i.log.items c.loop-i.i c.loop-i.invariant e at
-      c.parent_places-first.result c.parent_places-first.ensures c.requires.len
+    c.parent_places-parents.result c.parent_places-parents.ensures.places c.requires.len
 
 pub lower_found-requires-in-loop-i : goal.lower_found-requires-in-loop-i
 lower_found-requires-in-loop-i c =
@@ -45,7 +45,7 @@ lower_found-requires-in-loop-i c =
     let e = c.index.result.now in
     let at = read c.loop-i.log.items c.loop-i.i c.len.result e c.loop-i-test.true (c.len.ensures ∙ c.loop-i.log.ok.0) c.index.ensures in
     second_within c.args.graph.now c.args.place c.args.phase c.args.self.now c.args.log.now.items graph c.loop-i.self c.loop-i.log.items c.loop-i.i c.loop-i.invariant e at
-      c.parent_places-first.result c.parent_places-first.ensures c.lower_found.new.self c.lower_found.new.log.items c.in_ok-lower_found.ensures.lowered c.requires.len
+    c.parent_places-parents.result c.parent_places-parents.ensures.places c.lower_found.new.self c.lower_found.new.log.items c.in_ok-lower_found.ensures.lowered c.requires.len
 
 same_log : (phase : Phase) (start mid new : List Phase) (midlog newlog : List Lowered) → IsUnlowered mid midlog new newlog → IsLog phase start mid midlog → IsLog phase start new newlog
 same_log phase start mid new midlog newlog u l = subst (λ ks. IsLog phase start ks newlog) (sym u.0) (subst (IsLog phase start mid) (sym u.1) l)
@@ -53,21 +53,21 @@ same_log phase start mid new midlog newlog u l = subst (λ ks. IsLog phase start
 pub returns-in_err-lower_found-2-clause-logged : goal.returns-in_err-lower_found-2-clause-logged
 returns-in_err-lower_found-2-clause-logged c start l =
     let s =
-      let graph = graph_of_state c.args.graph.now c.args.self.now c.requires.len c.requires.valid in
-      let e = c.index.result.now in
-      let at = read c.loop-i.log.items c.loop-i.i c.len.result e c.loop-i-test.true (c.len.ensures ∙ c.loop-i.log.ok.0) c.index.ensures in
-      halfway c.args.graph.now c.args.place c.args.phase c.args.self.now c.args.log.now.items graph c.loop-i.self c.loop-i.log.items c.loop-i.i c.loop-i.invariant e at
-        c.parent_places-first.result c.parent_places-first.ensures c.lower_found.new.self c.lower_found.new.log.items c.in_ok-lower_found.ensures.lowered in
+    let graph = graph_of_state c.args.graph.now c.args.self.now c.requires.len c.requires.valid in
+    let e = c.index.result.now in
+    let at = read c.loop-i.log.items c.loop-i.i c.len.result e c.loop-i-test.true (c.len.ensures ∙ c.loop-i.log.ok.0) c.index.ensures in
+    halfway c.args.graph.now c.args.place c.args.phase c.args.self.now c.args.log.now.items graph c.loop-i.self c.loop-i.log.items c.loop-i.i c.loop-i.invariant e at
+    c.parent_places-parents.result c.parent_places-parents.ensures.places c.lower_found.new.self c.lower_found.new.log.items c.in_ok-lower_found.ensures.lowered in
     same_log c.args.phase start _ _ _ _ c.in_err-lower_found-2.ensures.unchanged (s.logged start l)
 
 pub returns-in_err-lower_found-2-clause-undoes : goal.returns-in_err-lower_found-2-clause-undoes
 returns-in_err-lower_found-2-clause-undoes c =
     let s =
-      let graph = graph_of_state c.args.graph.now c.args.self.now c.requires.len c.requires.valid in
-      let e = c.index.result.now in
-      let at = read c.loop-i.log.items c.loop-i.i c.len.result e c.loop-i-test.true (c.len.ensures ∙ c.loop-i.log.ok.0) c.index.ensures in
-      halfway c.args.graph.now c.args.place c.args.phase c.args.self.now c.args.log.now.items graph c.loop-i.self c.loop-i.log.items c.loop-i.i c.loop-i.invariant e at
-        c.parent_places-first.result c.parent_places-first.ensures c.lower_found.new.self c.lower_found.new.log.items c.in_ok-lower_found.ensures.lowered in
+    let graph = graph_of_state c.args.graph.now c.args.self.now c.requires.len c.requires.valid in
+    let e = c.index.result.now in
+    let at = read c.loop-i.log.items c.loop-i.i c.len.result e c.loop-i-test.true (c.len.ensures ∙ c.loop-i.log.ok.0) c.index.ensures in
+    halfway c.args.graph.now c.args.place c.args.phase c.args.self.now c.args.log.now.items graph c.loop-i.self c.loop-i.log.items c.loop-i.i c.loop-i.invariant e at
+    c.parent_places-parents.result c.parent_places-parents.ensures.places c.lower_found.new.self c.lower_found.new.log.items c.in_ok-lower_found.ensures.lowered in
     let u = c.in_err-lower_found-2.ensures.unchanged in
     (λ t. restored (u.0 t) (u.1 t)) ∙ s.undoes
 
@@ -77,8 +77,8 @@ loop-i-preserved c =
     let e = c.index.result.now in
     let at = read c.loop-i.log.items c.loop-i.i c.len.result e c.loop-i-test.true (c.len.ensures ∙ c.loop-i.log.ok.0) c.index.ensures in
     IsWalked-step c.args.graph.now c.args.place c.args.phase c.args.self.now c.args.log.now.items graph c.loop-i.self c.loop-i.log.items c.loop-i.i c.loop-i.invariant e at
-      c.parent_places-first.result c.parent_places-first.ensures c.lower_found.new.self c.lower_found.new.log.items c.in_ok-lower_found.ensures.lowered
-      c.lower_found-in-loop-i.new.self c.lower_found-in-loop-i.new.log.items c.in_ok-lower_found-2.ensures.lowered
+    c.parent_places-parents.result c.parent_places-parents.ensures.places c.lower_found.new.self c.lower_found.new.log.items c.in_ok-lower_found.ensures.lowered
+    c.lower_found-in-loop-i.new.self c.lower_found-in-loop-i.new.log.items c.in_ok-lower_found-2.ensures.lowered
 
 pub loop-i-smaller : goal.loop-i-smaller
 loop-i-smaller c =
@@ -86,8 +86,8 @@ loop-i-smaller c =
     let e = c.index.result.now in
     let at = read c.loop-i.log.items c.loop-i.i c.len.result e c.loop-i-test.true (c.len.ensures ∙ c.loop-i.log.ok.0) c.index.ensures in
     let w = IsWalked-step c.args.graph.now c.args.place c.args.phase c.args.self.now c.args.log.now.items graph c.loop-i.self c.loop-i.log.items c.loop-i.i c.loop-i.invariant e at
-      c.parent_places-first.result c.parent_places-first.ensures c.lower_found.new.self c.lower_found.new.log.items c.in_ok-lower_found.ensures.lowered
-      c.lower_found-in-loop-i.new.self c.lower_found-in-loop-i.new.log.items c.in_ok-lower_found-2.ensures.lowered in
+    c.parent_places-parents.result c.parent_places-parents.ensures.places c.lower_found.new.self c.lower_found.new.log.items c.in_ok-lower_found.ensures.lowered
+    c.lower_found-in-loop-i.new.self c.lower_found-in-loop-i.new.log.items c.in_ok-lower_found-2.ensures.lowered in
     omega (arith, w.lowering.measure, w.within, c.loop-i.invariant.lowering.measure, c.loop-i.invariant.within)
 
 pub returns-clause-least : goal.returns-clause-least
@@ -96,5 +96,5 @@ returns-clause-least c node at =
     let graph = graph_of_state c.args.graph.now c.args.self.now c.requires.len c.requires.valid in
     let ended : length c.loop-i.log.items ≡ c.loop-i.i = omega (arith, c.loop-i-test.false, c.len.ensures, c.loop-i.log.ok.0, w.within) in
     let low = lowered_are c.args.graph.now c.args.place c.args.phase c.args.self.now c.args.log.now.items c.loop-i.self c.loop-i.log.items graph c.requires.len c.requires.valid w.lowering w.given
-      (λ m e q le lt. w.closed m e q le (omega (arith, ended))) in
+    (λ m e q le lt. w.closed m e q le (omega (arith, ended))) in
     least-lowered c.args.graph.now node c.args.place c.args.phase c.args.self.now c.loop-i.self graph c.requires.len at low

@@ -1,0 +1,253 @@
+//! The changesets in their order, with the places of their parents.
+ghost use Rattle.std.specs.Prelude.{Some, ◌⊎◌, ◌≡◌, ◌≢◌, ◌↔◌, ℕ, [], ◌∷◌, ◌++◌, ◌<◌, slice_get, take, length, Contains, IsTrue, IsNone, IfSome, IfOk, IfErr, OnOk, OnErr, IsErrOf, MatchOption};
+ghost use Rattle.std.specs.Option.{option_copied};
+ghost use Rattle.hg_changeset.specs.Node.{null_node};
+ghost use Rattle.hg_changeset.specs.Contents.{Contents};
+ghost use Rattle.hg_changeset.specs.Changeset.{node_of, IsChangeset};
+ghost use Rattle.hg_graph.specs.Graph.{nodes, Holds, HoldsParents, IsGraph};
+ghost use Rattle.hg_graph.specs.Places.{IsOnlyAt, IsParentPlace, IsPlaceOf, ArePlacesOf};
+ghost use Rattle.hg_graph.specs.Answers.{IsFirstMissing, IsNew, AddAnswer, LookUpAnswer};
+
+use crate::error::GraphError;
+use hg_changeset::{Changeset, Node};
+use indexmap::IndexMap;
+use std::alloc::{AllocError, Global};
+use std::marker::Model;
+
+/// What `add` did.
+#[derive(Clone, Copy, PartialEq, Eq, Debug)]
+pub enum Added {
+    /// The changeset now stands last.
+    New,
+    /// It was held already.
+    Known,
+}
+
+/// Where the parents of a changeset stand. An absent parent has no place.
+#[derive(Clone, Copy, PartialEq, Eq, Debug)]
+pub struct ParentPlaces {
+    /// Where the first parent stands, in normal form.
+    pub first: Option<usize>,
+    /// Where the second parent stands.
+    pub second: Option<usize>,
+}
+
+/// Changesets in an order in which every parent is there and comes first.
+#[derive(Drop)]
+pub struct Graph {
+    changesets: IndexMap<Node, Changeset>,
+    parents: Vec<ParentPlaces>,
+}
+
+impl Model for Graph {
+    ghost use Rattle.std.specs.Prelude.{◌≡◌, List};
+    ghost use Rattle.indexmap.specs.IndexMap.{keys, values};
+    ghost use Rattle.hg_changeset.specs.Contents.{Contents};
+    ghost use Rattle.hg_graph.specs.Graph.{IsGraph, nodes};
+    ghost use Rattle.hg_graph.specs.Places.{ArePlaces};
+
+    ghost Value = { List Contents };
+
+    ghost view = { λ g. values g.changesets };
+
+    ghost invariant = { λ g. (keys g.changesets ≡ nodes (values g.changesets)) × IsGraph (values g.changesets) × ArePlaces (values g.changesets) g.parents.items };
+}
+
+impl Graph {
+    /// The graph without changesets.
+    pub fn new(alloc: Global) -> Graph
+        ensures { result ≡ [] }
+    {
+        Graph {
+            changesets: IndexMap::new(alloc),
+            parents: Vec::new(alloc),
+        }
+    }
+
+    // The allocator that `new` was given. Its clause tells the sweeps, which see no field, that this is a graph.
+    pub(crate) fn alloc(&self) -> Global
+        ensures { IsGraph self.now }
+    {
+        *self.changesets.allocator()
+    }
+
+    /// How many changesets are held.
+    pub fn len(&self) -> usize
+        ensures len { result ≡ length self.now }
+        ensures graph { IsGraph self.now }
+    {
+        self.changesets.len()
+    }
+
+    /// Whether no changeset is held.
+    pub fn is_empty(&self) -> bool
+        ensures { IsTrue result ↔ (self.now ≡ []) }
+    {
+        self.changesets.is_empty()
+    }
+
+    /// Whether a changeset with this id is held.
+    pub fn contains(&self, node: Node) -> bool
+        ensures { IsTrue result ↔ Holds self.now node }
+    {
+        self.changesets.contains_key(&node)
+    }
+
+    /// The changeset with this id.
+    pub fn changeset(&self, node: Node) -> Option<&Changeset>
+        ensures found { IfSome result (λ c. Contains self.now c.now × (node_of c.now ≡ node)) }
+        ensures missing { IsNone result → ¬ (Holds self.now node) }
+        ensures null { node ≡ null_node → IsNone result }
+    {
+        self.changesets.get(&node)
+    }
+
+    /// Where the changeset with this id stands.
+    pub fn place(&self, node: Node) -> Option<usize>
+        ensures place { MatchOption result (¬ (Holds self.now node)) (IsOnlyAt self.now node) }
+        ensures graph { IsGraph self.now }
+    {
+        self.changesets.get_index_of(&node)
+    }
+
+    /// The id of the changeset at a place.
+    pub fn node_at(&self, place: usize) -> Option<Node>
+        ensures { result ≡ slice_get (nodes self.now) place }
+    {
+        match self.changesets.get_index(place) {
+            Some((node, _)) => Some(*node),
+            None => None,
+        }
+    }
+
+    /// The changeset at a place.
+    pub fn changeset_at(&self, place: usize) -> Option<&Changeset>
+        ensures { option_copied result ≡ slice_get self.now place }
+    {
+        match self.changesets.get_index(place) {
+            Some((_, changeset)) => Some(changeset),
+            None => None,
+        }
+    }
+
+    /// Where the parents of the changeset at a place stand.
+    pub fn parent_places(&self, place: usize) -> ParentPlaces
+        requires { place < length self.now }
+        ensures places { (k : ℕ) → IsParentPlace self.now place k ↔ ((result.first ≡ Some k) ⊎ (result.second ≡ Some k)) }
+        ensures in_order { IfSome (slice_get self.now place) (λ c. ArePlacesOf self.now c result) }
+    {
+        self.parents[place]
+    }
+
+    /// Adds a changeset whose parents are held.
+    pub fn add(&mut self, changeset: Changeset) -> Result<Added, GraphError>
+        ensures answer { AddAnswer self.old changeset result self.new }
+        ensures memory { IsErrOf result GraphError.NoMemory → IsNew self.old changeset }
+    {
+        match self.look_up(&changeset) {
+            Ok(Some(parents)) => {
+                self.push(changeset, parents)?;
+                Ok(Added::New)
+            }
+            Ok(None) => Ok(Added::Known),
+            Err(refusal) => Err(refusal),
+        }
+    }
+
+    /// Adds a copy of a changeset whose parents are held. One that is known is not copied.
+    pub fn add_copy(&mut self, changeset: &Changeset) -> Result<Added, GraphError>
+        ensures answer { AddAnswer self.old changeset.now result self.new }
+        ensures memory { IsErrOf result GraphError.NoMemory → IsNew self.old changeset.now }
+    {
+        match self.look_up(changeset) {
+            Ok(Some(parents)) => {
+                self.push(changeset.copy()?, parents)?;
+                Ok(Added::New)
+            }
+            Ok(None) => Ok(Added::Known),
+            Err(refusal) => Err(refusal),
+        }
+    }
+
+    // Where the parents of a new changeset stand; nothing for a known one.
+    fn look_up(&self, changeset: &Changeset) -> Result<Option<ParentPlaces>, GraphError>
+        ensures { LookUpAnswer self.now changeset.now result }
+    {
+        let parents = match self.places_of_parents(changeset) {
+            Ok(parents) => parents,
+            Err(missing) => return Err(GraphError::UnknownParent(missing)),
+        };
+        let node = changeset.node();
+        match self.changeset(node) {
+            Some(held) if held.is_same(changeset) => Ok(None),
+            Some(_) => Err(GraphError::Collision(node)),
+            None => Ok(Some(parents)),
+        }
+    }
+
+    // Where the parents stand, or the first, in normal form, that isn't held.
+    fn places_of_parents(&self, changeset: &Changeset) -> Result<ParentPlaces, Node>
+        ensures held { IfOk result (λ places. HoldsParents self.now changeset.now × ArePlacesOf self.now changeset.now places) }
+        ensures missing { IfErr result (IsFirstMissing self.now changeset.now) }
+    {
+        let (first, second) = changeset.parents();
+        let first = self.place_of_parent(first)?;
+        let second = self.place_of_parent(second)?;
+        Ok(ParentPlaces { first, second })
+    }
+
+    // Where a parent stands, if it isn't absent; the parent itself where it isn't held.
+    fn place_of_parent(&self, parent: Node) -> Result<Option<usize>, Node>
+        ensures held { IfOk result (IsPlaceOf self.now parent) }
+        ensures missing { IfErr result (λ p. (p ≡ parent) × (p ≢ null_node) × ¬ (Holds self.now p)) }
+    {
+        if parent.is_null() {
+            return Ok(None);
+        }
+        match self.place(parent) {
+            Some(place) => Ok(Some(place)),
+            None => Err(parent),
+        }
+    }
+
+    // Puts a new changeset last.
+    fn push(&mut self, changeset: Changeset, parents: ParentPlaces) -> Result<(), AllocError>
+        requires new { IsNew self.old changeset }
+        requires places { ArePlacesOf self.old changeset parents }
+        ensures pushed { OnOk result (self.new ≡ self.old ++ changeset ∷ []) }
+        ensures unchanged { OnErr result (self.new ≡ self.old) }
+    {
+        self.parents.push(parents)?;
+        match self.changesets.insert(changeset.node(), changeset) {
+            Ok(_) => Ok(()),
+            Err(refused) => {
+                self.parents.pop();
+                Err(refused.into())
+            }
+        }
+    }
+
+    /// Forgets the changesets from the place `len` on.
+    pub fn truncate(&mut self, len: usize)
+        ensures { self.new ≡ take len self.old }
+    {
+        self.changesets.truncate(len);
+        self.parents.truncate(len);
+    }
+
+    /// An equal graph.
+    pub fn copy(&self) -> Result<Graph, AllocError>
+        ensures { IfOk result (λ graph. graph ≡ self.now) }
+    {
+        let mut graph = Graph {
+            changesets: IndexMap::with_capacity(self.alloc(), self.len())?,
+            parents: Vec::with_capacity(self.alloc(), self.len())?,
+        };
+        for place in 0..self.len() {
+            if let Some(changeset) = self.changeset_at(place) {
+                graph.push(changeset.copy()?, self.parent_places(place))?;
+            }
+        }
+        Ok(graph)
+    }
+}

@@ -1,0 +1,126 @@
+//! Ancestors, by one sweep from the last place to the first.
+//!
+//! Each place has a mark. Since a parent's place is before its child's, a walk down the places that marks the parents of each marked changeset has marked, when it comes to a changeset, all that reach it. Where only the changesets from a place on are asked for, the marks begin there, and so does the walk end there: whatever lies on the way to a changeset stands after it.
+ghost use Rattle.std.specs.Prelude.{◌≡◌, ◌↔◌, ℕ, ◌+◌, ◌<◌, ◌≤◌, Some, length, Contains, IsTrue, IfOk};
+ghost use Rattle.hg_changeset.specs.declared.node.Node.{Node};
+ghost use Rattle.hg_graph.specs.Graph.{IsGraph, IsAncestorOfOne, Reaches, Selects};
+ghost use Rattle.hg_graph.specs.Places.{IsAt, IsParentPlace, IsAncestorPlace};
+ghost use Rattle.hg_graph.specs.Marks.{IsMarked, IsMarkedNode, MarksAlso, MarksAncestors};
+
+use crate::graph::Graph;
+use hg_changeset::Node;
+use std::alloc::AllocError;
+
+impl Graph {
+    /// Whether zero or more parent steps lead from `node` to `ancestor`. False where either isn't held.
+    pub fn is_ancestor(&self, ancestor: Node, node: Node) -> Result<bool, AllocError>
+        ensures { IfOk result (λ answer. IsTrue answer ↔ Reaches self.now ancestor node) }
+    {
+        match self.place(ancestor) {
+            None => Ok(false),
+            Some(low) => match self.place(node) {
+                None => Ok(false),
+                Some(high) => self.is_ancestor_place(low, high),
+            },
+        }
+    }
+
+    // Whether the changeset at `low` is the one at `high`, or an ancestor of it. Walks only between the two.
+    fn is_ancestor_place(&self, low: usize, high: usize) -> Result<bool, AllocError>
+        requires graph { IsGraph self.now }
+        requires low { low < length self.now }
+        requires high { high < length self.now }
+        ensures { IfOk result (λ answer. IsTrue answer ↔ IsAncestorPlace self.now low high) }
+    {
+        if high <= low {
+            return Ok(low == high);
+        }
+        let mut window = vec![in self.alloc(); false; high - low]?;
+        let marks = window.as_mut_slice();
+        self.mark_parents(high, low, marks);
+        self.sweep(low, high, marks);
+        Ok(marks[0])
+    }
+
+    /// The nodes that are held and their ancestors, in the graph's order. Doubles, and ids that aren't held, change nothing.
+    pub fn ancestors(&self, nodes: &[Node]) -> Result<Vec<Node>, AllocError>
+        ensures { IfOk result (λ found. Selects self.now (IsAncestorOfOne self.now nodes.now) found.items) }
+    {
+        let mut marks = vec![in self.alloc(); false; self.len()]?;
+        self.mark_ancestors(nodes, &mut marks);
+        self.marked(&marks)
+    }
+
+    // Marks the nodes that are held, and their ancestors.
+    fn mark_ancestors(&self, nodes: &[Node], marks: &mut [bool])
+        requires graph { IsGraph self.now }
+        requires len { length marks.old ≡ length self.now }
+        requires clear { (k : ℕ) → ¬ (IsMarked 0 marks.old k) }
+        ensures len { length marks.new ≡ length self.now }
+        ensures marked { (a : Node) → IsMarkedNode self.now marks.new a ↔ IsAncestorOfOne self.now nodes.now a }
+    {
+        self.mark_nodes(nodes, marks);
+        self.sweep(0, marks.len(), marks);
+    }
+
+    // Marks the nodes that are held.
+    fn mark_nodes(&self, nodes: &[Node], marks: &mut [bool])
+        requires { length marks.old ≡ length self.now }
+        ensures { MarksAlso 0 (λ k. (n : Node) × Contains nodes.now n × IsAt self.now n k) marks.old marks.new }
+    {
+        for node in nodes {
+            mark(self.place(*node), 0, marks);
+        }
+    }
+
+    // Marks the ancestors of the marked changesets. The marks are for the places from `low` up to `high`.
+    fn sweep(&self, low: usize, high: usize, marks: &mut [bool])
+        requires graph { IsGraph self.now }
+        requires window { low + length marks.old ≡ high }
+        requires within { high ≤ length self.now }
+        ensures { MarksAncestors self.now low marks.old marks.new }
+    {
+        for place in (low..high).rev() {
+            if marks[place - low] {
+                self.mark_parents(place, low, marks);
+            }
+        }
+    }
+
+    // Marks the parents of the changeset at a place, from the place `low` on.
+    fn mark_parents(&self, place: usize, low: usize, marks: &mut [bool])
+        requires { place < length self.now }
+        ensures { MarksAlso low (IsParentPlace self.now place) marks.old marks.new }
+    {
+        let parents = self.parent_places(place);
+        mark(parents.first, low, marks);
+        mark(parents.second, low, marks);
+    }
+
+    // The nodes at the marked places, in order.
+    fn marked(&self, marks: &[bool]) -> Result<Vec<Node>, AllocError>
+        requires { length marks.now ≡ length self.now }
+        ensures { IfOk result (λ found. Selects self.now (IsMarkedNode self.now marks.now) found.items) }
+    {
+        let mut found = Vec::new(self.alloc());
+        for i in 0..marks.len() {
+            if marks[i] {
+                if let Some(node) = self.node_at(i) {
+                    found.push(node)?;
+                }
+            }
+        }
+        Ok(found)
+    }
+}
+
+// Marks the place, where there is one and a mark for it.
+fn mark(place: Option<usize>, low: usize, marks: &mut [bool])
+    ensures { MarksAlso low (λ k. place ≡ Some k) marks.old marks.new }
+{
+    if let Some(place) = place {
+        if low <= place && place - low < marks.len() {
+            marks[place - low] = true;
+        }
+    }
+}
