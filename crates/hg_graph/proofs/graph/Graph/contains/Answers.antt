@@ -1,6 +1,5 @@
 use Rattle.hg_graph.proofs.GraphLemmas.{Holds-lookup}
 use Rattle.hg_graph.proofs.graph.Graph.contains.Goals as goal
-use Rattle.std.specs.Prelude.{◌≡◌}
 
 pub returns : goal.returns
 returns c =

@@ -1,8 +1,7 @@
-use Rattle.std.proofs.Common.{◌≡◌, ◌<◌, ◌+◌, Some, take, get_or, slice_get, IfSome, length, sym, ap, subst, arith, ◌∷◌, [], ◌++◌, ◌∙◌}
+use Rattle.std.proofs.Common.{◌≡◌, ◌<◌, take, get_or, IfSome, length, sym, ap, subst, arith, ◌∷◌, [], ◌++◌, ◌∙◌}
 use Rattle.std.proofs.lemmas.List.{take_more}
 use Rattle.std.proofs.lemmas.Option.{get_or_from_slice_get, none-some}
 use Rattle.std.specs.Option.{option_copied}
-use Rattle.hg_changeset.specs.Contents.{Contents}
 use Rattle.hg_graph.specs.Answers.{IsNew}
 use Rattle.hg_graph.specs.Places.{ArePlacesOf}
 use Rattle.hg_graph.proofs.PlaceLemmas.{IsNew-front, ArePlacesOf-take, get-within}

@@ -1,8 +1,5 @@
-use Rattle.std.proofs.Common.{refl, Some, IfOk, IsTrue, ◌↔◌}
-use Rattle.std.proofs.lemmas.Result.{IfOk-weaker}
-use Rattle.hg_graph.specs.Graph.{Reaches}
-use Rattle.hg_graph.specs.Places.{IsAncestorPlace}
-use Rattle.hg_graph.proofs.PlaceLemmas.{placed_within, Holds-reached, Holds-reaching, Reaches-places}
+use Rattle.std.proofs.Common.{refl}
+use Rattle.hg_graph.proofs.PlaceLemmas.{placed_within, Holds-reached, Holds-reaching}
 use Rattle.hg_graph.proofs.graph.Graph.is_ancestor.Goals as goal
 
 pub is_ancestor_place-requires-clause-low : goal.is_ancestor_place-requires-clause-low

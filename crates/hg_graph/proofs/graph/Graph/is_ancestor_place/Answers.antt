@@ -1,4 +1,4 @@
-use Rattle.std.proofs.Common.{◌≡◌, ◌<◌, ◌+◌, ◌-◌, arith, eq-eqb, eqb-true, subst, length, replicate, false, ◌∙◌}
+use Rattle.std.proofs.Common.{◌≡◌, ◌<◌, ◌-◌, arith, eq-eqb, eqb-true, subst, length, replicate, false, ◌∙◌}
 use Rattle.std.proofs.lemmas.List.{length-replicate}
 use Rattle.hg_graph.specs.Places.{IsAncestorPlace, IsParentPlace}
 use Rattle.hg_graph.specs.Marks.{MarksAlso}

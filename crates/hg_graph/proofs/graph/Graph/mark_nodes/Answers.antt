@@ -1,8 +1,5 @@
-use Rattle.std.proofs.Common.{◌≡◌, ◌<◌, refl, [], take, get_or, ◌+◌, sym, subst, Contains, length, arith}
+use Rattle.std.proofs.Common.{◌≡◌, [], take, arith}
 use Rattle.std.proofs.lemmas.List.{take_all}
-use Rattle.hg_changeset.specs.declared.node.Node.{Node}
-use Rattle.hg_graph.specs.Marks.{MarksAlso}
-use Rattle.hg_graph.specs.Places.{IsAt}
 use Rattle.hg_graph.proofs.MarkLemmas.{MarksAlso-then, taken_more}
 use Rattle.hg_graph.proofs.graph.Graph.mark_nodes.Goals as goal
 

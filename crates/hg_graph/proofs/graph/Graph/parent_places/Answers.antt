@@ -1,9 +1,8 @@
 use Rattle.std.proofs.Common.{◌≡◌, slice_get, Some, arith, sym, subst, length, IfSome}
 use Rattle.std.proofs.lemmas.Option.{slice_get_read}
 use Rattle.hg_changeset.specs.Contents.{Contents}
-use Rattle.hg_graph.specs.declared.graph.ParentPlaces.{ParentPlaces}
 use Rattle.hg_graph.specs.Graph.{IsGraph}
-use Rattle.hg_graph.specs.Places.{ArePlacesOf, ArePlaces}
+use Rattle.hg_graph.specs.Places.{ArePlacesOf}
 use Rattle.hg_graph.proofs.PlaceLemmas.{kept_places, parent_places_are}
 use Rattle.hg_graph.proofs.graph.Graph.parent_places.Goals as goal
 

@@ -1,4 +1,4 @@
-use Rattle.std.proofs.Common.{◌≡◌, ◌<◌, ◌≤◌, ◌-◌, suc, arith, length, true, false, Some, slice_get, ap, sym, subst, ◌∙◌, true≢false}
+use Rattle.std.proofs.Common.{◌≡◌, ◌<◌, ◌-◌, suc, arith, length, true, false, Some, slice_get, ap, sym, subst, ◌∙◌, true≢false}
 use Rattle.std.proofs.lemmas.Option.{slice_get-get_or, same_Some}
 use Rattle.hg_graph.specs.Marks.{IsMarked}
 use Rattle.hg_graph.proofs.MarkLemmas.{IsSwept, IsSwept-start, IsSwept-marked, IsSwept-unmarked, IsSwept-end}

@@ -1,4 +1,4 @@
-use Rattle.std.proofs.Common.{◌≡◌, sym, subst, ap, take, ◌∙◌}
+use Rattle.std.proofs.Common.{sym, subst, ap, take, ◌∙◌}
 use Rattle.hg_graph.specs.Graph.{IsGraph}
 use Rattle.hg_graph.specs.Places.{ArePlaces}
 use Rattle.hg_graph.proofs.GraphLemmas.{IsGraph-take, keyed-take}
