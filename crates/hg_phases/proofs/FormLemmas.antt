@@ -12,19 +12,9 @@ use Rattle.hg_phases.specs.declared.phase.Phase.TheVariants.{Public, Draft, Secr
 use Rattle.hg_phases.specs.State.{State, Held, rank, changesets, Holds, Reaches, IsValid}
 use Rattle.hg_phases.specs.Order.{Below, IsSameState}
 use Rattle.hg_phases.specs.Least.{PartValue, Covers, IsAdmitted, IsCandidate, IsLeast, IsSmallest, IsLeastOneByOne}
+pub use Rattle.hg_phases.proofs.RankLemmas.{rank-apart}
 use Rattle.hg_phases.proofs.LeastLemmas.{rank-top, held_from, changeset_from, same_held, same_changeset, Holds-taken, Reaches-within, least-above, least-below, least-then}
 use Rattle.hg_phases.proofs.LawLemmas.{least-covers, least-valid, least-unique, least-swap}
-
-pub rank-apart : (j k : Phase) → rank j ≡ rank k → j ≡ k
-rank-apart Public Public e = refl
-rank-apart Public Draft e = absurd (omega arith)
-rank-apart Public Secret e = absurd (omega arith)
-rank-apart Draft Public e = absurd (omega arith)
-rank-apart Draft Draft e = refl
-rank-apart Draft Secret e = absurd (omega arith)
-rank-apart Secret Public e = absurd (omega arith)
-rank-apart Secret Draft e = absurd (omega arith)
-rank-apart Secret Secret e = refl
 
 pub Below-itself : (s : State) → Below s s
 Below-itself s h at = (h, at, refl, omega arith)

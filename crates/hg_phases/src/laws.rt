@@ -6,7 +6,7 @@ ghost use Rattle.std.specs.Prelude.{◌≡◌, ◌↔◌, [], ◌∷◌, ◌++�
 ghost use Rattle.hg_phases.specs.State.{State, IsValid};
 ghost use Rattle.hg_phases.specs.Order.{Below, IsSameState};
 ghost use Rattle.hg_phases.specs.Content.{content_of};
-ghost use Rattle.hg_phases.specs.Least.{IsAdmitted, IsLeast, IsSmallest, IsLeastOneByOne, PartValue, Covers, part_of};
+ghost use Rattle.hg_phases.specs.Least.{AreAdmitted, IsAdmitted, IsLeast, IsSmallest, IsLeastOneByOne, PartValue, Covers, part_of};
 
 /// States are ordered, and each is below the other exactly where they have one content. What is the least state for one
 /// order of keeping is so for each.
@@ -18,10 +18,12 @@ pub fn below_both_ways_is_one_content()
 {}
 
 /// The two forms of the least state are one: what the formula gives is the smallest valid state above s that covers
-/// the parts, and wherever the formula gives a state, the smallest such state is by the formula too.
+/// the parts. Parts that are admitted, each after those before it, have a least state, and then the smallest such state
+/// is by the formula too.
 pub fn least_is_smallest()
     ensures smallest { (s t : State) (ks : List PartValue) → IsValid s → IsLeast s ks t → IsSmallest s ks t }
-    ensures by_formula { (s t u : State) (ks : List PartValue) → IsValid s → IsLeast s ks u → IsSmallest s ks t → IsLeast s ks t }
+    ensures exists { (s : State) (ks : List PartValue) → IsValid s → AreAdmitted s ks → (t : State) × IsLeast s ks t }
+    ensures one_form { (s t : State) (ks : List PartValue) → IsValid s → AreAdmitted s ks → (IsLeast s ks t ↔ IsSmallest s ks t) }
     ensures one { (s t u : State) (ks : List PartValue) → IsValid s → IsLeast s ks t → IsLeast s ks u → IsSameState t u }
 {}
 

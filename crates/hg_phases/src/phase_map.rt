@@ -132,7 +132,8 @@ impl PhaseMap {
         }
     }
 
-    fn lower_one(
+    /// Gives the changeset at a place alone the phase, where its own is higher, and logs it.
+    pub fn lower_one(
         &mut self,
         log: &mut Vec<Lowered>,
         place: usize,

@@ -1,11 +1,14 @@
-//! What the answers of `absorb` promise, in the words of states alone.
-ghost use Rattle.std.specs.Prelude.{◌≡◌, [], ◌∷◌, Ok};
+//! What the answers promise, in the words of states and of contents alone.
+ghost use Rattle.std.specs.Prelude.{◌≡◌, ◌↔◌, [], ◌∷◌, Ok, Result};
 ghost use Rattle.hg_phases.specs.State.{State, IsValid, changesets};
-ghost use Rattle.hg_phases.specs.Order.{Below};
-ghost use Rattle.hg_phases.specs.Least.{IsAdmitted, IsSmallest, PartValue, Covers};
+ghost use Rattle.hg_phases.specs.Order.{Below, IsSameState};
+ghost use Rattle.hg_phases.specs.Content.{content_of};
+ghost use Rattle.hg_phases.specs.Least.{IsAdmitted, IsLeast, IsSmallest, PartValue, Covers};
 ghost use Rattle.hg_replica.specs.declared.fault.Fault.{Fault};
 ghost use Rattle.hg_replica.specs.Change.{ChangeValue};
 ghost use Rattle.hg_replica.specs.Answer.{AbsorbAnswer, IsFirstFault};
+ghost use Rattle.hg_replica.specs.Content.{IsValidContent, ContentBelow, ContentCovers, ContentAfter, ContentsJoined, IsContentFault};
+ghost use Rattle.hg_replica.specs.Join.{IsJoin};
 
 /// What absorbing leaves is valid, above the state before, and covers the part; no other such state is below it.
 pub fn absorbed_is_valid_above_and_covers()
@@ -19,4 +22,15 @@ pub fn absorbed_is_valid_above_and_covers()
 pub fn first_fault_is_one()
     ensures none { (s : State) (k : PartValue) (fault : Fault) → IsAdmitted s k → IsFirstFault (changesets s) k fault → ⊥ }
     ensures one { (s : State) (k : PartValue) (fault other : Fault) → IsFirstFault (changesets s) k fault → IsFirstFault (changesets s) k other → fault ≡ other }
+{}
+
+/// Contents say what states say, free of order: two replicas have one content exactly where each is below the other.
+pub fn contents_say_what_states_say()
+    ensures one { (s t : State) → IsValid s → IsValid t → ((content_of s ≡ content_of t) ↔ IsSameState s t) }
+    ensures valid { (s : State) → IsValid s → IsValidContent (content_of s) }
+    ensures below { (s t : State) → IsValid s → IsValid t → (Below s t ↔ ContentBelow (content_of s) (content_of t)) }
+    ensures covers { (s : State) (k : PartValue) → IsValid s → (Covers s k ↔ ContentCovers (content_of s) k) }
+    ensures after { (s t : State) (k : PartValue) → IsValid s → IsValid t → ((IsAdmitted s k × IsLeast s (k ∷ []) t) ↔ ContentAfter (content_of s) k (content_of t)) }
+    ensures fault { (s : State) (k : PartValue) (fault : Fault) → IsValid s → IsFirstFault (changesets s) k fault → IsContentFault (content_of s) k fault }
+    ensures joined { (s o t : State) → IsValid s → IsValid o → IsValid t → (IsJoin s o t ↔ ContentsJoined (content_of s) (content_of o) (content_of t)) }
 {}

@@ -1,10 +1,13 @@
 //! The replica: a graph of changesets, with a phase for each.
-ghost use Rattle.std.specs.Prelude.{IfOk, MatchOption, [], ◌≡◌};
+ghost use Rattle.std.specs.Prelude.{IfOk, MatchOption, IsTrue, [], ◌≡◌, ◌↔◌};
 ghost use Rattle.hg_phases.specs.State.{changesets, state_of, Holds, IsPhaseOf, IsValid};
+ghost use Rattle.hg_phases.specs.Order.{Below};
 ghost use Rattle.hg_replica.specs.Answer.{AbsorbAnswer};
+ghost use Rattle.hg_replica.specs.Join.{JoinAnswer};
 
 use crate::absorb::absorb_or_undo;
 use crate::fault::Fault;
+use crate::join::{is_below, join_or_undo};
 use crate::part::{Change, Part};
 use hg_changeset::Node;
 use hg_graph::Graph;
@@ -77,8 +80,35 @@ impl Replica {
     /// last, in the part's order. The first fault is told, of the changesets in their order and then of the bounds in
     /// theirs; a refusal leaves the replica as it was.
     pub fn absorb(&mut self, part: &Part) -> Result<Change, Fault>
-        ensures { AbsorbAnswer self.old part.now result self.new }
+        ensures answer { AbsorbAnswer self.old part.now result self.new }
+        ensures valid { IsValid self.old }
     {
         absorb_or_undo(&mut self.graph, &mut self.phases, self.alloc, part)
+    }
+
+    /// Takes in all that another replica holds: the replica goes to the least state above both, the union of the
+    /// changesets with the lowest phases. What is new stands last, in the other's order. Two changesets under one id are
+    /// refused as a collision; a refusal leaves the replica as it was.
+    pub fn join(&mut self, other: &Replica) -> Result<(), Fault>
+        ensures answer { JoinAnswer self.old other.now result self.new }
+        ensures valid { IsValid self.old }
+        ensures other_valid { IsValid other.now }
+    {
+        join_or_undo(
+            &mut self.graph,
+            &mut self.phases,
+            self.alloc,
+            &other.graph,
+            &other.phases,
+        )
+    }
+
+    /// Whether another replica holds all that this one holds, with phases no higher.
+    pub fn is_below(&self, other: &Replica) -> bool
+        ensures answer { IsTrue result ↔ Below self.now other.now }
+        ensures valid { IsValid self.now }
+        ensures other_valid { IsValid other.now }
+    {
+        is_below(&self.graph, &self.phases, &other.graph, &other.phases)
     }
 }

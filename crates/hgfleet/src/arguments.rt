@@ -76,6 +76,7 @@ A script has a command on each line; the words are divided by spaces:
   commit A b draft    at A, a changeset with the label b; its phase is draft or secret
   commit A c draft b  the same on the parent b; a second parent may follow
   report A            prints the changesets of A with their phases
+  agree A B           prints whether A and B hold the same in the same phases
 Empty lines and lines that begin with # are skipped.
 
 For example:

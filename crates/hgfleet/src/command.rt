@@ -20,6 +20,7 @@ pub enum Command<'a> {
     Node(&'a [u8]),
     Commit(Commit<'a>),
     Report(&'a [u8]),
+    Agree(&'a [u8], &'a [u8]),
 }
 
 /// The command of a line's words, or the first fault that they show.
@@ -29,6 +30,7 @@ pub fn read_command<'a>(words: &[&'a [u8]]) -> Result<Option<Command<'a>>, LineF
         [b"node", rest @ ..] => Ok(Some(Command::Node(read_only_name(rest)?))),
         [b"report", rest @ ..] => Ok(Some(Command::Report(read_only_name(rest)?))),
         [b"commit", rest @ ..] => Ok(Some(Command::Commit(read_commit(rest)?))),
+        [b"agree", rest @ ..] => Ok(Some(read_agree(rest)?)),
         _ => Err(LineFault::UnknownCommand),
     }
 }
@@ -36,6 +38,13 @@ pub fn read_command<'a>(words: &[&'a [u8]]) -> Result<Option<Command<'a>>, LineF
 fn read_only_name<'a>(words: &[&'a [u8]]) -> Result<&'a [u8], LineFault> {
     match words {
         [word] => read_name(*word),
+        _ => Err(LineFault::WordCount),
+    }
+}
+
+fn read_agree<'a>(words: &[&'a [u8]]) -> Result<Command<'a>, LineFault> {
+    match words {
+        [one, other] => Ok(Command::Agree(read_name(*one)?, read_name(*other)?)),
         _ => Err(LineFault::WordCount),
     }
 }

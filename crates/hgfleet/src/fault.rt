@@ -89,3 +89,11 @@ impl<T: Drop> From<AllocFailed<T>> for RunFault {
         RunFault::NoMemory
     }
 }
+
+impl From<hg_join::NoMemory> for RunFault {
+    ghost from_gives = { λ _ e. e ≡ NoMemory };
+
+    fn from(_error: hg_join::NoMemory) -> RunFault {
+        RunFault::NoMemory
+    }
+}

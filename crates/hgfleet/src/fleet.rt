@@ -4,6 +4,7 @@ use crate::commit::decide_commit;
 use crate::fault::{LineFault, RunFault};
 use crate::output::{print_line, print_refusal};
 use hg_changeset::{Entry, Node};
+use hg_join::JoinState;
 use hg_phases::Phase;
 use hg_replica::{Part, Replica};
 use std::alloc::{AllocError, Global};
@@ -38,6 +39,7 @@ impl Fleet {
             Command::Node(at) => self.add_replica(number, at),
             Command::Commit(commit) => self.commit(number, commit, writer),
             Command::Report(at) => self.report(number, at, writer),
+            Command::Agree(one, other) => self.agree(number, one, other, writer),
         }
     }
 
@@ -137,6 +139,30 @@ impl Fleet {
             },
             None => Ok(Node::NULL),
         }
+    }
+
+    // Whether two replicas are in equal states: each is below the other.
+    fn agree<W: Write>(
+        &self,
+        number: usize,
+        one: &[u8],
+        other: &[u8],
+        writer: &mut W,
+    ) -> Result<(), RunFault> {
+        let first = self.replica(number, one)?;
+        let second = self.replica(number, other)?;
+        let answer: &[u8] = if first.below(second)? && second.below(first)? {
+            b": yes"
+        } else {
+            b": no"
+        };
+        let mut line = Vec::new(self.alloc);
+        line.extend_from_slice(b"agree ")?;
+        line.extend_from_slice(one)?;
+        line.extend_from_slice(b" ")?;
+        line.extend_from_slice(other)?;
+        line.extend_from_slice(answer)?;
+        print_line(writer, &mut line)
     }
 
     // The replica's changesets in byte order of their labels, each with its phase, and how many there are.

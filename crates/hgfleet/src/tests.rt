@@ -100,6 +100,13 @@ fn refused_commits(rt: HostRuntime) {
 }
 
 #[test]
+fn replicas_agree_where_their_states_are_equal(rt: HostRuntime) {
+    let script = b"node A\nnode B\ncommit A a draft\nagree A B\ncommit B a draft\nagree A B\nagree B B\ncommit A b secret\ncommit B b draft\nagree B A\n";
+    let output = b"agree A B: no\nagree A B: yes\nagree B B: yes\nagree B A: no\n";
+    expect(&rt, rt.alloc(), script, output, "");
+}
+
+#[test]
 fn lines_are_read_as_words(rt: HostRuntime) {
     let script = b"# a comment\n\n   \n  node   A  \r\ncommit A a-1._Z draft\nreport A";
     expect(
@@ -121,6 +128,9 @@ fn each_fault_of_a_line(rt: HostRuntime) {
         ("commit A a\n", "line 1: wrong number of words"),
         ("commit A a draft b c d\n", "line 1: wrong number of words"),
         ("report A B\n", "line 1: wrong number of words"),
+        ("agree A\n", "line 1: wrong number of words"),
+        ("agree A B?\n", "line 1: bad name"),
+        ("node A\nagree A B\n", "line 2: unknown name"),
         ("node A/B\n", "line 1: bad name"),
         ("node A\t\n", "line 1: bad name"),
         ("node A\r", "line 1: bad name"),

@@ -1,0 +1,66 @@
+//! States that join: what a node of a fleet holds, and may tell to others in any order.
+//!
+//! A state grows in two ways and never shrinks. It absorbs *parts*, which its owner makes or which other nodes
+//! send, and it *joins* whole states. To absorb a part is to go to the least valid state above that covers the
+//! part; to join a state is to go to the least valid state above both. So it does not matter in which order parts
+//! come, nor how often: nodes that cover what the others took in hold one content. [`JoinState`] says that by
+//! contracts and laws, and the functions of this crate's root (as [`covering_is_agreeing`]) what follows for whole
+//! lists of parts.
+//!
+//! # A state of one's own
+//!
+//! [`LowMap`] is the plain example: from keys to the lowest number that was given to each. This is how its members
+//! are chosen, and how to choose those of another state.
+//!
+//! 1. **What states are equal.** `content` gives what a state says, free of how and in what order it is kept, since
+//!    two states that are below each other have to have one content. `LowMap` keeps a tree; its content is the
+//!    function from each key to its number, if it has one: `K → Option ℕ`. A state that keeps a list in the order
+//!    in which things came takes the function from each thing's name to what is held under it. `IsValid` says which
+//!    contents some state may have (for `LowMap` all).
+//! 2. **When a state says more than another.** `Below a b`: `b` says all that `a` says. For `LowMap`, `LowsBelow`:
+//!    each key of `a` is a key of `b`, with a number as low.
+//! 3. **What parts say.** `part_content` gives what of a part matters, `Covers a p` that `a` says all of it
+//!    already. For `LowMap` the pairs, and `LowsCover`: each pair's key is there with a number as low.
+//! 4. **What growing leaves.** `After` and `Joined` say it by a formula, not by the code and not as "the least":
+//!    `LowsAfter` takes the lower of what was there and of the lowest that the pairs give, and `LowsJoined` the
+//!    lower of both sides. The laws `absorbed` and `least` then say that this is the least.
+//! 5. **What is refused.** `Admits`, `IsFirstFault` and `Collides` say which parts and states can't be taken, and
+//!    why. `LowMap` takes all, so its `Admits` always holds and the other two never do.
+//! 6. **The laws.** Prove `ordered`, `stays_covered` and `absorbed` first: from these three, the lemmas
+//!    `again_by_least` and `swap_by_least` of `specs/Order.antt` give `again` and `swap`.
+//! 7. **The code.** Do what can be refused first, or keep what undoes it: `LowMap` notes in a log what each key had,
+//!    and puts it back, the last first, where memory runs out half way. So a call costs about what it is given.
+//!
+//! # What the laws can't say
+//!
+//! The laws bind only what the members say. A content of one point keeps them all, and so does a state that covers
+//! nothing and refuses everything. So choose members that tell states apart, as named definitions that a reader can
+//! judge:
+//!
+//! - Two states whose calls can answer differently have different contents (`LowMap::get` is a function of the
+//!   content), and `Below` is no wider than "says no more than".
+//! - `Covers` holds in each content that says all of the part, and in no other. A covered part is admitted
+//!   (`covered_is_admitted`), so covering what one refuses is impossible.
+//! - `Joined` has an outcome for all but those that collide, and those have no valid content above both
+//!   (`collides_for_good`), so a collision is no excuse for a join that could have been.
+//! - `IsWantOfMemory` holds of the faults that say so, and of no fault that says more (`memory_is_no_fault`,
+//!   `memory_is_no_collision`). So what succeeds was not refused, and what is refused was at fault.
+//! - A law ranges over every value of `PartContent`, and not only over what parts of the program have. What a law
+//!   needs to know of a part stands in `Admits`, or is no part of `PartContent`.
+//!
+//! [`Both`] puts two states side by side, each with its own laws.
+#![tactic(auto)]
+
+mod both;
+mod laws;
+mod low_map;
+mod memory;
+mod state;
+#[cfg(test)]
+mod tests;
+
+pub use both::{Both, BothFault};
+pub use laws::{covering_is_agreeing, each_is_least, joined_is_least, one_outcome};
+pub use low_map::LowMap;
+pub use memory::NoMemory;
+pub use state::JoinState;

@@ -1,0 +1,172 @@
+ghost use Rattle.std.specs.Prelude.{IsTrue, IfSome};
+
+use super::*;
+use std::alloc::Global;
+use std::test::Fail;
+
+/// Absorbs two parts in either order, and tells whether the two states are below each other; `None` where memory ran
+/// out or a part was refused.
+fn alike_in_either_order<S: JoinState>(start: &S, p: &S::Part, q: &S::Part) -> Option<bool>
+    ensures { IfSome result IsTrue }
+{
+    let mut one = start.copy().ok()?;
+    let mut other = start.copy().ok()?;
+    one.absorb(p).ok()?;
+    one.absorb(q).ok()?;
+    other.absorb(q).ok()?;
+    other.absorb(p).ok()?;
+    let up = one.below(&other).ok()?;
+    let down = other.below(&one).ok()?;
+    Some(up && down)
+}
+
+/// Joins a copy of a state with another, and tells whether both are below the outcome; `None` where memory ran out or
+/// they collide.
+fn joined_is_above<S: JoinState>(one: &S, other: &S) -> Option<bool>
+    ensures { IfSome result IsTrue }
+{
+    let mut joined = one.copy().ok()?;
+    joined.join(other).ok()?;
+    let first = one.below(&joined).ok()?;
+    let second = other.below(&joined).ok()?;
+    Some(first && second)
+}
+
+/// A map that has absorbed the pairs.
+fn map_of(alloc: Global, pairs: &[(u8, u8)]) -> Result<LowMap<u8>, NoMemory> {
+    let mut map = LowMap::new(alloc);
+    let part = pairs.to_vec(alloc)?;
+    map.absorb(&part)?;
+    Ok(map)
+}
+
+/// The numbers of the keys 1, 2 and 3.
+fn numbers(map: &LowMap<u8>) -> [Option<u8>; 3] {
+    [map.get(1), map.get(2), map.get(3)]
+}
+
+/// A map from each even key below 16 to 20, and pairs of each key below 16 and 5.
+fn twenties_and_fives(alloc: Global) -> Result<(LowMap<u8>, Vec<(u8, u8)>), NoMemory> {
+    let mut twenties = Vec::new(alloc);
+    let mut fives = Vec::new(alloc);
+    for half in 0..8u8 {
+        twenties.push((2 * half, 20))?;
+        fives.push((2 * half, 5))?;
+        fives.push((2 * half + 1, 5))?;
+    }
+    Ok((map_of(alloc, &twenties)?, fives))
+}
+
+/// Whether each even key below 16 has the one number, and each odd key the other.
+fn has(map: &LowMap<u8>, even: Option<u8>, odd: Option<u8>) -> bool {
+    for half in 0..8u8 {
+        if map.get(2 * half) != even || map.get(2 * half + 1) != odd {
+            return false;
+        }
+    }
+    true
+}
+
+#[test]
+fn a_map_keeps_the_lowest(rt: HostRuntime) -> Result<(), Fail> {
+    let alloc = rt.alloc();
+    let before = map_of(alloc, &[(1, 5), (2, 3), (1, 7)])?;
+    let mut map = before.copy()?;
+    map.absorb(&[(1, 4), (3, 9), (2, 7)].to_vec(alloc)?)?;
+    assert_eq!(rt; numbers(&before), [Some(5), Some(3), None]);
+    assert_eq!(rt; numbers(&map), [Some(4), Some(3), Some(9)]);
+    assert!(rt; before.below(&map)?);
+    assert!(rt; !map.below(&before)?);
+    map.join(&map_of(alloc, &[(2, 1), (3, 10)])?)?;
+    assert_eq!(rt; numbers(&map), [Some(4), Some(1), Some(9)]);
+    Ok(())
+}
+
+#[test]
+fn both_halves_grow(rt: HostRuntime) -> Result<(), Fail> {
+    let alloc = rt.alloc();
+    let mut pair = Both::new(map_of(alloc, &[(1, 5)])?, map_of(alloc, &[(1, 6)])?);
+    pair.absorb(&([(1, 4)].to_vec(alloc)?, [(2, 3)].to_vec(alloc)?))?;
+    assert_eq!(rt; numbers(pair.first()), [Some(4), None, None]);
+    assert_eq!(rt; numbers(pair.second()), [Some(6), Some(3), None]);
+    Ok(())
+}
+
+#[test]
+fn through_the_bound(rt: HostRuntime) -> Result<(), Fail> {
+    let alloc = rt.alloc();
+    let map = map_of(alloc, &[(1, 5)])?;
+    let other = map_of(alloc, &[(1, 4), (2, 9)])?;
+    let p = [(1, 3), (2, 8)].to_vec(alloc)?;
+    let q = [(2, 7), (3, 0)].to_vec(alloc)?;
+    assert_eq!(rt; alike_in_either_order(&map, &p, &q), Some(true));
+    assert_eq!(rt; joined_is_above(&map, &other), Some(true));
+    let pair = Both::new(map, other);
+    let more = [(1, 2)].to_vec(alloc)?;
+    let none = Vec::new(alloc);
+    assert_eq!(rt;
+        alike_in_either_order(&pair, &(p, q), &(more, none)),
+        Some(true)
+    );
+    assert_eq!(rt; joined_is_above(&pair, &pair), Some(true));
+    Ok(())
+}
+
+#[test]
+fn a_refused_part_changes_nothing(rt: HostRuntime) {
+    let Ok((mut map, part)) = twenties_and_fives(rt.alloc()) else {
+        return;
+    };
+    match map.absorb(&part) {
+        Ok(()) => assert!(rt; has(&map, Some(5), Some(5))),
+        Err(NoMemory) => assert!(rt; has(&map, Some(20), None)),
+    }
+}
+
+#[test]
+fn a_refused_join_changes_nothing(rt: HostRuntime) {
+    let Ok((mut map, part)) = twenties_and_fives(rt.alloc()) else {
+        return;
+    };
+    let Ok(other) = map_of(rt.alloc(), &part) else {
+        return;
+    };
+    match map.join(&other) {
+        Ok(()) => assert!(rt; has(&map, Some(5), Some(5))),
+        Err(NoMemory) => assert!(rt; has(&map, Some(20), None)),
+    }
+}
+
+#[test]
+fn a_refused_half_changes_neither(rt: HostRuntime) {
+    let Ok((map, part)) = twenties_and_fives(rt.alloc()) else {
+        return;
+    };
+    let Ok(other) = map_of(rt.alloc(), &part) else {
+        return;
+    };
+    let Ok(more) = [(200, 1)].to_vec(rt.alloc()) else {
+        return;
+    };
+    let mut pair = Both::new(map, other);
+    match pair.absorb(&(part, more)) {
+        Ok(_) => {
+            assert!(rt; has(pair.first(), Some(5), Some(5)));
+            assert_eq!(rt; pair.second().get(200), Some(1));
+        }
+        Err(_) => {
+            assert!(rt; has(pair.first(), Some(20), None));
+            assert_eq!(rt; pair.second().get(200), None);
+        }
+    }
+}
+
+#[test]
+fn faults_show_their_names(rt: HostRuntime) -> Result<(), Fail> {
+    let first: BothFault<NoMemory, u8> = BothFault::First(NoMemory);
+    let second: BothFault<NoMemory, u8> = BothFault::Second(7);
+    let neither: BothFault<NoMemory, u8> = NoMemory.into();
+    let text = format!(in rt.alloc(); "{first} {second} {neither}")?;
+    assert_eq!(rt; text.as_str(), "NoMemory 7 NoMemory");
+    Ok(())
+}
