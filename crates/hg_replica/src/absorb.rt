@@ -53,12 +53,26 @@ pub(crate) fn absorb_or_undo(
     ) {
         Ok(change) => Ok(change),
         Err(fault) => {
-            phases.undo(&mut log);
-            phases.truncate(before);
-            graph.truncate(before);
+            take_back(graph, phases, &mut log, before);
             Err(fault)
         }
     }
+}
+
+/// Restores the phases that were logged, and forgets what stands from the place `before` on.
+pub(crate) fn take_back(
+    graph: &mut Graph,
+    phases: &mut PhaseMap,
+    log: &mut Vec<Lowered>,
+    before: usize,
+)
+    requires { All (λ e. e.place < length phases.old) log.old.items }
+    ensures graph { graph.new ≡ take before graph.old }
+    ensures phases { phases.new ≡ take before (restored phases.old log.old.items) }
+{
+    phases.undo(log);
+    phases.truncate(before);
+    graph.truncate(before);
 }
 
 // Absorbs the part, and logs what goes down. After a fault what was done can be taken back.

@@ -10,6 +10,7 @@ ghost use Rattle.hg_phases.specs.State.{state_of, IsValid};
 ghost use Rattle.hg_phases.specs.Order.{Below};
 ghost use Rattle.hg_replica.specs.Join.{IsJoin, IsJoinFault, JoinAnswer, TakeInAnswer, AddedWithPhase, CanTakeBack, IsHeldAsLow};
 
+use crate::absorb::take_back;
 use crate::fault::Fault;
 use hg_changeset::Changeset;
 use hg_graph::Graph;
@@ -36,9 +37,7 @@ pub(crate) fn join_or_undo(
     match join_logged(graph, phases, &mut log, other, other_phases) {
         Ok(()) => Ok(()),
         Err(fault) => {
-            phases.undo(&mut log);
-            phases.truncate(before);
-            graph.truncate(before);
+            take_back(graph, phases, &mut log, before);
             Err(fault)
         }
     }

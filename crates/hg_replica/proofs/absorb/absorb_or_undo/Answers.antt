@@ -1,6 +1,7 @@
 use Rattle.std.proofs.Common.{◌≡◌, ◌∷◌, [], ◌∙◌, length, take, sym, ap, subst}
 use Rattle.hg_phases.specs.State.{state_of}
 use Rattle.hg_phases.specs.Least.{PartValue, IsLeast}
+use Rattle.hg_phases.specs.Log.{restored}
 use Rattle.hg_phases.proofs.LawLemmas.{least-valid}
 use Rattle.hg_replica.proofs.AbsorbLemmas.{refusal_at_state, same_part}
 use Rattle.hg_replica.proofs.absorb.absorb_or_undo.Goals as goal
@@ -16,8 +17,8 @@ returns-clause-answer c =
     let e : k ≡ c.args.part.now = same_part _ _ _ _ c.args.part.now c.deref.ensures.value c.deref-2.ensures.value c.part.view_is in
     let h = c.in-Err.ensures in
     let before = c.len-before.ensures.len in
-    let graph_is : c.truncate-in-Err.new.self ≡ c.args.graph.now = c.truncate-in-Err.ensures ∙ ap (λ n. take n c.absorb_logged.new.graph) before ∙ h.kept in
-    let phases_are : c.truncate.new.self ≡ c.args.phases.now = c.truncate.ensures ∙ (λ t. take (before t) (c.undo.ensures.restored t)) ∙ h.undoes in (
+    let graph_is : c.take_back.new.graph ≡ c.args.graph.now = c.take_back.ensures.graph ∙ ap (λ n. take n c.absorb_logged.new.graph) before ∙ h.kept in
+    let phases_are : c.take_back.new.phases ≡ c.args.phases.now = c.take_back.ensures.phases ∙ ap (λ n. take n (restored c.absorb_logged.new.phases c.absorb_logged.new.log.items)) before ∙ h.undoes in (
       refusal_at_state c.args.graph.now c.args.phases.now k c.args.part.now c.in-Err.fault c.requires.len e h.refusal,
       λ t. state_of (graph_is t) (phases_are t),
     )
