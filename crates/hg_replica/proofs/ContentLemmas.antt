@@ -95,14 +95,14 @@ module _ (s : State) (graph : IsGraph (changesets s)) where
 -- the content of a valid state is valid
 pub content-valid : (s : State) → IsValid s → IsValidContent (content_of s)
 content-valid s valid = record {
-    named = λ n h e. let f = held_in_content s n h e in (f.1, valid.graph.each h.changeset (changeset_from s h f.0));
-    parents = λ n h p e is.
-        let f = held_in_content s n h e in
-        let g = content-node s valid.graph p (parent-held s valid.graph h.changeset p (changeset_from s h f.0) is) in
-        let up = held_in_content s p g.0 g.1 in
-        (g.0, g.1, valid.phases h g.0 f.0 up.0 (subst (IsParent h.changeset) (sym up.1) is));
-    grounded = content-grounded s valid.graph;
-  }
+  named = λ n h e. let f = held_in_content s n h e in (f.1, valid.graph.each h.changeset (changeset_from s h f.0));
+  parents = λ n h p e is.
+      let f = held_in_content s n h e in
+      let g = content-node s valid.graph p (parent-held s valid.graph h.changeset p (changeset_from s h f.0) is) in
+      let up = held_in_content s p g.0 g.1 in
+      (g.0, g.1, valid.phases h g.0 f.0 up.0 (subst (IsParent h.changeset) (sym up.1) is));
+  grounded = content-grounded s valid.graph;
+}
 
 -- below is below
 pub content-below : (s t : State) → IsGraph (changesets t) → Below s t → ContentBelow (content_of s) (content_of t)
@@ -120,41 +120,43 @@ below_from_content s t graph up h at =
 -- to cover is to cover
 pub content-covers : (s : State) (k : PartValue) → IsGraph (changesets s) → Covers s k → ContentCovers (content_of s) k
 content-covers s k graph covers = record {
-    holds = λ c at. content-changeset s graph (node_of c) c (covers.holds c at) refl;
-    bounded = λ b at.
-        let held = covers.bounded b at in
-        (content-node s graph b.0 held.0,
+  holds = λ c at. content-changeset s graph (node_of c) c (covers.holds c at) refl;
+  bounded = λ b at.
+      let held = covers.bounded b at in (
+        content-node s graph b.0 held.0,
         λ n h e leads.
-          let f = held_in_content s n h e in
-          held.1 h f.0 (subst (λ m. Reaches s m b.0) (sym f.1) (reach_from_leads s graph n b.0 held.0 leads)));
-  }
+            let f = held_in_content s n h e in
+            held.1 h f.0 (subst (λ m. Reaches s m b.0) (sym f.1) (reach_from_leads s graph n b.0 held.0 leads)),
+      );
+}
 
 pub covers_from_content : (s : State) (k : PartValue) → IsGraph (changesets s) → ContentCovers (content_of s) k → Covers s k
 covers_from_content s k graph covers = record {
-    holds = λ c at. (changeset_in_content s graph (node_of c) c (covers.holds c at)).0;
-    bounded = λ b at.
-        let held = covers.bounded b at in
-        (node_in_content s graph b.0 held.0,
+  holds = λ c at. (changeset_in_content s graph (node_of c) c (covers.holds c at)).0;
+  bounded = λ b at.
+      let held = covers.bounded b at in (
+        node_in_content s graph b.0 held.0,
         λ h at_h reach.
-          let n = node_of h.changeset in
-          held.1 n h (content-held s graph n h at_h refl) (leads_from_reach s graph n b.0 reach));
-  }
+            let n = node_of h.changeset in
+            held.1 n h (content-held s graph n h at_h refl) (leads_from_reach s graph n b.0 reach),
+      );
+}
 
 -- to admit is to admit
 pub content-admits : (s : State) (k : PartValue) → IsGraph (changesets s) → ((c : Contents) → Contains k.changesets c → IsChangeset c) → IsAdmitted s k → ContentAdmits (content_of s) k
 content-admits s k graph each admitted = record {
-    each = each;
-    parents = λ i c at p is. elim (admitted.parents i c at p is) [ inl x ↦ inl (content-node s graph p x) | inr x ↦ inr (Holds-changeset (take i k.changesets) p x) ];
-    bounds = λ b at. elim (admitted.bounds b at) [ inl x ↦ inl (content-node s graph b.0 x) | inr x ↦ inr (Holds-changeset k.changesets b.0 x) ];
-    apart = λ c d at other e. admitted.apart c d at (elim other [ inl x ↦ inl (changeset_in_content s graph (node_of d) d x).0 | inr x ↦ inr x ]) e;
-  }
+  each = each;
+  parents = λ i c at p is. elim (admitted.parents i c at p is) [ inl x ↦ inl (content-node s graph p x) | inr x ↦ inr (Holds-changeset (take i k.changesets) p x) ];
+  bounds = λ b at. elim (admitted.bounds b at) [ inl x ↦ inl (content-node s graph b.0 x) | inr x ↦ inr (Holds-changeset k.changesets b.0 x) ];
+  apart = λ c d at other e. admitted.apart c d at (elim other [ inl x ↦ inl (changeset_in_content s graph (node_of d) d x).0 | inr x ↦ inr x ]) e;
+}
 
 pub admits_from_content : (s : State) (k : PartValue) → IsGraph (changesets s) → ContentAdmits (content_of s) k → IsAdmitted s k
 admits_from_content s k graph admitted = record {
-    parents = λ i c at p is. elim (admitted.parents i c at p is) [ inl x ↦ inl (node_in_content s graph p x) | inr x ↦ inr (subst (λ n. Contains (nodes (take i k.changesets)) n) x.2 (Holds-from (take i k.changesets) x.0 x.1)) ];
-    bounds = λ b at. elim (admitted.bounds b at) [ inl x ↦ inl (node_in_content s graph b.0 x) | inr x ↦ inr (subst (λ n. Contains (nodes k.changesets) n) x.2 (Holds-from k.changesets x.0 x.1)) ];
-    apart = λ c d at other e. admitted.apart c d at (elim other [ inl x ↦ inl (content-changeset s graph (node_of d) d x refl) | inr x ↦ inr x ]) e;
-  }
+  parents = λ i c at p is. elim (admitted.parents i c at p is) [ inl x ↦ inl (node_in_content s graph p x) | inr x ↦ inr (subst (λ n. Contains (nodes (take i k.changesets)) n) x.2 (Holds-from (take i k.changesets) x.0 x.1)) ];
+  bounds = λ b at. elim (admitted.bounds b at) [ inl x ↦ inl (node_in_content s graph b.0 x) | inr x ↦ inr (subst (λ n. Contains (nodes k.changesets) n) x.2 (Holds-from k.changesets x.0 x.1)) ];
+  apart = λ c d at other e. admitted.apart c d at (elim other [ inl x ↦ inl (content-changeset s graph (node_of d) d x refl) | inr x ↦ inr x ]) e;
+}
 
 -- a first fault is one
 pub content-fault : (s : State) (k : PartValue) (fault : Fault) → IsGraph (changesets s) → IsFirstFault (changesets s) k fault → IsContentFault (content_of s) k fault
@@ -195,36 +197,38 @@ module _ (s t : State) (k : PartValue) (valid : IsValid s) (large : IsGraph (cha
 
     pub content-after : IsAdmitted s k → ContentAfter (content_of s) k (content_of t)
     content-after admitted = record {
-        admitted = content-admits s k valid.graph (λ c at. large.each c (part-changeset c at)) admitted;
-        union = λ n c. (
-          λ x.
+      admitted = content-admits s k valid.graph (λ c at. large.each c (part-changeset c at)) admitted;
+      union = λ n c. (
+        λ x.
             let f = changeset_in_content t large n c x in
             elim ((l.union c).0 f.0) [
               | inl old ↦ inl (content-changeset s valid.graph n c old f.1)
               | inr new ↦ inr (subst (λ y. Contains y.changesets c) (sym (only_one k new.0 new.1)) new.2, f.1)
             ],
-          λ h. elim h [
-            | inl old ↦ let f = changeset_in_content s valid.graph n c old in content-changeset t large n c ((l.union c).1 (inl f.0)) f.1
-            | inr new ↦ content-changeset t large n c (part-changeset c new.0) new.1
-          ]);
-        phases = λ n h e.
-            let f = held_in_content t n h e in
-            let lowest = l.phases h f.0 in
-            (candidate-there n h h.phase e lowest.0, λ j candidate. lowest.1 j (candidate-back n h j e candidate));
-      }
+        λ h. elim h [
+          | inl old ↦ let f = changeset_in_content s valid.graph n c old in content-changeset t large n c ((l.union c).1 (inl f.0)) f.1
+          | inr new ↦ content-changeset t large n c (part-changeset c new.0) new.1
+        ],
+      );
+      phases = λ n h e.
+          let f = held_in_content t n h e in
+          let lowest = l.phases h f.0 in
+          (candidate-there n h h.phase e lowest.0, λ j candidate. lowest.1 j (candidate-back n h j e candidate));
+    }
 
   -- and where it is, the state is the least
   module _ (after : ContentAfter (content_of s) k (content_of t)) where
     least-union : (c : Contents) → Contains (changesets t) c ↔ (Contains (changesets s) c ⊎ IsChangesetOfOne (k ∷ []) c)
     least-union c = (
-        λ at. elim ((after.union (node_of c) c).0 (content-changeset t large (node_of c) c at refl)) [
-          | inl old ↦ inl (changeset_in_content s valid.graph (node_of c) c old).0
-          | inr new ↦ inr (k, (0, omega arith, refl), new.0)
-        ],
-        λ h. elim h [
-          | inl old ↦ (changeset_in_content t large (node_of c) c ((after.union (node_of c) c).1 (inl (content-changeset s valid.graph (node_of c) c old refl)))).0
-          | inr new ↦ (changeset_in_content t large (node_of c) c ((after.union (node_of c) c).1 (inr (subst (λ y. Contains y.changesets c) (sym (only_one k new.0 new.1)) new.2, refl)))).0
-        ])
+      λ at. elim ((after.union (node_of c) c).0 (content-changeset t large (node_of c) c at refl)) [
+        | inl old ↦ inl (changeset_in_content s valid.graph (node_of c) c old).0
+        | inr new ↦ inr (k, (0, omega arith, refl), new.0)
+      ],
+      λ h. elim h [
+        | inl old ↦ (changeset_in_content t large (node_of c) c ((after.union (node_of c) c).1 (inl (content-changeset s valid.graph (node_of c) c old refl)))).0
+        | inr new ↦ (changeset_in_content t large (node_of c) c ((after.union (node_of c) c).1 (inr (subst (λ y. Contains y.changesets c) (sym (only_one k new.0 new.1)) new.2, refl)))).0
+      ],
+    )
 
     least-bounded : (b : Node × Phase) → IsBoundOfOne (k ∷ []) b → Holds t b.0
     least-bounded b one =
@@ -256,14 +260,17 @@ module _ (s t : State) (k : PartValue) (valid : IsValid s) (large : IsGraph (cha
         inr (inr (b.0, one, reach_from_leads t large (node_of h.changeset) b.0.0 (least-bounded b.0 one) b.2, b.3))
 
     pub least_from_content : IsAdmitted s k × IsLeast s (k ∷ []) t
-    least_from_content = (admits_from_content s k valid.graph after.admitted, record {
+    least_from_content = (
+      admits_from_content s k valid.graph after.admitted,
+      record {
         graph = large;
         union = least-union;
         bounded = least-bounded;
         phases = λ h at.
             let lowest = after.phases (node_of h.changeset) h (content-held t large (node_of h.changeset) h at refl) in
             (back h h.phase at lowest.0, λ j candidate. lowest.1 j (forth h j at candidate));
-      })
+      },
+    )
 
 -- ---- answers, in the words of contents
 

@@ -59,22 +59,23 @@ module _ (s o t : State) (s_graph : IsGraph (changesets s)) (o_graph : IsGraph (
             | inl x ↦ joined-first (content_of s n) (content_of o n) h (content-held s s_graph n h x f.1)
             | inr x ↦ joined-second (content_of s n) (content_of o n) (agree n) h (content-held o o_graph n h x f.1)
           ]
+
       down : (n : Node) (h : Held) → joined (content_of s n) (content_of o n) ≡ Some h → (g : Held) × (content_of t n ≡ Some g) × (g.changeset ≡ h.changeset) × (rank g.phase ≤ rank h.phase)
       down n h e = elim (joined-one (content_of s n) (content_of o n) (agree n) h e) [ inl x ↦ up_first n h x | inr x ↦ up_second n h x ]
 
 -- and where it is, the state is the join
 pub join_from_content : (s o t : State) → IsGraph (changesets s) → IsGraph (changesets o) → IsGraph (changesets t) → ContentsJoined (content_of s) (content_of o) (content_of t) → IsJoin s o t
 join_from_content s o t s_graph o_graph t_graph h = record {
-    first = below_from_content s t s_graph (subst (ContentBelow (content_of s)) (sym h.1) (λ n. joined-first (content_of s n) (content_of o n)));
-    second = below_from_content o t o_graph (subst (ContentBelow (content_of o)) (sym h.1) (λ n. joined-second (content_of s n) (content_of o n) (h.0 n)));
-    each = λ g at.
-        let n = node_of g.changeset in
-        let e : joined (content_of s n) (content_of o n) ≡ Some g = (λ i. sym h.1 i n) ∙ content-held t t_graph n g at refl in
-        elim (joined-one (content_of s n) (content_of o n) (h.0 n) g e) [
-          | inl x ↦ inl (held_in_content s n g x).0
-          | inr x ↦ inr (held_in_content o n g x).0
-        ];
-  }
+  first = below_from_content s t s_graph (subst (ContentBelow (content_of s)) (sym h.1) (λ n. joined-first (content_of s n) (content_of o n)));
+  second = below_from_content o t o_graph (subst (ContentBelow (content_of o)) (sym h.1) (λ n. joined-second (content_of s n) (content_of o n) (h.0 n)));
+  each = λ g at.
+      let n = node_of g.changeset in
+      let e : joined (content_of s n) (content_of o n) ≡ Some g = (λ i. sym h.1 i n) ∙ content-held t t_graph n g at refl in
+      elim (joined-one (content_of s n) (content_of o n) (h.0 n) g e) [
+        | inl x ↦ inl (held_in_content s n g x).0
+        | inr x ↦ inr (held_in_content o n g x).0
+      ];
+}
 
 -- in a valid state a parent is held with a phase no higher
 parent-held : (s : State) → IsValid s → (h : Held) (p : Node) → Contains s.held h → IsParent h.changeset p → (g : Held) × Contains s.held g × (node_of g.changeset ≡ p) × (rank g.phase ≤ rank h.phase)
@@ -88,12 +89,12 @@ parent-held s valid h p at is =
 -- the join of valid states is valid
 pub join-valid : (s o t : State) → IsValid s → IsValid o → IsGraph (changesets t) → IsJoin s o t → IsValid t
 join-valid s o t v w graph join = record {
-    graph = graph;
-    phases = λ child parent at_child at_parent is. elim (join.each child at_child) [
-      | inl x ↦ by s v join.first child parent x at_parent is
-      | inr x ↦ by o w join.second child parent x at_parent is
-    ];
-  }
+  graph = graph;
+  phases = λ child parent at_child at_parent is. elim (join.each child at_child) [
+    | inl x ↦ by s v join.first child parent x at_parent is
+    | inr x ↦ by o w join.second child parent x at_parent is
+  ];
+}
   where
     by : (r : State) → IsValid r → Below r t → (child parent : Held) → Contains r.held child → Contains t.held parent → IsParent child.changeset (node_of parent.changeset) → rank parent.phase ≤ rank child.phase
     by r valid up child parent at_child at_parent is =
@@ -168,45 +169,45 @@ module _ (s o : State) (i : ℕ) (h : Held) (at_h : slice_get o.held i ≡ Some 
   -- a state above the last one, which holds the next one as low, and nothing else that is new
   join-grown : (t u : State) → IsJoin s (front i o) t → Below t u → ((g : Held) → Contains u.held g → Contains t.held g ⊎ (h ≡ g)) → ((g : Held) × Contains u.held g × (g.changeset ≡ h.changeset) × (rank g.phase ≤ rank h.phase)) → IsJoin s (front (i + 1) o) u
   join-grown t u join up each there = record {
-      first = Below-then s t u join.first up;
-      second = λ g at. elim (next_cases g at) [
-        | inl old ↦ Below-then (front i o) t u join.second up g old
-        | inr new ↦ subst (λ x. (y : Held) × Contains u.held y × (y.changeset ≡ x.changeset) × (rank y.phase ≤ rank x.phase)) new there
-      ];
-      each = λ g at. elim (each g at) [
-        | inl old ↦ elim (join.each g old) [ inl x ↦ inl x | inr x ↦ inr (next_old g x) ]
-        | inr new ↦ inr (subst (Contains (take (i + 1) o.held)) new next_new)
-      ];
-    }
+    first = Below-then s t u join.first up;
+    second = λ g at. elim (next_cases g at) [
+      | inl old ↦ Below-then (front i o) t u join.second up g old
+      | inr new ↦ subst (λ x. (y : Held) × Contains u.held y × (y.changeset ≡ x.changeset) × (rank y.phase ≤ rank x.phase)) new there
+    ];
+    each = λ g at. elim (each g at) [
+      | inl old ↦ elim (join.each g old) [ inl x ↦ inl x | inr x ↦ inr (next_old g x) ]
+      | inr new ↦ inr (subst (Contains (take (i + 1) o.held)) new next_new)
+    ];
+  }
 
   pub join-step : (cs : List Contents) (ks : List Phase) (log : List Lowered) (ds : List Contents) (ls : List Phase) (newlog : List Lowered) → length ks ≡ length cs → IsTakenIn h.changeset h.phase cs ks log ds ls newlog → IsJoin s (front i o) (state_of cs ks) → IsJoin s (front (i + 1) o) (state_of ds ls)
   join-step cs ks log ds ls newlog len (inl new) join =
       let pairs : held_of ds ls ≡ held_of cs ks ++ h ∷ [] = (λ t. held_of (new.1 t) (new.2 t)) ∙ held_of-push cs ks h.changeset h.phase len in
       join-grown (state_of cs ks) (state_of ds ls) join
-        (λ g at. (g, subst (λ hs. Contains hs g) (sym pairs) (Contains-append_left (held_of cs ks) (h ∷ []) g at), refl, omega arith))
-        (λ g at. Contains-push_cases (held_of cs ks) h g (subst (λ hs. Contains hs g) pairs at))
-        (h, subst (λ hs. Contains hs h) (sym pairs) (Contains-push (held_of cs ks) h), refl, omega arith)
+      (λ g at. (g, subst (λ hs. Contains hs g) (sym pairs) (Contains-append_left (held_of cs ks) (h ∷ []) g at), refl, omega arith))
+      (λ g at. Contains-push_cases (held_of cs ks) h g (subst (λ hs. Contains hs g) pairs at))
+      (h, subst (λ hs. Contains hs h) (sym pairs) (Contains-push (held_of cs ks) h), refl, omega arith)
   join-step cs ks log ds ls newlog len (inr (place, at_c, ds_is, (had, at_had, inl (le, ls_is, log_is)))) join =
       let same : state_of cs ks ≡ state_of ds ls = λ t. state_of (sym ds_is t) (sym ls_is t) in
       let g : Held = record { changeset = h.changeset; phase = had } in
       subst (IsJoin s (front (i + 1) o)) same
-        (join-grown (state_of cs ks) (state_of cs ks) join (Below-itself (state_of cs ks)) (λ x at. inl at)
-          (g, Contains-from_place _ place g (held-at cs ks place h.changeset had at_c at_had), refl, le))
+      (join-grown (state_of cs ks) (state_of cs ks) join (Below-itself (state_of cs ks)) (λ x at. inl at)
+      (g, Contains-from_place _ place g (held-at cs ks place h.changeset had at_c at_had), refl, le))
   join-step cs ks log ds ls newlog len (inr (place, at_c, ds_is, (had, at_had, inr (lt, ls_is, log_is)))) join =
       let same : state_of cs (set ks place h.phase) ≡ state_of ds ls = λ t. state_of (sym ds_is t) (sym ls_is t) in
       let at_k = get-set_same ks place h.phase (slice_get_within ks place had at_had) in
       subst (IsJoin s (front (i + 1) o)) same
-        (join-grown (state_of cs ks) (state_of cs (set ks place h.phase)) join
-          (set-below cs ks place had h.phase at_had lt)
-          (set-each cs ks place had h.phase h.changeset at_had at_c)
-          (h, Contains-from_place _ place h (held-at cs (set ks place h.phase) place h.changeset h.phase at_c at_k), refl, omega arith))
+      (join-grown (state_of cs ks) (state_of cs (set ks place h.phase)) join
+      (set-below cs ks place had h.phase at_had lt)
+      (set-each cs ks place had h.phase h.changeset at_had at_c)
+      (h, Contains-from_place _ place h (held-at cs (set ks place h.phase) place h.changeset h.phase at_c at_k), refl, omega arith))
 
 pub join-start : (s o : State) → IsJoin s (front 0 o) s
 join-start s o = record {
-    first = Below-itself s;
-    second = λ h at. absurd (omega (arith, at.1));
-    each = λ h at. inl at;
-  }
+  first = Below-itself s;
+  second = λ h at. absurd (omega (arith, at.1));
+  each = λ h at. inl at;
+}
 
 length-held_of : (cs : List Contents) (ks : List Phase) → length ks ≡ length cs → length (held_of cs ks) ≡ length cs
 length-held_of [] ks len = refl
@@ -224,11 +225,11 @@ restored-append ks ls (e ∷ log) within =
 
 pub take_back-start : (cs : List Contents) (ks : List Phase) (log : List Lowered) → log ≡ [] → CanTakeBack cs ks cs ks log
 take_back-start cs ks log none = record {
-    kept = take_all (length cs) cs (omega arith);
-    undoes = ap (λ l. take (length ks) (restored ks l)) none ∙ take_all (length ks) ks (omega arith);
-    within = subst (All (λ e. e.place < length ks)) (sym none) (λ k d l. absurd (omega arith));
-    longer = omega arith;
-  }
+  kept = take_all (length cs) cs (omega arith);
+  undoes = ap (λ l. take (length ks) (restored ks l)) none ∙ take_all (length ks) ks (omega arith);
+  within = subst (All (λ e. e.place < length ks)) (sym none) (λ k d l. absurd (omega arith));
+  longer = omega arith;
+}
 
 all-longer : (m n : ℕ) (log : List Lowered) → m ≤ n → All (λ e. e.place < m) log → All (λ e. e.place < n) log
 all-longer m n log le within k d l = let x = within k d l in omega arith
@@ -248,25 +249,25 @@ module _ (start : List Contents) (had : List Phase) (c : Contents) (k : Phase) (
 
   pushed : CanTakeBack start had (cs ++ c ∷ []) (ks ++ k ∷ []) log
   pushed = record {
-      kept = kept-added;
-      undoes =
+    kept = kept-added;
+    undoes =
         let le : length had ≤ length (restored ks log) = omega (arith, before.longer, length-restored ks log) in
         ap (take (length had)) (restored-append ks (k ∷ []) log before.within) ∙ take-append-le (length had) (restored ks log) (k ∷ []) le ∙ before.undoes;
-      within = all-longer (length ks) (length (ks ++ k ∷ [])) log (omega (arith, length-append ks (k ∷ []))) before.within;
-      longer = omega (arith, before.longer, length-append ks (k ∷ []));
-    }
+    within = all-longer (length ks) (length (ks ++ k ∷ [])) log (omega (arith, length-append ks (k ∷ []))) before.within;
+    longer = omega (arith, before.longer, length-append ks (k ∷ []));
+  }
 
   lowered : (place : ℕ) (was : Phase) → slice_get ks place ≡ Some was → CanTakeBack start had cs (set ks place k) (log ++ record { place = place; had = was } ∷ [])
   lowered place was at = record {
-      kept = before.kept;
-      undoes = ap (take (length had)) (restored-written ks log place k was at) ∙ before.undoes;
-      within =
+    kept = before.kept;
+    undoes = ap (take (length had)) (restored-written ks log place k was at) ∙ before.undoes;
+    within =
         let entry : Lowered = record { place = place; had = was } in
         let len = length-set ks place k in
         let here : place < length (set ks place k) = omega (arith, len, slice_get_within ks place was at) in
         All-push (λ e. e.place < length (set ks place k)) log entry (all-longer (length ks) (length (set ks place k)) log (omega (arith, len)) before.within) here;
-      longer = omega (arith, before.longer, length-set ks place k);
-    }
+    longer = omega (arith, before.longer, length-set ks place k);
+  }
 
   taken_in : (ds : List Contents) (ls : List Phase) (newlog : List Lowered) → IsTakenIn c k cs ks log ds ls newlog → CanTakeBack start had ds ls newlog
   taken_in ds ls newlog (inl new) = subst (λ x. CanTakeBack start had x ls newlog) (sym new.1) (subst (λ x. CanTakeBack start had (cs ++ c ∷ []) x newlog) (sym new.2) (subst (CanTakeBack start had (cs ++ c ∷ []) (ks ++ k ∷ [])) (sym new.3) pushed))
@@ -363,11 +364,12 @@ module _ (cs : List Contents) (ks : List Phase) (c : Contents) (k : Phase) (n : 
 
     pub low-at : (j : Phase) → slice_get cs p ≡ Some c → slice_get ks p ≡ Some j → (rank j ≤ rank k) ↔ IsHeldAsLow (state_of cs ks) c k
     low-at j at_c at_j = (
-        λ le. let g : Held = record { changeset = c; phase = j } in (g, Contains-from_place (held_of cs ks) p g (held-at cs ks p c j at_c at_j), refl, le),
-        λ h.
+      λ le. let g : Held = record { changeset = c; phase = j } in (g, Contains-from_place (held_of cs ks) p g (held-at cs ks p c j at_c at_j), refl, le),
+      λ h.
           let q = low-place h in
           let same = ap rank (same_Some j q.1 (sym at_j ∙ subst (λ m. slice_get ks m ≡ Some q.1) (low-here h) q.3)) in
-          omega (arith, same, q.4))
+          omega (arith, same, q.4),
+    )
 
 -- all below a place are below, and then one more
 pub record AreBelowUpTo (cs : List Contents) (ks : List Phase) (i : ℕ) (t : State) : Type 0 where
@@ -378,14 +380,14 @@ below-start cs ks t = record { each = λ j h lt at. absurd (omega arith) }
 
 pub below-step : (cs : List Contents) (ks : List Phase) (i : ℕ) (t : State) (c : Contents) (k : Phase) → slice_get cs i ≡ Some c → slice_get ks i ≡ Some k → AreBelowUpTo cs ks i t → IsHeldAsLow t c k → AreBelowUpTo cs ks (i + 1) t
 below-step cs ks i t c k at_c at_k before low = record {
-    each = λ j h lt at. elim (cases_eq j i) [
-      | inr ne ↦ let l : j < i = omega arith in before.each j h l at
-      | inl same ↦
-          let here = held-at cs ks i c k at_c at_k in
-          let h_is = same_Some (record { changeset = c; phase = k }) h (sym here ∙ subst (λ m. slice_get (held_of cs ks) m ≡ Some h) same at) in
-          subst (λ x. IsHeldAsLow t x.changeset x.phase) h_is low
-    ];
-  }
+  each = λ j h lt at. elim (cases_eq j i) [
+    | inr ne ↦ let l : j < i = omega arith in before.each j h l at
+    | inl same ↦
+        let here = held-at cs ks i c k at_c at_k in
+        let h_is = same_Some (record { changeset = c; phase = k }) h (sym here ∙ subst (λ m. slice_get (held_of cs ks) m ≡ Some h) same at) in
+        subst (λ x. IsHeldAsLow t x.changeset x.phase) h_is low
+  ];
+}
 
 pub below-finish : (cs : List Contents) (ks : List Phase) (i : ℕ) (t : State) → length cs ≤ i → AreBelowUpTo cs ks i t → Below (state_of cs ks) t
 below-finish cs ks i t le all h at =
@@ -416,15 +418,16 @@ module _ (s o : State) (i : ℕ) (h : Held) (at_h : slice_get o.held i ≡ Some 
 
   pub joined-step : (ds : List Contents) (ls : List Phase) (newlog : List Lowered) → IsTakenIn h.changeset h.phase cs ks log ds ls newlog → IsJoinedUpTo s o (i + 1) ds ls
   joined-step ds ls newlog taken = record {
-      len = len taken;
-      graph = graph taken;
-      join = join-step s o i h at_h cs ks log ds ls newlog before.len taken before.join;
-    }
+    len = len taken;
+    graph = graph taken;
+    join = join-step s o i h at_h cs ks log ds ls newlog before.len taken before.join;
+  }
     where
       len : IsTakenIn h.changeset h.phase cs ks log ds ls newlog → length ls ≡ length ds
       len (inl new) = omega (arith, ap length new.1, ap length new.2, length-append cs (h.changeset ∷ []), length-append ks (h.phase ∷ []), before.len)
       len (inr (place, at_c, ds_is, (was, at, inl (le, ls_is, log_is)))) = omega (arith, ap length ds_is, ap length ls_is, before.len)
       len (inr (place, at_c, ds_is, (was, at, inr (lt, ls_is, log_is)))) = omega (arith, ap length ds_is, ap length ls_is, length-set ks place h.phase, before.len)
+
       graph : IsTakenIn h.changeset h.phase cs ks log ds ls newlog → IsGraph ds
       graph (inl new) =
           let is = valid.graph.each h.changeset (changeset_from o h (Contains-from_place o.held i h at_h)) in

@@ -53,10 +53,10 @@ below-both (Some h) (Some g) p q =
 
 pub contents_ordered : IsPartialOrder IsValidContent ContentBelow
 contents_ordered = record {
-    reflexive = λ a _ n. below-same (a n);
-    transitive = λ a b c _ _ _ p q n. below-along (a n) (b n) (c n) (p n) (q n);
-    antisymmetric = λ a b _ _ p q i n. below-both (a n) (b n) (p n) (q n) i;
-  }
+  reflexive = λ a _ n. below-same (a n);
+  transitive = λ a b c _ _ _ p q n. below-along (a n) (b n) (c n) (p n) (q n);
+  antisymmetric = λ a b _ _ p q i n. below-both (a n) (b n) (p n) (q n) i;
+}
 
 -- ---- ancestors
 
@@ -98,19 +98,21 @@ grounded-within f g v same n (grounded step) held = grounded (λ k p e is.
 -- a part that is covered still is when the content grows
 pub contents_stay_covered : (a b : Content) (k : PartValue) → IsValidContent a → IsValidContent b → ContentBelow a b → ContentCovers a k → ContentCovers b k
 contents_stay_covered a b k v w up covers = record {
-    holds = λ c at.
-        let h = covers.holds c at in
-        let g = up (node_of c) h.0 h.1 in
-        (g.0, g.1, g.2 ∙ h.2);
-    bounded = λ x at.
-        let held = covers.bounded x at in
-        let h = held.0.0 in
-        let g = up x.0 h held.0.1 in
-        ((g.0, g.1), λ n d at_d leads.
-          let low = leads-low b w n x.0 leads d g.0 at_d g.1 in
-          let had = held.1 x.0 h held.0.1 itself in
-          omega (arith, low, had, g.3));
-  }
+  holds = λ c at.
+      let h = covers.holds c at in
+      let g = up (node_of c) h.0 h.1 in
+      (g.0, g.1, g.2 ∙ h.2);
+  bounded = λ x at.
+      let held = covers.bounded x at in
+      let h = held.0.0 in
+      let g = up x.0 h held.0.1 in (
+        (g.0, g.1),
+        λ n d at_d leads.
+            let low = leads-low b w n x.0 leads d g.0 at_d g.1 in
+            let had = held.1 x.0 h held.0.1 itself in
+            omega (arith, low, had, g.3),
+      );
+}
 
 -- where a changeset of the list's front stands
 placed : (cs : List Contents) (i : ℕ) (c : Contents) → Contains (take i cs) c → (j : ℕ) × (j < i) × (slice_get cs j ≡ Some c)
@@ -160,13 +162,13 @@ module _ (f g : Content) (k : PartValue) (v : IsValidContent f) (after : Content
 
   parent-held : (n p : Node) (h : Held) → g n ≡ Some h → IsParent h.changeset p → IsHeld g p
   parent-held n p h e is = elim (source n h e) [
-      | inl x ↦
-          let parent = v.parents n x.0 p x.1 (subst (λ c. IsParent c p) (sym x.2) is) in
-          all-held 0 p (inl (parent.0, parent.1))
-      | inr x ↦
-          let place = place_of k.changesets h.changeset x.0 in
-          all-held place.0 p (admitted.parents place.0 h.changeset place.1 p is)
-    ]
+    | inl x ↦
+        let parent = v.parents n x.0 p x.1 (subst (λ c. IsParent c p) (sym x.2) is) in
+        all-held 0 p (inl (parent.0, parent.1))
+    | inr x ↦
+        let place = place_of k.changesets h.changeset x.0 in
+        all-held place.0 p (admitted.parents place.0 h.changeset place.1 p is)
+  ]
 
   -- a parent's phase is no higher, whatever decided the child's
   parent-low : (n p : Node) (h x : Held) → g n ≡ Some h → IsParent h.changeset p → g p ≡ Some x → IsContentCandidate f k g n h.phase → rank x.phase ≤ rank h.phase
@@ -200,24 +202,24 @@ module _ (f g : Content) (k : PartValue) (v : IsValidContent f) (after : Content
 
   all-grounded : (n : Node) → IsGrounded g n
   all-grounded n = grounded (λ h p e is. elim (source n h e) [
-      | inl x ↦ grounded-parent g n p h (old-grounded n (x.0, x.1)) e is
-      | inr x ↦
-          let place = place_of k.changesets h.changeset x.0 in
-          let last : place.0 < suc place.0 = omega arith in
-          grounded-parent g n p h (subst (IsGrounded g) x.1 (part-grounded (suc place.0) place.0 h.changeset last place.1)) e is
-    ])
+    | inl x ↦ grounded-parent g n p h (old-grounded n (x.0, x.1)) e is
+    | inr x ↦
+        let place = place_of k.changesets h.changeset x.0 in
+        let last : place.0 < suc place.0 = omega arith in
+        grounded-parent g n p h (subst (IsGrounded g) x.1 (part-grounded (suc place.0) place.0 h.changeset last place.1)) e is
+  ])
 
   after-valid : IsValidContent g
   after-valid = record {
-      named = λ n h e. elim (source n h e) [
-          | inl x ↦ let old = v.named n x.0 x.1 in (subst (λ c. node_of c ≡ n) x.2 old.0, subst IsChangeset x.2 old.1)
-          | inr x ↦ (x.1, admitted.each h.changeset x.0)
-        ];
-      parents = λ n h p e is.
-          let parent = parent-held n p h e is in
-          (parent.0, parent.1, parent-low n p h parent.0 e is parent.1 (phases n h e).0);
-      grounded = all-grounded;
-    }
+    named = λ n h e. elim (source n h e) [
+      | inl x ↦ let old = v.named n x.0 x.1 in (subst (λ c. node_of c ≡ n) x.2 old.0, subst IsChangeset x.2 old.1)
+      | inr x ↦ (x.1, admitted.each h.changeset x.0)
+    ];
+    parents = λ n h p e is.
+        let parent = parent-held n p h e is in
+        (parent.0, parent.1, parent-low n p h parent.0 e is parent.1 (phases n h e).0);
+    grounded = all-grounded;
+  }
 
   after-above : ContentBelow f g
   after-above n h e =
@@ -226,11 +228,12 @@ module _ (f g : Content) (k : PartValue) (v : IsValidContent f) (after : Content
 
   after-covers : ContentCovers g k
   after-covers = record {
-      holds = came;
-      bounded = λ b at. (
-        all-held-part b.0 (admitted.bounds b at),
-        λ n h e leads. (phases n h e).1 b.1 (inr (inr (b, at, leads, refl))));
-    }
+    holds = came;
+    bounded = λ b at. (
+      all-held-part b.0 (admitted.bounds b at),
+      λ n h e leads. (phases n h e).1 b.1 (inr (inr (b, at, leads, refl))),
+    );
+  }
     where
       all-held-part : (n : Node) → IsHeldWith f k.changesets n → IsHeld g n
       all-held-part n (inl h) = all-held 0 n (inl h)
@@ -241,9 +244,9 @@ module _ (f g : Content) (k : PartValue) (v : IsValidContent f) (after : Content
   module _ (u : Content) (w : IsValidContent u) (up : ContentBelow f u) (covers : ContentCovers u k) where
     within : (n : Node) (h : Held) → g n ≡ Some h → IsHeldAs u n h.changeset
     within n h e = elim (source n h e) [
-        | inl x ↦ let y = up n x.0 x.1 in (y.0, y.1, y.2 ∙ x.2)
-        | inr x ↦ let y = covers.holds h.changeset x.0 in (y.0, subst (λ m. u m ≡ Some y.0) x.1 y.1, y.2)
-      ]
+      | inl x ↦ let y = up n x.0 x.1 in (y.0, y.1, y.2 ∙ x.2)
+      | inr x ↦ let y = covers.holds h.changeset x.0 in (y.0, subst (λ m. u m ≡ Some y.0) x.1 y.1, y.2)
+    ]
 
     low-there : (n : Node) (h x : Held) → u n ≡ Some x → IsContentCandidate f k g n h.phase → rank x.phase ≤ rank h.phase
     low-there n h x at (inl top) = subst (λ j. rank x.phase ≤ rank j) (sym top) (rank-top x.phase)
@@ -265,11 +268,11 @@ module _ (f g : Content) (k : PartValue) (v : IsValidContent f) (after : Content
 -- what a part leaves is the least valid content above that covers it
 pub contents_absorbed : (a b : Content) (k : PartValue) → IsValidContent a → ContentAfter a k b → IsLeastCovering IsValidContent ContentBelow ContentCovers a (k ∷ []) b
 contents_absorbed a b k v after = record {
-    valid = after-valid a b k v after;
-    above = after-above a b k v after;
-    covers = (after-covers a b k v after, tt);
-    least = λ u w up covers. after-least a b k v after u w up covers.0;
-  }
+  valid = after-valid a b k v after;
+  above = after-above a b k v after;
+  covers = (after-covers a b k v after, tt);
+  least = λ u w up covers. after-least a b k v after u w up covers.0;
+}
 
 -- a covered part changes nothing
 pub contents_again : (a b : Content) (k : PartValue) → IsValidContent a → ContentCovers a k → ContentAfter a k b → b ≡ a
@@ -282,18 +285,18 @@ contents_swap = swap_by_least contents_ordered contents_stay_covered contents_ab
 -- a covered part is admitted
 pub covered_admitted : (a : Content) (k : PartValue) → IsValidContent a → ContentCovers a k → ContentAdmits a k
 covered_admitted a k v covers = record {
-    each = λ c at. let h = covers.holds c at in subst IsChangeset h.2 (v.named (node_of c) h.0 h.1).1;
-    parents = λ i c at p is.
-        let h = covers.holds c (at_place k.changesets i c at) in
-        let parent = v.parents (node_of c) h.0 p h.1 (subst (λ d. IsParent d p) (sym h.2) is) in
-        inl (parent.0, parent.1);
-    bounds = λ b at. inl (covers.bounded b at).0;
-    apart = λ c d at other e.
-        let h = covers.holds c at in
-        let held : IsHeldAs a (node_of d) d = elim other [ inl x ↦ x | inr x ↦ covers.holds d x ] in
-        let same = same_Some h.0 held.0 (sym h.1 ∙ ap a e ∙ held.1) in
-        sym h.2 ∙ ap (λ x. x.changeset) same ∙ held.2;
-  }
+  each = λ c at. let h = covers.holds c at in subst IsChangeset h.2 (v.named (node_of c) h.0 h.1).1;
+  parents = λ i c at p is.
+      let h = covers.holds c (at_place k.changesets i c at) in
+      let parent = v.parents (node_of c) h.0 p h.1 (subst (λ d. IsParent d p) (sym h.2) is) in
+      inl (parent.0, parent.1);
+  bounds = λ b at. inl (covers.bounded b at).0;
+  apart = λ c d at other e.
+      let h = covers.holds c at in
+      let held : IsHeldAs a (node_of d) d = elim other [ inl x ↦ x | inr x ↦ covers.holds d x ] in
+      let same = same_Some h.0 held.0 (sym h.1 ∙ ap a e ∙ held.1) in
+      sym h.2 ∙ ap (λ x. x.changeset) same ∙ held.2;
+}
 
 -- ---- refusals
 
@@ -313,14 +316,15 @@ admitted_faultless a k fault v m (held, listing, is) = by fault is
     unheld-none : (n : Node) → IsFirstUnheld (held ++ k.changesets) k.bounds n → ⊥
     unheld-none n first =
         first.unheld (subst (λ m. Contains (nodes (held ++ k.changesets)) m) first.node
-          (listed-with a held k.changesets v listing first.bound.0 (m.bounds first.bound (first.place, slice_get_within k.bounds first.place first.bound first.at, get_or_from_slice_get k.bounds first.place first.bound first.bound first.at))))
+        (listed-with a held k.changesets v listing first.bound.0 (m.bounds first.bound (first.place, slice_get_within k.bounds first.place first.bound first.at, get_or_from_slice_get k.bounds first.place first.bound first.bound first.at))))
+
     by : (fault : Fault) → IsFirstFault held k fault → ⊥
     by (UnknownParent p) (i, c, at, fine, missing) = missing.1 (listed-with a held (take i k.changesets) v listing p (m.parents i c at p missing.0))
     by (Collision n) (i, c, at, fine, parents, collides, is_node) =
         let other : IsHeldAs a (node_of collides.0) collides.0 ⊎ Contains k.changesets collides.0 = elim (Contains-append_cases held (take i k.changesets) collides.0 collides.1) [
-            | inl x ↦ inl ((listing collides.0).0 x)
-            | inr x ↦ let place = placed k.changesets i collides.0 x in inr (at_place k.changesets place.0 collides.0 place.2)
-          ] in
+          | inl x ↦ inl ((listing collides.0).0 x)
+          | inr x ↦ let place = placed k.changesets i collides.0 x in inr (at_place k.changesets place.0 collides.0 place.2)
+        ] in
         collides.3 (sym (m.apart c collides.0 (at_place k.changesets i c at) other (sym collides.2)))
     by (UnknownBound n) (fine, first, known) = unheld-none n first
     by NullBound (fine, first) = unheld-none null_node first

@@ -117,30 +117,39 @@ join_of a b n = joined (a n) (b n)
 -- both are defined together and equal
 pub joins_associate : (a b c d : Content) → ((ab : Content) × ContentsJoined a b ab × ContentsJoined ab c d) ↔ ((bc : Content) × ContentsJoined b c bc × ContentsJoined a bc d)
 joins_associate a b c d = (
-    λ h.
+  λ h.
       let ab = h.1.0 in
       let agree : (n : Node) → AgreeAt (joined (a n) (b n)) (c n) = subst (λ f. (n : Node) → AgreeAt (f n) (c n)) h.1.1 h.2.0 in
       let bc : (n : Node) → AgreeAt (b n) (c n) = λ n. agree-second (a n) (b n) (c n) (ab n) (agree n) in
-      let ac : (n : Node) → AgreeAt (a n) (c n) = λ n. agree-first (a n) (b n) (c n) (agree n) in
-      (join_of b c, (bc, refl), (
-        (λ n. agree-back (joined (b n) (c n)) (a n) (agree-joined (b n) (c n) (a n) (bc n) (agree-back (a n) (b n) (ab n)) (agree-back (a n) (c n) (ac n)))),
-        h.2.1 ∙ ap (λ f. join_of f c) h.1.1 ∙ (λ i n. joined-assoc (a n) (b n) (c n) i))),
-    λ h.
+      let ac : (n : Node) → AgreeAt (a n) (c n) = λ n. agree-first (a n) (b n) (c n) (agree n) in (
+        join_of b c,
+        (bc, refl),
+        (
+          (λ n. agree-back (joined (b n) (c n)) (a n) (agree-joined (b n) (c n) (a n) (bc n) (agree-back (a n) (b n) (ab n)) (agree-back (a n) (c n) (ac n)))),
+          h.2.1 ∙ ap (λ f. join_of f c) h.1.1 ∙ (λ i n. joined-assoc (a n) (b n) (c n) i),
+        ),
+      ),
+  λ h.
       let bc = h.1.0 in
       let agree : (n : Node) → AgreeAt (a n) (joined (b n) (c n)) = subst (λ f. (n : Node) → AgreeAt (a n) (f n)) h.1.1 h.2.0 in
       let back : (n : Node) → AgreeAt (joined (b n) (c n)) (a n) = λ n. agree-back (a n) (joined (b n) (c n)) (agree n) in
       let ab : (n : Node) → AgreeAt (a n) (b n) = λ n. agree-back (b n) (a n) (agree-first (b n) (c n) (a n) (back n)) in
-      let ac : (n : Node) → AgreeAt (a n) (c n) = λ n. agree-back (c n) (a n) (agree-second (b n) (c n) (a n) (bc n) (back n)) in
-      (join_of a b, (ab, refl), (
-        (λ n. agree-joined (a n) (b n) (c n) (ab n) (ac n) (bc n)),
-        h.2.1 ∙ ap (λ f. join_of a f) h.1.1 ∙ (λ i n. sym (joined-assoc (a n) (b n) (c n)) i))),
-  )
+      let ac : (n : Node) → AgreeAt (a n) (c n) = λ n. agree-back (c n) (a n) (agree-second (b n) (c n) (a n) (bc n) (back n)) in (
+        join_of a b,
+        (ab, refl),
+        (
+          (λ n. agree-joined (a n) (b n) (c n) (ab n) (ac n) (bc n)),
+          h.2.1 ∙ ap (λ f. join_of a f) h.1.1 ∙ (λ i n. sym (joined-assoc (a n) (b n) (c n)) i),
+        ),
+      ),
+)
 
 -- a content joined with itself stays
 pub joins_itself : (a : Content) → ContentsJoined a a a
 joins_itself a = (
-    (λ n h g at_h at_g. ap (λ x. x.changeset) (same_Some h g (sym at_h ∙ at_g))),
-    λ i n. sym (joined-same (a n)) i)
+  (λ n h g at_h at_g. ap (λ x. x.changeset) (same_Some h g (sym at_h ∙ at_g))),
+  λ i n. sym (joined-same (a n)) i,
+)
 
 module _ (a b : Content) (v : IsValidContent a) (w : IsValidContent b) (agree : (n : Node) → AgreeAt (a n) (b n)) where
   one : (n : Node) (h : Held) → joined (a n) (b n) ≡ Some h → (a n ≡ Some h) ⊎ (b n ≡ Some h)
@@ -171,24 +180,24 @@ module _ (a b : Content) (v : IsValidContent a) (w : IsValidContent b) (agree : 
 
   join-valid : IsValidContent (join_of a b)
   join-valid = record {
-      named = λ n h e. elim (one n h e) [ inl x ↦ v.named n h x | inr x ↦ w.named n h x ];
-      parents = λ n h p e is. elim (one n h e) [
-          | inl x ↦ parent-there a v join-above_first n p h x is
-          | inr x ↦ parent-there b w join-above_second n p h x is
-        ];
-      grounded = λ n. grounded (λ h p e is. elim (one n h e) [
-          | inl x ↦ grounded-there a v join-above_first n p h x is
-          | inr x ↦ grounded-there b w join-above_second n p h x is
-        ]);
-    }
+    named = λ n h e. elim (one n h e) [ inl x ↦ v.named n h x | inr x ↦ w.named n h x ];
+    parents = λ n h p e is. elim (one n h e) [
+      | inl x ↦ parent-there a v join-above_first n p h x is
+      | inr x ↦ parent-there b w join-above_second n p h x is
+    ];
+    grounded = λ n. grounded (λ h p e is. elim (one n h e) [
+      | inl x ↦ grounded-there a v join-above_first n p h x is
+      | inr x ↦ grounded-there b w join-above_second n p h x is
+    ]);
+  }
 
   join-least : IsLeastAbove IsValidContent ContentBelow a b (join_of a b)
   join-least = record {
-      valid = join-valid;
-      above_first = join-above_first;
-      above_second = join-above_second;
-      least = λ d _ p q n h e. elim (one n h e) [ inl x ↦ p n h x | inr x ↦ q n h x ];
-    }
+    valid = join-valid;
+    above_first = join-above_first;
+    above_second = join-above_second;
+    least = λ d _ p q n h e. elim (one n h e) [ inl x ↦ p n h x | inr x ↦ q n h x ];
+  }
 
 -- the join is the least valid content above both
 pub joins_least : (a b c : Content) → IsValidContent a → IsValidContent b → ContentsJoined a b c → IsLeastAbove IsValidContent ContentBelow a b c

@@ -87,8 +87,8 @@ impl Replica {
     }
 
     /// Takes in all that another replica holds: the replica goes to the least state above both, the union of the
-    /// changesets with the lowest phases. What is new stands last, in the other's order. Two changesets under one id are
-    /// refused as a collision; a refusal leaves the replica as it was.
+    /// changesets with the lowest phases. Two changesets under one id are refused as a collision; a refusal leaves the
+    /// replica as it was.
     pub fn join(&mut self, other: &Replica) -> Result<(), Fault>
         ensures answer { JoinAnswer self.old other.now result self.new }
         ensures valid { IsValid self.old }

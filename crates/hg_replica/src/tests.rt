@@ -5,12 +5,12 @@ use hg_phases::Phase;
 use std::alloc::{AllocError, Global};
 use std::process::Abort;
 
-fn changeset(alloc: Global, parent: Node, text: &[u8]) -> Option<Changeset> {
+pub(crate) fn changeset(alloc: Global, parent: Node, text: &[u8]) -> Option<Changeset> {
     let text = Vec::from_slice(alloc, text).ok()?;
     Changeset::new(parent, Node::NULL, text).ok()
 }
 
-fn make(rt: &impl Abort, alloc: Global, parent: Node, text: &[u8]) -> Changeset {
+pub(crate) fn make(rt: &impl Abort, alloc: Global, parent: Node, text: &[u8]) -> Changeset {
     changeset(alloc, parent, text).expect(rt, "a changeset")
 }
 
@@ -24,18 +24,18 @@ fn part(rt: &impl Abort, changesets: Vec<Changeset>, bound: (Node, Phase)) -> Pa
 }
 
 // The part of a commit: one changeset, with the bound of its own phase.
-fn commit(rt: &impl Abort, alloc: Global, changeset: Changeset, phase: Phase) -> Part {
+pub(crate) fn commit(rt: &impl Abort, alloc: Global, changeset: Changeset, phase: Phase) -> Part {
     let node = changeset.node();
     let mut changesets = Vec::new(alloc);
     changesets.push(changeset).expect(rt, "memory");
     part(rt, changesets, (node, phase))
 }
 
-fn absorbed(rt: &impl Abort, replica: &mut Replica, part: &Part) -> Change {
+pub(crate) fn absorbed(rt: &impl Abort, replica: &mut Replica, part: &Part) -> Change {
     replica.absorb(part).expect(rt, "a change")
 }
 
-fn phase(rt: &impl Abort, replica: &Replica, node: Node) -> Option<Phase> {
+pub(crate) fn phase(rt: &impl Abort, replica: &Replica, node: Node) -> Option<Phase> {
     replica.phase_of(node).expect(rt, "memory")
 }
 

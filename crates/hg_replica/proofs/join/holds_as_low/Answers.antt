@@ -27,11 +27,13 @@ returns-then-is_at c =
 
 pub returns-else-is_at : goal.returns-else-is_at
 returns-else-is_at c = (
-    λ h. absurd (true≢false (sym h ∙ c.if-is_at.false)),
-    λ h. absurd (other-not-low c.args.graph.now c.args.phases.now c.args.changeset.now c.args.phase c.node.result c.node.ensures.id c.in-Some.place c.in-Some.ensures.place
-      (λ at. true≢false (sym (c.is_at.ensures.1 at) ∙ c.if-is_at.false)) h))
+  λ h. absurd (true≢false (sym h ∙ c.if-is_at.false)),
+  λ h. absurd (other-not-low c.args.graph.now c.args.phases.now c.args.changeset.now c.args.phase c.node.result c.node.ensures.id c.in-Some.place c.in-Some.ensures.place
+      (λ at. true≢false (sym (c.is_at.ensures.1 at) ∙ c.if-is_at.false)) h),
+)
 
 pub returns-in-None : goal.returns-in-None
 returns-in-None c = (
-    λ h. absurd (true≢false (sym h)),
-    λ h. absurd (not-held-as-low c.args.graph.now c.args.phases.now c.args.changeset.now c.args.phase c.node.result c.node.ensures.id c.in-None.ensures.place h))
+  λ h. absurd (true≢false (sym h)),
+  λ h. absurd (not-held-as-low c.args.graph.now c.args.phases.now c.args.changeset.now c.args.phase c.node.result c.node.ensures.id c.in-None.ensures.place h),
+)

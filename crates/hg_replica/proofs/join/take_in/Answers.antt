@@ -4,9 +4,12 @@ use Rattle.hg_replica.proofs.join.take_in.Goals as goal
 
 pub returns-then-not-is_at : goal.returns-then-not-is_at
 returns-then-not-is_at c = (
-    other-collides c.args.graph.now c.args.changeset.now c.in-Some.place c.node-node.result c.node-node.ensures.id c.in-Some.ensures.place
+  other-collides c.args.graph.now c.args.changeset.now c.in-Some.place c.node-node.result c.node-node.ensures.id c.in-Some.ensures.place
       (λ at. true≢false (sym (c.is_at.ensures.1 at) ∙ c.if-not-is_at.true)),
-    c.node-node.ensures.id, refl, (refl, refl))
+  c.node-node.ensures.id,
+  refl,
+  (refl, refl),
+)
 
 pub lower_one-requires : goal.lower_one-requires
 lower_one-requires c = place-within c.args.graph.now c.args.phases.now c.in-Some.place c.node-node.result c.requires.len c.in-Some.ensures.place
