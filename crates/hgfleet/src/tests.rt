@@ -101,7 +101,8 @@ fn refused_commits(rt: HostRuntime) {
 
 #[test]
 fn replicas_agree_where_their_states_are_equal(rt: HostRuntime) {
-    let script = b"node A\nnode B\ncommit A a draft\nagree A B\ncommit B a draft\nagree A B\nagree B B\ncommit A b secret\ncommit B b draft\nagree B A\n";
+    let script =
+        b"node A\nnode B\ncommit A a draft\nagree A B\ncommit B a draft\nagree A B\nagree B B\ncommit A b secret\ncommit B b draft\nagree B A\n";
     let output = b"agree A B: no\nagree A B: yes\nagree B B: yes\nagree B A: no\n";
     expect(&rt, rt.alloc(), script, output, "");
 }
