@@ -1,0 +1,10 @@
+pub mod TextsLemmas
+pub mod WritingLemmas
+pub mod ReadLemmas
+pub mod WrittenLemmas
+pub mod PiecesLemmas
+pub mod NumberLemmas
+pub mod NodesLemmas
+pub mod Formats
+pub mod MarkerLemmas
+pub mod FaultLemmas

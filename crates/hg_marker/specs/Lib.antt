@@ -1,0 +1,11 @@
+pub mod Texts
+pub mod Fields
+pub mod Same
+pub mod Fed
+pub mod Parents
+pub mod Refusals
+pub mod Reading
+pub mod Metadata
+pub mod Grammar
+pub mod Making
+pub mod Faults

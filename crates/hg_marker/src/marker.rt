@@ -1,0 +1,263 @@
+//! Markers.
+//!
+//! A marker says that its predecessor was rewritten to its successors, in their order. Two markers are equal where
+//! their fields are, the metadata as a map, whatever bytes they were read from.
+ghost use Rattle.std.specs.Prelude.{◌≡◌, ◌++◌, IfOk, OnOk, OnErr, false, fold, nat_eq};
+ghost use Rattle.std.specs.List.{list_any, AllByRecursion};
+ghost use Rattle.hex.specs.Hex.{IsBytes};
+ghost use lib.Pointwise.{pointwise};
+ghost use Rattle.hg_changeset.specs.Node.{IsNode, null_node, node_eq};
+ghost use Rattle.hg_marker.specs.Grammar.{IsMarker, spelling};
+ghost use Rattle.hg_marker.specs.Fed.{ids_fed};
+ghost use Rattle.hg_marker.specs.Making.{marker_of};
+ghost use Rattle.hg_marker.specs.Parents.{parents_of};
+
+use crate::error::MarkerError;
+use crate::format::encode;
+use crate::metadata::Metadata;
+use crate::parents::{Parents, parents_of};
+use hg_changeset::Node;
+use std::alloc::{AllocError, Global};
+use std::hash::{Hash, Hasher};
+use std::marker::Model;
+
+/// The most bytes that the metadata of a marker may take.
+pub const METADATA_LIMIT: u32 = 1_048_576;
+
+/// A marker: its predecessor was rewritten to its successors.
+#[derive(Drop)]
+pub struct Marker {
+    predecessor: Node,
+    successors: Vec<Node>,
+    flags: u8,
+    metadata: Metadata,
+}
+
+impl Model for Marker {
+    ghost use Rattle.hg_marker.specs.Fields.{Fields, fields_code};
+
+    ghost Value = { Fields };
+
+    ghost coded = { fields_code };
+
+    ghost view = { λ m. record {
+      predecessor = m.predecessor;
+      successors = m.successors.items;
+      flags = m.flags;
+      metadata = m.metadata;
+    } };
+
+    ghost use Rattle.hg_marker.specs.Grammar.{IsMarker};
+
+    ghost invariant = { λ m. IsMarker (record {
+      predecessor = m.predecessor;
+      successors = m.successors.items;
+      flags = m.flags;
+      metadata = m.metadata;
+    }) };
+}
+
+impl PartialEq for Marker {
+    ghost use Rattle.std.specs.Cmp.{partial_equiv_from_equiv};
+    ghost use Rattle.hg_marker.specs.Same.{same_fields, fields_equivalence};
+
+    ghost eq = { same_fields };
+
+    ghost laws = { partial_equiv_from_equiv fields_equivalence };
+
+    #[tactic(auto, unfolding(crate::specs::Same::same_fields))]
+    fn eq(&self, other: &Marker) -> bool {
+        self.predecessor == other.predecessor
+            && self.flags == other.flags
+            && self.successors == other.successors
+            && self.metadata == other.metadata
+    }
+}
+
+impl Eq for Marker {
+    ghost use Rattle.hg_marker.specs.Same.{fields_equivalence};
+
+    ghost laws = { fields_equivalence };
+}
+
+impl Hash for Marker {
+    ghost use Rattle.hg_marker.specs.Fed.{fields_fed, fields_alike};
+
+    ghost hash_input = { fields_fed };
+
+    ghost respects_eq = { fields_alike };
+
+    #[tactic(auto, unfolding(crate::specs::Fed::fields_fed))]
+    fn hash<H: Hasher>(&self, state: &mut H) {
+        state.write(&self.predecessor.0);
+        feed_ids(&self.successors, state);
+        self.flags.hash(state);
+        self.metadata.hash(state);
+    }
+}
+
+impl Marker {
+    /// The marker of these fields.
+    ///
+    /// Refuses with the first [`MarkerError`] that applies, in the order in which they are numbered.
+    pub fn new(
+        predecessor: Node,
+        successors: Vec<Node>,
+        flags: u8,
+        metadata: Metadata,
+    ) -> Result<Marker, MarkerError>
+        ensures { result ≡ marker_of (record {
+          predecessor = predecessor;
+          successors = successors.items;
+          flags = flags;
+          metadata = metadata;
+        }) }
+    {
+        if holds(&successors, &predecessor.0) {
+            return Err(MarkerError::SelfSuccessor);
+        }
+        if has_null(&successors) {
+            return Err(MarkerError::NullSuccessor);
+        }
+        if metadata.has_bad_key() {
+            return Err(MarkerError::BadKey);
+        }
+        if metadata.has_bad_value() {
+            return Err(MarkerError::BadValue);
+        }
+        if successors.len() > 255 {
+            return Err(MarkerError::TooManySuccessors);
+        }
+        if metadata.written_len() > METADATA_LIMIT as usize {
+            return Err(MarkerError::MetaTooLong);
+        }
+        Ok(Marker {
+            predecessor,
+            successors,
+            flags,
+            metadata,
+        })
+    }
+
+    // The marker of fields that were read.
+    pub(crate) fn of_fields(
+        predecessor: Node,
+        successors: Vec<Node>,
+        flags: u8,
+        metadata: Metadata,
+    ) -> Marker
+        requires { IsMarker (record {
+          predecessor = predecessor;
+          successors = successors.items;
+          flags = flags;
+          metadata = metadata;
+        }) }
+        ensures { result ≡ record {
+          predecessor = predecessor;
+          successors = successors.items;
+          flags = flags;
+          metadata = metadata;
+        } }
+    {
+        Marker {
+            predecessor,
+            successors,
+            flags,
+            metadata,
+        }
+    }
+
+    /// What was rewritten.
+    pub fn predecessor(&self) -> Node
+        ensures predecessor { result ≡ self.now.predecessor }
+        ensures marker { IsMarker self.now }
+    {
+        self.predecessor
+    }
+
+    /// What it was rewritten to, in order.
+    pub fn successors(&self) -> &[Node]
+        ensures { result.now ≡ self.now.successors }
+    {
+        &self.successors
+    }
+
+    /// The flags: 1 is bumpedfix, and the other bits have no meaning.
+    pub fn flags(&self) -> u8
+        ensures { result ≡ self.now.flags }
+    {
+        self.flags
+    }
+
+    /// The metadata.
+    pub fn meta(&self) -> &Metadata
+        ensures { result.now ≡ self.now.metadata }
+    {
+        &self.metadata
+    }
+
+    /// The parents of the predecessor, as far as the metadata records them.
+    pub fn parents(&self) -> Parents
+        ensures { result ≡ parents_of self.now.metadata }
+    {
+        parents_of(&self.metadata)
+    }
+
+    /// An equal marker.
+    pub fn copy(&self) -> Result<Marker, AllocError>
+        ensures { IfOk result (λ copy. copy ≡ self.now) }
+    {
+        let successors = self.successors.clone()?;
+        let metadata = self.metadata.copy()?;
+        Ok(Marker {
+            predecessor: self.predecessor,
+            successors,
+            flags: self.flags,
+            metadata,
+        })
+    }
+
+    /// Appends the marker's one written spelling. Without memory nothing is appended.
+    pub fn write_onto(&self, out: &mut Vec<u8>) -> Result<(), AllocError>
+        ensures ok { OnOk result (out.new.items ≡ out.old.items ++ spelling self.now) }
+        ensures err { OnErr result (out.new.items ≡ out.old.items) }
+    {
+        let bytes = encode(self)?;
+        out.extend_from_slice(&bytes)
+    }
+
+    // Where the marker's memory comes from.
+    pub(crate) fn allocator(&self) -> Global {
+        *self.successors.allocator()
+    }
+}
+
+// Each id goes into the hasher.
+fn feed_ids<H: Hasher>(nodes: &[Node], state: &mut H)
+    ensures { state.new ≡ fold H.write state.old (ids_fed nodes.now) }
+{
+    for node in nodes {
+        state.write(&node.0);
+    }
+}
+
+// Whether the id stands among the nodes.
+fn holds(nodes: &[Node], id: &[u8]) -> bool
+    ensures any { result ≡ list_any (λ node. pointwise nat_eq id.now node.0) nodes.now }
+    ensures bytes { IsBytes id.now }
+{
+    nodes.iter().any(|node| id == node.0.as_slice())
+}
+
+// Whether the null id stands among the nodes.
+pub(crate) fn has_null(nodes: &[Node]) -> bool
+    ensures null { result ≡ list_any (node_eq null_node) nodes.now }
+    ensures nodes { result ≡ false → AllByRecursion IsNode nodes.now }
+{
+    for node in nodes {
+        if node.is_null() {
+            return true;
+        }
+    }
+    false
+}

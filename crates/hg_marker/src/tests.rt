@@ -1,0 +1,306 @@
+//! Values from outside: markers byte for byte, each refusal at its limit, and growths that are refused.
+use crate::{Marker, MarkerError, MarkerFault, Metadata, Parents, ReadError, decode, encode};
+use hg_changeset::Node;
+use std::alloc::{AllocError, Global};
+use std::process::Abort;
+use std::test::Fail;
+
+const OLD: Node = Node([0x11; 20]);
+
+const NEW: Node = Node([0x22; 20]);
+
+const OTHER: &[u8] = b"abcdefABCDEF0123456789abcdefABCDEF012345";
+
+// The bytes of a marker of OLD with one successor and this metadata, which is shorter than 256 bytes.
+fn bytes_with(alloc: Global, successor: Node, text: &[u8]) -> Result<Vec<u8>, AllocError> {
+    let mut bytes = Vec::from_slice(alloc, &[1, 0, 0, 0, text.len().min(255) as u8, 0])?;
+    bytes.extend_from_slice(&OLD.0)?;
+    bytes.extend_from_slice(&successor.0)?;
+    bytes.extend_from_slice(text)?;
+    Ok(bytes)
+}
+
+fn fault_of(read: Result<(Marker, usize), ReadError<MarkerFault>>) -> Option<MarkerFault> {
+    match read {
+        Err(ReadError::Fault(fault)) => Some(fault),
+        _ => None,
+    }
+}
+
+// Metadata with these values by these keys.
+fn metadata_of(alloc: Global, texts: &[(&[u8], &[u8])]) -> Result<Metadata, AllocError> {
+    let mut metadata = Metadata::new(alloc);
+    for (key, value) in texts {
+        metadata.insert(Vec::from_slice(alloc, key)?, Vec::from_slice(alloc, value)?)?;
+    }
+    Ok(metadata)
+}
+
+// The marker that is read, where one growth may be refused.
+fn read(rt: &impl Abort, alloc: Global, bytes: &[u8]) -> (Marker, usize) {
+    match decode(alloc, bytes) {
+        Ok(read) => read,
+        Err(ReadError::NoMemory) => decode(alloc, bytes).expect(rt, "memory"),
+        Err(ReadError::Fault(fault)) => panic!(rt; "{fault}"),
+    }
+}
+
+// The bytes that are written, where one growth may be refused.
+fn written(rt: &impl Abort, marker: &Marker) -> Vec<u8> {
+    match encode(marker) {
+        Ok(written) => written,
+        Err(AllocError) => encode(marker).expect(rt, "memory"),
+    }
+}
+
+// The copy, where one growth may be refused.
+fn copied(rt: &impl Abort, marker: &Marker) -> Marker {
+    match marker.copy() {
+        Ok(copy) => copy,
+        Err(AllocError) => marker.copy().expect(rt, "memory"),
+    }
+}
+
+#[test]
+fn reads_what_it_writes(rt: HostRuntime) {
+    let alloc = rt.alloc();
+    let Ok(bytes) = bytes_with(alloc, NEW, b"user:bob") else {
+        return;
+    };
+    let (marker, used) = read(&rt, alloc, &bytes);
+    assert!(rt; bytes.len() == 54 && used == 54);
+    assert!(rt; marker.predecessor() == OLD && marker.flags() == 0);
+    assert!(rt; marker.successors() == [NEW].as_slice());
+    let again = written(&rt, &copied(&rt, &marker));
+    assert!(rt; again.as_slice() == bytes.as_slice());
+}
+
+#[test]
+fn appends_a_marker_or_nothing(rt: HostRuntime) {
+    let alloc = rt.alloc();
+    let Ok(bytes) = bytes_with(alloc, OLD, b"") else {
+        return;
+    };
+    let (marker, _) = read(&rt, alloc, &bytes);
+    let mut out = Vec::new(alloc);
+    if out.push(7).is_err() {
+        return;
+    }
+    if marker.write_onto(&mut out).is_err() {
+        assert_eq!(rt; out.as_slice(), [7].as_slice());
+        assert!(rt; marker.write_onto(&mut out).is_ok());
+    }
+    assert!(rt; out.len() == 47 && out.ends_with(&bytes));
+}
+
+// Whether these bytes are a marker of equal fields.
+fn is_spelling(rt: &impl Abort, alloc: Global, marker: &Marker, bytes: &[u8]) -> bool {
+    let (read, used) = read(rt, alloc, bytes);
+    used == bytes.len() && read == *marker
+}
+
+#[test]
+fn reads_further_spellings(rt: HostRuntime) -> Result<(), Fail> {
+    let alloc = rt.alloc();
+    let bytes = bytes_with(alloc, NEW, b"user:bob")?;
+    let (marker, _) = read(&rt, alloc, &bytes);
+    assert!(rt; marker.meta().get(b"user") == Some(b"bob".as_slice()));
+    for (text, is_same) in [
+        (b"user:bob\0".as_slice(), true),
+        (b"\0user:eve\0\0user:bob", true),
+        (b"user:bob\0user:eve", false),
+        (b"user:bob:", false),
+    ] {
+        let bytes = bytes_with(alloc, NEW, text)?;
+        assert!(rt; is_spelling(&rt, alloc, &marker, &bytes) == is_same);
+    }
+    Ok(())
+}
+
+#[test]
+fn refuses_bytes(rt: HostRuntime) -> Result<(), Fail> {
+    let alloc = rt.alloc();
+    let bytes = bytes_with(alloc, NEW, b"user:bob")?;
+    for len in 0..54 {
+        let fault = fault_of(decode(alloc, &bytes[..len.min(bytes.len())]));
+        assert_eq!(rt; fault, Some(MarkerFault::Truncated), "at {len}");
+    }
+    for (successor, text, fault) in [
+        (
+            Node::NULL,
+            b"user:bob".as_slice(),
+            MarkerFault::NullSuccessor,
+        ),
+        (Node::NULL, b"user=bob", MarkerFault::NullSuccessor),
+        (NEW, b"user=bob", MarkerFault::BadMetadata),
+        (NEW, b"user:bob\0x", MarkerFault::BadMetadata),
+    ] {
+        let bytes = bytes_with(alloc, successor, text)?;
+        assert_eq!(rt; fault_of(decode(alloc, &bytes)), Some(fault));
+    }
+    Ok(())
+}
+
+// A marker without successors, with metadata of NULs alone, one more than the limit or as many.
+#[test]
+fn limits_metadata(rt: HostRuntime) -> Result<(), Fail> {
+    let alloc = rt.alloc();
+    let mut bytes = vec![in alloc; 0u8; 26 + 1_048_577]?;
+    bytes[1..5].copy_from_slice(&[0, 0x10, 0, 1]);
+    assert_eq!(rt;
+        fault_of(decode(alloc, &bytes)),
+        Some(MarkerFault::BadMetadata)
+    );
+    bytes[1..5].copy_from_slice(&[0, 0x10, 0, 0]);
+    let (marker, used) = decode(alloc, &bytes)?;
+    assert_eq!(rt; used, 26 + 1_048_576);
+    assert_eq!(rt; marker.predecessor(), Node::NULL);
+    assert_eq!(rt; encode(&marker)?.as_slice(), [0u8; 26].as_slice());
+    Ok(())
+}
+
+#[test]
+fn writes_a_prune(rt: HostRuntime) -> Result<(), Fail> {
+    let alloc = rt.alloc();
+    let pruned = Node::from_hex(b"b80de5d138758541c5f05265ad144ab9fa86d1db")?;
+    let metadata = metadata_of(
+        alloc,
+        &[
+            (b"user", b"fleet"),
+            (b"p1", &[b'0'; 40]),
+            (b"operation", b"prune"),
+            (b"date", b"0 0"),
+        ],
+    )?;
+    let marker = Marker::new(pruned, Vec::new(alloc), 0, metadata)?;
+    assert_eq!(rt; marker.parents(), Parents::One(Node::NULL));
+    let mut want = Vec::from_slice(alloc, &[0, 0, 0, 0, 0x4f, 0])?;
+    want.extend_from_slice(&pruned.0)?;
+    want.extend_from_slice(b"date:0 0\0operation:prune\0p1:")?;
+    want.extend_from_slice(&[b'0'; 40])?;
+    want.extend_from_slice(b"\0user:fleet")?;
+    assert_eq!(rt; want.len(), 105);
+    assert_eq!(rt; encode(&marker)?.as_slice(), want.as_slice());
+    Ok(())
+}
+
+#[test]
+fn records_parents(rt: HostRuntime) -> Result<(), Fail> {
+    let alloc = rt.alloc();
+    let first = b"2222222222222222222222222222222222222222".as_slice();
+    let bad = b"222222222222222222222222222222222222222g".as_slice();
+    let other = Node::from_hex(OTHER)?;
+    for (texts, parents) in [
+        (
+            [(b"p1".as_slice(), first), (b"p2", OTHER)],
+            Parents::Two(NEW, other),
+        ),
+        ([(b"p0", first), (b"p1", OTHER)], Parents::One(other)),
+        ([(b"p0", b""), (b"p1", bad)], Parents::Unrecorded),
+        ([(b"p0", b""), (b"p2", first)], Parents::Unrecorded),
+        ([(b"p1", bad), (b"p2", first)], Parents::Unrecorded),
+        ([(b"p1", first), (b"p2", bad)], Parents::Unrecorded),
+        ([(b"p1", b"2"), (b"p2", bad)], Parents::Unrecorded),
+        ([(b"p0", bad), (b"user", b"bob")], Parents::Empty),
+        ([(b"p3", first), (b"P1", first)], Parents::Unrecorded),
+    ] {
+        let marker = Marker::new(OLD, Vec::new(alloc), 0, metadata_of(alloc, &texts)?)?;
+        assert_eq!(rt; marker.parents(), parents);
+    }
+    Ok(())
+}
+
+fn refusal_of(
+    alloc: Global,
+    successors: &[Node],
+    texts: &[(&[u8], &[u8])],
+) -> Result<Option<MarkerError>, AllocError> {
+    let successors = Vec::from_slice(alloc, successors)?;
+    match Marker::new(OLD, successors, 0, metadata_of(alloc, texts)?) {
+        Ok(_) => Ok(None),
+        Err(refusal) => Ok(Some(refusal)),
+    }
+}
+
+#[test]
+fn refuses_fields(rt: HostRuntime) -> Result<(), Fail> {
+    let alloc = rt.alloc();
+    let many = [NEW; 256];
+    let long = vec![in alloc; b'x'; 1_048_575]?;
+    for (successors, key, value, refusal) in [
+        (
+            [OLD, Node::NULL].as_slice(),
+            b":".as_slice(),
+            b"".as_slice(),
+            Some(MarkerError::SelfSuccessor),
+        ),
+        (
+            &[Node::NULL, OLD],
+            b"k",
+            b"",
+            Some(MarkerError::SelfSuccessor),
+        ),
+        (
+            &[NEW, Node::NULL],
+            b":",
+            b"",
+            Some(MarkerError::NullSuccessor),
+        ),
+        (&many, b"a:b", b"\0", Some(MarkerError::BadKey)),
+        (&[], b"\0", b"", Some(MarkerError::BadKey)),
+        (&many, b"k", b"x\0", Some(MarkerError::BadValue)),
+        (&many, b"k", &long, Some(MarkerError::TooManySuccessors)),
+        (&many[1..], b"k", &long, Some(MarkerError::MetaTooLong)),
+        (&many[1..], b"", b"a:b", None),
+        (&[], b"k", &long[1..], None),
+    ] {
+        assert_eq!(rt; refusal_of(alloc, successors, &[(key, value)])?, refusal);
+    }
+    Ok(())
+}
+
+#[test]
+fn numbers_and_names(rt: HostRuntime) -> Result<(), Fail> {
+    let alloc = rt.alloc();
+    for (error, number, name) in [
+        (MarkerError::SelfSuccessor, 1, "SelfSuccessor"),
+        (MarkerError::NullSuccessor, 2, "NullSuccessor"),
+        (MarkerError::BadKey, 3, "BadKey"),
+        (MarkerError::BadValue, 4, "BadValue"),
+        (MarkerError::TooManySuccessors, 5, "TooManySuccessors"),
+        (MarkerError::MetaTooLong, 6, "MetaTooLong"),
+    ] {
+        assert_eq!(rt; error.number(), number);
+        assert_eq!(rt; format!(in alloc; "{error}")?.as_str(), name);
+    }
+    for (fault, number, name) in [
+        (MarkerFault::Truncated, 1, "Truncated"),
+        (MarkerFault::NullSuccessor, 2, "NullSuccessor"),
+        (MarkerFault::BadMetadata, 3, "BadMetadata"),
+    ] {
+        assert_eq!(rt; fault.number(), number);
+        assert_eq!(rt; format!(in alloc; "{fault}")?.as_str(), name);
+    }
+    Ok(())
+}
+
+// Where a growth is refused, the value is as it was, and the same call with memory answers as ever.
+#[test]
+fn inserts_or_changes_nothing(rt: HostRuntime) {
+    let alloc = rt.alloc();
+    let mut metadata = Metadata::new(alloc);
+    for value in [b"eve".as_slice(), b"bob"] {
+        if insert_user(&mut metadata, alloc, value).is_err() {
+            assert!(rt; metadata.get(b"user") != Some(value));
+            assert!(rt; insert_user(&mut metadata, alloc, value).is_ok());
+        }
+        assert!(rt; metadata.get(b"user") == Some(value));
+    }
+}
+
+fn insert_user(metadata: &mut Metadata, alloc: Global, value: &[u8]) -> Result<(), AllocError> {
+    metadata.insert(
+        Vec::from_slice(alloc, b"user")?,
+        Vec::from_slice(alloc, value)?,
+    )
+}
