@@ -1,0 +1,114 @@
+-- Indexes after a change at one node, and after one at each of some nodes.
+use Rattle.std.proofs.Common.{Result, Ok, Err, OnErr, arith, ◌≡◌, ◌≢◌, ◌+◌, ◌⊎◌, ◌++◌, ◌∷◌, [], ◌∙◌, sym, ap, ℕ, List, true, false, Some, refl, subst, inl, inr, ⊎_elim, Vec, Global, length, take, drop, get_or, ◌<◌, Contains}
+use Rattle.std.proofs.lemmas.Bool.{false_from_ne_true, cases_Bool, false≢true}
+use Rattle.std.proofs.lemmas.List.{take_more, take-append-drop}
+use Rattle.std.proofs.lemmas.List.Elements.{Contains-push, Contains-push_cases, Contains-append_left}
+use Rattle.std.specs.List.{list_any}
+use Rattle.std.proofs.lemmas.Map.Views.{Contains-from_any, list_any-from_Contains}
+use Rattle.hg_changeset.proofs.NodeLemmas.{same_node, node_itself, node_eq_laws}
+use Rattle.indexmap.specs.IndexMap.{get, get_by}
+use Rattle.hg_changeset.specs.declared.node.Node.{Node}
+use Rattle.hg_changeset.specs.Node.{node_eq}
+use Rattle.hg_obsstore.specs.declared.index.Index.{Index}
+use Rattle.hg_obsstore.specs.Index.{places_of, items_of, SamePlaces, AreBelow, AddsPlace, MayAddPlace, with_last, without_last}
+use Rattle.hg_obsstore.proofs.PlaceLemmas.{with_last_below, with_last_again, without_last_below, without_last_pushed}
+
+pub same_or_other : (a b : Node) → (a ≡ b) ⊎ (a ≢ b)
+same_or_other a b = ⊎_elim (λ (t : node_eq a b ≡ true). inl (same_node a b t)) (λ (f : node_eq a b ≡ false). inr (λ e. false≢true (sym f ∙ node_itself a b e))) (cases_Bool (node_eq a b))
+
+pub among_or_not : (ns : List Node) (n : Node) → Contains ns n ⊎ ¬ Contains ns n
+among_or_not ns n = ⊎_elim (λ (t : list_any (node_eq n) ns ≡ true). inl (Contains-from_any same_node n ns t))
+    (λ (f : list_any (node_eq n) ns ≡ false). inr (λ h. false≢true (sym f ∙ list_any-from_Contains node_eq_laws n ns h))) (cases_Bool (list_any (node_eq n) ns))
+
+module _ (old new : Index) (node : Node) where
+  -- what each look-up gives after v was put at the node
+  pub looked_up : (v : Vec ℕ Global) (places : List ℕ) → get_by (node_eq node) new.by_node ≡ Some v → ((q : Node) → node_eq node q ≡ false → get node_eq new.by_node q ≡ get node_eq old.by_node q)
+      → v.items ≡ places → (places_of new node ≡ places) × ((other : Node) → other ≢ node → places_of new other ≡ places_of old other)
+  looked_up v places here others items =
+      (ap items_of here ∙ items, λ q other. ap items_of (others q (false_from_ne_true (node_eq node q) (λ h. other (sym (same_node node q h))))))
+
+  pub same_everywhere : (places_of new node ≡ places_of old node) → ((other : Node) → other ≢ node → places_of new other ≡ places_of old other) → SamePlaces old new
+  same_everywhere here others q = ⊎_elim (λ (same : q ≡ node). rw same here) (λ (other : q ≢ node). others q other) (same_or_other q node)
+
+-- one node more
+abbrev Lists : Type 0
+Lists = Node → List ℕ
+
+pub adds_none : (place : ℕ) (old : Lists) → AddsPlace [] place old old
+adds_none place old = record { here = λ n h. absurd (omega (arith, h.1)); others = λ n h. refl }
+
+pub adds_more : (ns : List Node) (node : Node) (place : ℕ) (old mid new : Lists) → AreBelow old place → AddsPlace ns place old mid
+    → new node ≡ with_last (mid node) place → ((n : Node) → n ≢ node → new n ≡ mid n) → AddsPlace (ns ++ node ∷ []) place old new
+adds_more ns node place old mid new below adds here others =
+    let now : new node ≡ old node ++ place ∷ [] = ⊎_elim
+    (λ (yes : Contains ns node). here ∙ ap (λ ps. with_last ps place) (adds.here node yes) ∙ with_last_again (old node) place)
+    (λ (no : ¬ Contains ns node). here ∙ ap (λ ps. with_last ps place) (adds.others node no) ∙ with_last_below (old node) place (below node))
+    (among_or_not ns node) in
+    record {
+      here = λ n h. ⊎_elim
+          (λ (same : n ≡ node). rw same now)
+          (λ (other : n ≢ node). others n other ∙ adds.here n (⊎_elim (λ (before : Contains ns n). before) (λ (e : node ≡ n). absurd (other (sym e))) (Contains-push_cases ns node n h)))
+          (same_or_other n node);
+      others = λ n no. ⊎_elim
+          (λ (same : n ≡ node). absurd (no (subst (Contains (ns ++ node ∷ [])) (sym same) (Contains-push ns node))))
+          (λ (other : n ≢ node). others n other ∙ adds.others n (λ h. no (Contains-append_left ns (node ∷ []) n h)))
+          (same_or_other n node);
+    }
+
+pub may_add : (ns all : List Node) (place : ℕ) (old mid new : Lists) → ((n : Node) → Contains ns n → Contains all n) → AddsPlace ns place old mid → ((n : Node) → new n ≡ mid n) → MayAddPlace all place old new
+may_add ns all place old mid new within adds same n = ⊎_elim
+    (λ (yes : Contains ns n). inr (within n yes, same n ∙ adds.here n yes))
+    (λ (no : ¬ Contains ns n). inl (same n ∙ adds.others n no))
+    (among_or_not ns n)
+
+-- after the first nodes, none of them has the place
+pub record TakesFrom (ns : List Node) (before now : Lists) (place : ℕ) (all : List Node) : Type 0 where
+  pub done : (n : Node) → Contains ns n → now n ≡ before n
+  pub may : MayAddPlace all place before now
+
+pub takes_more : (ns all : List Node) (node : Node) (place : ℕ) (before mid new : Lists) → AreBelow before place → TakesFrom ns before mid place all
+    → new node ≡ without_last (mid node) place → ((n : Node) → n ≢ node → new n ≡ mid n) → TakesFrom (ns ++ node ∷ []) before new place all
+takes_more ns all node place before mid new below takes here others =
+    let now : new node ≡ before node = ⊎_elim
+    (λ (same : mid node ≡ before node). here ∙ ap (λ ps. without_last ps place) same ∙ without_last_below (before node) place (below node))
+    (λ (more : Contains all node × (mid node ≡ before node ++ place ∷ [])). here ∙ ap (λ ps. without_last ps place) more.1 ∙ without_last_pushed (before node) place)
+    (takes.may node) in
+    record {
+      done = λ n h. ⊎_elim
+          (λ (same : n ≡ node). rw same now)
+          (λ (other : n ≢ node). others n other ∙ takes.done n (⊎_elim (λ (b : Contains ns n). b) (λ (e : node ≡ n). absurd (other (sym e))) (Contains-push_cases ns node n h)))
+          (same_or_other n node);
+      may = λ n. ⊎_elim
+          (λ (same : n ≡ node). inl (rw same now))
+          (λ (other : n ≢ node). ⊎_elim (λ (s : mid n ≡ before n). inl (others n other ∙ s)) (λ (m : Contains all n × (mid n ≡ before n ++ place ∷ [])). inr (m.0, others n other ∙ m.1)) (takes.may n))
+          (same_or_other n node);
+    }
+
+pub all_taken : (ns : List Node) (place : ℕ) (before now : Lists) → TakesFrom ns before now place ns → (n : Node) → now n ≡ before n
+all_taken ns place before now takes n = ⊎_elim (λ (same : now n ≡ before n). same) (λ (m : Contains ns n × (now n ≡ before n ++ place ∷ [])). takes.done n m.0) (takes.may n)
+
+pub take_one_more : (ns : List Node) (k : ℕ) (node : Node) → k < length ns → node ≡ get_or ns k node → take (k + 1) ns ≡ take k ns ++ node ∷ []
+take_one_more ns k node within read = take_more ns k node within ∙ ap (λ x. take k ns ++ x ∷ []) (sym read)
+
+pub on_err_anyhow : {T E : Type 0} (r : Result T E) (P : Type 0) → P → OnErr r P
+on_err_anyhow (Ok x) P p = tt
+on_err_anyhow (Err e) P p = p
+
+pub Contains-take : {A : Type 0} (xs : List A) (k : ℕ) (x : A) → Contains (take k xs) x → Contains xs x
+Contains-take xs k x h = subst (λ ys. Contains ys x) (take-append-drop k xs) (Contains-append_left (take k xs) (drop k xs) x h)
+
+pub adds_all : (ns : List Node) (k : ℕ) (node : Node) (place : ℕ) (old mid new : Lists) → k < length ns → node ≡ get_or ns k node → AreBelow old place → AddsPlace (take k ns) place old mid
+    → new node ≡ with_last (mid node) place → ((n : Node) → n ≢ node → new n ≡ mid n) → AddsPlace (take (k + 1) ns) place old new
+adds_all ns k node place old mid new within read below adds here others =
+    subst (λ ms. AddsPlace ms place old new) (sym (take_one_more ns k node within read)) (adds_more (take k ns) node place old mid new below adds here others)
+
+pub takes_none : (ns : List Node) (place : ℕ) (before old : Lists) → MayAddPlace ns place before old → TakesFrom [] before old place ns
+takes_none ns place before old may = record { done = λ n h. absurd (omega (arith, h.1)); may = may }
+
+pub takes_all : (ns : List Node) (k : ℕ) (node : Node) (place : ℕ) (before mid new : Lists) → k < length ns → node ≡ get_or ns k node → AreBelow before place → TakesFrom (take k ns) before mid place ns
+    → new node ≡ without_last (mid node) place → ((n : Node) → n ≢ node → new n ≡ mid n) → TakesFrom (take (k + 1) ns) before new place ns
+takes_all ns k node place before mid new within read below takes here others =
+    subst (λ ms. TakesFrom ms before new place ns) (sym (take_one_more ns k node within read)) (takes_more (take k ns) ns node place before mid new below takes here others)
+
+pub adds_may : (ns : List Node) (place : ℕ) (old new : Lists) → AddsPlace ns place old new → MayAddPlace ns place old new
+adds_may ns place old new adds = may_add ns ns place old new new (λ n h. h) adds (λ n. refl)

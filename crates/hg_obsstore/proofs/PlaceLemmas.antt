@@ -1,0 +1,96 @@
+-- Lists of places.
+use Rattle.std.proofs.Common.{◌≡◌, ◌<◌, ◌≤◌, ◌+◌, ◌-◌, ◌∷◌, ◌++◌, [], ℕ, List, true, false, ◌==◌, length, Contains, arith, ⊎_elim, get_or, subst, sym, slice_get, Option, None, Some, ap, ◌∙◌, refl, length-append, take}
+use Rattle.std.proofs.lemmas.List.{get_or_append_left, get_or_push}
+use Rattle.std.specs.List.Sorted.{IsStrictlyIncreasing}
+use Rattle.std.proofs.lemmas.List.Elements.{Contains-push, Contains-push_cases, Contains-append_left, Contains-get_or}
+use Rattle.std.proofs.lemmas.Option.{slice_get_within, slice_get_read, get_or_from_slice_get}
+use Rattle.std.proofs.lemmas.Bool.{cases_lt, false_from_ne_true}
+use Rattle.std.specs.Cmp.{unsigned_Decides}
+use Rattle.hg_obsstore.specs.Places.{ListsAll}
+use Rattle.hg_obsstore.specs.Index.{stands_last, with_last, without_last}
+
+pub increasing_push : (xs : List ℕ) (k : ℕ) → IsStrictlyIncreasing xs → ((i : ℕ) → Contains xs i → i < k) → IsStrictlyIncreasing (xs ++ k ∷ [])
+increasing_push xs k up below j h =
+    let long : length (xs ++ k ∷ []) ≡ length xs + 1 = length-append xs (k ∷ []) in
+    ⊎_elim
+    (λ (lt : j + 1 < length xs). rw (get_or_append_left xs (k ∷ []) 0 (j + 1) lt) (let lt' : j < length xs = omega arith in rw (get_or_append_left xs (k ∷ []) 0 j lt') (up j lt)))
+    (λ (ge : length xs ≤ j + 1). let same : j + 1 ≡ length xs = omega arith in let lt : j < length xs = omega arith in
+    rw (get_or_append_left xs (k ∷ []) 0 j lt) (rw (get_or_push xs k 0 (j + 1) (sym same)) (below (get_or xs j 0) (Contains-get_or xs j 0 lt))))
+    (cases_lt (j + 1) (length xs))
+
+module _ (Q : ℕ → Type 0) where
+  pub one_more : (xs : List ℕ) (k : ℕ) → ListsAll (λ i. (i < k) × Q i) xs → Q k → ListsAll (λ i. (i < k + 1) × Q i) (xs ++ k ∷ [])
+  one_more xs k all q = record {
+    ascending = increasing_push xs k all.ascending (λ i h. ((all.exact i).0 h).0);
+    exact = λ i. (
+      (λ h. ⊎_elim (λ there. let e = (all.exact i).0 there in let lt : i < k + 1 = omega (arith, e.0) in (lt, e.1)) (λ (same : k ≡ i). let lt : i < k + 1 = omega arith in (lt, subst Q same q)) (Contains-push_cases xs k i h)),
+      (λ h. ⊎_elim (λ (lt : i < k). Contains-append_left xs (k ∷ []) i ((all.exact i).1 (lt, h.1)))
+          (λ (ge : k ≤ i). let same : k ≡ i = omega (arith, h.0) in subst (Contains (xs ++ k ∷ [])) same (Contains-push xs k)) (cases_lt i k)),
+    );
+  }
+
+  pub no_more : (xs : List ℕ) (k : ℕ) → ListsAll (λ i. (i < k) × Q i) xs → (Q k → ⊥) → ListsAll (λ i. (i < k + 1) × Q i) xs
+  no_more xs k all not = record {
+    ascending = all.ascending;
+    exact = λ i. (
+      (λ h. let e = (all.exact i).0 h in let lt : i < k + 1 = omega (arith, e.0) in (lt, e.1)),
+      (λ h. ⊎_elim (λ (lt : i < k). (all.exact i).1 (lt, h.1)) (λ (ge : k ≤ i). let same : i ≡ k = omega (arith, h.0) in absurd (not (subst Q same h.1))) (cases_lt i k)),
+    );
+  }
+
+  pub all_listed : (xs : List ℕ) (n : ℕ) → ListsAll (λ i. (i < n) × Q i) xs → ((i : ℕ) → Q i → i < n) → ListsAll Q xs
+  all_listed xs n all within = record { ascending = all.ascending; exact = λ i. ((λ h. ((all.exact i).0 h).1), (λ q. (all.exact i).1 (within i q, q))) }
+
+-- what stands last
+pub last_pushed : (xs : List ℕ) (k : ℕ) → slice_get (xs ++ k ∷ []) (length (xs ++ k ∷ []) - 1) ≡ Some k
+last_pushed xs k =
+    let long : length (xs ++ k ∷ []) ≡ length xs + 1 = length-append xs (k ∷ []) in
+    let at : length (xs ++ k ∷ []) - 1 ≡ length xs = omega (arith, long) in
+    ap (slice_get (xs ++ k ∷ [])) at ∙ slice_get_read (xs ++ k ∷ []) (length (xs ++ k ∷ [])) (length xs) k refl (omega (arith, long)) (sym (get_or_push xs k k (length xs) refl))
+
+pub pushed_stands_last : (xs : List ℕ) (k : ℕ) → stands_last (xs ++ k ∷ []) k ≡ true
+pushed_stands_last xs k = rw (last_pushed xs k) ((unsigned_Decides k k).1 refl)
+
+last_is : (xs : List ℕ) (k : ℕ) (r : Option ℕ) → slice_get xs (length xs - 1) ≡ r → stands_last xs k ≡ true → Contains xs k
+last_is xs k None at h = let f : false ≡ true = rw at at h in absurd cc
+last_is xs k (Some l) at h =
+    let same : (l == k) ≡ true = rw at at h in
+    let is : l ≡ k = (unsigned_Decides l k).0 same in
+    let lt = slice_get_within xs (length xs - 1) l at in
+    (length xs - 1, lt, get_or_from_slice_get xs (length xs - 1) l k at ∙ is)
+
+pub below_not_last : (xs : List ℕ) (k : ℕ) → ((i : ℕ) → Contains xs i → i < k) → stands_last xs k ≡ false
+below_not_last xs k below = false_from_ne_true (stands_last xs k) (λ h. let lt = below k (last_is xs k _ refl h) in omega (arith, lt))
+
+-- the place is put last once, and taken away again
+pub with_last_below : (xs : List ℕ) (k : ℕ) → ((i : ℕ) → Contains xs i → i < k) → with_last xs k ≡ xs ++ k ∷ []
+unfolding with_last
+with_last_below xs k below = rw (below_not_last xs k below) refl
+
+pub with_last_again : (xs : List ℕ) (k : ℕ) → with_last (xs ++ k ∷ []) k ≡ xs ++ k ∷ []
+unfolding with_last
+with_last_again xs k = rw (pushed_stands_last xs k) refl
+
+pub without_last_below : (xs : List ℕ) (k : ℕ) → ((i : ℕ) → Contains xs i → i < k) → without_last xs k ≡ xs
+unfolding without_last
+without_last_below xs k below = rw (below_not_last xs k below) refl
+
+pub take_front : {A : Type 0} (xs ys : List A) → take (length xs) (xs ++ ys) ≡ xs
+take_front [] [] = refl
+take_front [] (y ∷ ys) = refl
+take_front {A} (x ∷ xs) ys = ap (λ (zs : List A). x ∷ zs) (take_front xs ys)
+
+pub without_last_pushed : (xs : List ℕ) (k : ℕ) → without_last (xs ++ k ∷ []) k ≡ xs
+unfolding without_last
+without_last_pushed xs k =
+    let long : length (xs ++ k ∷ []) ≡ length xs + 1 = length-append xs (k ∷ []) in
+    let at : length (xs ++ k ∷ []) - 1 ≡ length xs = omega (arith, long) in
+    rw (pushed_stands_last xs k) (ap (λ n. take n (xs ++ k ∷ [])) at ∙ take_front xs (k ∷ []))
+
+pub with_last_none : (k : ℕ) → with_last [] k ≡ k ∷ []
+unfolding with_last
+with_last_none k = refl
+
+pub without_last_none : (k : ℕ) → without_last [] k ≡ []
+unfolding without_last
+without_last_none k = refl

@@ -1,0 +1,131 @@
+-- A store's markers and indexes after one marker more.
+use Rattle.std.proofs.Common.{◌≡◌, ◌<◌, ◌+◌, ◌++◌, ◌∷◌, [], ◌∙◌, ⊎_elim, arith, sym, ap, subst, ℕ, List, Bool, true, false, Some, refl, length, length-append, slice_get, get_or, Contains, take, not}
+use Rattle.std.proofs.lemmas.List.{get_or_append_left, get_or_push}
+use Rattle.std.proofs.lemmas.List.Elements.{Contains-push, Contains-push_cases}
+use Rattle.std.proofs.lemmas.Option.{slice_get_within, slice_get_read, get_or_from_slice_get}
+use Rattle.std.specs.List.{list_any}
+use Rattle.std.proofs.lemmas.Bool.{false≢true}
+use Rattle.std.proofs.lemmas.Map.Views.{Contains-from_any, list_any-from_Contains}
+use Rattle.indexmap.specs.IndexSet.{insert_key}
+use Rattle.hg_changeset.specs.declared.node.Node.{Node}
+use Rattle.hg_marker.specs.Same.{same_fields, fields_decides, fields_equivalence}
+use Rattle.hg_marker.specs.Fields.{Fields}
+use Rattle.hg_marker.specs.Parents.{recorded_parents}
+use Rattle.hg_obsstore.specs.declared.indexes.Indexes.{Indexes}
+use Rattle.hg_obsstore.specs.Places.{ListsAll}
+use Rattle.hg_obsstore.specs.Markers.{IsAt, ArePlaces, predecessors, successors}
+use Rattle.hg_obsstore.specs.Index.{places_of, AreBelow, AddsPlace}
+use Rattle.hg_obsstore.specs.Indexes.{IsIndexBy, AreIndexed, HaveBelow, AddMarker, SameIndexes}
+use Rattle.hg_obsstore.proofs.PlaceLemmas.{take_front, one_more, no_more, all_listed}
+use Rattle.hg_obsstore.proofs.IndexLemmas.{among_or_not}
+
+pub some_same : {A : Type 0} {x y : A} → Some x ≡ Some y → x ≡ y
+some_same e = cc
+
+module _ {A : Type 0} (xs : List A) (m : A) where
+  long : length (xs ++ m ∷ []) ≡ length xs + 1
+  long = length-append xs (m ∷ [])
+
+  pub stays : (i : ℕ) (x : A) → slice_get xs i ≡ Some x → slice_get (xs ++ m ∷ []) i ≡ Some x
+  stays i x h =
+      let lt = slice_get_within xs i x h in
+      slice_get_read (xs ++ m ∷ []) (length (xs ++ m ∷ [])) i x refl (omega (arith, lt, long)) (sym (get_or_from_slice_get xs i x x h) ∙ sym (get_or_append_left xs (m ∷ []) x i lt))
+
+  pub was : (i : ℕ) (x : A) → slice_get (xs ++ m ∷ []) i ≡ Some x → i < length xs → slice_get xs i ≡ Some x
+  was i x h lt = slice_get_read xs (length xs) i x refl lt (sym (get_or_from_slice_get (xs ++ m ∷ []) i x x h) ∙ get_or_append_left xs (m ∷ []) x i lt)
+
+  pub last : slice_get (xs ++ m ∷ []) (length xs) ≡ Some m
+  last = slice_get_read (xs ++ m ∷ []) (length (xs ++ m ∷ [])) (length xs) m refl (omega (arith, long)) (sym (get_or_push xs m m (length xs) refl))
+
+module _ (P : Fields → Type 0) (ms : List Fields) (m : Fields) (ps : List ℕ) (all : ArePlaces P ms ps) where
+  before : ListsAll (λ i. (i < length ms) × IsAt P (ms ++ m ∷ []) i) ps
+  before = record {
+    ascending = all.ascending;
+    exact = λ i. (
+      (λ h. let at = (all.exact i).0 h in (slice_get_within ms i at.0 at.1, (at.0, stays ms m i at.0 at.1, at.2))),
+      (λ h. (all.exact i).1 (h.1.0, was ms m i h.1.0 h.1.1 h.0, h.1.2)),
+    );
+  }
+
+  inside : (i : ℕ) → IsAt P (ms ++ m ∷ []) i → i < length ms + 1
+  inside i h = let lt = slice_get_within (ms ++ m ∷ []) i h.0 h.1 in omega (arith, lt, length-append ms (m ∷ []))
+
+  pub places_push_yes : P m → ArePlaces P (ms ++ m ∷ []) (ps ++ length ms ∷ [])
+  places_push_yes p = all_listed (IsAt P (ms ++ m ∷ [])) (ps ++ length ms ∷ []) (length ms + 1) (one_more (IsAt P (ms ++ m ∷ [])) ps (length ms) before (m, last ms m, p)) inside
+
+  pub places_push_no : (P m → ⊥) → ArePlaces P (ms ++ m ∷ []) ps
+  places_push_no not = all_listed (IsAt P (ms ++ m ∷ [])) ps (length ms + 1) (no_more (IsAt P (ms ++ m ∷ [])) ps (length ms) before (λ h. not (subst P (some_same (sym h.1 ∙ last ms m)) h.2))) inside
+
+module _ (nodes_of : Fields → List Node) (ms : List Fields) where
+  pub indexed_push : (m : Fields) (old new : Node → List ℕ) → IsIndexBy nodes_of ms old → AddsPlace (nodes_of m) (length ms) old new → IsIndexBy nodes_of (ms ++ m ∷ []) new
+  indexed_push m old new all adds n = ⊎_elim
+      (λ (yes : Contains (nodes_of m) n). subst (ArePlaces (λ x. Contains (nodes_of x) n) (ms ++ m ∷ [])) (sym (adds.here n yes)) (places_push_yes (λ x. Contains (nodes_of x) n) ms m (old n) (all n) yes))
+      (λ (no : ¬ Contains (nodes_of m) n). subst (ArePlaces (λ x. Contains (nodes_of x) n) (ms ++ m ∷ [])) (sym (adds.others n no)) (places_push_no (λ x. Contains (nodes_of x) n) ms m (old n) (all n) no))
+      (among_or_not (nodes_of m) n)
+
+  pub indexed_below : (old : Node → List ℕ) → IsIndexBy nodes_of ms old → AreBelow old (length ms)
+  indexed_below old all n i h = let at = ((all n).exact i).0 h in slice_get_within ms i at.0 at.1
+
+  pub indexed_same : (old new : Node → List ℕ) → ((n : Node) → new n ≡ old n) → IsIndexBy nodes_of ms old → IsIndexBy nodes_of ms new
+  indexed_same old new same all n = subst (ArePlaces (λ x. Contains (nodes_of x) n) ms) (sym (same n)) (all n)
+
+pub all_below : (ms : List Fields) (indexes : Indexes) → AreIndexed ms indexes → HaveBelow indexes (length ms)
+all_below ms indexes all = record {
+  predecessor = indexed_below predecessors ms (places_of indexes.by_predecessor) all.predecessor;
+  successor = indexed_below successors ms (places_of indexes.by_successor) all.successor;
+  child = indexed_below recorded_parents ms (places_of indexes.by_child) all.child;
+}
+
+pub all_push : (ms : List Fields) (m : Fields) (old new : Indexes) → AreIndexed ms old → AddMarker m (length ms) old new → AreIndexed (ms ++ m ∷ []) new
+all_push ms m old new all adds = record {
+  predecessor = indexed_push predecessors ms m (places_of old.by_predecessor) (places_of new.by_predecessor) all.predecessor adds.predecessor;
+  successor = indexed_push successors ms m (places_of old.by_successor) (places_of new.by_successor) all.successor adds.successor;
+  child = indexed_push recorded_parents ms m (places_of old.by_child) (places_of new.by_child) all.child adds.child;
+}
+
+pub all_same : (ms : List Fields) (old new : Indexes) → SameIndexes old new → AreIndexed ms old → AreIndexed ms new
+all_same ms old new same all = record {
+  predecessor = indexed_same predecessors ms (places_of old.by_predecessor) (places_of new.by_predecessor) same.predecessor all.predecessor;
+  successor = indexed_same successors ms (places_of old.by_successor) (places_of new.by_successor) same.successor all.successor;
+  child = indexed_same recorded_parents ms (places_of old.by_child) (places_of new.by_child) same.child all.child;
+}
+
+-- an equal marker is the marker itself
+pub held : (ms : List Fields) (m : Fields) → list_any (same_fields m) ms ≡ true → Contains ms m
+held ms m h = Contains-from_any (λ x y e. (fields_decides x y).0 e) m ms h
+
+pub held_back : (ms : List Fields) (m : Fields) → Contains ms m → list_any (same_fields m) ms ≡ true
+held_back ms m h = list_any-from_Contains fields_equivalence m ms h
+
+pub told_known : (b r : Bool) → r ≡ not b → r ≡ false → b ≡ true
+told_known true r e f = refl
+told_known false r e f = absurd (false≢true (sym f ∙ e))
+
+pub told_new : (b r : Bool) → r ≡ not b → r ≡ true → b ≡ false
+told_new true r e f = absurd (false≢true (sym e ∙ f))
+told_new false r e f = refl
+
+pub inserted_known : (ms : List Fields) (m : Fields) → list_any (same_fields m) ms ≡ true → insert_key same_fields ms m ≡ ms
+inserted_known ms m h = rw h refl
+
+pub inserted_new : (ms : List Fields) (m : Fields) → list_any (same_fields m) ms ≡ false → insert_key same_fields ms m ≡ ms ++ m ∷ []
+inserted_new ms m h = rw h refl
+
+pub read_last : (ms xs : List Fields) (m x : Fields) (place : ℕ) → xs ≡ ms ++ m ∷ [] → place ≡ length ms → x ≡ get_or xs place x → x ≡ m
+read_last ms xs m x place e at read = read ∙ ap (λ (ys : List Fields). get_or ys place x) e ∙ get_or_push ms m x place (sym at)
+
+pub cut_back : (ms xs ys : List Fields) (m : Fields) (place : ℕ) → xs ≡ ms ++ m ∷ [] → place ≡ length ms → ys ≡ take place xs → ys ≡ ms
+cut_back ms xs ys m place e at cut = cut ∙ (λ i. take (at i) (e i)) ∙ take_front ms (m ∷ [])
+
+pub alone : {A : Type 0} (x y : A) → Contains (x ∷ []) y → x ≡ y
+alone x y h = ⊎_elim (λ (none : Contains [] y). absurd (omega (arith, none.1))) (λ (e : x ≡ y). e) (Contains-push_cases [] x y h)
+
+pub alone_back : {A : Type 0} (x y : A) → x ≡ y → Contains (x ∷ []) y
+alone_back x y e = subst (Contains (x ∷ [])) e (Contains-push [] x)
+
+pub places_alike : (P Q : Fields → Type 0) (ms : List Fields) (ps : List ℕ) → ((m : Fields) → P m → Q m) → ((m : Fields) → Q m → P m) → ArePlaces P ms ps → ArePlaces Q ms ps
+places_alike P Q ms ps f g all = record {
+  ascending = all.ascending;
+  exact = λ i.
+      ((λ h. let at = (all.exact i).0 h in (at.0, at.1, f at.0 at.2)), (λ h. (all.exact i).1 (h.0, h.1, g h.0 h.2)));
+}

@@ -1,0 +1,9 @@
+pub mod Places
+pub mod Markers
+pub mod Index
+pub mod Indexes
+pub mod Growth
+pub mod Sets
+pub mod Spelling
+pub mod Faults
+pub mod Refusals

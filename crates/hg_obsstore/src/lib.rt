@@ -1,0 +1,15 @@
+//! A store of obsolescence markers: a set that only grows, with exact look-ups.
+#![tactic(auto)]
+
+mod fault;
+mod format;
+mod index;
+mod indexes;
+mod join_state;
+mod store;
+#[cfg(test)]
+mod tests;
+
+pub use fault::StoreFault;
+pub use format::{markers_bytes, read_markers, read_store, store_bytes};
+pub use store::{Added, Store};

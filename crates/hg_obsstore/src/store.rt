@@ -1,0 +1,266 @@
+//! A set of markers with three indexes.
+//!
+//! The markers stand in the order in which they came, in a set that finds an equal one by its value in one look-up, so
+//! no marker stands twice. A marker is named by its place. Places only grow, so what is new stands last, and a call that
+//! is refused half way is taken back by cutting off what it added.
+ghost use Rattle.std.specs.Prelude.{◌≡◌, ◌+◌, ◌<◌, ◌≤◌, ◌↔◌, [], length, take, All, IsTrue, IfOk, OnOk, OnErr, Contains, slice_get};
+ghost use Rattle.std.specs.Option.{option_copied};
+ghost use Rattle.hg_marker.specs.Parents.{recorded_parents};
+ghost use Rattle.hg_obsstore.specs.Places.{ListsAll};
+ghost use Rattle.hg_obsstore.specs.Markers.{AreDifferent, ArePlaces};
+ghost use Rattle.hg_obsstore.specs.Growth.{AddAnswer, AreNewPlaces, StartsWith, holds, united, with_marker};
+ghost use Rattle.hg_obsstore.specs.Sets.{IsUnion};
+
+use crate::indexes::Indexes;
+use hg_changeset::Node;
+use hg_join::NoMemory;
+use hg_marker::Marker;
+use indexmap::IndexSet;
+use std::alloc::{AllocError, Global};
+use std::marker::Model;
+
+/// What [`Store::add`] did.
+#[derive(Clone, Copy, PartialEq, Eq, Debug)]
+pub enum Added {
+    /// No equal marker was held, and it stands last now.
+    New,
+    /// An equal marker was held, and nothing changed.
+    Known,
+}
+
+/// A set of markers, in the order in which they came. Contracts see that list.
+///
+/// It joins as a [`JoinState`](hg_join::JoinState). A call that adds costs what it is given, and a refused one no more;
+/// the look-ups cost one look-up by a hash, however many markers they tell of.
+#[derive(Drop)]
+pub struct Store {
+    alloc: Global,
+    markers: IndexSet<Marker>,
+    indexes: Indexes,
+}
+
+impl Model for Store {
+    ghost use Rattle.std.specs.Prelude.{List};
+    ghost use Rattle.std.specs.Coded.{coded_list};
+    ghost use Rattle.hg_marker.specs.Fields.{Fields, fields_code};
+    ghost use Rattle.hg_obsstore.specs.Places.{ListsAll};
+    ghost use Rattle.hg_obsstore.specs.Markers.{AreApart};
+    ghost use Rattle.hg_obsstore.specs.Indexes.{AreIndexed};
+
+    ghost Value = { List Fields };
+
+    ghost coded = { coded_list fields_code };
+
+    ghost view = { λ s. s.markers.keys };
+
+    ghost invariant = { λ s. AreApart s.markers.keys × AreIndexed s.markers.keys s.indexes };
+}
+
+impl Store {
+    /// The store without markers. It takes its memory from the allocator.
+    pub fn new(alloc: Global) -> Store
+        ensures { result ≡ [] }
+    {
+        Store {
+            alloc,
+            markers: IndexSet::new(alloc),
+            indexes: Indexes::new(alloc),
+        }
+    }
+
+    /// How many markers are held.
+    pub fn len(&self) -> usize
+        ensures { result ≡ length self.now }
+    {
+        self.markers.len()
+    }
+
+    /// The marker at a place, where there is one.
+    pub fn get(&self, place: usize) -> Option<&Marker>
+        ensures { option_copied result ≡ slice_get self.now place }
+    {
+        self.markers.get_index(place)
+    }
+
+    /// The markers, in the order in which they came.
+    pub fn markers(&self) -> &[Marker]
+        ensures markers { result.now ≡ self.now }
+
+        // No two of them are equal.
+        ensures different { AreDifferent self.now }
+    {
+        self.markers.as_slice()
+    }
+
+    /// Whether an equal marker is held.
+    pub fn contains(&self, marker: &Marker) -> bool
+        ensures { IsTrue result ↔ Contains self.now marker.now }
+    {
+        self.markers.contains(marker)
+    }
+
+    /// The places of the markers with this predecessor, ascending.
+    pub fn with_predecessor(&self, node: Node) -> &[usize]
+        ensures { ArePlaces (λ m. m.predecessor ≡ node) self.now result.now }
+    {
+        self.indexes.with_predecessor(node)
+    }
+
+    /// The places of the markers with this successor, ascending, each once.
+    pub fn with_successor(&self, node: Node) -> &[usize]
+        ensures { ArePlaces (λ m. Contains m.successors node) self.now result.now }
+    {
+        self.indexes.with_successor(node)
+    }
+
+    /// The places of the markers that record this node as a parent of their predecessor, ascending, each once.
+    pub fn with_child(&self, node: Node) -> &[usize]
+        ensures { ArePlaces (λ m. Contains (recorded_parents m) node) self.now result.now }
+    {
+        self.indexes.with_child(node)
+    }
+
+    /// Adds a marker last, where no equal one is held.
+    pub fn add(&mut self, marker: Marker) -> Result<Added, NoMemory>
+        ensures ok { IfOk result (λ added. AddAnswer self.old marker added self.new) }
+        ensures err { OnErr result (self.new ≡ self.old) }
+    {
+        let place = self.markers.len();
+        let is_new = self.markers.insert(marker)?;
+        if !is_new {
+            return Ok(Added::Known);
+        }
+        let marker = &self.markers.as_slice()[place];
+        if let Err(_) = self.indexes.add(marker, place) {
+            self.markers.truncate(place);
+            return Err(NoMemory);
+        }
+        Ok(Added::New)
+    }
+
+    /// Forgets the markers from a place on. It costs what is forgotten.
+    pub fn truncate(&mut self, len: usize)
+        ensures { self.new ≡ take len self.old }
+    {
+        while self.len() > len {
+            let place = self.len() - 1;
+            self.forget(place);
+        }
+    }
+
+    // Forgets the last marker.
+    fn forget(&mut self, place: usize)
+        requires { place + 1 ≡ length self.old }
+        ensures { self.new ≡ take place self.old }
+    {
+        let marker = &self.markers.as_slice()[place];
+        self.indexes.remove(marker, place);
+        self.markers.truncate(place);
+    }
+}
+
+impl Store {
+    /// An equal store.
+    pub fn copy(&self) -> Result<Store, NoMemory>
+        ensures { IfOk result (λ copy. copy ≡ self.now) }
+    {
+        let mut copy = Store::new(self.alloc);
+        copy.add_copies(self.markers())?;
+        Ok(copy)
+    }
+
+    /// Adds copies of the markers that aren't held, each once, in their order, and tells their places, ascending.
+    pub fn absorb(&mut self, part: &[Marker]) -> Result<Vec<usize>, NoMemory>
+        ensures ok { OnOk result (self.new ≡ united self.old part.now) }
+        ensures places { IfOk result (λ places. AreNewPlaces self.old self.new places.items) }
+        ensures union { OnOk result (IsUnion (holds self.old) (holds part.now) (holds self.new)) }
+        ensures err { OnErr result (self.new ≡ self.old) }
+    {
+        let before = self.len();
+        let added = self.add_and_tell(part);
+        self.settle(before, added)
+    }
+
+    /// Adds copies of the other's markers that aren't held, in their order.
+    pub fn join(&mut self, other: &Store) -> Result<(), NoMemory>
+        ensures ok { OnOk result (self.new ≡ united self.old other.now) }
+        ensures union { OnOk result (IsUnion (holds self.old) (holds other.now) (holds self.new)) }
+        ensures err { OnErr result (self.new ≡ self.old) }
+    {
+        let before = self.len();
+        let added = self.add_copies(other.markers());
+        self.settle(before, added)
+    }
+
+    /// Whether the other holds each marker of this store. It takes no memory.
+    pub fn is_below(&self, other: &Store) -> bool
+        ensures { IsTrue result ↔ All (Contains other.now) self.now }
+    {
+        for marker in self.markers() {
+            if !other.contains(marker) {
+                return false;
+            }
+        }
+        true
+    }
+
+    // Where the store's memory comes from.
+    pub(crate) fn allocator(&self) -> Global {
+        self.alloc
+    }
+
+    // Keeps what was added from a place on or, where memory ran out, forgets it.
+    fn settle<T: Drop>(&mut self, before: usize, added: Result<T, NoMemory>) -> Result<T, NoMemory>
+        ensures same { result ≡ added }
+        ensures ok { OnOk result (self.new ≡ self.old) }
+        ensures err { OnErr result (self.new ≡ take before self.old) }
+    {
+        if added.is_err() {
+            self.truncate(before);
+        }
+        added
+    }
+
+    // Adds copies of the markers that aren't held, and tells their places. After an error some of them stay.
+    fn add_and_tell(&mut self, part: &[Marker]) -> Result<Vec<usize>, NoMemory>
+        ensures ok { OnOk result (self.new ≡ united self.old part.now) }
+        ensures places { IfOk result (λ places. AreNewPlaces self.old self.new places.items) }
+        ensures kept { StartsWith self.old self.new }
+    {
+        let before = self.len();
+        self.add_copies(part)?;
+        let places = places_between(self.alloc, before, self.len())?;
+        Ok(places)
+    }
+
+    // Adds copies of the markers that aren't held. After an error some of them stay.
+    fn add_copies(&mut self, markers: &[Marker]) -> Result<(), NoMemory>
+        ensures ok { OnOk result (self.new ≡ united self.old markers.now) }
+        ensures kept { StartsWith self.old self.new }
+    {
+        for marker in markers {
+            self.add_copy(marker)?;
+        }
+        Ok(())
+    }
+
+    // Adds a copy of the marker, unless it is held.
+    fn add_copy(&mut self, marker: &Marker) -> Result<(), NoMemory>
+        ensures ok { OnOk result (self.new ≡ with_marker self.old marker.now) }
+        ensures err { OnErr result (self.new ≡ self.old) }
+    {
+        if self.contains(marker) {
+            return Ok(());
+        }
+        let copy = marker.copy()?;
+        self.add(copy)?;
+        Ok(())
+    }
+}
+
+// The places from one on to before another.
+fn places_between(alloc: Global, start: usize, end: usize) -> Result<Vec<usize>, AllocError>
+    ensures { IfOk result (λ places. ListsAll (λ i. (start ≤ i) × (i < end)) places.items) }
+{
+    (start..end).collect(alloc)
+}

@@ -1,0 +1,233 @@
+//! Values from outside: stores byte for byte, markers that come again, and growths that are refused.
+use crate::{Added, Store, StoreFault, markers_bytes, read_markers, read_store, store_bytes};
+use hg_changeset::Node;
+use hg_join::{JoinState, NoMemory};
+use hg_marker::{Marker, MarkerFault, Metadata, ReadError};
+use std::alloc::{AllocError, Global};
+use std::process::Abort;
+use std::test::Fail;
+
+const OLD: Node = Node([0x11; 20]);
+
+const NEW: Node = Node([0x22; 20]);
+
+// A marker without metadata.
+fn marker(alloc: Global, predecessor: Node, successors: &[Node]) -> Option<Marker> {
+    let successors = Vec::from_slice(alloc, successors).ok()?;
+    Marker::new(predecessor, successors, 0, Metadata::new(alloc)).ok()
+}
+
+// A prune of OLD that records NEW as both of its parents.
+fn prune(alloc: Global) -> Option<Marker> {
+    let mut metadata = Metadata::new(alloc);
+    for key in [b"p1", b"p2"] {
+        let key = Vec::from_slice(alloc, key).ok()?;
+        let parent = Vec::from_slice(alloc, &[b'2'; 40]).ok()?;
+        metadata.insert(key, parent).ok()?;
+    }
+    Marker::new(OLD, Vec::new(alloc), 0, metadata).ok()
+}
+
+fn add(rt: &impl Abort, store: &mut Store, marker: Option<Marker>) -> Added {
+    let marker = marker.expect(rt, "a marker");
+    store.add(marker).expect(rt, "memory")
+}
+
+// A version byte 0, and for each text of eight bytes the 54 bytes of a marker from OLD to NEW with this metadata.
+fn bytes_of(alloc: Global, texts: &[&[u8]]) -> Option<Vec<u8>> {
+    let mut bytes = Vec::from_slice(alloc, &[0]).ok()?;
+    for text in texts {
+        bytes.extend_from_slice(&[1, 0, 0, 0, 8, 0]).ok()?;
+        bytes.extend_from_slice(&OLD.0).ok()?;
+        bytes.extend_from_slice(&NEW.0).ok()?;
+        bytes.extend_from_slice(text).ok()?;
+    }
+    Some(bytes)
+}
+
+// The bytes of the store that these bytes spell.
+fn rewritten(rt: &impl Abort, alloc: Global, bytes: &[u8]) -> Vec<u8> {
+    let store = read_store(alloc, bytes).expect(rt, "a store");
+    store_bytes(&store).expect(rt, "memory")
+}
+
+// The same with repeats.
+fn relisted(rt: &impl Abort, alloc: Global, bytes: &[u8]) -> Vec<u8> {
+    let markers = read_markers(alloc, bytes).expect(rt, "markers");
+    markers_bytes(alloc, &markers).expect(rt, "memory")
+}
+
+#[test]
+fn reads_and_writes(rt: HostRuntime) {
+    let alloc = rt.alloc();
+    let once = bytes_of(alloc, &[b"user:bob"]).expect(&rt, "memory");
+    let twice = bytes_of(alloc, &[b"user:bob", b"user:bob"]).expect(&rt, "memory");
+    assert!(rt; twice.len() == 109);
+    assert!(rt; rewritten(&rt, alloc, &twice) == once);
+    assert!(rt; relisted(&rt, alloc, &twice) == twice);
+    assert!(rt; rewritten(&rt, alloc, &[])[..] == [0u8]);
+    assert!(rt; rewritten(&rt, alloc, &[0])[..] == [0u8]);
+}
+
+fn fault_of(alloc: Global, bytes: &[u8]) -> Option<StoreFault> {
+    match read_store(alloc, bytes) {
+        Err(ReadError::Fault(fault)) => Some(fault),
+        _ => None,
+    }
+}
+
+#[test]
+fn refuses_bytes(rt: HostRuntime) {
+    let alloc = rt.alloc();
+    let bytes = bytes_of(alloc, &[b"user:bob", b"user=bob"]).expect(&rt, "memory");
+    for len in 2..55 {
+        let fault = fault_of(alloc, &bytes[..len.min(bytes.len())]);
+        assert!(rt;
+            fault == Some(StoreFault::Bad(1, MarkerFault::Truncated)),
+            "at {len}"
+        );
+    }
+    let bad = StoreFault::Bad(55, MarkerFault::BadMetadata);
+    assert!(rt; fault_of(alloc, &bytes) == Some(bad));
+    assert!(rt; fault_of(alloc, &[1]) == Some(StoreFault::BadVersion(1)));
+}
+
+#[test]
+fn numbers_and_names(rt: HostRuntime) -> Result<(), Fail> {
+    let alloc = rt.alloc();
+    for (fault, number, name) in [
+        (StoreFault::BadVersion(1), 1, "BadVersion"),
+        (StoreFault::Bad(55, MarkerFault::BadMetadata), 2, "Bad"),
+    ] {
+        assert_eq!(rt; fault.number(), number);
+        assert_eq!(rt; format!(in alloc; "{fault}")?.as_str(), name);
+    }
+    Ok(())
+}
+
+#[test]
+fn holds_a_marker_once(rt: HostRuntime) {
+    let alloc = rt.alloc();
+    let mut store = Store::new(alloc);
+    assert!(rt; add(&rt, &mut store, marker(alloc, OLD, &[NEW])) == Added::New);
+    assert!(rt; add(&rt, &mut store, marker(alloc, OLD, &[NEW])) == Added::Known);
+    assert!(rt; store.with_predecessor(OLD) == [0usize].as_slice());
+    assert!(rt; store.with_successor(NEW) == [0usize].as_slice());
+    assert!(rt; store.with_child(OLD).is_empty());
+    add(&rt, &mut store, marker(alloc, NEW, &[OLD, OLD]));
+    assert!(rt; store.with_successor(OLD) == [1usize].as_slice());
+}
+
+#[test]
+fn lists_two_equal_parents_once(rt: HostRuntime) {
+    let alloc = rt.alloc();
+    let mut store = Store::new(alloc);
+    add(&rt, &mut store, marker(alloc, OLD, &[NEW]));
+    add(&rt, &mut store, prune(alloc));
+    assert!(rt; store.with_child(NEW) == [1usize].as_slice());
+    assert!(rt; store.with_predecessor(OLD) == [0usize, 1].as_slice());
+    let pruned = prune(alloc).expect(&rt, "a marker");
+    assert!(rt; store.contains(&pruned) && store.get(1) == Some(&pruned));
+    store.truncate(1);
+    assert!(rt; store.get(1).is_none() && store.with_child(NEW).is_empty());
+    assert!(rt; store.with_predecessor(OLD) == [0usize].as_slice());
+}
+
+// Two prunes without metadata, of OLD and of NEW, and that of OLD again.
+fn prunes(alloc: Global) -> Option<Vec<Marker>> {
+    let mut part = Vec::new(alloc);
+    for predecessor in [OLD, NEW, OLD] {
+        part.push(marker(alloc, predecessor, &[])?).ok()?;
+    }
+    Some(part)
+}
+
+#[test]
+fn tells_the_places_of_what_is_new(rt: HostRuntime) {
+    let alloc = rt.alloc();
+    let part = prunes(alloc).expect(&rt, "memory");
+    let mut store = Store::new(alloc);
+    add(&rt, &mut store, prune(alloc));
+    let places = store.absorb(&part).expect(&rt, "memory");
+    assert!(rt; places[..] == [1usize, 2]);
+    assert!(rt; store.markers().get(1) == part.get(0));
+    let places = store.absorb(&part).expect(&rt, "memory");
+    assert!(rt; places.is_empty() && store.len() == 3);
+}
+
+// A copy of the state that has absorbed the part and joined the other, where it is above the other.
+fn grown<S: JoinState>(one: &S, part: &S::Part, other: &S) -> Option<S> {
+    let mut copy = one.copy().ok()?;
+    copy.absorb(part).ok()?;
+    copy.join(other).ok()?;
+    match other.below(&copy) {
+        Ok(true) => Some(copy),
+        _ => None,
+    }
+}
+
+#[test]
+fn joins(rt: HostRuntime) {
+    let alloc = rt.alloc();
+    let mut store = Store::new(alloc);
+    add(&rt, &mut store, prune(alloc));
+    let mut other = Store::new(alloc);
+    add(&rt, &mut other, marker(alloc, NEW, &[OLD]));
+    let part = prunes(alloc).expect(&rt, "memory");
+    let joined = grown(&store, &part, &other).expect(&rt, "a store above the other");
+    assert!(rt; joined.len() == 4 && joined.get(3) == other.get(0));
+    assert!(rt; store.is_below(&joined) && !joined.is_below(&store));
+}
+
+// One allocation is refused, wherever it falls: nothing changed, and the same call with memory answers as ever.
+#[test]
+fn refused_growth_adds_nothing(rt: HostRuntime) {
+    let alloc = rt.alloc();
+    let (Some(one), Some(same)) = (prune(alloc), prune(alloc)) else {
+        return;
+    };
+    let mut store = Store::new(alloc);
+    if let Err(NoMemory) = store.add(one) {
+        assert!(rt; store.len() == 0 && store.with_predecessor(OLD).is_empty());
+        assert!(rt; store.with_child(NEW).is_empty());
+        assert!(rt; store.add(same) == Ok(Added::New));
+    }
+    assert!(rt; store.with_predecessor(OLD) == [0usize].as_slice());
+    assert!(rt; store.with_child(NEW) == [0usize].as_slice());
+}
+
+#[test]
+fn refused_growth_takes_nothing_in(rt: HostRuntime) {
+    let alloc = rt.alloc();
+    let Some(part) = prunes(alloc) else {
+        return;
+    };
+    let mut store = Store::new(alloc);
+    if let Err(NoMemory) = store.absorb(&part) {
+        assert!(rt; store.len() == 0 && store.with_predecessor(OLD).is_empty());
+        assert!(rt; store.absorb(&part).is_ok());
+    }
+    assert!(rt; store.len() == 2);
+    let copy = match store.copy() {
+        Ok(copy) => copy,
+        Err(NoMemory) => store.copy().expect(&rt, "memory"),
+    };
+    assert!(rt; copy.len() == 2 && copy.with_predecessor(OLD) == [0usize].as_slice());
+}
+
+#[test]
+fn refused_growth_reads_and_writes_nothing(rt: HostRuntime) {
+    let alloc = rt.alloc();
+    let Some(bytes) = bytes_of(alloc, &[b"user:bob", b"user:eve"]) else {
+        return;
+    };
+    let store = match read_store(alloc, &bytes) {
+        Ok(store) => store,
+        Err(_) => read_store(alloc, &bytes).expect(&rt, "memory"),
+    };
+    let written = match store_bytes(&store) {
+        Ok(written) => written,
+        Err(AllocError) => store_bytes(&store).expect(&rt, "memory"),
+    };
+    assert!(rt; written == bytes);
+}
