@@ -3,9 +3,14 @@
 //! States are kept as lists, and a list has an order. Equality of states is being below both ways, which is having one
 //! content: for each id the changeset and its phase, where it is held.
 ghost use Rattle.std.specs.Prelude.{◌≡◌, ◌↔◌, [], ◌∷◌, ◌++◌, List, Contains};
-ghost use Rattle.hg_phases.specs.State.{State, IsValid};
+ghost use Rattle.hg_changeset.specs.Contents.{Contents};
+ghost use Rattle.hg_graph.specs.Graph.{IsGraph};
+ghost use Rattle.hg_phases.specs.State.{State, Held, IsValid, changesets};
 ghost use Rattle.hg_phases.specs.Order.{Below, IsSameState};
 ghost use Rattle.hg_phases.specs.Content.{content_of};
+ghost use Rattle.hg_changeset.specs.declared.node.Node.{Node};
+ghost use Rattle.hg_phases.specs.declared.phase.Phase.{Phase};
+ghost use Rattle.hg_phases.specs.Roots.{IsRoot, AreRoots, AreSameRoots, IsOpened, root_of};
 ghost use Rattle.hg_phases.specs.Least.{AreAdmitted, IsAdmitted, IsLeast, IsSmallest, IsLeastOneByOne, PartValue, Covers, part_of};
 
 /// States are ordered, and each is below the other exactly where they have one content. What is the least state for one
@@ -49,4 +54,12 @@ pub fn least_of_a_state_is_the_join()
     ensures second { (s t u : State) → IsLeast s (part_of t ∷ []) u → Below t u }
     ensures below_each { (s t u v : State) → IsLeast s (part_of t ∷ []) u → IsValid v → Below s v → Below t v → Below u v }
     ensures idempotent { (s : State) → IsValid s → IsLeast s (part_of s ∷ []) s }
+{}
+
+/// Roots say all that a state's phases are: with its own changesets they give the state back, in whatever order they are
+/// listed and however often. They are few: each is one, and none is left out.
+pub fn roots_say_the_phases()
+    ensures listed { (s : State) (roots : List (Phase × Node)) → AreRoots s roots → (r : Phase × Node) → Contains roots r ↔ ((h : Held) × Contains s.held h × IsRoot s h × (root_of h ≡ r)) }
+    ensures valid { (cs : List Contents) (roots : List (Phase × Node)) (s : State) → IsGraph cs → IsOpened cs roots s → IsValid s }
+    ensures again { (s t : State) (roots listed : List (Phase × Node)) → IsValid s → AreRoots s roots → AreSameRoots listed roots → IsOpened (changesets s) listed t → t ≡ s }
 {}

@@ -1,0 +1,4 @@
+pub mod Refusals
+pub mod Lines
+pub mod Reading
+pub mod Writing
