@@ -1,305 +1,136 @@
--- What a kept list says, its content says, and the other way round.
-use Rattle.std.proofs.Common.{◌≡◌, ℕ, zero, suc, ◌<◌, ◌≤◌, Bool, true, false, cond, List, [], ◌∷◌, ◌++◌, take, slice_get, Option, Some, None, find, Result, Ok, Err, IfOk, IfErr, OnOk, OnErr, Contains, ◌↔◌, ◌⊎◌, inl, inr, refl, sym, ap, subst, ◌∙◌, arith, true≢false}
-use Rattle.std.proofs.lemmas.List.Elements.{Contains-append_right, Contains-append_cases}
-use Rattle.std.proofs.lemmas.Option.{none-some, same_Some}
-use Rattle.hg_changeset.specs.declared.node.Node.{Node}
-use Rattle.hg_changeset.specs.Node.{node_eq}
-use Rattle.hg_changeset.specs.Contents.{Contents}
-use Rattle.hg_changeset.specs.Changeset.{node_of, IsChangeset}
-use Rattle.hg_changeset.proofs.NodeLemmas.{same_node, node_eq_laws}
-use Rattle.hg_graph.specs.Graph.{nodes, IsGraph, IsParent, Reaches as GraphReaches}
-use Rattle.hg_graph.specs.Graph.Reaches.{itself as reaches_itself, below as reaches_below}
-use Rattle.hg_graph.proofs.GraphLemmas.{Contains-from_place, place_from_Contains, Holds-from, Holds-changeset}
-use Rattle.hg_graph.proofs.MarkLemmas.{get-take}
-use Rattle.hg_phases.specs.declared.phase.Phase.{Phase}
-use Rattle.hg_phases.specs.State.{State, Held, rank, changesets, Holds, Reaches, IsValid}
-use Rattle.hg_phases.specs.Order.{Below, IsSameState}
-use Rattle.hg_phases.specs.Least.{PartValue, Covers, IsAdmitted, IsBoundOfOne, IsChangesetOfOne, IsCandidate, IsLowest, IsLeast}
-use Rattle.hg_phases.proofs.LeastLemmas.{held_from, changeset_from, same_held, same_changeset, Holds-taken, only_one}
-use Rattle.hg_replica.specs.declared.fault.Fault.{Fault}
-use Rattle.hg_replica.specs.declared.fault.Fault.TheVariants.{UnknownParent, Collision, UnknownBound, NullBound, NoMemory}
-use Rattle.hg_replica.specs.Change.{ChangeValue, unheld}
-use Rattle.hg_replica.specs.Answer.{IsFirstFault, IsRefusal, AbsorbAnswer}
-use Rattle.hg_replica.specs.Join.{TellsChange}
-use Rattle.hg_phases.specs.Content.{content_of}
-use Rattle.hg_phases.proofs.ContentLemmas.{held_in_content, content-held}
-use Rattle.hg_replica.specs.Content.{Content, IsHeld, IsHeldAs, IsHeldWith, Leads, IsGrounded, IsValidContent, ContentBelow, ContentCovers, ContentAdmits, IsContentCandidate, ContentAfter, IsListing, IsContentFault}
-use Rattle.hg_replica.specs.Content.Leads.{itself, below}
-use Rattle.hg_replica.specs.Content.IsGrounded.{grounded}
-use Rattle.hg_replica.specs.ContentLaws.{below-both, below-same}
+-- Contents say what states say.
+use Rattle.std.proofs.Common.{◌≡◌, [], ◌∷◌, Contains, Result, Ok, Err, OnOk, OnErr, IfOk, IfErr, ◌↔◌, ◌⊎◌, inl, inr, refl, sym, ap, ◌∙◌}
+use Rattle.hg_marker.specs.Fields.{Fields}
+use Rattle.hg_phases.specs.State.{changesets}
+use Rattle.hg_phases.proofs.ContentLemmas.{content-same as history-same, same_from_content as history_from_same}
+use Rattle.hg_history.specs.declared.fault.Fault.{Fault}
+use Rattle.hg_history.specs.declared.fault.Fault.TheVariants.{UnknownParent, Collision, UnknownBound, NullBound, NoMemory}
+use Rattle.hg_history.specs.Answer.{IsFirstFault, IsRefusal}
+use Rattle.hg_history.specs.Change.{unheld}
+use Rattle.hg_history.proofs.ContentLemmas.{content-valid as history-valid, content-below as history-below, below_from_content as history_from_below, content-covers as history-covers, covers_from_content as history_from_covers, content-after as history-after, least_from_content as history_from_least, content-fault as history-fault}
+use Rattle.hg_history.proofs.JoinLemmas.{join-contents as history-join, join_from_content as history_from_join, collide-contents as history-collide}
+use Rattle.hg_obsstore.specs.Sets.{IsUnion}
+use Rattle.hg_obsstore.specs.Growth.{holds, new_among}
+use Rattle.hg_replica.specs.State.{ReplicaState, IsValid, Below, IsSameState}
+use Rattle.hg_replica.specs.Least.{PartValue, Covers, IsAdmitted, IsMarkerOfOne, IsLeast}
+use Rattle.hg_replica.specs.Change.{ChangeValue, TellsChange}
+use Rattle.hg_replica.specs.Answer.{AbsorbAnswer, IsJoin, JoinAnswer}
+use Rattle.hg_replica.specs.Content.{content_of, IsValidContent, ContentBelow, ContentCovers, ContentAfter, ContentsJoined, ContentsCollide, IsContentFault}
+use Rattle.hg_replica.proofs.MarkerLemmas.{within-sets, union-sets, same-sets}
+use Rattle.hg_replica.proofs.LeastLemmas.{marker_of_one, least-valid}
 
-module _ (s : State) (graph : IsGraph (changesets s)) where
-  pub content-changeset : (n : Node) (c : Contents) → Contains (changesets s) c → node_of c ≡ n → IsHeldAs (content_of s) n c
-  content-changeset n c at e =
-      let h = held_from s c at in
-      (h.0, content-held s graph n h.0 h.1 (ap node_of h.2 ∙ e), h.2)
+pub content-valid : (s : ReplicaState) → IsValid s → IsValidContent (content_of s)
+content-valid s valid = history-valid s.history valid
 
-  pub changeset_in_content : (n : Node) (c : Contents) → IsHeldAs (content_of s) n c → Contains (changesets s) c × (node_of c ≡ n)
-  changeset_in_content n c x =
-      let h = held_in_content s n x.0 x.1 in
-      (subst (Contains (changesets s)) x.2 (changeset_from s x.0 h.0), subst (λ d. node_of d ≡ n) x.2 h.1)
+pub content-below : (s t : ReplicaState) → IsValid t → Below s t → ContentBelow (content_of s) (content_of t)
+content-below s t valid below = (history-below s.history t.history valid.graph below.history, (within-sets s.markers t.markers).0 below.markers)
 
-  pub content-node : (n : Node) → Holds s n → IsHeld (content_of s) n
-  content-node n h =
-      let c = Holds-changeset (changesets s) n h in
-      let x = content-changeset n c.0 c.1 c.2 in
-      (x.0, x.1)
-
-  pub node_in_content : (n : Node) → IsHeld (content_of s) n → Holds s n
-  node_in_content n x =
-      let h = held_in_content s n x.0 x.1 in
-      subst (λ m. Contains (nodes (changesets s)) m) h.1 (Holds-from (changesets s) x.0.changeset (changeset_from s x.0 h.0))
-
-  -- in a graph the parent of a changeset that is held is held
-  parent-held : (c : Contents) (p : Node) → Contains (changesets s) c → IsParent c p → Holds s p
-  parent-held c p at is =
-      let place = place_from_Contains (changesets s) c at in
-      Holds-taken (changesets s) place.0 p (graph.parents_first place.0 c place.1 p is)
-
-  pub leads_from_reach : (a n : Node) → Reaches s a n → Leads (content_of s) a n
-  leads_from_reach a n (reaches_itself h) = itself
-  leads_from_reach a n (reaches_below {c = c} {p = p} r is at e) =
-      let h = content-changeset n c at e in
-      below (leads_from_reach a p r) h.1 (subst (λ d. IsParent d p) (sym h.2) is)
-
-  pub reach_from_leads : (a n : Node) → Holds s n → Leads (content_of s) a n → Reaches s a n
-  reach_from_leads a n held itself = reaches_itself held
-  reach_from_leads a n held (below {p = p} {h = h} r e is) =
-      let f = held_in_content s n h e in
-      let at = changeset_from s h f.0 in
-      reaches_below (reach_from_leads a p (parent-held h.changeset p at is) r) is at f.1
-
-  -- the changesets before a place are grounded, each in those before it
-  place-grounded : (bound i : ℕ) (c : Contents) → i < bound → slice_get (changesets s) i ≡ Some c → IsGrounded (content_of s) (node_of c)
-  place-grounded zero i c lt at = absurd (omega arith)
-  place-grounded (suc bound) i c lt at = grounded (λ h p e is.
-      let f = held_in_content s (node_of c) h e in
-      let same = same_changeset (changesets s) graph c h.changeset (Contains-from_place (changesets s) i c at) (changeset_from s h f.0) (sym f.1) in
-      let d = Holds-changeset (take i (changesets s)) p (graph.parents_first i c at p (subst (λ x. IsParent x p) same is)) in
-      let place = place_from_Contains (take i (changesets s)) d.0 d.1 in
-      let at_d = get-take (changesets s) i place.0 d.0 place.1 in
-      let earlier : place.0 < bound = omega (arith, at_d.0) in
-      subst (IsGrounded (content_of s)) d.2 (place-grounded bound place.0 d.0 earlier at_d.1))
-
-  pub content-grounded : (n : Node) → IsGrounded (content_of s) n
-  content-grounded n = grounded (λ h p e is.
-      let f = held_in_content s n h e in
-      let d = Holds-changeset (changesets s) p (parent-held h.changeset p (changeset_from s h f.0) is) in
-      let place = place_from_Contains (changesets s) d.0 d.1 in
-      let last : place.0 < suc place.0 = omega arith in
-      subst (IsGrounded (content_of s)) d.2 (place-grounded (suc place.0) place.0 d.0 last place.1))
-
-  pub content_listing : IsListing (content_of s) (changesets s)
-  content_listing c = (λ at. content-changeset (node_of c) c at refl, λ x. (changeset_in_content (node_of c) c x).0)
-
--- the content of a valid state is valid
-pub content-valid : (s : State) → IsValid s → IsValidContent (content_of s)
-content-valid s valid = record {
-  named = λ n h e. let f = held_in_content s n h e in (f.1, valid.graph.each h.changeset (changeset_from s h f.0));
-  parents = λ n h p e is.
-      let f = held_in_content s n h e in
-      let g = content-node s valid.graph p (parent-held s valid.graph h.changeset p (changeset_from s h f.0) is) in
-      let up = held_in_content s p g.0 g.1 in
-      (g.0, g.1, valid.phases h g.0 f.0 up.0 (subst (IsParent h.changeset) (sym up.1) is));
-  grounded = content-grounded s valid.graph;
+pub below_from_content : (s t : ReplicaState) → IsValid s → ContentBelow (content_of s) (content_of t) → Below s t
+below_from_content s t valid below = record {
+  history = history_from_below s.history t.history valid.graph below.0;
+  markers = (within-sets s.markers t.markers).1 below.1;
 }
 
--- below is below
-pub content-below : (s t : State) → IsGraph (changesets t) → Below s t → ContentBelow (content_of s) (content_of t)
-content-below s t graph up n h e =
-    let f = held_in_content s n h e in
-    let g = up h f.0 in
-    (g.0, content-held t graph n g.0 g.1 (ap node_of g.2 ∙ f.1), g.2, g.3)
+pub content-same : (s t : ReplicaState) → IsValid s → IsValid t → IsSameState s t → content_of s ≡ content_of t
+content-same s t v w same i = (
+  history-same s.history t.history v.graph w.graph (same.0.history, same.1.history) i,
+  same-sets s.markers t.markers same.0.markers same.1.markers i,
+)
 
-pub below_from_content : (s t : State) → IsGraph (changesets s) → ContentBelow (content_of s) (content_of t) → Below s t
-below_from_content s t graph up h at =
-    let n = node_of h.changeset in
-    let g = up n h (content-held s graph n h at refl) in
-    (g.0, (held_in_content t n g.0 g.1).0, g.2, g.3)
-
--- to cover is to cover
-pub content-covers : (s : State) (k : PartValue) → IsGraph (changesets s) → Covers s k → ContentCovers (content_of s) k
-content-covers s k graph covers = record {
-  holds = λ c at. content-changeset s graph (node_of c) c (covers.holds c at) refl;
-  bounded = λ b at.
-      let held = covers.bounded b at in (
-        content-node s graph b.0 held.0,
-        λ n h e leads.
-            let f = held_in_content s n h e in
-            held.1 h f.0 (subst (λ m. Reaches s m b.0) (sym f.1) (reach_from_leads s graph n b.0 held.0 leads)),
-      );
-}
-
-pub covers_from_content : (s : State) (k : PartValue) → IsGraph (changesets s) → ContentCovers (content_of s) k → Covers s k
-covers_from_content s k graph covers = record {
-  holds = λ c at. (changeset_in_content s graph (node_of c) c (covers.holds c at)).0;
-  bounded = λ b at.
-      let held = covers.bounded b at in (
-        node_in_content s graph b.0 held.0,
-        λ h at_h reach.
-            let n = node_of h.changeset in
-            held.1 n h (content-held s graph n h at_h refl) (leads_from_reach s graph n b.0 reach),
-      );
-}
-
--- to admit is to admit
-pub content-admits : (s : State) (k : PartValue) → IsGraph (changesets s) → ((c : Contents) → Contains k.changesets c → IsChangeset c) → IsAdmitted s k → ContentAdmits (content_of s) k
-content-admits s k graph each admitted = record {
-  each = each;
-  parents = λ i c at p is. elim (admitted.parents i c at p is) [ inl x ↦ inl (content-node s graph p x) | inr x ↦ inr (Holds-changeset (take i k.changesets) p x) ];
-  bounds = λ b at. elim (admitted.bounds b at) [ inl x ↦ inl (content-node s graph b.0 x) | inr x ↦ inr (Holds-changeset k.changesets b.0 x) ];
-  apart = λ c d at other e. admitted.apart c d at (elim other [ inl x ↦ inl (changeset_in_content s graph (node_of d) d x).0 | inr x ↦ inr x ]) e;
-}
-
-pub admits_from_content : (s : State) (k : PartValue) → IsGraph (changesets s) → ContentAdmits (content_of s) k → IsAdmitted s k
-admits_from_content s k graph admitted = record {
-  parents = λ i c at p is. elim (admitted.parents i c at p is) [ inl x ↦ inl (node_in_content s graph p x) | inr x ↦ inr (subst (λ n. Contains (nodes (take i k.changesets)) n) x.2 (Holds-from (take i k.changesets) x.0 x.1)) ];
-  bounds = λ b at. elim (admitted.bounds b at) [ inl x ↦ inl (node_in_content s graph b.0 x) | inr x ↦ inr (subst (λ n. Contains (nodes k.changesets) n) x.2 (Holds-from k.changesets x.0 x.1)) ];
-  apart = λ c d at other e. admitted.apart c d at (elim other [ inl x ↦ inl (content-changeset s graph (node_of d) d x refl) | inr x ↦ inr x ]) e;
-}
-
--- a first fault is one
-pub content-fault : (s : State) (k : PartValue) (fault : Fault) → IsGraph (changesets s) → IsFirstFault (changesets s) k fault → IsContentFault (content_of s) k fault
-content-fault s k fault graph h = (changesets s, content_listing s graph, h)
-
--- the least state is the content after the part
-module _ (s t : State) (k : PartValue) (valid : IsValid s) (large : IsGraph (changesets t)) where
-  module _ (l : IsLeast s (k ∷ []) t) where
-    part-changeset : (c : Contents) → Contains k.changesets c → Contains (changesets t) c
-    part-changeset c at = (l.union c).1 (inr (k, (0, omega arith, refl), at))
-
-    -- what the state held under an id it still does
-    same-then : (n : Node) (h old : Held) → content_of t n ≡ Some h → content_of s n ≡ Some old → old.changeset ≡ h.changeset
-    same-then n h old e at =
-        let f = held_in_content t n h e in
-        let g = held_in_content s n old at in
-        same_changeset (changesets t) large h.changeset old.changeset (changeset_from t h f.0) ((l.union old.changeset).1 (inl (changeset_from s old g.0))) (f.1 ∙ sym g.1)
-
-    candidate-there : (n : Node) (h : Held) (phase : Phase) → content_of t n ≡ Some h → IsCandidate s (k ∷ []) t h.changeset phase → IsContentCandidate (content_of s) k (content_of t) n phase
-    candidate-there n h phase e (inl top) = inl top
-    candidate-there n h phase e (inr (inl old)) =
-        let f = held_in_content t n h e in
-        inr (inl (old.0, content-held s valid.graph n old.0 old.1 (ap node_of old.2 ∙ f.1), old.3))
-    candidate-there n h phase e (inr (inr b)) =
-        let f = held_in_content t n h e in
-        let within = subst (λ x. Contains x.bounds b.0) (sym (only_one k b.1.0 b.1.1)) b.1.2 in
-        inr (inr (b.0, within, leads_from_reach t large n b.0.0 (subst (λ m. Reaches t m b.0.0) f.1 b.2), b.3))
-
-    candidate-back : (n : Node) (h : Held) (phase : Phase) → content_of t n ≡ Some h → IsContentCandidate (content_of s) k (content_of t) n phase → IsCandidate s (k ∷ []) t h.changeset phase
-    candidate-back n h phase e (inl top) = inl top
-    candidate-back n h phase e (inr (inl old)) =
-        let f = held_in_content s n old.0 old.1 in
-        inr (inl (old.0, f.0, same-then n h old.0 e old.1, old.2))
-    candidate-back n h phase e (inr (inr b)) =
-        let f = held_in_content t n h e in
-        let one : IsBoundOfOne (k ∷ []) b.0 = (k, (0, omega arith, refl), b.1) in
-        inr (inr (b.0, one, subst (λ m. Reaches t m b.0.0) (sym f.1) (reach_from_leads t large n b.0.0 (l.bounded b.0 one) b.2), b.3))
-
-    pub content-after : IsAdmitted s k → ContentAfter (content_of s) k (content_of t)
-    content-after admitted = record {
-      admitted = content-admits s k valid.graph (λ c at. large.each c (part-changeset c at)) admitted;
-      union = λ n c. (
-        λ x.
-            let f = changeset_in_content t large n c x in
-            elim ((l.union c).0 f.0) [
-              | inl old ↦ inl (content-changeset s valid.graph n c old f.1)
-              | inr new ↦ inr (subst (λ y. Contains y.changesets c) (sym (only_one k new.0 new.1)) new.2, f.1)
-            ],
-        λ h. elim h [
-          | inl old ↦ let f = changeset_in_content s valid.graph n c old in content-changeset t large n c ((l.union c).1 (inl f.0)) f.1
-          | inr new ↦ content-changeset t large n c (part-changeset c new.0) new.1
-        ],
-      );
-      phases = λ n h e.
-          let f = held_in_content t n h e in
-          let lowest = l.phases h f.0 in
-          (candidate-there n h h.phase e lowest.0, λ j candidate. lowest.1 j (candidate-back n h j e candidate));
-    }
-
-  -- and where it is, the state is the least
-  module _ (after : ContentAfter (content_of s) k (content_of t)) where
-    least-union : (c : Contents) → Contains (changesets t) c ↔ (Contains (changesets s) c ⊎ IsChangesetOfOne (k ∷ []) c)
-    least-union c = (
-      λ at. elim ((after.union (node_of c) c).0 (content-changeset t large (node_of c) c at refl)) [
-        | inl old ↦ inl (changeset_in_content s valid.graph (node_of c) c old).0
-        | inr new ↦ inr (k, (0, omega arith, refl), new.0)
-      ],
-      λ h. elim h [
-        | inl old ↦ (changeset_in_content t large (node_of c) c ((after.union (node_of c) c).1 (inl (content-changeset s valid.graph (node_of c) c old refl)))).0
-        | inr new ↦ (changeset_in_content t large (node_of c) c ((after.union (node_of c) c).1 (inr (subst (λ y. Contains y.changesets c) (sym (only_one k new.0 new.1)) new.2, refl)))).0
-      ],
+pub same_from_content : (s t : ReplicaState) → IsValid s → IsValid t → content_of s ≡ content_of t → IsSameState s t
+same_from_content s t v w e =
+    let h = history_from_same s.history t.history v.graph w.graph (ap (λ c. c.0) e) in
+    let m = ap (λ c. c.1) e in (
+      record { history = h.0; markers = (within-sets s.markers t.markers).1 (λ k is. sym (ap (λ (f : Fields → _). f k) m) ∙ is) },
+      record { history = h.1; markers = (within-sets t.markers s.markers).1 (λ k is. ap (λ (f : Fields → _). f k) m ∙ is) },
     )
 
-    least-bounded : (b : Node × Phase) → IsBoundOfOne (k ∷ []) b → Holds t b.0
-    least-bounded b one =
-        let at = subst (λ x. Contains x.bounds b) (sym (only_one k one.0 one.1)) one.2 in
-        elim (after.admitted.bounds b at) [
-          | inl held ↦
-              let x = (after.union b.0 held.0.changeset).1 (inl (held.0, held.1, refl)) in
-              node_in_content t large b.0 (x.0, x.1)
-          | inr new ↦
-              let x = (after.union b.0 new.0).1 (inr (new.1, new.2)) in
-              node_in_content t large b.0 (x.0, x.1)
-        ]
+pub content-covers : (s : ReplicaState) (k : PartValue) → IsValid s → Covers s k → ContentCovers (content_of s) k
+content-covers s k valid covers = (history-covers s.history k.history valid.graph covers.history, (within-sets k.markers s.markers).0 covers.markers)
 
-    forth : (h : Held) (phase : Phase) → Contains t.held h → IsCandidate s (k ∷ []) t h.changeset phase → IsContentCandidate (content_of s) k (content_of t) (node_of h.changeset) phase
-    forth h phase at (inl top) = inl top
-    forth h phase at (inr (inl old)) = inr (inl (old.0, content-held s valid.graph (node_of h.changeset) old.0 old.1 (ap node_of old.2), old.3))
-    forth h phase at (inr (inr b)) =
-        let within = subst (λ x. Contains x.bounds b.0) (sym (only_one k b.1.0 b.1.1)) b.1.2 in
-        inr (inr (b.0, within, leads_from_reach t large (node_of h.changeset) b.0.0 b.2, b.3))
+pub covers_from_content : (s : ReplicaState) (k : PartValue) → IsValid s → ContentCovers (content_of s) k → Covers s k
+covers_from_content s k valid covers = record {
+  history = history_from_covers s.history k.history valid.graph covers.0;
+  markers = (within-sets k.markers s.markers).1 covers.1;
+}
 
-    back : (h : Held) (phase : Phase) → Contains t.held h → IsContentCandidate (content_of s) k (content_of t) (node_of h.changeset) phase → IsCandidate s (k ∷ []) t h.changeset phase
-    back h phase at (inl top) = inl top
-    back h phase at (inr (inl old)) =
-        let f = held_in_content s (node_of h.changeset) old.0 old.1 in
-        let there = (least-union old.0.changeset).1 (inl (changeset_from s old.0 f.0)) in
-        inr (inl (old.0, f.0, same_changeset (changesets t) large h.changeset old.0.changeset (changeset_from t h at) there (sym f.1), old.2))
-    back h phase at (inr (inr b)) =
-        let one : IsBoundOfOne (k ∷ []) b.0 = (k, (0, omega arith, refl), b.1) in
-        inr (inr (b.0, one, reach_from_leads t large (node_of h.changeset) b.0.0 (least-bounded b.0 one) b.2, b.3))
-
-    pub least_from_content : IsAdmitted s k × IsLeast s (k ∷ []) t
-    least_from_content = (
-      admits_from_content s k valid.graph after.admitted,
-      record {
-        graph = large;
-        union = least-union;
-        bounded = least-bounded;
-        phases = λ h at.
-            let lowest = after.phases (node_of h.changeset) h (content-held t large (node_of h.changeset) h at refl) in
-            (back h h.phase at lowest.0, λ j candidate. lowest.1 j (forth h j at candidate));
-      },
+-- the union with one part's markers
+pub least-union : (s : ReplicaState) (k : PartValue) (t : ReplicaState) → ((m : Fields) → Contains t.markers m ↔ (Contains s.markers m ⊎ IsMarkerOfOne (k ∷ []) m)) ↔ IsUnion (holds s.markers) (holds k.markers) (holds t.markers)
+least-union s k t =
+    let sets = union-sets s.markers k.markers t.markers in (
+      λ h. sets.0 (λ m. (
+        λ at. elim ((h m).0 at) [ inl x ↦ inl x | inr p ↦ inr ((marker_of_one k m).0 p) ],
+        λ x. elim x [ inl y ↦ (h m).1 (inl y) | inr y ↦ (h m).1 (inr ((marker_of_one k m).1 y)) ],
+      )),
+      λ u m. let h = sets.1 u m in (
+        λ at. elim (h.0 at) [ inl x ↦ inl x | inr y ↦ inr ((marker_of_one k m).1 y) ],
+        λ x. elim x [ inl y ↦ h.1 (inl y) | inr p ↦ h.1 (inr ((marker_of_one k m).0 p)) ],
+      ),
     )
+
+pub content-after : (s t : ReplicaState) (k : PartValue) → IsValid s → IsValid t → IsAdmitted s k → IsLeast s (k ∷ []) t → ContentAfter (content_of s) k (content_of t)
+content-after s t k v w admitted least = (history-after s.history t.history k.history v w.graph least.history admitted, (least-union s k t).0 least.markers)
+
+pub least_from_content : (s t : ReplicaState) (k : PartValue) → IsValid s → IsValid t → ContentAfter (content_of s) k (content_of t) → IsAdmitted s k × IsLeast s (k ∷ []) t
+least_from_content s t k v w after =
+    let h = history_from_least s.history t.history k.history v w.graph after.0 in
+    (h.0, record { history = h.1; markers = (least-union s k t).1 after.1 })
+
+pub content-fault : (s : ReplicaState) (k : PartValue) (fault : Fault) → IsValid s → IsFirstFault (changesets s.history) k.history fault → IsContentFault (content_of s) k fault
+content-fault s k fault valid h = history-fault s.history k.history fault valid.graph h
+
+pub join-contents : (s o t : ReplicaState) → IsValid s → IsValid o → IsValid t → IsJoin s o t → ContentsJoined (content_of s) (content_of o) (content_of t)
+join-contents s o t u v w join = (history-join s.history o.history t.history u.graph v.graph w.graph join.history, (union-sets s.markers o.markers t.markers).0 join.markers)
+
+pub join_from_content : (s o t : ReplicaState) → IsValid s → IsValid o → IsValid t → ContentsJoined (content_of s) (content_of o) (content_of t) → IsJoin s o t
+join_from_content s o t u v w h = record {
+  history = history_from_join s.history o.history t.history u.graph v.graph w.graph h.0;
+  markers = (union-sets s.markers o.markers t.markers).1 h.1;
+}
 
 -- ---- answers, in the words of contents
 
 -- what absorbing leaves is the content after the part
-pub absorbed-content : (s t : State) (k : PartValue) (r : Result ChangeValue Fault) → IsValid s → AbsorbAnswer s k r t → OnOk r (ContentAfter (content_of s) k (content_of t))
-absorbed-content s t k (Ok change) valid h = content-after s t k valid h.least.graph h.least h.admitted
+pub absorbed-content : (s t : ReplicaState) (k : PartValue) (r : Result ChangeValue Fault) → IsValid s → AbsorbAnswer s k r t → OnOk r (ContentAfter (content_of s) k (content_of t))
+absorbed-content s t k (Ok change) valid h = content-after s t k valid (least-valid s (k ∷ []) t h.least valid) h.admitted h.least
 absorbed-content s t k (Err fault) valid h = tt
 
 -- and its refusals are at fault, or for want of memory
-pub refused-content : (s t : State) (k : PartValue) (r : Result ChangeValue Fault) → IsValid s → AbsorbAnswer s k r t → IfErr r (λ fault. IsContentFault (content_of s) k fault ⊎ (fault ≡ NoMemory))
+pub refused-content : (s t : ReplicaState) (k : PartValue) (r : Result ChangeValue Fault) → IsValid s → AbsorbAnswer s k r t → IfErr r (λ fault. IsContentFault (content_of s) k fault ⊎ (fault ≡ NoMemory))
 refused-content s t k (Ok change) valid h = tt
 refused-content s t k (Err fault) valid h = by fault h.0
   where
-    by : (fault : Fault) → IsRefusal (changesets s) k fault → IsContentFault (content_of s) k fault ⊎ (fault ≡ NoMemory)
-    by (UnknownParent p) x = inl (content-fault s k (UnknownParent p) valid.graph x)
-    by (Collision n) x = inl (content-fault s k (Collision n) valid.graph x)
-    by (UnknownBound n) x = inl (content-fault s k (UnknownBound n) valid.graph x)
-    by NullBound x = inl (content-fault s k NullBound valid.graph x)
+    by : (fault : Fault) → IsRefusal (changesets s.history) k.history fault → IsContentFault (content_of s) k fault ⊎ (fault ≡ NoMemory)
+    by (UnknownParent p) x = inl (content-fault s k (UnknownParent p) valid x)
+    by (Collision n) x = inl (content-fault s k (Collision n) valid x)
+    by (UnknownBound n) x = inl (content-fault s k (UnknownBound n) valid x)
+    by NullBound x = inl (content-fault s k NullBound valid x)
     by NoMemory x = inr refl
 
 -- the change tells what became of the state
-pub told-change : (s t : State) (k : PartValue) (r : Result ChangeValue Fault) → AbsorbAnswer s k r t → IfOk r (λ change. TellsChange s change t)
-told-change s t k (Ok change) h = record { new = unheld (changesets s) k.changesets; order = h.order; added = h.added; lowered = h.lowered }
+pub told-change : (s t : ReplicaState) (k : PartValue) (r : Result ChangeValue Fault) → AbsorbAnswer s k r t → IfOk r (λ change. TellsChange s change t)
+told-change s t k (Ok change) h = record {
+  history = record { new = unheld (changesets s.history) k.history.changesets; order = h.order; added = h.added; lowered = h.lowered };
+  markers = record { first = (new_among s.markers k.markers, h.marker_order); places = h.markers };
+}
 told-change s t k (Err fault) h = tt
 
-pub unchanged : (s t : State) (k : PartValue) (r : Result ChangeValue Fault) → AbsorbAnswer s k r t → OnErr r (t ≡ s)
+pub unchanged : (s t : ReplicaState) (k : PartValue) (r : Result ChangeValue Fault) → AbsorbAnswer s k r t → OnErr r (t ≡ s)
 unchanged s t k (Ok change) h = tt
 unchanged s t k (Err fault) h = h.1
 
 pub whatever_answer : {X E : Type 0} (r : Result X E) (P : Type 0) → P → OnOk r P
 whatever_answer (Ok x) P h = h
 whatever_answer (Err e) P h = tt
+
+pub joined-content : (s o t : ReplicaState) (r : Result Unit Fault) → IsValid s → IsValid o → JoinAnswer s o r t → OnOk r (ContentsJoined (content_of s) (content_of o) (content_of t))
+joined-content s o t (Ok u) v w h = join-contents s o t v w h.0 h.1
+joined-content s o t (Err fault) v w h = tt
+
+pub refused-join : (s o t : ReplicaState) (r : Result Unit Fault) → IsValid s → IsValid o → JoinAnswer s o r t → IfErr r (λ fault. ContentsCollide (content_of s) (content_of o) fault ⊎ (fault ≡ NoMemory))
+refused-join s o t (Ok u) v w h = tt
+refused-join s o t (Err fault) v w h = history-collide s.history o.history v.graph w.graph fault h.0
+
+pub join-unchanged : (s o t : ReplicaState) (r : Result Unit Fault) → JoinAnswer s o r t → OnErr r (t ≡ s)
+join-unchanged s o t (Ok u) h = tt
+join-unchanged s o t (Err fault) h = h.1

@@ -1,32 +1,22 @@
 -- What a part changes.
-use Rattle.std.specs.Prelude.{◌≡◌, ◌<◌, ◌↔◌, Bool, List, [], ◌∷◌, ◌++◌, if◌then◌else◌, Contains}
-use Rattle.std.specs.List.{IsDistinct, list_any}
+use Rattle.std.specs.Prelude.{ℕ, List}
 use Rattle.hg_changeset.specs.declared.node.Node.{Node}
-use Rattle.hg_changeset.specs.Node.{node_eq}
-use Rattle.hg_changeset.specs.Contents.{Contents}
-use Rattle.hg_changeset.specs.Changeset.{node_of}
-use Rattle.hg_graph.specs.Graph.{nodes}
-use Rattle.hg_phases.specs.State.{State, Held, rank}
+use Rattle.hg_history.specs.Change.{ChangeValue as HistoryChange}
+use Rattle.hg_history.specs.Join.{TellsChange as TellsHistory}
+use Rattle.hg_obsstore.specs.Growth.{Grows}
+use Rattle.hg_replica.specs.State.{ReplicaState}
 
--- the nodes that were added, and those held before whose phase went down
+-- the nodes that were added, those held before whose phase went down, and the places of the new markers
 pub record ChangeValue : Type 0 where
   pub added : List Node
   pub lowered : List Node
+  pub markers : List ℕ
 
--- a changeset with this id is among them
-abbrev pub is_held : List Contents → Node → Bool
-is_held cs n = list_any (node_eq n) (nodes cs)
+-- what of the change the history tells
+abbrev pub history_change : ChangeValue → HistoryChange
+history_change change = record { added = change.added; lowered = change.lowered }
 
--- those of the part's changesets that aren't held, each at its first place
-abbrev pub unheld : List Contents → List Contents → List Contents
-unheld held [] = []
-unheld held (c ∷ part) = if is_held held (node_of c) then unheld held part else c ∷ unheld (held ++ c ∷ []) part
-
--- a changeset with this id was held, and has a lower phase now
-abbrev pub WentDown : State → State → Node → Type 0
-WentDown s t n = (h : Held) × (g : Held) × Contains s.held h × Contains t.held g × (g.changeset ≡ h.changeset) × (node_of h.changeset ≡ n) × (rank g.phase < rank h.phase)
-
--- ns are exactly the nodes whose phase went down, each once
-pub record ListsLowered (s t : State) (ns : List Node) : Type 0 where
-  pub once : IsDistinct node_eq ns
-  pub each : (n : Node) → Contains ns n ↔ WentDown s t n
+-- the change tells the nodes that were added, in their order, those held before whose phase went down, and the places of the markers that stand after those held before
+pub record TellsChange (s : ReplicaState) (change : ChangeValue) (t : ReplicaState) : Type 0 where
+  pub history : TellsHistory s.history (history_change change) t.history
+  pub markers : Grows s.markers change.markers t.markers

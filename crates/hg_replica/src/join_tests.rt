@@ -1,5 +1,5 @@
 //! Replicas that join, by themselves and through the trait.
-use crate::tests::{absorbed, changeset, commit, make, phase};
+use crate::tests::{absorbed, changeset, commit, make, marker, part, phase};
 use crate::{Fault, Part, Replica};
 use hg_changeset::Node;
 use hg_join::JoinState;
@@ -51,44 +51,38 @@ fn an_empty_replica_joins_a_draft_and_then_a_public_one(rt: HostRuntime) {
 fn orders_do_not_matter(rt: HostRuntime) {
     let alloc = rt.alloc();
     let a = root(&rt, alloc, b"a", Phase::Draft);
-    let b = root(&rt, alloc, b"b", Phase::Public);
+    let x = Node([0x11; 20]);
+    let y = Node([0x22; 20]);
+    let b = part(Vec::new(alloc), None, marker(alloc, x, y)).expect(&rt, "memory");
     let mut first = Replica::new(alloc);
     absorbed(&rt, &mut first, &a);
     let mut second = Replica::new(alloc);
     absorbed(&rt, &mut second, &b);
     let one = grown(&first, &b, &first).expect(&rt, "memory");
     let other = grown(&second, &b, &first).expect(&rt, "memory");
-    assert!(rt; one.graph().len() == 2);
-    assert!(rt; one.graph().node_at(0) != other.graph().node_at(0));
+    assert!(rt; one.graph().len() == 1 && other.store().len() == 1);
     assert!(rt; agree(&one, &other) == Some(true));
     assert!(rt; agree(&one, &first) == Some(false));
     assert!(rt; agree(&second, &first) == Some(false));
 }
 
-// A replica with a root, as secret, and one with the root and a child of it, as public.
+// A replica with a root, as secret, and one with the root and a child of it, as public, and a marker.
 fn two_replicas(alloc: Global) -> Option<(Replica, Replica)> {
     let a = changeset(alloc, Node::NULL, b"a")?;
     let b = changeset(alloc, a.node(), b"b")?;
     let bound = (b.node(), Phase::Public);
+    let marker = marker(alloc, a.node(), b.node())?;
     let mut changesets = Vec::new(alloc);
     changesets.push(a.copy().ok()?).ok()?;
     changesets.push(b).ok()?;
     let mut large = Replica::new(alloc);
-    large
-        .absorb(&Part {
-            changesets,
-            bounds: Vec::from_slice(alloc, &[bound]).ok()?,
-        })
-        .ok()?;
+    let all = part(changesets, Some(bound), Some(marker)).ok()?;
+    large.absorb(&all).ok()?;
     let mut changesets = Vec::new(alloc);
     changesets.push(a).ok()?;
     let mut small = Replica::new(alloc);
-    small
-        .absorb(&Part {
-            changesets,
-            bounds: Vec::new(alloc),
-        })
-        .ok()?;
+    let alone = part(changesets, None, None).ok()?;
+    small.absorb(&alone).ok()?;
     Some((small, large))
 }
 
@@ -103,7 +97,7 @@ fn a_refused_join_changes_nothing(rt: HostRuntime) {
     };
     if let Err(fault) = small.join(&large) {
         assert!(rt; fault == Fault::NoMemory);
-        assert!(rt; small.graph().len() == 1);
+        assert!(rt; small.graph().len() == 1 && small.store().len() == 0);
         assert!(rt; matches!(small.phase_of(node), Ok(Some(Phase::Secret))));
         assert!(rt; agree(&small, &large) == Some(false));
         assert!(rt; small.join(&large).is_ok());

@@ -1,31 +1,38 @@
 //! What a replica takes in, and what that changes.
 
 use hg_changeset::{Changeset, Node};
+use hg_marker::Marker;
 use hg_phases::Phase;
 use std::marker::Model;
 
-/// What a replica takes in: changesets, and bounds on phases. A bound `(node, phase)` says that the node and its
+/// What a replica takes in: changesets, bounds on phases, and markers. A bound `(node, phase)` says that the node and its
 /// ancestors have at most this phase.
 #[derive(Drop)]
 pub struct Part {
     pub changesets: Vec<Changeset>,
     pub bounds: Vec<(Node, Phase)>,
+    pub markers: Vec<Marker>,
 }
 
 impl Model for Part {
-    ghost use Rattle.hg_phases.specs.Least.{PartValue};
+    ghost use Rattle.std.specs.Coded.{codes};
+    ghost use Rattle.hg_marker.specs.Fields.{fields_code};
+    ghost use Rattle.hg_replica.specs.Least.{PartValue};
 
     ghost Value = { PartValue };
 
-    ghost view = { λ part. record { changesets = part.changesets.items; bounds = part.bounds.items } };
+    ghost coded = { Prim.hlevel (codes, fields_code) };
+
+    ghost view = { λ part. record { history = record { changesets = part.changesets.items; bounds = part.bounds.items }; markers = part.markers.items } };
 }
 
-/// What a part changed: the nodes that were added, in their order, and the nodes held before whose phase went down, in
-/// no promised order.
+/// What a part changed: the nodes that were added, in their order; the nodes held before whose phase went down, in no
+/// promised order; and the places of the new markers in the store, ascending.
 #[derive(Drop)]
 pub struct Change {
     pub added: Vec<Node>,
     pub lowered: Vec<Node>,
+    pub markers: Vec<usize>,
 }
 
 impl Model for Change {
@@ -33,5 +40,5 @@ impl Model for Change {
 
     ghost Value = { ChangeValue };
 
-    ghost view = { λ change. record { added = change.added.items; lowered = change.lowered.items } };
+    ghost view = { λ change. record { added = change.added.items; lowered = change.lowered.items; markers = change.markers.items } };
 }

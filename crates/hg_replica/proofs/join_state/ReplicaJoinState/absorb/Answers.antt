@@ -1,5 +1,4 @@
-use Rattle.hg_phases.specs.Content.{content_of}
-use Rattle.hg_replica.specs.Content.{IsValidContent}
+use Rattle.hg_replica.specs.Content.{content_of, IsValidContent}
 use Rattle.hg_replica.proofs.ContentLemmas.{absorbed-content, refused-content, told-change, unchanged, content-valid, whatever_answer}
 use Rattle.hg_replica.proofs.join_state.ReplicaJoinState.absorb.Goals as goal
 

@@ -1,7 +1,5 @@
-use Rattle.hg_phases.specs.Content.{content_of}
-use Rattle.hg_replica.specs.Content.{IsValidContent}
-use Rattle.hg_replica.proofs.ContentLemmas.{content-valid, whatever_answer}
-use Rattle.hg_replica.proofs.JoinLemmas.{joined-content, refused-join}
+use Rattle.hg_replica.specs.Content.{content_of, IsValidContent}
+use Rattle.hg_replica.proofs.ContentLemmas.{content-valid, whatever_answer, joined-content, refused-join}
 use Rattle.hg_replica.proofs.join_state.ReplicaJoinState.join.Goals as goal
 
 pub returns-clause-joined : goal.returns-clause-joined

@@ -1,9 +1,20 @@
-use Rattle.std.proofs.Common.{IsTrue, ◌↔◌, subst}
-use Rattle.hg_phases.specs.State.{state_of}
-use Rattle.hg_phases.specs.Order.{Below}
+use Rattle.std.proofs.Common.{IsTrue, true≢false, ◌↔◌, sym, ◌∙◌, subst}
+use Rattle.hg_replica.specs.State.{ReplicaState, Below}
+use Rattle.hg_replica.proofs.ReplicaLemmas.{below-both}
 use Rattle.hg_replica.proofs.replica.Replica.is_below.Goals as goal
 
-pub returns-clause-answer : goal.returns-clause-answer
-returns-clause-answer c =
-    subst (λ t. IsTrue c.is_below.result ↔ Below c.args.self.now t) c.other.view_is
-    (subst (λ s. IsTrue c.is_below.result ↔ Below s (state_of c.other.inside.graph c.other.inside.phases)) c.self.view_is c.is_below.ensures)
+pub returns-then-is_below-clause-answer : goal.returns-then-is_below-clause-answer
+returns-then-is_below-clause-answer c =
+    let s : ReplicaState = record { history = c.self.inside.history; markers = c.self.inside.store } in
+    let t : ReplicaState = record { history = c.other.inside.history; markers = c.other.inside.store } in
+    let answer = c.is_below-then-is_below.result in
+    subst (λ u. IsTrue answer ↔ Below c.args.self.now u) c.other.view_is
+    (subst (λ u. IsTrue answer ↔ Below u t) c.self.view_is (below-both s t answer (c.is_below.ensures.answer.0 c.if-is_below.true) c.is_below-then-is_below.ensures))
+
+pub returns-else-is_below-clause-answer : goal.returns-else-is_below-clause-answer
+returns-else-is_below-clause-answer c =
+    let t : ReplicaState = record { history = c.other.inside.history; markers = c.other.inside.store } in
+    let answer = c.is_below.result in (
+      λ is. absurd (true≢false (sym is ∙ c.if-is_below.false)),
+      λ below. c.is_below.ensures.answer.1 (subst (λ u. Below u t) (sym c.self.view_is) (subst (λ u. Below c.args.self.now u) (sym c.other.view_is) below)).history,
+    )

@@ -1,0 +1,241 @@
+-- Adding the changesets of a part, one after the other.
+use Rattle.std.proofs.Common.{◌≡◌, ℕ, zero, suc, ◌<◌, ◌≤◌, ◌+◌, List, [], ◌∷◌, ◌++◌, append_assoc, length, map, take, slice_get, Some, Contains, Result, Ok, Err, ◌⊎◌, inl, inr, refl, sym, ap, subst, ◌∙◌, arith}
+use Rattle.std.proofs.Math.Seq.{take-append_seam}
+use Rattle.std.proofs.lemmas.Bool.{cases_eq}
+use Rattle.std.proofs.lemmas.List.{append-nil, take_more, take_all, map-append, length-append, length-map}
+use Rattle.std.proofs.lemmas.List.Elements.{Contains-append_left, Contains-append_right, Contains-append_cases, Contains-push, Contains-push_cases}
+use Rattle.std.proofs.lemmas.Option.{none-some, same_Some, slice_get_within, get_or_from_slice_get}
+use Rattle.hg_changeset.specs.declared.node.Node.{Node}
+use Rattle.hg_changeset.specs.Contents.{Contents}
+use Rattle.hg_changeset.specs.Changeset.{node_of}
+use Rattle.hg_graph.specs.Graph.{IsGraph, Holds, HoldsParents, nodes}
+use Rattle.hg_graph.specs.Answers.{Collides}
+use Rattle.hg_graph.proofs.GraphLemmas.{Contains-from_place, place_from_Contains, Holds-from, Holds-changeset, IsGraph-push}
+use Rattle.hg_graph.proofs.MarkLemmas.{same_place, IsAt-from}
+use Rattle.hg_phases.specs.declared.phase.Phase.{Phase}
+use Rattle.hg_phases.specs.declared.phase.Phase.TheVariants.{Secret}
+use Rattle.hg_phases.specs.State.{Held, rank, state_of, changesets}
+use Rattle.hg_phases.specs.Least.{PartValue, IsLeast, IsBoundOfOne}
+use Rattle.hg_phases.proofs.PlaceLemmas.{get-append_left, held-at, parts-at, changesets-held_of}
+use Rattle.hg_phases.proofs.LeastLemmas.{rank-top, same_changeset, Holds-taken, only_one}
+use Rattle.hg_history.specs.declared.fault.Fault.{Fault}
+use Rattle.hg_history.specs.declared.fault.Fault.TheVariants.{UnknownParent, Collision, UnknownBound, NullBound, NoMemory}
+use Rattle.hg_history.specs.Change.{unheld}
+use Rattle.hg_history.specs.Answer.{IsFineUpTo, IsRefusal}
+use Rattle.hg_history.specs.Steps.{OneAdded, IsAdded}
+use Rattle.hg_history.proofs.UnheldLemmas.{unheld-new, unheld-known}
+
+pub Holds-same : (cs ds : List Contents) → ((c : Contents) → Contains cs c → Contains ds c) → (n : Node) → Holds cs n → Holds ds n
+Holds-same cs ds to n h = let c = Holds-changeset cs n h in subst (Contains (nodes ds)) c.2 (Holds-from ds c.0 (to c.0 c.1))
+
+pub IsAdded-start : (held : List Contents) (had : List Phase) (part : List Contents) → IsGraph held → IsAdded held had part 0 held had []
+IsAdded-start held had part graph = record {
+  graph = graph;
+  appended = sym (append-nil held);
+  secret = sym (append-nil had);
+  told = refl;
+  same = λ c. (λ at. Contains-append_left held [] c at, λ at. subst (λ ds. Contains ds c) (append-nil held) at);
+  fine = λ j c l. absurd (omega arith);
+}
+
+module _ (held : List Contents) (had : List Phase) (part : List Contents) (i : ℕ) (cs : List Contents) (ks : List Phase) (ns : List Node) (a : IsAdded held had part i cs ks ns) where
+  to : (d : Contents) → Contains cs d → Contains (held ++ take i part) d
+  to d = (a.same d).0
+
+  from : (d : Contents) → Contains (held ++ take i part) d → Contains cs d
+  from d = (a.same d).1
+
+  abbrev new : List Contents
+  new = unheld held (take i part)
+
+  -- what was held is still at the front
+  same_front : (ds : List Contents) → ds ≡ cs → take (length held) ds ≡ held
+  same_front ds e = ap (take (length held)) (e ∙ a.appended) ∙ take-append_seam held new
+
+  more_front : (c : Contents) (ds : List Contents) → ds ≡ cs ++ c ∷ [] → take (length held) ds ≡ held
+  more_front c ds e =
+      let whole : cs ++ c ∷ [] ≡ held ++ (new ++ c ∷ []) = ap (λ xs. xs ++ c ∷ []) a.appended ∙ append_assoc held new (c ∷ []) in
+      ap (take (length held)) (e ∙ whole) ∙ take-append_seam held (new ++ c ∷ [])
+
+  abbrev secrets : List Phase
+  secrets = map (λ _. Secret) new
+
+  same_phases : (ls : List Phase) → length had ≡ length held → ls ≡ ks → take (length held) ls ≡ had
+  same_phases ls len e = ap (λ n. take n ls) (sym len) ∙ ap (take (length had)) (e ∙ a.secret) ∙ take-append_seam had secrets
+
+  more_phases : (ls : List Phase) → length had ≡ length held → ls ≡ ks ++ Secret ∷ [] → take (length held) ls ≡ had
+  more_phases ls len e =
+      let whole : ks ++ Secret ∷ [] ≡ had ++ (secrets ++ Secret ∷ []) = ap (λ xs. xs ++ Secret ∷ []) a.secret ∙ append_assoc had secrets (Secret ∷ []) in
+      ap (λ n. take n ls) (sym len) ∙ ap (take (length had)) (e ∙ whole) ∙ take-append_seam had (secrets ++ Secret ∷ [])
+
+  pub front_kept : (c : Contents) (r : Result Unit Fault) (ds : List Contents) (ls : List Phase) (ms : List Node) → length had ≡ length held → OneAdded cs ks ns c r ds ls ms → (take (length held) ds ≡ held) × (take (length held) ls ≡ had)
+  front_kept c (Ok u) ds ls ms len (inl x) = (more_front c ds x.3, more_phases ls len x.4)
+  front_kept c (Ok u) ds ls ms len (inr x) = (same_front ds x.1.0, same_phases ls len x.1.1)
+  front_kept c (Err (UnknownParent p)) ds ls ms len h = (same_front ds h.1.0, same_phases ls len h.1.1)
+  front_kept c (Err (Collision n)) ds ls ms len h = (same_front ds h.3.0, same_phases ls len h.3.1)
+  front_kept c (Err (UnknownBound n)) ds ls ms len h = absurd h
+  front_kept c (Err NullBound) ds ls ms len h = absurd h
+  front_kept c (Err NoMemory) ds ls ms len h = (elim h.0 [ inl x ↦ same_front ds x | inr x ↦ more_front c ds x ], elim h.1 [ inl x ↦ same_phases ls len x | inr x ↦ more_phases ls len x ])
+
+  module _ (c : Contents) (at : slice_get part i ≡ Some c) where
+    parents_to : HoldsParents cs c → HoldsParents (held ++ take i part) c
+    parents_to h p is = Holds-same cs (held ++ take i part) to p (h p is)
+
+    -- the fault is the part's first
+    pub first_fault : (bounds : List (Node × Phase)) (f : Fault) (ds : List Contents) (ls : List Phase) (ms : List Node) → OneAdded cs ks ns c (Err f) ds ls ms → IsRefusal held (record { changesets = part; bounds = bounds }) f
+    first_fault bounds (UnknownParent p) ds ls ms h =
+        (i, c, at, a.fine, (h.0.0, λ x. h.0.1 (Holds-same (held ++ take i part) cs from p x), λ ne there. Holds-same cs (held ++ take i part) to c.first (h.0.2 ne there)))
+    first_fault bounds (Collision n) ds ls ms h = (i, c, at, a.fine, parents_to h.0, (h.1.0, to h.1.0 h.1.1, h.1.2, h.1.3), h.2)
+    first_fault bounds (UnknownBound n) ds ls ms h = absurd h
+    first_fault bounds NullBound ds ls ms h = absurd h
+    first_fault bounds NoMemory ds ls ms h = tt
+
+    more : take (i + 1) part ≡ take i part ++ c ∷ []
+    more = take_more part i c (slice_get_within part i c at) ∙ ap (λ x. take i part ++ x ∷ []) (get_or_from_slice_get part i c c at)
+
+    -- the changeset is new, or was held
+    new_more : ¬ (Holds cs (node_of c)) → unheld held (take (i + 1) part) ≡ new ++ c ∷ []
+    new_more out = ap (unheld held) more ∙ unheld-new held (take i part) c (subst (λ xs. ¬ (Holds xs (node_of c))) a.appended out)
+
+    none_more : Holds cs (node_of c) → unheld held (take (i + 1) part) ≡ new
+    none_more there = ap (unheld held) more ∙ unheld-known held (take i part) c (subst (λ xs. Holds xs (node_of c)) a.appended there)
+
+    fine_more : HoldsParents cs c → ¬ (Collides cs c) → IsFineUpTo held part (i + 1)
+    fine_more parents apart j d l at_d = elim (cases_eq j i) [
+      | inr ne ↦ let before : j < i = omega arith in a.fine j d before at_d
+      | inl e ↦
+          let d_is : d ≡ c = same_Some d c (sym at_d ∙ ap (slice_get part) e ∙ at) in
+          let here : HoldsParents (held ++ take i part) c × ¬ (Collides (held ++ take i part) c) = (parents_to parents, λ x. apart (x.0, from x.0 x.1, x.2, x.3)) in
+          subst (λ y. HoldsParents (held ++ take y part) d × ¬ (Collides (held ++ take y part) d)) (sym e) (subst (λ x. HoldsParents (held ++ take i part) x × ¬ (Collides (held ++ take i part) x)) (sym d_is) here)
+    ]
+
+    back : (d : Contents) → Contains (held ++ (take i part ++ c ∷ [])) d → Contains cs d ⊎ (c ≡ d)
+    back d at_d = elim (Contains-append_cases held (take i part ++ c ∷ []) d at_d) [
+      | inl x ↦ inl (from d (Contains-append_left held (take i part) d x))
+      | inr x ↦ elim (Contains-push_cases (take i part) c d x) [ inl y ↦ inl (from d (Contains-append_right held (take i part) d y)) | inr e ↦ inr e ]
+    ]
+
+    forth : (d : Contents) → Contains cs d → Contains (held ++ (take i part ++ c ∷ [])) d
+    forth d at_d = elim (Contains-append_cases held (take i part) d (to d at_d)) [
+      | inl x ↦ Contains-append_left held (take i part ++ c ∷ []) d x
+      | inr x ↦ Contains-append_right held (take i part ++ c ∷ []) d (Contains-append_left (take i part) (c ∷ []) d x)
+    ]
+
+    itself : Contains (held ++ (take i part ++ c ∷ [])) c
+    itself = Contains-append_right held (take i part ++ c ∷ []) c (Contains-push (take i part) c)
+
+    known_parents : Contains cs c → HoldsParents cs c
+    known_parents in_cs p is = let place = place_from_Contains cs c in_cs in Holds-taken cs place.0 p (a.graph.parents_first place.0 c place.1 p is)
+
+    -- one more changeset of the part
+    pub IsAdded-step : (u : Unit {0}) (ds : List Contents) (ls : List Phase) (ms : List Node) → OneAdded cs ks ns c (Ok u) ds ls ms → IsAdded held had part (i + 1) ds ls ms
+    IsAdded-step u ds ls ms h = elim h [
+      | inl x ↦ record {
+        graph = subst IsGraph (sym x.3) (IsGraph-push cs c a.graph x.0 x.1 x.2);
+        appended = x.3 ∙ ap (λ xs. xs ++ c ∷ []) a.appended ∙ append_assoc held new (c ∷ []) ∙ ap (λ xs. held ++ xs) (sym (new_more x.2));
+        secret = x.4 ∙ ap (λ xs. xs ++ Secret ∷ []) a.secret ∙ append_assoc had secrets (Secret ∷ []) ∙ ap (λ xs. had ++ xs) (sym (map-append (λ _. Secret) new (c ∷ [])) ∙ ap (map (λ _. Secret)) (sym (new_more x.2)));
+        told = x.5 ∙ ap (λ xs. xs ++ node_of c ∷ []) a.told ∙ sym (map-append node_of new (c ∷ [])) ∙ ap nodes (sym (new_more x.2));
+        same = λ d. (
+          λ at_d. subst (λ xs. Contains (held ++ xs) d) (sym more) (elim (Contains-push_cases cs c d (subst (λ xs. Contains xs d) x.3 at_d)) [
+            | inl y ↦ forth d y
+            | inr e ↦ subst (Contains (held ++ (take i part ++ c ∷ []))) e itself
+          ]),
+          λ at_d. subst (λ xs. Contains xs d) (sym x.3) (elim (back d (subst (λ xs. Contains (held ++ xs) d) more at_d)) [
+            | inl y ↦ Contains-append_left cs (c ∷ []) d y
+            | inr e ↦ subst (Contains (cs ++ c ∷ [])) e (Contains-push cs c)
+          ]),
+        );
+        fine = fine_more x.1 (λ k. x.2 (subst (Contains (nodes cs)) k.2 (Holds-from cs k.0 k.1)));
+      }
+      | inr x ↦ record {
+        graph = subst IsGraph (sym x.1.0) a.graph;
+        appended = x.1.0 ∙ a.appended ∙ ap (λ xs. held ++ xs) (sym (none_more (Holds-from cs c x.0)));
+        secret = x.1.1 ∙ a.secret ∙ ap (λ xs. had ++ map (λ _. Secret) xs) (sym (none_more (Holds-from cs c x.0)));
+        told = x.2 ∙ a.told ∙ ap nodes (sym (none_more (Holds-from cs c x.0)));
+        same = λ d. (
+          λ at_d. subst (λ xs. Contains (held ++ xs) d) (sym more) (forth d (subst (λ xs. Contains xs d) x.1.0 at_d)),
+          λ at_d. subst (λ xs. Contains xs d) (sym x.1.0) (elim (back d (subst (λ xs. Contains (held ++ xs) d) more at_d)) [
+            | inl y ↦ y
+            | inr e ↦ subst (Contains cs) e x.0
+          ]),
+        );
+        fine = fine_more (known_parents x.0) (λ k. k.3 (same_changeset cs a.graph c k.0 x.0 k.1 (sym k.2)));
+      }
+    ]
+
+-- a phase in the front, or one of those behind
+phase_cases : (had : List Phase) (new : List Contents) (p : ℕ) (k : Phase) → slice_get (had ++ map (λ _. Secret) new) p ≡ Some k → (slice_get had p ≡ Some k) ⊎ (k ≡ Secret)
+phase_cases [] [] p k h = absurd (none-some k h)
+phase_cases [] (c ∷ new) zero k h = inr (sym (same_Some Secret k h))
+phase_cases [] (c ∷ new) (suc p) k h = phase_cases [] new p k h
+phase_cases (x ∷ had) new zero k h = inl h
+phase_cases (x ∷ had) new (suc p) k h = phase_cases had new p k h
+
+pub front : {X : Type 0} (xs ys : List X) (p : ℕ) (x : X) → p < length xs → slice_get (xs ++ ys) p ≡ Some x → slice_get xs p ≡ Some x
+front [] ys p x l h = absurd (omega arith)
+front (y ∷ xs) ys zero x l h = h
+front (y ∷ xs) ys (suc p) x l h = front xs ys p x (omega arith) h
+
+-- all changesets of the part were added
+module _ (held : List Contents) (had : List Phase) (part : List Contents) (cs : List Contents) (ks : List Phase) (ns : List Node) (len : length had ≡ length held) (a : IsAdded held had part (length part) cs ks ns) where
+  pub added-len : length ks ≡ length cs
+  added-len = omega (arith, ap length a.appended, ap length a.secret, length-append held (unheld held (take (length part) part)), length-append had (map (λ _. Secret) (unheld held (take (length part) part))), length-map (unheld held (take (length part) part)) (λ _. Secret))
+
+  whole : take (length part) part ≡ part
+  whole = take_all (length part) part (omega arith)
+
+  same_then : changesets (state_of held had) ≡ held
+  same_then = changesets-held_of held had len
+
+  same_now : changesets (state_of cs ks) ≡ cs
+  same_now = changesets-held_of cs ks added-len
+
+  abbrev k : PartValue
+  k = record { changesets = part; bounds = [] }
+
+  no_bound : (b : Node × Phase) → IsBoundOfOne (k ∷ []) b → ⊥
+  no_bound b p = let e = only_one k p.0 p.1 in let m = subst (λ x. Contains x.bounds b) (sym e) p.2 in omega (arith, m.1)
+
+  pub least-added : IsLeast (state_of held had) (record { changesets = part; bounds = [] } ∷ []) (state_of cs ks)
+  least-added = record {
+    graph = subst IsGraph (sym same_now) a.graph;
+    union = λ c. (
+      λ at. elim (Contains-append_cases held part c (subst (λ xs. Contains (held ++ xs) c) whole ((a.same c).0 (subst (λ xs. Contains xs c) same_now at)))) [
+        | inl x ↦ inl (subst (λ xs. Contains xs c) (sym same_then) x)
+        | inr x ↦ inr (k, (0, omega arith, refl), x)
+      ],
+      λ h. subst (λ xs. Contains xs c) (sym same_now) ((a.same c).1 (subst (λ xs. Contains (held ++ xs) c) (sym whole) (elim h [
+        | inl x ↦ Contains-append_left held part c (subst (λ xs. Contains xs c) same_then x)
+        | inr p ↦ let e = only_one k p.0 p.1 in Contains-append_right held part c (subst (λ x. Contains x.changesets c) (sym e) p.2)
+      ]))),
+    );
+    bounded = λ b p. absurd (no_bound b p);
+    phases = λ g at.
+        let p = place_from_Contains (state_of cs ks).held g at in
+        let parts = parts-at cs ks p.0 g p.1 in
+        let at_g = IsAt-from cs p.0 g.changeset (node_of g.changeset) parts.0 refl in (
+          elim (phase_cases had (unheld held (take (length part) part)) p.0 g.phase (subst (λ xs. slice_get xs p.0 ≡ Some g.phase) a.secret parts.1)) [
+            | inr top ↦ inl top
+            | inl was ↦
+                let h : Held = record { changeset = g.changeset; phase = g.phase } in
+                let within : p.0 < length held = omega (arith, slice_get_within had p.0 g.phase was, len) in
+                let at_c = front held (unheld held (take (length part) part)) p.0 g.changeset within (subst (λ xs. slice_get xs p.0 ≡ Some g.changeset) a.appended parts.0) in
+                inr (inl (h, Contains-from_place (state_of held had).held p.0 h (held-at held had p.0 g.changeset g.phase at_c was), refl, refl))
+          ],
+          λ j candidate. elim candidate [
+            | inl top ↦ subst (λ x. rank g.phase ≤ rank x) (sym top) (rank-top g.phase)
+            | inr o ↦ elim o [
+              | inl old ↦
+                  let q = place_from_Contains (state_of held had).held old.0 old.1 in
+                  let old_parts = parts-at held had q.0 old.0 q.1 in
+                  let at_cs = subst (λ xs. slice_get xs q.0 ≡ Some old.0.changeset) (sym a.appended) (get-append_left held (unheld held (take (length part) part)) q.0 old.0.changeset old_parts.0) in
+                  let at_ks = subst (λ xs. slice_get xs q.0 ≡ Some old.0.phase) (sym a.secret) (get-append_left had (map (λ _. Secret) (unheld held (take (length part) part))) q.0 old.0.phase old_parts.1) in
+                  let same : q.0 ≡ p.0 = same_place (nodes cs) (node_of g.changeset) p.0 q.0 a.graph.distinct at_g (IsAt-from cs q.0 old.0.changeset (node_of g.changeset) at_cs (ap node_of old.2)) in
+                  let phase_is : g.phase ≡ j = same_Some g.phase old.0.phase (sym parts.1 ∙ ap (slice_get ks) (sym same) ∙ at_ks) ∙ old.3 in
+                  let e = ap rank phase_is in
+                  omega (arith, e)
+              | inr b ↦ absurd (no_bound b.0 b.1)
+            ]
+          ],
+        );
+  }

@@ -1,0 +1,177 @@
+-- Looking bounds up, and lowering to them.
+use Rattle.std.proofs.Common.{◌≡◌, ℕ, zero, suc, ◌<◌, ◌≤◌, ◌+◌, List, [], ◌∷◌, ◌++◌, length, take, get_or, slice_get, Some, Contains, All, ◌⊎◌, inl, inr, refl, sym, ap, subst, ◌∙◌, arith}
+use Rattle.std.proofs.lemmas.List.{take_more, length-append, length-map}
+use Rattle.std.proofs.lemmas.List.Elements.{Contains-append_left, Contains-push, Contains-push_cases}
+use Rattle.std.proofs.lemmas.Option.{none-some, slice_get_within, slice_get-get_or, get_or_from_slice_get}
+use Rattle.hg_changeset.specs.declared.node.Node.{Node}
+use Rattle.hg_changeset.specs.Contents.{Contents}
+use Rattle.hg_changeset.specs.Changeset.{node_of}
+use Rattle.hg_graph.specs.Graph.{Holds, nodes}
+use Rattle.hg_graph.specs.Places.{IsAt}
+use Rattle.hg_graph.proofs.GraphLemmas.{Contains-from_place}
+use Rattle.hg_graph.proofs.MarkLemmas.{IsAt-from}
+use Rattle.hg_phases.specs.declared.phase.Phase.{Phase}
+use Rattle.hg_phases.specs.declared.phase.Phase.TheVariants.{Secret}
+use Rattle.hg_phases.specs.State.{State, IsValid, rank, state_of, Holds as StateHolds}
+use Rattle.hg_phases.specs.Least.{PartValue, IsLeast}
+use Rattle.hg_phases.proofs.PlaceLemmas.{get-within, get-push_cases}
+use Rattle.hg_phases.proofs.LeastLemmas.{rank-top, only_one}
+use Rattle.hg_phases.proofs.LawLemmas.{least-more, least-valid}
+use Rattle.hg_history.specs.declared.fault.Fault.{Fault}
+use Rattle.hg_history.specs.declared.fault.Fault.TheVariants.{UnknownParent, Collision, UnknownBound, NullBound, NoMemory}
+use Rattle.hg_history.specs.declared.absorb.FoundBound.{FoundBound}
+use Rattle.hg_history.specs.Answer.{AreHeldUpTo}
+use Rattle.hg_history.specs.Steps.{IsBoundFault, IsBoundAt, IsFoundBound, AreFound, OneLowered, IsLoweredTo}
+
+-- the first bound whose node isn't held
+pub bound_fault : (cs : List Contents) (bounds : List (Node × Phase)) (i : ℕ) (b : Node × Phase) (f : Fault) → slice_get bounds i ≡ Some b
+    → AreHeldUpTo cs bounds i → IsBoundAt cs b.0 f → IsBoundFault cs bounds f
+bound_fault cs bounds i b (UnknownParent p) at before h = h
+bound_fault cs bounds i b (Collision n) at before h = h
+bound_fault cs bounds i b (UnknownBound n) at before h = (record { place = i; bound = b; at = at; before = before; node = sym h.1; unheld = subst (λ m. ¬ (Holds cs m)) (sym h.1) h.0 }, h.2)
+bound_fault cs bounds i b NullBound at before h = record { place = i; bound = b; at = at; before = before; node = h.1; unheld = subst (λ m. ¬ (Holds cs m)) h.1 h.0 }
+bound_fault cs bounds i b NoMemory at before h = tt
+
+pub get-taken : {X : Type 0} (xs : List X) (n i : ℕ) (x : X) → i < n → slice_get xs i ≡ Some x → slice_get (take n xs) i ≡ Some x
+get-taken xs zero i x l h = absurd (omega arith)
+get-taken [] (suc n) i x l h = h
+get-taken (y ∷ xs) (suc n) zero x l h = h
+get-taken (y ∷ xs) (suc n) (suc i) x l h = get-taken xs n i x (omega arith) h
+
+pub taken : (bounds : List (Node × Phase)) (i : ℕ) (b : Node × Phase) → slice_get bounds i ≡ Some b → take (i + 1) bounds ≡ take i bounds ++ b ∷ []
+taken bounds i b at = take_more bounds i b (slice_get_within bounds i b at) ∙ ap (λ x. take i bounds ++ x ∷ []) (get_or_from_slice_get bounds i b b at)
+
+-- one more bound was found
+pub AreFound-start : (cs : List Contents) → AreFound cs [] []
+AreFound-start cs = record { len = refl; each = λ j b f at_b at_f. absurd (none-some b at_b) }
+
+pub AreFound-push : (cs : List Contents) (bounds : List (Node × Phase)) (found : List FoundBound) (b : Node × Phase) (f : FoundBound) → AreFound cs bounds found → IsFoundBound cs b f → AreFound cs (bounds ++ b ∷ []) (found ++ f ∷ [])
+AreFound-push cs bounds found b f are is = record {
+  len = omega (arith, length-append found (f ∷ []), length-append bounds (b ∷ []), are.len);
+  each = λ j d g at_d at_g. elim (get-push_cases bounds b j d at_d) [
+    | inl x ↦ elim (get-push_cases found f j g at_g) [
+      | inl y ↦ are.each j d g x y
+      | inr y ↦ absurd (omega (arith, slice_get_within bounds j d x, y.0, are.len))
+    ]
+    | inr x ↦ elim (get-push_cases found f j g at_g) [
+      | inl y ↦ absurd (omega (arith, slice_get_within found j g y, x.0, are.len))
+      | inr y ↦ (subst (λ e. IsAt cs d.0 e.place) y.1 (subst (λ e. IsAt cs e.0 f.place) x.1 is.0), ap (λ e. e.phase) (sym y.1) ∙ is.1 ∙ ap (λ e. e.1) x.1)
+    ]
+  ];
+}
+
+-- what was found is held
+pub AreFound-held : (cs : List Contents) (bounds : List (Node × Phase)) (found : List FoundBound) → AreFound cs bounds found → (i : ℕ) → AreHeldUpTo cs bounds i
+AreFound-held cs bounds found are i j b l at =
+    let within : j < length found = omega (arith, slice_get_within bounds j b at, are.len) in
+    let f = get-within found j within in
+    Contains-from_place (nodes cs) f.0.place b.0 (are.each j b f.0 at f.1).0
+
+-- and stands in the graph
+pub AreFound-within : (cs : List Contents) (bounds : List (Node × Phase)) (found : List FoundBound) → AreFound cs bounds found → All (λ f. f.place < length cs) found
+AreFound-within cs bounds found are k d l =
+    let within : k < length bounds = omega (arith, are.len) in
+    let b = get-within bounds k within in
+    let at = (are.each k b.0 (get_or found k d) b.1 (slice_get-get_or found k d l)).0 in
+    subst (λ n. (get_or found k d).place < n) (length-map cs node_of) (slice_get_within (nodes cs) (get_or found k d).place b.0.0 at)
+
+-- what was found up to a place is held up to there
+pub held_so_far : (cs : List Contents) (bounds : List (Node × Phase)) (found : List FoundBound) (i : ℕ) → AreFound cs (take i bounds) found → AreHeldUpTo cs bounds i
+held_so_far cs bounds found i are j b l at = AreFound-held cs (take i bounds) found are i j b l (get-taken bounds i j b l at)
+
+pub IsLoweredTo-start : (cs : List Contents) (phase : Phase) (old : List Phase) → IsLoweredTo cs [] phase old old
+IsLoweredTo-start cs phase old s p bs l = (bs, l, λ b x. inl x, λ b x. x, λ b x e. absurd (omega (arith, x.1)))
+
+-- one more bound
+pub IsLoweredTo-step : (cs : List Contents) (bounds : List (Node × Phase)) (i : ℕ) (b : Node × Phase) (phase : Phase) (old now new : List Phase) → slice_get bounds i ≡ Some b
+    → IsLoweredTo cs (take i bounds) phase old now → OneLowered cs b phase now new → IsLoweredTo cs (take (i + 1) bounds) phase old new
+IsLoweredTo-step cs bounds i b phase old now new at so one s p bs l =
+    let r = so s p bs l in
+    let more = taken bounds i b at in
+    elim one [
+      | inl x ↦ (
+        r.0 ++ b ∷ [],
+        least-more s p r.0 b (state_of cs now) (state_of cs new) r.1 x.1,
+        λ d at_d. elim (Contains-push_cases r.0 b d at_d) [
+          | inl y ↦ elim (r.2 d y) [ inl z ↦ inl z | inr z ↦ inr (subst (λ xs. Contains xs d) (sym more) (Contains-append_left (take i bounds) (b ∷ []) d z)) ]
+          | inr e ↦ inr (subst (λ xs. Contains xs d) (sym more) (subst (Contains (take i bounds ++ b ∷ [])) e (Contains-push (take i bounds) b)))
+        ],
+        λ d at_d. Contains-append_left r.0 (b ∷ []) d (r.3 d at_d),
+        λ d at_d is. elim (Contains-push_cases (take i bounds) b d (subst (λ xs. Contains xs d) more at_d)) [
+          | inl y ↦ Contains-append_left r.0 (b ∷ []) d (r.4 d y is)
+          | inr e ↦ subst (Contains (r.0 ++ b ∷ [])) e (Contains-push r.0 b)
+        ],
+      )
+      | inr x ↦ (
+        r.0,
+        subst (λ ks. IsLeast s (record { changesets = p; bounds = r.0 } ∷ []) (state_of cs ks)) (sym x.1) r.1,
+        λ d at_d. elim (r.2 d at_d) [ inl z ↦ inl z | inr z ↦ inr (subst (λ xs. Contains xs d) (sym more) (Contains-append_left (take i bounds) (b ∷ []) d z)) ],
+        r.3,
+        λ d at_d is. elim (Contains-push_cases (take i bounds) b d (subst (λ xs. Contains xs d) more at_d)) [
+          | inl y ↦ r.4 d y is
+          | inr e ↦ absurd (x.0 (subst (λ y. y.1 ≡ phase) (sym e) is))
+        ],
+      )
+    ]
+
+-- one more bound that was found
+pub IsLoweredTo-found : (cs : List Contents) (bounds : List (Node × Phase)) (found : List FoundBound) (i : ℕ) (f : FoundBound) (phase : Phase) (old now new : List Phase) → AreFound cs bounds found → slice_get found i ≡ Some f
+    → IsLoweredTo cs (take i bounds) phase old now → ((n : Node) → IsAt cs n f.place → OneLowered cs (n, f.phase) phase now new) → IsLoweredTo cs (take (i + 1) bounds) phase old new
+IsLoweredTo-found cs bounds found i f phase old now new are at so one =
+    let within : i < length bounds = omega (arith, slice_get_within found i f at, are.len) in
+    let b = get-within bounds i within in
+    let is = are.each i b.0 f b.1 at in
+    let same : (b.0.0, f.phase) ≡ b.0 = (λ t. (b.0.0, is.1 t)) in
+    IsLoweredTo-step cs bounds i b.0 phase old now new b.1 so (subst (λ x. OneLowered cs x phase now new) same (one b.0.0 is.0))
+
+-- a state in which a bound was lowered to is valid
+pub valid-lowered : (cs : List Contents) (f : FoundBound) (phase : Phase) (now new : List Phase) → f.place < length cs → IsValid (state_of cs now) → ((n : Node) → IsAt cs n f.place → OneLowered cs (n, f.phase) phase now new) → IsValid (state_of cs new)
+valid-lowered cs f phase now new within valid one =
+    let c = get-within cs f.place within in
+    elim (one (node_of c.0) (IsAt-from cs f.place c.0 (node_of c.0) c.1 refl)) [
+      | inl x ↦ least-valid (state_of cs now) _ (state_of cs new) x.1 valid
+      | inr x ↦ subst (λ ks. IsValid (state_of cs ks)) (sym x.1) valid
+    ]
+
+-- bounds that say no more than secret need no lowering
+pub least-secrets : (s : State) (p : List Contents) (bs bounds : List (Node × Phase)) (t : State)
+    → ((b : Node × Phase) → Contains bs b → Contains bounds b) → ((b : Node × Phase) → Contains bounds b → Contains bs b ⊎ (b.1 ≡ Secret)) → ((b : Node × Phase) → Contains bounds b → StateHolds t b.0)
+    → IsLeast s (record { changesets = p; bounds = bs } ∷ []) t → IsLeast s (record { changesets = p; bounds = bounds } ∷ []) t
+least-secrets s p bs bounds t sub all held l = record {
+  graph = l.graph;
+  union = λ c. (
+    λ at. elim ((l.union c).0 at) [ inl x ↦ inl x | inr h ↦ let e = only_one few h.0 h.1 in inr (full, one full, subst (λ x. Contains x.changesets c) (sym e) h.2) ],
+    λ h. elim h [ inl x ↦ (l.union c).1 (inl x) | inr h ↦ let e = only_one full h.0 h.1 in (l.union c).1 (inr (few, one few, subst (λ x. Contains x.changesets c) (sym e) h.2)) ],
+  );
+  bounded = λ b h. let e = only_one full h.0 h.1 in held b (subst (λ x. Contains x.bounds b) (sym e) h.2);
+  phases = λ g at. (
+    elim (l.phases g at).0 [
+      | inl x ↦ inl x
+      | inr o ↦ elim o [
+        | inl x ↦ inr (inl x)
+        | inr b ↦ let e = only_one few b.1.0 b.1.1 in inr (inr (b.0, (full, one full, sub b.0 (subst (λ x. Contains x.bounds b.0) (sym e) b.1.2)), b.2, b.3))
+      ]
+    ],
+    λ j candidate. elim candidate [
+      | inl x ↦ (l.phases g at).1 j (inl x)
+      | inr o ↦ elim o [
+        | inl x ↦ (l.phases g at).1 j (inr (inl x))
+        | inr b ↦
+            let e = only_one full b.1.0 b.1.1 in
+            elim (all b.0 (subst (λ x. Contains x.bounds b.0) (sym e) b.1.2)) [
+              | inl x ↦ (l.phases g at).1 j (inr (inr (b.0, (few, one few, x), b.2, b.3)))
+              | inr top ↦ subst (λ x. rank g.phase ≤ rank x) (sym top ∙ b.3) (rank-top g.phase)
+            ]
+      ]
+    ],
+  );
+}
+  where
+    few : PartValue
+    few = record { changesets = p; bounds = bs }
+
+    full : PartValue
+    full = record { changesets = p; bounds = bounds }
+
+    one : (y : PartValue) → Contains (y ∷ []) y
+    one y = (0, omega arith, refl)

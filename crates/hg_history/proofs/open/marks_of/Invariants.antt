@@ -1,0 +1,6 @@
+use Rattle.std.proofs.Common.{take}
+use Rattle.hg_history.specs.Open.{AreMarked}
+use Rattle.hg_history.proofs.open.marks_of.Given as goal
+
+abbrev pub invariant-loop-root : goal.invariant-loop-root
+invariant-loop-root l = AreMarked l.graph (take l.root-index l.roots) l.marks.items

@@ -1,0 +1,6 @@
+use Rattle.std.proofs.Common.{◌≡◌, length}
+use Rattle.hg_history.proofs.OpenLemmas.{AreOpenedTo}
+use Rattle.hg_history.proofs.open.phases_under.Given as goal
+
+abbrev pub invariant-loop-place : goal.invariant-loop-place
+invariant-loop-place l = (length l.phases ≡ l.place) × AreOpenedTo l.graph l.roots l.phases

@@ -1,0 +1,9 @@
+pub mod Fault
+pub mod Change
+pub mod Answer
+pub mod Steps
+pub mod Content
+pub mod ContentLaws
+pub mod JoinedLaws
+pub mod Join
+pub mod Open

@@ -1,0 +1,156 @@
+//! The history: a graph of changesets, with a phase for each.
+ghost use Rattle.std.specs.Prelude.{IfOk, MatchOption, IsTrue, [], ◌≡◌, ◌↔◌};
+ghost use Rattle.hg_phases.specs.State.{changesets, state_of, Holds, IsPhaseOf, IsValid};
+ghost use Rattle.hg_phases.specs.Order.{Below};
+ghost use Rattle.hg_history.specs.Answer.{AbsorbAnswer};
+ghost use Rattle.hg_phases.specs.Roots.{AreRoots};
+ghost use Rattle.hg_history.specs.Join.{JoinAnswer};
+ghost use Rattle.hg_history.specs.Open.{OpenAnswer};
+
+use crate::absorb::absorb_or_undo;
+use crate::change::Change;
+use crate::fault::Fault;
+use crate::join::{is_below, join_or_undo};
+use crate::open::phases_under;
+use crate::roots::roots_of;
+use hg_changeset::{Changeset, Node};
+use hg_graph::Graph;
+use hg_phases::{Phase, PhaseMap, Roots};
+use std::alloc::{AllocError, Global};
+use std::marker::Model;
+
+/// The history of one repository: its changesets and their phases. No changeset has a lower phase than a parent of it.
+#[derive(Drop)]
+pub struct History {
+    graph: Graph,
+    phases: PhaseMap,
+    alloc: Global,
+}
+
+impl Model for History {
+    ghost use Rattle.std.specs.Prelude.{◌≡◌, length};
+    ghost use Rattle.hg_phases.specs.State.{State, IsValid, state_of};
+
+    ghost Value = { State };
+
+    ghost view = { λ history. state_of history.graph history.phases };
+
+    ghost invariant = { λ history. (length history.phases ≡ length history.graph) × IsValid (state_of history.graph history.phases) };
+}
+
+impl History {
+    /// The history that holds nothing.
+    pub fn new(alloc: Global) -> History
+        ensures { result ≡ state_of [] [] }
+    {
+        History {
+            graph: Graph::new(alloc),
+            phases: PhaseMap::new(alloc),
+            alloc,
+        }
+    }
+
+    /// The history of these changesets, in their order and each once. Each has the highest phase of a listed root that is it
+    /// or an ancestor of it, in whatever order and however often roots are listed, and is public where there is none. Roots
+    /// that aren't among the changesets say nothing.
+    ///
+    /// Refuses as [`absorb`](History::absorb) does: the first [`Fault::UnknownParent`] or [`Fault::Collision`].
+    pub fn open(alloc: Global, changesets: &[Changeset], roots: &Roots) -> Result<History, Fault>
+        ensures answer { OpenAnswer changesets.now roots.now result }
+        ensures valid { IfOk result IsValid }
+    {
+        let mut history = History::new(alloc);
+        match history.absorb(changesets, &[]) {
+            Ok(_) => {}
+            Err(fault) => return Err(fault),
+        }
+        history.phases = phases_under(&history.graph, alloc, roots.as_slice())?;
+        Ok(history)
+    }
+
+    /// Its roots: exactly the draft and secret changesets none of whose parents has their phase, each once, in the graph's
+    /// order.
+    pub fn roots(&self) -> Result<Roots, AllocError>
+        ensures roots { IfOk result (AreRoots self.now) }
+        ensures valid { IsValid self.now }
+    {
+        roots_of(&self.graph, &self.phases, self.alloc)
+    }
+
+    /// An equal history, in the same order.
+    pub fn copy(&self) -> Result<History, AllocError>
+        ensures { IfOk result (λ history. history ≡ self.now) }
+    {
+        Ok(History {
+            graph: self.graph.copy()?,
+            phases: self.phases.copy()?,
+            alloc: self.alloc,
+        })
+    }
+
+    /// The graph of its changesets.
+    pub fn graph(&self) -> &Graph
+        ensures graph { result.now ≡ changesets self.now }
+        ensures valid { IsValid self.now }
+    {
+        &self.graph
+    }
+
+    /// The phase of the changeset with this id, if it is held.
+    pub fn phase_of(&self, node: Node) -> Result<Option<Phase>, AllocError>
+        ensures phase { IfOk result (λ phase. MatchOption phase (¬ (Holds self.now node)) (IsPhaseOf self.now node)) }
+        ensures valid { IsValid self.now }
+    {
+        match self.graph.place(node) {
+            Some(place) => Ok(Some(self.phases.at(place))),
+            None => Ok(None),
+        }
+    }
+
+    /// Takes in changesets and bounds on phases: the history goes to the least state above its own that covers them. A
+    /// bound `(node, phase)` says that the node and its ancestors have at most this phase. What is new stands last, in the
+    /// given order. The first fault is told, of the changesets in their order and then of the bounds in theirs; a refusal
+    /// leaves the history as it was.
+    pub fn absorb(
+        &mut self,
+        changesets: &[Changeset],
+        bounds: &[(Node, Phase)],
+    ) -> Result<Change, Fault>
+        ensures answer { AbsorbAnswer self.old (record { changesets = changesets.now; bounds = bounds.now }) result self.new }
+        ensures valid { IsValid self.old }
+    {
+        absorb_or_undo(
+            &mut self.graph,
+            &mut self.phases,
+            self.alloc,
+            changesets,
+            bounds,
+        )
+    }
+
+    /// Takes in all that another history holds: the history goes to the least state above both, the union of the
+    /// changesets with the lowest phases. Two changesets under one id are refused as a collision; a refusal leaves the
+    /// history as it was.
+    pub fn join(&mut self, other: &History) -> Result<(), Fault>
+        ensures answer { JoinAnswer self.old other.now result self.new }
+        ensures valid { IsValid self.old }
+        ensures other_valid { IsValid other.now }
+    {
+        join_or_undo(
+            &mut self.graph,
+            &mut self.phases,
+            self.alloc,
+            &other.graph,
+            &other.phases,
+        )
+    }
+
+    /// Whether another history holds all that this one holds, with phases no higher.
+    pub fn is_below(&self, other: &History) -> bool
+        ensures answer { IsTrue result ↔ Below self.now other.now }
+        ensures valid { IsValid self.now }
+        ensures other_valid { IsValid other.now }
+    {
+        is_below(&self.graph, &self.phases, &other.graph, &other.phases)
+    }
+}

@@ -1,0 +1,42 @@
+use Rattle.std.proofs.Common.{◌≡◌, take, sym, ◌∙◌, subst}
+use Rattle.std.proofs.Math.Seq.{take-append_seam}
+use Rattle.hg_phases.specs.State.{changesets}
+use Rattle.hg_phases.proofs.LawLemmas.{least-valid}
+use Rattle.hg_history.specs.Answer.{IsAbsorbed as IsAbsorbedHistory, IsRefusal}
+use Rattle.hg_obsstore.specs.Growth.{new_among}
+use Rattle.hg_replica.specs.State.{ReplicaState}
+use Rattle.hg_replica.specs.Least.{PartValue}
+use Rattle.hg_replica.specs.Change.{ChangeValue}
+use Rattle.hg_replica.specs.Answer.{IsAbsorbed}
+use Rattle.hg_replica.proofs.ReplicaLemmas.{absorbed}
+use Rattle.hg_replica.proofs.replica.Replica.absorb.Goals as goal
+
+pub invariant_of-self-in-Ok-absorb : goal.invariant_of-self-in-Ok-absorb
+invariant_of-self-in-Ok-absorb c = least-valid c.self.inside.history _ c.absorb-2.new.self c.in-Ok-absorb.ensures.answer.least c.self.invariant
+
+pub returns-in-Ok-absorb-clause-answer : goal.returns-in-Ok-absorb-clause-answer
+returns-in-Ok-absorb-clause-answer c =
+    let s : ReplicaState = record { history = c.self.inside.history; markers = c.self.inside.store } in
+    let t : ReplicaState = record { history = c.absorb-2.new.self; markers = c.absorb.new.self } in
+    let k : PartValue = record { history = record { changesets = c.deref-2.result.now; bounds = c.deref-3.result.now }; markers = c.deref.result.now } in
+    let k_is : k ≡ c.args.part.now =
+    (λ i. record { history = record { changesets = c.deref-2.ensures.value i; bounds = c.deref-3.ensures.value i }; markers = c.deref.ensures.value i }) ∙ c.part.view_is in
+    let change : ChangeValue = record { added = c.change.inside.added.items; lowered = c.change.inside.lowered.items; markers = c.in-Ok.markers.items } in
+    let history = subst (λ x. IsAbsorbedHistory s.history k.history x t.history) (sym c.change.view_is) c.in-Ok-absorb.ensures.answer in
+    subst (λ u. IsAbsorbed u c.args.part.now change t) c.self.view_is
+    (subst (λ x. IsAbsorbed s x change t) k_is (absorbed s t k change history c.in-Ok.ensures.ok c.in-Ok.ensures.union c.in-Ok.ensures.places))
+
+pub returns-in-Err-absorb-clause-answer : goal.returns-in-Err-absorb-clause-answer
+returns-in-Err-absorb-clause-answer c =
+    let s : ReplicaState = record { history = c.self.inside.history; markers = c.self.inside.store } in
+    let k : PartValue = record { history = record { changesets = c.deref-2.result.now; bounds = c.deref-3.result.now }; markers = c.deref.result.now } in
+    let k_is : k ≡ c.args.part.now =
+    (λ i. record { history = record { changesets = c.deref-2.ensures.value i; bounds = c.deref-3.ensures.value i }; markers = c.deref.ensures.value i }) ∙ c.part.view_is in
+    let fault = c.in-Err-absorb.fault in
+    let answer = c.in-Err-absorb.ensures.answer in
+    let old = c.self.inside.store in
+    let new = new_among old c.deref.result.now in
+    let back : c.truncate.new.self ≡ old = c.truncate.ensures ∙ (λ i. take (c.len-before.ensures i) (c.in-Ok.ensures.ok i)) ∙ take-append_seam old new in (
+      subst (λ u. IsRefusal (changesets u.history) c.args.part.now.history fault) c.self.view_is (subst (λ x. IsRefusal (changesets s.history) x.history fault) k_is answer.0),
+      (λ i. record { history = answer.1 i; markers = back i }) ∙ c.self.view_is,
+    )

@@ -1,7 +1,0 @@
-use Rattle.std.proofs.Common.{◌≡◌, sym, ap, ◌∙◌}
-use Rattle.hg_phases.specs.State.{changesets}
-use Rattle.hg_phases.proofs.PlaceLemmas.{changesets-held_of}
-use Rattle.hg_replica.proofs.replica.Replica.graph.Goals as goal
-
-pub returns-clause-graph : goal.returns-clause-graph
-returns-clause-graph c = sym (changesets-held_of c.self.inside.graph c.self.inside.phases c.self.invariant.0) ∙ ap changesets c.self.view_is
