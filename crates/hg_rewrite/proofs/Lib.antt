@@ -1,0 +1,10 @@
+pub mod ListLemmas
+pub mod ReadingLemmas
+pub mod RowLemmas
+pub mod HiddenLemmas
+pub mod LineLemmas
+pub mod EntryLemmas
+pub mod ChainLemmas
+pub mod MarkLemmas
+pub mod PartLemmas
+pub mod DecideLemmas

@@ -1,0 +1,5 @@
+pub mod Reading
+pub mod Parts
+pub mod Refusals
+pub mod Answer
+pub mod Names

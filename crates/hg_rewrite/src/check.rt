@@ -1,0 +1,219 @@
+//! The refusals that are tried before anything is made: one check for each number.
+ghost use Rattle.std.specs.Prelude.{◌≡◌, ◌↔◌, ◌∷◌, [], IsTrue, MatchOption, map};
+ghost use Rattle.hg_changeset.specs.Node.{null_node};
+ghost use Rattle.hg_rewrite.specs.Reading.{parents_in};
+ghost use Rattle.hg_replica.specs.State.{IsValid};
+ghost use Rattle.hg_rewrite.specs.Parts.{rewritten};
+ghost use Rattle.hg_rewrite.specs.Refusals.{targets, new_parents, unknown, unknown_parent, unknown_nodes, hidden, hidden_parents, public_nodes, obsolete_nodes, not_linear, wrong_count, raise, existing, IsLinear};
+ghost use Rattle.hg_rewrite.specs.Answer.{Checked};
+
+use crate::op::Op;
+use crate::reading::{contains, holds, is_hidden, is_obsolete, is_public, parents_in, phase_in};
+use crate::refusal::Refusal;
+use hg_changeset::Node;
+use hg_replica::Replica;
+use std::alloc::Global;
+use std::slice;
+
+// The nodes that an operation names other than as parents.
+fn targets(op: &Op) -> &[Node]
+    ensures { result.now ≡ targets op.now }
+{
+    match op {
+        Op::Commit { .. } => &[],
+        Op::Amend { node, .. } => slice::from_ref(node),
+        Op::Split { node, .. } => slice::from_ref(node),
+        Op::Fold { nodes, .. } => nodes,
+        Op::Prune { node, .. } => slice::from_ref(node),
+        Op::Relocate { node, .. } => slice::from_ref(node),
+        Op::Advance { node, .. } => slice::from_ref(node),
+    }
+}
+
+// The nodes that it rewrites.
+pub(crate) fn rewritten(op: &Op) -> &[Node]
+    ensures { result.now ≡ rewritten op.now }
+{
+    match op {
+        Op::Advance { .. } => &[],
+        _ => targets(op),
+    }
+}
+
+// The parents that it names.
+fn new_parents(op: &Op) -> Option<(Node, Node)>
+    ensures { MatchOption result (new_parents op.now ≡ []) (λ parents. new_parents op.now ≡ parents.0 ∷ parents.1 ∷ []) }
+{
+    match op {
+        Op::Commit { p, q, .. } => Some((*p, *q)),
+        Op::Relocate { p, q, .. } => Some((*p, *q)),
+        _ => None,
+    }
+}
+
+// Refuses a named node that isn't held. Its second clause tells `decide`, which sees no field, that the state is valid.
+pub(crate) fn check_known(replica: &Replica, op: &Op) -> Result<(), Refusal>
+    ensures answer { Checked (unknown_nodes replica.now op.now) result }
+    ensures valid { IsValid replica.now }
+{
+    check_held(replica, targets(op))?;
+    match new_parents(op) {
+        Some((p, q)) => check_parents_held(replica, p, q),
+        None => Ok(()),
+    }
+}
+
+fn check_held(replica: &Replica, nodes: &[Node]) -> Result<(), Refusal>
+    ensures answer { Checked (map (unknown replica.now.history) nodes.now) result }
+    ensures valid { IsValid replica.now }
+{
+    let graph = replica.graph();
+    for node in nodes {
+        if !graph.contains(*node) {
+            return Err(Refusal::Unknown(*node));
+        }
+    }
+    Ok(())
+}
+
+// Refuses a parent that is there and isn't held.
+fn check_parents_held(replica: &Replica, p: Node, q: Node) -> Result<(), Refusal>
+    ensures { Checked (map (unknown_parent replica.now.history) (p ∷ q ∷ [])) result }
+{
+    if !p.is_null() && !holds(replica, p) {
+        return Err(Refusal::Unknown(p));
+    }
+    if !q.is_null() && !holds(replica, q) {
+        return Err(Refusal::Unknown(q));
+    }
+    Ok(())
+}
+
+// Refuses a new parent that is hidden.
+pub(crate) fn check_visible(alloc: Global, replica: &Replica, op: &Op) -> Result<(), Refusal>
+    ensures { Checked (hidden_parents replica.now op.now) result }
+{
+    match new_parents(op) {
+        Some((p, q)) => check_parents_visible(alloc, replica, p, q),
+        None => Ok(()),
+    }
+}
+
+fn check_parents_visible(alloc: Global, replica: &Replica, p: Node, q: Node) -> Result<(), Refusal>
+    ensures { Checked (map (hidden replica.now) (p ∷ q ∷ [])) result }
+{
+    if is_hidden(alloc, replica, p)? {
+        return Err(Refusal::Hidden(p));
+    }
+    if is_hidden(alloc, replica, q)? {
+        return Err(Refusal::Hidden(q));
+    }
+    Ok(())
+}
+
+// Refuses a node to be rewritten that is public.
+pub(crate) fn check_not_public(replica: &Replica, op: &Op) -> Result<(), Refusal>
+    ensures { Checked (public_nodes replica.now op.now) result }
+{
+    let nodes = rewritten(op);
+    for node in nodes {
+        if is_public(replica, *node)? {
+            return Err(Refusal::Public(*node));
+        }
+    }
+    Ok(())
+}
+
+// Refuses a node to be rewritten that is obsolete.
+pub(crate) fn check_current(replica: &Replica, op: &Op) -> Result<(), Refusal>
+    ensures { Checked (obsolete_nodes replica.now op.now) result }
+{
+    let nodes = rewritten(op);
+    for node in nodes {
+        if is_obsolete(replica, *node)? {
+            return Err(Refusal::AlreadyObsolete(*node));
+        }
+    }
+    Ok(())
+}
+
+// Refuses a fold of what is no line, and a relocation onto the node itself or a descendant.
+pub(crate) fn check_linear(replica: &Replica, op: &Op) -> Result<(), Refusal>
+    ensures { Checked (not_linear replica.now op.now) result }
+{
+    let is_linear = match op {
+        Op::Fold { nodes, .. } => is_line(replica, nodes),
+        Op::Relocate { node, p, q, .. } => {
+            let graph = replica.graph();
+            !graph.is_ancestor(*node, *p)? && !graph.is_ancestor(*node, *q)?
+        }
+        _ => true,
+    };
+    if is_linear {
+        Ok(())
+    } else {
+        Err(Refusal::NotLinear)
+    }
+}
+
+// Whether each node after the first has the one before as its sole parent.
+fn is_line(replica: &Replica, nodes: &[Node]) -> bool
+    ensures { IsTrue result ↔ IsLinear replica.now.history nodes.now }
+{
+    for i in 1..nodes.len() {
+        if !is_sole_parent(replica, nodes[i - 1], nodes[i]) {
+            return false;
+        }
+    }
+    true
+}
+
+fn is_sole_parent(replica: &Replica, parent: Node, node: Node) -> bool
+    ensures { IsTrue result ↔ (parents_in replica.now.history node ≡ (parent, null_node)) }
+{
+    parents_in(replica, node) == (parent, Node::NULL)
+}
+
+// Refuses a split into too few or too many, and a fold of too few.
+pub(crate) fn check_count(op: &Op) -> Result<(), Refusal>
+    ensures { Checked (wrong_count op.now) result }
+{
+    let is_right = match op {
+        Op::Split { entries, .. } => 2 <= entries.len() && entries.len() <= 255,
+        Op::Fold { nodes, .. } => 2 <= nodes.len(),
+        _ => true,
+    };
+    if is_right {
+        Ok(())
+    } else {
+        Err(Refusal::Count)
+    }
+}
+
+// Refuses an advance to a phase above the present one.
+pub(crate) fn check_raise(replica: &Replica, op: &Op) -> Result<(), Refusal>
+    ensures { Checked (raise replica.now op.now) result }
+{
+    match op {
+        Op::Advance { node, phase } => {
+            if phase_in(replica, *node)? < *phase {
+                return Err(Refusal::Raise);
+            }
+            Ok(())
+        }
+        _ => Ok(()),
+    }
+}
+
+// Refuses an id that is held, or that comes again.
+pub(crate) fn check_new(replica: &Replica, ids: &[Node]) -> Result<(), Refusal>
+    ensures { Checked (existing replica.now.history ids.now) result }
+{
+    for i in 0..ids.len() {
+        let id = ids[i];
+        if holds(replica, id) || contains(&ids[i + 1..], id) {
+            return Err(Refusal::Exists(id));
+        }
+    }
+    Ok(())
+}

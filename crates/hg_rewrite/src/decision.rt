@@ -1,0 +1,41 @@
+//! Deciding an operation.
+ghost use Rattle.hg_rewrite.specs.Answer.{DecideAnswer};
+
+use crate::bound::bounds;
+use crate::check::{
+    check_count, check_current, check_known, check_linear, check_new, check_not_public,
+    check_raise, check_visible,
+};
+use crate::mark::markers;
+use crate::op::Op;
+use crate::refusal::Refusal;
+use crate::write::{ids, new_changesets};
+use hg_replica::{Part, Replica};
+use std::alloc::Global;
+
+/// Decides an operation at a replica: its part by the table of operations, or the first refusal that applies.
+///
+/// The replica admits the part, so that it refuses to absorb it only for want of memory, which is also told here only
+/// where a growth was refused. The call costs what the operation names and writes, however much the replica holds; a
+/// relocation costs what lies between its nodes as well, and a parent that is obsolete a walk over all changesets.
+pub fn decide(alloc: Global, replica: &Replica, op: &Op) -> Result<Part, Refusal>
+    ensures { DecideAnswer replica.now op.now result }
+{
+    check_known(replica, op)?;
+    check_visible(alloc, replica, op)?;
+    check_not_public(replica, op)?;
+    check_current(replica, op)?;
+    check_linear(replica, op)?;
+    check_count(op)?;
+    check_raise(replica, op)?;
+    let changesets = new_changesets(alloc, replica, op)?;
+    let ids = ids(alloc, &changesets)?;
+    let markers = markers(alloc, replica, op, &ids)?;
+    check_new(replica, &ids)?;
+    let bounds = bounds(alloc, replica, op, &ids)?;
+    Ok(Part {
+        changesets,
+        bounds,
+        markers,
+    })
+}

@@ -1,0 +1,322 @@
+//! Worked operations, whose ids and bytes were computed outside; refusals; and each growth refused in turn.
+use crate::{Cause, Op, Refusal, decide};
+use hg_changeset::{Changeset, Entry, EntryError, Node};
+use hg_marker::{Parents, encode};
+use hg_phases::Phase;
+use hg_replica::{Part, Replica};
+use std::alloc::{AllocError, Global};
+use std::collections::BTreeMap;
+use std::process::Abort;
+
+const N1: &[u8] = b"b80de5d138758541c5f05265ad144ab9fa86d1db";
+
+// Draft roots by their descriptions, and what comes of them; all of user `fleet` at `0 0`.
+const A: &[u8] = b"f96ca39738e6588d0bf7020cd1d44a23774c1b77";
+
+const B_FOR_A: &[u8] = b"760183dd5b1d32a969c6efe5a9df5f980b024a45";
+
+const S1: &[u8] = b"0aa197f561bad0791edaab69f99f664cdc976a22";
+
+const S2_ON_S1: &[u8] = b"857612b51da28d0d36f7f2a4ad6c4199d1c3754f";
+
+const F: &[u8] = b"bfb2e47e53835cfaa68462f9ef32b1b28c1bd073";
+
+const G_FOR_F: &[u8] = b"93d0cacec425cc7e930eda2b087f625a5bb084c3";
+
+const B_TEXT: &[u8] =
+    b"0000000000000000000000000000000000000000\nfleet\n0 0 amend_source:f96ca39738e6588d0bf7020cd1d44a23774c1b77\n\nb";
+
+fn entry_by(alloc: Global, user: &[u8], desc: &[u8]) -> Result<Entry, AllocError> {
+    Ok(Entry {
+        user: Vec::from_slice(alloc, user)?,
+        secs: 0,
+        offset: 0,
+        extra: BTreeMap::new(alloc),
+        desc: Vec::from_slice(alloc, desc)?,
+    })
+}
+
+fn entry(rt: &impl Abort, alloc: Global, desc: &[u8]) -> Entry {
+    entry_by(alloc, b"fleet", desc).expect(rt, "memory")
+}
+
+fn id(rt: &impl Abort, digits: &[u8]) -> Node {
+    Node::from_hex(digits).expect(rt, "an id")
+}
+
+fn commit(q: Node, entry: Entry) -> Op {
+    Op::Commit {
+        p: Node::NULL,
+        q,
+        entry,
+        secret: false,
+    }
+}
+
+fn amend(node: Node, entry: Entry) -> Op {
+    Op::Amend { node, entry }
+}
+
+fn split(rt: &impl Abort, alloc: Global, node: Node) -> Op {
+    let mut entries = Vec::new(alloc);
+    for desc in [b"s1", b"s2"] {
+        let pushed = entries.push(entry(rt, alloc, desc));
+        assert!(rt; pushed.is_ok());
+    }
+    Op::Split { node, entries }
+}
+
+fn fold(rt: &impl Abort, alloc: Global, nodes: &[Node]) -> Op {
+    Op::Fold {
+        nodes: Vec::from_slice(alloc, nodes).expect(rt, "memory"),
+        entry: entry(rt, alloc, b"f"),
+    }
+}
+
+fn prune(alloc: Global, node: Node) -> Result<Op, AllocError> {
+    Ok(Op::Prune {
+        node,
+        user: Vec::from_slice(alloc, b" fleet\n")?,
+        secs: 0,
+        offset: 0,
+    })
+}
+
+fn relocate(node: Node, p: Node, entry: Entry) -> Op {
+    Op::Relocate {
+        node,
+        p,
+        q: Node::NULL,
+        entry,
+    }
+}
+
+fn decided(rt: &impl Abort, alloc: Global, replica: &Replica, op: &Op) -> Part {
+    decide(alloc, replica, op).expect(rt, "a part")
+}
+
+fn absorb(rt: &impl Abort, replica: &mut Replica, part: &Part) {
+    let absorbed = replica.absorb(part);
+    assert!(rt; absorbed.is_ok());
+}
+
+// Decides the operation and absorbs its part, which has these ids and a bound with this phase on the last of them.
+fn run(rt: &impl Abort, alloc: Global, replica: &mut Replica, op: Op, ids: &[&[u8]], phase: Phase) {
+    let part = decided(rt, alloc, replica, &op);
+    expect_ids(rt, &part, ids, phase);
+    absorb(rt, replica, &part);
+}
+
+fn expect_ids(rt: &impl Abort, part: &Part, ids: &[&[u8]], phase: Phase) {
+    assert_eq!(rt; part.changesets.len(), ids.len());
+    for (changeset, digits) in part.changesets.iter().zip(ids) {
+        assert!(rt; changeset.node() == id(rt, digits));
+    }
+    if let Some(digits) = ids.last() {
+        assert!(rt; part.bounds.as_slice() == [(id(rt, digits), phase)].as_slice());
+    }
+}
+
+// The one marker of the part, written: N and M, no flags, the nodes, and the metadata.
+fn expect_marker(
+    rt: &impl Abort,
+    alloc: Global,
+    part: &Part,
+    counts: &[u8],
+    nodes: &[Node],
+    text: &[u8],
+) {
+    let mut expected = Vec::from_slice(alloc, counts).expect(rt, "memory");
+    for node in nodes {
+        expected.extend_from_slice(&node.0).expect(rt, "memory");
+    }
+    expected.extend_from_slice(text).expect(rt, "memory");
+    assert_eq!(rt; part.markers.len(), 1);
+    let written = encode(&part.markers[0]).expect(rt, "memory");
+    assert!(rt; written.as_slice() == expected.as_slice());
+}
+
+fn expect_refusal(rt: &impl Abort, alloc: Global, replica: &Replica, op: Op, refusal: Refusal) {
+    assert_eq!(rt; decide(alloc, replica, &op).err(), Some(refusal));
+}
+
+// A replica that holds the draft root `a`.
+fn start(rt: &impl Abort, alloc: Global) -> Replica {
+    let mut replica = Replica::new(alloc);
+    let root = commit(Node::NULL, entry(rt, alloc, b"a"));
+    run(rt, alloc, &mut replica, root, &[A], Phase::Draft);
+    replica
+}
+
+// The part of the draft root without a text.
+fn empty_root(rt: &impl Abort, alloc: Global) -> Part {
+    let root = Changeset::new(Node::NULL, Node::NULL, Vec::new(alloc)).expect(rt, "a root");
+    let bound = (root.node(), Phase::Draft);
+    Part {
+        changesets: vec![in alloc; root].expect(rt, "memory"),
+        bounds: vec![in alloc; bound].expect(rt, "memory"),
+        markers: Vec::new(alloc),
+    }
+}
+
+#[test]
+fn prune_of_the_empty_root(rt: HostRuntime) {
+    let alloc = rt.alloc();
+    let mut replica = Replica::new(alloc);
+    absorb(&rt, &mut replica, &empty_root(&rt, alloc));
+    let node = id(&rt, N1);
+    let op = prune(alloc, node).expect(&rt, "memory");
+    let part = decided(&rt, alloc, &replica, &op);
+    assert!(rt; part.changesets.is_empty() && part.bounds.is_empty());
+    let text =
+        b"date:0 0\0operation:prune\0p1:0000000000000000000000000000000000000000\0user:fleet";
+    assert_eq!(rt; 26 + text.len(), 105);
+    expect_marker(&rt, alloc, &part, &[0, 0, 0, 0, 0x4f, 0], &[node], text);
+    let parents = part.markers.first().map(|marker| marker.parents());
+    assert_eq!(rt; parents, Some(Parents::One(Node::NULL)));
+}
+
+#[test]
+fn amend_notes_what_it_amends(rt: HostRuntime) {
+    let alloc = rt.alloc();
+    let replica = start(&rt, alloc);
+    let op = amend(id(&rt, A), entry(&rt, alloc, b"b"));
+    let part = decided(&rt, alloc, &replica, &op);
+    expect_ids(&rt, &part, &[B_FOR_A], Phase::Draft);
+    let text = part.changesets.first().map(|changeset| changeset.text());
+    assert!(rt; text == Some(B_TEXT));
+    expect_marker(
+        &rt,
+        alloc,
+        &part,
+        &[1, 0, 0, 0, 0x23, 0],
+        &[id(&rt, A), id(&rt, B_FOR_A)],
+        b"date:0 0\0operation:amend\0user:fleet",
+    );
+}
+
+#[test]
+fn a_split_is_folded_and_moved(rt: HostRuntime) {
+    let alloc = rt.alloc();
+    let mut replica = start(&rt, alloc);
+    let both: [&[u8]; 2] = [S1, S2_ON_S1];
+    let op = split(&rt, alloc, id(&rt, A));
+    run(&rt, alloc, &mut replica, op, &both, Phase::Draft);
+    let op = fold(&rt, alloc, &[id(&rt, S1), id(&rt, S2_ON_S1)]);
+    run(&rt, alloc, &mut replica, op, &[F], Phase::Draft);
+    let op = relocate(id(&rt, F), Node::NULL, entry(&rt, alloc, b"g"));
+    run(&rt, alloc, &mut replica, op, &[G_FOR_F], Phase::Draft);
+    assert_eq!(rt; replica.store().len(), 4);
+    let op = commit(id(&rt, F), entry(&rt, alloc, b"h"));
+    expect_refusal(&rt, alloc, &replica, op, Refusal::Hidden(id(&rt, F)));
+}
+
+#[test]
+fn advance_goes_down(rt: HostRuntime) {
+    let alloc = rt.alloc();
+    let mut replica = start(&rt, alloc);
+    let node = id(&rt, A);
+    let phase = Phase::Secret;
+    expect_refusal(
+        &rt,
+        alloc,
+        &replica,
+        Op::Advance { node, phase },
+        Refusal::Raise,
+    );
+    let phase = Phase::Public;
+    run(
+        &rt,
+        alloc,
+        &mut replica,
+        Op::Advance { node, phase },
+        &[],
+        phase,
+    );
+    assert!(rt; matches!(replica.phase_of(node), Ok(Some(Phase::Public))));
+    let op = amend(node, entry(&rt, alloc, b"b"));
+    expect_refusal(&rt, alloc, &replica, op, Refusal::Public(node));
+}
+
+#[test]
+fn refusals_by_number(rt: HostRuntime) {
+    let alloc = rt.alloc();
+    let replica = start(&rt, alloc);
+    let node = id(&rt, A);
+    let op = prune(alloc, Node::NULL).expect(&rt, "memory");
+    expect_refusal(&rt, alloc, &replica, op, Refusal::Unknown(Node::NULL));
+    let op = relocate(node, node, entry(&rt, alloc, b"a"));
+    expect_refusal(&rt, alloc, &replica, op, Refusal::NotLinear);
+    let op = fold(&rt, alloc, &[node]);
+    expect_refusal(&rt, alloc, &replica, op, Refusal::Count);
+    let op = commit(Node::NULL, entry(&rt, alloc, b"a"));
+    expect_refusal(&rt, alloc, &replica, op, Refusal::Exists(node));
+    assert_eq!(rt; Refusal::Count.number(), Some(6));
+    let name = format!(in alloc; "{}", Refusal::Count).expect(&rt, "memory");
+    assert_eq!(rt; name.as_str(), "Count");
+}
+
+#[test]
+fn faults_of_entries(rt: HostRuntime) {
+    let alloc = rt.alloc();
+    let replica = Replica::new(alloc);
+    for (user, fault) in [
+        (b" \t".as_slice(), EntryError::EmptyUser),
+        (b"a\nb", EntryError::NewlineInUser),
+    ] {
+        let faulty = entry_by(alloc, user, b"a").expect(&rt, "memory");
+        let refusal = Refusal::Fault(Cause::Entry(fault));
+        expect_refusal(&rt, alloc, &replica, commit(Node::NULL, faulty), refusal);
+    }
+    let faulty = with_colon(&rt, alloc);
+    let refusal = Refusal::Fault(Cause::Entry(EntryError::BadExtraKey));
+    expect_refusal(&rt, alloc, &replica, commit(Node::NULL, faulty), refusal);
+}
+
+fn with_colon(rt: &impl Abort, alloc: Global) -> Entry {
+    let mut faulty = entry(rt, alloc, b"a");
+    let key = Vec::from_slice(alloc, b"a:b").expect(rt, "memory");
+    let old: Result<_, _> = faulty.extra.insert(key, Vec::new(alloc));
+    let _ = old.expect(rt, "memory");
+    faulty
+}
+
+// Where one growth is refused, the answer tells it, and the next answer is right.
+fn decided_at_last(rt: &impl Abort, alloc: Global, replica: &Replica, op: &Op) -> Part {
+    match decide(alloc, replica, op) {
+        Ok(part) => part,
+        Err(refusal) => {
+            assert_eq!(rt; refusal, Refusal::NoMemory);
+            decided(rt, alloc, replica, op)
+        }
+    }
+}
+
+// Where one growth is refused, the part is absorbed again.
+fn absorb_at_last(rt: &impl Abort, replica: &mut Replica, part: &Part) {
+    if replica.absorb(part).is_err() {
+        absorb(rt, replica, part);
+    }
+}
+
+#[test]
+fn refused_growth_is_told(rt: HostRuntime) {
+    let alloc = rt.alloc();
+    let Ok(first) = entry_by(alloc, b"fleet", b"a") else {
+        return;
+    };
+    let Ok(second) = entry_by(alloc, b"fleet", b"b") else {
+        return;
+    };
+    let Ok(last) = prune(alloc, id(&rt, A)) else {
+        return;
+    };
+    let mut replica = Replica::new(alloc);
+    let part = decided_at_last(&rt, alloc, &replica, &commit(Node::NULL, first));
+    absorb_at_last(&rt, &mut replica, &part);
+    let part = decided_at_last(&rt, alloc, &replica, &amend(id(&rt, A), second));
+    expect_ids(&rt, &part, &[B_FOR_A], Phase::Draft);
+    assert_eq!(rt; part.markers.len(), 1);
+    let part = decided_at_last(&rt, alloc, &replica, &last);
+    assert_eq!(rt; part.markers.len(), 1);
+}
