@@ -75,7 +75,13 @@ A script has a command on each line; the words are divided by spaces:
   node A              a new empty replica, A
   commit A b draft    at A, a changeset with the label b; its phase is draft or secret
   commit A c draft b  the same on the parent b; a second parent may follow
-  report A            prints the changesets of A with their phases
+  amend A b c         another changeset, c, in place of b
+  split A b c d       several changesets in place of b, each on the one before
+  fold A d b c        one changeset, d, in place of several, each on the one before
+  prune A b           nothing in place of b
+  relocate A b c d    another changeset, c, in place of b, on the parent d; a second may follow
+  phase A b public    b and its ancestors go to this phase, where theirs is higher
+  report A            prints the changesets of A with their phases, and how many markers there are
   agree A B           prints whether A and B hold the same in the same phases
 Empty lines and lines that begin with # are skipped.
 

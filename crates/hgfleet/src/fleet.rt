@@ -1,12 +1,13 @@
 //! The tables of a script: replicas by name, ids by label.
-use crate::command::{Command, Commit};
-use crate::commit::decide_commit;
+use crate::command::Command;
 use crate::fault::{LineFault, RunFault};
+use crate::operation::{Names, Operation};
 use crate::output::{print_line, print_refusal};
-use hg_changeset::{Entry, Node};
+use hg_changeset::{Changeset, Node};
 use hg_join::JoinState;
 use hg_phases::Phase;
 use hg_replica::{Part, Replica};
+use hg_rewrite::decide;
 use std::alloc::{AllocError, Global};
 use std::collections::BTreeMap;
 use std::io::Write;
@@ -37,7 +38,7 @@ impl Fleet {
     ) -> Result<(), RunFault> {
         match command {
             Command::Node(at) => self.add_replica(number, at),
-            Command::Commit(commit) => self.commit(number, commit, writer),
+            Command::Operation(at, operation) => self.operate(number, at, operation, writer),
             Command::Report(at) => self.report(number, at, writer),
             Command::Agree(one, other) => self.agree(number, one, other, writer),
         }
@@ -52,19 +53,26 @@ impl Fleet {
         Ok(())
     }
 
-    // The operation is decided before its new label is looked at: a refusal is printed, and the script goes on.
-    fn commit<W: Write>(
+    // The operation is decided before its new labels are looked at: a refusal is printed, and the script goes on.
+    fn operate<W: Write>(
         &mut self,
         number: usize,
-        commit: Commit<'_>,
+        at: &[u8],
+        operation: Operation<'_>,
         writer: &mut W,
     ) -> Result<(), RunFault> {
-        let first = self.parent(number, commit.first)?;
-        let second = self.parent(number, commit.second)?;
-        let replica = self.replica(number, commit.at)?;
-        let entry = entry_of(self.alloc, commit.label)?;
-        match decide_commit(self.alloc, replica, first, second, &entry, commit.is_secret) {
-            Ok(part) => self.accept(number, commit, &part, writer),
+        let names = Names {
+            alloc: self.alloc,
+            number,
+            labels: &self.labels,
+        };
+        let asked = operation.resolve(&names)?;
+        let replica = self.replica(number, at)?;
+        match decide(self.alloc, replica, &asked) {
+            Ok(part) => {
+                let labels = operation.new_labels(self.alloc)?;
+                self.accept(number, at, &labels, &part, writer)
+            }
             Err(refusal) => print_refusal(
                 self.alloc,
                 writer,
@@ -76,25 +84,24 @@ impl Fleet {
         }
     }
 
-    // Takes in the part of a commit, and binds its label.
+    // Takes in the part of an operation, and binds its new labels.
     fn accept<W: Write>(
         &mut self,
         number: usize,
-        commit: Commit<'_>,
+        at: &[u8],
+        labels: &[&[u8]],
         part: &Part,
         writer: &mut W,
     ) -> Result<(), RunFault> {
-        for changeset in &part.changesets {
-            if !self.may_name(commit.label, changeset.node()) {
-                return Err(RunFault::Line(number, LineFault::NameTaken));
-            }
+        if !self.may_bind(labels, &part.changesets) {
+            return Err(RunFault::Line(number, LineFault::NameTaken));
         }
-        let replica = match self.replicas.get_mut(commit.at) {
+        let replica = match self.replicas.get_mut(at) {
             Some(replica) => replica,
             None => return Err(RunFault::Line(number, LineFault::UnknownName)),
         };
         match replica.absorb(part) {
-            Ok(_) => self.bind(commit.label, part),
+            Ok(_) => self.bind(labels, &part.changesets),
             Err(fault) => print_refusal(
                 self.alloc,
                 writer,
@@ -106,6 +113,22 @@ impl Fleet {
         }
     }
 
+    // Whether each label comes once, and names nothing yet or the changeset that it is to name. The changesets of an
+    // operation have ids of their own, so a label that comes twice would name two.
+    fn may_bind(&self, labels: &[&[u8]], changesets: &[Changeset]) -> bool {
+        for (place, changeset) in changesets.iter().enumerate() {
+            match labels.get(place) {
+                Some(label) => {
+                    if labels[..place].contains(label) || !self.may_name(*label, changeset.node()) {
+                        return false;
+                    }
+                }
+                None => return false,
+            }
+        }
+        true
+    }
+
     // Whether the label names nothing yet, or this node.
     fn may_name(&self, label: &[u8], node: Node) -> bool {
         match self.labels.get(label) {
@@ -114,10 +137,10 @@ impl Fleet {
         }
     }
 
-    // Binds the label to what the part made.
-    fn bind(&mut self, label: &[u8], part: &Part) -> Result<(), RunFault> {
-        for changeset in &part.changesets {
-            let name = Vec::from_slice(self.alloc, label)?;
+    // Binds each label to the changeset at its place.
+    fn bind(&mut self, labels: &[&[u8]], changesets: &[Changeset]) -> Result<(), RunFault> {
+        for (label, changeset) in labels.iter().zip(changesets) {
+            let name = Vec::from_slice(self.alloc, *label)?;
             self.labels.insert(name, changeset.node())?;
         }
         Ok(())
@@ -127,17 +150,6 @@ impl Fleet {
         match self.replicas.get(at) {
             Some(replica) => Ok(replica),
             None => Err(RunFault::Line(number, LineFault::UnknownName)),
-        }
-    }
-
-    // The id that a parent's label names; where there is no label, the null id.
-    fn parent(&self, number: usize, label: Option<&[u8]>) -> Result<Node, RunFault> {
-        match label {
-            Some(label) => match self.labels.get(label) {
-                Some(node) => Ok(*node),
-                None => Err(RunFault::Line(number, LineFault::UnknownName)),
-            },
-            None => Ok(Node::NULL),
         }
     }
 
@@ -165,7 +177,8 @@ impl Fleet {
         print_line(writer, &mut line)
     }
 
-    // The replica's changesets in byte order of their labels, each with its phase, and how many there are.
+    // The replica's changesets in byte order of their labels, each with its phase, and how many changesets and markers
+    // there are.
     fn report<W: Write>(&self, number: usize, at: &[u8], writer: &mut W) -> Result<(), RunFault> {
         let replica = self.replica(number, at)?;
         let mut line = Vec::new(self.alloc);
@@ -179,8 +192,9 @@ impl Fleet {
                 print_line(writer, &mut line)?;
             }
         }
-        let count = replica.graph().len();
-        let text = format!(in self.alloc; "{count} changesets 0 markers")?;
+        let changesets = replica.graph().len();
+        let markers = replica.store().len();
+        let text = format!(in self.alloc; "{changesets} changesets {markers} markers")?;
         line.extend_from_slice(text.as_bytes())?;
         print_line(writer, &mut line)
     }
@@ -192,15 +206,4 @@ fn phase_word(phase: Phase) -> &'static [u8] {
         Phase::Draft => b" draft",
         Phase::Secret => b" secret",
     }
-}
-
-// The entry of a new changeset: the user `fleet`, the date 0 0, no extras, and the label as description.
-fn entry_of(alloc: Global, label: &[u8]) -> Result<Entry, AllocError> {
-    Ok(Entry {
-        user: Vec::from_slice(alloc, b"fleet")?,
-        secs: 0,
-        offset: 0,
-        extra: BTreeMap::new(alloc),
-        desc: Vec::from_slice(alloc, label)?,
-    })
 }

@@ -6,13 +6,12 @@
 
 mod arguments;
 mod command;
-mod commit;
 mod fault;
 mod fleet;
 mod input;
 mod lines;
+mod operation;
 mod output;
-mod refusal;
 mod script;
 mod steps;
 #[cfg(test)]

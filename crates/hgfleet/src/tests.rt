@@ -100,6 +100,23 @@ fn refused_commits(rt: HostRuntime) {
 }
 
 #[test]
+fn phases_only_go_down(rt: HostRuntime) {
+    let script =
+        b"node A\ncommit A a secret\ncommit A b draft a\nphase A b public\nphase A a draft\nreport A\n";
+    let output = b"5: rewrite 7 Raise\nreport A\na public\nb public\n2 changesets 0 markers\n";
+    expect(&rt, rt.alloc(), script, output, "");
+}
+
+#[test]
+fn refused_rewrites(rt: HostRuntime) {
+    let script =
+        b"node A\ncommit A a draft\ncommit A b draft a\ncommit A c draft b\nfold A f a c\nfold A f a\nsplit A b s1\nfold A f b c\namend A b x\ncommit A d draft c\nrelocate A f g f\nprune A f\nreport A\n";
+    let output =
+        b"5: rewrite 5 NotLinear\n6: rewrite 6 Count\n7: rewrite 6 Count\n9: rewrite 4 AlreadyObsolete\n10: rewrite 2 Hidden\n11: rewrite 5 NotLinear\nreport A\na draft\nb draft\nc draft\nf draft\n4 changesets 3 markers\n";
+    expect(&rt, rt.alloc(), script, output, "");
+}
+
+#[test]
 fn replicas_agree_where_their_states_are_equal(rt: HostRuntime) {
     let script =
         b"node A\nnode B\ncommit A a draft\nagree A B\ncommit B a draft\nagree A B\nagree B B\ncommit A b secret\ncommit B b draft\nagree B A\n";
@@ -130,6 +147,20 @@ fn each_fault_of_a_line(rt: HostRuntime) {
         ("commit A a draft b c d\n", "line 1: wrong number of words"),
         ("report A B\n", "line 1: wrong number of words"),
         ("agree A\n", "line 1: wrong number of words"),
+        ("amend A a\n", "line 1: wrong number of words"),
+        ("split A\n", "line 1: wrong number of words"),
+        ("fold A\n", "line 1: wrong number of words"),
+        ("prune A\n", "line 1: wrong number of words"),
+        ("relocate A a b c d e\n", "line 1: wrong number of words"),
+        ("phase A a\n", "line 1: wrong number of words"),
+        ("phase A a? low\n", "line 1: bad name"),
+        ("phase A a low\n", "line 1: bad phase"),
+        ("split A a b?\n", "line 1: bad name"),
+        ("node A\nfold A f a b\n", "line 2: unknown name"),
+        (
+            "node A\ncommit A a draft\nsplit A a s s\n",
+            "line 3: name is taken",
+        ),
         ("agree A B?\n", "line 1: bad name"),
         ("node A\nagree A B\n", "line 2: unknown name"),
         ("node A/B\n", "line 1: bad name"),
