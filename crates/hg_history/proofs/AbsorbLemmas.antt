@@ -9,7 +9,7 @@ use Rattle.hg_graph.specs.Graph.{Holds, nodes}
 use Rattle.hg_graph.proofs.GraphLemmas.{place_from_Contains, Holds-from, Holds-changeset}
 use Rattle.hg_phases.specs.declared.phase.Phase.{Phase}
 use Rattle.hg_phases.specs.declared.phase.Phase.TheVariants.{Public, Draft, Secret}
-use Rattle.hg_phases.specs.declared.phase_map.Lowered.{Lowered}
+use Rattle.hg_phases.specs.declared.lowered.LoweredPlace.{LoweredPlace}
 use Rattle.hg_phases.specs.State.{State, state_of, changesets, Holds as StateHolds}
 use Rattle.hg_phases.specs.Least.{PartValue, IsAdmitted, IsLeast}
 use Rattle.hg_phases.specs.Log.{IsLog}
@@ -24,10 +24,10 @@ use Rattle.hg_history.specs.Steps.{IsAdded, IsBoundFault, IsLoweredTo}
 use Rattle.hg_history.proofs.AddLemmas.{Holds-same, least-added}
 use Rattle.hg_history.proofs.BoundLemmas.{least-secrets}
 
-pub fresh_log : (phase : Phase) (start : List Phase) (log : List Lowered) → log ≡ [] → IsLog phase start start log
+pub fresh_log : (phase : Phase) (start : List Phase) (log : List LoweredPlace) → log ≡ [] → IsLog phase start start log
 fresh_log phase start log e = subst (IsLog phase start start) (sym e) (IsLog-nil phase start)
 
-pub within_log : (phase : Phase) (start now : List Phase) (log : List Lowered) → IsLog phase start now log → All (λ e. e.place < length now) log
+pub within_log : (phase : Phase) (start now : List Phase) (log : List LoweredPlace) → IsLog phase start now log → All (λ e. e.place < length now) log
 within_log phase start now log l k d within =
     let x = l.logged (get_or log k d) (Contains-get_or log k d within) in
     slice_get_within now (get_or log k d).place x.0 x.2

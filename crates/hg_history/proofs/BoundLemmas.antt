@@ -2,7 +2,8 @@
 use Rattle.std.proofs.Common.{◌≡◌, ℕ, zero, suc, ◌<◌, ◌≤◌, ◌+◌, List, [], ◌∷◌, ◌++◌, length, take, get_or, slice_get, Some, Contains, All, ◌⊎◌, inl, inr, refl, sym, ap, subst, ◌∙◌, arith}
 use Rattle.std.proofs.lemmas.List.{take_more, length-append, length-map}
 use Rattle.std.proofs.lemmas.List.Elements.{Contains-append_left, Contains-push, Contains-push_cases}
-use Rattle.std.proofs.lemmas.Option.{none-some, slice_get_within, slice_get-get_or, get_or_from_slice_get}
+use Rattle.std.proofs.lemmas.Bool.{cases_eq}
+use Rattle.std.proofs.lemmas.Option.{none-some, same_Some, slice_get_within, slice_get-get_or, get_or_from_slice_get}
 use Rattle.hg_changeset.specs.declared.node.Node.{Node}
 use Rattle.hg_changeset.specs.Contents.{Contents}
 use Rattle.hg_changeset.specs.Changeset.{node_of}
@@ -19,9 +20,8 @@ use Rattle.hg_phases.proofs.LeastLemmas.{rank-top, only_one}
 use Rattle.hg_phases.proofs.LawLemmas.{least-more, least-valid}
 use Rattle.hg_history.specs.declared.fault.Fault.{Fault}
 use Rattle.hg_history.specs.declared.fault.Fault.TheVariants.{UnknownParent, Collision, UnknownBound, NullBound, NoMemory}
-use Rattle.hg_history.specs.declared.absorb.FoundBound.{FoundBound}
 use Rattle.hg_history.specs.Answer.{AreHeldUpTo}
-use Rattle.hg_history.specs.Steps.{IsBoundFault, IsBoundAt, IsFoundBound, AreFound, OneLowered, IsLoweredTo}
+use Rattle.hg_history.specs.Steps.{IsBoundFault, IsBoundAt, OneLowered, IsLoweredTo}
 
 -- the first bound whose node isn't held
 pub bound_fault : (cs : List Contents) (bounds : List (Node × Phase)) (i : ℕ) (b : Node × Phase) (f : Fault) → slice_get bounds i ≡ Some b
@@ -32,52 +32,15 @@ bound_fault cs bounds i b (UnknownBound n) at before h = (record { place = i; bo
 bound_fault cs bounds i b NullBound at before h = record { place = i; bound = b; at = at; before = before; node = h.1; unheld = subst (λ m. ¬ (Holds cs m)) h.1 h.0 }
 bound_fault cs bounds i b NoMemory at before h = tt
 
-pub get-taken : {X : Type 0} (xs : List X) (n i : ℕ) (x : X) → i < n → slice_get xs i ≡ Some x → slice_get (take n xs) i ≡ Some x
-get-taken xs zero i x l h = absurd (omega arith)
-get-taken [] (suc n) i x l h = h
-get-taken (y ∷ xs) (suc n) zero x l h = h
-get-taken (y ∷ xs) (suc n) (suc i) x l h = get-taken xs n i x (omega arith) h
-
 pub taken : (bounds : List (Node × Phase)) (i : ℕ) (b : Node × Phase) → slice_get bounds i ≡ Some b → take (i + 1) bounds ≡ take i bounds ++ b ∷ []
 taken bounds i b at = take_more bounds i b (slice_get_within bounds i b at) ∙ ap (λ x. take i bounds ++ x ∷ []) (get_or_from_slice_get bounds i b b at)
 
--- one more bound was found
-pub AreFound-start : (cs : List Contents) → AreFound cs [] []
-AreFound-start cs = record { len = refl; each = λ j b f at_b at_f. absurd (none-some b at_b) }
-
-pub AreFound-push : (cs : List Contents) (bounds : List (Node × Phase)) (found : List FoundBound) (b : Node × Phase) (f : FoundBound) → AreFound cs bounds found → IsFoundBound cs b f → AreFound cs (bounds ++ b ∷ []) (found ++ f ∷ [])
-AreFound-push cs bounds found b f are is = record {
-  len = omega (arith, length-append found (f ∷ []), length-append bounds (b ∷ []), are.len);
-  each = λ j d g at_d at_g. elim (get-push_cases bounds b j d at_d) [
-    | inl x ↦ elim (get-push_cases found f j g at_g) [
-      | inl y ↦ are.each j d g x y
-      | inr y ↦ absurd (omega (arith, slice_get_within bounds j d x, y.0, are.len))
-    ]
-    | inr x ↦ elim (get-push_cases found f j g at_g) [
-      | inl y ↦ absurd (omega (arith, slice_get_within found j g y, x.0, are.len))
-      | inr y ↦ (subst (λ e. IsAt cs d.0 e.place) y.1 (subst (λ e. IsAt cs e.0 f.place) x.1 is.0), ap (λ e. e.phase) (sym y.1) ∙ is.1 ∙ ap (λ e. e.1) x.1)
-    ]
-  ];
-}
-
--- what was found is held
-pub AreFound-held : (cs : List Contents) (bounds : List (Node × Phase)) (found : List FoundBound) → AreFound cs bounds found → (i : ℕ) → AreHeldUpTo cs bounds i
-AreFound-held cs bounds found are i j b l at =
-    let within : j < length found = omega (arith, slice_get_within bounds j b at, are.len) in
-    let f = get-within found j within in
-    Contains-from_place (nodes cs) f.0.place b.0 (are.each j b f.0 at f.1).0
-
--- and stands in the graph
-pub AreFound-within : (cs : List Contents) (bounds : List (Node × Phase)) (found : List FoundBound) → AreFound cs bounds found → All (λ f. f.place < length cs) found
-AreFound-within cs bounds found are k d l =
-    let within : k < length bounds = omega (arith, are.len) in
-    let b = get-within bounds k within in
-    let at = (are.each k b.0 (get_or found k d) b.1 (slice_get-get_or found k d l)).0 in
-    subst (λ n. (get_or found k d).place < n) (length-map cs node_of) (slice_get_within (nodes cs) (get_or found k d).place b.0.0 at)
-
--- what was found up to a place is held up to there
-pub held_so_far : (cs : List Contents) (bounds : List (Node × Phase)) (found : List FoundBound) (i : ℕ) → AreFound cs (take i bounds) found → AreHeldUpTo cs bounds i
-held_so_far cs bounds found i are j b l at = AreFound-held cs (take i bounds) found are i j b l (get-taken bounds i j b l at)
+-- one more bound is held
+pub held-more : (cs : List Contents) (bounds : List (Node × Phase)) (i : ℕ) (b : Node × Phase) → slice_get bounds i ≡ Some b → AreHeldUpTo cs bounds i → Holds cs b.0 → AreHeldUpTo cs bounds (i + 1)
+held-more cs bounds i b at before here j d l at_d = elim (cases_eq j i) [
+  | inr ne ↦ let less : j < i = omega arith in before j d less at_d
+  | inl e ↦ subst (λ x. Holds cs x.0) (same_Some b d (sym at ∙ ap (slice_get bounds) (sym e) ∙ at_d)) here
+]
 
 pub IsLoweredTo-start : (cs : List Contents) (phase : Phase) (old : List Phase) → IsLoweredTo cs [] phase old old
 IsLoweredTo-start cs phase old s p bs l = (bs, l, λ b x. inl x, λ b x. x, λ b x e. absurd (omega (arith, x.1)))
@@ -114,24 +77,12 @@ IsLoweredTo-step cs bounds i b phase old now new at so one s p bs l =
       )
     ]
 
--- one more bound that was found
-pub IsLoweredTo-found : (cs : List Contents) (bounds : List (Node × Phase)) (found : List FoundBound) (i : ℕ) (f : FoundBound) (phase : Phase) (old now new : List Phase) → AreFound cs bounds found → slice_get found i ≡ Some f
-    → IsLoweredTo cs (take i bounds) phase old now → ((n : Node) → IsAt cs n f.place → OneLowered cs (n, f.phase) phase now new) → IsLoweredTo cs (take (i + 1) bounds) phase old new
-IsLoweredTo-found cs bounds found i f phase old now new are at so one =
-    let within : i < length bounds = omega (arith, slice_get_within found i f at, are.len) in
-    let b = get-within bounds i within in
-    let is = are.each i b.0 f b.1 at in
-    let same : (b.0.0, f.phase) ≡ b.0 = (λ t. (b.0.0, is.1 t)) in
-    IsLoweredTo-step cs bounds i b.0 phase old now new b.1 so (subst (λ x. OneLowered cs x phase now new) same (one b.0.0 is.0))
-
 -- a state in which a bound was lowered to is valid
-pub valid-lowered : (cs : List Contents) (f : FoundBound) (phase : Phase) (now new : List Phase) → f.place < length cs → IsValid (state_of cs now) → ((n : Node) → IsAt cs n f.place → OneLowered cs (n, f.phase) phase now new) → IsValid (state_of cs new)
-valid-lowered cs f phase now new within valid one =
-    let c = get-within cs f.place within in
-    elim (one (node_of c.0) (IsAt-from cs f.place c.0 (node_of c.0) c.1 refl)) [
-      | inl x ↦ least-valid (state_of cs now) _ (state_of cs new) x.1 valid
-      | inr x ↦ subst (λ ks. IsValid (state_of cs ks)) (sym x.1) valid
-    ]
+pub valid-lowered : (cs : List Contents) (b : Node × Phase) (phase : Phase) (now new : List Phase) → IsValid (state_of cs now) → OneLowered cs b phase now new → IsValid (state_of cs new)
+valid-lowered cs b phase now new valid one = elim one [
+  | inl x ↦ least-valid (state_of cs now) _ (state_of cs new) x.1 valid
+  | inr x ↦ subst (λ ks. IsValid (state_of cs ks)) (sym x.1) valid
+]
 
 -- bounds that say no more than secret need no lowering
 pub least-secrets : (s : State) (p : List Contents) (bs bounds : List (Node × Phase)) (t : State)

@@ -17,13 +17,13 @@ use Rattle.hg_graph.specs.Places.{IsAt}
 use Rattle.hg_graph.proofs.GraphLemmas.{Contains-from_place, place_from_Contains}
 use Rattle.hg_graph.proofs.MarkLemmas.{same_place, IsAt-from}
 use Rattle.hg_phases.specs.declared.phase.Phase.{Phase}
-use Rattle.hg_phases.specs.declared.phase_map.Lowered.{Lowered}
+use Rattle.hg_phases.specs.declared.lowered.LoweredPlace.{LoweredPlace}
 use Rattle.hg_phases.specs.State.{Held, rank, state_of, IsPhaseOf}
-use Rattle.hg_phases.specs.Log.{IsLog}
+use Rattle.hg_phases.specs.Log.{IsLog, node_before}
 use Rattle.hg_phases.proofs.PlaceLemmas.{get-within, get-append_left, held-at, parts-at}
 use Rattle.hg_phases.proofs.LeastLemmas.{only_one}
 use Rattle.hg_history.specs.Change.{WentDown, ListsLowered}
-use Rattle.hg_history.specs.Steps.{node_before}
+
 use Rattle.hg_history.proofs.AddLemmas.{front}
 
 pub each_place : {X : Type 0} (P : X → Type 0) (xs : List X) → ((x : X) → Contains xs x → P x) → AllByRecursion P xs
@@ -31,18 +31,18 @@ each_place P [] h = tt
 each_place P (x ∷ xs) h = (h x (0, omega arith, refl), each_place P xs (λ y at. h y (Contains-append_right (x ∷ []) xs y at)))
 
 -- no place is logged twice
-abbrev IsOnce : List Lowered → Type 0
-IsOnce log = (i j : ℕ) (e f : Lowered) → slice_get log i ≡ Some e → slice_get log j ≡ Some f → e.place ≡ f.place → i ≡ j
+abbrev IsOnce : List LoweredPlace → Type 0
+IsOnce log = (i j : ℕ) (e f : LoweredPlace) → slice_get log i ≡ Some e → slice_get log j ≡ Some f → e.place ≡ f.place → i ≡ j
 
 module _ (ns : List Node) (before : ℕ) where
-  abbrev listed : List Lowered → List Node
+  abbrev listed : List LoweredPlace → List Node
   listed log = flat_map (node_before ns before) log
 
   -- the node of an entry, or none
-  one_node : (e : Lowered) (n : Node) → e.place < before → slice_get ns e.place ≡ Some n → node_before ns before e ≡ n ∷ []
+  one_node : (e : LoweredPlace) (n : Node) → e.place < before → slice_get ns e.place ≡ Some n → node_before ns before e ≡ n ∷ []
   one_node e n l at = (λ t. cond (lt-ltb e.place before l t) (option_to_list (at t)) [])
 
-  shape : (e : Lowered) → (node_before ns before e ≡ []) ⊎ ((n : Node) × (e.place < before) × (slice_get ns e.place ≡ Some n))
+  shape : (e : LoweredPlace) → (node_before ns before e ≡ []) ⊎ ((n : Node) × (e.place < before) × (slice_get ns e.place ≡ Some n))
   shape e = by (nat_lt e.place before) refl (slice_get ns e.place) refl
     where
       by : (b : Bool) → nat_lt e.place before ≡ b → (o : Option Node) → slice_get ns e.place ≡ o → (node_before ns before e ≡ []) ⊎ ((n : Node) × (e.place < before) × (slice_get ns e.place ≡ Some n))
@@ -50,7 +50,7 @@ module _ (ns : List Node) (before : ℕ) where
       by true b_is None o_is = inl (λ t. cond (b_is t) (option_to_list (o_is t)) [])
       by true b_is (Some n) o_is = inr (n, ltb-true e.place before b_is, o_is)
 
-  listed_from : (log : List Lowered) (n : Node) → Contains (listed log) n → (e : Lowered) × Contains log e × (e.place < before) × (slice_get ns e.place ≡ Some n)
+  listed_from : (log : List LoweredPlace) (n : Node) → Contains (listed log) n → (e : LoweredPlace) × Contains log e × (e.place < before) × (slice_get ns e.place ≡ Some n)
   listed_from [] n h = absurd (omega (arith, h.1))
   listed_from (e ∷ log) n h = elim (Contains-append_cases (node_before ns before e) (listed log) n h) [
     | inr x ↦ let f = listed_from log n x in (f.0, Contains-append_right (e ∷ []) log f.0 f.1, f.2, f.3)
@@ -62,7 +62,7 @@ module _ (ns : List Node) (before : ℕ) where
     ]
   ]
 
-  listed_of : (log : List Lowered) (e : Lowered) (n : Node) → Contains log e → e.place < before → slice_get ns e.place ≡ Some n → Contains (listed log) n
+  listed_of : (log : List LoweredPlace) (e : LoweredPlace) (n : Node) → Contains log e → e.place < before → slice_get ns e.place ≡ Some n → Contains (listed log) n
   listed_of [] e n h l at = absurd (omega (arith, h.1))
   listed_of (f ∷ log) e n h l at = elim (Contains-append_cases (f ∷ []) log e h) [
     | inl x ↦
@@ -71,7 +71,7 @@ module _ (ns : List Node) (before : ℕ) where
     | inr x ↦ Contains-append_right (node_before ns before f) (listed log) n (listed_of log e n x l at)
   ]
 
-  listed-once : IsDistinct node_eq ns → (log : List Lowered) → IsOnce log → IsDistinct node_eq (listed log)
+  listed-once : IsDistinct node_eq ns → (log : List LoweredPlace) → IsOnce log → IsDistinct node_eq (listed log)
   unfolding IsDistinct
   listed-once distinct [] once = tt
   listed-once distinct (e ∷ log) once =
@@ -95,9 +95,9 @@ module _ (ns : List Node) (before : ℕ) where
               absurd (let z = once (suc p.0) 0 f.0 e p.1 refl same in omega (arith, z))
 
 -- the nodes of what was logged and was held before are those whose phase went down
-module _ (held more cs : List Contents) (had rest ks new : List Phase) (phase : Phase) (log : List Lowered) (graph : IsGraph cs) (appended : cs ≡ held ++ more) (secret : ks ≡ had ++ rest)
+module _ (held more cs : List Contents) (had rest ks new : List Phase) (phase : Phase) (log : List LoweredPlace) (graph : IsGraph cs) (appended : cs ≡ held ++ more) (secret : ks ≡ had ++ rest)
     (len : length had ≡ length held) (l : IsLog phase ks new log) where
-  went_down : (n : Node) (e : Lowered) → Contains log e → e.place < length held → slice_get (nodes cs) e.place ≡ Some n → WentDown (state_of held had) (state_of cs new) n
+  went_down : (n : Node) (e : LoweredPlace) → Contains log e → e.place < length held → slice_get (nodes cs) e.place ≡ Some n → WentDown (state_of held had) (state_of cs new) n
   went_down n e in_log within at =
       let x = l.logged e in_log in
       let p = e.place in
@@ -115,7 +115,7 @@ module _ (held more cs : List Contents) (had rest ks new : List Phase) (phase : 
         x.3,
       )
 
-  logged_down : (n : Node) → WentDown (state_of held had) (state_of cs new) n → (e : Lowered) × Contains log e × (e.place < length held) × (slice_get (nodes cs) e.place ≡ Some n)
+  logged_down : (n : Node) → WentDown (state_of held had) (state_of cs new) n → (e : LoweredPlace) × Contains log e × (e.place < length held) × (slice_get (nodes cs) e.place ≡ Some n)
   logged_down n w =
       let h = w.0 in
       let g = w.1 in
@@ -142,10 +142,3 @@ module _ (held more cs : List Contents) (had rest ks new : List Phase) (phase : 
       λ w. let e = logged_down n w in listed_of (nodes cs) (length held) log e.0 n e.1 e.2 e.3,
     );
   }
-
--- the phase at the place of a node
-pub phase_at : (cs : List Contents) (ks : List Phase) (n : Node) (p : ℕ) (k : Phase) → IsAt cs n p → slice_get ks p ≡ Some k → IsPhaseOf (state_of cs ks) n k
-phase_at cs ks n p k at at_k =
-    let c = get-within cs p (subst (λ m. p < m) (length-map cs node_of) (slice_get_within (nodes cs) p n at)) in
-    let h : Held = record { changeset = c.0; phase = k } in
-    (h, Contains-from_place (state_of cs ks).held p h (held-at cs ks p c.0 k c.1 at_k), same_Some (node_of c.0) n (sym (IsAt-from cs p c.0 (node_of c.0) c.1 refl) ∙ at), refl)

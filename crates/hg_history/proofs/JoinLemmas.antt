@@ -15,7 +15,7 @@ use Rattle.hg_graph.specs.Answers.{Collides}
 use Rattle.hg_graph.proofs.GraphLemmas.{Contains-from_place, place_from_Contains, Holds-from, Holds-changeset, IsGraph-push}
 use Rattle.hg_graph.proofs.MarkLemmas.{get-take, get-set_same, get-set_other, IsAt-from}
 use Rattle.hg_phases.specs.declared.phase.Phase.{Phase}
-use Rattle.hg_phases.specs.declared.phase_map.Lowered.{Lowered}
+use Rattle.hg_phases.specs.declared.lowered.LoweredPlace.{LoweredPlace}
 use Rattle.hg_phases.specs.State.{State, Held, rank, changesets, IsValid, held_of, state_of}
 use Rattle.hg_phases.specs.Order.{Below}
 use Rattle.hg_phases.specs.Log.{restored, IsUnlowered}
@@ -180,7 +180,7 @@ module _ (s o : State) (i : ℕ) (h : Held) (at_h : slice_get o.held i ≡ Some 
     ];
   }
 
-  pub join-step : (cs : List Contents) (ks : List Phase) (log : List Lowered) (ds : List Contents) (ls : List Phase) (newlog : List Lowered) → length ks ≡ length cs → IsTakenIn h.changeset h.phase cs ks log ds ls newlog → IsJoin s (front i o) (state_of cs ks) → IsJoin s (front (i + 1) o) (state_of ds ls)
+  pub join-step : (cs : List Contents) (ks : List Phase) (log : List LoweredPlace) (ds : List Contents) (ls : List Phase) (newlog : List LoweredPlace) → length ks ≡ length cs → IsTakenIn h.changeset h.phase cs ks log ds ls newlog → IsJoin s (front i o) (state_of cs ks) → IsJoin s (front (i + 1) o) (state_of ds ls)
   join-step cs ks log ds ls newlog len (inl new) join =
       let pairs : held_of ds ls ≡ held_of cs ks ++ h ∷ [] = (λ t. held_of (new.1 t) (new.2 t)) ∙ held_of-push cs ks h.changeset h.phase len in
       join-grown (state_of cs ks) (state_of ds ls) join
@@ -216,14 +216,14 @@ length-held_of (c ∷ cs) (k ∷ ks) len = ap suc (length-held_of cs ks (omega a
 
 -- ---- taking back
 
-restored-append : (ks ls : List Phase) (log : List Lowered) → All (λ e. e.place < length ks) log → restored (ks ++ ls) log ≡ restored ks log ++ ls
+restored-append : (ks ls : List Phase) (log : List LoweredPlace) → All (λ e. e.place < length ks) log → restored (ks ++ ls) log ≡ restored ks log ++ ls
 restored-append ks ls [] within = refl
 restored-append ks ls (e ∷ log) within =
     let rest : All (λ x. x.place < length ks) log = All-tail (λ x. x.place < length ks) e log within in
     let here : e.place < length (restored ks log) = omega (arith, All-head (λ x. x.place < length ks) e log within, length-restored ks log) in
     ap (λ xs. set xs e.place e.had) (restored-append ks ls log rest) ∙ set-append_left (restored ks log) ls e.place e.had here
 
-pub take_back-start : (cs : List Contents) (ks : List Phase) (log : List Lowered) → log ≡ [] → CanTakeBack cs ks cs ks log
+pub take_back-start : (cs : List Contents) (ks : List Phase) (log : List LoweredPlace) → log ≡ [] → CanTakeBack cs ks cs ks log
 take_back-start cs ks log none = record {
   kept = take_all (length cs) cs (omega arith);
   undoes = ap (λ l. take (length ks) (restored ks l)) none ∙ take_all (length ks) ks (omega arith);
@@ -231,11 +231,11 @@ take_back-start cs ks log none = record {
   longer = omega arith;
 }
 
-all-longer : (m n : ℕ) (log : List Lowered) → m ≤ n → All (λ e. e.place < m) log → All (λ e. e.place < n) log
+all-longer : (m n : ℕ) (log : List LoweredPlace) → m ≤ n → All (λ e. e.place < m) log → All (λ e. e.place < n) log
 all-longer m n log le within k d l = let x = within k d l in omega arith
 
 -- after one more changeset, or a refusal of it, what was done can still be taken back
-module _ (start : List Contents) (had : List Phase) (c : Contents) (k : Phase) (cs : List Contents) (ks : List Phase) (log : List Lowered) (before : CanTakeBack start had cs ks log) where
+module _ (start : List Contents) (had : List Phase) (c : Contents) (k : Phase) (cs : List Contents) (ks : List Phase) (log : List LoweredPlace) (before : CanTakeBack start had cs ks log) where
   shorter : length start ≤ length cs
   shorter = omega (arith, ap length before.kept, length-take (length start) cs)
 
@@ -243,7 +243,7 @@ module _ (start : List Contents) (had : List Phase) (c : Contents) (k : Phase) (
   kept-added : take (length start) (cs ++ c ∷ []) ≡ start
   kept-added = let le = shorter in take-append-le (length start) cs (c ∷ []) le ∙ before.kept
 
-  unlowered : (ds : List Contents) (ls : List Phase) (newlog : List Lowered) → take (length start) ds ≡ start → IsUnlowered ks log ls newlog → CanTakeBack start had ds ls newlog
+  unlowered : (ds : List Contents) (ls : List Phase) (newlog : List LoweredPlace) → take (length start) ds ≡ start → IsUnlowered ks log ls newlog → CanTakeBack start had ds ls newlog
   unlowered ds ls newlog kept same = subst (λ x. CanTakeBack start had ds x newlog) (sym same.0) (subst (λ x. CanTakeBack start had ds ks x) (sym same.1)
       (record { kept = kept; undoes = before.undoes; within = before.within; longer = before.longer }))
 
@@ -262,20 +262,20 @@ module _ (start : List Contents) (had : List Phase) (c : Contents) (k : Phase) (
     kept = before.kept;
     undoes = ap (take (length had)) (restored-written ks log place k was at) ∙ before.undoes;
     within =
-        let entry : Lowered = record { place = place; had = was } in
+        let entry : LoweredPlace = record { place = place; had = was } in
         let len = length-set ks place k in
         let here : place < length (set ks place k) = omega (arith, len, slice_get_within ks place was at) in
         All-push (λ e. e.place < length (set ks place k)) log entry (all-longer (length ks) (length (set ks place k)) log (omega (arith, len)) before.within) here;
     longer = omega (arith, before.longer, length-set ks place k);
   }
 
-  taken_in : (ds : List Contents) (ls : List Phase) (newlog : List Lowered) → IsTakenIn c k cs ks log ds ls newlog → CanTakeBack start had ds ls newlog
+  taken_in : (ds : List Contents) (ls : List Phase) (newlog : List LoweredPlace) → IsTakenIn c k cs ks log ds ls newlog → CanTakeBack start had ds ls newlog
   taken_in ds ls newlog (inl new) = subst (λ x. CanTakeBack start had x ls newlog) (sym new.1) (subst (λ x. CanTakeBack start had (cs ++ c ∷ []) x newlog) (sym new.2) (subst (CanTakeBack start had (cs ++ c ∷ []) (ks ++ k ∷ [])) (sym new.3) pushed))
   taken_in ds ls newlog (inr (place, at_c, ds_is, (was, at, inl (le, ls_is, log_is)))) = unlowered ds ls newlog (ap (take (length start)) ds_is ∙ before.kept) (ls_is, log_is)
   taken_in ds ls newlog (inr (place, at_c, ds_is, (was, at, inr (lt, ls_is, log_is)))) =
       subst (λ x. CanTakeBack start had x ls newlog) (sym ds_is) (subst (λ x. CanTakeBack start had cs x newlog) (sym ls_is) (subst (CanTakeBack start had cs (set ks place k)) (sym log_is) (lowered place was at)))
 
-  not_taken_in : (fault : Fault) (ds : List Contents) (ls : List Phase) (newlog : List Lowered) → IsNotTakenIn c cs ks log fault ds ls newlog → CanTakeBack start had ds ls newlog
+  not_taken_in : (fault : Fault) (ds : List Contents) (ls : List Phase) (newlog : List LoweredPlace) → IsNotTakenIn c cs ks log fault ds ls newlog → CanTakeBack start had ds ls newlog
   not_taken_in (UnknownParent p) ds ls newlog h = absurd h
   not_taken_in (Collision n) ds ls newlog (collides, n_is, ds_is, same) = unlowered ds ls newlog (ap (take (length start)) ds_is ∙ before.kept) same
   not_taken_in (UnknownBound n) ds ls newlog h = absurd h
@@ -283,7 +283,7 @@ module _ (start : List Contents) (had : List Phase) (c : Contents) (k : Phase) (
   not_taken_in NoMemory ds ls newlog (inl ds_is, same) = unlowered ds ls newlog (ap (take (length start)) ds_is ∙ before.kept) same
   not_taken_in NoMemory ds ls newlog (inr ds_is, same) = unlowered ds ls newlog (ap (take (length start)) ds_is ∙ kept-added) same
 
-  pub take_back-step : (r : Result Unit Fault) (ds : List Contents) (ls : List Phase) (newlog : List Lowered) → TakeInAnswer c k cs ks log r ds ls newlog → CanTakeBack start had ds ls newlog
+  pub take_back-step : (r : Result Unit Fault) (ds : List Contents) (ls : List Phase) (newlog : List LoweredPlace) → TakeInAnswer c k cs ks log r ds ls newlog → CanTakeBack start had ds ls newlog
   take_back-step (Ok _) ds ls newlog h = taken_in ds ls newlog h
   take_back-step (Err fault) ds ls newlog h = not_taken_in fault ds ls newlog h
 
@@ -315,7 +315,7 @@ module _ (s o : State) (i : ℕ) (h : Held) (at_h : slice_get o.held i ≡ Some 
             absurd (differ (sym x.2 ∙ ap (λ g. g.changeset) same))
       ]
 
-  pub next-fault : (log : List Lowered) (fault : Fault) (ds : List Contents) (ls : List Phase) (newlog : List Lowered) → IsNotTakenIn h.changeset cs ks log fault ds ls newlog → IsJoinFault s o fault
+  pub next-fault : (log : List LoweredPlace) (fault : Fault) (ds : List Contents) (ls : List Phase) (newlog : List LoweredPlace) → IsNotTakenIn h.changeset cs ks log fault ds ls newlog → IsJoinFault s o fault
   next-fault log (UnknownParent p) ds ls newlog x = absurd x
   next-fault log (Collision n) ds ls newlog x = subst (λ m. IsJoinFault s o (Collision m)) (sym x.1) (collision x.0)
   next-fault log (UnknownBound n) ds ls newlog x = absurd x
@@ -412,11 +412,11 @@ pub record IsJoinedUpTo (s o : State) (i : ℕ) (cs : List Contents) (ks : List 
 pub joined-start : (cs : List Contents) (ks : List Phase) (o : State) → length ks ≡ length cs → IsValid (state_of cs ks) → IsJoinedUpTo (state_of cs ks) o 0 cs ks
 joined-start cs ks o len valid = record { len = len; graph = graph_of_state cs ks len valid; join = join-start (state_of cs ks) o }
 
-module _ (s o : State) (i : ℕ) (h : Held) (at_h : slice_get o.held i ≡ Some h) (valid : IsValid o) (cs : List Contents) (ks : List Phase) (log : List Lowered) (before : IsJoinedUpTo s o i cs ks) where
+module _ (s o : State) (i : ℕ) (h : Held) (at_h : slice_get o.held i ≡ Some h) (valid : IsValid o) (cs : List Contents) (ks : List Phase) (log : List LoweredPlace) (before : IsJoinedUpTo s o i cs ks) where
   pub ready : HoldsParents cs h.changeset
   ready = next-parents s o i h at_h valid.graph cs ks before.len before.join
 
-  pub joined-step : (ds : List Contents) (ls : List Phase) (newlog : List Lowered) → IsTakenIn h.changeset h.phase cs ks log ds ls newlog → IsJoinedUpTo s o (i + 1) ds ls
+  pub joined-step : (ds : List Contents) (ls : List Phase) (newlog : List LoweredPlace) → IsTakenIn h.changeset h.phase cs ks log ds ls newlog → IsJoinedUpTo s o (i + 1) ds ls
   joined-step ds ls newlog taken = record {
     len = len taken;
     graph = graph taken;
@@ -434,7 +434,7 @@ module _ (s o : State) (i : ℕ) (h : Held) (at_h : slice_get o.held i ≡ Some 
           subst IsGraph (sym new.1) (IsGraph-push cs h.changeset before.graph is ready new.0)
       graph (inr (place, at_c, ds_is, rest)) = subst IsGraph (sym ds_is) before.graph
 
-  pub joined-fault : (fault : Fault) (ds : List Contents) (ls : List Phase) (newlog : List Lowered) → IsNotTakenIn h.changeset cs ks log fault ds ls newlog → IsJoinFault s o fault
+  pub joined-fault : (fault : Fault) (ds : List Contents) (ls : List Phase) (newlog : List LoweredPlace) → IsNotTakenIn h.changeset cs ks log fault ds ls newlog → IsJoinFault s o fault
   joined-fault = next-fault s o i h at_h valid.graph cs ks before.len before.join log
 
 pub joined-finish : (s : State) (ocs : List Contents) (oks : List Phase) (i : ℕ) (cs : List Contents) (ks : List Phase) → length oks ≡ length ocs → length ocs ≤ i → IsJoinedUpTo s (state_of ocs oks) i cs ks → IsJoin s (state_of ocs oks) (state_of cs ks)

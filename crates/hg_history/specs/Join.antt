@@ -5,7 +5,7 @@ use Rattle.hg_changeset.specs.Changeset.{node_of}
 use Rattle.hg_graph.specs.Graph.{nodes, Holds}
 use Rattle.hg_graph.specs.Answers.{Collides}
 use Rattle.hg_phases.specs.declared.phase.Phase.{Phase}
-use Rattle.hg_phases.specs.declared.phase_map.Lowered.{Lowered}
+use Rattle.hg_phases.specs.declared.lowered.LoweredPlace.{LoweredPlace}
 use Rattle.hg_phases.specs.State.{State, Held, rank, changesets, IsValid}
 use Rattle.hg_phases.specs.Order.{Below}
 use Rattle.hg_phases.specs.Log.{restored, IsOneLowered, IsUnlowered}
@@ -42,13 +42,13 @@ AddedWithPhase c k cs ks (Ok _) ds ls = (ds ≡ cs ++ c ∷ []) × (ls ≡ ks ++
 AddedWithPhase c k cs ks (Err fault) ds ls = (fault ≡ NoMemory) × ((ds ≡ cs) ⊎ (ds ≡ cs ++ c ∷ [])) × (ls ≡ ks)
 
 -- a changeset and its phase were taken in: it stands last, or its place has the lower of the two phases
-abbrev pub IsTakenIn : Contents → Phase → List Contents → List Phase → List Lowered → List Contents → List Phase → List Lowered → Type 0
+abbrev pub IsTakenIn : Contents → Phase → List Contents → List Phase → List LoweredPlace → List Contents → List Phase → List LoweredPlace → Type 0
 IsTakenIn c k cs ks log ds ls newlog =
     (¬ (Holds cs (node_of c)) × (ds ≡ cs ++ c ∷ []) × (ls ≡ ks ++ k ∷ []) × (newlog ≡ log))
     ⊎ ((place : ℕ) × (slice_get cs place ≡ Some c) × (ds ≡ cs) × IsOneLowered k place ks log ls newlog)
 
 -- why it was not taken in
-abbrev pub IsNotTakenIn : Contents → List Contents → List Phase → List Lowered → Fault → List Contents → List Phase → List Lowered → Type 0
+abbrev pub IsNotTakenIn : Contents → List Contents → List Phase → List LoweredPlace → Fault → List Contents → List Phase → List LoweredPlace → Type 0
 IsNotTakenIn c cs ks log (UnknownParent p) ds ls newlog = ⊥
 IsNotTakenIn c cs ks log (Collision n) ds ls newlog = Collides cs c × (n ≡ node_of c) × (ds ≡ cs) × IsUnlowered ks log ls newlog
 IsNotTakenIn c cs ks log (UnknownBound n) ds ls newlog = ⊥
@@ -56,12 +56,12 @@ IsNotTakenIn c cs ks log NullBound ds ls newlog = ⊥
 IsNotTakenIn c cs ks log NoMemory ds ls newlog = ((ds ≡ cs) ⊎ (ds ≡ cs ++ c ∷ [])) × IsUnlowered ks log ls newlog
 
 -- the answer for one changeset and its phase, and what it leaves
-abbrev pub TakeInAnswer : Contents → Phase → List Contents → List Phase → List Lowered → Result Unit Fault → List Contents → List Phase → List Lowered → Type 0
+abbrev pub TakeInAnswer : Contents → Phase → List Contents → List Phase → List LoweredPlace → Result Unit Fault → List Contents → List Phase → List LoweredPlace → Type 0
 TakeInAnswer c k cs ks log (Ok _) ds ls newlog = IsTakenIn c k cs ks log ds ls newlog
 TakeInAnswer c k cs ks log (Err fault) ds ls newlog = IsNotTakenIn c cs ks log fault ds ls newlog
 
 -- what was done since can be taken back: the first changesets are the old ones, and the log restores their phases
-pub record CanTakeBack (cs : List Contents) (ks : List Phase) (ds : List Contents) (ls : List Phase) (log : List Lowered) : Type 0 where
+pub record CanTakeBack (cs : List Contents) (ks : List Phase) (ds : List Contents) (ls : List Phase) (log : List LoweredPlace) : Type 0 where
   pub kept : take (length cs) ds ≡ cs
   pub undoes : take (length ks) (restored ls log) ≡ ks
   pub within : All (λ e. e.place < length ls) log

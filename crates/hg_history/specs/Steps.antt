@@ -1,21 +1,17 @@
 -- The steps of `absorb`.
 use Rattle.std.specs.Prelude.{◌≡◌, ◌≢◌, ℕ, List, [], ◌∷◌, ◌++◌, map, take, length, slice_get, Some, Contains, Result, Ok, Err, nat_lt, if◌then◌else◌, ◌↔◌, ◌⊎◌}
-use Rattle.std.specs.Option.{option_to_list}
 use Rattle.hg_changeset.specs.declared.node.Node.{Node}
 use Rattle.hg_changeset.specs.Node.{null_node}
 use Rattle.hg_changeset.specs.Contents.{Contents}
 use Rattle.hg_changeset.specs.Changeset.{node_of, IsChangeset}
 use Rattle.hg_graph.specs.Graph.{nodes, Holds, HoldsParents, IsGraph}
-use Rattle.hg_graph.specs.Places.{IsAt}
 use Rattle.hg_graph.specs.Answers.{IsFirstMissing, Collides}
 use Rattle.hg_phases.specs.declared.phase.Phase.{Phase}
 use Rattle.hg_phases.specs.declared.phase.Phase.TheVariants.{Secret}
-use Rattle.hg_phases.specs.declared.phase_map.Lowered.{Lowered}
 use Rattle.hg_phases.specs.State.{State, state_of}
 use Rattle.hg_phases.specs.Least.{IsLeast, bound_alone}
 use Rattle.hg_history.specs.declared.fault.Fault.{Fault}
 use Rattle.hg_history.specs.declared.fault.Fault.TheVariants.{UnknownParent, Collision, UnknownBound, NullBound, NoMemory}
-use Rattle.hg_history.specs.declared.absorb.FoundBound.{FoundBound}
 use Rattle.hg_history.specs.Change.{unheld}
 use Rattle.hg_history.specs.Answer.{IsFineUpTo, IsFirstUnheld}
 
@@ -57,15 +53,6 @@ IsBoundAt cs n (UnknownBound m) = ¬ (Holds cs n) × (m ≡ n) × (m ≢ null_no
 IsBoundAt cs n NullBound = ¬ (Holds cs n) × (n ≡ null_node)
 IsBoundAt cs n NoMemory = ⊥
 
--- the bound's node stands at the place that was found
-abbrev pub IsFoundBound : List Contents → Node × Phase → FoundBound → Type 0
-IsFoundBound cs b f = IsAt cs b.0 f.place × (f.phase ≡ b.1)
-
--- each bound was found
-pub record AreFound (cs : List Contents) (bounds : List (Node × Phase)) (found : List FoundBound) : Type 0 where
-  pub len : length found ≡ length bounds
-  pub each : (j : ℕ) (b : Node × Phase) (f : FoundBound) → slice_get bounds j ≡ Some b → slice_get found j ≡ Some f → IsFoundBound cs b f
-
 -- the bound was lowered to, if it is of this phase
 abbrev pub OneLowered : List Contents → Node × Phase → Phase → List Phase → List Phase → Type 0
 OneLowered cs b phase old new = ((b.1 ≡ phase) × IsLeast (state_of cs old) (bound_alone b ∷ []) (state_of cs new)) ⊎ ((b.1 ≢ phase) × (new ≡ old))
@@ -78,7 +65,3 @@ IsLoweredTo cs bounds phase old new =
     × ((b : Node × Phase) → Contains more b → Contains bs b ⊎ Contains bounds b)
     × ((b : Node × Phase) → Contains bs b → Contains more b)
     × ((b : Node × Phase) → Contains bounds b → b.1 ≡ phase → Contains more b)
-
--- the node of what was logged, if it stands before a place
-abbrev pub node_before : List Node → ℕ → Lowered → List Node
-node_before ns before e = if nat_lt e.place before then option_to_list (slice_get ns e.place) else []

@@ -29,13 +29,14 @@ pub struct History {
 
 impl Model for History {
     ghost use Rattle.std.specs.Prelude.{◌≡◌, length};
-    ghost use Rattle.hg_phases.specs.State.{State, IsValid, state_of};
+    ghost use Rattle.hg_phases.specs.State.{State, IsValid};
+    ghost use Rattle.hg_phases.specs.Kept.{phases_at, kept_state};
 
     ghost Value = { State };
 
-    ghost view = { λ history. state_of history.graph history.phases };
+    ghost view = { λ history. kept_state history.graph history.phases };
 
-    ghost invariant = { λ history. (length history.phases ≡ length history.graph) × IsValid (state_of history.graph history.phases) };
+    ghost invariant = { λ history. (length (phases_at history.graph history.phases) ≡ length history.graph) × IsValid (kept_state history.graph history.phases) };
 }
 
 impl History {
@@ -101,10 +102,7 @@ impl History {
         ensures phase { IfOk result (λ phase. MatchOption phase (¬ (Holds self.now node)) (IsPhaseOf self.now node)) }
         ensures valid { IsValid self.now }
     {
-        match self.graph.place(node) {
-            Some(place) => Ok(Some(self.phases.at(place))),
-            None => Ok(None),
-        }
+        self.phases.phase_of(&self.graph, node)
     }
 
     /// Takes in changesets and bounds on phases: the history goes to the least state above its own that covers them. A

@@ -6,7 +6,8 @@
 ghost use Rattle.std.specs.Prelude.{◌≡◌, ◌↔◌, ◌⊎◌, Some, IsTrue, OnOk, IfErr, length, slice_get, []};
 ghost use Rattle.hg_changeset.specs.Changeset.{node_of};
 ghost use Rattle.hg_graph.specs.Graph.{Holds, HoldsParents};
-ghost use Rattle.hg_phases.specs.State.{state_of, IsValid};
+ghost use Rattle.hg_phases.specs.State.{IsValid};
+ghost use Rattle.hg_phases.specs.Kept.{phases_at, kept_state};
 ghost use Rattle.hg_phases.specs.Order.{Below};
 ghost use Rattle.hg_history.specs.Join.{IsJoin, IsJoinFault, JoinAnswer, TakeInAnswer, AddedWithPhase, CanTakeBack, IsHeldAsLow};
 
@@ -25,15 +26,15 @@ pub(crate) fn join_or_undo(
     other: &Graph,
     other_phases: &PhaseMap,
 ) -> Result<(), Fault>
-    requires len { length phases.old ≡ length graph.old }
-    requires valid { IsValid (state_of graph.old phases.old) }
-    requires other_len { length other_phases.now ≡ length other.now }
-    requires other_valid { IsValid (state_of other.now other_phases.now) }
-    ensures inside { (length phases.new ≡ length graph.new) × IsValid (state_of graph.new phases.new) }
-    ensures answer { JoinAnswer (state_of graph.old phases.old) (state_of other.now other_phases.now) result (state_of graph.new phases.new) }
+    requires len { length (phases_at graph.old phases.old) ≡ length graph.old }
+    requires valid { IsValid (kept_state graph.old phases.old) }
+    requires other_len { length (phases_at other.now other_phases.now) ≡ length other.now }
+    requires other_valid { IsValid (kept_state other.now other_phases.now) }
+    ensures inside { (length (phases_at graph.new phases.new) ≡ length graph.new) × IsValid (kept_state graph.new phases.new) }
+    ensures answer { JoinAnswer (kept_state graph.old phases.old) (kept_state other.now other_phases.now) result (kept_state graph.new phases.new) }
 {
     let before = graph.len();
-    let mut log = Vec::new(alloc);
+    let mut log = Lowered::new(alloc);
     match join_logged(graph, phases, &mut log, other, other_phases) {
         Ok(()) => Ok(()),
         Err(fault) => {
@@ -48,23 +49,23 @@ pub(crate) fn join_or_undo(
 fn join_logged(
     graph: &mut Graph,
     phases: &mut PhaseMap,
-    log: &mut Vec<Lowered>,
+    log: &mut Lowered,
     other: &Graph,
     other_phases: &PhaseMap,
 ) -> Result<(), Fault>
-    requires len { length phases.old ≡ length graph.old }
-    requires valid { IsValid (state_of graph.old phases.old) }
-    requires other_len { length other_phases.now ≡ length other.now }
-    requires other_valid { IsValid (state_of other.now other_phases.now) }
-    requires fresh { log.old.items ≡ [] }
-    ensures back { CanTakeBack graph.old phases.old graph.new phases.new log.new.items }
-    ensures inside { OnOk result ((length phases.new ≡ length graph.new) × IsValid (state_of graph.new phases.new)) }
-    ensures joined { OnOk result (IsJoin (state_of graph.old phases.old) (state_of other.now other_phases.now) (state_of graph.new phases.new)) }
-    ensures fault { IfErr result (IsJoinFault (state_of graph.old phases.old) (state_of other.now other_phases.now)) }
+    requires len { length (phases_at graph.old phases.old) ≡ length graph.old }
+    requires valid { IsValid (kept_state graph.old phases.old) }
+    requires other_len { length (phases_at other.now other_phases.now) ≡ length other.now }
+    requires other_valid { IsValid (kept_state other.now other_phases.now) }
+    requires fresh { log.old ≡ [] }
+    ensures back { CanTakeBack graph.old phases.old graph.new phases.new log.new }
+    ensures inside { OnOk result ((length (phases_at graph.new phases.new) ≡ length graph.new) × IsValid (kept_state graph.new phases.new)) }
+    ensures joined { OnOk result (IsJoin (kept_state graph.old phases.old) (kept_state other.now other_phases.now) (kept_state graph.new phases.new)) }
+    ensures fault { IfErr result (IsJoinFault (kept_state graph.old phases.old) (kept_state other.now other_phases.now)) }
 {
     for place in 0..other.len() {
         if let Some(changeset) = other.changeset_at(place) {
-            take_in(graph, phases, log, changeset, other_phases.at(place))?;
+            take_in(graph, phases, log, changeset, other_phases.at(other, place))?;
         }
     }
     Ok(())
@@ -74,13 +75,13 @@ fn join_logged(
 fn take_in(
     graph: &mut Graph,
     phases: &mut PhaseMap,
-    log: &mut Vec<Lowered>,
+    log: &mut Lowered,
     changeset: &Changeset,
     phase: Phase,
 ) -> Result<(), Fault>
-    requires len { length phases.old ≡ length graph.old }
+    requires len { length (phases_at graph.old phases.old) ≡ length graph.old }
     requires parents { HoldsParents graph.old changeset.now }
-    ensures { TakeInAnswer changeset.now phase graph.old phases.old log.old.items result graph.new phases.new log.new.items }
+    ensures { TakeInAnswer changeset.now phase graph.old phases.old log.old result graph.new phases.new log.new }
 {
     let node = changeset.node();
     match graph.place(node) {
@@ -88,7 +89,7 @@ fn take_in(
             if !is_at(graph, place, changeset) {
                 return Err(Fault::Collision(node));
             }
-            phases.lower_one(log, place, phase)?;
+            phases.lower_alone(log, place, phase)?;
             Ok(())
         }
         None => add(graph, phases, changeset, phase),
@@ -130,13 +131,13 @@ pub(crate) fn is_below(
     other: &Graph,
     other_phases: &PhaseMap,
 ) -> bool
-    requires len { length phases.now ≡ length graph.now }
-    requires other_len { length other_phases.now ≡ length other.now }
-    ensures { IsTrue result ↔ Below (state_of graph.now phases.now) (state_of other.now other_phases.now) }
+    requires len { length (phases_at graph.now phases.now) ≡ length graph.now }
+    requires other_len { length (phases_at other.now other_phases.now) ≡ length other.now }
+    ensures { IsTrue result ↔ Below (kept_state graph.now phases.now) (kept_state other.now other_phases.now) }
 {
     for place in 0..graph.len() {
         if let Some(changeset) = graph.changeset_at(place) {
-            if !holds_as_low(other, other_phases, changeset, phases.at(place)) {
+            if !holds_as_low(other, other_phases, changeset, phases.at(graph, place)) {
                 return false;
             }
         }
@@ -146,11 +147,11 @@ pub(crate) fn is_below(
 
 // Whether the changeset is held, with this phase or a lower one.
 fn holds_as_low(graph: &Graph, phases: &PhaseMap, changeset: &Changeset, phase: Phase) -> bool
-    requires { length phases.now ≡ length graph.now }
-    ensures { IsTrue result ↔ IsHeldAsLow (state_of graph.now phases.now) changeset.now phase }
+    requires { length (phases_at graph.now phases.now) ≡ length graph.now }
+    ensures { IsTrue result ↔ IsHeldAsLow (kept_state graph.now phases.now) changeset.now phase }
 {
     match graph.place(changeset.node()) {
-        Some(place) => is_at(graph, place, changeset) && phases.at(place) <= phase,
+        Some(place) => is_at(graph, place, changeset) && phases.at(graph, place) <= phase,
         None => false,
     }
 }

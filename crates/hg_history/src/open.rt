@@ -5,7 +5,7 @@
 ghost use Rattle.std.specs.Prelude.{◌≡◌, ◌<◌, ◌∷◌, ◌++◌, [], List, Some, length, slice_get, IfOk, IfSome, MatchOption};
 ghost use Rattle.hg_changeset.specs.declared.node.Node.{Node};
 ghost use Rattle.hg_phases.specs.declared.phase.Phase.{Phase};
-ghost use Rattle.hg_phases.specs.State.{state_of};
+ghost use Rattle.hg_phases.specs.Kept.{phases_at, kept_state};
 ghost use Rattle.hg_phases.specs.Roots.{IsOpened};
 ghost use Rattle.hg_history.specs.Open.{AreMarked, IsRaised, IsHigher};
 
@@ -20,17 +20,17 @@ pub(crate) fn phases_under(
     alloc: Global,
     roots: &[(Phase, Node)],
 ) -> Result<PhaseMap, AllocError>
-    ensures { IfOk result (λ phases. (length phases ≡ length graph.now) × IsOpened graph.now roots.now (state_of graph.now phases)) }
+    ensures { IfOk result (λ phases. (length (phases_at graph.now phases) ≡ length graph.now) × IsOpened graph.now roots.now (kept_state graph.now phases)) }
 {
     let marks = marks_of(graph, alloc, roots)?;
-    let mut phases = PhaseMap::new(alloc);
+    let mut phases = Vec::new(alloc);
     for place in 0..graph.len() {
         let parents = graph.parent_places(place);
         let first = phase_at(&phases, parents.first);
         let second = phase_at(&phases, parents.second);
         phases.push(higher(marks[place], higher(first, second)))?;
     }
-    Ok(phases)
+    Ok(PhaseMap::of(graph, phases))
 }
 
 // For each place the highest phase of a root there.
@@ -66,12 +66,12 @@ fn raise(marks: &mut Vec<Phase>, place: usize, phase: Phase)
 }
 
 // The phase at a place, and public where there is no place.
-fn phase_at(phases: &PhaseMap, place: Option<usize>) -> Phase
+fn phase_at(phases: &[Phase], place: Option<usize>) -> Phase
     requires { IfSome place (λ p. p < length phases.now) }
     ensures { MatchOption place (result ≡ Phase.Public) (λ p. slice_get phases.now p ≡ Some result) }
 {
     match place {
-        Some(place) => phases.at(place),
+        Some(place) => phases[place],
         None => Phase::Public,
     }
 }

@@ -1,6 +1,7 @@
 //! The roots of a history.
 ghost use Rattle.std.specs.Prelude.{◌≡◌, ◌<◌, ◌↔◌, ℕ, Some, length, slice_get, IsTrue, IfOk, IfSome, MatchOption};
-ghost use Rattle.hg_phases.specs.State.{Held, state_of};
+ghost use Rattle.hg_phases.specs.State.{Held};
+ghost use Rattle.hg_phases.specs.Kept.{phases_at, kept_state};
 ghost use Rattle.hg_phases.specs.Roots.{AreRoots, IsRoot};
 ghost use Rattle.hg_history.specs.Open.{HasParentIn, IsRootAt};
 
@@ -11,8 +12,8 @@ use std::alloc::{AllocError, Global};
 
 /// The roots, in the graph's order.
 pub(crate) fn roots_of(graph: &Graph, phases: &PhaseMap, alloc: Global) -> Result<Roots, AllocError>
-    requires { length phases.now ≡ length graph.now }
-    ensures { IfOk result (AreRoots (state_of graph.now phases.now)) }
+    requires { length (phases_at graph.now phases.now) ≡ length graph.now }
+    ensures { IfOk result (AreRoots (kept_state graph.now phases.now)) }
 {
     let mut listed = Vec::new(alloc);
     for place in 0..graph.len() {
@@ -26,11 +27,11 @@ pub(crate) fn roots_of(graph: &Graph, phases: &PhaseMap, alloc: Global) -> Resul
 
 // The changeset at a place with its phase, if it is a root.
 fn root_at(graph: &Graph, phases: &PhaseMap, place: usize) -> Option<(Phase, Node)>
-    requires len { length phases.now ≡ length graph.now }
+    requires len { length (phases_at graph.now phases.now) ≡ length graph.now }
     requires within { place < length graph.now }
-    ensures { MatchOption result ((h : Held) → slice_get (state_of graph.now phases.now).held place ≡ Some h → ¬ (IsRoot (state_of graph.now phases.now) h)) (IsRootAt (state_of graph.now phases.now) place) }
+    ensures { MatchOption result ((h : Held) → slice_get (kept_state graph.now phases.now).held place ≡ Some h → ¬ (IsRoot (kept_state graph.now phases.now) h)) (IsRootAt (kept_state graph.now phases.now) place) }
 {
-    let phase = phases.at(place);
+    let phase = phases.at(graph, place);
     if phase == Phase::Public {
         return None;
     }
@@ -45,21 +46,23 @@ fn root_at(graph: &Graph, phases: &PhaseMap, place: usize) -> Option<(Phase, Nod
 
 // Whether a parent of the changeset at a place has the phase.
 fn has_parent_in(graph: &Graph, phases: &PhaseMap, place: usize, phase: Phase) -> bool
-    requires len { length phases.now ≡ length graph.now }
+    requires len { length (phases_at graph.now phases.now) ≡ length graph.now }
     requires within { place < length graph.now }
-    ensures { IsTrue result ↔ HasParentIn graph.now phases.now place phase }
+    ensures { IsTrue result ↔ HasParentIn graph.now (phases_at graph.now phases.now) place phase }
 {
     let parents = graph.parent_places(place);
-    has_phase(phases, parents.first, phase) || has_phase(phases, parents.second, phase)
+    has_phase(graph, phases, parents.first, phase)
+        || has_phase(graph, phases, parents.second, phase)
 }
 
 // Whether the phase stands at the place, if there is one.
-fn has_phase(phases: &PhaseMap, place: Option<usize>, phase: Phase) -> bool
-    requires { IfSome place (λ p. p < length phases.now) }
-    ensures { IsTrue result ↔ ((p : ℕ) × (place ≡ Some p) × (slice_get phases.now p ≡ Some phase)) }
+fn has_phase(graph: &Graph, phases: &PhaseMap, place: Option<usize>, phase: Phase) -> bool
+    requires len { length (phases_at graph.now phases.now) ≡ length graph.now }
+    requires within { IfSome place (λ p. p < length graph.now) }
+    ensures { IsTrue result ↔ ((p : ℕ) × (place ≡ Some p) × (slice_get (phases_at graph.now phases.now) p ≡ Some phase)) }
 {
     match place {
-        Some(place) => phases.at(place) == phase,
+        Some(place) => phases.at(graph, place) == phase,
         None => false,
     }
 }

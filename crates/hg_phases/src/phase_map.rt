@@ -1,25 +1,25 @@
 //! The phases of a graph's changesets, one at each place.
 //!
+//! What is kept is the phase of each changeset. The contracts say no more than what that means for the graph, by
+//! `phases_at`, so that another form, as the roots alone, can take its place.
+//!
 //! Lowering a changeset lowers its ancestors with it. The walk keeps one log of what it lowered, with the phase that
 //! each had: the log is the queue of the walk, the answer, and what takes the lowering back.
-ghost use Rattle.std.specs.Prelude.{OnOk, slice_set, All, IfOk, IfSome, MatchOption, OnErr, length, take, slice_get, Some, [], ◌∷◌, ◌++◌, ℕ, List, ◌≡◌, ◌<◌};
+ghost use Rattle.std.specs.Prelude.{OnOk, slice_set, All, IfOk, IfSome, MatchOption, OnErr, length, take, slice_get, Some, [], ◌∷◌, ◌++◌, ◌+◌, ◌-◌, ℕ, List, ◌≡◌, ◌<◌};
 ghost use Rattle.hg_changeset.specs.declared.node.Node.{Node};
+ghost use Rattle.hg_graph.specs.Graph.{Holds as GraphHolds};
 ghost use Rattle.hg_graph.specs.Places.{IsAt};
-ghost use Rattle.hg_phases.specs.State.{state_of, IsValid};
+ghost use Rattle.hg_phases.specs.State.{state_of, Holds, IsPhaseOf, IsValid};
+ghost use Rattle.hg_phases.specs.Kept.{phases_at, kept_state, before_last};
 ghost use Rattle.hg_phases.specs.Least.{IsLeast, bound_alone};
 ghost use Rattle.hg_phases.specs.Log.{IsLog, restored, IsOneLowered, IsUnlowered};
 
+use crate::lowered::{Lowered, LoweredPlace};
 use crate::phase::Phase;
+use hg_changeset::Node;
 use hg_graph::Graph;
 use std::alloc::{AllocError, Global};
 use std::marker::Model;
-
-/// A place whose phase went down, and the phase that it had.
-#[derive(Clone, Copy, PartialEq, Eq, Debug)]
-pub struct Lowered {
-    pub place: usize,
-    pub had: Phase,
-}
 
 /// The phase of each changeset of a graph, at its place.
 #[derive(Drop)]
@@ -39,11 +39,20 @@ impl Model for PhaseMap {
 impl PhaseMap {
     /// The phases of a graph without changesets.
     pub fn new(alloc: Global) -> PhaseMap
-        ensures { result ≡ [] }
+        ensures { phases_at [] result ≡ [] }
     {
         PhaseMap {
             phases: Vec::new(alloc),
         }
+    }
+
+    /// The map of these phases, one for each changeset of a graph in its order.
+    pub fn of(graph: &Graph, phases: Vec<Phase>) -> PhaseMap
+        requires len { length phases.items ≡ length graph.now }
+        requires valid { IsValid (state_of graph.now phases.items) }
+        ensures { phases_at graph.now result ≡ phases.items }
+    {
+        PhaseMap { phases }
     }
 
     /// An equal map.
@@ -55,19 +64,34 @@ impl PhaseMap {
         })
     }
 
-    /// How many changesets have a phase.
-    pub fn len(&self) -> usize
-        ensures { result ≡ length self.now }
+    /// The phase of the changeset with this id, if it is held.
+    pub fn phase_of(&self, graph: &Graph, node: Node) -> Result<Option<Phase>, AllocError>
+        requires { length (phases_at graph.now self.now) ≡ length graph.now }
+        ensures { IfOk result (λ phase. MatchOption phase (¬ (Holds (kept_state graph.now self.now) node)) (IsPhaseOf (kept_state graph.now self.now) node)) }
     {
-        self.phases.len()
+        match graph.place(node) {
+            Some(place) => Ok(Some(self.at(graph, place))),
+            None => Ok(None),
+        }
     }
 
     /// The phase of the changeset at a place.
-    pub fn at(&self, place: usize) -> Phase
-        requires { place < length self.now }
-        ensures { slice_get self.now place ≡ Some result }
+    pub fn at(&self, graph: &Graph, place: usize) -> Phase
+        requires len { length (phases_at graph.now self.now) ≡ length graph.now }
+        requires within { place < length graph.now }
+        ensures { slice_get (phases_at graph.now self.now) place ≡ Some result }
     {
         self.phases[place]
+    }
+
+    /// Makes the changeset that was just added to the graph secret.
+    pub fn admit(&mut self, graph: &Graph, node: Node) -> Result<(), AllocError>
+        requires len { length graph.now ≡ length (phases_at (before_last graph.now) self.old) + 1 }
+        requires added { IsAt graph.now node (length graph.now - 1) }
+        ensures admitted { OnOk result (phases_at graph.now self.new ≡ phases_at (before_last graph.now) self.old ++ Phase.Secret ∷ []) }
+        ensures unchanged { OnErr result (self.new ≡ self.old) }
+    {
+        self.push(Phase::Secret)
     }
 
     /// Gives the next changeset a phase.
@@ -86,14 +110,59 @@ impl PhaseMap {
         self.phases.truncate(len);
     }
 
-    /// Gives the changeset at a place and its ancestors the phase, where theirs is higher, and logs each of them.
-    ///
-    /// The log is the queue as well: what was logged has its parents still to be seen to. Where a phase is low enough
-    /// the walk stops, since the ancestors' phases are no higher.
+    /// Gives the changeset with this id and its ancestors the phase, where theirs is higher, and logs each of them.
     pub fn lower(
         &mut self,
         graph: &Graph,
-        log: &mut Vec<Lowered>,
+        log: &mut Lowered,
+        node: Node,
+        phase: Phase,
+    ) -> Result<(), AllocError>
+        requires len { length (phases_at graph.now self.old) ≡ length graph.now }
+        requires valid { IsValid (kept_state graph.now self.old) }
+        requires held { GraphHolds graph.now node }
+        ensures least { OnOk result (IsLeast (kept_state graph.now self.old) (bound_alone (node, phase) ∷ []) (kept_state graph.now self.new)) }
+        ensures logged { (start : List Phase) → IsLog phase start self.old log.old → IsLog phase start self.new log.new }
+        ensures undoes { restored self.new log.new ≡ restored self.old log.old }
+        ensures len { length (phases_at graph.now self.new) ≡ length (phases_at graph.now self.old) }
+    {
+        match graph.place(node) {
+            Some(place) => self.lower_at(graph, &mut log.places, place, phase),
+            None => Ok(()),
+        }
+    }
+
+    /// Gives the changeset at a place alone the phase, where its own is higher, and logs it.
+    pub fn lower_alone(
+        &mut self,
+        log: &mut Lowered,
+        place: usize,
+        phase: Phase,
+    ) -> Result<(), AllocError>
+        requires { place < length self.old }
+        ensures lowered { OnOk result (IsOneLowered phase place self.old log.old self.new log.new) }
+        ensures unchanged { OnErr result (IsUnlowered self.old log.old self.new log.new) }
+    {
+        self.lower_one(&mut log.places, place, phase)
+    }
+
+    /// Takes back what was logged.
+    pub fn undo(&mut self, log: &mut Lowered)
+        requires { All (λ e. e.place < length self.old) log.old }
+        ensures restored { self.new ≡ restored self.old log.old }
+        ensures emptied { log.new ≡ [] }
+    {
+        self.restore(&mut log.places);
+    }
+
+    // Lowers what stands at a place, with its ancestors.
+    //
+    // The log is the queue as well: what was logged has its parents still to be seen to. Where a phase is low enough
+    // the walk stops, since the ancestors' phases are no higher.
+    fn lower_at(
+        &mut self,
+        graph: &Graph,
+        log: &mut Vec<LoweredPlace>,
         place: usize,
         phase: Phase,
     ) -> Result<(), AllocError>
@@ -118,7 +187,7 @@ impl PhaseMap {
 
     fn lower_found(
         &mut self,
-        log: &mut Vec<Lowered>,
+        log: &mut Vec<LoweredPlace>,
         place: Option<usize>,
         phase: Phase,
     ) -> Result<(), AllocError>
@@ -132,10 +201,9 @@ impl PhaseMap {
         }
     }
 
-    /// Gives the changeset at a place alone the phase, where its own is higher, and logs it.
-    pub fn lower_one(
+    fn lower_one(
         &mut self,
-        log: &mut Vec<Lowered>,
+        log: &mut Vec<LoweredPlace>,
         place: usize,
         phase: Phase,
     ) -> Result<(), AllocError>
@@ -143,21 +211,20 @@ impl PhaseMap {
         ensures lowered { OnOk result (IsOneLowered phase place self.old log.old.items self.new log.new.items) }
         ensures unchanged { OnErr result (IsUnlowered self.old log.old.items self.new log.new.items) }
     {
-        let had = self.at(place);
+        let had = self.phases[place];
         if phase < had {
-            log.push(Lowered { place, had })?;
+            log.push(LoweredPlace { place, had })?;
             self.set(place, phase);
         }
         Ok(())
     }
 
-    /// Takes back what was logged.
-    pub fn undo(&mut self, log: &mut Vec<Lowered>)
+    fn restore(&mut self, log: &mut Vec<LoweredPlace>)
         requires { All (λ e. e.place < length self.old) log.old.items }
         ensures restored { self.new ≡ restored self.old log.old.items }
         ensures emptied { log.new.items ≡ [] }
     {
-        while let Some(Lowered { place, had }) = log.pop() {
+        while let Some(LoweredPlace { place, had }) = log.pop() {
             self.set(place, had);
         }
     }

@@ -17,7 +17,7 @@ returns-clause-answer c =
     let h = c.in-Err.ensures in
     let before = c.len-before.ensures.len in
     let graph_is : c.take_back.new.graph ≡ c.args.graph.now = c.take_back.ensures.graph ∙ ap (λ n. take n c.absorb_logged.new.graph) before ∙ h.kept in
-    let phases_are : c.take_back.new.phases ≡ c.args.phases.now = c.take_back.ensures.phases ∙ ap (λ n. take n (restored c.absorb_logged.new.phases c.absorb_logged.new.log.items)) before ∙ h.undoes in (
+    let phases_are : c.take_back.new.phases ≡ c.args.phases.now = c.take_back.ensures.phases ∙ ap (λ n. take n (restored c.absorb_logged.new.phases c.absorb_logged.new.log)) before ∙ h.undoes in (
       refusal_at_state c.args.graph.now c.args.phases.now k c.in-Err.fault c.requires.len h.refusal,
       λ t. state_of (graph_is t) (phases_are t),
     )

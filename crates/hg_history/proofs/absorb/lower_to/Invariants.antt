@@ -1,16 +1,15 @@
 use Rattle.std.proofs.Common.{◌≡◌, List, length, take}
-use Rattle.hg_changeset.specs.declared.node.Node.{Node}
 use Rattle.hg_phases.specs.declared.phase.Phase.{Phase}
 use Rattle.hg_phases.specs.State.{IsValid, state_of}
 use Rattle.hg_phases.specs.Log.{IsLog, restored}
-use Rattle.hg_history.specs.Steps.{AreFound, IsLoweredTo}
+use Rattle.hg_history.specs.Steps.{IsLoweredTo}
 use Rattle.hg_history.proofs.absorb.lower_to.Given as goal
 
 abbrev pub invariant-loop-bound : goal.invariant-loop-bound
 invariant-loop-bound l = record {
   len : length l.phases ≡ length l.fn.phases;
   valid : IsValid (state_of l.graph l.phases);
-  lowered : (bounds : List (Node × Phase)) → AreFound l.graph bounds l.found → IsLoweredTo l.graph (take l.bound-index bounds) l.phase l.fn.phases l.phases;
-  logged : (start : List Phase) → IsLog l.phase start l.fn.phases l.fn.log.items → IsLog l.phase start l.phases l.log.items;
-  undoes : restored l.phases l.log.items ≡ restored l.fn.phases l.fn.log.items;
+  lowered : IsLoweredTo l.graph (take l.bound-index l.bounds) l.phase l.fn.phases l.phases;
+  logged : (start : List Phase) → IsLog l.phase start l.fn.phases l.fn.log → IsLog l.phase start l.phases l.log;
+  undoes : restored l.phases l.log ≡ restored l.fn.phases l.fn.log;
 }

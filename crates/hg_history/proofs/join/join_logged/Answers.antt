@@ -9,7 +9,7 @@ use Rattle.hg_history.proofs.join.join_logged.Goals.{in-Some+in_ok-take_in, in_d
 pub loop-place-init : goal.loop-place-init
 loop-place-init c = record {
   joined = joined-start c.args.graph.now c.args.phases.now (state_of c.args.other.now c.args.other_phases.now) c.requires.len c.requires.valid;
-  back = take_back-start c.args.graph.now c.args.phases.now c.args.log.now.items c.requires.fresh;
+  back = take_back-start c.args.graph.now c.args.phases.now c.args.log.now c.requires.fresh;
 }
 
 pub take_in-requires-clause-parents : goal.take_in-requires-clause-parents
@@ -17,12 +17,12 @@ take_in-requires-clause-parents c =
     let h : Held = record { changeset = c.in-Some.changeset.now; phase = c.at.result } in
     ready (state_of c.args.graph.now c.args.phases.now) (state_of c.args.other.now c.args.other_phases.now) c.loop-place.place h
     (held-at c.args.other.now c.args.other_phases.now c.loop-place.place c.in-Some.changeset.now c.at.result (sym c.in-Some.ensures) c.at.ensures)
-    c.requires.other_valid c.loop-place.graph c.loop-place.phases c.loop-place.log.items c.loop-place.invariant.joined
+    c.requires.other_valid c.loop-place.graph c.loop-place.phases c.loop-place.log c.loop-place.invariant.joined
 
 pub returns-in_err-take_in-clause-back : goal.returns-in_err-take_in-clause-back
 returns-in_err-take_in-clause-back c =
-    take_back-step c.args.graph.now c.args.phases.now c.in-Some.changeset.now c.at.result c.loop-place.graph c.loop-place.phases c.loop-place.log.items c.loop-place.invariant.back
-    (Err c.in_err-take_in.field-0.0) c.take_in.new.graph c.take_in.new.phases c.take_in.new.log.items c.in_err-take_in.ensures
+    take_back-step c.args.graph.now c.args.phases.now c.in-Some.changeset.now c.at.result c.loop-place.graph c.loop-place.phases c.loop-place.log c.loop-place.invariant.back
+    (Err c.in_err-take_in.field-0.0) c.take_in.new.graph c.take_in.new.phases c.take_in.new.log c.in_err-take_in.ensures
 
 pub returns-in_err-take_in-clause-fault : goal.returns-in_err-take_in-clause-fault
 returns-in_err-take_in-clause-fault c =
@@ -32,8 +32,8 @@ returns-in_err-take_in-clause-fault c =
     let fault : IsJoinFault s o c.in_err-take_in.field-0.0 =
     joined-fault s o c.loop-place.place h
     (held-at c.args.other.now c.args.other_phases.now c.loop-place.place c.in-Some.changeset.now c.at.result (sym c.in-Some.ensures) c.at.ensures)
-    c.requires.other_valid c.loop-place.graph c.loop-place.phases c.loop-place.log.items c.loop-place.invariant.joined c.in_err-take_in.field-0.0
-    c.take_in.new.graph c.take_in.new.phases c.take_in.new.log.items c.in_err-take_in.ensures in
+    c.requires.other_valid c.loop-place.graph c.loop-place.phases c.loop-place.log c.loop-place.invariant.joined c.in_err-take_in.field-0.0
+    c.take_in.new.graph c.take_in.new.phases c.take_in.new.log c.in_err-take_in.ensures in
     err-along c.from_residual.result (IsJoinFault s o) c.from_residual.ensures.1 (λ e is. subst (IsJoinFault s o) (sym is) fault)
 
 pub loop-place-preserved : goal.loop-place-preserved
@@ -45,17 +45,17 @@ loop-place-preserved c = elim c.match-changeset_at.branch [
       let s = state_of c.args.graph.now c.args.phases.now in
       let o = state_of c.args.other.now c.args.other_phases.now in
       let joined : IsJoinedUpTo s o (c.loop-place.place + 1) w.take_in.new.graph w.take_in.new.phases =
-      joined-step s o c.loop-place.place h at_h c.requires.other_valid c.loop-place.graph c.loop-place.phases c.loop-place.log.items c.loop-place.invariant.joined w.take_in.new.graph w.take_in.new.phases w.take_in.new.log.items w.in_ok-take_in.ensures in
-      let back : CanTakeBack c.args.graph.now c.args.phases.now w.take_in.new.graph w.take_in.new.phases w.take_in.new.log.items =
-      take_back-step c.args.graph.now c.args.phases.now h.changeset h.phase c.loop-place.graph c.loop-place.phases c.loop-place.log.items c.loop-place.invariant.back (Ok w.in_ok-take_in.field-0) w.take_in.new.graph w.take_in.new.phases w.take_in.new.log.items w.in_ok-take_in.ensures in
+      joined-step s o c.loop-place.place h at_h c.requires.other_valid c.loop-place.graph c.loop-place.phases c.loop-place.log c.loop-place.invariant.joined w.take_in.new.graph w.take_in.new.phases w.take_in.new.log w.in_ok-take_in.ensures in
+      let back : CanTakeBack c.args.graph.now c.args.phases.now w.take_in.new.graph w.take_in.new.phases w.take_in.new.log =
+      take_back-step c.args.graph.now c.args.phases.now h.changeset h.phase c.loop-place.graph c.loop-place.phases c.loop-place.log c.loop-place.invariant.back (Ok w.in_ok-take_in.field-0) w.take_in.new.graph w.take_in.new.phases w.take_in.new.log w.in_ok-take_in.ensures in
       record {
         joined =
             subst (λ g. IsJoinedUpTo s o (c.loop-place.place + 1) g c.match-changeset_at.phases) (sym w.graph-is)
             (subst (λ p. IsJoinedUpTo s o (c.loop-place.place + 1) w.take_in.new.graph p) (sym w.phases-is) joined);
         back =
-            subst (λ g. CanTakeBack c.args.graph.now c.args.phases.now g c.match-changeset_at.phases c.match-changeset_at.log.items) (sym w.graph-is)
-            (subst (λ p. CanTakeBack c.args.graph.now c.args.phases.now w.take_in.new.graph p c.match-changeset_at.log.items) (sym w.phases-is)
-            (subst (λ l. CanTakeBack c.args.graph.now c.args.phases.now w.take_in.new.graph w.take_in.new.phases l.items) (sym w.log-is) back));
+            subst (λ g. CanTakeBack c.args.graph.now c.args.phases.now g c.match-changeset_at.phases c.match-changeset_at.log) (sym w.graph-is)
+            (subst (λ p. CanTakeBack c.args.graph.now c.args.phases.now w.take_in.new.graph p c.match-changeset_at.log) (sym w.phases-is)
+            (subst (λ l. CanTakeBack c.args.graph.now c.args.phases.now w.take_in.new.graph w.take_in.new.phases l) (sym w.log-is) back));
       }
   | in_default w ↦
       let within : c.loop-place.place < length c.args.other.now = omega arith in

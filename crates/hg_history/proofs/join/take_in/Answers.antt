@@ -11,5 +11,5 @@ returns-then-not-is_at c = (
   (refl, refl),
 )
 
-pub lower_one-requires : goal.lower_one-requires
-lower_one-requires c = place-within c.args.graph.now c.args.phases.now c.in-Some.place c.node-node.result c.requires.len c.in-Some.ensures.place
+pub lower_alone-requires : goal.lower_alone-requires
+lower_alone-requires c = place-within c.args.graph.now c.args.phases.now c.in-Some.place c.node-node.result c.requires.len c.in-Some.ensures.place

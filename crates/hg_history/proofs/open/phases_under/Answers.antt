@@ -1,25 +1,40 @@
-use Rattle.std.proofs.Common.{◌≡◌, Some, length, inl, inr, sym, ap, ◌∙◌, arith}
+use Rattle.std.proofs.Common.{◌≡◌, Some, MatchOption, length, slice_get, inl, inr, sym, ap, subst, ◌∙◌, arith}
 use Rattle.std.proofs.lemmas.Option.{slice_get-get_or}
+use Rattle.hg_phases.specs.declared.phase.Phase.TheVariants.{Public}
+use Rattle.hg_phases.specs.State.{state_of}
+use Rattle.hg_phases.specs.Roots.{IsOpened}
+use Rattle.hg_phases.proofs.RootLemmas.{opened-valid}
 use Rattle.hg_history.proofs.OpenLemmas.{parent_within, highest-here, opened-more, opened-all}
 use Rattle.hg_history.proofs.open.phases_under.Goals as goal
 
 pub phase_at-first-requires : goal.phase_at-first-requires
 phase_at-first-requires c =
-    rw c.loop-place.invariant.0 (parent_within c.args.graph.now c.len-place-end.ensures.graph c.loop-place.place c.parent_places-parents.result.first (λ k s. (c.parent_places-parents.ensures.places k).1 (inl s)))
+    rw (c.deref.ensures.value, c.loop-place.invariant.0) (parent_within c.args.graph.now c.len-place-end.ensures.graph c.loop-place.place c.parent_places-parents.result.first (λ k s. (c.parent_places-parents.ensures.places k).1 (inl s)))
 
 pub phase_at-second-requires : goal.phase_at-second-requires
 phase_at-second-requires c =
-    rw c.loop-place.invariant.0 (parent_within c.args.graph.now c.len-place-end.ensures.graph c.loop-place.place c.parent_places-parents.result.second (λ k s. (c.parent_places-parents.ensures.places k).1 (inr s)))
+    rw (c.deref-in-loop-place.ensures.value, c.loop-place.invariant.0) (parent_within c.args.graph.now c.len-place-end.ensures.graph c.loop-place.place c.parent_places-parents.result.second (λ k s. (c.parent_places-parents.ensures.places k).1 (inr s)))
 
 pub loop-place-preserved : goal.loop-place-preserved
 loop-place-preserved c =
-    opened-more c.args.graph.now c.args.roots.now c.loop-place.phases c.loop-place.place c.loop-place.invariant.0 c.loop-place.invariant.1 c.higher-in-loop-place.result c.push.new.self c.in_ok-push.ensures.pushed
-    (λ n at. highest-here c.args.graph.now c.len-place-end.ensures.graph c.args.roots.now c.loop-place.phases c.loop-place.invariant.1 c.in_ok-marks.marks.items c.in_ok-marks.ensures c.loop-place.place n at
+    let first = subst (λ ks. MatchOption c.parent_places-parents.result.first (c.phase_at-first.result ≡ Public) (λ p. slice_get ks p ≡ Some c.phase_at-first.result)) c.deref.ensures.value c.phase_at-first.ensures in
+    let second = subst (λ ks. MatchOption c.parent_places-parents.result.second (c.phase_at-second.result ≡ Public) (λ p. slice_get ks p ≡ Some c.phase_at-second.result)) c.deref-in-loop-place.ensures.value c.phase_at-second.ensures in
+    opened-more c.args.graph.now c.args.roots.now c.loop-place.phases.items c.loop-place.place c.loop-place.invariant.0 c.loop-place.invariant.1 c.higher-in-loop-place.result c.push.new.self.items c.in_ok-push.ensures.items
+    (λ n at. highest-here c.args.graph.now c.len-place-end.ensures.graph c.args.roots.now c.loop-place.phases.items c.loop-place.invariant.1 c.in_ok-marks.marks.items c.in_ok-marks.ensures c.loop-place.place n at
     c.parent_places-parents.result.first c.parent_places-parents.result.second c.parent_places-parents.ensures.places
-    c.index.result.now c.phase_at-first.result c.phase_at-second.result c.higher-in-loop-place.result (slice_get-get_or c.in_ok-marks.marks.items c.loop-place.place c.index.result.now (omega (arith, c.in_ok-marks.ensures.len, c.len-place-end.ensures.len, c.loop-place-test.true)) ∙ ap (λ k. Some k) (sym c.index.ensures)) c.phase_at-first.ensures c.phase_at-second.ensures
+    c.index.result.now c.phase_at-first.result c.phase_at-second.result c.higher-in-loop-place.result (slice_get-get_or c.in_ok-marks.marks.items c.loop-place.place c.index.result.now (omega (arith, c.in_ok-marks.ensures.len, c.len-place-end.ensures.len, c.loop-place-test.true)) ∙ ap (λ k. Some k) (sym c.index.ensures)) first second
     c.higher.result c.higher.ensures c.higher-in-loop-place.ensures)
+
+pub of-requires-clause-len : goal.of-requires-clause-len
+of-requires-clause-len c = omega (arith, c.loop-place.invariant.0, c.loop-place-test.false, c.loop-place.auto.place-end, c.len-place-end.ensures.len)
+
+pub of-requires-clause-valid : goal.of-requires-clause-valid
+of-requires-clause-valid c =
+    let len : length c.loop-place.phases.items ≡ length c.args.graph.now = omega (arith, c.loop-place.invariant.0, c.loop-place-test.false, c.loop-place.auto.place-end, c.len-place-end.ensures.len) in
+    opened-valid c.args.graph.now c.args.roots.now _ (opened-all c.args.graph.now c.args.roots.now c.loop-place.phases.items len c.loop-place.invariant.1) c.len-place-end.ensures.graph
 
 pub returns : goal.returns
 returns c =
-    let len : length c.loop-place.phases ≡ length c.args.graph.now = omega (arith, c.loop-place.invariant.0, c.loop-place-test.false, c.loop-place.auto.place-end, c.len-place-end.ensures.len) in
-    (len, opened-all c.args.graph.now c.args.roots.now c.loop-place.phases len c.loop-place.invariant.1)
+    let len : length c.loop-place.phases.items ≡ length c.args.graph.now = omega (arith, c.loop-place.invariant.0, c.loop-place-test.false, c.loop-place.auto.place-end, c.len-place-end.ensures.len) in
+    subst (λ ks. (length ks ≡ length c.args.graph.now) × IsOpened c.args.graph.now c.args.roots.now (state_of c.args.graph.now ks)) (sym c.of.ensures)
+    (len, opened-all c.args.graph.now c.args.roots.now c.loop-place.phases.items len c.loop-place.invariant.1)

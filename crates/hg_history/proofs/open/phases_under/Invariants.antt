@@ -3,4 +3,4 @@ use Rattle.hg_history.proofs.OpenLemmas.{AreOpenedTo}
 use Rattle.hg_history.proofs.open.phases_under.Given as goal
 
 abbrev pub invariant-loop-place : goal.invariant-loop-place
-invariant-loop-place l = (length l.phases ≡ l.place) × AreOpenedTo l.graph l.roots l.phases
+invariant-loop-place l = (length l.phases.items ≡ l.place) × AreOpenedTo l.graph l.roots l.phases.items

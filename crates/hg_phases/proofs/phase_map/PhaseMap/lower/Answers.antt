@@ -1,100 +1,12 @@
-use Rattle.std.proofs.Common.{refl, get_or, ◌≡◌, ◌<◌, ℕ, List, length, slice_get, Some, sym, ap, subst, ◌∙◌, arith}
-use Rattle.std.proofs.lemmas.Option.{slice_get-get_or}
-use Rattle.hg_changeset.specs.Contents.{Contents}
+use Rattle.std.proofs.Common.{refl, arith}
+use Rattle.std.proofs.lemmas.List.{length-map}
+use Rattle.std.proofs.lemmas.Option.{slice_get_within}
 use Rattle.hg_changeset.specs.Changeset.{node_of}
-use Rattle.hg_graph.specs.Graph.{IsGraph}
-use Rattle.hg_graph.proofs.MarkLemmas.{IsAt-from}
-use Rattle.hg_phases.specs.declared.phase.Phase.{Phase}
-use Rattle.hg_phases.specs.declared.phase_map.Lowered.{Lowered}
-use Rattle.hg_phases.specs.Log.{IsLog, restored, IsUnlowered}
-use Rattle.hg_phases.proofs.PlaceLemmas.{get-within, graph_of_state}
-use Rattle.hg_phases.proofs.LowerLemmas.{IsLowering, IsWalked, IsWalked-start, IsWalked-step, logged_within, first_within, second_within, halfway, lowered_are}
-use Rattle.hg_phases.proofs.LawLemmas.{least-lowered}
+use Rattle.hg_graph.specs.Graph.{nodes}
 use Rattle.hg_phases.proofs.phase_map.PhaseMap.lower.Goals as goal
 
--- what was read from the log
-read : (log : List Lowered) (i n : ℕ) (e : Lowered) → i < n → n ≡ length log → e ≡ get_or log i e → slice_get log i ≡ Some e
-read log i n e l len is = slice_get-get_or log i e (omega arith) ∙ ap (λ x. Some x) (sym is)
-
-pub loop-i-init : goal.loop-i-init
-loop-i-init c =
+pub lower_at-requires-clause-within : goal.lower_at-requires-clause-within
+lower_at-requires-clause-within c =
     let cs = c.args.graph.now in
-    let place = c.args.place in
-    let within : place < length cs = omega (arith, c.requires.within, c.requires.len) in
-    let d = get-within cs place within in
-    let start = IsWalked-start cs place c.args.phase c.args.self.now c.args.log.now.items (node_of d.0) (IsAt-from cs place d.0 (node_of d.0) d.1 refl) c.lower_one.new.self c.lower_one.new.log.items c.in_ok-lower_one.ensures.lowered in
-    subst (IsWalked cs place c.args.phase c.args.self.now c.args.log.now.items c.lower_one.new.self c.lower_one.new.log.items) (sym (c.len-i.ensures ∙ c.args.log.now.ok.0)) start
-
-pub parent_places-parents-requires : goal.parent_places-parents-requires
-parent_places-parents-requires c =
-    let e = c.index.result.now in
-    let at = read c.loop-i.log.items c.loop-i.i c.len.result e c.loop-i-test.true (c.len.ensures ∙ c.loop-i.log.ok.0) c.index.ensures in
-    logged_within c.args.graph.now c.args.place c.args.phase c.args.self.now c.args.log.now.items c.loop-i.self c.loop-i.log.items c.loop-i.i c.loop-i.invariant e at c.requires.len
-
-pub lower_found-requires : goal.lower_found-requires
-lower_found-requires c =
-    let graph = graph_of_state c.args.graph.now c.args.self.now c.requires.len c.requires.valid in
-    let e = c.index.result.now in
-    let at = read c.loop-i.log.items c.loop-i.i c.len.result e c.loop-i-test.true (c.len.ensures ∙ c.loop-i.log.ok.0) c.index.ensures in
-    first_within c.args.graph.now c.args.place c.args.phase c.args.self.now c.args.log.now.items graph c.loop-i.self c.loop-i.log.items c.loop-i.i c.loop-i.invariant e at
-    c.parent_places-parents.result c.parent_places-parents.ensures.places c.requires.len
-
-pub lower_found-requires-in-loop-i : goal.lower_found-requires-in-loop-i
-lower_found-requires-in-loop-i c =
-    let graph = graph_of_state c.args.graph.now c.args.self.now c.requires.len c.requires.valid in
-    let e = c.index.result.now in
-    let at = read c.loop-i.log.items c.loop-i.i c.len.result e c.loop-i-test.true (c.len.ensures ∙ c.loop-i.log.ok.0) c.index.ensures in
-    second_within c.args.graph.now c.args.place c.args.phase c.args.self.now c.args.log.now.items graph c.loop-i.self c.loop-i.log.items c.loop-i.i c.loop-i.invariant e at
-    c.parent_places-parents.result c.parent_places-parents.ensures.places c.lower_found.new.self c.lower_found.new.log.items c.in_ok-lower_found.ensures.lowered c.requires.len
-
-same_log : (phase : Phase) (start mid new : List Phase) (midlog newlog : List Lowered) → IsUnlowered mid midlog new newlog → IsLog phase start mid midlog → IsLog phase start new newlog
-same_log phase start mid new midlog newlog u l = subst (λ ks. IsLog phase start ks newlog) (sym u.0) (subst (IsLog phase start mid) (sym u.1) l)
-
-pub returns-in_err-lower_found-2-clause-logged : goal.returns-in_err-lower_found-2-clause-logged
-returns-in_err-lower_found-2-clause-logged c start l =
-    let s =
-    let graph = graph_of_state c.args.graph.now c.args.self.now c.requires.len c.requires.valid in
-    let e = c.index.result.now in
-    let at = read c.loop-i.log.items c.loop-i.i c.len.result e c.loop-i-test.true (c.len.ensures ∙ c.loop-i.log.ok.0) c.index.ensures in
-    halfway c.args.graph.now c.args.place c.args.phase c.args.self.now c.args.log.now.items graph c.loop-i.self c.loop-i.log.items c.loop-i.i c.loop-i.invariant e at
-    c.parent_places-parents.result c.parent_places-parents.ensures.places c.lower_found.new.self c.lower_found.new.log.items c.in_ok-lower_found.ensures.lowered in
-    same_log c.args.phase start _ _ _ _ c.in_err-lower_found-2.ensures.unchanged (s.logged start l)
-
-pub returns-in_err-lower_found-2-clause-undoes : goal.returns-in_err-lower_found-2-clause-undoes
-returns-in_err-lower_found-2-clause-undoes c =
-    let s =
-    let graph = graph_of_state c.args.graph.now c.args.self.now c.requires.len c.requires.valid in
-    let e = c.index.result.now in
-    let at = read c.loop-i.log.items c.loop-i.i c.len.result e c.loop-i-test.true (c.len.ensures ∙ c.loop-i.log.ok.0) c.index.ensures in
-    halfway c.args.graph.now c.args.place c.args.phase c.args.self.now c.args.log.now.items graph c.loop-i.self c.loop-i.log.items c.loop-i.i c.loop-i.invariant e at
-    c.parent_places-parents.result c.parent_places-parents.ensures.places c.lower_found.new.self c.lower_found.new.log.items c.in_ok-lower_found.ensures.lowered in
-    let u = c.in_err-lower_found-2.ensures.unchanged in
-    (λ t. restored (u.0 t) (u.1 t)) ∙ s.undoes
-
-pub loop-i-preserved : goal.loop-i-preserved
-loop-i-preserved c =
-    let graph = graph_of_state c.args.graph.now c.args.self.now c.requires.len c.requires.valid in
-    let e = c.index.result.now in
-    let at = read c.loop-i.log.items c.loop-i.i c.len.result e c.loop-i-test.true (c.len.ensures ∙ c.loop-i.log.ok.0) c.index.ensures in
-    IsWalked-step c.args.graph.now c.args.place c.args.phase c.args.self.now c.args.log.now.items graph c.loop-i.self c.loop-i.log.items c.loop-i.i c.loop-i.invariant e at
-    c.parent_places-parents.result c.parent_places-parents.ensures.places c.lower_found.new.self c.lower_found.new.log.items c.in_ok-lower_found.ensures.lowered
-    c.lower_found-in-loop-i.new.self c.lower_found-in-loop-i.new.log.items c.in_ok-lower_found-2.ensures.lowered
-
-pub loop-i-smaller : goal.loop-i-smaller
-loop-i-smaller c =
-    let graph = graph_of_state c.args.graph.now c.args.self.now c.requires.len c.requires.valid in
-    let e = c.index.result.now in
-    let at = read c.loop-i.log.items c.loop-i.i c.len.result e c.loop-i-test.true (c.len.ensures ∙ c.loop-i.log.ok.0) c.index.ensures in
-    let w = IsWalked-step c.args.graph.now c.args.place c.args.phase c.args.self.now c.args.log.now.items graph c.loop-i.self c.loop-i.log.items c.loop-i.i c.loop-i.invariant e at
-    c.parent_places-parents.result c.parent_places-parents.ensures.places c.lower_found.new.self c.lower_found.new.log.items c.in_ok-lower_found.ensures.lowered
-    c.lower_found-in-loop-i.new.self c.lower_found-in-loop-i.new.log.items c.in_ok-lower_found-2.ensures.lowered in
-    omega (arith, w.lowering.measure, w.within, c.loop-i.invariant.lowering.measure, c.loop-i.invariant.within)
-
-pub returns-clause-least : goal.returns-clause-least
-returns-clause-least c node at =
-    let w = c.loop-i.invariant in
-    let graph = graph_of_state c.args.graph.now c.args.self.now c.requires.len c.requires.valid in
-    let ended : length c.loop-i.log.items ≡ c.loop-i.i = omega (arith, c.loop-i-test.false, c.len.ensures, c.loop-i.log.ok.0, w.within) in
-    let low = lowered_are c.args.graph.now c.args.place c.args.phase c.args.self.now c.args.log.now.items c.loop-i.self c.loop-i.log.items graph c.requires.len c.requires.valid w.lowering w.given
-    (λ m e q le lt. w.closed m e q le (omega (arith, ended))) in
-    least-lowered c.args.graph.now node c.args.place c.args.phase c.args.self.now c.loop-i.self graph c.requires.len at low
+    let at = (c.in-Some.ensures.place c.in-Some.place).1 refl in
+    omega (arith, slice_get_within (nodes cs) c.in-Some.place c.args.node at, length-map cs node_of, c.requires.len)

@@ -1,6 +1,6 @@
 use Rattle.std.proofs.Common.{◌≡◌, ◌<◌, length, vec_len, All}
 use Rattle.hg_phases.specs.Log.{restored}
-use Rattle.hg_phases.proofs.phase_map.PhaseMap.undo.Given as goal
+use Rattle.hg_phases.proofs.phase_map.PhaseMap.restore.Given as goal
 
 abbrev pub invariant-loop-place : goal.invariant-loop-place
 invariant-loop-place l = record {

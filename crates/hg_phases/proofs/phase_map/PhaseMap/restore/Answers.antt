@@ -1,16 +1,16 @@
 use Rattle.std.proofs.Common.{set, ◌≡◌, ◌<◌, sym, ap, ◌∙◌, ◌++◌, ◌∷◌, [], length, subst, All, Some}
 use Rattle.std.proofs.lemmas.List.{length-set}
 use Rattle.std.proofs.lemmas.List.Elements.{All-pop}
-use Rattle.hg_phases.specs.declared.phase_map.Lowered.{Lowered}
+use Rattle.hg_phases.specs.declared.lowered.LoweredPlace.{LoweredPlace}
 use Rattle.hg_phases.specs.Log.{restored}
 use Rattle.hg_phases.proofs.LogLemmas.{restored-push}
-use Rattle.hg_phases.proofs.phase_map.PhaseMap.undo.Goals as goal
+use Rattle.hg_phases.proofs.phase_map.PhaseMap.restore.Goals as goal
 
 pub loop-place-preserved : goal.loop-place-preserved
 loop-place-preserved c =
     let phases = c.loop-place.self in
     let rest = c.pop.new.self.items in
-    let e : Lowered = c.in-Some.field-0 in
+    let e : LoweredPlace = c.in-Some.field-0 in
     let items : c.loop-place.log.items ≡ rest ++ e ∷ [] = c.in-Some.ensures.items in
     let set_is : c.set.new.self ≡ set phases e.place e.had = cc in
     record {
