@@ -92,11 +92,13 @@ join_from_content s o t u v w h = record {
 
 -- what absorbing leaves is the content after the part
 pub absorbed-content : (s t : ReplicaState) (k : PartValue) (r : Result ChangeValue Fault) → IsValid s → AbsorbAnswer s k r t → OnOk r (ContentAfter (content_of s) k (content_of t))
+unfolding AbsorbAnswer
 absorbed-content s t k (Ok change) valid h = content-after s t k valid (least-valid s (k ∷ []) t h.least valid) h.admitted h.least
 absorbed-content s t k (Err fault) valid h = tt
 
 -- and its refusals are at fault, or for want of memory
 pub refused-content : (s t : ReplicaState) (k : PartValue) (r : Result ChangeValue Fault) → IsValid s → AbsorbAnswer s k r t → IfErr r (λ fault. IsContentFault (content_of s) k fault ⊎ (fault ≡ NoMemory))
+unfolding AbsorbAnswer
 refused-content s t k (Ok change) valid h = tt
 refused-content s t k (Err fault) valid h = by fault h.0
   where
@@ -109,6 +111,7 @@ refused-content s t k (Err fault) valid h = by fault h.0
 
 -- the change tells what became of the state
 pub told-change : (s t : ReplicaState) (k : PartValue) (r : Result ChangeValue Fault) → AbsorbAnswer s k r t → IfOk r (λ change. TellsChange s change t)
+unfolding AbsorbAnswer
 told-change s t k (Ok change) h = record {
   history = record { new = unheld (changesets s.history) k.history.changesets; order = h.order; added = h.added; lowered = h.lowered };
   markers = record { first = (new_among s.markers k.markers, h.marker_order); places = h.markers };
@@ -116,6 +119,7 @@ told-change s t k (Ok change) h = record {
 told-change s t k (Err fault) h = tt
 
 pub unchanged : (s t : ReplicaState) (k : PartValue) (r : Result ChangeValue Fault) → AbsorbAnswer s k r t → OnErr r (t ≡ s)
+unfolding AbsorbAnswer
 unchanged s t k (Ok change) h = tt
 unchanged s t k (Err fault) h = h.1
 
@@ -124,13 +128,16 @@ whatever_answer (Ok x) P h = h
 whatever_answer (Err e) P h = tt
 
 pub joined-content : (s o t : ReplicaState) (r : Result Unit Fault) → IsValid s → IsValid o → JoinAnswer s o r t → OnOk r (ContentsJoined (content_of s) (content_of o) (content_of t))
+unfolding JoinAnswer
 joined-content s o t (Ok u) v w h = join-contents s o t v w h.0 h.1
 joined-content s o t (Err fault) v w h = tt
 
 pub refused-join : (s o t : ReplicaState) (r : Result Unit Fault) → IsValid s → IsValid o → JoinAnswer s o r t → IfErr r (λ fault. ContentsCollide (content_of s) (content_of o) fault ⊎ (fault ≡ NoMemory))
+unfolding JoinAnswer
 refused-join s o t (Ok u) v w h = tt
 refused-join s o t (Err fault) v w h = history-collide s.history o.history v.graph w.graph fault h.0
 
 pub join-unchanged : (s o t : ReplicaState) (r : Result Unit Fault) → JoinAnswer s o r t → OnErr r (t ≡ s)
+unfolding JoinAnswer
 join-unchanged s o t (Ok u) h = tt
 join-unchanged s o t (Err fault) h = h.1

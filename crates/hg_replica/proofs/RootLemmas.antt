@@ -47,6 +47,7 @@ module _ (s : State) (roots : List Root) (text : List ℕ) (valid : IsValidHisto
 
 pub own-same-replica : (s t : ReplicaState) (roots read : List Root) (text : List ℕ) → IsValid s → AreRoots s.history roots → IsWritten roots text → IsReading text (Ok read)
     → OpenAnswer (changesets s.history) read s.markers (Ok t) → t ≡ s
+unfolding OpenAnswer
 own-same-replica s t roots read text valid are written h opened =
     let history = own-same s.history t.history roots read valid are (read_same s.history roots text valid are written read h) opened.0 in
     λ i. record { history = history i; markers = opened.1 i }

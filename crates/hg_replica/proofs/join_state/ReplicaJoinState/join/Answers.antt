@@ -1,5 +1,5 @@
 use Rattle.hg_replica.specs.Content.{content_of, IsValidContent}
-use Rattle.hg_replica.proofs.ContentLemmas.{content-valid, whatever_answer, joined-content, refused-join}
+use Rattle.hg_replica.proofs.ContentLemmas.{content-valid, whatever_answer, joined-content, join-unchanged, refused-join}
 use Rattle.hg_replica.proofs.join_state.ReplicaJoinState.join.Goals as goal
 
 pub returns-clause-joined : goal.returns-clause-joined
@@ -13,3 +13,6 @@ returns-clause-other_valid c = whatever_answer c.join.result (IsValidContent (co
 
 pub returns-clause-fault : goal.returns-clause-fault
 returns-clause-fault c = refused-join c.args.self.now c.args.other.now c.join.new.self c.join.result c.join.ensures.valid c.join.ensures.other_valid c.join.ensures.answer
+
+pub returns-clause-err : goal.returns-clause-err
+returns-clause-err c = join-unchanged c.args.self.now c.args.other.now c.join.new.self c.join.result c.join.ensures.answer

@@ -7,7 +7,7 @@ use Rattle.hg_obsstore.specs.Growth.{new_among}
 use Rattle.hg_replica.specs.State.{ReplicaState}
 use Rattle.hg_replica.specs.Least.{PartValue}
 use Rattle.hg_replica.specs.Change.{ChangeValue}
-use Rattle.hg_replica.specs.Answer.{IsAbsorbed}
+use Rattle.hg_replica.specs.Answer.{AbsorbAnswer, IsAbsorbed}
 use Rattle.hg_replica.proofs.ReplicaLemmas.{absorbed}
 use Rattle.hg_replica.proofs.replica.Replica.absorb.Goals as goal
 
@@ -15,6 +15,7 @@ pub invariant_of-self-in-Ok-absorb : goal.invariant_of-self-in-Ok-absorb
 invariant_of-self-in-Ok-absorb c = least-valid c.self.inside.history _ c.absorb-2.new.self c.in-Ok-absorb.ensures.answer.least c.self.invariant
 
 pub returns-in-Ok-absorb-clause-answer : goal.returns-in-Ok-absorb-clause-answer
+unfolding AbsorbAnswer
 returns-in-Ok-absorb-clause-answer c =
     let s : ReplicaState = record { history = c.self.inside.history; markers = c.self.inside.store } in
     let t : ReplicaState = record { history = c.absorb-2.new.self; markers = c.absorb.new.self } in
@@ -27,6 +28,7 @@ returns-in-Ok-absorb-clause-answer c =
     (subst (λ x. IsAbsorbed s x change t) k_is (absorbed s t k change history c.in-Ok.ensures.ok c.in-Ok.ensures.union c.in-Ok.ensures.places))
 
 pub returns-in-Err-absorb-clause-answer : goal.returns-in-Err-absorb-clause-answer
+unfolding AbsorbAnswer
 returns-in-Err-absorb-clause-answer c =
     let s : ReplicaState = record { history = c.self.inside.history; markers = c.self.inside.store } in
     let k : PartValue = record { history = record { changesets = c.deref-2.result.now; bounds = c.deref-3.result.now }; markers = c.deref.result.now } in
@@ -40,3 +42,7 @@ returns-in-Err-absorb-clause-answer c =
       subst (λ u. IsRefusal (changesets u.history) c.args.part.now.history fault) c.self.view_is (subst (λ x. IsRefusal (changesets s.history) x.history fault) k_is answer.0),
       (λ i. record { history = answer.1 i; markers = back i }) ∙ c.self.view_is,
     )
+
+pub returns-in-Err-clause-answer : goal.returns-in-Err-clause-answer
+unfolding AbsorbAnswer
+returns-in-Err-clause-answer c = (tt, (λ i. record { history = c.self.inside.history; markers = c.in-Err.ensures.err i }) ∙ c.self.view_is)

@@ -3,11 +3,12 @@ use Rattle.std.proofs.Math.Seq.{take-append_seam}
 use Rattle.hg_history.specs.Join.{IsJoinFault}
 use Rattle.hg_obsstore.specs.Growth.{new_among}
 use Rattle.hg_replica.specs.State.{ReplicaState}
-use Rattle.hg_replica.specs.Answer.{IsJoin}
+use Rattle.hg_replica.specs.Answer.{IsJoin, JoinAnswer}
 use Rattle.hg_replica.proofs.ReplicaLemmas.{joined}
 use Rattle.hg_replica.proofs.replica.Replica.join.Goals as goal
 
 pub returns-in-Ok-join-clause-answer : goal.returns-in-Ok-join-clause-answer
+unfolding JoinAnswer
 returns-in-Ok-join-clause-answer c =
     let s : ReplicaState = record { history = c.self.inside.history; markers = c.self.inside.store } in
     let o : ReplicaState = record { history = c.other.inside.history; markers = c.other.inside.store } in
@@ -16,6 +17,7 @@ returns-in-Ok-join-clause-answer c =
     (answer.0, subst (λ u. IsJoin c.args.self.now u t) c.other.view_is (subst (λ u. IsJoin u o t) c.self.view_is (joined s o t answer.1 c.in-Ok.ensures.union)))
 
 pub returns-in-Err-join-clause-answer : goal.returns-in-Err-join-clause-answer
+unfolding JoinAnswer
 returns-in-Err-join-clause-answer c =
     let o : ReplicaState = record { history = c.other.inside.history; markers = c.other.inside.store } in
     let fault = c.in-Err-join.fault in
@@ -26,3 +28,7 @@ returns-in-Err-join-clause-answer c =
       subst (λ u. IsJoinFault c.args.self.now.history u.history fault) c.other.view_is (subst (λ u. IsJoinFault u.history o.history fault) c.self.view_is answer.0),
       (λ i. record { history = answer.1 i; markers = back i }) ∙ c.self.view_is,
     )
+
+pub returns-in-Err-clause-answer : goal.returns-in-Err-clause-answer
+unfolding JoinAnswer
+returns-in-Err-clause-answer c = (tt, (λ i. record { history = c.self.inside.history; markers = c.in-Err.ensures.err i }) ∙ c.self.view_is)
