@@ -1,0 +1,117 @@
+//! Cases of markers: what adding, writing and reading cost. Each marker takes 200 bytes as written.
+use byteorder::{BigEndian, ByteOrder};
+use hg_changeset::Node;
+use hg_marker::{Marker, Metadata};
+use hg_obsstore::{Store, read_store, store_bytes};
+use std::alloc::{AllocError, Global};
+use std::io;
+use std::time::{CpuClock, Duration};
+
+/// What markers rewrite.
+#[derive(Clone, Copy)]
+pub enum Shape {
+    /// Each the node that the one before made.
+    Chain,
+    /// All of them one node.
+    Fan,
+}
+
+/// Markers added to an empty store, one by one.
+pub fn add_markers(
+    rt: &(impl CpuClock + AllocGlobal),
+    size: usize,
+    shape: Shape,
+) -> io::Result<Duration> {
+    let alloc = rt.alloc();
+    let markers = markers(alloc, size, shape)?;
+    time_adding(rt, &mut Store::new(alloc), markers)
+}
+
+fn time_adding(
+    rt: &impl CpuClock,
+    store: &mut Store,
+    markers: Vec<Marker>,
+) -> io::Result<Duration> {
+    let before = rt.thread_cpu_time()?;
+    add_all(store, markers);
+    Ok(rt.thread_cpu_time()?.saturating_sub(before))
+}
+
+fn add_all(store: &mut Store, markers: Vec<Marker>) {
+    for marker in markers {
+        let _added = store.add(marker);
+    }
+}
+
+/// A store of this size, written.
+pub fn write_markers(rt: &(impl CpuClock + AllocGlobal), size: usize) -> io::Result<Duration> {
+    let store = store_of(rt.alloc(), size)?;
+    time_writing(rt, &store)
+}
+
+fn time_writing(rt: &impl CpuClock, store: &Store) -> io::Result<Duration> {
+    let before = rt.thread_cpu_time()?;
+    let _written = store_bytes(store);
+    Ok(rt.thread_cpu_time()?.saturating_sub(before))
+}
+
+/// A store of this size, read from its bytes, with its indexes.
+pub fn read_markers(rt: &(impl CpuClock + AllocGlobal), size: usize) -> io::Result<Duration> {
+    let bytes = written(rt.alloc(), size)?;
+    time_reading(rt, rt.alloc(), &bytes)
+}
+
+fn time_reading(rt: &impl CpuClock, alloc: Global, bytes: &[u8]) -> io::Result<Duration> {
+    let before = rt.thread_cpu_time()?;
+    let _read = read_store(alloc, bytes);
+    Ok(rt.thread_cpu_time()?.saturating_sub(before))
+}
+
+// A store of markers in a chain.
+fn store_of(alloc: Global, size: usize) -> Result<Store, AllocError> {
+    let markers = markers(alloc, size, Shape::Chain)?;
+    let mut store = Store::new(alloc);
+    add_all(&mut store, markers);
+    Ok(store)
+}
+
+fn written(alloc: Global, size: usize) -> Result<Vec<u8>, AllocError> {
+    let store = store_of(alloc, size)?;
+    store_bytes(&store)
+}
+
+fn markers(alloc: Global, size: usize, shape: Shape) -> Result<Vec<Marker>, AllocError> {
+    let mut markers = Vec::new(alloc);
+    for number in 0..size {
+        let old = match shape {
+            Shape::Chain => number,
+            Shape::Fan => size,
+        };
+        if let Some(marker) = marker(alloc, node(old), node(number.wrapping_add(1))) {
+            markers.push(marker)?;
+        }
+    }
+    Ok(markers)
+}
+
+fn marker(alloc: Global, old: Node, new: Node) -> Option<Marker> {
+    let successors = Vec::from_slice(alloc, &[new]).ok()?;
+    let metadata = metadata(alloc).ok()?;
+    Marker::new(old, successors, 0, metadata).ok()
+}
+
+// As much as makes a marker with one successor 200 bytes long.
+fn metadata(alloc: Global) -> Result<Metadata, AllocError> {
+    let mut metadata = Metadata::new(alloc);
+    let key = Vec::from_slice(alloc, b"user")?;
+    let value = vec![in alloc; b'x'; 149]?;
+    metadata.insert(key, value)?;
+    Ok(metadata)
+}
+
+// The id whose first bytes are the number.
+fn node(number: usize) -> Node {
+    let mut bytes = [0; 20];
+    BigEndian::write_u64(&mut bytes[..8], number as u64);
+    Node(bytes)
+}

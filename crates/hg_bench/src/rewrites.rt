@@ -1,0 +1,74 @@
+//! Cases of operations: what deciding them and absorbing their parts cost.
+use crate::chain::{chain_on, replica_of, tip_of};
+use hg_changeset::{Entry, Node};
+use hg_replica::{Part, Replica};
+use hg_rewrite::{Op, decide};
+use std::alloc::{AllocError, Global};
+use std::collections::BTreeMap;
+use std::io;
+use std::time::{CpuClock, Duration};
+
+/// As many amends as a stack has changesets, the first of its bottom and each further one of what the one before made.
+pub fn amend_bottom(rt: &(impl CpuClock + AllocGlobal), size: usize) -> io::Result<Duration> {
+    let alloc = rt.alloc();
+    let part = chain_on(alloc, Node::NULL, size)?;
+    time_amending(
+        rt,
+        alloc,
+        &mut replica_of(alloc, &part),
+        bottom_of(&part),
+        size,
+    )
+}
+
+fn bottom_of(part: &Part) -> Node {
+    match part.changesets.first() {
+        Some(changeset) => changeset.node(),
+        None => Node::NULL,
+    }
+}
+
+fn time_amending(
+    rt: &impl CpuClock,
+    alloc: Global,
+    replica: &mut Replica,
+    node: Node,
+    count: usize,
+) -> io::Result<Duration> {
+    let before = rt.thread_cpu_time()?;
+    amend_again(alloc, replica, node, count);
+    Ok(rt.thread_cpu_time()?.saturating_sub(before))
+}
+
+fn amend_again(alloc: Global, replica: &mut Replica, node: Node, count: usize) {
+    let mut tip = node;
+    for number in 0..count {
+        if let Some(new) = amend(alloc, replica, tip, number) {
+            tip = new;
+        }
+    }
+}
+
+fn amend(alloc: Global, replica: &mut Replica, node: Node, number: usize) -> Option<Node> {
+    let op = amend_of(alloc, node, number)?;
+    let part = decide(alloc, replica, &op).ok()?;
+    let _absorbed = replica.absorb(&part);
+    Some(tip_of(&part))
+}
+
+fn amend_of(alloc: Global, node: Node, number: usize) -> Option<Op> {
+    let entry = entry(alloc, number).ok()?;
+    Some(Op::Amend { node, entry })
+}
+
+// An entry with the number as its description.
+fn entry(alloc: Global, number: usize) -> Result<Entry, AllocError> {
+    let desc = format!(in alloc; "{number}")?;
+    Ok(Entry {
+        user: Vec::from_slice(alloc, b"fleet")?,
+        secs: 0,
+        offset: 0,
+        extra: BTreeMap::new(alloc),
+        desc: desc.into_bytes(),
+    })
+}
