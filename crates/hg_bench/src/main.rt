@@ -9,7 +9,7 @@ mod markers;
 mod rewrites;
 mod states;
 
-use markers::{Shape, add_markers, read_markers, write_markers};
+use markers::{Shape, add_markers, list_markers, read_markers, write_markers};
 use rewrites::amend_bottom;
 use states::{absorb_at_once, absorb_one_by_one, ask_below, join_into_empty, join_into_equal};
 use std::time::{CpuClock, Duration};
@@ -43,6 +43,7 @@ fn spent(rt: &(impl CpuClock + AllocGlobal), case: &str, size: usize) -> io::Res
         "add-fan" => add_markers(rt, size, Shape::Fan),
         "write" => write_markers(rt, size),
         "read" => read_markers(rt, size),
+        "list" => list_markers(rt, size),
         "amend-bottom" => amend_bottom(rt, size),
         _ => Ok(Duration::ZERO),
     }

@@ -67,6 +67,18 @@ fn time_reading(rt: &impl CpuClock, alloc: Global, bytes: &[u8]) -> io::Result<D
     Ok(rt.thread_cpu_time()?.saturating_sub(before))
 }
 
+/// The markers of a store of this size, read from its bytes as a list, without indexes.
+pub fn list_markers(rt: &(impl CpuClock + AllocGlobal), size: usize) -> io::Result<Duration> {
+    let bytes = written(rt.alloc(), size)?;
+    time_listing(rt, rt.alloc(), &bytes)
+}
+
+fn time_listing(rt: &impl CpuClock, alloc: Global, bytes: &[u8]) -> io::Result<Duration> {
+    let before = rt.thread_cpu_time()?;
+    let _read = hg_obsstore::read_markers(alloc, bytes);
+    Ok(rt.thread_cpu_time()?.saturating_sub(before))
+}
+
 // A store of markers in a chain.
 fn store_of(alloc: Global, size: usize) -> Result<Store, AllocError> {
     let markers = markers(alloc, size, Shape::Chain)?;
