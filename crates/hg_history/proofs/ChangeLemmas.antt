@@ -13,17 +13,15 @@ use Rattle.hg_changeset.specs.Contents.{Contents}
 use Rattle.hg_changeset.specs.Changeset.{node_of}
 use Rattle.hg_changeset.proofs.NodeLemmas.{same_node}
 use Rattle.hg_graph.specs.Graph.{IsGraph, nodes}
-use Rattle.hg_graph.specs.Places.{IsAt}
 use Rattle.hg_graph.proofs.GraphLemmas.{Contains-from_place, place_from_Contains}
 use Rattle.hg_graph.proofs.MarkLemmas.{same_place, IsAt-from}
 use Rattle.hg_phases.specs.declared.phase.Phase.{Phase}
 use Rattle.hg_phases.specs.declared.lowered.LoweredPlace.{LoweredPlace}
-use Rattle.hg_phases.specs.State.{Held, rank, state_of, IsPhaseOf}
+use Rattle.hg_phases.specs.State.{Held, rank, state_of}
 use Rattle.hg_phases.specs.Log.{IsLog, node_before}
 use Rattle.hg_phases.proofs.PlaceLemmas.{get-within, get-append_left, held-at, parts-at}
 use Rattle.hg_phases.proofs.LeastLemmas.{only_one}
 use Rattle.hg_history.specs.Change.{WentDown, ListsLowered}
-
 use Rattle.hg_history.proofs.AddLemmas.{front}
 
 pub each_place : {X : Type 0} (P : X → Type 0) (xs : List X) → ((x : X) → Contains xs x → P x) → AllByRecursion P xs

@@ -1,5 +1,5 @@
 -- Listing the roots, place after place.
-use Rattle.std.proofs.Common.{◌≡◌, ◌≢◌, ℕ, zero, suc, ◌+◌, ◌<◌, ◌≤◌, List, [], ◌∷◌, ◌++◌, drop, length, slice_get, Option, Some, None, Contains, ◌↔◌, ◌⊎◌, inl, inr, refl, sym, ap, subst, ◌∙◌, append_assoc, append-nil, arith}
+use Rattle.std.proofs.Common.{◌≡◌, ◌≢◌, ℕ, zero, suc, ◌+◌, ◌<◌, ◌≤◌, List, [], ◌∷◌, ◌++◌, drop, length, slice_get, Option, Some, None, ◌↔◌, ◌⊎◌, inl, inr, refl, sym, ap, subst, ◌∙◌, append_assoc, append-nil, arith}
 use Rattle.std.proofs.lemmas.List.{drop_all, length-map}
 use Rattle.std.proofs.lemmas.Option.{none-some, same_Some}
 use Rattle.hg_changeset.specs.declared.node.Node.{Node}
@@ -12,7 +12,7 @@ use Rattle.hg_graph.proofs.PlaceLemmas.{get-within, IsAt-from, IsAt-within, plac
 use Rattle.hg_phases.specs.declared.phase.Phase.{Phase}
 use Rattle.hg_phases.specs.declared.phase.Phase.TheVariants.{Public}
 use Rattle.hg_phases.specs.State.{State, Held, held_of, state_of}
-use Rattle.hg_phases.specs.Roots.{IsRoot, AreRootsAmong, AreRoots, root_of}
+use Rattle.hg_phases.specs.Roots.{IsRoot, AreRootsAmong, AreRoots}
 use Rattle.hg_phases.proofs.PlaceLemmas.{changesets-held_of, held-at, parts-at}
 use Rattle.hg_history.specs.Open.{HasParentIn, IsRootAt}
 

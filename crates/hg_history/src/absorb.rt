@@ -46,12 +46,7 @@ pub(crate) fn absorb_or_undo(
 }
 
 /// Restores the phases that were logged, and forgets what stands from the place `before` on.
-pub(crate) fn take_back(
-    graph: &mut Graph,
-    phases: &mut PhaseMap,
-    log: &mut Lowered,
-    before: usize,
-)
+pub(crate) fn take_back(graph: &mut Graph, phases: &mut PhaseMap, log: &mut Lowered, before: usize)
     requires { All (λ e. e.place < length phases.old) log.old }
     ensures graph { graph.new ≡ take before graph.old }
     ensures phases { phases.new ≡ take before (restored phases.old log.old) }

@@ -1,5 +1,5 @@
 -- Reading line by line.
-use Rattle.std.proofs.Common.{◌≡◌, ℕ, ◌+◌, List, [], ◌∷◌, ◌++◌, Result, Ok, Err, Option, Some, None, append_assoc, append-nil, refl, sym, ap, ◌∙◌}
+use Rattle.std.proofs.Common.{◌≡◌, ℕ, ◌+◌, List, [], ◌∷◌, ◌++◌, Result, Ok, Err, Some, None, append_assoc, append-nil, refl, sym, ap, ◌∙◌}
 use Rattle.hg_phaseroots.specs.declared.error.RootsError.{RootsError}
 use Rattle.hg_phaseroots.specs.declared.error.RootsError.TheVariants.{BadLine, BadPhase, NoMemory}
 use Rattle.hg_phaseroots.specs.Lines.{lines_of}

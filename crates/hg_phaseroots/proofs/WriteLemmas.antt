@@ -1,7 +1,6 @@
 -- The nodes in their order, and the lines.
-use Rattle.std.proofs.Common.{◌≡◌, ◌≢◌, ℕ, suc, List, [], ◌∷◌, ◌++◌, take, get_or, length, ◌<◌, ◌+◌, map, Contains, Bool, true, false, cond, eqb, IsTrue, Option, Some, None, Result, Ok, Err, IsOk, ◌↔◌, ◌⊎◌, inl, inr, refl, sym, ap, subst, ◌∙◌, append_assoc, true≢false, arith}
+use Rattle.std.proofs.Common.{◌≡◌, ◌≢◌, ℕ, suc, List, [], ◌∷◌, ◌++◌, take, get_or, length, ◌<◌, ◌+◌, map, Contains, Bool, true, false, cond, eqb, IsTrue, Option, Some, Result, Ok, Err, IsOk, ◌↔◌, ◌⊎◌, inl, inr, refl, sym, ap, subst, ◌∙◌, append_assoc, true≢false, arith}
 use Rattle.std.specs.List.{All, AllPass}
-use Rattle.std.specs.List.Sorted.{IsStrictlySortedBy}
 use Rattle.std.specs.Option.{option_map, ok_or}
 use Rattle.std.specs.Ordering.{match_ordering}
 use Rattle.std.specs.Result.{result_ok}

@@ -1,5 +1,5 @@
 -- What doesn't depend on the order in which a state keeps its changesets.
-use Rattle.std.proofs.Common.{◌≡◌, ℕ, ◌≤◌, Bool, true, false, cond, List, [], ◌∷◌, Option, Some, None, find, Contains, ◌↔◌, ◌⊎◌, inl, inr, refl, sym, ap, subst, ◌∙◌, arith, true≢false}
+use Rattle.std.proofs.Common.{◌≡◌, Bool, true, false, cond, List, [], ◌∷◌, Option, Some, None, find, Contains, inl, inr, refl, sym, ap, subst, ◌∙◌, arith, true≢false}
 use Rattle.std.proofs.lemmas.List.Elements.{Contains-append_right, Contains-append_cases}
 use Rattle.std.proofs.lemmas.Option.{none-some, same_Some}
 use Rattle.hg_changeset.specs.declared.node.Node.{Node}
@@ -9,7 +9,7 @@ use Rattle.hg_changeset.specs.Changeset.{node_of}
 use Rattle.hg_changeset.proofs.NodeLemmas.{same_node, node_eq_laws}
 use Rattle.hg_graph.specs.Graph.{IsGraph}
 use Rattle.hg_phases.specs.declared.phase.Phase.{Phase}
-use Rattle.hg_phases.specs.State.{State, Held, rank, changesets, IsValid}
+use Rattle.hg_phases.specs.State.{State, Held, changesets}
 use Rattle.hg_phases.specs.Order.{Below, IsSameState}
 use Rattle.hg_phases.specs.Content.{content_of}
 use Rattle.hg_phases.specs.Least.{PartValue, IsCandidate, IsLeast}

@@ -1,9 +1,9 @@
 -- Each admitted part has a least state.
-use Rattle.std.proofs.Common.{◌≡◌, ◌≢◌, ℕ, zero, suc, ◌<◌, ◌≤◌, Bool, true, false, List, [], ◌∷◌, ◌++◌, append_assoc, length, map, take, slice_get, Some, None, Contains, ◌↔◌, ◌⊎◌, inl, inr, refl, sym, ap, subst, ◌∙◌, arith, true≢false}
+use Rattle.std.proofs.Common.{◌≡◌, ◌≢◌, ℕ, zero, suc, ◌<◌, ◌≤◌, Bool, true, false, List, [], ◌∷◌, ◌++◌, append_assoc, length, map, take, slice_get, Some, Contains, ◌↔◌, ◌⊎◌, inl, inr, refl, sym, ap, subst, ◌∙◌, arith, true≢false}
 use Rattle.std.specs.List.{list_any}
 use Rattle.std.proofs.lemmas.Bool.{cases_eq, cases_order}
 use Rattle.std.proofs.lemmas.List.{append-nil, length-append, length-map, map-append}
-use Rattle.std.proofs.lemmas.List.Elements.{Contains-append_left, Contains-append_right, Contains-append_cases, Contains-push, Contains-push_cases}
+use Rattle.std.proofs.lemmas.List.Elements.{Contains-append_left, Contains-append_right, Contains-append_cases, Contains-push_cases}
 use Rattle.std.proofs.lemmas.Map.Views.{list_any-from_Contains, Contains-from_any}
 use Rattle.std.proofs.lemmas.Option.{none-some, same_Some, slice_get_within}
 use Rattle.std.proofs.Math.Seq.{take-append_seam}
@@ -14,12 +14,12 @@ use Rattle.hg_changeset.specs.Changeset.{node_of, IsChangeset}
 use Rattle.hg_changeset.proofs.NodeLemmas.{same_node, node_eq_laws}
 use Rattle.hg_graph.specs.Graph.{IsGraph, IsParent, HoldsParents, nodes, Holds as GraphHolds}
 use Rattle.hg_graph.specs.Places.{IsAt, IsParentPlace, IsAncestorPlace}
-use Rattle.hg_graph.proofs.GraphLemmas.{Contains-from_place, place_from_Contains, Holds-from, Holds-changeset, IsGraph-push}
-use Rattle.hg_graph.proofs.PlaceLemmas.{same_place, IsAt-from, place_from_Holds, parent_first, ancestor_first, ancestor_itself, ancestor_through_parent, ancestor_by_parent}
+use Rattle.hg_graph.proofs.GraphLemmas.{Holds-from, Holds-changeset, IsGraph-push}
+use Rattle.hg_graph.proofs.PlaceLemmas.{same_place, place_from_Holds, parent_first, ancestor_first, ancestor_itself, ancestor_through_parent, ancestor_by_parent}
 use Rattle.hg_phases.specs.declared.phase.Phase.{Phase}
 use Rattle.hg_phases.specs.declared.phase.Phase.TheVariants.{Secret}
 use Rattle.hg_phases.specs.State.{State, Held, rank, changesets, Holds, IsValid, held_of, state_of}
-use Rattle.hg_phases.specs.Least.{PartValue, Covers, IsAdmitted, AreAdmitted, IsBoundOfOne, IsChangesetOfOne, IsLowest, IsLeast, IsSmallest, bound_alone}
+use Rattle.hg_phases.specs.Least.{PartValue, Covers, IsAdmitted, AreAdmitted, IsBoundOfOne, IsLowest, IsLeast, IsSmallest, bound_alone}
 use Rattle.hg_phases.specs.Log.{IsLowered}
 use Rattle.hg_phases.proofs.PlaceLemmas.{get-within, get-push_cases}
 use Rattle.hg_phases.proofs.LeastLemmas.{rank-top, changeset_from, same_held, Holds-taken, least-then, only_one}

@@ -1,5 +1,5 @@
 -- The order of states, and the two forms of the least state.
-use Rattle.std.proofs.Common.{◌≡◌, ℕ, ◌≤◌, List, [], ◌∷◌, ◌++◌, Contains, ◌↔◌, ◌⊎◌, inl, inr, refl, sym, ap, subst, ◌∙◌, arith}
+use Rattle.std.proofs.Common.{◌≡◌, ◌≤◌, List, [], ◌∷◌, Contains, inl, inr, refl, sym, ap, subst, ◌∙◌, arith}
 use Rattle.hg_changeset.specs.declared.node.Node.{Node}
 use Rattle.hg_changeset.specs.Contents.{Contents}
 use Rattle.hg_changeset.specs.Changeset.{node_of}
@@ -8,7 +8,6 @@ use Rattle.hg_graph.specs.Graph.Reaches.{itself, below}
 use Rattle.hg_graph.proofs.GraphLemmas.{Contains-from_place, place_from_Contains, Holds-from, Holds-changeset}
 use Rattle.hg_graph.proofs.MarkLemmas.{Holds-reached}
 use Rattle.hg_phases.specs.declared.phase.Phase.{Phase}
-use Rattle.hg_phases.specs.declared.phase.Phase.TheVariants.{Public, Draft, Secret}
 use Rattle.hg_phases.specs.State.{State, Held, rank, changesets, Holds, Reaches, IsValid}
 use Rattle.hg_phases.specs.Order.{Below, IsSameState}
 use Rattle.hg_phases.specs.Least.{PartValue, Covers, IsAdmitted, IsCandidate, IsLeast, IsSmallest, IsLeastOneByOne}

@@ -1,8 +1,8 @@
 -- Roots, and the phases that follow from them.
-use Rattle.std.proofs.Common.{◌≡◌, ℕ, zero, suc, ◌+◌, ◌<◌, ◌≤◌, List, [], ◌∷◌, length, map, take, slice_get, Some, Contains, ◌↔◌, ◌⊎◌, inl, inr, refl, sym, ap, subst, ◌∙◌, arith}
+use Rattle.std.proofs.Common.{◌≡◌, ℕ, zero, suc, ◌<◌, ◌≤◌, List, [], ◌∷◌, length, map, take, slice_get, Some, Contains, ◌↔◌, ◌⊎◌, inl, inr, refl, sym, ap, subst, ◌∙◌, arith}
 use Rattle.std.specs.Option.{option_map}
 use Rattle.std.proofs.lemmas.Bool.{cases_lt}
-use Rattle.std.proofs.lemmas.Option.{none-some, same_Some, slice_get-map, slice_get_within}
+use Rattle.std.proofs.lemmas.Option.{none-some, same_Some, slice_get-map}
 use Rattle.std.proofs.lemmas.List.Elements.{Contains-append_left, Contains-append_right, Contains-append_cases, Contains-push, Contains-push_cases}
 use Rattle.hg_changeset.specs.declared.node.Node.{Node}
 use Rattle.hg_changeset.specs.Contents.{Contents}
@@ -11,11 +11,9 @@ use Rattle.hg_graph.specs.Graph.{IsGraph, IsParent, Reaches}
 use Rattle.hg_graph.specs.Graph.Reaches.{itself, below}
 use Rattle.hg_graph.proofs.GraphLemmas.{Contains-from_place, place_from_Contains, Holds-from, Holds-changeset, get-take}
 use Rattle.hg_phases.specs.declared.phase.Phase.{Phase}
-use Rattle.hg_phases.specs.declared.phase.Phase.TheVariants.{Public, Draft, Secret}
 use Rattle.hg_phases.specs.State.{State, Held, rank, changesets, IsValid}
-use Rattle.hg_phases.specs.Roots.{IsRoot, AreRootsAmong, AreRoots, AreSameRoots, IsRootPhase, IsHighest, IsOpened, root_of}
+use Rattle.hg_phases.specs.Roots.{IsRoot, AreRootsAmong, AreRoots, AreSameRoots, IsRootPhase, IsOpened, root_of}
 use Rattle.hg_phases.proofs.RankLemmas.{rank-apart}
-use Rattle.hg_phases.proofs.PlaceLemmas.{get-within}
 use Rattle.hg_phases.proofs.LeastLemmas.{changeset_from, same_held}
 use Rattle.hg_phases.proofs.FormLemmas.{valid-reach}
 

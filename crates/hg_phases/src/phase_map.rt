@@ -7,7 +7,7 @@
 //! each had: the log is the queue of the walk, the answer, and what takes the lowering back.
 ghost use Rattle.std.specs.Prelude.{OnOk, slice_set, All, IfOk, IfSome, MatchOption, OnErr, length, take, slice_get, Some, [], ◌∷◌, ◌++◌, ◌+◌, ◌-◌, ℕ, List, ◌≡◌, ◌<◌};
 ghost use Rattle.hg_changeset.specs.declared.node.Node.{Node};
-ghost use Rattle.hg_graph.specs.Graph.{Holds as GraphHolds};
+ghost use Rattle.hg_graph.specs.Graph.{Holds as GraphHolds, IsGraph};
 ghost use Rattle.hg_graph.specs.Places.{IsAt};
 ghost use Rattle.hg_phases.specs.State.{state_of, Holds, IsPhaseOf, IsValid};
 ghost use Rattle.hg_phases.specs.Kept.{phases_at, kept_state, before_last};
@@ -89,6 +89,7 @@ impl PhaseMap {
         requires len { length graph.now ≡ length (phases_at (before_last graph.now) self.old) + 1 }
         requires added { IsAt graph.now node (length graph.now - 1) }
         ensures admitted { OnOk result (phases_at graph.now self.new ≡ phases_at (before_last graph.now) self.old ++ Phase.Secret ∷ []) }
+        ensures valid { IsGraph graph.now → IsValid (kept_state (before_last graph.now) self.old) → OnOk result (IsValid (kept_state graph.now self.new)) }
         ensures unchanged { OnErr result (self.new ≡ self.old) }
     {
         self.push(Phase::Secret)
@@ -122,6 +123,7 @@ impl PhaseMap {
         requires valid { IsValid (kept_state graph.now self.old) }
         requires held { GraphHolds graph.now node }
         ensures least { OnOk result (IsLeast (kept_state graph.now self.old) (bound_alone (node, phase) ∷ []) (kept_state graph.now self.new)) }
+        ensures valid { OnOk result (IsValid (kept_state graph.now self.new)) }
         ensures logged { (start : List Phase) → IsLog phase start self.old log.old → IsLog phase start self.new log.new }
         ensures undoes { restored self.new log.new ≡ restored self.old log.old }
         ensures len { length (phases_at graph.now self.new) ≡ length (phases_at graph.now self.old) }

@@ -1,4 +1,4 @@
-use Rattle.std.proofs.Common.{◌≡◌, ◌<◌, ◌∙◌, All, length, sym, subst, arith}
+use Rattle.std.proofs.Common.{◌≡◌, ◌∙◌, length, sym, subst, arith}
 use Rattle.std.specs.List.{flat_map}
 use Rattle.hg_graph.specs.Graph.{nodes}
 use Rattle.hg_phases.specs.declared.phase.Phase.TheVariants.{Public, Draft}

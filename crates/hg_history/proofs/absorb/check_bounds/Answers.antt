@@ -1,4 +1,4 @@
-use Rattle.std.proofs.Common.{◌≡◌, ◌<◌, ◌+◌, [], length, get_or, arith}
+use Rattle.std.proofs.Common.{◌<◌, [], length, get_or, arith}
 use Rattle.std.proofs.lemmas.Option.{slice_get-get_or}
 use Rattle.hg_changeset.specs.declared.node.Node.{Node}
 use Rattle.hg_phases.specs.declared.phase.Phase.{Phase}

@@ -1,4 +1,4 @@
-use Rattle.std.proofs.Common.{◌↔◌, ◌⊎◌, inl, inr, sym, ◌∙◌, true≢false}
+use Rattle.std.proofs.Common.{inl, inr, sym, ◌∙◌, true≢false}
 use Rattle.hg_history.proofs.RootLemmas.{parent_at_either}
 use Rattle.hg_history.proofs.roots.has_parent_in.Goals as goal
 

@@ -1,6 +1,3 @@
-use Rattle.std.proofs.Common.{List, ◌++◌, drop}
-use Rattle.hg_changeset.specs.declared.node.Node.{Node}
-use Rattle.hg_phases.specs.declared.phase.Phase.{Phase}
 use Rattle.hg_phases.specs.State.{state_of}
 use Rattle.hg_history.proofs.RootLemmas.{AreListedTo}
 use Rattle.hg_history.proofs.roots.roots_of.Given as goal

@@ -1,6 +1,6 @@
-use Rattle.std.proofs.Common.{take, ◌++◌, ◌∷◌, [], slice_index_or, sym, subst, arith}
+use Rattle.std.proofs.Common.{take, slice_index_or, arith}
 use Rattle.std.proofs.lemmas.List.{take_more, length-take}
-use Rattle.hg_phaseroots.proofs.DigitLemmas.{IsNumberSoFar, one_more, small}
+use Rattle.hg_phaseroots.proofs.DigitLemmas.{one_more, small}
 use Rattle.hg_phaseroots.proofs.line.read_number.Goals as goal
 
 pub overflow_mul-number : goal.overflow_mul-number

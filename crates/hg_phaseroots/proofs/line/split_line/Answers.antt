@@ -1,4 +1,4 @@
-use Rattle.std.proofs.Common.{sym, ◌∙◌}
+use Rattle.std.proofs.Common.{sym}
 use Rattle.hg_phaseroots.proofs.LineLemmas.{line_found, line_last}
 use Rattle.hg_phaseroots.proofs.line.split_line.Goals as goal
 

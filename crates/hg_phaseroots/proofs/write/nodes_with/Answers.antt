@@ -1,8 +1,8 @@
-use Rattle.std.proofs.Common.{rules, take, ◌≡◌, Contains, length, sym, subst, ◌∙◌, arith}
+use Rattle.std.proofs.Common.{rules, take, ◌≡◌, Contains, sym, subst, ◌∙◌}
 use Rattle.std.proofs.lemmas.List.{take_all}
 use denote.Enum.Bare.{same_true, same_false}
 use Rattle.hg_phases.specs.contracts.phase.Phase.{the_type}
-use Rattle.hg_phaseroots.proofs.WriteLemmas.{AreListedTo, listed_more, listed_other}
+use Rattle.hg_phaseroots.proofs.WriteLemmas.{listed_more, listed_other}
 use Rattle.hg_phaseroots.proofs.write.nodes_with.Goals as goal
 use Rattle.hg_phaseroots.proofs.write.nodes_with.Goals.{then-eq+in_ok-insert, else-eq}
 

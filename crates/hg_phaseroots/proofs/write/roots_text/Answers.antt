@@ -1,7 +1,5 @@
-use Rattle.std.proofs.Common.{List, ℕ, sym, subst, ap, ◌∙◌, ◌++◌}
-use Rattle.hg_phases.specs.declared.phase.Phase.{Phase}
+use Rattle.std.proofs.Common.{subst}
 use Rattle.hg_phases.specs.declared.phase.Phase.TheVariants.{Draft, Secret}
-use Rattle.hg_phaseroots.specs.Reading.{Root}
 use Rattle.hg_phaseroots.specs.Writing.{AreListed}
 use Rattle.hg_phaseroots.proofs.WriteLemmas.{is_written, is_read_back}
 use Rattle.hg_phaseroots.proofs.write.roots_text.Goals as goal

@@ -1,14 +1,12 @@
 use Rattle.std.proofs.Common.{refl, get_or, ◌≡◌, ◌<◌, ℕ, List, length, slice_get, Some, sym, ap, subst, ◌∙◌, arith}
 use Rattle.std.proofs.lemmas.Option.{slice_get-get_or}
-use Rattle.hg_changeset.specs.Contents.{Contents}
 use Rattle.hg_changeset.specs.Changeset.{node_of}
-use Rattle.hg_graph.specs.Graph.{IsGraph}
 use Rattle.hg_graph.proofs.MarkLemmas.{IsAt-from}
 use Rattle.hg_phases.specs.declared.phase.Phase.{Phase}
 use Rattle.hg_phases.specs.declared.lowered.LoweredPlace.{LoweredPlace}
 use Rattle.hg_phases.specs.Log.{IsLog, restored, IsUnlowered}
 use Rattle.hg_phases.proofs.PlaceLemmas.{get-within, graph_of_state}
-use Rattle.hg_phases.proofs.LowerLemmas.{IsLowering, IsWalked, IsWalked-start, IsWalked-step, logged_within, first_within, second_within, halfway, lowered_are}
+use Rattle.hg_phases.proofs.LowerLemmas.{IsWalked, IsWalked-start, IsWalked-step, logged_within, first_within, second_within, halfway, lowered_are}
 use Rattle.hg_phases.proofs.LawLemmas.{least-lowered}
 use Rattle.hg_phases.proofs.phase_map.PhaseMap.lower_at.Goals as goal
 

@@ -1,4 +1,4 @@
-use Rattle.std.proofs.Common.{sym, subst, refl, arith}
+use Rattle.std.proofs.Common.{subst, refl, arith}
 use Rattle.std.proofs.lemmas.List.{length-map}
 use Rattle.std.proofs.lemmas.Option.{slice_get_within}
 use Rattle.hg_changeset.specs.Changeset.{node_of}
