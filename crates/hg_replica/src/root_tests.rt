@@ -41,19 +41,51 @@ fn expect_roots(rt: &impl Abort, replica: &Replica, roots: &[(Phase, Node)]) {
     assert!(rt; found.as_slice() == roots);
 }
 
-// That a root listed with these phases, in this order, is secret.
-fn expect_secret(rt: &impl Abort, alloc: Global, first: Phase, second: Phase) {
-    let mut changesets = Vec::new(alloc);
-    let node = pushed(alloc, &mut changesets, Node::NULL).expect(rt, "memory");
-    let replica = opened(rt, alloc, &changesets, &[(first, node), (second, node)]);
-    expect_phase(rt, &replica, node, Phase::Secret);
+// That the changesets with these roots open a replica in which a node has this phase.
+fn expect_opened(
+    rt: &impl Abort,
+    alloc: Global,
+    changesets: &[Changeset],
+    roots: &[(Phase, Node)],
+    expected: (Phase, Node),
+) {
+    let replica = opened(rt, alloc, changesets, roots);
+    expect_phase(rt, &replica, expected.1, expected.0);
+}
+
+// That the changesets with these roots open a replica without roots.
+fn expect_rootless(
+    rt: &impl Abort,
+    alloc: Global,
+    changesets: &[Changeset],
+    roots: &[(Phase, Node)],
+) {
+    let replica = opened(rt, alloc, changesets, roots);
+    expect_counts(rt, &replica, 1, 0);
+    expect_roots(rt, &replica, &[]);
+}
+
+// That a changeset with itself as these two roots, in this order, is secret.
+fn expect_secret(
+    rt: &impl Abort,
+    alloc: Global,
+    changesets: &[Changeset],
+    node: Node,
+    phases: (Phase, Phase),
+) {
+    let roots = [(phases.0, node), (phases.1, node)];
+    expect_opened(rt, alloc, changesets, &roots, (Phase::Secret, node));
 }
 
 #[test]
 fn the_highest_listed_phase_counts_in_either_order(rt: HostRuntime) {
     let alloc = rt.alloc();
-    expect_secret(&rt, alloc, Phase::Secret, Phase::Draft);
-    expect_secret(&rt, alloc, Phase::Draft, Phase::Secret);
+    let mut changesets = Vec::new(alloc);
+    let node = pushed(alloc, &mut changesets, Node::NULL).expect(&rt, "memory");
+    let falling = (Phase::Secret, Phase::Draft);
+    expect_secret(&rt, alloc, &changesets, node, falling);
+    let rising = (Phase::Draft, Phase::Secret);
+    expect_secret(&rt, alloc, &changesets, node, rising);
 }
 
 #[test]
@@ -61,9 +93,8 @@ fn a_changeset_without_roots_is_public(rt: HostRuntime) {
     let alloc = rt.alloc();
     let mut changesets = Vec::new(alloc);
     let node = pushed(alloc, &mut changesets, Node::NULL).expect(&rt, "memory");
-    let replica = opened(&rt, alloc, &changesets, &[]);
-    expect_phase(&rt, &replica, node, Phase::Public);
-    expect_roots(&rt, &replica, &[]);
+    expect_opened(&rt, alloc, &changesets, &[], (Phase::Public, node));
+    expect_rootless(&rt, alloc, &changesets, &[]);
 }
 
 #[test]
@@ -71,9 +102,9 @@ fn a_root_that_is_not_held_is_dropped(rt: HostRuntime) {
     let alloc = rt.alloc();
     let mut changesets = Vec::new(alloc);
     let node = pushed(alloc, &mut changesets, Node::NULL).expect(&rt, "memory");
-    let replica = opened(&rt, alloc, &changesets, &[(Phase::Secret, ONES)]);
-    expect_phase(&rt, &replica, node, Phase::Public);
-    expect_roots(&rt, &replica, &[]);
+    let roots = [(Phase::Secret, ONES)];
+    expect_opened(&rt, alloc, &changesets, &roots, (Phase::Public, node));
+    expect_rootless(&rt, alloc, &changesets, &roots);
 }
 
 #[test]
@@ -81,9 +112,9 @@ fn a_child_of_a_draft_root_is_draft(rt: HostRuntime) {
     let alloc = rt.alloc();
     let mut changesets = Vec::new(alloc);
     let (root, child) = push_both(alloc, &mut changesets).expect(&rt, "memory");
-    let replica = opened(&rt, alloc, &changesets, &[(Phase::Draft, root)]);
-    expect_phase(&rt, &replica, root, Phase::Draft);
-    expect_phase(&rt, &replica, child, Phase::Draft);
+    let roots = [(Phase::Draft, root)];
+    expect_opened(&rt, alloc, &changesets, &roots, (Phase::Draft, root));
+    expect_opened(&rt, alloc, &changesets, &roots, (Phase::Draft, child));
 }
 
 // Adds a draft root, a secret child of it, and a marker.
@@ -123,12 +154,28 @@ fn own_roots(rt: &impl Abort, alloc: Global, replica: &Replica) -> Roots {
     read_roots(alloc, &text).expect(rt, "roots")
 }
 
+// The replica of these changesets and roots, and of a copy of another one's store.
+fn opened_beside(
+    rt: &impl Abort,
+    replica: &Replica,
+    changesets: &[Changeset],
+    roots: &Roots,
+) -> Replica {
+    let store = replica.store().copy().expect(rt, "memory");
+    Replica::open(changesets, roots, store).expect(rt, "a replica")
+}
+
 // The replica of its own changesets, roots and store.
 fn reopened(rt: &impl Abort, alloc: Global, replica: &Replica) -> Replica {
     let changesets = own_changesets(rt, alloc, replica);
     let roots = own_roots(rt, alloc, replica);
-    let store = replica.store().copy().expect(rt, "memory");
-    Replica::open(&changesets, &roots, store).expect(rt, "a replica")
+    opened_beside(rt, replica, &changesets, &roots)
+}
+
+fn expect_reopened(rt: &impl Abort, alloc: Global, replica: &Replica) {
+    let again = reopened(rt, alloc, replica);
+    expect_equal(rt, &again, replica);
+    expect_counts(rt, &again, 2, 1);
 }
 
 #[test]
@@ -136,21 +183,23 @@ fn the_text_of_its_roots_opens_an_equal_replica(rt: HostRuntime) {
     let alloc = rt.alloc();
     let mut replica = Replica::new(alloc);
     fill(alloc, &mut replica).expect(&rt, "memory");
-    let again = reopened(&rt, alloc, &replica);
-    expect_equal(&rt, &again, &replica);
-    expect_counts(&rt, &again, 2, 1);
+    expect_reopened(&rt, alloc, &replica);
+}
+
+fn expect_unknown_parent(rt: &impl Abort, alloc: Global, changesets: &[Changeset], roots: &Roots) {
+    match Replica::open(changesets, roots, Store::new(alloc)) {
+        Ok(_) => assert!(rt; false, "not refused"),
+        Err(fault) => assert!(rt; fault == Fault::UnknownParent(ONES)),
+    }
 }
 
 #[test]
 fn an_unknown_parent_is_refused(rt: HostRuntime) {
     let alloc = rt.alloc();
-    let orphan = changeset(alloc, ONES).expect(&rt, "memory");
-    let changesets = listed(alloc, orphan).expect(&rt, "memory");
+    let mut changesets = Vec::new(alloc);
+    pushed(alloc, &mut changesets, ONES).expect(&rt, "memory");
     let roots = Roots::new(Vec::new(alloc));
-    match Replica::open(&changesets, &roots, Store::new(alloc)) {
-        Ok(_) => assert!(rt; false, "not refused"),
-        Err(fault) => assert!(rt; fault == Fault::UnknownParent(ONES)),
-    }
+    expect_unknown_parent(&rt, alloc, &changesets, &roots);
 }
 
 // Opens, again where growth is refused.
@@ -169,26 +218,45 @@ fn open_at_last(
     }
 }
 
-// That these two changesets are draft where the first one is listed as a draft root.
-fn expect_draft(rt: &impl Abort, alloc: Global, changesets: &[Changeset], root: Node, child: Node) {
-    let Some(listed) = listed(alloc, (Phase::Draft, root)) else {
-        return;
-    };
-    let roots = Roots::new(listed);
-    let replica = open_at_last(rt, alloc, changesets, &roots);
-    assert!(rt; roots.as_slice() == [(Phase::Draft, root)].as_slice());
+fn expect_draft(
+    rt: &impl Abort,
+    alloc: Global,
+    changesets: &[Changeset],
+    roots: &Roots,
+    node: Node,
+) {
+    let replica = open_at_last(rt, alloc, changesets, roots);
     expect_counts(rt, &replica, 2, 0);
-    expect_phase(rt, &replica, child, Phase::Draft);
+    expect_phase(rt, &replica, node, Phase::Draft);
+}
+
+// Opens with one draft root, a parent of the changeset with the other id.
+fn open_draft_at_last(
+    rt: &impl Abort,
+    alloc: Global,
+    changesets: &[Changeset],
+    root: Node,
+    child: Node,
+) {
+    if let Some(listed) = listed(alloc, (Phase::Draft, root)) {
+        let roots = Roots::new(listed);
+        expect_draft(rt, alloc, changesets, &roots, child);
+        assert!(rt; roots.as_slice() == [(Phase::Draft, root)].as_slice());
+    }
+}
+
+fn list_and_open_at_last(rt: &impl Abort, alloc: Global, changesets: &mut Vec<Changeset>) {
+    if let Some((root, child)) = push_both(alloc, changesets) {
+        open_draft_at_last(rt, alloc, changesets, root, child);
+        assert!(rt; changesets.len() == 2);
+    }
 }
 
 #[test]
 fn refused_growth_in_opening_changes_nothing(rt: HostRuntime) {
     let alloc = rt.alloc();
     let mut changesets = Vec::new(alloc);
-    if let Some((root, child)) = push_both(alloc, &mut changesets) {
-        expect_draft(&rt, alloc, &changesets, root, child);
-        assert!(rt; changesets.len() == 2);
-    }
+    list_and_open_at_last(&rt, alloc, &mut changesets);
 }
 
 // Its roots, asked for again where growth is refused: a refusal leaves the replica as it was.
@@ -204,13 +272,17 @@ fn roots_at_last(rt: &impl Abort, replica: &Replica, root: Node, child: Node) ->
     }
 }
 
+fn fill_and_expect_roots(rt: &impl Abort, alloc: Global, replica: &mut Replica) {
+    if let Some((root, child)) = fill(alloc, replica) {
+        let roots = roots_at_last(rt, replica, root, child);
+        let expected = [(Phase::Draft, root), (Phase::Secret, child)];
+        assert!(rt; roots.as_slice() == expected.as_slice());
+    }
+}
+
 #[test]
 fn refused_growth_in_roots_changes_nothing(rt: HostRuntime) {
     let alloc = rt.alloc();
     let mut replica = Replica::new(alloc);
-    if let Some((root, child)) = fill(alloc, &mut replica) {
-        let roots = roots_at_last(&rt, &replica, root, child);
-        let expected = [(Phase::Draft, root), (Phase::Secret, child)];
-        assert!(rt; roots.as_slice() == expected.as_slice());
-    }
+    fill_and_expect_roots(&rt, alloc, &mut replica);
 }

@@ -181,13 +181,17 @@ fn expect_refused(rt: &impl Abort, replica: &mut Replica, part: &Part, fault: Fa
     }
 }
 
+fn expect_added_once(rt: &impl Abort, alloc: Global, replica: &mut Replica) {
+    let (part, node) = part(alloc, Node::NULL, Phase::Draft).expect(rt, "memory");
+    expect_added(rt, replica, &part, &[node]);
+    expect_added(rt, replica, &part, &[]);
+}
+
 #[test]
 fn a_changeset_is_added_once(rt: HostRuntime) {
     let alloc = rt.alloc();
     let mut replica = Replica::new(alloc);
-    let (part, node) = part(alloc, Node::NULL, Phase::Draft).expect(&rt, "memory");
-    expect_added(&rt, &mut replica, &part, &[node]);
-    expect_added(&rt, &mut replica, &part, &[]);
+    expect_added_once(&rt, alloc, &mut replica);
     expect_counts(&rt, &replica, 1, 0);
 }
 
@@ -239,13 +243,17 @@ fn expect_found(rt: &impl Abort, store: &Store, old: Node, new: Node) {
     assert!(rt; store.with_child(new).is_empty());
 }
 
+fn expect_new_once(rt: &impl Abort, alloc: Global, replica: &mut Replica) {
+    let part = rewrite(alloc, ONES, TWOS).expect(rt, "memory");
+    expect_new_markers(rt, replica, &part, &[0]);
+    expect_new_markers(rt, replica, &part, &[]);
+}
+
 #[test]
 fn a_marker_is_new_once(rt: HostRuntime) {
     let alloc = rt.alloc();
-    let part = rewrite(alloc, ONES, TWOS).expect(&rt, "memory");
     let mut replica = Replica::new(alloc);
-    expect_new_markers(&rt, &mut replica, &part, &[0]);
-    expect_new_markers(&rt, &mut replica, &part, &[]);
+    expect_new_once(&rt, alloc, &mut replica);
     expect_counts(&rt, &replica, 0, 1);
     expect_found(&rt, replica.store(), ONES, TWOS);
 }
@@ -265,15 +273,19 @@ fn expect_broken_refused(rt: &impl Abort, alloc: Global, replica: &mut Replica, 
     expect_refused(rt, replica, &part, Fault::UnknownParent(ONES));
 }
 
+fn expect_part_refused(rt: &impl Abort, alloc: Global, replica: &mut Replica) {
+    let mut before = Replica::new(alloc);
+    let root = fill_both(alloc, replica, &mut before, Phase::Draft).expect(rt, "memory");
+    expect_broken_refused(rt, alloc, replica, root);
+    expect_equal(rt, replica, &before);
+    expect_phase(rt, replica, root, Phase::Draft);
+}
+
 #[test]
 fn a_refused_part_changes_nothing(rt: HostRuntime) {
     let alloc = rt.alloc();
     let mut replica = Replica::new(alloc);
-    let mut before = Replica::new(alloc);
-    let root = fill_both(alloc, &mut replica, &mut before, Phase::Draft).expect(&rt, "memory");
-    expect_broken_refused(&rt, alloc, &mut replica, root);
-    expect_equal(&rt, &replica, &before);
-    expect_phase(&rt, &replica, root, Phase::Draft);
+    expect_part_refused(&rt, alloc, &mut replica);
 }
 
 fn expect_bound_refused(
@@ -287,15 +299,19 @@ fn expect_bound_refused(
     expect_refused(rt, replica, &part, fault);
 }
 
+fn expect_bounds_refused(rt: &impl Abort, alloc: Global, replica: &mut Replica) {
+    let mut before = Replica::new(alloc);
+    fill_both(alloc, replica, &mut before, Phase::Draft).expect(rt, "memory");
+    expect_bound_refused(rt, alloc, replica, Node::NULL, Fault::NullBound);
+    expect_bound_refused(rt, alloc, replica, ONES, Fault::UnknownBound(ONES));
+    expect_equal(rt, replica, &before);
+}
+
 #[test]
 fn a_refused_bound_changes_nothing(rt: HostRuntime) {
     let alloc = rt.alloc();
     let mut replica = Replica::new(alloc);
-    let mut before = Replica::new(alloc);
-    fill_both(alloc, &mut replica, &mut before, Phase::Draft).expect(&rt, "memory");
-    expect_bound_refused(&rt, alloc, &mut replica, Node::NULL, Fault::NullBound);
-    expect_bound_refused(&rt, alloc, &mut replica, ONES, Fault::UnknownBound(ONES));
-    expect_equal(&rt, &replica, &before);
+    expect_bounds_refused(&rt, alloc, &mut replica);
 }
 
 fn expect_text(rt: &impl Abort, alloc: Global, fault: Fault, number: Option<u8>, name: &str) {
@@ -325,21 +341,28 @@ fn absorb_at_last(rt: &impl Abort, replica: &mut Replica, before: &Replica, part
     }
 }
 
-fn add_at_last(rt: &impl Abort, alloc: Global, replica: &mut Replica, before: &Replica) {
-    let Some((part, node)) = part(alloc, Node::NULL, Phase::Draft) else {
-        return;
-    };
-    absorb_at_last(rt, replica, before, &part);
+fn add_at_last(rt: &impl Abort, replica: &mut Replica, before: &Replica, part: &Part, node: Node) {
+    absorb_at_last(rt, replica, before, part);
     expect_counts(rt, replica, 1, 0);
     expect_phase(rt, replica, node, Phase::Draft);
+}
+
+fn grow_empty_at_last(rt: &impl Abort, alloc: Global, replica: &mut Replica, before: &Replica) {
+    if let Some((part, node)) = part(alloc, Node::NULL, Phase::Draft) {
+        add_at_last(rt, replica, before, &part, node);
+    }
+}
+
+fn grow_beside_empty(rt: &impl Abort, alloc: Global, replica: &mut Replica) {
+    let before = Replica::new(alloc);
+    grow_empty_at_last(rt, alloc, replica, &before);
 }
 
 #[test]
 fn refused_growth_leaves_an_empty_replica_empty(rt: HostRuntime) {
     let alloc = rt.alloc();
     let mut replica = Replica::new(alloc);
-    let before = Replica::new(alloc);
-    add_at_last(&rt, alloc, &mut replica, &before);
+    grow_beside_empty(&rt, alloc, &mut replica);
 }
 
 fn publish_at_last(
@@ -357,13 +380,33 @@ fn publish_at_last(
     expect_phase(rt, replica, root, Phase::Public);
 }
 
+fn fill_and_publish_at_last(
+    rt: &impl Abort,
+    alloc: Global,
+    replica: &mut Replica,
+    before: &mut Replica,
+) {
+    if let Some(root) = fill_both(alloc, replica, before, Phase::Secret) {
+        publish_at_last(rt, alloc, replica, before, root);
+    }
+}
+
+fn publish_beside(rt: &impl Abort, alloc: Global, replica: &mut Replica) {
+    let mut before = Replica::new(alloc);
+    fill_and_publish_at_last(rt, alloc, replica, &mut before);
+}
+
 #[test]
 fn refused_growth_in_absorbing_changes_nothing(rt: HostRuntime) {
     let alloc = rt.alloc();
     let mut replica = Replica::new(alloc);
-    let mut before = Replica::new(alloc);
-    if let Some(root) = fill_both(alloc, &mut replica, &mut before, Phase::Secret) {
-        publish_at_last(&rt, alloc, &mut replica, &before, root);
+    publish_beside(&rt, alloc, &mut replica);
+}
+
+fn add_and_expect_phase(rt: &impl Abort, alloc: Global, replica: &mut Replica) {
+    if let Some(root) = committed(alloc, replica, Node::NULL, Phase::Draft) {
+        expect_phase(rt, replica, root, Phase::Draft);
+        expect_counts(rt, replica, 1, 0);
     }
 }
 
@@ -371,10 +414,7 @@ fn refused_growth_in_absorbing_changes_nothing(rt: HostRuntime) {
 fn a_phase_is_told_after_refused_growth(rt: HostRuntime) {
     let alloc = rt.alloc();
     let mut replica = Replica::new(alloc);
-    if let Some(root) = committed(alloc, &mut replica, Node::NULL, Phase::Draft) {
-        expect_phase(&rt, &replica, root, Phase::Draft);
-        expect_counts(&rt, &replica, 1, 0);
-    }
+    add_and_expect_phase(&rt, alloc, &mut replica);
 }
 
 // A copy, made again where growth is refused: a refusal leaves the replica as it was before.
@@ -393,12 +433,25 @@ fn expect_copied(rt: &impl Abort, replica: &Replica, before: &Replica) {
     expect_equal(rt, &copy, before);
 }
 
+fn fill_and_copy_at_last(
+    rt: &impl Abort,
+    alloc: Global,
+    replica: &mut Replica,
+    before: &mut Replica,
+) {
+    if fill_both(alloc, replica, before, Phase::Draft).is_some() {
+        expect_copied(rt, replica, before);
+    }
+}
+
+fn copy_beside(rt: &impl Abort, alloc: Global, replica: &mut Replica) {
+    let mut before = Replica::new(alloc);
+    fill_and_copy_at_last(rt, alloc, replica, &mut before);
+}
+
 #[test]
 fn refused_growth_in_copying_changes_nothing(rt: HostRuntime) {
     let alloc = rt.alloc();
     let mut replica = Replica::new(alloc);
-    let mut before = Replica::new(alloc);
-    if fill_both(alloc, &mut replica, &mut before, Phase::Draft).is_some() {
-        expect_copied(&rt, &replica, &before);
-    }
+    copy_beside(&rt, alloc, &mut replica);
 }
