@@ -1,5 +1,5 @@
 -- Reading a store marker by marker, against its grammar.
-use Rattle.std.proofs.Common.{◌≡◌, ◌<◌, ◌≤◌, ℕ, zero, suc, ◌+◌, ◌-◌, ◌==◌, Bool, true, false, List, [], ◌∷◌, ◌++◌, length, Result, Ok, Err, refl, sym, ap, subst, ◌∙◌, append_assoc, length-append, arith}
+use Rattle.std.proofs.Common.{◌≡◌, ◌<◌, ◌≤◌, ℕ, zero, suc, ◌+◌, ◌-◌, ◌==◌, false, List, [], ◌∷◌, ◌++◌, length, Result, Ok, Err, refl, sym, ap, subst, ◌∙◌, append_assoc, length-append, arith}
 use Rattle.std.proofs.lemmas.List.{append-nil}
 use Rattle.std.proofs.lemmas.Bool.{false_from_ne_true}
 use Rattle.std.specs.Cmp.{unsigned_Decides}
@@ -11,7 +11,7 @@ use Rattle.hg_marker.specs.declared.error.ReadError.{ReadError}
 use Rattle.hg_marker.specs.declared.error.ReadError.TheVariants.{NoMemory, Fault}
 use Rattle.hg_marker.specs.Fields.{Fields}
 use Rattle.hg_marker.specs.Grammar.{IsSpelling, spelling}
-use Rattle.hg_marker.specs.Faults.{marker_at, marker_and_length, with_length, IsFault}
+use Rattle.hg_marker.specs.Faults.{marker_at, with_length, IsFault}
 use Rattle.hg_marker.specs.Reading.{Gives, Fails}
 use Rattle.hg_marker.proofs.Formats.{IsBytes-right, Takes}
 use Rattle.hg_marker.proofs.MarkerLemmas.{marker_again, marker_takes}

@@ -1,9 +1,6 @@
 -- What a replica's roots say, through their text and back.
-use Rattle.std.proofs.Common.{◌≡◌, ◌≢◌, ℕ, List, Result, Ok, Err, Contains, ◌↔◌, refl, sym, ap, subst, ◌∙◌}
-use Rattle.hg_changeset.specs.declared.node.Node.{Node}
+use Rattle.std.proofs.Common.{◌≡◌, ◌≢◌, ℕ, List, Ok, Err, Contains, refl, sym, ap, subst, ◌∙◌}
 use Rattle.hg_changeset.specs.Node.{IsNode}
-use Rattle.hg_marker.specs.Fields.{Fields}
-use Rattle.hg_phases.specs.declared.phase.Phase.{Phase}
 use Rattle.hg_phases.specs.declared.phase.Phase.TheVariants.{Public}
 use Rattle.hg_phases.specs.State.{State, changesets, IsValid as IsValidHistory}
 use Rattle.hg_phases.specs.Roots.{AreRoots, AreSameRoots}
@@ -14,7 +11,6 @@ use Rattle.hg_phaseroots.specs.declared.error.RootsError.TheVariants.{BadLine, B
 use Rattle.hg_phaseroots.specs.Reading.{Root, IsReading, roots_of}
 use Rattle.hg_phaseroots.specs.Writing.{IsWritten}
 use Rattle.hg_phaseroots.proofs.WriteLemmas.{order_same, order_again}
-use Rattle.hg_history.specs.Open.{OpenAnswer as HistoryOpenAnswer}
 use Rattle.hg_history.proofs.OpenLemmas.{own-same}
 use Rattle.hg_replica.specs.State.{ReplicaState, IsValid}
 use Rattle.hg_replica.specs.Answer.{OpenAnswer}

@@ -13,7 +13,6 @@ use Rattle.hg_changeset.specs.EntryAnswer.{EntryAnswer, entry_fault}
 use Rattle.hg_changeset.specs.Node.{null_node}
 use Rattle.hg_changeset.specs.Contents.{Contents}
 use Rattle.hg_changeset.specs.Changeset.{node_of, changeset_of, changeset_fault}
-use Rattle.hg_rewrite.specs.declared.refusal.Refusal.{Refusal}
 use Rattle.hg_rewrite.specs.declared.refusal.Refusal.TheVariants.{Fault, NoMemory}
 use Rattle.hg_rewrite.specs.declared.refusal.Cause.TheVariants.{Changeset, Entry}
 use Rattle.hg_rewrite.specs.Parts.{NewChangeset, contents_of, chain}

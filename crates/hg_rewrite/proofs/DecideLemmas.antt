@@ -1,5 +1,5 @@
 -- The table of refusals, one check after the other.
-use Rattle.std.proofs.Common.{◌≡◌, List, ◌++◌, Result, Ok, Err, sym, subst}
+use Rattle.std.proofs.Common.{◌≡◌, List, ◌++◌, Ok, sym, subst}
 use Rattle.hg_phases.specs.State.{IsValid}
 use Rattle.hg_replica.specs.State.{ReplicaState}
 use Rattle.hg_replica.specs.Least.{PartValue, IsAdmitted}

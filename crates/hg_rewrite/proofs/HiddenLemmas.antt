@@ -1,5 +1,5 @@
 -- Changesets that aren't obsolete, and those of which they say that they are visible.
-use Rattle.std.proofs.Common.{◌≡◌, ◌↔◌, ◌⊎◌, ℕ, ◌+◌, ◌<◌, ◌≤◌, inl, inr, Bool, true, false, not, List, [], ◌∷◌, ◌++◌, length, take, filter, slice_get, Some, None, Contains, IsTrue, refl, sym, ap, subst, ◌∙◌, arith}
+use Rattle.std.proofs.Common.{◌≡◌, ◌↔◌, ◌⊎◌, ℕ, ◌+◌, ◌<◌, ◌≤◌, inl, inr, Bool, not, List, [], ◌∷◌, ◌++◌, length, take, slice_get, Some, None, Contains, IsTrue, sym, ap, subst, ◌∙◌, arith}
 use Rattle.std.specs.Bool.{◌==◌}
 use Rattle.std.proofs.lemmas.List.{take_more, take_all, length-map}
 use Rattle.std.proofs.lemmas.Option.{get_or_from_slice_get, slice_get_within, none-some}
@@ -12,7 +12,7 @@ use Rattle.hg_graph.proofs.GraphLemmas.{Contains-from_place, place_from_Contains
 use Rattle.hg_graph.proofs.PlaceLemmas.{Holds-reached, IsAt-within}
 use Rattle.hg_marker.specs.Fields.{Fields}
 use Rattle.hg_obsstore.specs.Markers.{ArePlaces}
-use Rattle.hg_phases.specs.State.{Holds, Reaches, changesets}
+use Rattle.hg_phases.specs.State.{Holds, changesets}
 use Rattle.hg_replica.specs.State.{ReplicaState}
 use Rattle.hg_rewrite.specs.Reading.{IsPredecessor, IsObsolete, IsHidden}
 use Rattle.hg_rewrite.proofs.ListLemmas.{here, none_in, kept, passed, not_true, not_untrue, some_length}

@@ -1,5 +1,5 @@
 -- Elements of lists, and what is kept of them.
-use Rattle.std.proofs.Common.{◌≡◌, ℕ, zero, suc, ◌<◌, ◌+◌, ◌⊎◌, inl, inr, Bool, true, false, List, [], ◌∷◌, ◌++◌, length, map, get_or, take, drop, ◌-◌, filter, Contains, IsTrue, refl, ap, sym, subst, ◌∙◌, arith, not, ◌||◌, true≢false}
+use Rattle.std.proofs.Common.{◌≡◌, ℕ, zero, suc, ◌<◌, ◌⊎◌, inl, inr, Bool, true, false, List, [], ◌∷◌, length, map, take, drop, ◌-◌, filter, Contains, IsTrue, refl, ap, sym, subst, ◌∙◌, arith, not, ◌||◌, true≢false}
 use Rattle.std.specs.List.{list_any}
 use Rattle.std.specs.Bool.{◌==◌}
 use Rattle.std.proofs.lemmas.Bool.Decides.{nat_tests}

@@ -12,7 +12,6 @@ use Rattle.hg_graph.specs.Graph.{nodes, IsParent}
 use Rattle.hg_graph.proofs.GraphLemmas.{Contains-from_place, place_from_Contains, Holds-changeset, Holds-from}
 use Rattle.hg_phases.specs.declared.phase.Phase.{Phase}
 use Rattle.hg_phases.specs.State.{State, Holds, IsValid, changesets}
-use Rattle.hg_phases.specs.Least.{IsAdmitted as IsAdmittedHistory}
 use Rattle.hg_phases.proofs.LeastLemmas.{Holds-taken}
 use Rattle.hg_marker.specs.Fields.{Fields}
 use Rattle.hg_replica.specs.State.{ReplicaState}

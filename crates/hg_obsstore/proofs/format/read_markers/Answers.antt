@@ -1,4 +1,4 @@
-use Rattle.std.proofs.Common.{arith, subst, Ok, Err, sym}
+use Rattle.std.proofs.Common.{arith, subst}
 use Rattle.hg_marker.specs.Reading.{Gives}
 use Rattle.hg_obsstore.specs.Faults.{IsStoreFault}
 use Rattle.hg_obsstore.specs.Spelling.{IsStoreSpelling}

@@ -1,4 +1,4 @@
-use Rattle.std.proofs.Common.{◌≡◌, arith, ap, length, length-append, ◌∙◌}
+use Rattle.std.proofs.Common.{arith, ap, length, length-append}
 use Rattle.hg_marker.proofs.MarkerLemmas.{marker_takes}
 use Rattle.hg_obsstore.proofs.FormatLemmas.{spelling_long}
 use Rattle.hg_obsstore.proofs.format.read_placed.Goals as goal

@@ -1,7 +1,6 @@
 use Rattle.std.proofs.Common.{◌≡◌, ◌∙◌, [], Ok, ap, sym}
 use Rattle.std.proofs.lemmas.Result.{err_from_is_err_and}
 use Rattle.std.proofs.lemmas.Map.Made.{IsDistinct-from_AllPairs}
-use Rattle.hg_marker.specs.Fields.{Fields}
 use Rattle.hg_marker.specs.Same.{fields_decides}
 use Rattle.hg_obsstore.specs.Growth.{new_among}
 use Rattle.hg_obsstore.proofs.FormatLemmas.{fails_alike, ok_is}

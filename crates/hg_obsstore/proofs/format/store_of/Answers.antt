@@ -1,6 +1,6 @@
-use Rattle.std.proofs.Common.{rules, ◌≡◌, ◌∷◌, [], List, sym, ap, ◌∙◌}
+use Rattle.std.proofs.Common.{rules, ◌≡◌, ◌∷◌, List, sym, ap, ◌∙◌}
 use Rattle.hg_marker.specs.Fields.{Fields}
-use Rattle.hg_obsstore.specs.Growth.{united, with_marker}
+use Rattle.hg_obsstore.specs.Growth.{united}
 use Rattle.hg_obsstore.proofs.GrowthLemmas.{united_step, with_added}
 use Rattle.hg_obsstore.proofs.format.store_of.Goals as goal
 

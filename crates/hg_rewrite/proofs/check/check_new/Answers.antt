@@ -1,7 +1,6 @@
-use Rattle.std.proofs.Common.{◌≡◌, ◌<◌, ◌+◌, [], inl, inr, length, slice_get, Some, get_or, true≢false, sym, subst, ◌∙◌, arith, below_more, Contains}
+use Rattle.std.proofs.Common.{◌≡◌, ◌+◌, [], inl, inr, slice_get, Some, get_or, true≢false, sym, subst, ◌∙◌, arith, below_more, Contains}
 use Rattle.std.proofs.lemmas.Option.{slice_get-get_or, same_Some, slice_get_within}
 use Rattle.hg_changeset.specs.declared.node.Node.{Node}
-use Rattle.hg_rewrite.specs.Refusals.{existing}
 use Rattle.hg_rewrite.proofs.ListLemmas.{rest-slice}
 use Rattle.hg_rewrite.proofs.RowLemmas.{IsTaken, none_existing, first_existing}
 use Rattle.hg_rewrite.proofs.check.check_new.Goals as goal

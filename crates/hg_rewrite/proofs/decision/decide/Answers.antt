@@ -1,6 +1,5 @@
-use Rattle.std.proofs.Common.{◌≡◌, List, Err, ap, sym, subst, ◌∙◌}
+use Rattle.std.proofs.Common.{◌≡◌, ap, subst, ◌∙◌}
 use Rattle.std.proofs.lemmas.Result.{err_from_is_err_and}
-use Rattle.hg_changeset.specs.declared.node.Node.{Node}
 use Rattle.hg_graph.specs.Graph.{nodes}
 use Rattle.hg_rewrite.specs.Parts.{new_ids}
 use Rattle.hg_rewrite.specs.Refusals.{NoneApplies, existing}

@@ -1,7 +1,6 @@
-use Rattle.std.proofs.Common.{◌≡◌, ◌<◌, ◌++◌, ◌∷◌, [], inr, length, map, take, get_or, Ok, Err, refl, sym, ap, subst, ◌∙◌, arith}
+use Rattle.std.proofs.Common.{◌<◌, ◌++◌, ◌∷◌, [], inr, length, map, take, get_or, Ok, Err, refl, sym, ap, ◌∙◌, arith}
 use Rattle.std.proofs.lemmas.List.{map_more, take_all}
 use Rattle.hg_changeset.specs.declared.node.Node.{Node}
-use Rattle.hg_marker.specs.Making.{marker_of}
 use Rattle.hg_rewrite.specs.declared.refusal.Refusal.TheVariants.{Fault}
 use Rattle.hg_rewrite.specs.declared.refusal.Cause.TheVariants.{Marker}
 use Rattle.hg_rewrite.specs.Parts.{marker}

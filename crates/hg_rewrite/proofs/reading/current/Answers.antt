@@ -1,8 +1,4 @@
-use Rattle.std.proofs.Common.{◌≡◌, ◌<◌, ◌+◌, true≢false, ◌++◌, ◌∷◌, [], List, Some, take, length, sym, ap, subst, ◌∙◌, arith, slice_get, get_or}
-use Rattle.std.proofs.lemmas.List.{take_more, take_all, length-map}
-use Rattle.std.proofs.lemmas.Option.{get_or_from_slice_get, slice_get_within, none-some}
-use Rattle.hg_changeset.specs.declared.node.Node.{Node}
-use Rattle.hg_changeset.specs.Changeset.{node_of}
+use Rattle.std.proofs.Common.{◌≡◌, ◌+◌, true≢false, ◌++◌, ◌∷◌, [], Some, take, length, sym, ap, subst, ◌∙◌, arith, slice_get}
 use Rattle.hg_graph.specs.Graph.{nodes}
 use Rattle.hg_phases.specs.State.{changesets}
 use Rattle.hg_rewrite.proofs.HiddenLemmas.{AreCurrent, none_current, one_current, one_obsolete, seen_more, seen_all, not_past}

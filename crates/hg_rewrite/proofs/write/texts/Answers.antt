@@ -1,11 +1,10 @@
-use Rattle.std.proofs.Common.{◌≡◌, ℕ, ◌<◌, ◌+◌, ◌++◌, ◌∷◌, [], List, inl, inr, length, map, take, sym, ap, subst, ◌∙◌, arith, get_or}
+use Rattle.std.proofs.Common.{ℕ, ◌<◌, ◌++◌, ◌∷◌, [], length, map, take, sym, ap, subst, ◌∙◌, arith}
 use Rattle.std.proofs.lemmas.List.{map_more, map-append, take_all}
 use Rattle.std.specs.declared.vec.Vec.{Vec}
 use Rattle.std.specs.declared.alloc.Global.{Global}
-use Rattle.hg_changeset.specs.EntryValue.{EntryValue}
 use Rattle.hg_changeset.specs.EntryText.{entry_text}
 use Rattle.hg_rewrite.specs.Refusals.{Applies, entry_refused}
-use Rattle.hg_rewrite.specs.Answer.{IsRefusal, entry_refusal}
+use Rattle.hg_rewrite.specs.Answer.{IsRefusal}
 use Rattle.hg_rewrite.proofs.RowLemmas.{none_more, none_of_all}
 use Rattle.hg_rewrite.proofs.ChainLemmas.{refused_entry, written_entry}
 use Rattle.hg_rewrite.proofs.write.texts.Goals as goal

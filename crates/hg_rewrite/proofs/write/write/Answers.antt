@@ -1,6 +1,5 @@
-use Rattle.std.proofs.Common.{◌++◌, map, sym, subst}
+use Rattle.std.proofs.Common.{map, subst}
 use Rattle.std.proofs.lemmas.Result.{err_from_is_err_and}
-use Rattle.hg_changeset.specs.EntryText.{entry_text}
 use Rattle.hg_rewrite.specs.Parts.{chain, contents_of, written}
 use Rattle.hg_rewrite.specs.Refusals.{entry_refused, changeset_refused}
 use Rattle.hg_rewrite.specs.Answer.{Gives}
