@@ -138,7 +138,7 @@ fn lines_are_read_as_words(rt: HostRuntime) {
 }
 
 #[test]
-fn each_fault_of_a_line(rt: HostRuntime) {
+fn faults_that_the_words_show(rt: HostRuntime) {
     for (script, ending) in [
         ("node A\nnod B\n", "line 2: unknown command"),
         (" # x\n", "line 1: unknown command"),
@@ -156,13 +156,7 @@ fn each_fault_of_a_line(rt: HostRuntime) {
         ("phase A a? low\n", "line 1: bad name"),
         ("phase A a low\n", "line 1: bad phase"),
         ("split A a b?\n", "line 1: bad name"),
-        ("node A\nfold A f a b\n", "line 2: unknown name"),
-        (
-            "node A\ncommit A a draft\nsplit A a s s\n",
-            "line 3: name is taken",
-        ),
         ("agree A B?\n", "line 1: bad name"),
-        ("node A\nagree A B\n", "line 2: unknown name"),
         ("node A/B\n", "line 1: bad name"),
         ("node A\t\n", "line 1: bad name"),
         ("node A\r", "line 1: bad name"),
@@ -173,6 +167,20 @@ fn each_fault_of_a_line(rt: HostRuntime) {
         ("commit A a? public\n", "line 1: bad name"),
         ("commit A a public\n", "line 1: bad phase"),
         ("commit A a Draft b\n", "line 1: bad phase"),
+    ] {
+        expect(&rt, rt.alloc(), script.as_bytes(), b"", ending);
+    }
+}
+
+#[test]
+fn faults_of_names_that_stand_for_nothing_or_too_much(rt: HostRuntime) {
+    for (script, ending) in [
+        ("node A\nfold A f a b\n", "line 2: unknown name"),
+        (
+            "node A\ncommit A a draft\nsplit A a s s\n",
+            "line 3: name is taken",
+        ),
+        ("node A\nagree A B\n", "line 2: unknown name"),
         ("commit A a draft\n", "line 1: unknown name"),
         ("report A\n", "line 1: unknown name"),
         ("node A\ncommit A a draft b\n", "line 2: unknown name"),
