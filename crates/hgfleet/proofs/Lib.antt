@@ -1,1 +1,3 @@
+mod ArgumentLemmas
 mod InputLemmas
+mod WordLemmas

@@ -1,5 +1,5 @@
 -- The texts and the exit statuses of what ends a script.
-use Rattle.std.specs.Prelude.{ℕ, List, ◌++◌, codes, decimal}
+use Rattle.std.specs.Prelude.{ℕ, List, ◌++◌, ◌≡◌, ◌⊎◌, codes, decimal}
 use Rattle.hgfleet.specs.declared.fault.LineFault.{LineFault}
 use Rattle.hgfleet.specs.declared.fault.LineFault.TheVariants.{TooLong, UnknownCommand, WordCount, BadName, BadPhase, UnknownName, NameTaken}
 use Rattle.hgfleet.specs.declared.fault.RunFault.{RunFault}
@@ -26,3 +26,7 @@ fault_text NoMemory = codes "no memory"
 abbrev pub status_of : RunFault → ℕ
 status_of NoMemory = 3
 status_of _ = 1
+
+-- what can end the reading of a script
+abbrev pub IsInputFault : RunFault → Type 0
+IsInputFault fault = (fault ≡ Read) ⊎ ((fault ≡ ScriptTooLong) ⊎ (fault ≡ NoMemory))

@@ -1,3 +1,6 @@
 pub mod Arguments
+pub mod Commands
+pub mod Entries
 pub mod Faults
+pub mod Limits
 pub mod Words

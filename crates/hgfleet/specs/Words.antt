@@ -1,7 +1,8 @@
 -- A line, its words, and which of them are names.
-use Rattle.std.specs.Prelude.{ℕ, ◌<◌, ◌≤◌, ◌-◌, ◌==◌, List, [], ◌∷◌, length, take, drop, filter, Bool, not, ◌||◌, if◌then◌else◌, nat_eq, codes}
-use Rattle.std.specs.List.{AllPass, slice_split}
+use Rattle.std.specs.Prelude.{ℕ, ◌-◌, ◌==◌, List, [], ◌∷◌, length, take, drop, filter, Bool, not, ◌||◌, ◌&&◌, nat_le, if◌then◌else◌, nat_eq, codes}
+use Rattle.std.specs.List.{list_all, slice_split}
 use Rattle.std.specs.Char.{is_ascii_alphanumeric}
+use Rattle.hgfleet.specs.Limits.{name_limit}
 use lib.Pointwise.{pointwise}
 
 -- the text ends with these bytes
@@ -29,5 +30,5 @@ abbrev pub is_name_byte : ℕ → Bool
 is_name_byte b = is_ascii_alphanumeric b || b == 95 || b == 46 || b == 45
 
 -- 1 to 32 bytes of a name
-abbrev pub IsName : List ℕ → Type 0
-IsName word = (0 < length word) × (length word ≤ 32) × AllPass is_name_byte word
+abbrev pub is_name : List ℕ → Bool
+is_name word = not (length word == 0) && nat_le (length word) name_limit && list_all is_name_byte word

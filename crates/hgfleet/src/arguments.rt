@@ -1,7 +1,8 @@
 //! The arguments of the program.
-ghost use Rattle.std.specs.Prelude.{◌≡◌, map, IfErr};
-ghost use Rattle.clap.specs.Words.{kind_of};
-ghost use Rattle.hgfleet.specs.Arguments.{IsRun, argument_fault_number, argument_fault_status};
+ghost use Rattle.std.specs.Prelude.{◌≡◌, ◌∷◌, ◌↔◌, [], map, List, ℕ, IsTrue, IfOk, IfErr, MatchResult, codes};
+ghost use Rattle.clap.specs.Words.{app_of, kind_of, Text};
+ghost use Rattle.hgfleet.specs.declared.arguments.ArgumentFault.TheVariants.{NoMemory};
+ghost use Rattle.hgfleet.specs.Arguments.{program, IsRun, faults_at, ArgumentsAnswer, ParseAnswer, argument_fault_number, argument_fault_status, argument_fault_text};
 
 use clap::error::ErrorKind;
 use clap::{Command, Error};
@@ -11,9 +12,12 @@ use std::fmt;
 /// What the arguments ask for.
 #[derive(Drop)]
 pub enum Wanted {
+    /// That the script of standard input is run.
     Run,
-    /// The text of the help is the message of this answer.
+    /// The text of the help, which is the message of this answer.
     Help(Error),
+    /// The version, which is the message of this answer.
+    Version(Error),
 }
 
 /// Why the arguments ask for nothing.
@@ -48,28 +52,37 @@ impl ArgumentFault {
 }
 
 impl fmt::Display for ArgumentFault {
+    ghost output = { argument_fault_text };
+
     fn fmt<W: fmt::Write>(&self, f: &mut fmt::Formatter<W>) -> fmt::Result {
         match self {
             ArgumentFault::BadArguments(error) => write!(f, "{error}"),
-            ArgumentFault::NotText => writeln!(f, "error: the arguments aren't text"),
-            ArgumentFault::NoMemory => writeln!(f, "no memory"),
+            ArgumentFault::NotText => write!(f, "error: the arguments aren't text\n"),
+            ArgumentFault::NoMemory => write!(f, "no memory\n"),
         }
     }
 }
 
 impl From<AllocError> for ArgumentFault {
+    ghost from_gives = { λ _ e. e ≡ NoMemory };
+
     fn from(_error: AllocError) -> ArgumentFault {
         ArgumentFault::NoMemory
     }
 }
 
 impl<T: Drop> From<AllocFailed<T>> for ArgumentFault {
+    ghost from_gives = { λ _ e. e ≡ NoMemory };
+
     fn from(_error: AllocFailed<T>) -> ArgumentFault {
         ArgumentFault::NoMemory
     }
 }
 
-// What a script looks like.
+// The version, and what it was proved with.
+const VERSION: &str = "0.1.0, proved with rattle-kit-13b logic dac8208d650f15bf";
+
+// What a script looks like, and what comes of it.
 const SCRIPT_HELP: &str = "\
 A script has a command on each line; the words are divided by spaces:
   node A              a new empty replica, A
@@ -85,33 +98,91 @@ A script has a command on each line; the words are divided by spaces:
   agree A B           prints whether A and B hold the same in the same phases
 Empty lines and lines that begin with # are skipped.
 
+A line that a replica refuses changes nothing. What refused it is printed, as
+  7: rewrite 3 Public
+with the line's number, a word, and the refusal's number and name; the script goes on.
+A line that can't be read ends the script, and says so on standard error, as
+  line 7: unknown command
+
+Statuses: 0 done, 1 a script that ended early, 2 wrong arguments, 3 want of memory.
+
 For example:
   printf 'node A\\ncommit A a draft\\nreport A\\n' | hgfleet run";
 
-/// Reads the words of a command line, the program's name first.
-pub fn read_args(alloc: Global, words: &[&str]) -> Result<Wanted, ArgumentFault> {
+/// Reads the words of a command line, the program's name first. A run has the word `run` alone.
+pub fn read_args(alloc: Global, words: &[&str]) -> Result<Wanted, ArgumentFault>
+    ensures { ArgumentsAnswer (map (λ s. s.now) words.now) result }
+{
     match parse(alloc, words) {
-        Ok(()) => Ok(Wanted::Run),
+        Ok(()) => {
+            if is_run(words) {
+                Ok(Wanted::Run)
+            } else {
+                Err(ArgumentFault::BadArguments(further_words(alloc)?))
+            }
+        }
         Err(error) => match error.kind() {
             ErrorKind::DisplayHelp => Ok(Wanted::Help(error)),
+            ErrorKind::DisplayVersion => Ok(Wanted::Version(error)),
             ErrorKind::OutOfMemory => Err(ArgumentFault::NoMemory),
             _ => Err(ArgumentFault::BadArguments(error)),
         },
     }
 }
 
-fn parse(alloc: Global, words: &[&str]) -> Result<(), Error>
-    ensures run { IsRun (map (λ s. s.now) words.now) → IfErr result (λ e. kind_of e ≡ ErrorKind.OutOfMemory) }
+// Whether the words are the program's name, whatever it is, and `run`.
+fn is_run(words: &[&str]) -> bool
+    ensures { IsTrue result ↔ IsRun (map (λ s. s.now) words.now) }
 {
-    let run = Command::new(alloc, "run").about(
-        "Does the script of standard input and prints its reports",
-    );
+    words.len() == 2 && names_run(words[1])
+}
+
+fn names_run(word: &str) -> bool
+    ensures { IsTrue result ↔ (word.now ≡ codes "run") }
+{
+    word == "run"
+}
+
+// The fault of a run with words that the parser passes over, as `--`.
+fn further_words(alloc: Global) -> Result<Error, AllocError>
+    ensures { IfOk result (λ e. kind_of e ≡ ErrorKind.UnknownArgument) }
+{
+    Command::new(alloc, "hgfleet").error(ErrorKind::UnknownArgument, "a run takes no further words")
+}
+
+fn parse(alloc: Global, words: &[&str]) -> Result<(), Error>
+    ensures { ParseAnswer (map (λ s. s.now) words.now) result }
+{
+    let command = program(alloc)?;
+    match command.try_get_matches_from(words) {
+        Ok(_) => Ok(()),
+        Err(error) => Err(error),
+    }
+}
+
+fn program<'a>(alloc: Global) -> Result<Command<'a>, AllocError>
+    ensures { IfOk result (λ command. app_of command ≡ program) }
+{
+    let run = Command::new(alloc, "run")
+        .about("Does the script of standard input and prints its reports")
+        .after_help(SCRIPT_HELP);
     let command = Command::new(alloc, "hgfleet")
         .about("Runs scripts of a fleet of Mercurial repositories")
+        .version(VERSION)
         .after_help(SCRIPT_HELP)
         .subcommand_required(true)
         .arg_required_else_help(false)
         .subcommand(run)?;
-    let _matches = command.try_get_matches_from(words)?;
-    Ok(())
+    Ok(command)
 }
+
+/// The words by which help and the version are asked for, and some that ask for nothing.
+pub fn what_words_ask_for()
+    ensures help { (name : Text) → faults_at (name ∷ codes "--help" ∷ []) ≡ ErrorKind.DisplayHelp ∷ [] }
+    ensures short_help { (name : Text) → faults_at (name ∷ codes "-h" ∷ []) ≡ ErrorKind.DisplayHelp ∷ [] }
+    ensures help_of_run { (name : Text) → faults_at (name ∷ codes "run" ∷ codes "--help" ∷ []) ≡ ErrorKind.DisplayHelp ∷ [] }
+    ensures version { (name : Text) → faults_at (name ∷ codes "--version" ∷ []) ≡ ErrorKind.DisplayVersion ∷ [] }
+    ensures nothing { (name : Text) → faults_at (name ∷ []) ≡ ErrorKind.MissingSubcommand ∷ [] }
+    ensures run { (name : Text) → faults_at (name ∷ codes "run" ∷ []) ≡ [] }
+    ensures more { (name : Text) → faults_at (name ∷ codes "run" ∷ codes "x" ∷ []) ≡ ErrorKind.UnknownArgument ∷ [] }
+{}

@@ -1,12 +1,10 @@
 //! Lines and words.
 ghost use Rattle.std.specs.Prelude.{◌≡◌, ◌≤◌, ◌↔◌, IfOk, IsTrue, length, map};
 ghost use Rattle.hgfleet.specs.Words.{line_of, spaced, words_of};
-ghost use Rattle.hgfleet.specs.declared.lines.TheConstants.{LINE_LIMIT};
+ghost use Rattle.hgfleet.specs.Limits.{line_limit};
 
+use crate::limits::LINE_LIMIT;
 use std::alloc::{AllocError, Global};
-
-/// The most bytes that a line may have, without its end.
-pub const LINE_LIMIT: usize = 4096;
 
 /// The line without its LF, and without one CR before that.
 pub fn line_of(piece: &[u8]) -> &[u8]
@@ -24,7 +22,7 @@ pub fn line_of(piece: &[u8]) -> &[u8]
 
 /// Whether the line has no more bytes than a line may have.
 pub fn is_short(line: &[u8]) -> bool
-    ensures { IsTrue result ↔ (length line.now ≤ LINE_LIMIT) }
+    ensures { IsTrue result ↔ (length line.now ≤ line_limit) }
 {
     line.len() <= LINE_LIMIT
 }

@@ -6,35 +6,49 @@
 
 mod arguments;
 mod command;
+mod counted;
 mod fault;
 mod fleet;
 mod input;
+mod limits;
 mod lines;
 mod operation;
 mod output;
+mod reading;
 mod script;
 mod steps;
 #[cfg(test)]
 mod tests;
 
 use arguments::{ArgumentFault, Wanted, read_args};
+use clap::Error;
 use fault::RunFault;
-use script::run_script;
+use script::run_counted;
 use std::env::Env;
 use std::io::{BufWriter, ErrorKind, Write};
 use std::process::ExitCode;
 use std::{env, io};
 
-fn main(rt: HostRuntime) -> io::Result<ExitCode> {
+fn main(rt: HostRuntime) -> ExitCode {
     match read_wanted(&rt) {
-        Ok(Wanted::Run) => run(&rt),
-        Ok(Wanted::Help(text)) => {
-            print!(rt; "{text}")?;
-            Ok(ExitCode::SUCCESS)
-        }
+        Ok(Wanted::Run) => finish(&rt, run(&rt)),
+        Ok(Wanted::Help(text)) => finish(&rt, show(&rt, &text)),
+        Ok(Wanted::Version(text)) => finish(&rt, show(&rt, &text)),
         Err(fault) => {
-            eprint!(rt; "{fault}")?;
-            Ok(ExitCode::from(fault.status()))
+            // The status says what was wrong, also where the text can't be written.
+            let _ = eprint!(rt; "{fault}");
+            ExitCode::from(fault.status())
+        }
+    }
+}
+
+// The status of a run, after its fault was told. A fault that can't be written leaves the status as it is.
+fn finish(rt: &impl Eprint, done: Result<(), RunFault>) -> ExitCode {
+    match done {
+        Ok(()) => ExitCode::SUCCESS,
+        Err(fault) => {
+            let _ = eprintln!(rt; "{fault}");
+            ExitCode::from(fault.status())
         }
     }
 }
@@ -52,24 +66,18 @@ fn read_wanted(rt: &(impl Env + AllocGlobal)) -> Result<Wanted, ArgumentFault> {
     read_args(rt.alloc(), &texts)
 }
 
-// Runs the script of standard input. What was printed before a fault stays.
-fn run(rt: &(impl Print + Eprint + Input + AllocGlobal)) -> io::Result<ExitCode> {
-    match run_buffered(rt) {
-        Ok(()) => Ok(ExitCode::SUCCESS),
-        Err(fault) => {
-            eprintln!(rt; "{fault}")?;
-            Ok(ExitCode::from(fault.status()))
-        }
-    }
+// Prints a text that was asked for.
+fn show(rt: &impl Print, text: &Error) -> Result<(), RunFault> {
+    print!(rt; "{text}").map_err(|_| RunFault::Write)
 }
 
-fn run_buffered(rt: &(impl Print + Input + AllocGlobal)) -> Result<(), RunFault> {
-    let mut reader = rt.reader();
+// Runs the script of standard input. What was printed before a fault stays.
+fn run(rt: &(impl Print + Input + AllocGlobal)) -> Result<(), RunFault> {
     let mut writer = match BufWriter::new(rt.alloc(), io::writer(rt)) {
         Ok(writer) => writer,
         Err(_) => return Err(RunFault::NoMemory),
     };
-    let done = run_script(rt.alloc(), &mut reader, &mut writer);
+    let done = run_counted(rt.alloc(), rt.reader(), &mut writer);
     let flushed = writer.flush().map_err(|_| RunFault::Write);
     done.and(flushed)
 }

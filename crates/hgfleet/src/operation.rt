@@ -1,4 +1,7 @@
 //! Operations of a script: by labels, and what they ask of a replica once the labels stand for ids.
+ghost use Rattle.std.specs.Prelude.{◌≡◌, IfOk};
+ghost use Rattle.hgfleet.specs.Entries.{entry_of, IsPruneOf};
+
 use crate::fault::{LineFault, RunFault};
 use hg_changeset::{Entry, Node};
 use hg_phases::Phase;
@@ -10,7 +13,12 @@ use std::collections::BTreeMap;
 const USER: &[u8] = b"fleet";
 
 /// The labels of at most two parents.
-pub type Parents<'a> = (Option<&'a [u8]>, Option<&'a [u8]>);
+#[derive(Clone, Copy, Debug)]
+pub enum Parents<'a> {
+    NoParent,
+    One(&'a [u8]),
+    Two(&'a [u8], &'a [u8]),
+}
 
 /// An operation, by the labels of its line.
 #[derive(Clone, Copy, Debug)]
@@ -66,12 +74,15 @@ impl<'a> Operation<'a> {
                 new,
                 is_secret,
                 parents,
-            } => Op::Commit {
-                p: names.parent(parents.0)?,
-                q: names.parent(parents.1)?,
-                entry: names.entry(new)?,
-                secret: is_secret,
-            },
+            } => {
+                let (p, q) = names.parents(parents)?;
+                Op::Commit {
+                    p,
+                    q,
+                    entry: names.entry(new)?,
+                    secret: is_secret,
+                }
+            }
             Operation::Amend { old, new } => Op::Amend {
                 node: names.node(old)?,
                 entry: names.entry(new)?,
@@ -84,13 +95,17 @@ impl<'a> Operation<'a> {
                 nodes: names.nodes(old)?,
                 entry: names.entry(new)?,
             },
-            Operation::Prune { old } => names.prune(old)?,
-            Operation::Relocate { old, new, parents } => Op::Relocate {
-                node: names.node(old)?,
-                p: names.parent(parents.0)?,
-                q: names.parent(parents.1)?,
-                entry: names.entry(new)?,
-            },
+            Operation::Prune { old } => names.prune(names.node(old)?)?,
+            Operation::Relocate { old, new, parents } => {
+                let node = names.node(old)?;
+                let (p, q) = names.parents(parents)?;
+                Op::Relocate {
+                    node,
+                    p,
+                    q,
+                    entry: names.entry(new)?,
+                }
+            }
             Operation::Advance { label, phase } => Op::Advance {
                 node: names.node(label)?,
                 phase,
@@ -117,11 +132,12 @@ impl Names<'_> {
         }
     }
 
-    // The id that a parent's label names; where there is no label, the null id.
-    fn parent(&self, label: Option<&[u8]>) -> Result<Node, RunFault> {
-        match label {
-            Some(label) => self.node(label),
-            None => Ok(Node::NULL),
+    // The ids that the labels of parents name, and the null id for each that is absent.
+    fn parents(&self, labels: Parents<'_>) -> Result<(Node, Node), RunFault> {
+        match labels {
+            Parents::NoParent => Ok((Node::NULL, Node::NULL)),
+            Parents::One(p) => Ok((self.node(p)?, Node::NULL)),
+            Parents::Two(p, q) => Ok((self.node(p)?, self.node(q)?)),
         }
     }
 
@@ -134,7 +150,9 @@ impl Names<'_> {
     }
 
     // The entry of a new changeset: the user `fleet`, the date 0 0, no extras, and the label as description.
-    fn entry(&self, label: &[u8]) -> Result<Entry, AllocError> {
+    fn entry(&self, label: &[u8]) -> Result<Entry, AllocError>
+        ensures { IfOk result (λ entry. entry ≡ entry_of label.now) }
+    {
         Ok(Entry {
             user: Vec::from_slice(self.alloc, USER)?,
             secs: 0,
@@ -152,10 +170,12 @@ impl Names<'_> {
         Ok(entries)
     }
 
-    // A prune has the user and date of an entry.
-    fn prune(&self, label: &[u8]) -> Result<Op, RunFault> {
+    // A prune of the node, which has the user and the date of an entry.
+    fn prune(&self, node: Node) -> Result<Op, AllocError>
+        ensures { IfOk result (IsPruneOf node) }
+    {
         Ok(Op::Prune {
-            node: self.node(label)?,
+            node,
             user: Vec::from_slice(self.alloc, USER)?,
             secs: 0,
             offset: 0,

@@ -1,31 +1,45 @@
 //! A script from its first line to its last.
 ghost use Rattle.std.specs.Prelude.{◌≡◌, ◌≤◌, ◌<◌, ◌+◌};
+ghost use Rattle.hgfleet.specs.Limits.{script_limit};
 
-use crate::command::read_command;
+use crate::counted::{Counted, CountedRead};
 use crate::fault::{LineFault, RunFault};
 use crate::fleet::Fleet;
 use crate::input::read_script;
 use crate::lines::{is_short, line_of, words_of};
-use crate::steps::Steps;
+use crate::reading::read_command;
 use std::alloc::Global;
 use std::io::{Read, Write};
 use std::marker::Brand;
 use std::sync::ledger::{Blank, Ledger};
 
-/// Reads a script, does its lines in order, and prints what they report, one write for each line.
+/// Reads a script, does its lines in order, and prints what they report, one write for each line. What was printed before
+/// a fault stays.
 ///
-/// It makes at most 1,048,577 reads. What was printed before a fault stays.
-pub fn run_script<R: Read, W: Write>(
+/// It makes at most 1,048,577 reads, one more than a script may have bytes.
+pub fn run_script<R: CountedRead, W: Write>(
     alloc: Global,
     reader: &mut R,
     writer: &mut W,
-) -> Result<(), RunFault> {
-    run_counted::<R, W, Brand>(alloc, reader, writer, Blank::new(1))
+) -> Result<(), RunFault>
+    ensures reads { R.reads reader.new ≤ R.reads reader.old + (script_limit + 1) }
+{
+    let text = read_script(alloc, reader)?;
+    run_lines(alloc, &text, writer)
 }
 
-fn run_counted<R: Read, W: Write, L: Ledger>(
+/// [`run_script`] of a reader that counts nothing, by a count of its own.
+pub fn run_counted<R: Read + Drop, W: Write>(
     alloc: Global,
-    reader: &mut R,
+    reader: R,
+    writer: &mut W,
+) -> Result<(), RunFault> {
+    count_and_run::<R, W, Brand>(alloc, reader, writer, Blank::new(1))
+}
+
+fn count_and_run<R: Read + Drop, W: Write, L: Ledger>(
+    alloc: Global,
+    reader: R,
     writer: &mut W,
     blank: Blank,
 ) -> Result<(), RunFault>
@@ -33,21 +47,8 @@ fn run_counted<R: Read, W: Write, L: Ledger>(
     requires parts { blank.parts ≡ L.parts }
     requires some { 0 < blank.parts }
 {
-    let mut steps = Steps::<L>::new(blank);
-    run_in_steps(alloc, reader, writer, &mut steps)
-}
-
-// The engine: a step is a read.
-fn run_in_steps<R: Read, W: Write, L: Ledger>(
-    alloc: Global,
-    reader: &mut R,
-    writer: &mut W,
-    steps: &mut Steps<L>,
-) -> Result<(), RunFault>
-    ensures reads { steps.new ≤ steps.old + 1048577 }
-{
-    let text = read_script(alloc, reader, steps)?;
-    run_lines(alloc, &text, writer)
+    let mut counted = Counted::<R, L>::new(reader, blank);
+    run_script(alloc, &mut counted, writer)
 }
 
 fn run_lines<W: Write>(alloc: Global, text: &[u8], writer: &mut W) -> Result<(), RunFault> {

@@ -1,6 +1,7 @@
 //! Scripts over readers and writers of every kind, byte for byte.
+use crate::arguments::{ArgumentFault, Wanted, read_args};
 use crate::fault::RunFault;
-use crate::script::run_script;
+use crate::script::run_counted;
 use std::alloc::Global;
 use std::io;
 use std::io::{Error, ErrorKind, Read, Write};
@@ -61,11 +62,31 @@ impl Write for Full {
     }
 }
 
+// Counts the writes, and those that end with LF.
+#[derive(Drop)]
+struct Noting {
+    writes: usize,
+    lines: usize,
+}
+
+impl Write for Noting {
+    fn write(&mut self, buf: &[u8]) -> io::Result<usize> {
+        self.writes = self.writes.saturating_add(1);
+        if buf.last() == Some(&b'\n') {
+            self.lines = self.lines.saturating_add(1);
+        }
+        Ok(buf.len())
+    }
+
+    fn flush(&mut self) -> io::Result<()> {
+        Ok(())
+    }
+}
+
 // Runs the script, and compares what it prints and how it ends.
 fn expect(rt: &impl Abort, alloc: Global, script: &[u8], output: &[u8], ending: &str) {
-    let mut reader = script;
     let mut writer = Vec::new(alloc);
-    let done = run_script(alloc, &mut reader, &mut writer);
+    let done = run_counted(alloc, script, &mut writer);
     assert_eq!(rt; writer.as_slice(), output);
     expect_ending(rt, alloc, done, ending);
 }
@@ -85,7 +106,7 @@ fn two_commits_and_a_report(rt: HostRuntime) {
     let output = b"report A\na draft\nb draft\n2 changesets 0 markers\n";
     expect(&rt, rt.alloc(), script, output, "");
     let mut writer = Vec::new(rt.alloc());
-    let done = run_script(rt.alloc(), &mut OneByte(script), &mut writer);
+    let done = run_counted(rt.alloc(), OneByte(script), &mut writer);
     assert_eq!(rt; writer.as_slice(), output.as_slice());
     expect_ending(&rt, rt.alloc(), done, "");
 }
@@ -114,6 +135,88 @@ fn refused_rewrites(rt: HostRuntime) {
     let output =
         b"5: rewrite 5 NotLinear\n6: rewrite 6 Count\n7: rewrite 6 Count\n9: rewrite 4 AlreadyObsolete\n10: rewrite 2 Hidden\n11: rewrite 5 NotLinear\nreport A\na draft\nb draft\nc draft\nf draft\n4 changesets 3 markers\n";
     expect(&rt, rt.alloc(), script, output, "");
+}
+
+#[test]
+fn what_amends_and_relocations_stand_on(rt: HostRuntime) {
+    let script =
+        b"node A\ncommit A p draft\ncommit A q draft\ncommit A a draft p\ncommit A b draft a\namend A b b2\nfold A f a b2\nnode B\ncommit B p draft\ncommit B q draft\ncommit B x draft\nrelocate B x y p q\nphase B y public\nreport B\nreport A\n";
+    let output =
+        b"report B\np public\nq public\nx draft\ny public\n4 changesets 1 markers\nreport A\na draft\nb draft\nb2 draft\nf draft\np draft\nq draft\n6 changesets 3 markers\n";
+    expect(&rt, rt.alloc(), script, output, "");
+}
+
+#[test]
+fn a_split_binds_its_labels_from_the_lowest(rt: HostRuntime) {
+    let script = b"node A\ncommit A s draft\nsplit A s s1 s2\nphase A s1 public\nreport A\n";
+    let output = b"report A\ns draft\ns1 public\ns2 draft\n3 changesets 1 markers\n";
+    expect(&rt, rt.alloc(), script, output, "");
+}
+
+#[test]
+fn labels_and_replicas_have_spaces_of_their_own(rt: HostRuntime) {
+    let script =
+        b"node A\ncommit A A secret\nnode B\ncommit A B draft\nphase A A secret\nreport A\nreport B\n";
+    let output =
+        b"report A\nA secret\nB draft\n2 changesets 0 markers\nreport B\n0 changesets 0 markers\n";
+    expect(&rt, rt.alloc(), script, output, "");
+}
+
+#[test]
+fn a_smaller_state_does_not_agree_in_either_order(rt: HostRuntime) {
+    let script = b"node A\nnode B\ncommit A a draft\nagree A B\nagree B A\n";
+    expect(
+        &rt,
+        rt.alloc(),
+        script,
+        b"agree A B: no\nagree B A: no\n",
+        "",
+    );
+}
+
+#[test]
+fn a_line_and_its_end_are_one_write(rt: HostRuntime) {
+    let script: &[u8] = b"node A\ncommit A a draft\nphase A a secret\nreport A\nagree A A\n";
+    let mut writer = Noting {
+        writes: 0,
+        lines: 0,
+    };
+    let done = run_counted(rt.alloc(), script, &mut writer);
+    expect_ending(&rt, rt.alloc(), done, "");
+    assert_eq!(rt; writer.writes, 5);
+    assert_eq!(rt; writer.lines, 5);
+}
+
+// What the words ask for, as a word.
+fn asked(alloc: Global, words: &[&str]) -> &'static str {
+    match read_args(alloc, words) {
+        Ok(Wanted::Run) => "run",
+        Ok(Wanted::Help(_)) => "help",
+        Ok(Wanted::Version(_)) => "version",
+        Err(ArgumentFault::BadArguments(_)) => "bad",
+        Err(_) => "other",
+    }
+}
+
+#[test]
+fn what_arguments_ask_for(rt: HostRuntime) {
+    for (words, wanted) in [
+        (["run", ""].as_slice(), "bad"),
+        (&["run"], "run"),
+        (&[], "bad"),
+        (&["runs"], "bad"),
+        (&["run", "x"], "bad"),
+        (&["run", "--"], "bad"),
+        (&["--help"], "help"),
+        (&["-h"], "help"),
+        (&["run", "--help"], "help"),
+        (&["--version"], "version"),
+        (&["-x"], "bad"),
+    ] {
+        let mut all = vec![in rt.alloc(); "hgfleet"].expect(&rt, "memory");
+        all.extend_from_slice(words).expect(&rt, "memory");
+        assert_eq!(rt; asked(rt.alloc(), &all), wanted);
+    }
 }
 
 #[test]
@@ -211,11 +314,11 @@ fn limits_of_lines_and_scripts(rt: HostRuntime) {
 fn readers_and_writers_that_fail(rt: HostRuntime) {
     let alloc = rt.alloc();
     let mut writer = Vec::new(alloc);
-    let done = run_script(alloc, &mut Failing(10), &mut writer);
+    let done = run_counted(alloc, Failing(10), &mut writer);
     assert!(rt; writer.is_empty());
     expect_ending(&rt, alloc, done, "read fault");
-    let mut script: &[u8] = b"node A\nreport A\nreport A\n";
-    let done = run_script(alloc, &mut script, &mut Full(1));
+    let script: &[u8] = b"node A\nreport A\nreport A\n";
+    let done = run_counted(alloc, script, &mut Full(1));
     expect_ending(&rt, alloc, done, "write fault");
     assert_eq!(rt; RunFault::Write.status(), 1);
     assert_eq!(rt; RunFault::NoMemory.status(), 3);

@@ -9,7 +9,7 @@ loop-init g c =
     record {
       bytes = subst (λ xs. Consumes left left xs) (sym c.new-text.ensures.items) (Consumes-nothing left);
       counted = omega arith;
-      stepped = omega arith;
+      reads = omega arith;
       limit = subst (λ xs. length xs ≤ 1048576) (sym c.new-text.ensures.items) (omega arith);
     }
 
@@ -39,7 +39,7 @@ loop-preserved g c =
     record {
       bytes = step.bytes all c.loop.invariant.bytes;
       counted = omega (arith, before, sum, c.if-branch-eq0.false);
-      stepped = omega (arith, c.loop.invariant.stepped, step.step);
+      reads = omega (arith, c.loop.invariant.reads, step.read);
       limit = omega arith;
     }
 
@@ -50,10 +50,10 @@ returns-clause-too_long g c _ =
     absurd (omega (arith, few, limit))
 
 pub returns-in_err-read_more-clause-reads : goal.returns-in_err-read_more-clause-reads
-returns-in_err-read_more-clause-reads g c = omega (arith, c.loop.invariant.stepped, c.in_err-read_more.ensures.step)
+returns-in_err-read_more-clause-reads g c = omega (arith, c.loop.invariant.reads, c.in_err-read_more.ensures.read)
 
 pub returns-then-branch-eq0-clause-reads : goal.returns-then-branch-eq0-clause-reads
-returns-then-branch-eq0-clause-reads g c = omega (arith, c.loop.invariant.stepped, c.in_ok-read_more.ensures.step)
+returns-then-branch-eq0-clause-reads g c = omega (arith, c.loop.invariant.reads, c.in_ok-read_more.ensures.read)
 
 pub returns-then-len-gt-SCRIPT_LIMIT-clause-reads : goal.returns-then-len-gt-SCRIPT_LIMIT-clause-reads
-returns-then-len-gt-SCRIPT_LIMIT-clause-reads g c = omega (arith, c.loop.invariant.stepped, c.in_ok-read_more.ensures.step)
+returns-then-len-gt-SCRIPT_LIMIT-clause-reads g c = omega (arith, c.loop.invariant.reads, c.in_ok-read_more.ensures.read)

@@ -1,0 +1,67 @@
+-- What the parser tells at words that are written out.
+use Rattle.std.proofs.Common.{◌≡◌, ◌≢◌, ◌∷◌, [], List, length, map, codes, refl, inl, inr, ◌∙◌, ap, subst, arith, true, Result, Bor, get_or}
+use Rattle.std.specs.Prelude.{drop}
+use Rattle.clap.specs.Words.{App, Text, Kinds, FailsBy, HasKind, IsAmong, fault_of, is_simple_and_free, kind_of}
+use Rattle.clap.specs.declared.error.Error.{Error}
+use Rattle.clap.specs.declared.error.kind.ErrorKind.TheVariants.{DisplayHelp, DisplayVersion, MissingSubcommand, UnknownArgument, OutOfMemory}
+use Rattle.clap.proofs.OnLiterals.{clap_on_literals}
+use Rattle.hgfleet.specs.Arguments.{IsRun, program, faults_at}
+
+pub at_help : (name : Text) → faults_at (name ∷ codes "--help" ∷ []) ≡ DisplayHelp ∷ []
+unfolding clap_on_literals faults_at
+at_help name = refl
+
+pub at_short_help : (name : Text) → faults_at (name ∷ codes "-h" ∷ []) ≡ DisplayHelp ∷ []
+unfolding clap_on_literals faults_at
+at_short_help name = refl
+
+pub at_help_of_run : (name : Text) → faults_at (name ∷ codes "run" ∷ codes "--help" ∷ []) ≡ DisplayHelp ∷ []
+unfolding clap_on_literals faults_at
+at_help_of_run name = refl
+
+pub at_version : (name : Text) → faults_at (name ∷ codes "--version" ∷ []) ≡ DisplayVersion ∷ []
+unfolding clap_on_literals faults_at
+at_version name = refl
+
+pub at_nothing : (name : Text) → faults_at (name ∷ []) ≡ MissingSubcommand ∷ []
+unfolding clap_on_literals faults_at
+at_nothing name = refl
+
+pub at_run : (name : Text) → faults_at (name ∷ codes "run" ∷ []) ≡ []
+unfolding clap_on_literals faults_at
+at_run name = refl
+
+pub at_more : (name : Text) → faults_at (name ∷ codes "run" ∷ codes "x" ∷ []) ≡ UnknownArgument ∷ []
+unfolding clap_on_literals faults_at
+at_more name = refl
+
+-- the words of a run are at no fault
+pub run_faultless : (words : List Text) → IsRun words → faults_at words ≡ []
+run_faultless [] h = let l : 0 ≡ 1 = ap length h in absurd (omega (arith, l))
+run_faultless (name ∷ rest) h = ap (λ (ws : List Text). faults_at (name ∷ ws)) h ∙ at_run name
+
+program_is_free : is_simple_and_free program ≡ true
+unfolding clap_on_literals
+program_is_free = refl
+
+-- what a command of this shape tells
+pub fails_at : {T : Type 0} (a : App) (words : List Text) (r : Result T Error) → a ≡ program → (is_simple_and_free a ≡ true → FailsBy (fault_of a words) r) → FailsBy (faults_at words) r
+unfolding faults_at
+fails_at a words r e h = subst (λ b. FailsBy (fault_of b words) r) e (h (ap is_simple_and_free e ∙ program_is_free))
+
+-- what is told of the words of a run is want of memory
+pub not_run : (words : List Text) (e : Error) → HasKind (faults_at words) e → kind_of e ≢ OutOfMemory → ¬ (IsRun words)
+not_run words e (inl m) k run = k m
+not_run words e (inr among) k run = subst (λ ks. IsAmong (kind_of e) ks) (run_faultless words run) among
+
+-- and what is told otherwise is a fault of the words
+pub is_told : (kinds : Kinds) (e : Error) → HasKind kinds e → kind_of e ≢ OutOfMemory → IsAmong (kind_of e) kinds
+is_told kinds e (inl m) k = absurd (k m)
+is_told kinds e (inr among) k = among
+
+-- the second of two words stands alone behind the first
+pub second_alone : (words : List (Bor Text)) (d : Bor Text) → length words ≡ 2 → drop 1 (map (λ s. s.now) words) ≡ (get_or words 1 d).now ∷ []
+second_alone [] d l = absurd (omega (arith, l))
+second_alone (a ∷ []) d l = absurd (omega (arith, l))
+second_alone (a ∷ b ∷ []) d l = refl
+second_alone (a ∷ b ∷ x ∷ xs) d l = absurd (omega (arith, l))
