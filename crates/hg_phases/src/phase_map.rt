@@ -5,7 +5,7 @@
 //!
 //! Lowering a changeset lowers its ancestors with it. The walk keeps one log of what it lowered, with the phase that
 //! each had: the log is the queue of the walk, the answer, and what takes the lowering back.
-ghost use Rattle.std.specs.Prelude.{OnOk, slice_set, All, IfOk, IfSome, MatchOption, OnErr, length, take, slice_get, Some, [], ◌∷◌, ◌++◌, ◌+◌, ◌-◌, ℕ, List, ◌≡◌, ◌<◌};
+ghost use Rattle.std.specs.Prelude.{OnOk, slice_set, All, IfOk, IsOkAnd, IfSome, MatchOption, OnErr, length, take, slice_get, Some, [], ◌∷◌, ◌++◌, ◌+◌, ◌-◌, ℕ, List, ◌≡◌, ◌<◌};
 ghost use Rattle.hg_changeset.specs.declared.node.Node.{Node};
 ghost use Rattle.hg_graph.specs.Graph.{Holds as GraphHolds, IsGraph};
 ghost use Rattle.hg_graph.specs.Places.{IsAt};
@@ -67,7 +67,7 @@ impl PhaseMap {
     /// The phase of the changeset with this id, if it is held.
     pub fn phase_of(&self, graph: &Graph, node: Node) -> Result<Option<Phase>, AllocError>
         requires { length (phases_at graph.now self.now) ≡ length graph.now }
-        ensures { IfOk result (λ phase. MatchOption phase (¬ (Holds (kept_state graph.now self.now) node)) (IsPhaseOf (kept_state graph.now self.now) node)) }
+        ensures { IsOkAnd result (λ phase. MatchOption phase (¬ (Holds (kept_state graph.now self.now) node)) (IsPhaseOf (kept_state graph.now self.now) node)) }
     {
         match graph.place(node) {
             Some(place) => Ok(Some(self.at(graph, place))),
