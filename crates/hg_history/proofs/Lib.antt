@@ -5,6 +5,7 @@ pub mod AbsorbLemmas
 pub mod ChangeLemmas
 pub mod ContentLemmas
 pub mod FaultLemmas
+pub mod FirstFaultLemmas
 pub mod JoinLemmas
 pub mod OpenLemmas
 pub mod RootLemmas

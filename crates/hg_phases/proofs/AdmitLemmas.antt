@@ -16,7 +16,7 @@ use Rattle.hg_phases.specs.Kept.{before_last}
 use Rattle.hg_phases.proofs.RankLemmas.{rank-top}
 use Rattle.hg_phases.proofs.PlaceLemmas.{get-push_cases, held-at, parts-at, changesets-held_of}
 
-get-taken : {X : Type 0} (xs : List X) (n i : ℕ) (x : X) → i < n → slice_get xs i ≡ Some x → slice_get (take n xs) i ≡ Some x
+pub get-taken : {X : Type 0} (xs : List X) (n i : ℕ) (x : X) → i < n → slice_get xs i ≡ Some x → slice_get (take n xs) i ≡ Some x
 get-taken xs zero i x l h = absurd (omega arith)
 get-taken [] (suc n) i x l h = h
 get-taken (y ∷ xs) (suc n) zero x l h = h
