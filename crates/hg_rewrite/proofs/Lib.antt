@@ -7,4 +7,5 @@ pub mod EntryLemmas
 pub mod ChainLemmas
 pub mod MarkLemmas
 pub mod PartLemmas
+pub mod TableLemmas
 pub mod DecideLemmas

@@ -8,7 +8,7 @@ ghost use Rattle.hg_rewrite.specs.Refusals.{targets, new_parents, unknown, unkno
 ghost use Rattle.hg_rewrite.specs.Answer.{Checked};
 
 use crate::op::Op;
-use crate::reading::{contains, holds, is_hidden, is_obsolete, is_public, parents_in, phase_in};
+use crate::query::{contains, holds, is_hidden, is_obsolete, is_public, parents_in, phase_in};
 use crate::refusal::Refusal;
 use hg_changeset::Node;
 use hg_replica::Replica;
@@ -125,7 +125,7 @@ pub(crate) fn check_not_public(replica: &Replica, op: &Op) -> Result<(), Refusal
 }
 
 // Refuses a node to be rewritten that is obsolete.
-pub(crate) fn check_current(replica: &Replica, op: &Op) -> Result<(), Refusal>
+pub(crate) fn check_not_obsolete(replica: &Replica, op: &Op) -> Result<(), Refusal>
     ensures { Checked (obsolete_nodes replica.now op.now) result }
 {
     let nodes = rewritten(op);
