@@ -2,7 +2,7 @@
 //!
 //! The store comes first in each call that grows both, since what it added is cut off its end again where the history
 //! refuses. So a refusal costs what was taken in, and never a copy.
-ghost use Rattle.std.specs.Prelude.{IfOk, MatchOption, IsTrue, [], ◌≡◌, ◌↔◌};
+ghost use Rattle.std.specs.Prelude.{IfOk, IsOkAnd, MatchOption, IsTrue, [], ◌≡◌, ◌↔◌};
 ghost use Rattle.hg_phases.specs.State.{changesets, state_of, Holds, IsPhaseOf};
 ghost use Rattle.hg_phases.specs.Roots.{AreRoots};
 ghost use Rattle.hg_obsstore.specs.Markers.{AreApart};
@@ -102,7 +102,7 @@ impl Replica {
 
     /// The phase of the changeset with this id, if it is held.
     pub fn phase_of(&self, node: Node) -> Result<Option<Phase>, AllocError>
-        ensures phase { IfOk result (λ phase. MatchOption phase (¬ (Holds self.now.history node)) (IsPhaseOf self.now.history node)) }
+        ensures phase { IsOkAnd result (λ phase. MatchOption phase (¬ (Holds self.now.history node)) (IsPhaseOf self.now.history node)) }
         ensures valid { IsValid self.now }
     {
         self.history.phase_of(node)
@@ -114,6 +114,7 @@ impl Replica {
     pub fn absorb(&mut self, part: &Part) -> Result<Change, Fault>
         ensures answer { AbsorbAnswer self.old part.now result self.new }
         ensures valid { IsValid self.old }
+        ensures still_valid { IsValid self.new }
     {
         let before = self.store.len();
         let markers = match self.store.absorb(&part.markers) {
@@ -140,6 +141,7 @@ impl Replica {
         ensures answer { JoinAnswer self.old other.now result self.new }
         ensures valid { IsValid self.old }
         ensures other_valid { IsValid other.now }
+        ensures still_valid { IsValid self.new }
     {
         let before = self.store.len();
         match self.store.join(&other.store) {
