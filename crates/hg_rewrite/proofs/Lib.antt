@@ -8,4 +8,5 @@ pub mod ChainLemmas
 pub mod MarkLemmas
 pub mod PartLemmas
 pub mod TableLemmas
+pub mod MemoryLemmas
 pub mod DecideLemmas

@@ -80,7 +80,7 @@ module _ (s : ReplicaState) (op : Op) where
       (mapped (unknown s.history) (λ n. where_so_tells _ (Unknown n) (λ e. cc)) (targets op))
       (mapped (unknown_parent s.history) (λ n. where_so_tells _ (Unknown n) (λ e. cc)) (new_parents op))
 
-  pub hidden_tells : AreTelling (hidden_parents s op)
+  hidden_tells : AreTelling (hidden_parents s op)
   hidden_tells = mapped (hidden s) (λ n. where_so_tells _ (Hidden n) (λ e. cc)) (new_parents op)
 
   pub public_tells : AreTelling (public_nodes s op)
@@ -89,7 +89,7 @@ module _ (s : ReplicaState) (op : Op) where
   pub obsolete_tells : AreTelling (obsolete_nodes s op)
   obsolete_tells = mapped (is_obsolete s) (λ n. where_so_tells _ (AlreadyObsolete n) (λ e. cc)) (rewritten op)
 
-  pub not_linear_tells : AreTelling (not_linear s op)
+  not_linear_tells : AreTelling (not_linear s op)
   not_linear_tells = (where_so_tells _ NotLinear (λ e. cc), tt)
 
   pub count_tells : AreTelling (wrong_count op)
@@ -110,7 +110,7 @@ module _ (s : ReplicaState) (op : Op) where
       (mapped user_refused (λ user. fault_tells (user_fault (trimmed_user user)) Entry) (users op))
       (mapped marker_refused marker_tells (markers s.history op))
 
-  pub existing_ids_tells : AreTelling (existing_ids s op)
+  existing_ids_tells : AreTelling (existing_ids s op)
   existing_ids_tells = existing_tells s.history (new_ids s.history op)
 
   pub table_tells : AreTelling (refusals s op)

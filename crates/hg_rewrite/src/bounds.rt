@@ -22,16 +22,16 @@ pub(crate) fn bounds(
 {
     match op {
         Op::Commit { p, q, secret, .. } => {
-            let of_parents = highest(phase_in(replica, *p)?, phase_in(replica, *q)?);
+            let of_parents = highest(phase_in(replica, *p), phase_in(replica, *q));
             on_last(alloc, ids, highest(asked(*secret), of_parents))
         }
-        Op::Amend { node, .. } => on_last(alloc, ids, phase_in(replica, *node)?),
-        Op::Split { node, .. } => on_last(alloc, ids, phase_in(replica, *node)?),
-        Op::Fold { nodes, .. } => on_last(alloc, ids, phase_in(replica, last(nodes))?),
+        Op::Amend { node, .. } => on_last(alloc, ids, phase_in(replica, *node)),
+        Op::Split { node, .. } => on_last(alloc, ids, phase_in(replica, *node)),
+        Op::Fold { nodes, .. } => on_last(alloc, ids, phase_in(replica, last(nodes))),
         Op::Prune { .. } => Ok(Vec::new(alloc)),
         Op::Relocate { node, p, q, .. } => {
-            let of_parents = highest(phase_in(replica, *p)?, phase_in(replica, *q)?);
-            on_last(alloc, ids, highest(phase_in(replica, *node)?, of_parents))
+            let of_parents = highest(phase_in(replica, *p), phase_in(replica, *q));
+            on_last(alloc, ids, highest(phase_in(replica, *node), of_parents))
         }
         Op::Advance { node, phase } => Vec::from_slice(alloc, &[(*node, *phase)]),
     }

@@ -1,9 +1,10 @@
 //! Deciding an operation.
-ghost use Rattle.std.specs.Prelude.{Contains, IfOk};
+ghost use Rattle.std.specs.Prelude.{Contains, IfOk, IsErrOf};
 ghost use Rattle.hg_changeset.specs.Contents.{Contents};
 ghost use Rattle.hg_changeset.specs.Changeset.{IsChangeset};
 ghost use Rattle.hg_replica.specs.State.{IsValid};
 ghost use Rattle.hg_rewrite.specs.Answer.{DecideAnswer};
+ghost use Rattle.hg_rewrite.specs.Memory.{MayWantMemory};
 
 use crate::bounds::bounds;
 use crate::changesets::{ids, new_changesets};
@@ -24,6 +25,7 @@ use std::alloc::Global;
 /// relocation costs what lies between its nodes as well, and a parent that is obsolete a walk over all changesets.
 pub fn decide(alloc: Global, replica: &Replica, op: &Op) -> Result<Part, Refusal>
     ensures answer { DecideAnswer replica.now op.now result }
+    ensures memory { IsErrOf result Refusal.NoMemory → MayWantMemory replica.now op.now }
     ensures changesets { IfOk result (λ part. (c : Contents) → Contains part.history.changesets c → IsChangeset c) }
     ensures valid { IsValid replica.now }
 {

@@ -2,7 +2,7 @@
 //!
 //! Whether a changeset is hidden is asked of a new parent alone, and only an obsolete one can be: for any other the answer
 //! costs two look-ups. The visible changesets are those that aren't obsolete, and their ancestors.
-ghost use Rattle.std.specs.Prelude.{◌≡◌, ◌↔◌, ◌⊎◌, Contains, IfOk, IsTrue};
+ghost use Rattle.std.specs.Prelude.{◌≡◌, ◌↔◌, ◌⊎◌, Contains, IfOk, OnErr, IsTrue};
 ghost use Rattle.hg_changeset.specs.declared.node.Node.{Node};
 ghost use Rattle.hg_phases.specs.State.{Holds};
 ghost use Rattle.hg_rewrite.specs.Reading.{phase_in, parents_in, highest, IsPredecessor, IsObsolete, IsHidden};
@@ -20,21 +20,22 @@ pub(crate) fn holds(replica: &Replica, node: Node) -> bool
     replica.graph().contains(node)
 }
 
-// Its phase; that of what isn't held is public.
-pub(crate) fn phase_in(replica: &Replica, node: Node) -> Result<Phase, AllocError>
-    ensures { IfOk result (λ phase. phase ≡ phase_in replica.now.history node) }
+// Its phase; that of what isn't held is public. The replica always answers, so no error is passed over.
+pub(crate) fn phase_in(replica: &Replica, node: Node) -> Phase
+    ensures { result ≡ phase_in replica.now.history node }
 {
-    match replica.phase_of(node)? {
-        Some(phase) => Ok(phase),
-        None => Ok(Phase::Public),
+    match replica.phase_of(node) {
+        Ok(Some(phase)) => phase,
+        Ok(None) => Phase::Public,
+        Err(_) => Phase::Public,
     }
 }
 
 // Whether it is public; what isn't held is.
-pub(crate) fn is_public(replica: &Replica, node: Node) -> Result<bool, AllocError>
-    ensures { IfOk result (λ answer. IsTrue answer ↔ (phase_in replica.now.history node ≡ public_phase)) }
+pub(crate) fn is_public(replica: &Replica, node: Node) -> bool
+    ensures { IsTrue result ↔ (phase_in replica.now.history node ≡ public_phase) }
 {
-    Ok(phase_in(replica, node)? == Phase::Public)
+    phase_in(replica, node) == Phase::Public
 }
 
 // Its parents, in normal form; what isn't held has none.
@@ -54,11 +55,10 @@ pub(crate) fn highest(first: Phase, second: Phase) -> Phase
 }
 
 // Whether it is obsolete.
-pub(crate) fn is_obsolete(replica: &Replica, node: Node) -> Result<bool, AllocError>
-    ensures { IfOk result (λ answer. IsTrue answer ↔ IsObsolete replica.now node) }
+pub(crate) fn is_obsolete(replica: &Replica, node: Node) -> bool
+    ensures { IsTrue result ↔ IsObsolete replica.now node }
 {
-    let is_public = is_public(replica, node)?;
-    Ok(!is_public && is_predecessor(replica, node))
+    !is_public(replica, node) && is_predecessor(replica, node)
 }
 
 // Whether some marker has it as its predecessor.
@@ -75,14 +75,15 @@ pub(crate) fn contains(nodes: &[Node], node: Node) -> bool
     nodes.contains(&node)
 }
 
-// Whether it is hidden.
+// Whether it is hidden. Memory is wanted only for one that is obsolete.
 pub(crate) fn is_hidden(alloc: Global, replica: &Replica, node: Node) -> Result<bool, AllocError>
-    ensures { IfOk result (λ answer. IsTrue answer ↔ IsHidden replica.now node) }
+    ensures answer { IfOk result (λ answer. IsTrue answer ↔ IsHidden replica.now node) }
+    ensures memory { OnErr result (IsObsolete replica.now node) }
 {
     if !holds(replica, node) {
         return Ok(false);
     }
-    if !is_obsolete(replica, node)? {
+    if !is_obsolete(replica, node) {
         return Ok(false);
     }
     let current = current(alloc, replica)?;
@@ -98,7 +99,7 @@ fn current(alloc: Global, replica: &Replica) -> Result<Vec<Node>, AllocError>
     let mut found = Vec::new(alloc);
     for place in 0..graph.len() {
         if let Some(node) = graph.node_at(place) {
-            if !is_obsolete(replica, node)? {
+            if !is_obsolete(replica, node) {
                 found.push(node)?;
             }
         }

@@ -4,20 +4,20 @@ use Rattle.hg_phases.specs.State.{Holds, changesets}
 use Rattle.hg_rewrite.proofs.HiddenLemmas.{current_is_visible, hidden_iff_unseen}
 use Rattle.hg_rewrite.proofs.query.is_hidden.Goals as goal
 
-pub returns-then-not-holds : goal.returns-then-not-holds
-returns-then-not-holds c = (
+pub returns-then-not-holds-clause-answer : goal.returns-then-not-holds-clause-answer
+returns-then-not-holds-clause-answer c = (
   (λ no. absurd (true≢false (sym no))),
   (λ hidden. absurd (true≢false (sym (c.holds.ensures.1 hidden.held) ∙ c.if-not-holds.true))),
 )
 
-pub returns-then-not-branch : goal.returns-then-not-branch
-returns-then-not-branch c = (
+pub returns-then-not-is_obsolete-clause-answer : goal.returns-then-not-is_obsolete-clause-answer
+returns-then-not-is_obsolete-clause-answer c = (
   (λ no. absurd (true≢false (sym no))),
-  (λ hidden. absurd (current_is_visible c.args.replica.now c.args.node (λ is. true≢false (sym (c.in_ok-is_obsolete.ensures.1 is) ∙ c.if-not-branch.true)) hidden)),
+  (λ hidden. absurd (current_is_visible c.args.replica.now c.args.node (λ is. true≢false (sym (c.is_obsolete.ensures.1 is) ∙ c.if-not-is_obsolete.true)) hidden)),
 )
 
-pub returns : goal.returns
-returns c =
+pub returns-clause-answer : goal.returns-clause-answer
+returns-clause-answer c =
     let s = c.args.replica.now in
     let found = c.in_ok-current.current.items in
     let visible = c.in_ok-visible.visible.items in
