@@ -1,5 +1,5 @@
 -- Each part is admitted, or has a first fault.
-use Rattle.std.proofs.Common.{◌≡◌, ◌≢◌, ℕ, zero, suc, ◌<◌, ◌≤◌, ◌+◌, Bool, true, false, List, [], ◌∷◌, ◌++◌, length, take, slice_get, Some, Contains, ◌⊎◌, inl, inr, refl, sym, ap, subst, ◌∙◌, arith}
+use Rattle.std.proofs.Common.{◌≡◌, ◌≢◌, ℕ, zero, suc, ◌<◌, ◌≤◌, Bool, true, false, List, [], ◌∷◌, ◌++◌, length, take, slice_get, Some, Contains, ◌⊎◌, inl, inr, refl, sym, ap, subst, ◌∙◌, arith}
 use Rattle.std.specs.List.{list_any}
 use Rattle.std.proofs.lemmas.Bool.{cases_eq, cases_order}
 use Rattle.std.proofs.lemmas.List.Elements.{Contains-append_left, Contains-append_right, Contains-append_cases}
@@ -20,7 +20,7 @@ use Rattle.hg_phases.specs.Least.{PartValue, IsAdmitted}
 use Rattle.hg_phases.proofs.AdmitLemmas.{get-taken}
 use Rattle.hg_phases.proofs.LeastLemmas.{only_one}
 use Rattle.hg_history.specs.declared.fault.Fault.{Fault}
-use Rattle.hg_history.specs.declared.fault.Fault.TheVariants.{UnknownParent, Collision, UnknownBound, NullBound, NoMemory}
+use Rattle.hg_history.specs.declared.fault.Fault.TheVariants.{UnknownParent, Collision, UnknownBound, NullBound}
 use Rattle.hg_history.specs.Answer.{IsFineUpTo, AreHeldUpTo, IsFirstUnheld, IsFirstFault}
 
 -- ---- what can be decided
@@ -38,7 +38,7 @@ same_text_or_not xs ys = elim (same_or_not (record { 0 = xs }) (record { 0 = ys 
   | inr ne ↦ inr (λ e. ne (λ i. record { 0 = e i }))
 ]
 
-same_contents_or_not : (c d : Contents) → (c ≡ d) ⊎ (c ≢ d)
+pub same_contents_or_not : (c d : Contents) → (c ≡ d) ⊎ (c ≢ d)
 same_contents_or_not c d = elim (same_or_not c.first d.first) [
   | inr ne ↦ inr (λ e. ne (ap (λ x. x.first) e))
   | inl first ↦ elim (same_or_not c.second d.second) [

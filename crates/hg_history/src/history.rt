@@ -1,8 +1,9 @@
 //! The history: a graph of changesets, with a phase for each.
-ghost use Rattle.std.specs.Prelude.{IfOk, IsOkAnd, MatchOption, IsTrue, [], ◌≡◌, ◌↔◌};
+ghost use Rattle.std.specs.Prelude.{IfOk, IsErrOf, IsOkAnd, MatchOption, IsTrue, [], ◌≡◌, ◌↔◌};
 ghost use Rattle.hg_phases.specs.State.{changesets, state_of, Holds, IsPhaseOf, IsValid};
+ghost use Rattle.hg_phases.specs.Least.{part_of};
 ghost use Rattle.hg_phases.specs.Order.{Below};
-ghost use Rattle.hg_history.specs.Answer.{AbsorbAnswer};
+ghost use Rattle.hg_history.specs.Answer.{AbsorbAnswer, IsGrowthBeforeFault};
 ghost use Rattle.hg_phases.specs.Roots.{AreRoots};
 ghost use Rattle.hg_history.specs.Join.{JoinAnswer};
 ghost use Rattle.hg_history.specs.Open.{OpenAnswer};
@@ -117,6 +118,7 @@ impl History {
         ensures answer { AbsorbAnswer self.old (record { changesets = changesets.now; bounds = bounds.now }) result self.new }
         ensures valid { IsValid self.old }
         ensures still_valid { IsValid self.new }
+        ensures memory { IsErrOf result Fault.NoMemory → IsGrowthBeforeFault self.old (record { changesets = changesets.now; bounds = bounds.now }) }
     {
         absorb_or_undo(
             &mut self.graph,
@@ -135,6 +137,7 @@ impl History {
         ensures valid { IsValid self.old }
         ensures other_valid { IsValid other.now }
         ensures still_valid { IsValid self.new }
+        ensures memory { IsErrOf result Fault.NoMemory → IsGrowthBeforeFault self.old (part_of other.now) }
     {
         join_or_undo(
             &mut self.graph,
