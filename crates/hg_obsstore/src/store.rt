@@ -139,6 +139,9 @@ impl Store {
     }
 
     /// Forgets the markers from a place on. It costs what is forgotten.
+    ///
+    /// A store never shrinks for its users: this is for states above that hold one, which take back with it what they
+    /// added in a call that they then refuse.
     pub fn truncate(&mut self, len: usize)
         ensures { self.new ≡ take len self.old }
     {
