@@ -1,38 +1,47 @@
 -- The steps of `absorb` together.
-use Rattle.std.proofs.Common.{◌≡◌, ◌<◌, List, [], ◌∷◌, ◌++◌, length, take, get_or, Contains, All, ◌⊎◌, inl, inr, refl, sym, ap, subst, ◌∙◌, arith}
-use Rattle.std.proofs.lemmas.List.{take_all}
-use Rattle.std.proofs.lemmas.List.Elements.{Contains-get_or, Contains-append_left, Contains-append_right, Contains-append_cases}
+use Rattle.std.proofs.Common.{◌≡◌, ℕ, List, [], ◌∷◌, ◌++◌, length, take, drop, Contains, ◌⊎◌, inl, inr, refl, sym, ap, subst, ◌∙◌, arith}
+use Rattle.std.proofs.Math.Seq.{drop-append_seam}
+use Rattle.std.proofs.lemmas.List.{take_all, map-append, length-map}
 use Rattle.std.proofs.lemmas.Option.{slice_get_within}
 use Rattle.hg_changeset.specs.declared.node.Node.{Node}
 use Rattle.hg_changeset.specs.Contents.{Contents}
+use Rattle.hg_changeset.specs.Changeset.{node_of}
 use Rattle.hg_graph.specs.Graph.{Holds, nodes}
-use Rattle.hg_graph.proofs.GraphLemmas.{place_from_Contains, Holds-from, Holds-changeset}
+use Rattle.hg_graph.proofs.GraphLemmas.{place_from_Contains}
 use Rattle.hg_phases.specs.declared.phase.Phase.{Phase}
 use Rattle.hg_phases.specs.declared.phase.Phase.TheVariants.{Public, Draft, Secret}
 use Rattle.hg_phases.specs.declared.lowered.LoweredPlace.{LoweredPlace}
-use Rattle.hg_phases.specs.State.{State, state_of, changesets, Holds as StateHolds}
+use Rattle.hg_phases.specs.State.{State, IsValid, state_of, changesets}
 use Rattle.hg_phases.specs.Least.{PartValue, IsAdmitted, IsLeast}
-use Rattle.hg_phases.specs.Log.{IsLog}
+use Rattle.hg_phases.specs.Log.{IsLog, restored}
 use Rattle.hg_phases.proofs.PlaceLemmas.{changesets-held_of}
-use Rattle.hg_phases.proofs.LeastLemmas.{same_changeset}
-use Rattle.hg_phases.proofs.LogLemmas.{IsLog-nil}
+use Rattle.hg_phases.proofs.LogLemmas.{fresh_log}
 use Rattle.hg_history.specs.declared.fault.Fault.{Fault}
 use Rattle.hg_history.specs.declared.fault.Fault.TheVariants.{UnknownParent, Collision, UnknownBound, NullBound, NoMemory}
 use Rattle.hg_history.specs.Change.{unheld}
-use Rattle.hg_history.specs.Answer.{AreHeldUpTo, IsRefusal, IsFirstUnheld}
-use Rattle.hg_history.specs.Steps.{IsAdded, IsBoundFault, IsLoweredTo}
-use Rattle.hg_history.proofs.AddLemmas.{Holds-same, least-added}
+use Rattle.hg_history.specs.Answer.{IsFineUpTo, AreHeldUpTo, IsRefusal, IsFirstUnheld}
+use Rattle.hg_history.specs.Steps.{CanTakeBack, IsAdded, IsBoundFault, IsLoweredTo}
+use Rattle.hg_history.proofs.AddLemmas.{Holds-same, front_kept, phases_kept, least-added}
+use Rattle.hg_history.proofs.FirstFaultLemmas.{fine-admitted}
 use Rattle.hg_history.proofs.BoundLemmas.{least-secrets}
 
-pub fresh_log : (phase : Phase) (start : List Phase) (log : List LoweredPlace) → log ≡ [] → IsLog phase start start log
-fresh_log phase start log e = subst (IsLog phase start start) (sym e) (IsLog-nil phase start)
+-- what was added and lowered can be taken back
+pub back_lowered : (held : List Contents) (had : List Phase) (part : List Contents) (i : ℕ) (cs : List Contents) (ks new : List Phase) (phase : Phase) (log : List LoweredPlace) → length had ≡ length held
+    → IsAdded held had part i cs ks → length new ≡ length ks → IsLog phase ks new log → restored new log ≡ ks → CanTakeBack held had cs new log
+back_lowered held had part i cs ks new phase log len a new_len logged undoes = record {
+  len = new_len ∙ a.len;
+  valid = subst (λ start. IsValid (state_of cs start)) (sym undoes) a.valid;
+  logged = (phase, subst (λ start. IsLog phase start new log) (sym undoes) logged);
+  front = front_kept held had part i cs ks a;
+  phases = ap (take (length held)) undoes ∙ phases_kept held had part i cs ks a len;
+}
 
-pub within_log : (phase : Phase) (start now : List Phase) (log : List LoweredPlace) → IsLog phase start now log → All (λ e. e.place < length now) log
-within_log phase start now log l k d within =
-    let x = l.logged (get_or log k d) (Contains-get_or log k d within) in
-    slice_get_within now (get_or log k d).place x.0 x.2
+-- what was added can be taken back, before anything went down
+pub back_added : (held : List Contents) (had : List Phase) (part : List Contents) (i : ℕ) (cs : List Contents) (ks : List Phase) (log : List LoweredPlace) → length had ≡ length held
+    → IsAdded held had part i cs ks → log ≡ [] → CanTakeBack held had cs ks log
+back_added held had part i cs ks log len a fresh = back_lowered held had part i cs ks ks Public log len a refl (fresh_log Public ks log fresh) (ap (restored ks) fresh)
 
-module _ (held : List Contents) (had : List Phase) (part : List Contents) (bounds : List (Node × Phase)) (cs : List Contents) (ks : List Phase) (ns : List Node) (a : IsAdded held had part (length part) cs ks ns) where
+module _ (held : List Contents) (had : List Phase) (part : List Contents) (bounds : List (Node × Phase)) (cs : List Contents) (ks : List Phase) (a : IsAdded held had part (length part) cs ks) where
   whole : take (length part) part ≡ part
   whole = take_all (length part) part (omega arith)
 
@@ -50,7 +59,7 @@ module _ (held : List Contents) (had : List Phase) (part : List Contents) (bound
   bound_first (Collision n) h = absurd h
   bound_first (UnknownBound n) h = (a.fine, unheld_first n h.0, h.1)
   bound_first NullBound h = (a.fine, unheld_first _ h)
-  bound_first NoMemory h = tt
+  bound_first NoMemory h = absurd h
 
   module _ (len : length had ≡ length held) (there : AreHeldUpTo cs bounds (length bounds)) where
     abbrev s : State
@@ -65,35 +74,14 @@ module _ (held : List Contents) (had : List Phase) (part : List Contents) (bound
     bound_held : (b : Node × Phase) → Contains bounds b → Holds cs b.0
     bound_held b at = let p = place_from_Contains bounds b at in there p.0 b (slice_get_within bounds p.0 b p.1) p.1
 
-    -- a node of the held changesets, or of the part's
-    among : (xs : List Contents) (n : Node) → Holds (held ++ xs) n → StateHolds s n ⊎ Contains (nodes xs) n
-    among xs n h =
-        let c = Holds-changeset (held ++ xs) n h in
-        elim (Contains-append_cases held xs c.0 c.1) [
-          | inl x ↦ inl (subst (λ ds. Holds ds n) (sym same_then) (subst (Holds held) c.2 (Holds-from held c.0 x)))
-          | inr x ↦ inr (subst (Holds xs) c.2 (Holds-from xs c.0 x))
-        ]
-
-    in_part : (c : Contents) → Contains part c → Contains cs c
-    in_part c at = (a.same c).1 (subst (λ xs. Contains (held ++ xs) c) (sym whole) (Contains-append_right held part c at))
-
-    in_held : (c : Contents) → Contains held c → Contains cs c
-    in_held c at = (a.same c).1 (Contains-append_left held (take (length part) part) c at)
-
     pub admitted : IsAdmitted (state_of held had) (record { changesets = part; bounds = bounds })
-    admitted = record {
-      parents = λ i c at p is. among (take i part) p ((a.fine i c (slice_get_within part i c at) at).0 p is);
-      bounds = λ b at. among part b.0 (to b.0 (bound_held b at));
-      apart = λ c d at_c at_d e. same_changeset cs a.graph d c (elim at_d [
-        | inl x ↦ in_held d (subst (λ xs. Contains xs d) same_then x)
-        | inr x ↦ in_part d x
-      ]) (in_part c at_c) (sym e);
-    }
+    admitted = fine-admitted s k (subst (λ ds. IsFineUpTo ds part (length part)) (sym same_then) a.fine)
+        (subst (λ ds. AreHeldUpTo (ds ++ part) bounds (length bounds)) (sym same_then) (λ j b l at. to b.0 (there j b l at)))
 
     pub least-absorbed : (mid new : List Phase) → IsLoweredTo cs bounds Public ks mid → IsLoweredTo cs bounds Draft mid new → length new ≡ length cs
         → IsLeast (state_of held had) (record { changesets = part; bounds = bounds } ∷ []) (state_of cs new)
     least-absorbed mid new public draft new_len =
-        let one = public (state_of held had) part [] (least-added held had part cs ks ns len a) in
+        let one = public (state_of held had) part [] (least-added held had part cs ks len a) in
         let two = draft (state_of held had) part one.0 one.1 in
         least-secrets (state_of held had) part two.0 bounds (state_of cs new)
         (λ b at. elim (two.2 b at) [ inl x ↦ elim (one.2 b x) [ inl y ↦ absurd (omega (arith, y.1)) | inr y ↦ y ] | inr x ↦ x ])
@@ -114,9 +102,15 @@ module _ (held : List Contents) (had : List Phase) (part : List Contents) (bound
         same_then_back : held ≡ changesets (state_of held had)
         same_then_back = sym (changesets-held_of held had len)
 
-    -- the nodes that were told are the new ones
-    pub told_at_state : ns ≡ nodes (unheld (changesets (state_of held had)) part)
-    told_at_state = a.told ∙ ap (λ xs. nodes (unheld held xs)) whole ∙ ap (λ xs. nodes (unheld xs part)) (sym same_then)
+    -- the nodes behind those that were held are the new ones
+    pub told_at_state : drop (length held) (nodes cs) ≡ nodes (unheld (changesets (state_of held had)) part)
+    told_at_state =
+        ap (λ xs. drop (length held) (nodes xs)) a.appended
+        ∙ ap (drop (length held)) (map-append node_of held (unheld held (take (length part) part)))
+        ∙ ap (λ n. drop n (nodes held ++ nodes (unheld held (take (length part) part)))) (sym (length-map held node_of))
+        ∙ drop-append_seam (nodes held) (nodes (unheld held (take (length part) part)))
+        ∙ ap (λ xs. nodes (unheld held xs)) whole
+        ∙ ap (λ xs. nodes (unheld xs part)) (sym same_then)
 
 -- in the words of states
 pub refusal_at_state : (held : List Contents) (had : List Phase) (k : PartValue) (f : Fault) → length had ≡ length held → IsRefusal held k f → IsRefusal (changesets (state_of held had)) k f

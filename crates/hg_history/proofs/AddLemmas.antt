@@ -1,8 +1,8 @@
 -- Adding the changesets of a part, one after the other.
-use Rattle.std.proofs.Common.{◌≡◌, ℕ, zero, suc, ◌<◌, ◌≤◌, ◌+◌, List, [], ◌∷◌, ◌++◌, append_assoc, length, map, take, slice_get, Some, Contains, Result, Ok, Err, ◌⊎◌, inl, inr, refl, sym, ap, subst, ◌∙◌, arith}
+use Rattle.std.proofs.Common.{◌≡◌, ℕ, zero, suc, ◌<◌, ◌≤◌, ◌+◌, List, [], ◌∷◌, ◌++◌, append_assoc, length, map, take, slice_get, Some, Contains, Ok, Err, ◌⊎◌, ◌↔◌, inl, inr, refl, sym, ap, subst, ◌∙◌, arith}
 use Rattle.std.proofs.Math.Seq.{take-append_seam}
 use Rattle.std.proofs.lemmas.Bool.{cases_eq}
-use Rattle.std.proofs.lemmas.List.{append-nil, take_more, take_all, map-append, length-append, length-map}
+use Rattle.std.proofs.lemmas.List.{append-nil, take_more, take_all, map-append, length-append}
 use Rattle.std.proofs.lemmas.List.Elements.{Contains-append_left, Contains-append_right, Contains-append_cases, Contains-push, Contains-push_cases}
 use Rattle.std.proofs.lemmas.Option.{none-some, same_Some, slice_get_within, get_or_from_slice_get}
 use Rattle.hg_changeset.specs.declared.node.Node.{Node}
@@ -10,35 +10,60 @@ use Rattle.hg_changeset.specs.Contents.{Contents}
 use Rattle.hg_changeset.specs.Changeset.{node_of}
 use Rattle.hg_graph.specs.Graph.{IsGraph, Holds, HoldsParents, nodes}
 use Rattle.hg_graph.specs.Answers.{Collides}
+use Rattle.hg_graph.specs.declared.graph.Added.{Added}
+use Rattle.hg_graph.specs.declared.graph.Added.TheVariants.{New, Known}
 use Rattle.hg_graph.proofs.GraphLemmas.{Contains-from_place, place_from_Contains, Holds-from, Holds-changeset, IsGraph-push}
 use Rattle.hg_graph.proofs.MarkLemmas.{same_place, IsAt-from}
 use Rattle.hg_phases.specs.declared.phase.Phase.{Phase}
 use Rattle.hg_phases.specs.declared.phase.Phase.TheVariants.{Secret}
-use Rattle.hg_phases.specs.State.{Held, rank, state_of, changesets}
+use Rattle.hg_phases.specs.State.{Held, IsValid, rank, state_of, changesets}
 use Rattle.hg_phases.specs.Least.{PartValue, IsLeast, IsBoundOfOne}
-use Rattle.hg_phases.proofs.PlaceLemmas.{get-append_left, held-at, parts-at, changesets-held_of}
+use Rattle.hg_phases.proofs.PlaceLemmas.{get-append_left, held-at, parts-at, changesets-held_of, graph_of_state}
+use Rattle.hg_phases.proofs.AdmitLemmas.{admitted-valid}
+use Rattle.hg_phases.specs.Kept.{before_last}
 use Rattle.hg_phases.proofs.LeastLemmas.{rank-top, same_changeset, Holds-taken, only_one}
 use Rattle.hg_history.specs.declared.fault.Fault.{Fault}
 use Rattle.hg_history.specs.declared.fault.Fault.TheVariants.{UnknownParent, Collision, UnknownBound, NullBound, NoMemory}
 use Rattle.hg_history.specs.Change.{unheld}
-use Rattle.hg_history.specs.Answer.{IsFineUpTo, IsRefusal}
-use Rattle.hg_history.specs.Steps.{OneAdded, IsAdded}
+use Rattle.hg_history.specs.Answer.{IsFineUpTo}
+use Rattle.hg_history.specs.Steps.{AddAllAnswer, IsAddFault, OneAdded, IsAdded}
 use Rattle.hg_history.proofs.UnheldLemmas.{unheld-new, unheld-known}
 
 pub Holds-same : (cs ds : List Contents) → ((c : Contents) → Contains cs c → Contains ds c) → (n : Node) → Holds cs n → Holds ds n
 Holds-same cs ds to n h = let c = Holds-changeset cs n h in subst (Contains (nodes ds)) c.2 (Holds-from ds c.0 (to c.0 c.1))
 
-pub IsAdded-start : (held : List Contents) (had : List Phase) (part : List Contents) → IsGraph held → IsAdded held had part 0 held had []
-IsAdded-start held had part graph = record {
-  graph = graph;
+-- the graph before its last changeset
+pub before-pushed : (cs : List Contents) (c : Contents) → before_last (cs ++ c ∷ []) ≡ cs
+before-pushed cs c = ap (λ n. take n (cs ++ c ∷ [])) (omega (arith, length-append cs (c ∷ []))) ∙ take-append_seam cs (c ∷ [])
+
+pub IsAdded-start : (held : List Contents) (had : List Phase) (part : List Contents) → length had ≡ length held → IsValid (state_of held had) → IsAdded held had part 0 held had
+IsAdded-start held had part len valid = record {
+  valid = valid;
+  len = len;
   appended = sym (append-nil held);
   secret = sym (append-nil had);
-  told = refl;
   same = λ c. (λ at. Contains-append_left held [] c at, λ at. subst (λ ds. Contains ds c) (append-nil held) at);
   fine = λ j c l. absurd (omega arith);
 }
 
-module _ (held : List Contents) (had : List Phase) (part : List Contents) (i : ℕ) (cs : List Contents) (ks : List Phase) (ns : List Node) (a : IsAdded held had part i cs ks ns) where
+-- where the same changesets are held, the fault is the same
+IsAddFault-same : (cs ds : List Contents) (c : Contents) (f : Fault) → ((d : Contents) → Contains cs d ↔ Contains ds d) → IsAddFault cs c f → IsAddFault ds c f
+IsAddFault-same cs ds c f same = by f
+  where
+    to : (n : Node) → Holds cs n → Holds ds n
+    to = Holds-same cs ds (λ d. (same d).0)
+
+    from : (n : Node) → Holds ds n → Holds cs n
+    from = Holds-same ds cs (λ d. (same d).1)
+
+    by : (f : Fault) → IsAddFault cs c f → IsAddFault ds c f
+    by (UnknownParent p) h = (h.0, λ x. h.1 (from p x), λ ne there. to c.first (h.2 ne there))
+    by (Collision n) h = (λ p is. to p (h.0 p is), (h.1.0, (same h.1.0).0 h.1.1, h.1.2, h.1.3), h.2)
+    by (UnknownBound n) h = h
+    by NullBound h = h
+    by NoMemory h = (λ p is. to p (h.0 p is), λ x. h.1 (from (node_of c) x))
+
+module _ (held : List Contents) (had : List Phase) (part : List Contents) (i : ℕ) (cs : List Contents) (ks : List Phase) (a : IsAdded held had part i cs ks) where
   to : (d : Contents) → Contains cs d → Contains (held ++ take i part) d
   to d = (a.same d).0
 
@@ -49,46 +74,28 @@ module _ (held : List Contents) (had : List Phase) (part : List Contents) (i : �
   new = unheld held (take i part)
 
   -- what was held is still at the front
-  same_front : (ds : List Contents) → ds ≡ cs → take (length held) ds ≡ held
-  same_front ds e = ap (take (length held)) (e ∙ a.appended) ∙ take-append_seam held new
+  pub front_kept : take (length held) cs ≡ held
+  front_kept = ap (take (length held)) a.appended ∙ take-append_seam held new
 
-  more_front : (c : Contents) (ds : List Contents) → ds ≡ cs ++ c ∷ [] → take (length held) ds ≡ held
-  more_front c ds e =
-      let whole : cs ++ c ∷ [] ≡ held ++ (new ++ c ∷ []) = ap (λ xs. xs ++ c ∷ []) a.appended ∙ append_assoc held new (c ∷ []) in
-      ap (take (length held)) (e ∙ whole) ∙ take-append_seam held (new ++ c ∷ [])
+  pub phases_kept : length had ≡ length held → take (length held) ks ≡ had
+  phases_kept len = ap (λ n. take n ks) (sym len) ∙ ap (take (length had)) a.secret ∙ take-append_seam had (map (λ _. Secret) new)
 
-  abbrev secrets : List Phase
-  secrets = map (λ _. Secret) new
-
-  same_phases : (ls : List Phase) → length had ≡ length held → ls ≡ ks → take (length held) ls ≡ had
-  same_phases ls len e = ap (λ n. take n ls) (sym len) ∙ ap (take (length had)) (e ∙ a.secret) ∙ take-append_seam had secrets
-
-  more_phases : (ls : List Phase) → length had ≡ length held → ls ≡ ks ++ Secret ∷ [] → take (length held) ls ≡ had
-  more_phases ls len e =
-      let whole : ks ++ Secret ∷ [] ≡ had ++ (secrets ++ Secret ∷ []) = ap (λ xs. xs ++ Secret ∷ []) a.secret ∙ append_assoc had secrets (Secret ∷ []) in
-      ap (λ n. take n ls) (sym len) ∙ ap (take (length had)) (e ∙ whole) ∙ take-append_seam had (secrets ++ Secret ∷ [])
-
-  pub front_kept : (c : Contents) (r : Result Unit Fault) (ds : List Contents) (ls : List Phase) (ms : List Node) → length had ≡ length held → OneAdded cs ks ns c r ds ls ms → (take (length held) ds ≡ held) × (take (length held) ls ≡ had)
-  front_kept c (Ok u) ds ls ms len (inl x) = (more_front c ds x.3, more_phases ls len x.4)
-  front_kept c (Ok u) ds ls ms len (inr x) = (same_front ds x.1.0, same_phases ls len x.1.1)
-  front_kept c (Err (UnknownParent p)) ds ls ms len h = (same_front ds h.1.0, same_phases ls len h.1.1)
-  front_kept c (Err (Collision n)) ds ls ms len h = (same_front ds h.3.0, same_phases ls len h.3.1)
-  front_kept c (Err (UnknownBound n)) ds ls ms len h = absurd h
-  front_kept c (Err NullBound) ds ls ms len h = absurd h
-  front_kept c (Err NoMemory) ds ls ms len h = (elim h.0 [ inl x ↦ same_front ds x | inr x ↦ more_front c ds x ], elim h.1 [ inl x ↦ same_phases ls len x | inr x ↦ more_phases ls len x ])
+  pub graph_added : IsGraph cs
+  graph_added = graph_of_state cs ks a.len a.valid
 
   module _ (c : Contents) (at : slice_get part i ≡ Some c) where
+    -- a fault leaves what was added, and is the one that the part has there
+    pub stays_added : (f : Fault) (ds : List Contents) (ls : List Phase) → OneAdded cs ks c (Err f) ds ls → AddAllAnswer held had part (Err f) ds ls
+    stays_added f ds ls h = (
+      i,
+      c,
+      at,
+      subst (λ xs. IsAdded held had part i xs ls) (sym h.1.0) (subst (IsAdded held had part i cs) (sym h.1.1) a),
+      IsAddFault-same cs (held ++ take i part) c f a.same h.0,
+    )
+
     parents_to : HoldsParents cs c → HoldsParents (held ++ take i part) c
     parents_to h p is = Holds-same cs (held ++ take i part) to p (h p is)
-
-    -- the fault is the part's first
-    pub first_fault : (bounds : List (Node × Phase)) (f : Fault) (ds : List Contents) (ls : List Phase) (ms : List Node) → OneAdded cs ks ns c (Err f) ds ls ms → IsRefusal held (record { changesets = part; bounds = bounds }) f
-    first_fault bounds (UnknownParent p) ds ls ms h =
-        (i, c, at, a.fine, (h.0.0, λ x. h.0.1 (Holds-same (held ++ take i part) cs from p x), λ ne there. Holds-same cs (held ++ take i part) to c.first (h.0.2 ne there)))
-    first_fault bounds (Collision n) ds ls ms h = (i, c, at, a.fine, parents_to h.0, (h.1.0, to h.1.0 h.1.1, h.1.2, h.1.3), h.2)
-    first_fault bounds (UnknownBound n) ds ls ms h = absurd h
-    first_fault bounds NullBound ds ls ms h = absurd h
-    first_fault bounds NoMemory ds ls ms h = tt
 
     more : take (i + 1) part ≡ take i part ++ c ∷ []
     more = take_more part i c (slice_get_within part i c at) ∙ ap (λ x. take i part ++ x ∷ []) (get_or_from_slice_get part i c c at)
@@ -125,43 +132,41 @@ module _ (held : List Contents) (had : List Phase) (part : List Contents) (i : �
     itself = Contains-append_right held (take i part ++ c ∷ []) c (Contains-push (take i part) c)
 
     known_parents : Contains cs c → HoldsParents cs c
-    known_parents in_cs p is = let place = place_from_Contains cs c in_cs in Holds-taken cs place.0 p (a.graph.parents_first place.0 c place.1 p is)
+    known_parents in_cs p is = let place = place_from_Contains cs c in_cs in Holds-taken cs place.0 p (graph_added.parents_first place.0 c place.1 p is)
 
     -- one more changeset of the part
-    pub IsAdded-step : (u : Unit {0}) (ds : List Contents) (ls : List Phase) (ms : List Node) → OneAdded cs ks ns c (Ok u) ds ls ms → IsAdded held had part (i + 1) ds ls ms
-    IsAdded-step u ds ls ms h = elim h [
-      | inl x ↦ record {
-        graph = subst IsGraph (sym x.3) (IsGraph-push cs c a.graph x.0 x.1 x.2);
-        appended = x.3 ∙ ap (λ xs. xs ++ c ∷ []) a.appended ∙ append_assoc held new (c ∷ []) ∙ ap (λ xs. held ++ xs) (sym (new_more x.2));
-        secret = x.4 ∙ ap (λ xs. xs ++ Secret ∷ []) a.secret ∙ append_assoc had secrets (Secret ∷ []) ∙ ap (λ xs. had ++ xs) (sym (map-append (λ _. Secret) new (c ∷ [])) ∙ ap (map (λ _. Secret)) (sym (new_more x.2)));
-        told = x.5 ∙ ap (λ xs. xs ++ node_of c ∷ []) a.told ∙ sym (map-append node_of new (c ∷ [])) ∙ ap nodes (sym (new_more x.2));
-        same = λ d. (
-          λ at_d. subst (λ xs. Contains (held ++ xs) d) (sym more) (elim (Contains-push_cases cs c d (subst (λ xs. Contains xs d) x.3 at_d)) [
-            | inl y ↦ forth d y
-            | inr e ↦ subst (Contains (held ++ (take i part ++ c ∷ []))) e itself
-          ]),
-          λ at_d. subst (λ xs. Contains xs d) (sym x.3) (elim (back d (subst (λ xs. Contains (held ++ xs) d) more at_d)) [
-            | inl y ↦ Contains-append_left cs (c ∷ []) d y
-            | inr e ↦ subst (Contains (cs ++ c ∷ [])) e (Contains-push cs c)
-          ]),
-        );
-        fine = fine_more x.1 (λ k. x.2 (subst (Contains (nodes cs)) k.2 (Holds-from cs k.0 k.1)));
-      }
-      | inr x ↦ record {
-        graph = subst IsGraph (sym x.1.0) a.graph;
-        appended = x.1.0 ∙ a.appended ∙ ap (λ xs. held ++ xs) (sym (none_more (Holds-from cs c x.0)));
-        secret = x.1.1 ∙ a.secret ∙ ap (λ xs. had ++ map (λ _. Secret) xs) (sym (none_more (Holds-from cs c x.0)));
-        told = x.2 ∙ a.told ∙ ap nodes (sym (none_more (Holds-from cs c x.0)));
-        same = λ d. (
-          λ at_d. subst (λ xs. Contains (held ++ xs) d) (sym more) (forth d (subst (λ xs. Contains xs d) x.1.0 at_d)),
-          λ at_d. subst (λ xs. Contains xs d) (sym x.1.0) (elim (back d (subst (λ xs. Contains (held ++ xs) d) more at_d)) [
-            | inl y ↦ y
-            | inr e ↦ subst (Contains cs) e x.0
-          ]),
-        );
-        fine = fine_more (known_parents x.0) (λ k. k.3 (same_changeset cs a.graph c k.0 x.0 k.1 (sym k.2)));
-      }
-    ]
+    pub IsAdded-step : (r : Added) (ds : List Contents) (ls : List Phase) → OneAdded cs ks c (Ok r) ds ls → IsAdded held had part (i + 1) ds ls
+    IsAdded-step New ds ls h = subst (λ xs. IsAdded held had part (i + 1) xs ls) (sym h.2) (subst (IsAdded held had part (i + 1) (cs ++ c ∷ [])) (sym h.3) (record {
+      valid = admitted-valid (cs ++ c ∷ []) ks (IsGraph-push cs c graph_added h.0 h.1.0 h.1.1) (omega (arith, length-append cs (c ∷ []), a.len)) (subst (λ xs. IsValid (state_of xs ks)) (sym (before-pushed cs c)) a.valid);
+      len = omega (arith, length-append cs (c ∷ []), length-append ks (Secret ∷ []), a.len);
+      appended = ap (λ xs. xs ++ c ∷ []) a.appended ∙ append_assoc held new (c ∷ []) ∙ ap (λ xs. held ++ xs) (sym (new_more h.1.1));
+      secret = ap (λ xs. xs ++ Secret ∷ []) a.secret ∙ append_assoc had (map (λ _. Secret) new) (Secret ∷ []) ∙ ap (λ xs. had ++ xs) (sym (map-append (λ _. Secret) new (c ∷ [])) ∙ ap (map (λ _. Secret)) (sym (new_more h.1.1)));
+      same = λ d. (
+        λ at_d. subst (λ xs. Contains (held ++ xs) d) (sym more) (elim (Contains-push_cases cs c d at_d) [
+          | inl y ↦ forth d y
+          | inr e ↦ subst (Contains (held ++ (take i part ++ c ∷ []))) e itself
+        ]),
+        λ at_d. elim (back d (subst (λ xs. Contains (held ++ xs) d) more at_d)) [
+          | inl y ↦ Contains-append_left cs (c ∷ []) d y
+          | inr e ↦ subst (Contains (cs ++ c ∷ [])) e (Contains-push cs c)
+        ],
+      );
+      fine = fine_more h.1.0 (λ k. h.1.1 (subst (Contains (nodes cs)) k.2 (Holds-from cs k.0 k.1)));
+    }))
+    IsAdded-step Known ds ls h = subst (λ xs. IsAdded held had part (i + 1) xs ls) (sym h.1.0) (subst (IsAdded held had part (i + 1) cs) (sym h.1.1) (record {
+      valid = a.valid;
+      len = a.len;
+      appended = a.appended ∙ ap (λ xs. held ++ xs) (sym (none_more (Holds-from cs c h.0)));
+      secret = a.secret ∙ ap (λ xs. had ++ map (λ _. Secret) xs) (sym (none_more (Holds-from cs c h.0)));
+      same = λ d. (
+        λ at_d. subst (λ xs. Contains (held ++ xs) d) (sym more) (forth d at_d),
+        λ at_d. elim (back d (subst (λ xs. Contains (held ++ xs) d) more at_d)) [
+          | inl y ↦ y
+          | inr e ↦ subst (Contains cs) e h.0
+        ],
+      );
+      fine = fine_more (known_parents h.0) (λ k. k.3 (same_changeset cs graph_added c k.0 h.0 k.1 (sym k.2)));
+    }))
 
 -- a phase in the front, or one of those behind
 phase_cases : (had : List Phase) (new : List Contents) (p : ℕ) (k : Phase) → slice_get (had ++ map (λ _. Secret) new) p ≡ Some k → (slice_get had p ≡ Some k) ⊎ (k ≡ Secret)
@@ -171,16 +176,13 @@ phase_cases [] (c ∷ new) (suc p) k h = phase_cases [] new p k h
 phase_cases (x ∷ had) new zero k h = inl h
 phase_cases (x ∷ had) new (suc p) k h = phase_cases had new p k h
 
-pub front : {X : Type 0} (xs ys : List X) (p : ℕ) (x : X) → p < length xs → slice_get (xs ++ ys) p ≡ Some x → slice_get xs p ≡ Some x
+front : {X : Type 0} (xs ys : List X) (p : ℕ) (x : X) → p < length xs → slice_get (xs ++ ys) p ≡ Some x → slice_get xs p ≡ Some x
 front [] ys p x l h = absurd (omega arith)
 front (y ∷ xs) ys zero x l h = h
 front (y ∷ xs) ys (suc p) x l h = front xs ys p x (omega arith) h
 
 -- all changesets of the part were added
-module _ (held : List Contents) (had : List Phase) (part : List Contents) (cs : List Contents) (ks : List Phase) (ns : List Node) (len : length had ≡ length held) (a : IsAdded held had part (length part) cs ks ns) where
-  pub added-len : length ks ≡ length cs
-  added-len = omega (arith, ap length a.appended, ap length a.secret, length-append held (unheld held (take (length part) part)), length-append had (map (λ _. Secret) (unheld held (take (length part) part))), length-map (unheld held (take (length part) part)) (λ _. Secret))
-
+module _ (held : List Contents) (had : List Phase) (part : List Contents) (cs : List Contents) (ks : List Phase) (len : length had ≡ length held) (a : IsAdded held had part (length part) cs ks) where
   whole : take (length part) part ≡ part
   whole = take_all (length part) part (omega arith)
 
@@ -188,7 +190,7 @@ module _ (held : List Contents) (had : List Phase) (part : List Contents) (cs : 
   same_then = changesets-held_of held had len
 
   same_now : changesets (state_of cs ks) ≡ cs
-  same_now = changesets-held_of cs ks added-len
+  same_now = changesets-held_of cs ks a.len
 
   abbrev k : PartValue
   k = record { changesets = part; bounds = [] }
@@ -196,9 +198,12 @@ module _ (held : List Contents) (had : List Phase) (part : List Contents) (cs : 
   no_bound : (b : Node × Phase) → IsBoundOfOne (k ∷ []) b → ⊥
   no_bound b p = let e = only_one k p.0 p.1 in let m = subst (λ x. Contains x.bounds b) (sym e) p.2 in omega (arith, m.1)
 
+  graph : IsGraph cs
+  graph = graph_of_state cs ks a.len a.valid
+
   pub least-added : IsLeast (state_of held had) (record { changesets = part; bounds = [] } ∷ []) (state_of cs ks)
   least-added = record {
-    graph = subst IsGraph (sym same_now) a.graph;
+    graph = a.valid.graph;
     union = λ c. (
       λ at. elim (Contains-append_cases held part c (subst (λ xs. Contains (held ++ xs) c) whole ((a.same c).0 (subst (λ xs. Contains xs c) same_now at)))) [
         | inl x ↦ inl (subst (λ xs. Contains xs c) (sym same_then) x)
@@ -230,7 +235,7 @@ module _ (held : List Contents) (had : List Phase) (part : List Contents) (cs : 
                   let old_parts = parts-at held had q.0 old.0 q.1 in
                   let at_cs = subst (λ xs. slice_get xs q.0 ≡ Some old.0.changeset) (sym a.appended) (get-append_left held (unheld held (take (length part) part)) q.0 old.0.changeset old_parts.0) in
                   let at_ks = subst (λ xs. slice_get xs q.0 ≡ Some old.0.phase) (sym a.secret) (get-append_left had (map (λ _. Secret) (unheld held (take (length part) part))) q.0 old.0.phase old_parts.1) in
-                  let same : q.0 ≡ p.0 = same_place (nodes cs) (node_of g.changeset) p.0 q.0 a.graph.distinct at_g (IsAt-from cs q.0 old.0.changeset (node_of g.changeset) at_cs (ap node_of old.2)) in
+                  let same : q.0 ≡ p.0 = same_place (nodes cs) (node_of g.changeset) p.0 q.0 graph.distinct at_g (IsAt-from cs q.0 old.0.changeset (node_of g.changeset) at_cs (ap node_of old.2)) in
                   let phase_is : g.phase ≡ j = same_Some g.phase old.0.phase (sym parts.1 ∙ ap (slice_get ks) (sym same) ∙ at_ks) ∙ old.3 in
                   let e = ap rank phase_is in
                   omega (arith, e)

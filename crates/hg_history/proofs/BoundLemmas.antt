@@ -25,7 +25,7 @@ bound_fault cs bounds i b (UnknownParent p) at before h = h
 bound_fault cs bounds i b (Collision n) at before h = h
 bound_fault cs bounds i b (UnknownBound n) at before h = (record { place = i; bound = b; at = at; before = before; node = sym h.1; unheld = subst (λ m. ¬ (Holds cs m)) (sym h.1) h.0 }, h.2)
 bound_fault cs bounds i b NullBound at before h = record { place = i; bound = b; at = at; before = before; node = h.1; unheld = subst (λ m. ¬ (Holds cs m)) h.1 h.0 }
-bound_fault cs bounds i b NoMemory at before h = tt
+bound_fault cs bounds i b NoMemory at before h = h
 
 pub taken : (bounds : List (Node × Phase)) (i : ℕ) (b : Node × Phase) → slice_get bounds i ≡ Some b → take (i + 1) bounds ≡ take i bounds ++ b ∷ []
 taken bounds i b at = take_more bounds i b (slice_get_within bounds i b at) ∙ ap (λ x. take i bounds ++ x ∷ []) (get_or_from_slice_get bounds i b b at)

@@ -1,36 +1,40 @@
--- The join of two kept states, one changeset at a time.
-use Rattle.std.proofs.Common.{◌≡◌, ℕ, zero, suc, ◌<◌, ◌≤◌, ◌+◌, List, [], ◌∷◌, ◌++◌, length, take, set, slice_get, Option, Some, None, Contains, All, Bor, Result, Ok, Err, ◌⊎◌, ◌↔◌, inl, inr, refl, sym, ap, subst, ◌∙◌, arith}
+-- The join of two kept states: the other is taken in as a part.
+use Rattle.std.proofs.Common.{◌≡◌, ℕ, zero, suc, ◌<◌, ◌≤◌, ◌+◌, List, [], ◌∷◌, ◌++◌, length, take, slice_get, Option, Some, None, Contains, Bor, Result, Ok, Err, ◌⊎◌, ◌↔◌, inl, inr, refl, sym, ap, subst, ◌∙◌, arith}
 use Rattle.std.proofs.lemmas.Bool.{cases_eq}
-use Rattle.std.proofs.lemmas.List.{take_more, take_all, take-map, take-append-le, length-append, length-set, length-take, set-append_left}
-use Rattle.std.proofs.lemmas.List.Elements.{Contains-append_left, Contains-push, Contains-push_cases, All-head, All-tail, All-push}
+use Rattle.std.proofs.lemmas.List.{take_all, length-map}
+use Rattle.std.proofs.lemmas.List.Elements.{Contains-append_right, Contains-append_cases}
 use Rattle.std.specs.Option.{option_map, option_copied}
-use Rattle.std.specs.Result.{IsErrAnd, IfErr, OnOk}
-use Rattle.std.proofs.lemmas.Option.{none-some, same_Some, slice_get-map, slice_get_within, get_or_from_slice_get}
+use Rattle.std.specs.Result.{IfErr, OnOk}
+use Rattle.std.proofs.lemmas.Option.{none-some, same_Some, slice_get-map, slice_get_within}
 use Rattle.hg_changeset.specs.declared.node.Node.{Node}
 use Rattle.hg_changeset.specs.Contents.{Contents}
 use Rattle.hg_changeset.specs.Changeset.{node_of}
-use Rattle.hg_graph.specs.Graph.{IsGraph, IsParent, HoldsParents, Holds as GraphHolds}
+use Rattle.hg_graph.specs.Graph.{IsGraph, nodes, Holds as GraphHolds}
+use Rattle.hg_graph.specs.Graph.Reaches.{itself}
 use Rattle.hg_graph.specs.Places.{IsAt, IsOnlyAt}
 use Rattle.hg_graph.specs.Answers.{Collides}
-use Rattle.hg_graph.proofs.GraphLemmas.{Contains-from_place, place_from_Contains, Holds-from, Holds-changeset, IsGraph-push}
-use Rattle.hg_graph.proofs.MarkLemmas.{get-take, get-set_same, get-set_other, IsAt-from}
+use Rattle.hg_graph.proofs.GraphLemmas.{Contains-from_place, place_from_Contains, Holds-from, Holds-changeset}
+use Rattle.hg_graph.proofs.MarkLemmas.{get-take, IsAt-from}
 use Rattle.hg_phases.specs.declared.phase.Phase.{Phase}
-use Rattle.hg_phases.specs.declared.lowered.LoweredPlace.{LoweredPlace}
-use Rattle.hg_phases.specs.State.{State, Held, rank, changesets, IsValid, held_of, state_of}
+use Rattle.hg_phases.specs.State.{State, Held, rank, changesets, Reaches, IsValid, held_of, state_of}
 use Rattle.hg_phases.specs.Order.{Below}
-use Rattle.hg_phases.specs.Log.{restored, IsUnlowered}
+use Rattle.hg_phases.specs.Least.{PartValue, IsCandidate, IsChangesetOfOne, IsLeast, part_of}
 use Rattle.hg_phases.specs.Content.{content_of}
-use Rattle.hg_phases.proofs.PlaceLemmas.{get-within, held-at, parts-at, changesets-held_of, graph_of_state}
-use Rattle.hg_phases.proofs.FormLemmas.{Below-itself, Below-then, changeset_above}
-use Rattle.hg_phases.proofs.LeastLemmas.{held_from, changeset_from, same_held, Holds-taken}
-use Rattle.hg_phases.proofs.LogLemmas.{restored-written, length-restored}
+use Rattle.hg_phases.proofs.RankLemmas.{rank-apart, rank-top}
+use Rattle.hg_phases.proofs.PlaceLemmas.{get-within, held-at, parts-at, changesets-held_of}
+use Rattle.hg_phases.proofs.FormLemmas.{valid-reach}
+use Rattle.hg_phases.proofs.LeastLemmas.{held_from, changeset_from, only_one, same_changeset, Reaches-back, Reaches-from}
+use Rattle.hg_phases.proofs.JoinLemmas.{bound_from, bound_of, join-least}
 use Rattle.hg_phases.proofs.ContentLemmas.{held_in_content, content-held}
 use Rattle.hg_history.specs.declared.fault.Fault.{Fault}
 use Rattle.hg_history.specs.declared.fault.Fault.TheVariants.{UnknownParent, Collision, UnknownBound, NullBound, NoMemory}
+use Rattle.hg_history.specs.Answer.{AreHeldUpTo}
 use Rattle.hg_history.specs.Content.{ContentBelow, AgreeAt, joined, ContentsJoined, ContentsCollide}
-use Rattle.hg_history.specs.ContentLaws.{below-both}
+use Rattle.hg_history.specs.ContentLaws.{below-both, same-held}
 use Rattle.hg_history.specs.JoinedLaws.{joined-first, joined-second, joined-one}
-use Rattle.hg_history.specs.Join.{JoinAnswer, IsJoin, IsJoinFault, front, IsTakenIn, IsNotTakenIn, TakeInAnswer, CanTakeBack, IsHeldAsLow}
+use Rattle.hg_history.specs.Join.{JoinAnswer, IsJoin, IsJoinFault, IsHeldAsLow}
+use Rattle.hg_history.specs.Steps.{AddAllAnswer, IsAdded}
+use Rattle.hg_history.proofs.AddLemmas.{Holds-same}
 use Rattle.hg_history.proofs.ContentLemmas.{content-below, below_from_content}
 
 -- ---- what a join is
@@ -77,33 +81,6 @@ join_from_content s o t s_graph o_graph t_graph h = record {
       ];
 }
 
--- in a valid state a parent is held with a phase no higher
-parent-held : (s : State) → IsValid s → (h : Held) (p : Node) → Contains s.held h → IsParent h.changeset p → (g : Held) × Contains s.held g × (node_of g.changeset ≡ p) × (rank g.phase ≤ rank h.phase)
-parent-held s valid h p at is =
-    let place = place_from_Contains (changesets s) h.changeset (changeset_from s h at) in
-    let d = Holds-changeset (changesets s) p (Holds-taken (changesets s) place.0 p (valid.graph.parents_first place.0 h.changeset place.1 p is)) in
-    let g = held_from s d.0 d.1 in
-    let g_is : node_of g.0.changeset ≡ p = ap node_of g.2 ∙ d.2 in
-    (g.0, g.1, g_is, valid.phases h g.0 at g.1 (subst (IsParent h.changeset) (sym g_is) is))
-
--- the join of valid states is valid
-pub join-valid : (s o t : State) → IsValid s → IsValid o → IsGraph (changesets t) → IsJoin s o t → IsValid t
-join-valid s o t v w graph join = record {
-  graph = graph;
-  phases = λ child parent at_child at_parent is. elim (join.each child at_child) [
-    | inl x ↦ by s v join.first child parent x at_parent is
-    | inr x ↦ by o w join.second child parent x at_parent is
-  ];
-}
-  where
-    by : (r : State) → IsValid r → Below r t → (child parent : Held) → Contains r.held child → Contains t.held parent → IsParent child.changeset (node_of parent.changeset) → rank parent.phase ≤ rank child.phase
-    by r valid up child parent at_child at_parent is =
-        let g = parent-held r valid child (node_of parent.changeset) at_child is in
-        let x = up g.0 g.1 in
-        let same : parent ≡ x.0 = same_held t graph x.0 parent x.1 at_parent (ap node_of x.2 ∙ g.2) in
-        let e = ap (λ z. rank z.phase) same in
-        omega (arith, e, x.3, g.3)
-
 -- two changesets under one id collide
 pub collide-contents : (s o : State) → IsGraph (changesets s) → IsGraph (changesets o) → (fault : Fault) → IsJoinFault s o fault → ContentsCollide (content_of s) (content_of o) fault ⊎ (fault ≡ NoMemory)
 collide-contents s o small large (UnknownParent p) h = absurd h
@@ -112,216 +89,6 @@ collide-contents s o small large (UnknownBound n) h = absurd h
 collide-contents s o small large NullBound h = absurd h
 collide-contents s o small large NoMemory h = inr refl
 
--- ---- one changeset at a time
-
--- the pairs of one more changeset and phase
-held_of-push : (cs : List Contents) (ks : List Phase) (c : Contents) (k : Phase) → length ks ≡ length cs → held_of (cs ++ c ∷ []) (ks ++ k ∷ []) ≡ held_of cs ks ++ record { changeset = c; phase = k } ∷ []
-held_of-push [] [] c k len = refl
-held_of-push [] (x ∷ ks) c k len = absurd (omega arith)
-held_of-push (d ∷ cs) [] c k len = absurd (omega arith)
-held_of-push (d ∷ cs) (x ∷ ks) c k len = ap (λ hs. record { changeset = d; phase = x } ∷ hs) (held_of-push cs ks c k (omega arith))
-
--- no phase went up
-set-below : (cs : List Contents) (ks : List Phase) (p : ℕ) (had k : Phase) → slice_get ks p ≡ Some had → rank k < rank had → Below (state_of cs ks) (state_of cs (set ks p k))
-set-below cs ks p had k at lower h in_old =
-    let place = place_from_Contains (held_of cs ks) h in_old in
-    let parts = parts-at cs ks place.0 h place.1 in
-    elim (cases_eq place.0 p) [
-      | inr other ↦
-          let at_k = get-set_other ks p place.0 k other ∙ parts.1 in
-          (h, Contains-from_place _ place.0 h (held-at cs (set ks p k) place.0 h.changeset h.phase parts.0 at_k), refl, omega arith)
-      | inl same ↦
-          let g : Held = record { changeset = h.changeset; phase = k } in
-          let at_c : slice_get cs p ≡ Some h.changeset = subst (λ q. slice_get cs q ≡ Some h.changeset) same parts.0 in
-          let had_is = ap rank (same_Some had h.phase (sym at ∙ subst (λ q. slice_get ks q ≡ Some h.phase) same parts.1)) in
-          (g, Contains-from_place _ p g (held-at cs (set ks p k) p h.changeset k at_c (get-set_same ks p k (slice_get_within ks p had at))), refl, omega (arith, had_is, lower))
-    ]
-
--- what is held after one phase was set was held, or is the one that was set
-set-each : (cs : List Contents) (ks : List Phase) (p : ℕ) (had k : Phase) (c : Contents) → slice_get ks p ≡ Some had → slice_get cs p ≡ Some c → (h : Held) → Contains (held_of cs (set ks p k)) h → Contains (held_of cs ks) h ⊎ (record { changeset = c; phase = k } ≡ h)
-set-each cs ks p had k c at at_c h in_new =
-    let place = place_from_Contains (held_of cs (set ks p k)) h in_new in
-    let parts = parts-at cs (set ks p k) place.0 h place.1 in
-    elim (cases_eq place.0 p) [
-      | inr other ↦ inl (Contains-from_place _ place.0 h (held-at cs ks place.0 h.changeset h.phase parts.0 (sym (get-set_other ks p place.0 k other) ∙ parts.1)))
-      | inl same ↦
-          let c_is = same_Some c h.changeset (sym at_c ∙ subst (λ q. slice_get cs q ≡ Some h.changeset) same parts.0) in
-          let k_is = same_Some k h.phase (sym (get-set_same ks p k (slice_get_within ks p had at)) ∙ subst (λ q. slice_get (set ks p k) q ≡ Some h.phase) same parts.1) in
-          inr (λ i. record { changeset = c_is i; phase = k_is i })
-    ]
-
--- the other state's next
-module _ (s o : State) (i : ℕ) (h : Held) (at_h : slice_get o.held i ≡ Some h) where
-  more : take (i + 1) o.held ≡ take i o.held ++ h ∷ []
-  more =
-      let within = slice_get_within o.held i h at_h in
-      take_more o.held i h within ∙ ap (λ x. take i o.held ++ x ∷ []) (get_or_from_slice_get o.held i h h at_h)
-
-  next_cases : (g : Held) → Contains (take (i + 1) o.held) g → Contains (take i o.held) g ⊎ (h ≡ g)
-  next_cases g at = Contains-push_cases (take i o.held) h g (subst (λ hs. Contains hs g) more at)
-
-  next_old : (g : Held) → Contains (take i o.held) g → Contains (take (i + 1) o.held) g
-  next_old g at = subst (λ hs. Contains hs g) (sym more) (Contains-append_left (take i o.held) (h ∷ []) g at)
-
-  next_new : Contains (take (i + 1) o.held) h
-  next_new = subst (λ hs. Contains hs h) (sym more) (Contains-push (take i o.held) h)
-
-  -- a state above the last one, which holds the next one as low, and nothing else that is new
-  join-grown : (t u : State) → IsJoin s (front i o) t → Below t u → ((g : Held) → Contains u.held g → Contains t.held g ⊎ (h ≡ g)) → ((g : Held) × Contains u.held g × (g.changeset ≡ h.changeset) × (rank g.phase ≤ rank h.phase)) → IsJoin s (front (i + 1) o) u
-  join-grown t u join up each there = record {
-    first = Below-then s t u join.first up;
-    second = λ g at. elim (next_cases g at) [
-      | inl old ↦ Below-then (front i o) t u join.second up g old
-      | inr new ↦ subst (λ x. (y : Held) × Contains u.held y × (y.changeset ≡ x.changeset) × (rank y.phase ≤ rank x.phase)) new there
-    ];
-    each = λ g at. elim (each g at) [
-      | inl old ↦ elim (join.each g old) [ inl x ↦ inl x | inr x ↦ inr (next_old g x) ]
-      | inr new ↦ inr (subst (Contains (take (i + 1) o.held)) new next_new)
-    ];
-  }
-
-  pub join-step : (cs : List Contents) (ks : List Phase) (log : List LoweredPlace) (ds : List Contents) (ls : List Phase) (newlog : List LoweredPlace) → length ks ≡ length cs → IsTakenIn h.changeset h.phase cs ks log ds ls newlog → IsJoin s (front i o) (state_of cs ks) → IsJoin s (front (i + 1) o) (state_of ds ls)
-  join-step cs ks log ds ls newlog len (inl new) join =
-      let pairs : held_of ds ls ≡ held_of cs ks ++ h ∷ [] = (λ t. held_of (new.1 t) (new.2 t)) ∙ held_of-push cs ks h.changeset h.phase len in
-      join-grown (state_of cs ks) (state_of ds ls) join
-      (λ g at. (g, subst (λ hs. Contains hs g) (sym pairs) (Contains-append_left (held_of cs ks) (h ∷ []) g at), refl, omega arith))
-      (λ g at. Contains-push_cases (held_of cs ks) h g (subst (λ hs. Contains hs g) pairs at))
-      (h, subst (λ hs. Contains hs h) (sym pairs) (Contains-push (held_of cs ks) h), refl, omega arith)
-  join-step cs ks log ds ls newlog len (inr (place, at_c, ds_is, (had, at_had, inl (le, ls_is, log_is)))) join =
-      let same : state_of cs ks ≡ state_of ds ls = λ t. state_of (sym ds_is t) (sym ls_is t) in
-      let g : Held = record { changeset = h.changeset; phase = had } in
-      subst (IsJoin s (front (i + 1) o)) same
-      (join-grown (state_of cs ks) (state_of cs ks) join (Below-itself (state_of cs ks)) (λ x at. inl at)
-      (g, Contains-from_place _ place g (held-at cs ks place h.changeset had at_c at_had), refl, le))
-  join-step cs ks log ds ls newlog len (inr (place, at_c, ds_is, (had, at_had, inr (lt, ls_is, log_is)))) join =
-      let same : state_of cs (set ks place h.phase) ≡ state_of ds ls = λ t. state_of (sym ds_is t) (sym ls_is t) in
-      let at_k = get-set_same ks place h.phase (slice_get_within ks place had at_had) in
-      subst (IsJoin s (front (i + 1) o)) same
-      (join-grown (state_of cs ks) (state_of cs (set ks place h.phase)) join
-      (set-below cs ks place had h.phase at_had lt)
-      (set-each cs ks place had h.phase h.changeset at_had at_c)
-      (h, Contains-from_place _ place h (held-at cs (set ks place h.phase) place h.changeset h.phase at_c at_k), refl, omega arith))
-
-pub join-start : (s o : State) → IsJoin s (front 0 o) s
-join-start s o = record {
-  first = Below-itself s;
-  second = λ h at. absurd (omega (arith, at.1));
-  each = λ h at. inl at;
-}
-
-length-held_of : (cs : List Contents) (ks : List Phase) → length ks ≡ length cs → length (held_of cs ks) ≡ length cs
-length-held_of [] ks len = refl
-length-held_of (c ∷ cs) [] len = absurd (omega arith)
-length-held_of (c ∷ cs) (k ∷ ks) len = ap suc (length-held_of cs ks (omega arith))
-
--- ---- taking back
-
-restored-append : (ks ls : List Phase) (log : List LoweredPlace) → All (λ e. e.place < length ks) log → restored (ks ++ ls) log ≡ restored ks log ++ ls
-restored-append ks ls [] within = refl
-restored-append ks ls (e ∷ log) within =
-    let rest : All (λ x. x.place < length ks) log = All-tail (λ x. x.place < length ks) e log within in
-    let here : e.place < length (restored ks log) = omega (arith, All-head (λ x. x.place < length ks) e log within, length-restored ks log) in
-    ap (λ xs. set xs e.place e.had) (restored-append ks ls log rest) ∙ set-append_left (restored ks log) ls e.place e.had here
-
-pub take_back-start : (cs : List Contents) (ks : List Phase) (log : List LoweredPlace) → log ≡ [] → CanTakeBack cs ks cs ks log
-take_back-start cs ks log none = record {
-  kept = take_all (length cs) cs (omega arith);
-  undoes = ap (λ l. take (length ks) (restored ks l)) none ∙ take_all (length ks) ks (omega arith);
-  within = subst (All (λ e. e.place < length ks)) (sym none) (λ k d l. absurd (omega arith));
-  longer = omega arith;
-}
-
-all-longer : (m n : ℕ) (log : List LoweredPlace) → m ≤ n → All (λ e. e.place < m) log → All (λ e. e.place < n) log
-all-longer m n log le within k d l = let x = within k d l in omega arith
-
--- after one more changeset, or a refusal of it, what was done can still be taken back
-module _ (start : List Contents) (had : List Phase) (c : Contents) (k : Phase) (cs : List Contents) (ks : List Phase) (log : List LoweredPlace) (before : CanTakeBack start had cs ks log) where
-  shorter : length start ≤ length cs
-  shorter = omega (arith, ap length before.kept, length-take (length start) cs)
-
-  -- a changeset was added
-  kept-added : take (length start) (cs ++ c ∷ []) ≡ start
-  kept-added = let le = shorter in take-append-le (length start) cs (c ∷ []) le ∙ before.kept
-
-  unlowered : (ds : List Contents) (ls : List Phase) (newlog : List LoweredPlace) → take (length start) ds ≡ start → IsUnlowered ks log ls newlog → CanTakeBack start had ds ls newlog
-  unlowered ds ls newlog kept same = subst (λ x. CanTakeBack start had ds x newlog) (sym same.0) (subst (λ x. CanTakeBack start had ds ks x) (sym same.1)
-      (record { kept = kept; undoes = before.undoes; within = before.within; longer = before.longer }))
-
-  pushed : CanTakeBack start had (cs ++ c ∷ []) (ks ++ k ∷ []) log
-  pushed = record {
-    kept = kept-added;
-    undoes =
-        let le : length had ≤ length (restored ks log) = omega (arith, before.longer, length-restored ks log) in
-        ap (take (length had)) (restored-append ks (k ∷ []) log before.within) ∙ take-append-le (length had) (restored ks log) (k ∷ []) le ∙ before.undoes;
-    within = all-longer (length ks) (length (ks ++ k ∷ [])) log (omega (arith, length-append ks (k ∷ []))) before.within;
-    longer = omega (arith, before.longer, length-append ks (k ∷ []));
-  }
-
-  lowered : (place : ℕ) (was : Phase) → slice_get ks place ≡ Some was → CanTakeBack start had cs (set ks place k) (log ++ record { place = place; had = was } ∷ [])
-  lowered place was at = record {
-    kept = before.kept;
-    undoes = ap (take (length had)) (restored-written ks log place k was at) ∙ before.undoes;
-    within =
-        let entry : LoweredPlace = record { place = place; had = was } in
-        let len = length-set ks place k in
-        let here : place < length (set ks place k) = omega (arith, len, slice_get_within ks place was at) in
-        All-push (λ e. e.place < length (set ks place k)) log entry (all-longer (length ks) (length (set ks place k)) log (omega (arith, len)) before.within) here;
-    longer = omega (arith, before.longer, length-set ks place k);
-  }
-
-  taken_in : (ds : List Contents) (ls : List Phase) (newlog : List LoweredPlace) → IsTakenIn c k cs ks log ds ls newlog → CanTakeBack start had ds ls newlog
-  taken_in ds ls newlog (inl new) = subst (λ x. CanTakeBack start had x ls newlog) (sym new.1) (subst (λ x. CanTakeBack start had (cs ++ c ∷ []) x newlog) (sym new.2) (subst (CanTakeBack start had (cs ++ c ∷ []) (ks ++ k ∷ [])) (sym new.3) pushed))
-  taken_in ds ls newlog (inr (place, at_c, ds_is, (was, at, inl (le, ls_is, log_is)))) = unlowered ds ls newlog (ap (take (length start)) ds_is ∙ before.kept) (ls_is, log_is)
-  taken_in ds ls newlog (inr (place, at_c, ds_is, (was, at, inr (lt, ls_is, log_is)))) =
-      subst (λ x. CanTakeBack start had x ls newlog) (sym ds_is) (subst (λ x. CanTakeBack start had cs x newlog) (sym ls_is) (subst (CanTakeBack start had cs (set ks place k)) (sym log_is) (lowered place was at)))
-
-  not_taken_in : (fault : Fault) (ds : List Contents) (ls : List Phase) (newlog : List LoweredPlace) → IsNotTakenIn c cs ks log fault ds ls newlog → CanTakeBack start had ds ls newlog
-  not_taken_in (UnknownParent p) ds ls newlog h = absurd h
-  not_taken_in (Collision n) ds ls newlog (collides, n_is, ds_is, same) = unlowered ds ls newlog (ap (take (length start)) ds_is ∙ before.kept) same
-  not_taken_in (UnknownBound n) ds ls newlog h = absurd h
-  not_taken_in NullBound ds ls newlog h = absurd h
-  not_taken_in NoMemory ds ls newlog (inl ds_is, same) = unlowered ds ls newlog (ap (take (length start)) ds_is ∙ before.kept) same
-  not_taken_in NoMemory ds ls newlog (inr ds_is, same) = unlowered ds ls newlog (ap (take (length start)) ds_is ∙ kept-added) same
-
-  pub take_back-step : (r : Result Unit Fault) (ds : List Contents) (ls : List Phase) (newlog : List LoweredPlace) → TakeInAnswer c k cs ks log r ds ls newlog → CanTakeBack start had ds ls newlog
-  take_back-step (Ok _) ds ls newlog h = taken_in ds ls newlog h
-  take_back-step (Err fault) ds ls newlog h = not_taken_in fault ds ls newlog h
-
--- ---- what the next one finds
-
-module _ (s o : State) (i : ℕ) (h : Held) (at_h : slice_get o.held i ≡ Some h) (graph : IsGraph (changesets o)) (cs : List Contents) (ks : List Phase) (len : length ks ≡ length cs) (join : IsJoin s (front i o) (state_of cs ks)) where
-  in_other : Contains o.held h
-  in_other = Contains-from_place o.held i h at_h
-
-  -- its parents were taken in before it
-  pub next-parents : HoldsParents cs h.changeset
-  next-parents p is =
-      let at_c : slice_get (changesets o) i ≡ Some h.changeset = slice_get-map (λ g. g.changeset) o.held i ∙ ap (option_map (λ g. g.changeset)) at_h in
-      let before = graph.parents_first i h.changeset at_c p is in
-      let d = Holds-changeset (changesets (front i o)) p (subst (λ ds. GraphHolds ds p) (take-map (λ g. g.changeset) i o.held) before) in
-      let up = changeset_above (front i o) (state_of cs ks) join.second d.0 d.1 in
-      subst (GraphHolds cs) d.2 (Holds-from cs d.0 (subst (λ ds. Contains ds d.0) (changesets-held_of cs ks len) up))
-
-  -- it collides with one of the first state alone
-  collision : Collides cs h.changeset → IsJoinFault s o (Collision (node_of h.changeset))
-  collision (d, at_d, node_is, differ) =
-      let x = held_from (state_of cs ks) d (subst (λ ds. Contains ds d) (sym (changesets-held_of cs ks len)) at_d) in
-      elim (join.each x.0 x.1) [
-        | inl in_s ↦ (x.0, h, in_s, in_other, ap node_of x.2 ∙ node_is, refl, λ e. differ (sym x.2 ∙ e))
-        | inr before ↦
-            let place = place_from_Contains (take i o.held) x.0 before in
-            let in_o = Contains-from_place o.held place.0 x.0 (get-take o.held i place.0 x.0 place.1).1 in
-            let same = same_held o graph h x.0 in_other in_o (sym (ap node_of x.2 ∙ node_is)) in
-            absurd (differ (sym x.2 ∙ ap (λ g. g.changeset) same))
-      ]
-
-  pub next-fault : (log : List LoweredPlace) (fault : Fault) (ds : List Contents) (ls : List Phase) (newlog : List LoweredPlace) → IsNotTakenIn h.changeset cs ks log fault ds ls newlog → IsJoinFault s o fault
-  next-fault log (UnknownParent p) ds ls newlog x = absurd x
-  next-fault log (Collision n) ds ls newlog x = subst (λ m. IsJoinFault s o (Collision m)) (sym x.1) (collision x.0)
-  next-fault log (UnknownBound n) ds ls newlog x = absurd x
-  next-fault log NullBound ds ls newlog x = absurd x
-  next-fault log NoMemory ds ls newlog x = tt
-
 -- ---- what a look-up finds
 
 -- the changeset at a place has the node that stands there
@@ -329,12 +96,6 @@ at-node : (cs : List Contents) (p : ℕ) (n : Node) → IsAt cs n p → (d : Con
 at-node [] p n at = absurd (none-some n at)
 at-node (d ∷ cs) zero n at = (d, refl, same_Some (node_of d) n at)
 at-node (d ∷ cs) (suc p) n at = at-node cs p n at
-
-pub place-within : (cs : List Contents) (ks : List Phase) (p : ℕ) (n : Node) → length ks ≡ length cs → IsOnlyAt cs n p → p < length ks
-place-within cs ks p n len only =
-    let d = at-node cs p n ((only p).1 refl) in
-    let within = slice_get_within cs p d.0 d.1 in
-    omega arith
 
 -- another changeset at its id's place collides
 pub other-collides : (cs : List Contents) (c : Contents) (p : ℕ) (n : Node) → n ≡ node_of c → IsOnlyAt cs n p → ¬ (slice_get cs p ≡ Some c) → Collides cs c
@@ -401,60 +162,110 @@ not-below cs ks i t c k at_c at_k low below =
     let h : Held = record { changeset = c; phase = k } in
     low (below h (Contains-from_place (held_of cs ks) i h (held-at cs ks i c k at_c at_k)))
 
--- ---- the loop
+-- the least state for the other, taken as a part, is the join
+module _ (s o t : State) (w : IsValid o) (l : IsLeast s (part_of o ∷ []) t) where
+  same-phase : (h g : Held) → g.changeset ≡ h.changeset → rank g.phase ≤ rank h.phase → rank h.phase ≤ rank g.phase → g ≡ h
+  same-phase h g e up down = same-held g h e (rank-apart g.phase h.phase (omega (arith, up, down)))
 
--- the first i of the other state were taken in
-pub record IsJoinedUpTo (s o : State) (i : ℕ) (cs : List Contents) (ks : List Phase) : Type 0 where
-  pub len : length ks ≡ length cs
-  pub graph : IsGraph cs
-  pub join : IsJoin s (front i o) (state_of cs ks)
+  of_first : (h g : Held) → Contains t.held h → Contains s.held g → g.changeset ≡ h.changeset → rank g.phase ≤ rank h.phase → Contains s.held h
+  of_first h g at_h at_g e le = subst (Contains s.held) (same-phase h g e le ((l.phases h at_h).1 g.phase (inr (inl (g, at_g, e, refl))))) at_g
 
-pub joined-start : (cs : List Contents) (ks : List Phase) (o : State) → length ks ≡ length cs → IsValid (state_of cs ks) → IsJoinedUpTo (state_of cs ks) o 0 cs ks
-joined-start cs ks o len valid = record { len = len; graph = graph_of_state cs ks len valid; join = join-start (state_of cs ks) o }
+  of_other : (h g : Held) → Contains t.held h → Contains o.held g → g.changeset ≡ h.changeset → rank g.phase ≤ rank h.phase → Contains o.held h
+  of_other h g at_h at_g e le =
+      let there = Holds-from (changesets t) h.changeset (changeset_from t h at_h) in
+      let reach : Reaches t (node_of h.changeset) (node_of g.changeset) = subst (λ c. Reaches t (node_of h.changeset) (node_of c)) (sym e) (itself there) in
+      subst (Contains o.held) (same-phase h g e le ((l.phases h at_h).1 g.phase (inr (inr ((node_of g.changeset, g.phase), (part_of o, (0, omega arith, refl), bound_of o g at_g), reach, refl))))) at_g
 
-module _ (s o : State) (i : ℕ) (h : Held) (at_h : slice_get o.held i ≡ Some h) (valid : IsValid o) (cs : List Contents) (ks : List Phase) (log : List LoweredPlace) (before : IsJoinedUpTo s o i cs ks) where
-  pub ready : HoldsParents cs h.changeset
-  ready = next-parents s o i h at_h valid.graph cs ks before.len before.join
+  in_other : (c : Contents) → IsChangesetOfOne (part_of o ∷ []) c → Contains (changesets o) c
+  in_other c p = subst (λ k. Contains k.changesets c) (sym (only_one (part_of o) p.0 p.1)) p.2
 
-  pub joined-step : (ds : List Contents) (ls : List Phase) (newlog : List LoweredPlace) → IsTakenIn h.changeset h.phase cs ks log ds ls newlog → IsJoinedUpTo s o (i + 1) ds ls
-  joined-step ds ls newlog taken = record {
-    len = len taken;
-    graph = graph taken;
-    join = join-step s o i h at_h cs ks log ds ls newlog before.len taken before.join;
-  }
-    where
-      len : IsTakenIn h.changeset h.phase cs ks log ds ls newlog → length ls ≡ length ds
-      len (inl new) = omega (arith, ap length new.1, ap length new.2, length-append cs (h.changeset ∷ []), length-append ks (h.phase ∷ []), before.len)
-      len (inr (place, at_c, ds_is, (was, at, inl (le, ls_is, log_is)))) = omega (arith, ap length ds_is, ap length ls_is, before.len)
-      len (inr (place, at_c, ds_is, (was, at, inr (lt, ls_is, log_is)))) = omega (arith, ap length ds_is, ap length ls_is, length-set ks place h.phase, before.len)
+  other_within : (c : Contents) → Contains (changesets o) c → Contains (changesets t) c
+  other_within c at = (l.union c).1 (inr (part_of o, (0, omega arith, refl), at))
 
-      graph : IsTakenIn h.changeset h.phase cs ks log ds ls newlog → IsGraph ds
-      graph (inl new) =
-          let is = valid.graph.each h.changeset (changeset_from o h (Contains-from_place o.held i h at_h)) in
-          subst IsGraph (sym new.1) (IsGraph-push cs h.changeset before.graph is ready new.0)
-      graph (inr (place, at_c, ds_is, rest)) = subst IsGraph (sym ds_is) before.graph
+  by : (h : Held) → Contains t.held h → IsCandidate s (part_of o ∷ []) t h.changeset h.phase → Contains s.held h ⊎ Contains o.held h
+  by h at (inl top) =
+      let high : (g : Held) → rank g.phase ≤ rank h.phase = λ g. subst (λ k. rank g.phase ≤ rank k) (sym top) (rank-top g.phase) in
+      elim ((l.union h.changeset).0 (changeset_from t h at)) [
+        | inl x ↦ let g = held_from s h.changeset x in inl (of_first h g.0 at g.1 g.2 (high g.0))
+        | inr x ↦ let g = held_from o h.changeset (in_other h.changeset x) in inr (of_other h g.0 at g.1 g.2 (high g.0))
+      ]
+  by h at (inr (inl old)) = let e = ap rank old.3 in inl (of_first h old.0 at old.1 old.2 (omega (arith, e)))
+  by h at (inr (inr (b, p, reach, e))) =
+      let bound = bound_from o b (subst (λ k. Contains k.bounds b) (sym (only_one (part_of o) p.0 p.1)) p.2) in
+      let b_is : node_of bound.0.changeset ≡ b.0 = ap (λ x. x.0) bound.2 in
+      let there = subst (GraphHolds (changesets o)) b_is (Holds-from (changesets o) bound.0.changeset (changeset_from o bound.0 bound.1)) in
+      let back = Reaches-back (changesets o) (changesets t) w.graph l.graph other_within (node_of h.changeset) b.0 there reach in
+      let d = Holds-changeset (changesets o) (node_of h.changeset) (Reaches-from back) in
+      let d_is : d.0 ≡ h.changeset = same_changeset (changesets t) l.graph h.changeset d.0 (changeset_from t h at) (other_within d.0 d.1) (sym d.2) in
+      let g = held_from o d.0 d.1 in
+      let le = valid-reach o w (node_of h.changeset) b.0 back g.0 bound.0 g.1 bound.1 (ap node_of (g.2 ∙ d_is)) b_is in
+      let k_is = ap (λ x. rank x.1) bound.2 in
+      let phase_is = ap rank e in
+      inr (of_other h g.0 at g.1 (g.2 ∙ d_is) (omega (arith, le, k_is, phase_is)))
 
-  pub joined-fault : (fault : Fault) (ds : List Contents) (ls : List Phase) (newlog : List LoweredPlace) → IsNotTakenIn h.changeset cs ks log fault ds ls newlog → IsJoinFault s o fault
-  joined-fault = next-fault s o i h at_h valid.graph cs ks before.len before.join log
+  pub least-joined : IsJoin s o t
+  least-joined =
+      let above = join-least s o t l in
+      record { first = above.0; second = above.1; each = λ h at. by h at (l.phases h at).0 }
 
-pub joined-finish : (s : State) (ocs : List Contents) (oks : List Phase) (i : ℕ) (cs : List Contents) (ks : List Phase) → length oks ≡ length ocs → length ocs ≤ i → IsJoinedUpTo s (state_of ocs oks) i cs ks → IsJoin s (state_of ocs oks) (state_of cs ks)
-joined-finish s ocs oks i cs ks len le all =
-    let whole : take i (held_of ocs oks) ≡ held_of ocs oks = take_all i (held_of ocs oks) (omega (arith, length-held_of ocs oks len)) in
-    subst (λ hs. IsJoin s (record { held = hs }) (state_of cs ks)) whole all.join
+-- ---- the other, taken in as a part
 
-pub joined-inside : (s o : State) (cs : List Contents) (ks : List Phase) → IsValid s → IsValid o → length ks ≡ length cs → IsGraph cs → IsJoin s o (state_of cs ks) → IsValid (state_of cs ks)
-joined-inside s o cs ks v w len graph join = join-valid s o (state_of cs ks) v w (subst IsGraph (sym (changesets-held_of cs ks len)) graph) join
+module _ (ocs : List Contents) (oks : List Phase) (olen : length oks ≡ length ocs) where
+  abbrev o : State
+  o = state_of ocs oks
+
+  other_is : changesets (state_of ocs oks) ≡ ocs
+  other_is = changesets-held_of ocs oks olen
+
+  -- the other as a part
+  pub part_is : ◌≡◌ {A = PartValue} (record { changesets = ocs; bounds = (part_of (state_of ocs oks)).bounds }) (part_of (state_of ocs oks))
+  part_is i = record { changesets = sym other_is i; bounds = (part_of (state_of ocs oks)).bounds }
+
+  -- a bound of it is a node and its phase
+  pub bound_at : (p : ℕ) (n : Node) (k : Phase) → slice_get (nodes ocs) p ≡ Some n → slice_get oks p ≡ Some k → slice_get (part_of (state_of ocs oks)).bounds p ≡ Some (n, k)
+  bound_at p n k at_n at_k =
+      let d = at-node ocs p n at_n in
+      slice_get-map (λ h. (node_of h.changeset, h.phase)) (held_of ocs oks) p ∙ ap (option_map (λ h. (node_of h.changeset, h.phase))) (held-at ocs oks p d.0 k d.1 at_k) ∙ ap (λ m. Some (m, k)) d.2
+
+  pub bounds_len : length (part_of (state_of ocs oks)).bounds ≡ length ocs
+  bounds_len = length-map (held_of ocs oks) (λ h. (node_of h.changeset, h.phase)) ∙ sym (length-map (held_of ocs oks) (λ h. h.changeset)) ∙ ap length other_is
+
+  module _ (held : List Contents) (had : List Phase) where
+    -- its nodes are held where its changesets were added
+    pub bounds_held : (cs : List Contents) (ks : List Phase) → IsAdded held had ocs (length ocs) cs ks → AreHeldUpTo cs (part_of (state_of ocs oks)).bounds (length (part_of (state_of ocs oks)).bounds)
+    bounds_held cs ks a j b l at =
+        let h = bound_from o b (Contains-from_place (part_of o).bounds j b at) in
+        let in_o : Contains ocs h.0.changeset = subst (λ ds. Contains ds h.0.changeset) other_is (changeset_from o h.0 h.1) in
+        let whole : take (length ocs) ocs ≡ ocs = take_all (length ocs) ocs (omega arith) in
+        let in_cs : Contains cs h.0.changeset = (a.same h.0.changeset).1 (subst (λ xs. Contains (held ++ xs) h.0.changeset) (sym whole) (Contains-append_right held ocs h.0.changeset in_o)) in
+        subst (GraphHolds cs) (ap (λ x. x.0) h.2) (Holds-from cs h.0.changeset in_cs)
+
+    -- a fault is a collision, or want of memory
+    pub fault_joined : length had ≡ length held → IsGraph ocs → (f : Fault) (ds : List Contents) (ls : List Phase) → AddAllAnswer held had ocs (Err f) ds ls → IsJoinFault (state_of held had) (state_of ocs oks) f
+    fault_joined len graph (UnknownParent p) ds ls (i, c, at, a, h) = absurd (h.1 (Holds-same (take i ocs) (held ++ take i ocs) (λ d x. Contains-append_right held (take i ocs) d x) p (graph.parents_first i c at p h.0)))
+    fault_joined len graph (Collision n) ds ls (i, c, at, a, h) =
+        let d = h.1.0 in
+        let in_o : Contains ocs c = Contains-from_place ocs i c at in
+        let g = held_from o c (subst (λ xs. Contains xs c) (sym other_is) in_o) in
+        elim (Contains-append_cases held (take i ocs) d h.1.1) [
+          | inl x ↦
+              let f = held_from (state_of held had) d (subst (λ xs. Contains xs d) (sym (changesets-held_of held had len)) x) in
+              (f.0, g.0, f.1, g.1, ap node_of f.2 ∙ h.1.2 ∙ sym h.2, ap node_of g.2 ∙ sym h.2, λ e. h.1.3 (sym f.2 ∙ e ∙ g.2))
+          | inr x ↦
+              let q = place_from_Contains (take i ocs) d x in
+              absurd (h.1.3 (same_changeset ocs graph c d in_o (Contains-from_place ocs q.0 d (get-take ocs i q.0 d q.1).1) (sym h.1.2)))
+        ]
+    fault_joined len graph (UnknownBound n) ds ls (i, c, at, a, h) = absurd h
+    fault_joined len graph NullBound ds ls (i, c, at, a, h) = absurd h
+    fault_joined len graph NoMemory ds ls h = tt
+
+-- ---- loops
 
 -- there is a changeset at each place
 pub missing : (cs : List Contents) (p : ℕ) (r : Option (Bor Contents)) → p < length cs → option_copied r ≡ slice_get cs p → r ≡ None → ⊥
 missing cs p r within e none =
     let d = get-within cs p within in
     none-some d.0 (sym (ap option_copied none) ∙ e ∙ d.1)
-
--- what holds of a fault holds of the one that is passed on
-pub err-along : {X E : Type 0} (r : Result X E) {Q : E → Type 0} (P : E → Type 0) → IsErrAnd r Q → ((e : E) → Q e → P e) → IfErr r P
-err-along (Ok x) P h from = absurd h
-err-along (Err e) P h from = from e h
 
 -- ---- answers, in the words of contents
 

@@ -2,9 +2,10 @@ pub mod UnheldLemmas
 pub mod AddLemmas
 pub mod BoundLemmas
 pub mod AbsorbLemmas
-pub mod ChangeLemmas
 pub mod ContentLemmas
 pub mod FaultLemmas
+pub mod FirstFaultLemmas
+pub mod GrowthLemmas
 pub mod JoinLemmas
 pub mod OpenLemmas
 pub mod RootLemmas

@@ -1,11 +1,11 @@
 -- What `absorb` answers.
-use Rattle.std.specs.Prelude.{◌≡◌, ◌≢◌, ◌<◌, ℕ, List, [], ◌∷◌, ◌++◌, take, length, slice_get, Some, Contains, Result, Ok, Err}
+use Rattle.std.specs.Prelude.{◌≡◌, ◌≢◌, ◌<◌, ℕ, List, [], ◌∷◌, ◌++◌, take, length, slice_get, Some, Contains, Result, Ok, Err, ◌⊎◌}
 use Rattle.hg_changeset.specs.declared.node.Node.{Node}
 use Rattle.hg_changeset.specs.Node.{null_node}
 use Rattle.hg_changeset.specs.Contents.{Contents}
 use Rattle.hg_changeset.specs.Changeset.{node_of}
 use Rattle.hg_graph.specs.Graph.{nodes, HoldsParents}
-use Rattle.hg_graph.specs.Answers.{IsFirstMissing, Collides}
+use Rattle.hg_graph.specs.Answers.{IsFirstMissing, Collides, IsNew}
 use Rattle.hg_phases.specs.declared.phase.Phase.{Phase}
 use Rattle.hg_phases.specs.State.{State, changesets}
 use Rattle.hg_phases.specs.Least.{PartValue, IsAdmitted, IsLeast}
@@ -45,6 +45,22 @@ IsRefusal held k (Collision n) = IsFirstFault held k (Collision n)
 IsRefusal held k (UnknownBound n) = IsFirstFault held k (UnknownBound n)
 IsRefusal held k NullBound = IsFirstFault held k NullBound
 IsRefusal held k NoMemory = Unit {0}
+
+-- each changeset of the part before the place i is held
+abbrev pub AreKnownUpTo : List Contents → List Contents → ℕ → Type 0
+AreKnownUpTo held part i = (j : ℕ) (c : Contents) → j < i → slice_get part j ≡ Some c → Contains held c
+
+-- the first changeset of the part that isn't held can be added: its parents are held, and its id isn't
+pub record IsFirstNew (held part : List Contents) : Type 0 where
+  pub place : ℕ
+  pub changeset : Contents
+  pub at : slice_get part place ≡ Some changeset
+  pub before : AreKnownUpTo held part place
+  pub new : IsNew held changeset
+
+-- where the part is taken in at s, something grows before any fault is met: a changeset comes first that is new, or all changesets and the bounds' nodes are held, so that only phases can go down
+abbrev pub IsGrowthBeforeFault : State → PartValue → Type 0
+IsGrowthBeforeFault s k = IsFirstNew (changesets s) k.changesets ⊎ (AreKnownUpTo (changesets s) k.changesets (length k.changesets) × AreHeldUpTo (changesets s) k.bounds (length k.bounds))
 
 -- the part could be absorbed: the state is the least one above s that covers it, what is new stands last in the part's order, and the change tells it all
 pub record IsAbsorbed (s : State) (k : PartValue) (change : ChangeValue) (after : State) : Type 0 where

@@ -1,12 +1,12 @@
 -- What a part changes.
-use Rattle.std.specs.Prelude.{◌≡◌, ◌<◌, ◌↔◌, Bool, List, [], ◌∷◌, ◌++◌, if◌then◌else◌, Contains}
-use Rattle.std.specs.List.{IsDistinct, list_any}
+use Rattle.std.specs.Prelude.{Bool, List, [], ◌∷◌, ◌++◌, if◌then◌else◌}
+use Rattle.std.specs.List.{list_any}
 use Rattle.hg_changeset.specs.declared.node.Node.{Node}
 use Rattle.hg_changeset.specs.Node.{node_eq}
 use Rattle.hg_changeset.specs.Contents.{Contents}
 use Rattle.hg_changeset.specs.Changeset.{node_of}
 use Rattle.hg_graph.specs.Graph.{nodes}
-use Rattle.hg_phases.specs.State.{State, Held, rank}
+pub use Rattle.hg_phases.specs.Lowered.{WentDown, ListsLowered}
 
 -- the nodes that were added, and those held before whose phase went down
 pub record ChangeValue : Type 0 where
@@ -21,12 +21,3 @@ is_held cs n = list_any (node_eq n) (nodes cs)
 abbrev pub unheld : List Contents → List Contents → List Contents
 unheld held [] = []
 unheld held (c ∷ part) = if is_held held (node_of c) then unheld held part else c ∷ unheld (held ++ c ∷ []) part
-
--- a changeset with this id was held, and has a lower phase now
-abbrev pub WentDown : State → State → Node → Type 0
-WentDown s t n = (h : Held) × (g : Held) × Contains s.held h × Contains t.held g × (g.changeset ≡ h.changeset) × (node_of h.changeset ≡ n) × (rank g.phase < rank h.phase)
-
--- ns are exactly the nodes whose phase went down, each once
-pub record ListsLowered (s t : State) (ns : List Node) : Type 0 where
-  pub once : IsDistinct node_eq ns
-  pub each : (n : Node) → Contains ns n ↔ WentDown s t n

@@ -4,21 +4,22 @@
 //! node is found, then the public bounds are lowered to, and then the draft ones, so that each place goes down once.
 //! Secret bounds say nothing more. A refusal takes back what was done: the log of what was lowered restores the phases,
 //! and what was added stands last, so it is cut off. Nothing costs more than the part and what it lowers.
-ghost use Rattle.std.specs.Prelude.{OnOk, IfOk, IfErr, MatchResult, All, length, take, [], ◌∷◌, List, ◌≡◌, ◌<◌};
+ghost use Rattle.std.specs.Prelude.{OnOk, OnErr, IfOk, IfErr, IsErrOf, MatchResult, length, take, drop, [], ◌∷◌, ◌++◌, ◌+◌, ◌-◌, ◌≤◌, List, ◌≡◌};
 ghost use Rattle.hg_changeset.specs.declared.node.Node.{Node};
-ghost use Rattle.hg_graph.specs.Graph.{Holds, IsGraph};
+ghost use Rattle.hg_graph.specs.Graph.{Holds, nodes};
+ghost use Rattle.hg_graph.specs.Places.{IsAt};
 ghost use Rattle.hg_phases.specs.declared.phase.Phase.{Phase};
-ghost use Rattle.hg_phases.specs.State.{IsValid};
-ghost use Rattle.hg_phases.specs.Kept.{phases_at, kept_state};
-ghost use Rattle.hg_phases.specs.Log.{IsLog, restored};
-ghost use Rattle.hg_history.specs.Answer.{AbsorbAnswer, AreHeldUpTo, IsAbsorbed, IsRefusal};
-ghost use Rattle.hg_history.specs.Steps.{OneAdded, IsAdded, IsBoundFault, IsBoundAt, OneLowered, IsLoweredTo};
+ghost use Rattle.hg_phases.specs.State.{state_of, IsValid};
+ghost use Rattle.hg_phases.specs.Kept.{phases_at, kept_state, before_last, phases_before, IsLogOf};
+ghost use Rattle.hg_phases.specs.Log.{IsLog};
+ghost use Rattle.hg_history.specs.Answer.{AbsorbAnswer, AreHeldUpTo, IsAbsorbed, IsGrowthBeforeFault, IsRefusal};
+ghost use Rattle.hg_history.specs.Steps.{AddAllAnswer, CanTakeBack, OneAdded, IsBoundFault, IsBoundAt, OneLowered, IsLoweredTo};
 
 use crate::change::Change;
 use crate::fault::Fault;
 use hg_changeset::{Changeset, Node};
 use hg_graph::{Added, Graph, GraphError};
-use hg_phases::{Lowered, Phase, PhaseMap};
+use hg_phases::{LoweringLog, Phase, PhaseMap};
 use std::alloc::{AllocError, Global};
 
 /// Takes the part in, or leaves everything as it was.
@@ -33,9 +34,10 @@ pub(crate) fn absorb_or_undo(
     requires valid { IsValid (kept_state graph.old phases.old) }
     ensures inside { (length (phases_at graph.new phases.new) ≡ length graph.new) × IsValid (kept_state graph.new phases.new) }
     ensures answer { AbsorbAnswer (kept_state graph.old phases.old) (record { changesets = changesets.now; bounds = bounds.now }) result (kept_state graph.new phases.new) }
+    ensures memory { IsErrOf result Fault.NoMemory → IsGrowthBeforeFault (kept_state graph.old phases.old) (record { changesets = changesets.now; bounds = bounds.now }) }
 {
     let before = graph.len();
-    let mut log = Lowered::new(alloc);
+    let mut log = LoweringLog::new(alloc);
     match absorb_logged(graph, phases, &mut log, alloc, changesets, bounds) {
         Ok(change) => Ok(change),
         Err(fault) => {
@@ -45,14 +47,20 @@ pub(crate) fn absorb_or_undo(
     }
 }
 
-/// Restores the phases that were logged, and forgets what stands from the place `before` on.
-pub(crate) fn take_back(graph: &mut Graph, phases: &mut PhaseMap, log: &mut Lowered, before: usize)
-    requires { All (λ e. e.place < length phases.old) log.old }
+/// Takes back what was logged, and forgets what stands from the place `before` on.
+pub(crate) fn take_back(
+    graph: &mut Graph,
+    phases: &mut PhaseMap,
+    log: &mut LoweringLog,
+    before: usize,
+)
+    requires len { length (phases_at graph.old phases.old) ≡ length graph.old }
+    requires valid { IsValid (state_of graph.old (phases_before graph.old phases.old log.old)) }
+    requires logged { IsLogOf graph.old phases.old log.old }
     ensures graph { graph.new ≡ take before graph.old }
-    ensures phases { phases.new ≡ take before (restored phases.old log.old) }
+    ensures phases { phases_at graph.new phases.new ≡ take before (phases_before graph.old phases.old log.old) }
 {
-    phases.undo(log);
-    phases.truncate(before);
+    phases.take_back(graph, log, before);
     graph.truncate(before);
 }
 
@@ -60,7 +68,7 @@ pub(crate) fn take_back(graph: &mut Graph, phases: &mut PhaseMap, log: &mut Lowe
 fn absorb_logged(
     graph: &mut Graph,
     phases: &mut PhaseMap,
-    log: &mut Lowered,
+    log: &mut LoweringLog,
     alloc: Global,
     changesets: &[Changeset],
     bounds: &[(Node, Phase)],
@@ -68,74 +76,96 @@ fn absorb_logged(
     requires len { length (phases_at graph.old phases.old) ≡ length graph.old }
     requires valid { IsValid (kept_state graph.old phases.old) }
     requires fresh { log.old ≡ [] }
-    ensures kept { take (length graph.old) graph.new ≡ graph.old }
-    ensures undoes { take (length graph.old) (restored phases.new log.new) ≡ phases.old }
-    ensures within { All (λ e. e.place < length phases.new) log.new }
-    ensures len { OnOk result (length (phases_at graph.new phases.new) ≡ length graph.new) }
+    ensures back { CanTakeBack graph.old (phases_at graph.old phases.old) graph.new phases.new log.new }
     ensures absorbed { IfOk result (λ change. IsAbsorbed (kept_state graph.old phases.old) (record { changesets = changesets.now; bounds = bounds.now }) change (kept_state graph.new phases.new)) }
     ensures refusal { MatchResult result (λ _. Unit {0}) (IsRefusal graph.old (record { changesets = changesets.now; bounds = bounds.now })) }
+    ensures memory { IsErrOf result Fault.NoMemory → IsGrowthBeforeFault (kept_state graph.old phases.old) (record { changesets = changesets.now; bounds = bounds.now }) }
 {
     let before = graph.len();
-    let added = match add_changesets(graph, phases, alloc, changesets) {
-        Ok(added) => added,
+    match add_changesets(graph, phases, changesets) {
+        Ok(()) => {}
         Err(fault) => return Err(fault),
-    };
+    }
     match check_bounds(graph, bounds) {
         Ok(()) => {}
         Err(fault) => return Err(fault),
     }
     lower_to(graph, phases, log, bounds, Phase::Public)?;
     lower_to(graph, phases, log, bounds, Phase::Draft)?;
+    let added = nodes_from(graph, before, alloc)?;
     let lowered = log.nodes_before(graph, before)?;
     Ok(Change { added, lowered })
 }
 
-// Adds the changesets that aren't held, and tells their nodes.
+// Adds the changesets that aren't held. After a fault those before the one at fault were added.
 fn add_changesets(
     graph: &mut Graph,
     phases: &mut PhaseMap,
-    alloc: Global,
     changesets: &[Changeset],
-) -> Result<Vec<Node>, Fault>
-    requires graph { IsGraph graph.old }
+) -> Result<(), Fault>
     requires len { length (phases_at graph.old phases.old) ≡ length graph.old }
-    ensures kept { take (length graph.old) graph.new ≡ graph.old }
-    ensures undoes { take (length graph.old) phases.new ≡ phases.old }
-    ensures added { IfOk result (λ added. IsAdded graph.old phases.old changesets.now (length changesets.now) graph.new phases.new added.items) }
-    ensures refusal { (bounds : List (Node × Phase)) → MatchResult result (λ _. Unit {0}) (IsRefusal graph.old (record { changesets = changesets.now; bounds = bounds })) }
+    requires valid { IsValid (kept_state graph.old phases.old) }
+    ensures { AddAllAnswer graph.old (phases_at graph.old phases.old) changesets.now result graph.new (phases_at graph.new phases.new) }
 {
-    let mut added = Vec::new(alloc);
     for changeset in changesets {
-        match add_one(graph, phases, &mut added, changeset) {
-            Ok(()) => {}
+        match add_one(graph, phases, changeset) {
+            Ok(_) => {}
             Err(fault) => return Err(fault),
         }
     }
-    Ok(added)
+    Ok(())
 }
 
-// Adds a copy of the changeset, as secret, and tells its node, unless it is held.
-fn add_one(
+/// Adds a copy of the changeset, as secret, unless it is held.
+pub(crate) fn add_one(
     graph: &mut Graph,
     phases: &mut PhaseMap,
-    added: &mut Vec<Node>,
     changeset: &Changeset,
-) -> Result<(), Fault>
+) -> Result<Added, Fault>
     requires { length (phases_at graph.old phases.old) ≡ length graph.old }
-    ensures { OneAdded graph.old phases.old added.old.items changeset.now result graph.new phases.new added.new.items }
+    ensures { OneAdded graph.old (phases_at graph.old phases.old) changeset.now result graph.new (phases_at graph.new phases.new) }
 {
     match graph.add_copy(changeset) {
         Ok(Added::New) => {
-            let node = changeset.node();
-            phases.admit(graph, node)?;
-            added.push(node)?;
-            Ok(())
+            admit_or_remove(graph, phases, changeset.node())?;
+            Ok(Added::New)
         }
-        Ok(Added::Known) => Ok(()),
+        Ok(Added::Known) => Ok(Added::Known),
         Err(GraphError::UnknownParent(parent)) => Err(Fault::UnknownParent(parent)),
         Err(GraphError::Collision(node)) => Err(Fault::Collision(node)),
         Err(GraphError::NoMemory) => Err(Fault::NoMemory),
     }
+}
+
+// Makes the changeset that was just added secret, or takes it off the graph again.
+fn admit_or_remove(graph: &mut Graph, phases: &mut PhaseMap, node: Node) -> Result<(), AllocError>
+    requires len { length graph.old ≡ length (phases_at (before_last graph.old) phases.old) + 1 }
+    requires added { IsAt graph.old node (length graph.old - 1) }
+    ensures admitted { OnOk result ((graph.new ≡ graph.old) × (phases_at graph.new phases.new ≡ phases_at (before_last graph.old) phases.old ++ Phase.Secret ∷ [])) }
+    ensures removed { OnErr result ((graph.new ≡ before_last graph.old) × (phases_at graph.new phases.new ≡ phases_at (before_last graph.old) phases.old)) }
+{
+    match phases.admit(graph, node) {
+        Ok(()) => Ok(()),
+        Err(refused) => {
+            graph.truncate(graph.len() - 1);
+            Err(refused)
+        }
+    }
+}
+
+// The nodes of the changesets from a place on.
+fn nodes_from(graph: &Graph, from: usize, alloc: Global) -> Result<Vec<Node>, AllocError>
+    requires { from ≤ length graph.now }
+    ensures { IfOk result (λ found. found.items ≡ drop from (nodes graph.now)) }
+{
+    let mut found = Vec::new(alloc);
+    for place in from..graph.len() {
+        match graph.node_at(place) {
+            Some(node) => found.push(node)?,
+            None => {}
+        }
+    }
+    Ok(found)
 }
 
 // Refuses the first bound whose node isn't held.
@@ -168,7 +198,7 @@ fn check_bound(graph: &Graph, node: Node) -> Result<(), Fault>
 fn lower_to(
     graph: &Graph,
     phases: &mut PhaseMap,
-    log: &mut Lowered,
+    log: &mut LoweringLog,
     bounds: &[(Node, Phase)],
     phase: Phase,
 ) -> Result<(), AllocError>
@@ -177,9 +207,9 @@ fn lower_to(
     requires held { AreHeldUpTo graph.now bounds.now (length bounds.now) }
     ensures len { length (phases_at graph.now phases.new) ≡ length (phases_at graph.now phases.old) }
     ensures valid { OnOk result (IsValid (kept_state graph.now phases.new)) }
-    ensures lowered { OnOk result (IsLoweredTo graph.now bounds.now phase phases.old phases.new) }
-    ensures logged { (start : List Phase) → IsLog phase start phases.old log.old → IsLog phase start phases.new log.new }
-    ensures undoes { restored phases.new log.new ≡ restored phases.old log.old }
+    ensures lowered { OnOk result (IsLoweredTo graph.now bounds.now phase (phases_at graph.now phases.old) (phases_at graph.now phases.new)) }
+    ensures logged { (start : List Phase) → IsLog phase start (phases_at graph.now phases.old) log.old → IsLog phase start (phases_at graph.now phases.new) log.new }
+    ensures undoes { phases_before graph.now phases.new log.new ≡ phases_before graph.now phases.old log.old }
 {
     for bound in bounds {
         lower_bound(graph, phases, log, *bound, phase)?;
@@ -187,10 +217,11 @@ fn lower_to(
     Ok(())
 }
 
-fn lower_bound(
+/// Lowers the ancestors of the bound, if it is of this phase.
+pub(crate) fn lower_bound(
     graph: &Graph,
     phases: &mut PhaseMap,
-    log: &mut Lowered,
+    log: &mut LoweringLog,
     bound: (Node, Phase),
     phase: Phase,
 ) -> Result<(), AllocError>
@@ -198,12 +229,12 @@ fn lower_bound(
     requires valid { IsValid (kept_state graph.now phases.old) }
     requires held { Holds graph.now bound.0 }
     ensures len { length (phases_at graph.now phases.new) ≡ length (phases_at graph.now phases.old) }
-    ensures lowered { OnOk result (OneLowered graph.now bound phase phases.old phases.new) }
-    ensures logged { (start : List Phase) → IsLog phase start phases.old log.old → IsLog phase start phases.new log.new }
-    ensures undoes { restored phases.new log.new ≡ restored phases.old log.old }
+    ensures lowered { OnOk result (OneLowered graph.now bound phase (phases_at graph.now phases.old) (phases_at graph.now phases.new)) }
+    ensures logged { (start : List Phase) → IsLog phase start (phases_at graph.now phases.old) log.old → IsLog phase start (phases_at graph.now phases.new) log.new }
+    ensures undoes { phases_before graph.now phases.new log.new ≡ phases_before graph.now phases.old log.old }
 {
     if bound.1 == phase {
-        phases.lower(graph, log, bound.0, phase)
+        phases.lower_logged(graph, log, bound.0, phase)
     } else {
         Ok(())
     }

@@ -1,8 +1,9 @@
 //! The history: a graph of changesets, with a phase for each.
-ghost use Rattle.std.specs.Prelude.{IfOk, MatchOption, IsTrue, [], ◌≡◌, ◌↔◌};
+ghost use Rattle.std.specs.Prelude.{IfOk, IsErrOf, IsOkAnd, MatchOption, IsTrue, [], ◌≡◌, ◌↔◌};
 ghost use Rattle.hg_phases.specs.State.{changesets, state_of, Holds, IsPhaseOf, IsValid};
+ghost use Rattle.hg_phases.specs.Least.{part_of};
 ghost use Rattle.hg_phases.specs.Order.{Below};
-ghost use Rattle.hg_history.specs.Answer.{AbsorbAnswer};
+ghost use Rattle.hg_history.specs.Answer.{AbsorbAnswer, IsGrowthBeforeFault};
 ghost use Rattle.hg_phases.specs.Roots.{AreRoots};
 ghost use Rattle.hg_history.specs.Join.{JoinAnswer};
 ghost use Rattle.hg_history.specs.Open.{OpenAnswer};
@@ -99,7 +100,7 @@ impl History {
 
     /// The phase of the changeset with this id, if it is held.
     pub fn phase_of(&self, node: Node) -> Result<Option<Phase>, AllocError>
-        ensures phase { IfOk result (λ phase. MatchOption phase (¬ (Holds self.now node)) (IsPhaseOf self.now node)) }
+        ensures phase { IsOkAnd result (λ phase. MatchOption phase (¬ (Holds self.now node)) (IsPhaseOf self.now node)) }
         ensures valid { IsValid self.now }
     {
         self.phases.phase_of(&self.graph, node)
@@ -116,6 +117,8 @@ impl History {
     ) -> Result<Change, Fault>
         ensures answer { AbsorbAnswer self.old (record { changesets = changesets.now; bounds = bounds.now }) result self.new }
         ensures valid { IsValid self.old }
+        ensures still_valid { IsValid self.new }
+        ensures memory { IsErrOf result Fault.NoMemory → IsGrowthBeforeFault self.old (record { changesets = changesets.now; bounds = bounds.now }) }
     {
         absorb_or_undo(
             &mut self.graph,
@@ -133,6 +136,8 @@ impl History {
         ensures answer { JoinAnswer self.old other.now result self.new }
         ensures valid { IsValid self.old }
         ensures other_valid { IsValid other.now }
+        ensures still_valid { IsValid self.new }
+        ensures memory { IsErrOf result Fault.NoMemory → IsGrowthBeforeFault self.old (part_of other.now) }
     {
         join_or_undo(
             &mut self.graph,

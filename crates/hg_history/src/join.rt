@@ -1,22 +1,26 @@
 //! Joining two histories, and whether one is below the other.
 //!
-//! The other's changesets are gone through in their order, so the parents of each are there when it comes. Each is looked
-//! up once: a new one is copied with its phase and stands last, and a known one takes the lower of the two phases, which
-//! is logged. A refusal takes back what was done, as in `absorb`. So a call costs about both sides once.
-ghost use Rattle.std.specs.Prelude.{◌≡◌, ◌↔◌, ◌⊎◌, Some, IsTrue, OnOk, IfErr, length, slice_get, []};
-ghost use Rattle.hg_changeset.specs.Changeset.{node_of};
-ghost use Rattle.hg_graph.specs.Graph.{Holds, HoldsParents};
+//! The other is taken in as a part: its changesets, and for each of them a bound, its phase. They are gone through in the
+//! other's order, so the parents of each are there when it comes: a new one is copied, as secret, and stands last. Then
+//! each is lowered to its phase, the public ones first, which lowers hardly anything else, since its parents stand no
+//! higher in the other. A refusal takes back what was done, as in `absorb`. So a call costs about both sides once.
+ghost use Rattle.std.specs.Prelude.{◌≡◌, ◌↔◌, List, Some, IsTrue, OnOk, IfErr, IsErrOf, length, slice_get, [], ◌∷◌};
+ghost use Rattle.hg_phases.specs.declared.phase.Phase.{Phase};
 ghost use Rattle.hg_phases.specs.State.{IsValid};
-ghost use Rattle.hg_phases.specs.Kept.{phases_at, kept_state};
+ghost use Rattle.hg_phases.specs.Kept.{phases_at, kept_state, phases_before};
+ghost use Rattle.hg_phases.specs.Least.{IsLeast, part_of};
+ghost use Rattle.hg_phases.specs.Log.{IsLog};
 ghost use Rattle.hg_phases.specs.Order.{Below};
-ghost use Rattle.hg_history.specs.Join.{IsJoin, IsJoinFault, JoinAnswer, TakeInAnswer, AddedWithPhase, CanTakeBack, IsHeldAsLow};
+ghost use Rattle.hg_history.specs.Answer.{AreHeldUpTo, IsGrowthBeforeFault};
+ghost use Rattle.hg_history.specs.Join.{IsJoinFault, JoinAnswer, IsHeldAsLow};
+ghost use Rattle.hg_history.specs.Steps.{AddAllAnswer, CanTakeBack, IsLoweredTo};
 
-use crate::absorb::take_back;
+use crate::absorb::{add_one, lower_bound, take_back};
 use crate::fault::Fault;
 use hg_changeset::Changeset;
 use hg_graph::Graph;
-use hg_phases::{Lowered, Phase, PhaseMap};
-use std::alloc::Global;
+use hg_phases::{LoweringLog, Phase, PhaseMap};
+use std::alloc::{AllocError, Global};
 
 /// Joins the other in, or leaves everything as it was.
 pub(crate) fn join_or_undo(
@@ -32,9 +36,10 @@ pub(crate) fn join_or_undo(
     requires other_valid { IsValid (kept_state other.now other_phases.now) }
     ensures inside { (length (phases_at graph.new phases.new) ≡ length graph.new) × IsValid (kept_state graph.new phases.new) }
     ensures answer { JoinAnswer (kept_state graph.old phases.old) (kept_state other.now other_phases.now) result (kept_state graph.new phases.new) }
+    ensures memory { IsErrOf result Fault.NoMemory → IsGrowthBeforeFault (kept_state graph.old phases.old) (part_of (kept_state other.now other_phases.now)) }
 {
     let before = graph.len();
-    let mut log = Lowered::new(alloc);
+    let mut log = LoweringLog::new(alloc);
     match join_logged(graph, phases, &mut log, other, other_phases) {
         Ok(()) => Ok(()),
         Err(fault) => {
@@ -44,12 +49,12 @@ pub(crate) fn join_or_undo(
     }
 }
 
-// Takes in each changeset of the other with its phase, and logs what goes down. After a fault what was done can be taken
-// back.
+// Adds what the other holds, and then lowers to its phases, and logs what goes down. After a fault what was done can be
+// taken back.
 fn join_logged(
     graph: &mut Graph,
     phases: &mut PhaseMap,
-    log: &mut Lowered,
+    log: &mut LoweringLog,
     other: &Graph,
     other_phases: &PhaseMap,
 ) -> Result<(), Fault>
@@ -58,59 +63,66 @@ fn join_logged(
     requires other_len { length (phases_at other.now other_phases.now) ≡ length other.now }
     requires other_valid { IsValid (kept_state other.now other_phases.now) }
     requires fresh { log.old ≡ [] }
-    ensures back { CanTakeBack graph.old phases.old graph.new phases.new log.new }
-    ensures inside { OnOk result ((length (phases_at graph.new phases.new) ≡ length graph.new) × IsValid (kept_state graph.new phases.new)) }
-    ensures joined { OnOk result (IsJoin (kept_state graph.old phases.old) (kept_state other.now other_phases.now) (kept_state graph.new phases.new)) }
+    ensures back { CanTakeBack graph.old (phases_at graph.old phases.old) graph.new phases.new log.new }
+    ensures joined { OnOk result (IsLeast (kept_state graph.old phases.old) (part_of (kept_state other.now other_phases.now) ∷ []) (kept_state graph.new phases.new)) }
     ensures fault { IfErr result (IsJoinFault (kept_state graph.old phases.old) (kept_state other.now other_phases.now)) }
+    ensures memory { IsErrOf result Fault.NoMemory → IsGrowthBeforeFault (kept_state graph.old phases.old) (part_of (kept_state other.now other_phases.now)) }
+{
+    match add_all(graph, phases, other) {
+        Ok(()) => {}
+        Err(fault) => return Err(fault),
+    }
+    lower_to_each(graph, phases, log, other, other_phases, Phase::Public)?;
+    lower_to_each(graph, phases, log, other, other_phases, Phase::Draft)?;
+    Ok(())
+}
+
+// Adds the other's changesets that aren't held. After a fault those before the one at fault were added.
+fn add_all(graph: &mut Graph, phases: &mut PhaseMap, other: &Graph) -> Result<(), Fault>
+    requires len { length (phases_at graph.old phases.old) ≡ length graph.old }
+    requires valid { IsValid (kept_state graph.old phases.old) }
+    ensures { AddAllAnswer graph.old (phases_at graph.old phases.old) other.now result graph.new (phases_at graph.new phases.new) }
 {
     for place in 0..other.len() {
-        if let Some(changeset) = other.changeset_at(place) {
-            take_in(graph, phases, log, changeset, other_phases.at(other, place))?;
+        match other.changeset_at(place) {
+            Some(changeset) => match add_one(graph, phases, changeset) {
+                Ok(_) => {}
+                Err(fault) => return Err(fault),
+            },
+            None => {}
         }
     }
     Ok(())
 }
 
-// Takes in one changeset, whose parents are held, with its phase.
-fn take_in(
-    graph: &mut Graph,
+// Lowers each changeset of the other's that has this phase there, with its ancestors.
+fn lower_to_each(
+    graph: &Graph,
     phases: &mut PhaseMap,
-    log: &mut Lowered,
-    changeset: &Changeset,
+    log: &mut LoweringLog,
+    other: &Graph,
+    other_phases: &PhaseMap,
     phase: Phase,
-) -> Result<(), Fault>
-    requires len { length (phases_at graph.old phases.old) ≡ length graph.old }
-    requires parents { HoldsParents graph.old changeset.now }
-    ensures { TakeInAnswer changeset.now phase graph.old phases.old log.old result graph.new phases.new log.new }
+) -> Result<(), AllocError>
+    requires len { length (phases_at graph.now phases.old) ≡ length graph.now }
+    requires valid { IsValid (kept_state graph.now phases.old) }
+    requires other_len { length (phases_at other.now other_phases.now) ≡ length other.now }
+    requires held { AreHeldUpTo graph.now (part_of (kept_state other.now other_phases.now)).bounds (length (part_of (kept_state other.now other_phases.now)).bounds) }
+    ensures len { length (phases_at graph.now phases.new) ≡ length (phases_at graph.now phases.old) }
+    ensures valid { OnOk result (IsValid (kept_state graph.now phases.new)) }
+    ensures lowered { OnOk result (IsLoweredTo graph.now (part_of (kept_state other.now other_phases.now)).bounds phase (phases_at graph.now phases.old) (phases_at graph.now phases.new)) }
+    ensures logged { (start : List Phase) → IsLog phase start (phases_at graph.now phases.old) log.old → IsLog phase start (phases_at graph.now phases.new) log.new }
+    ensures undoes { phases_before graph.now phases.new log.new ≡ phases_before graph.now phases.old log.old }
 {
-    let node = changeset.node();
-    match graph.place(node) {
-        Some(place) => {
-            if !is_at(graph, place, changeset) {
-                return Err(Fault::Collision(node));
+    for place in 0..other.len() {
+        match other.node_at(place) {
+            Some(node) => {
+                let bound = (node, other_phases.at(other, place));
+                lower_bound(graph, phases, log, bound, phase)?;
             }
-            phases.lower_alone(log, place, phase)?;
-            Ok(())
+            None => {}
         }
-        None => add(graph, phases, changeset, phase),
     }
-}
-
-// Adds a copy of a changeset with its phase. Its parents are held and its id is not, so memory alone can be wanting.
-fn add(
-    graph: &mut Graph,
-    phases: &mut PhaseMap,
-    changeset: &Changeset,
-    phase: Phase,
-) -> Result<(), Fault>
-    requires parents { HoldsParents graph.old changeset.now }
-    requires new { ¬ (Holds graph.old (node_of changeset.now)) }
-    ensures { AddedWithPhase changeset.now phase graph.old phases.old result graph.new phases.new }
-{
-    if graph.add_copy(changeset).is_err() {
-        return Err(Fault::NoMemory);
-    }
-    phases.push(phase)?;
     Ok(())
 }
 

@@ -1,5 +1,5 @@
 //! What the answers promise, in the words of states and of contents alone.
-ghost use Rattle.std.specs.Prelude.{◌≡◌, ◌↔◌, [], ◌∷◌, List, Ok, Err, Result};
+ghost use Rattle.std.specs.Prelude.{◌≡◌, ◌↔◌, ◌⊎◌, [], ◌∷◌, List, Ok, Err, Result};
 ghost use Rattle.hg_changeset.specs.declared.node.Node.{Node};
 ghost use Rattle.hg_phases.specs.declared.phase.Phase.{Phase};
 ghost use Rattle.hg_phases.specs.State.{State, IsValid, changesets};
@@ -23,10 +23,11 @@ pub fn absorbed_is_valid_above_and_covers()
     ensures smallest { (s t : State) (k : PartValue) (change : ChangeValue) → IsValid s → AbsorbAnswer s k (Ok change) t → IsSmallest s (k ∷ []) t }
 {}
 
-/// A part that is admitted has no fault, and any other has one first fault at most.
+/// A part that is admitted has no fault, and any other has exactly one first fault.
 pub fn first_fault_is_one()
     ensures none { (s : State) (k : PartValue) (fault : Fault) → IsAdmitted s k → IsFirstFault (changesets s) k fault → ⊥ }
     ensures one { (s : State) (k : PartValue) (fault other : Fault) → IsFirstFault (changesets s) k fault → IsFirstFault (changesets s) k other → fault ≡ other }
+    ensures some { (s : State) (k : PartValue) → IsAdmitted s k ⊎ ((fault : Fault) × IsFirstFault (changesets s) k fault) }
 {}
 
 /// Contents say what states say, free of order: two histories have one content exactly where each is below the other.

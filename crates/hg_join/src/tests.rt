@@ -1,8 +1,109 @@
-ghost use Rattle.std.specs.Prelude.{IsTrue, IfSome};
+ghost use Rattle.std.specs.Prelude.{◌≡◌, ◌≢◌, ℕ, ⊤, IsTrue, IfSome};
+ghost use Rattle.std.proofs.Common.{refl, sym, ◌∙◌};
 
 use super::*;
 use std::alloc::Global;
 use std::test::Fail;
+
+/// A state that never changes: it takes in only what it is, and refuses all else without a look at memory.
+#[derive(Drop)]
+struct Constant {
+    value: u8,
+}
+
+/// What was given is another value.
+#[derive(Clone, Copy, Debug, PartialEq, Eq, Drop)]
+struct IsAnother;
+
+impl JoinState for Constant {
+    type Part = u8;
+
+    type Change = ();
+
+    type Fault = IsAnother;
+
+    ghost Content = { ℕ };
+
+    ghost content = { λ s. s.value };
+
+    ghost IsValid = { λ a. ⊤ };
+
+    ghost Below = { λ a b. a ≡ b };
+
+    ghost Joined = { λ a b c. (b ≡ a) × (c ≡ a) };
+
+    ghost Collides = { λ a b fault. a ≢ b };
+
+    ghost PartContent = { ℕ };
+
+    ghost part_content = { λ p. p };
+
+    ghost Covers = { λ a p. p ≡ a };
+
+    ghost Admits = { λ a p. p ≡ a };
+
+    ghost After = { λ a p b. (p ≡ a) × (b ≡ a) };
+
+    ghost IsFirstFault = { λ a p fault. p ≢ a };
+
+    ghost Tells = { λ old change new. ⊤ };
+
+    ghost IsWantOfMemory = { λ fault. ⊥ };
+
+    ghost ordered = { record { reflexive = λ a v. refl; transitive = λ a b c u v w p q. p ∙ q; antisymmetric = λ a b v w p q. p } };
+
+    ghost stays_covered = { λ a b p v w up c. c ∙ up };
+
+    ghost absorbed = { λ a b p v h. record { valid = tt; above = sym h.1; covers = (h.0 ∙ sym h.1, tt); least = λ other w up c. h.1 ∙ up } };
+
+    ghost after_is_admitted = { λ a b p v h. h.0 };
+
+    ghost faultless = { λ a p fault v m f. f m };
+
+    ghost covered_is_admitted = { λ a p v c. c };
+
+    ghost apart = { λ a b c fault v w j h. h (sym j.0) };
+
+    ghost collides_for_good = { λ a b c fault u v w p q h. h (p ∙ sym q) };
+
+    ghost memory_is_no_fault = { λ a p fault v w h. w };
+
+    ghost memory_is_no_collision = { λ a b fault u v w h. w };
+
+    ghost commutes = { λ a b c v w. (λ h. (sym h.0, h.1 ∙ sym h.0), λ h. (sym h.0, h.1 ∙ sym h.0)) };
+
+    ghost associates = { λ a b c abc u v w. (λ h. (b, (h.2.0 ∙ h.1.1 ∙ sym h.1.0, refl), (h.1.0, h.2.1 ∙ h.1.1)), λ h. (a, (sym h.1.1 ∙ h.2.0, refl), (h.1.0 ∙ sym h.1.1 ∙ h.2.0, h.2.1))) };
+
+    ghost idempotent = { λ a v. (refl, refl) };
+
+    ghost least = { λ a b c v w h. record { valid = tt; above_first = sym h.1; above_second = h.0 ∙ sym h.1; least = λ other x p q. h.1 ∙ p } };
+
+    ghost again = { λ a b p v c h. h.1 };
+
+    ghost swap = { λ a ap apq aq aqp p q v h1 h2 h3 h4. h2.1 ∙ h1.1 ∙ sym (h4.1 ∙ h3.1) };
+
+    fn copy(&self) -> Result<Constant, NoMemory> {
+        Ok(Constant { value: self.value })
+    }
+
+    fn absorb(&mut self, part: &u8) -> Result<(), IsAnother> {
+        if *part != self.value {
+            return Err(IsAnother);
+        }
+        Ok(())
+    }
+
+    fn join(&mut self, other: &Constant) -> Result<(), IsAnother> {
+        if other.value != self.value {
+            return Err(IsAnother);
+        }
+        Ok(())
+    }
+
+    fn below(&self, other: &Constant) -> Result<bool, NoMemory> {
+        Ok(self.value == other.value)
+    }
+}
 
 /// Absorbs two parts in either order, and tells whether the two states are below each other; `None` where memory ran
 /// out or a part was refused.
@@ -159,6 +260,47 @@ fn a_refused_half_changes_neither(rt: HostRuntime) {
             assert_eq!(rt; pair.second().get(200), None);
         }
     }
+}
+
+/// Two constants, side by side.
+fn constants(first: u8, second: u8) -> Both<Constant, Constant> {
+    Both::new(Constant { value: first }, Constant { value: second })
+}
+
+#[test]
+fn a_refused_part_tells_its_half(rt: HostRuntime) {
+    let mut pair = constants(1, 2);
+    assert_eq!(rt; pair.absorb(&(1, 2)).err(), None);
+    assert_eq!(rt;
+        pair.absorb(&(1, 3)).err(),
+        Some(BothFault::Second(IsAnother))
+    );
+    assert_eq!(rt;
+        pair.absorb(&(3, 2)).err(),
+        Some(BothFault::First(IsAnother))
+    );
+    assert_eq!(rt;
+        pair.absorb(&(3, 3)).err(),
+        Some(BothFault::First(IsAnother))
+    );
+}
+
+#[test]
+fn a_refused_join_tells_its_half(rt: HostRuntime) {
+    let mut pair = constants(1, 2);
+    assert_eq!(rt; pair.join(&constants(1, 2)).err(), None);
+    assert_eq!(rt;
+        pair.join(&constants(1, 3)).err(),
+        Some(BothFault::Second(IsAnother))
+    );
+    assert_eq!(rt;
+        pair.join(&constants(3, 2)).err(),
+        Some(BothFault::First(IsAnother))
+    );
+    assert_eq!(rt;
+        pair.join(&constants(3, 3)).err(),
+        Some(BothFault::First(IsAnother))
+    );
 }
 
 #[test]

@@ -3,6 +3,7 @@ use Rattle.std.proofs.Common.{◌≡◌, ℕ, zero, suc, ◌+◌, ◌*◌, ◌<�
 use Rattle.std.specs.Prelude.{◌⊎◌, ◌||◌, nat_le}
 use Rattle.std.specs.List.{list_any, list_all}
 use Rattle.std.specs.Int.{w32, from_be_bytes}
+use Rattle.std.specs.Result.{IsErrOf}
 use Rattle.std.proofs.lemmas.Bool.{cases_lt, lt-ltb, le-ltb, le-leb, false≢true}
 use Rattle.std.proofs.lemmas.List.{drop-drop, length-drop}
 use Rattle.hg_changeset.specs.declared.node.Node.{Node}
@@ -13,7 +14,7 @@ use Rattle.hg_marker.specs.declared.error.MarkerFault.TheVariants.{Truncated, Nu
 use Rattle.hg_marker.specs.Fields.{Fields}
 use Rattle.hg_marker.specs.Metadata.{metadata_at, has_colon, pieces, texts}
 use Rattle.hg_marker.specs.Grammar.{metadata_limit}
-use Rattle.hg_marker.specs.Reading.{Reader, Gives, and_then, ◌>>=◌, says, wants, yields, field, number, byte, node, nodes}
+use Rattle.hg_marker.specs.Reading.{Reader, Gives, IsRead, and_then, ◌>>=◌, says, wants, yields, field, number, byte, node, nodes, ids_in}
 use Rattle.hg_marker.specs.Faults.{marker_at, count_at, len_at, announced, successor_at, metadata_text_at, IsWhole, HasNullSuccessor, HasSuccessors, IsFault, IfFault, with_length, marker_and_length}
 use Rattle.hg_marker.specs.declared.error.ReadError.{ReadError}
 use Rattle.hg_marker.specs.declared.error.ReadError.TheVariants.{NoMemory, Fault}
@@ -72,26 +73,21 @@ byte_is d (b ∷ bytes) = rw (le-ltb (length (b ∷ bytes)) 1 (omega arith)) ref
 byte_fixed : {F : Type 0} (d : F) → IsFixed (byte d) d 1 (λ bytes. get_or bytes 0 0)
 byte_fixed d = record { is = byte_is d }
 
--- the bytes, cut into ids
-abbrev cut : ℕ → List ℕ → List Node
-cut zero bytes = []
-cut (suc n) bytes = record { 0 = take 20 bytes } ∷ cut n (drop 20 bytes)
-
-nodes_is : {F : Type 0} (d : F) (n : ℕ) (bytes : List ℕ) → nodes d n bytes ≡ cond (ltb (length bytes) (20 * n)) (Err d) (Ok (cut n bytes, drop (20 * n) bytes))
+pub nodes_is : {F : Type 0} (d : F) (n : ℕ) (bytes : List ℕ) → nodes d n bytes ≡ cond (ltb (length bytes) (20 * n)) (Err d) (Ok (ids_in n bytes, drop (20 * n) bytes))
 unfolding nodes
 nodes_is d zero bytes = rw (le-ltb (length bytes) 0 (omega arith)) refl
 nodes_is {F = F} d (suc n) bytes =
     let more : 20 * suc n ≡ 20 + 20 * n = omega arith in
     let first : Node = record { 0 = take 20 bytes } in
     let others = λ (ns : List Node). says {F = F} (first ∷ ns) in
-    let one : and_then (nodes d n (drop 20 bytes)) others ≡ cond (ltb (length (drop 20 bytes)) (20 * n)) (Err d) (Ok (first ∷ cut n (drop 20 bytes), drop (20 * n) (drop 20 bytes))) =
-    ap (λ r. and_then r others) (nodes_is d n (drop 20 bytes)) ∙ then_more (ltb (length (drop 20 bytes)) (20 * n)) d (cut n (drop 20 bytes), drop (20 * n) (drop 20 bytes)) others in
+    let one : and_then (nodes d n (drop 20 bytes)) others ≡ cond (ltb (length (drop 20 bytes)) (20 * n)) (Err d) (Ok (first ∷ ids_in n (drop 20 bytes), drop (20 * n) (drop 20 bytes))) =
+    ap (λ r. and_then r others) (nodes_is d n (drop 20 bytes)) ∙ then_more (ltb (length (drop 20 bytes)) (20 * n)) d (ids_in n (drop 20 bytes), drop (20 * n) (drop 20 bytes)) others in
     then_more (ltb (length bytes) 20) d (first, drop 20 bytes) (λ x. nodes d n >>= λ ns. says (x ∷ ns))
     ∙ ap (λ r. cond (ltb (length bytes) 20) (Err d) r) one
-    ∙ both_wanted d 20 (20 * n) bytes (Ok (first ∷ cut n (drop 20 bytes), drop (20 * n) (drop 20 bytes)))
+    ∙ both_wanted d 20 (20 * n) bytes (Ok (first ∷ ids_in n (drop 20 bytes), drop (20 * n) (drop 20 bytes)))
     ∙ rw (more, drop-drop (20 * n) 20 bytes) refl
 
-nodes_fixed : {F : Type 0} (d : F) (n : ℕ) → IsFixed (nodes d n) d (20 * n) (cut n)
+nodes_fixed : {F : Type 0} (d : F) (n : ℕ) → IsFixed (nodes d n) d (20 * n) (ids_in n)
 nodes_fixed d n = record { is = nodes_is d n }
 
 -- ---- a marker
@@ -106,7 +102,7 @@ marker_wide : IsWide marker_at Truncated
     (λ bytes. 1 + (4 + (1 + (20 + (20 * count_at bytes + (len_at bytes + 0))))))
     (λ bytes.
     let front = drop 20 (drop 1 (drop 4 (drop 1 bytes))) in
-    tests (len_at bytes) (get_or (drop 4 (drop 1 bytes)) 0 0) (record { 0 = take 20 (drop 1 (drop 4 (drop 1 bytes))) }) (cut (count_at bytes) front) (take (len_at bytes) (drop (20 * count_at bytes) front))
+    tests (len_at bytes) (get_or (drop 4 (drop 1 bytes)) 0 0) (record { 0 = take 20 (drop 1 (drop 4 (drop 1 bytes))) }) (ids_in (count_at bytes) front) (take (len_at bytes) (drop (20 * count_at bytes) front))
     (drop (len_at bytes) (drop (20 * count_at bytes) front)))
 unfolding marker_at
 marker_wide =
@@ -115,7 +111,7 @@ marker_wide =
 
 -- the successors that are there
 abbrev there : List ℕ → List Node
-there bytes = cut (count_at bytes) (drop 26 bytes)
+there bytes = ids_in (count_at bytes) (drop 26 bytes)
 
 -- what is read by places
 record ByPlace (bytes : List ℕ) : Type 0 where
@@ -137,8 +133,8 @@ by_place bytes =
       predecessor = predecessor;
       rest = rest;
       is = marker_wide.is bytes
-          ∙ ap (λ (w : ℕ). cond (ltb (length bytes) w) (Err Truncated) (tests (len_at bytes) flags predecessor (cut (count_at bytes) (drop 20 (drop 1 (drop 4 (drop 1 bytes))))) (take (len_at bytes) (drop (20 * count_at bytes) (drop 20 (drop 1 (drop 4 (drop 1 bytes)))))) (drop (len_at bytes) (drop (20 * count_at bytes) (drop 20 (drop 1 (drop 4 (drop 1 bytes)))))))) width
-          ∙ ap (λ (b : List ℕ). cond (ltb (length bytes) (announced bytes)) (Err Truncated) (tests (len_at bytes) flags predecessor (cut (count_at bytes) b) (take (len_at bytes) (drop (20 * count_at bytes) b)) (drop (len_at bytes) (drop (20 * count_at bytes) b)))) front
+          ∙ ap (λ (w : ℕ). cond (ltb (length bytes) w) (Err Truncated) (tests (len_at bytes) flags predecessor (ids_in (count_at bytes) (drop 20 (drop 1 (drop 4 (drop 1 bytes))))) (take (len_at bytes) (drop (20 * count_at bytes) (drop 20 (drop 1 (drop 4 (drop 1 bytes)))))) (drop (len_at bytes) (drop (20 * count_at bytes) (drop 20 (drop 1 (drop 4 (drop 1 bytes)))))))) width
+          ∙ ap (λ (b : List ℕ). cond (ltb (length bytes) (announced bytes)) (Err Truncated) (tests (len_at bytes) flags predecessor (ids_in (count_at bytes) b) (take (len_at bytes) (drop (20 * count_at bytes) b)) (drop (len_at bytes) (drop (20 * count_at bytes) b)))) front
           ∙ ap (λ (b : List ℕ). cond (ltb (length bytes) (announced bytes)) (Err Truncated) (tests (len_at bytes) flags predecessor (there bytes) (take (len_at bytes) b) (drop (len_at bytes) b))) text;
     }
 
@@ -162,14 +158,14 @@ or_right : (a b : Bool) → b ≡ true → (a || b) ≡ true
 or_right true b h = refl
 or_right false b h = h
 
-null_among : (n : ℕ) (bytes : List ℕ) → list_any (node_eq null_node) (cut n bytes) ≡ true → (k : ℕ) × (k < n) × (id_at bytes k ≡ null_node)
+null_among : (n : ℕ) (bytes : List ℕ) → list_any (node_eq null_node) (ids_in n bytes) ≡ true → (k : ℕ) × (k < n) × (id_at bytes k ≡ null_node)
 null_among zero bytes h = absurd cc
-null_among (suc n) bytes h = elim (or_true (node_eq null_node (id_at bytes 0)) (list_any (node_eq null_node) (cut n (drop 20 bytes))) h) [
+null_among (suc n) bytes h = elim (or_true (node_eq null_node (id_at bytes 0)) (list_any (node_eq null_node) (ids_in n (drop 20 bytes))) h) [
   | inl first ↦ (0, omega arith, sym (same_node null_node (id_at bytes 0) first))
   | inr other ↦ let found = null_among n (drop 20 bytes) other in (suc found.0, omega (arith, found.1), sym (next_id bytes found.0) ∙ found.2)
 ]
 
-null_found : (n : ℕ) (bytes : List ℕ) (k : ℕ) → k < n → id_at bytes k ≡ null_node → list_any (node_eq null_node) (cut n bytes) ≡ true
+null_found : (n : ℕ) (bytes : List ℕ) (k : ℕ) → k < n → id_at bytes k ≡ null_node → list_any (node_eq null_node) (ids_in n bytes) ≡ true
 null_found zero bytes k lt e = absurd (omega (arith, lt))
 null_found (suc n) bytes zero lt e = rw (node_itself null_node (id_at bytes 0) (sym e)) refl
 null_found (suc n) bytes (suc k) lt e = or_right (node_eq null_node (id_at bytes 0)) _ (null_found n (drop 20 bytes) k (omega arith) (next_id bytes k ∙ e))
@@ -282,3 +278,15 @@ fault_told bytes (Err (Fault f)) given = is_told bytes f (with_length_err bytes 
 
 pub fault_given : (bytes : List ℕ) (f : MarkerFault) → IsFault bytes f → marker_and_length bytes ≡ Err f
 fault_given bytes f h = ap (with_length bytes) (is_met bytes f h)
+
+-- where there is a fault it is told, since memory can be wanting only for what is read
+pub told_first : {X : Type 0} (view : X → Fields × ℕ) (bytes : List ℕ) (r : Result X (ReadError MarkerFault)) (f : MarkerFault) → Gives view r (marker_and_length bytes) → IsFault bytes f → IsErrOf r (Fault f)
+told_first view bytes (Ok x) f given h = absurd (no_ok (sym given ∙ fault_given bytes f h))
+  where
+    no_ok : ◌≡◌ {A = Result (Fields × ℕ) MarkerFault} (Ok (view x)) (Err f) → ⊥
+    no_ok e = cc
+told_first view bytes (Err NoMemory) f given h = absurd (subst (λ (r : Result (Fields × ℕ) MarkerFault). IsRead r) (fault_given bytes f h) given)
+told_first view bytes (Err (Fault g)) f given h = ap (λ (k : MarkerFault). Err (Fault k)) (same_one (sym given ∙ fault_given bytes f h))
+  where
+    same_one : ◌≡◌ {A = Result (Fields × ℕ) MarkerFault} (Err g) (Err f) → g ≡ f
+    same_one e = cc

@@ -4,7 +4,7 @@ pub mod ReadLemmas
 pub mod WrittenLemmas
 pub mod PiecesLemmas
 pub mod NumberLemmas
-pub mod NodesLemmas
 pub mod Formats
 pub mod MarkerLemmas
 pub mod FaultLemmas
+pub mod NodesLemmas

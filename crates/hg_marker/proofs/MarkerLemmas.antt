@@ -54,7 +54,7 @@ metadata_takes text m e = let g = found (list_all has_colon (pieces text)) BadMe
     found true d x y e = (refl, cc)
     found false d x y e = absurd cc
 
-metadata_again : (text : List ℕ) (m : Texts) → IsMetadata m text → metadata_at text ≡ Ok m
+pub metadata_again : (text : List ℕ) (m : Texts) → IsMetadata m text → metadata_at text ≡ Ok m
 unfolding metadata_at
 metadata_again text m s = rw (s.colons, ← s.texts) refl
 

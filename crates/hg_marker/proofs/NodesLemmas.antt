@@ -1,39 +1,98 @@
 -- Node ids, one after another.
-use Rattle.std.proofs.Common.{◌≡◌, ℕ, suc, ◌-◌, ◌+◌, ◌≤◌, ◌<◌, List, [], ◌∷◌, ◌++◌, Result, Ok, Err, refl, sym, ap, ◌∙◌, append_assoc, arith}
-use Rattle.std.proofs.lemmas.List.{append-nil}
+use Rattle.std.proofs.Common.{◌≡◌, ℕ, zero, suc, ◌-◌, ◌+◌, ◌*◌, ◌≤◌, ◌<◌, Bool, true, false, cond, ltb, List, [], ◌∷◌, ◌++◌, length, take, drop, Result, Ok, Err, refl, ap, ◌∙◌, sym, arith, append_assoc}
+use Rattle.std.specs.Prelude.{◌||◌}
+use Rattle.std.specs.List.{list_any}
+use Rattle.std.specs.Result.{IfOk}
+use Rattle.std.proofs.lemmas.Bool.{ltb-false}
+use Rattle.std.proofs.lemmas.List.{take-take, drop-take, length-take, length-drop, append-nil}
 use Rattle.hg_changeset.specs.declared.node.Node.{Node}
-use Rattle.hg_marker.specs.declared.error.ReadError.{ReadError}
-use Rattle.hg_marker.specs.declared.error.ReadError.TheVariants.{NoMemory, Fault}
-use Rattle.hg_marker.specs.Reading.{and_then, says, Fails, node, nodes}
+use Rattle.hg_changeset.specs.Node.{null_node, node_eq}
+use Rattle.hg_marker.specs.Reading.{IsReading, and_then, says, field, nodes, ids_in}
+use Rattle.hg_marker.proofs.FaultLemmas.{nodes_is}
 
--- what was read before, and what is still read
-abbrev pub with_front : {F A : Type 0} → List A → Result (List A × List ℕ) F → Result (List A × List ℕ) F
-with_front front read = and_then read (λ xs. says (front ++ xs))
+-- ---- the ids that are left
 
-pub regroup : {F A : Type 0} (front : List A) (x : A) (read : Result (List A × List ℕ) F) → with_front front (and_then read (λ xs. says (x ∷ xs))) ≡ with_front (front ++ x ∷ []) read
-regroup front x (Ok y) = ap (λ xs. Ok (xs, y.1)) (sym (append_assoc front (x ∷ []) y.0))
-regroup front x (Err f) = refl
-
-pub goes_on : {F : Type 0} (short : F) (front : List Node) (count i : ℕ) (bytes : List ℕ) (n : Node) (after : List ℕ) (total : Result (List Node × List ℕ) F) → i < count → node short bytes ≡ Ok (n, after)
-    → with_front front (nodes short (count - i) bytes) ≡ total → with_front (front ++ n ∷ []) (nodes short (count - (i + 1)) after) ≡ total
-unfolding nodes
-goes_on short front count i bytes n after total lt h so_far =
+-- the first of them, and the others
+pub first_left : (count i : ℕ) (bytes : List ℕ) → i < count → ids_in (count - i) bytes ≡ record { 0 = take 20 bytes } ∷ ids_in (count - (i + 1)) (drop 20 bytes)
+first_left count i bytes lt =
     let k : count - i ≡ suc (count - (i + 1)) = omega arith in
-    let one : with_front front (nodes short (count - i) bytes) ≡ with_front (front ++ n ∷ []) (nodes short (count - (i + 1)) after) = rw (k, h) (regroup front n (nodes short (count - (i + 1)) after)) in
-    sym one ∙ so_far
+    rw k refl
 
-pub ends : {F : Type 0} (e : ReadError F) (short : F) (front : List Node) (count i : ℕ) (bytes : List ℕ) (total : Result (List Node × List ℕ) F) → i < count → Fails e (node short bytes)
-    → with_front front (nodes short (count - i) bytes) ≡ total → Fails e total
-unfolding nodes
-ends NoMemory short front count i bytes total lt h so_far = tt
-ends (Fault f) short front count i bytes total lt h so_far =
-    let k : count - i ≡ suc (count - (i + 1)) = omega arith in
-    let one : with_front front (nodes short (count - i) bytes) ≡ Err f = rw (k, h) refl in
-    sym so_far ∙ one
-
-pub is_done : {F : Type 0} (short : F) (front : List Node) (count i : ℕ) (bytes : List ℕ) (total : Result (List Node × List ℕ) F) → count ≤ i → with_front front (nodes short (count - i) bytes) ≡ total → total ≡ Ok (front, bytes)
-unfolding nodes
-is_done short front count i bytes total le so_far =
+pub none_left : (count i : ℕ) (bytes : List ℕ) → count ≤ i → ids_in (count - i) bytes ≡ []
+none_left count i bytes le =
     let k : count - i ≡ 0 = omega arith in
-    let one : with_front front (nodes short (count - i) bytes) ≡ Ok (front, bytes) = rw k (ap (λ (ns : List Node). Ok (ns, bytes)) (append-nil front)) in
-    sym so_far ∙ one
+    rw k refl
+
+-- ---- the null id among them
+
+pub null_found : (count i : ℕ) (bytes rest after : List ℕ) (id : Node) → i < count → id ≡ record { 0 = take 20 rest } → node_eq null_node id ≡ true
+    → list_any (node_eq null_node) (ids_in (count - i) rest) ≡ list_any (node_eq null_node) (ids_in count bytes) → true ≡ list_any (node_eq null_node) (ids_in count bytes)
+null_found count i bytes rest after id lt is null so_far =
+    let first : node_eq null_node (record { 0 = take 20 rest }) ≡ true = ap (node_eq null_node) (sym is) ∙ null in
+    let now : list_any (node_eq null_node) (ids_in (count - i) rest) ≡ true = ap (list_any (node_eq null_node)) (first_left count i rest lt) ∙ ap (λ (b : Bool). b || list_any (node_eq null_node) (ids_in (count - (i + 1)) (drop 20 rest))) first in
+    sym now ∙ so_far
+
+pub null_goes_on : (count i : ℕ) (bytes rest after : List ℕ) (id : Node) → i < count → id ≡ record { 0 = take 20 rest } → after ≡ drop 20 rest → node_eq null_node id ≡ false
+    → list_any (node_eq null_node) (ids_in (count - i) rest) ≡ list_any (node_eq null_node) (ids_in count bytes) → list_any (node_eq null_node) (ids_in (count - (i + 1)) after) ≡ list_any (node_eq null_node) (ids_in count bytes)
+null_goes_on count i bytes rest after id lt is after_is other so_far =
+    let first : node_eq null_node (record { 0 = take 20 rest }) ≡ false = ap (node_eq null_node) (sym is) ∙ other in
+    let now : list_any (node_eq null_node) (ids_in (count - i) rest) ≡ list_any (node_eq null_node) (ids_in (count - (i + 1)) (drop 20 rest)) =
+    ap (list_any (node_eq null_node)) (first_left count i rest lt) ∙ ap (λ (b : Bool). b || list_any (node_eq null_node) (ids_in (count - (i + 1)) (drop 20 rest))) first in
+    ap (λ (b : List ℕ). list_any (node_eq null_node) (ids_in (count - (i + 1)) b)) after_is ∙ sym now ∙ so_far
+
+pub null_nowhere : (count i : ℕ) (bytes rest : List ℕ) → count ≤ i → list_any (node_eq null_node) (ids_in (count - i) rest) ≡ list_any (node_eq null_node) (ids_in count bytes) → false ≡ list_any (node_eq null_node) (ids_in count bytes)
+null_nowhere count i bytes rest le so_far = sym (ap (list_any (node_eq null_node)) (none_left count i rest le)) ∙ so_far
+
+-- ---- copied one by one
+
+pub copy_goes_on : (count i : ℕ) (bytes rest after : List ℕ) (front : List Node) (id : Node) → i < count → id ≡ record { 0 = take 20 rest } → after ≡ drop 20 rest
+    → front ++ ids_in (count - i) rest ≡ ids_in count bytes → (front ++ id ∷ []) ++ ids_in (count - (i + 1)) after ≡ ids_in count bytes
+copy_goes_on count i bytes rest after front id lt is after_is so_far =
+    append_assoc front (id ∷ []) (ids_in (count - (i + 1)) after)
+    ∙ ap (λ (n : Node). front ++ n ∷ ids_in (count - (i + 1)) after) is
+    ∙ ap (λ (b : List ℕ). front ++ record { 0 = take 20 rest } ∷ ids_in (count - (i + 1)) b) after_is
+    ∙ ap (λ (ns : List Node). front ++ ns) (sym (first_left count i rest lt))
+    ∙ so_far
+
+pub copied : (count i : ℕ) (bytes rest : List ℕ) (front : List Node) → count ≤ i → front ++ ids_in (count - i) rest ≡ ids_in count bytes → front ≡ ids_in count bytes
+copied count i bytes rest front le so_far = sym (append-nil front) ∙ ap (λ (ns : List Node). front ++ ns) (sym (none_left count i rest le)) ∙ so_far
+
+pub room_left : (count i : ℕ) (rest after : List ℕ) → i < count → after ≡ drop 20 rest → 20 * (count - i) ≤ length rest → 20 * (count - (i + 1)) ≤ length after
+room_left count i rest after lt after_is room = omega (arith, room, lt, length-drop 20 rest, ap length after_is)
+
+-- ---- as a field
+
+-- bytes behind the ids say nothing of them
+ids_front : (n : ℕ) (bytes : List ℕ) → ids_in n (take (20 * n) bytes) ≡ ids_in n bytes
+ids_front zero bytes = refl
+ids_front (suc n) bytes =
+    let more : 20 * suc n ≡ 20 + 20 * n = omega arith in
+    let first : take 20 (take (20 * suc n) bytes) ≡ take 20 bytes = take-take 20 (20 * suc n) bytes (omega arith) in
+    let others : drop 20 (take (20 * suc n) bytes) ≡ take (20 * n) (drop 20 bytes) = ap (λ (k : ℕ). drop 20 (take k bytes)) more ∙ drop-take 20 (20 * n) bytes in
+    let later : ids_in n (drop 20 (take (20 * suc n) bytes)) ≡ ids_in n (drop 20 bytes) = ap (ids_in n) others ∙ ids_front n (drop 20 bytes) in
+    λ i. record { 0 = first i } ∷ later i
+
+ids_read : {F : Type 0} (short : F) (n : ℕ) (bytes : List ℕ) → nodes short n bytes ≡ and_then (field short (20 * n) bytes) (λ ids. says (ids_in n ids))
+ids_read short n bytes =
+    nodes_is short n bytes
+    ∙ elim (ltb (length bytes) (20 * n)) as (λ b. cond b (Err short) (Ok (ids_in n bytes, drop (20 * n) bytes)) ≡ and_then (cond b (Err short) (Ok (take (20 * n) bytes, drop (20 * n) bytes))) (λ ids. says (ids_in n ids))) [
+      | true ↦ refl
+      | false ↦ ap (λ (ns : List Node). Ok (ns, drop (20 * n) bytes)) (sym (ids_front n bytes))
+    ]
+
+module _ {F X : Type 0} (short : F) (n : ℕ) (bytes : List ℕ) (view : X → List ℕ × List ℕ) where
+  pub as_ids : (r : Result X F) → IsReading view r (field short (20 * n) bytes) → IsReading (λ x. (ids_in n (view x).0, (view x).1)) r (nodes short n bytes)
+  as_ids (Ok x) e = ids_read short n bytes ∙ ap (λ (r : Result (List ℕ × List ℕ) F). and_then r (λ ids. says (ids_in n ids))) e
+  as_ids (Err f) e = ids_read short n bytes ∙ ap (λ (r : Result (List ℕ × List ℕ) F). and_then r (λ ids. says (ids_in n ids))) e
+
+  pub as_long : (r : Result X F) → IsReading view r (field short (20 * n) bytes) → IfOk r (λ x. length (view x).0 ≡ 20 * n)
+  as_long (Err f) e = tt
+  as_long (Ok x) e = ap length (sym (taken (ltb (length bytes) (20 * n)) refl e)) ∙ omega (arith, length-take (20 * n) bytes, ltb-false (length bytes) (20 * n) (enough (ltb (length bytes) (20 * n)) refl e))
+    where
+      enough : (b : Bool) → ltb (length bytes) (20 * n) ≡ b → ◌≡◌ {A = Result (List ℕ × List ℕ) F} (cond b (Err short) (Ok (take (20 * n) bytes, drop (20 * n) bytes))) (Ok (view x)) → ltb (length bytes) (20 * n) ≡ false
+      enough true is e = absurd cc
+      enough false is e = is
+
+      taken : (b : Bool) → ltb (length bytes) (20 * n) ≡ b → ◌≡◌ {A = Result (List ℕ × List ℕ) F} (cond b (Err short) (Ok (take (20 * n) bytes, drop (20 * n) bytes))) (Ok (view x)) → take (20 * n) bytes ≡ (view x).0
+      taken true is e = absurd cc
+      taken false is e = cc

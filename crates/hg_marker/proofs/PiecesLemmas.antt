@@ -1,19 +1,18 @@
 -- Pieces of metadata, one after another.
-use Rattle.std.proofs.Common.{◌≡◌, ℕ, ◌+◌, ◌<◌, ◌≤◌, Bool, true, false, cond, not, eqb, List, [], ◌∷◌, ◌++◌, length, take, drop, map, reverse, Some, None, Ok, Err, refl, sym, ap, ◌∙◌, arith, append_assoc}
-use Rattle.std.specs.Prelude.{position}
+use Rattle.std.proofs.Common.{◌≡◌, ℕ, ◌+◌, ◌<◌, ◌≤◌, Bool, true, false, cond, not, eqb, List, [], ◌∷◌, ◌++◌, length, take, drop, map, reverse, Some, None, refl, sym, ap, ◌∙◌, arith, append_assoc}
+use Rattle.std.specs.Prelude.{position, ◌&&◌}
 use Rattle.std.specs.List.{list_all, position_or_len, slice_split, before_first, after_first}
 use Rattle.std.proofs.lemmas.List.Splits.{slice_split_first, slice_split_none}
 use Rattle.std.proofs.lemmas.Bool.{ltb-false}
-use Rattle.std.proofs.lemmas.List.{map-append, reverse-append, append-nil, nil_from_length}
+use Rattle.std.proofs.lemmas.List.{map-append, reverse-append, append-nil, nil_from_length, take_all, length-drop}
 use Rattle.std.proofs.lemmas.List.Elements.{filter-append}
 use Rattle.std.proofs.lemmas.List.Folds.{list_all-append, list_any_none, list_any_at}
 use Rattle.std.proofs.lemmas.List.Sums.{fails_before_first}
 use Rattle.std.proofs.lemmas.List.Quantifiers.{position-Some}
 use Rattle.std.proofs.lemmas.Option.{cond_some}
 use Rattle.std.specs.FinMap.{from_entries, insert, empty}
-use Rattle.hg_marker.specs.declared.error.MarkerFault.TheVariants.{BadMetadata}
 use Rattle.hg_marker.specs.Texts.{Texts, bytes_cmp}
-use Rattle.hg_marker.specs.Metadata.{is_nul, is_colon, nonempty, has_colon, entry, texts, pieces, metadata_at}
+use Rattle.hg_marker.specs.Metadata.{is_nul, is_colon, nonempty, has_colon, entry, texts, pieces}
 
 -- ---- the first piece
 
@@ -47,20 +46,14 @@ last_piece bytes e =
 
 -- ---- the walk over the pieces
 
--- the pieces before the rest have colons, and say the metadata
+-- the pieces before the rest say the metadata
 pub record ReadsSoFar (bytes rest : List ℕ) (m : Texts) : Type 0 where
   pub done : List (List ℕ)
   pub parts : pieces bytes ≡ done ++ pieces rest
-  pub colons : list_all has_colon done ≡ true
   pub texts : m ≡ texts done
 
 pub starts : (bytes : List ℕ) → ReadsSoFar bytes bytes empty
-starts bytes = record { done = []; parts = refl; colons = refl; texts = refl }
-
-no_colon : (p : List ℕ) → position is_colon p ≡ None → has_colon p ≡ false
-no_colon p e =
-    let past = past_all is_colon p e in
-    list_any_none is_colon p (λ k d lt. fails_before_first is_colon p k d (omega arith))
+starts bytes = record { done = []; parts = refl; texts = refl }
 
 texts_push : (qs : List (List ℕ)) (p : List ℕ) → texts (qs ++ p ∷ []) ≡ insert (texts qs) (entry p).0 (entry p).1
 texts_push qs p = ap (λ (es : List (List ℕ × List ℕ)). from_entries {R = bytes_cmp} es) (ap reverse (map-append entry qs (p ∷ [])) ∙ reverse-append (map entry qs) (entry p ∷ []))
@@ -70,7 +63,6 @@ pub skips : (bytes rest p after : List ℕ) (m : Texts) → length p ≡ 0 → p
 skips bytes rest p after m none split h = record {
   done = h.done;
   parts = h.parts ∙ ap (λ (ps : List (List ℕ)). h.done ++ ps) (split ∙ ap (λ (n : ℕ). cond (not (eqb n 0)) (p ∷ []) [] ++ pieces after) none);
-  colons = h.colons;
   texts = h.texts;
 }
 
@@ -79,34 +71,54 @@ next : (bytes rest p after : List ℕ) (m : Texts) → eqb (length p) 0 ≡ fals
 next bytes rest p after m some split h =
     h.parts ∙ ap (λ (ps : List (List ℕ)). h.done ++ ps) (split ∙ ap (λ (b : Bool). cond (not b) (p ∷ []) [] ++ pieces after) some)
 
-pub keeps : (bytes rest p after : List ℕ) (i : ℕ) (m : Texts) → position is_colon p ≡ Some i → pieces rest ≡ nonempty (p ∷ []) ++ pieces after → ReadsSoFar bytes rest m
-    → ReadsSoFar bytes after (insert m (take i p) (drop (i + 1) p))
-keeps bytes rest p after i m e split h =
-    let at = position-Some is_colon p i 0 e in
-    let lt : i < length p = at.0 in
-    let some : eqb (length p) 0 ≡ false = grind arith in
-    let has : has_colon p ≡ true = list_any_at is_colon p i 0 at.0 at.1 in
-    record {
-      done = h.done ++ p ∷ [];
-      parts = next bytes rest p after m some split h ∙ sym (append_assoc h.done (p ∷ []) (pieces after));
-      colons = list_all-append has_colon h.done (p ∷ []) ∙ rw (h.colons, has) refl;
-      texts = rw (texts_push h.done p, at_place is_colon p i e, ← h.texts) refl;
-    }
+pub keeps : (bytes rest p after : List ℕ) (m : Texts) (key value : List ℕ) → eqb (length p) 0 ≡ false → (key, value) ≡ entry p → pieces rest ≡ nonempty (p ∷ []) ++ pieces after → ReadsSoFar bytes rest m
+    → ReadsSoFar bytes after (insert m key value)
+keeps bytes rest p after m key value some is split h = record {
+  done = h.done ++ p ∷ [];
+  parts = next bytes rest p after m some split h ∙ sym (append_assoc h.done (p ∷ []) (pieces after));
+  texts = ap (λ (e : List ℕ × List ℕ). insert m e.0 e.1) is ∙ ap (λ (n : Texts). insert n (entry p).0 (entry p).1) h.texts ∙ sym (texts_push h.done p);
+}
 
-pub keeps_as : (bytes rest p after : List ℕ) (i : ℕ) (m : Texts) (key value : List ℕ) → key ≡ take i p → value ≡ drop (i + 1) p → position is_colon p ≡ Some i
-    → pieces rest ≡ nonempty (p ∷ []) ++ pieces after → ReadsSoFar bytes rest m → ReadsSoFar bytes after (insert m key value)
-keeps_as bytes rest p after i m key value k v e split h = rw (k, v) (keeps bytes rest p after i m e split h)
-
-pub refuses : (bytes rest p after : List ℕ) (m : Texts) → eqb (length p) 0 ≡ false → position is_colon p ≡ None → pieces rest ≡ nonempty (p ∷ []) ++ pieces after → ReadsSoFar bytes rest m → metadata_at bytes ≡ Err BadMetadata
-unfolding metadata_at
-refuses bytes rest p after m some none split h =
-    let bad : list_all has_colon (pieces bytes) ≡ false =
-    ap (list_all has_colon) (next bytes rest p after m some split h) ∙ list_all-append has_colon h.done (p ∷ pieces after) ∙ rw (h.colons, no_colon p none) refl in
-    rw bad refl
-
-pub is_read : (bytes rest : List ℕ) (m : Texts) → length rest ≡ 0 → ReadsSoFar bytes rest m → metadata_at bytes ≡ Ok m
-unfolding metadata_at
+pub is_read : (bytes rest : List ℕ) (m : Texts) → length rest ≡ 0 → ReadsSoFar bytes rest m → m ≡ texts (pieces bytes)
 is_read bytes rest m none h =
     let nothing : pieces rest ≡ [] = ap pieces (nil_from_length rest none) in
     let all : pieces bytes ≡ h.done = h.parts ∙ ap (λ (ps : List (List ℕ)). h.done ++ ps) nothing ∙ append-nil h.done in
-    rw (all, h.colons, ← h.texts) refl
+    h.texts ∙ ap texts (sym all)
+
+-- ---- one piece
+
+pub split_there : (p : List ℕ) (i : ℕ) → position is_colon p ≡ Some i → (take i p, drop (i + 1) p) ≡ entry p
+split_there p i e = ap (λ (n : ℕ). (take n p, drop (n + 1) p)) (sym (at_place is_colon p i e))
+
+pub split_nowhere : (p : List ℕ) → position is_colon p ≡ None → (p, []) ≡ entry p
+split_nowhere p e =
+    let past = past_all is_colon p e in
+    let front : take (position_or_len is_colon p) p ≡ p = take_all (position_or_len is_colon p) p past in
+    let back : drop (position_or_len is_colon p + 1) p ≡ [] = nil_from_length _ (omega (arith, past, length-drop (position_or_len is_colon p + 1) p)) in
+    λ i. (sym front i, sym back i)
+
+-- ---- colons
+
+lacks_none : (p : List ℕ) → position is_colon p ≡ None → has_colon p ≡ false
+lacks_none p e =
+    let past = past_all is_colon p e in
+    list_any_none is_colon p (λ k d lt. fails_before_first is_colon p k d (omega arith))
+
+has_some : (p : List ℕ) (i : ℕ) → position is_colon p ≡ Some i → has_colon p ≡ true
+has_some p i e = let at = position-Some is_colon p i 0 e in list_any_at is_colon p i 0 at.0 at.1
+
+pub with_colon : (p : List ℕ) (i : ℕ) → position is_colon p ≡ Some i → list_all has_colon (nonempty (p ∷ [])) ≡ true
+with_colon p i e = elim (eqb (length p) 0) as (λ b. list_all has_colon (cond (not b) (p ∷ []) []) ≡ true) [
+  | true ↦ refl
+  | false ↦ rw (has_some p i e) refl
+]
+
+pub without_colon : (p : List ℕ) → position is_colon p ≡ None → list_all has_colon (nonempty (p ∷ [])) ≡ eqb (length p) 0
+without_colon p e = elim (eqb (length p) 0) as (λ b. list_all has_colon (cond (not b) (p ∷ []) []) ≡ b) [
+  | true ↦ refl
+  | false ↦ rw (lacks_none p e) refl
+]
+
+-- the pieces have colons as far as this one has and those after it have
+pub colons_split : (rest p after : List ℕ) → pieces rest ≡ nonempty (p ∷ []) ++ pieces after → list_all has_colon (pieces rest) ≡ (list_all has_colon (nonempty (p ∷ [])) && list_all has_colon (pieces after))
+colons_split rest p after split = ap (list_all has_colon) split ∙ list_all-append has_colon (nonempty (p ∷ [])) (pieces after)

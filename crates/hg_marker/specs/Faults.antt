@@ -29,6 +29,15 @@ marker_at = do
   metadata ← yields (metadata_at text)
   says (record { predecessor = predecessor; successors = successors; flags = flags; metadata = metadata })
 
+-- what was left
+abbrev pub left : {A F : Type 0} → Result (A × List ℕ) F → Result (List ℕ) F
+left (Ok x) = Ok x.1
+left (Err e) = Err e
+
+-- the bytes after the marker at the front
+abbrev pub after_marker : List ℕ → Result (List ℕ) MarkerFault
+after_marker bytes = left (marker_at bytes)
+
 -- what was read, with the number of bytes that it took
 abbrev pub with_length : List ℕ → Result (Fields × List ℕ) MarkerFault → Result (Fields × ℕ) MarkerFault
 with_length bytes (Ok x) = Ok (x.0, length bytes - length x.1)

@@ -9,3 +9,4 @@ pub mod Metadata
 pub mod Grammar
 pub mod Making
 pub mod Faults
+pub mod Laid

@@ -6,10 +6,20 @@ use Rattle.hg_changeset.specs.declared.node.Node.{Node}
 use Rattle.hg_marker.specs.declared.error.ReadError.{ReadError}
 use Rattle.hg_marker.specs.declared.error.ReadError.TheVariants.{NoMemory, Fault}
 
--- Reading meets this fault; want of memory says nothing of it.
+-- Something is read, and no fault is met.
+abbrev pub IsRead : {Y F : Type 0} → Result Y F → Type 0
+IsRead (Ok y) = Unit {0}
+IsRead (Err f) = ⊥
+
+-- Reading meets this fault. Memory can be wanting only for what is read, so it never stands for a fault.
 abbrev pub Fails : {Y F : Type 0} → ReadError F → Result Y F → Type 0
-Fails NoMemory read = Unit {0}
+Fails NoMemory read = IsRead read
 Fails (Fault f) read = read ≡ Err f
+
+-- What a function returned that takes no memory, seen by view, is what reading gives.
+abbrev pub IsReading : {X Y F : Type 0} → (X → Y) → Result X F → Result Y F → Type 0
+IsReading view (Ok x) read = read ≡ Ok (view x)
+IsReading view (Err f) read = read ≡ Err f
 
 -- What a function returned, seen by view, is what reading gives, unless memory ran out.
 abbrev pub Gives : {X Y F : Type 0} → (X → Y) → Result X (ReadError F) → Result Y F → Type 0
@@ -65,3 +75,8 @@ nodes short (suc n) = do
   first ← node short
   others ← nodes short n
   says (first ∷ others)
+
+-- the ids that are spelled by twenty bytes each, so many of them
+abbrev pub ids_in : ℕ → List ℕ → List Node
+ids_in zero bytes = []
+ids_in (suc n) bytes = record { 0 = take 20 bytes } ∷ ids_in n (drop 20 bytes)

@@ -3,17 +3,21 @@
 //! A marker is a head of six bytes, the ids of its predecessor and successors, and its metadata. Written it has one
 //! spelling. Metadata may be spelled in further ways, which are read, so that equal markers may come from different
 //! bytes.
-ghost use Rattle.std.specs.Prelude.{◌≡◌, ◌≤◌, ◌++◌, List, ℕ, length, take, IfOk, OnOk, Ok, Err};
+ghost use Rattle.std.specs.Prelude.{◌≡◌, ◌≤◌, ◌++◌, ◌*◌, List, ℕ, length, take, IfOk, OnOk, IsErrOf, Ok};
 ghost use Rattle.hg_marker.specs.declared.error.MarkerFault.{MarkerFault};
+ghost use Rattle.hg_marker.specs.declared.error.ReadError.TheVariants.{Fault};
 ghost use Rattle.hg_marker.specs.Fields.{Fields};
-ghost use Rattle.hg_marker.specs.Reading.{Gives};
+ghost use Rattle.hg_marker.specs.Reading.{Gives, IsReading};
+ghost use Rattle.hg_marker.specs.Laid.{fields_of};
 ghost use Rattle.hg_marker.specs.Grammar.{IsSpelling, IsMarker, spelling, ids};
-ghost use Rattle.hg_marker.specs.Faults.{marker_at, marker_and_length, IsFault, IfFault};
+ghost use Rattle.hg_marker.specs.Faults.{marker_at, after_marker, marker_and_length, IsFault, IfFault};
 
 use crate::error::{MarkerFault, ReadError};
-use crate::marker::{METADATA_LIMIT, Marker, has_null};
-use crate::pieces::read_metadata;
-use crate::reading::{read_byte, read_field, read_node, read_nodes, read_number, write_number};
+use crate::marker::{METADATA_LIMIT, Marker};
+use crate::pieces::{have_colons, read_metadata};
+use crate::reading::{
+    copy_ids, holds_null, read_byte, read_field, read_ids, read_node, read_number, write_number,
+};
 use hg_changeset::Node;
 use std::alloc::{AllocError, Global};
 
@@ -50,28 +54,83 @@ fn write_ids(out: &mut Vec<u8>, nodes: &[Node]) -> Result<(), AllocError>
     Ok(())
 }
 
-/// Reads the marker at the front of the bytes, and answers it with the bytes after it.
-#[tactic(auto, unfolding(crate::specs::Faults::marker_at))]
-pub fn read_marker(alloc: Global, bytes: &[u8]) -> Result<(Marker, &[u8]), ReadError<MarkerFault>>
-    ensures { Gives (λ x. (x.0, x.1.now)) result (marker_at bytes.now) }
+/// The fields of a marker where they stand in bytes, whole and without fault. Nothing is copied yet.
+#[derive(Clone, Copy)]
+struct FieldBytes<'a> {
+    predecessor: Node,
+    count: u8,
+    ids: &'a [u8],
+    flags: u8,
+    metadata: &'a [u8],
+}
+
+impl<'a> FieldBytes<'a> {
+    // The marker of the fields.
+    fn to_marker(&self, alloc: Global) -> Result<Marker, AllocError>
+        requires ids { 20 * self.now.count ≤ length self.now.ids.now }
+        requires marker { IsMarker (fields_of self.now) }
+        ensures { IfOk result (λ marker. marker ≡ fields_of self.now) }
+    {
+        let successors = copy_ids(alloc, self.ids, self.count)?;
+        let metadata = read_metadata(alloc, self.metadata)?;
+        Ok(Marker::of_fields(self.predecessor, successors, self.flags, metadata))
+    }
+}
+
+// The fields of the marker at the front of the bytes, and the bytes after it. It takes no memory.
+#[tactic(auto, unfolding(crate::specs::Faults::marker_at, crate::specs::Metadata::metadata_at))]
+fn split_marker(bytes: &[u8]) -> Result<(FieldBytes<'_>, &[u8]), MarkerFault>
+    ensures exact { IsReading (λ x. (fields_of x.0, x.1.now)) result (marker_at bytes.now) }
+    ensures ids { IfOk result (λ x. 20 * x.0.count ≤ length x.0.ids.now) }
+    ensures marker { IfOk result (λ x. IsMarker (fields_of x.0)) }
 {
     let (count, rest) = read_byte(bytes, MarkerFault::Truncated)?;
     let (len, rest) = read_number(rest, MarkerFault::Truncated)?;
     let (flags, rest) = read_byte(rest, MarkerFault::Truncated)?;
     let (predecessor, rest) = read_node(rest, MarkerFault::Truncated)?;
-    let (successors, rest) = read_nodes(alloc, rest, count, MarkerFault::Truncated)?;
-    let (text, rest) = read_field(rest, len as usize, MarkerFault::Truncated)?;
-    if has_null(&successors) {
-        return Err(ReadError::Fault(MarkerFault::NullSuccessor));
+    let (ids, rest) = read_ids(rest, count, MarkerFault::Truncated)?;
+    let (metadata, rest) = read_field(rest, len as usize, MarkerFault::Truncated)?;
+    if holds_null(ids, count) {
+        return Err(MarkerFault::NullSuccessor);
     }
-    if len > METADATA_LIMIT {
-        return Err(ReadError::Fault(MarkerFault::BadMetadata));
+    if len > METADATA_LIMIT || !have_colons(metadata) {
+        return Err(MarkerFault::BadMetadata);
     }
-    let metadata = read_metadata(alloc, text)?;
     Ok((
-        Marker::of_fields(predecessor, successors, flags, metadata),
+        FieldBytes {
+            predecessor,
+            count,
+            ids,
+            flags,
+            metadata,
+        },
         rest,
     ))
+}
+
+/// The bytes after the marker at their front. It takes no memory.
+///
+/// Refuses with the first [`MarkerFault`] that applies, in the order in which they are numbered.
+pub fn skip_marker(bytes: &[u8]) -> Result<&[u8], MarkerFault>
+    ensures { IsReading (λ rest. rest.now) result (after_marker bytes.now) }
+{
+    match split_marker(bytes) {
+        Ok((_, rest)) => Ok(rest),
+        Err(fault) => Err(fault),
+    }
+}
+
+/// Reads the marker at the front of the bytes, and answers it with the bytes after it. A fault is told before any memory
+/// is taken.
+///
+/// Refuses with the first [`MarkerFault`] that applies, in the order in which they are numbered.
+pub fn read_marker(alloc: Global, bytes: &[u8]) -> Result<(Marker, &[u8]), ReadError<MarkerFault>>
+    ensures { Gives (λ x. (x.0, x.1.now)) result (marker_at bytes.now) }
+{
+    match split_marker(bytes) {
+        Ok((fields, rest)) => Ok((fields.to_marker(alloc)?, rest)),
+        Err(fault) => Err(ReadError::Fault(fault)),
+    }
 }
 
 /// Reads the marker at the front of the bytes, and answers it with the number of bytes that it takes. Other bytes may
@@ -86,9 +145,9 @@ pub fn decode(alloc: Global, bytes: &[u8]) -> Result<(Marker, usize), ReadError<
     ensures only { (m : Fields) (text rest : List ℕ) → IsSpelling m text → bytes.now ≡ text ++ rest
         → Gives (λ x. x) result (Ok (m, length text)) }
 
-    // The fault is the one that there is, and where there is one it is told, unless memory runs out.
+    // The fault is the one that there is, and where there is one it is told: want of memory never stands for it.
     ensures fault { IfFault result (IsFault bytes.now) }
-    ensures refused { (f : MarkerFault) → IsFault bytes.now f → Gives (λ x. x) result (Err f) }
+    ensures refused { (f : MarkerFault) → IsFault bytes.now f → IsErrOf result (Fault f) }
 
     // The same, field by field.
     ensures exact { Gives (λ x. x) result (marker_and_length bytes.now) }

@@ -15,8 +15,7 @@ mod reading;
 mod tests;
 
 pub use error::{MarkerError, MarkerFault, ReadError};
-pub use format::{decode, encode, read_marker, spelling_laws};
+pub use format::{decode, encode, read_marker, skip_marker, spelling_laws};
 pub use marker::{METADATA_LIMIT, Marker};
 pub use metadata::Metadata;
 pub use parents::Parents;
-pub use reading::{read_byte, read_field, read_node, read_nodes, read_number, write_number};

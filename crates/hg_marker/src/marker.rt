@@ -250,7 +250,7 @@ fn holds(nodes: &[Node], id: &[u8]) -> bool
 }
 
 // Whether the null id stands among the nodes.
-pub(crate) fn has_null(nodes: &[Node]) -> bool
+fn has_null(nodes: &[Node]) -> bool
     ensures null { result ≡ list_any (node_eq null_node) nodes.now }
     ensures nodes { result ≡ false → AllByRecursion IsNode nodes.now }
 {

@@ -1,5 +1,7 @@
 //! Values from outside: markers byte for byte, each refusal at its limit, and growths that are refused.
-use crate::{Marker, MarkerError, MarkerFault, Metadata, Parents, ReadError, decode, encode};
+use crate::{
+    Marker, MarkerError, MarkerFault, Metadata, Parents, ReadError, decode, encode, skip_marker,
+};
 use hg_changeset::Node;
 use std::alloc::{AllocError, Global};
 use std::process::Abort;
@@ -137,7 +139,17 @@ fn refuses_bytes(rt: HostRuntime) -> Result<(), Fail> {
     ] {
         let bytes = bytes_with(alloc, successor, text)?;
         assert_eq!(rt; fault_of(decode(alloc, &bytes)), Some(fault));
+        let short = fault_of(decode(alloc, &bytes[..bytes.len().saturating_sub(1)]));
+        assert_eq!(rt; short, Some(MarkerFault::Truncated));
     }
+    Ok(())
+}
+
+#[test]
+fn skips_a_marker(rt: HostRuntime) -> Result<(), Fail> {
+    let mut bytes = bytes_with(rt.alloc(), NEW, b"user:bob")?;
+    bytes.push(7)?;
+    assert_eq!(rt; skip_marker(&bytes)?, [7].as_slice());
     Ok(())
 }
 

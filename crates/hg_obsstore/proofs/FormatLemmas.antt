@@ -11,8 +11,8 @@ use Rattle.hg_marker.specs.declared.error.ReadError.{ReadError}
 use Rattle.hg_marker.specs.declared.error.ReadError.TheVariants.{NoMemory, Fault}
 use Rattle.hg_marker.specs.Fields.{Fields}
 use Rattle.hg_marker.specs.Grammar.{IsSpelling, spelling}
-use Rattle.hg_marker.specs.Faults.{marker_at, with_length, IsFault}
-use Rattle.hg_marker.specs.Reading.{Gives, Fails}
+use Rattle.hg_marker.specs.Faults.{marker_at, with_length, IsFault, left}
+use Rattle.hg_marker.specs.Reading.{Gives, Fails, IsRead}
 use Rattle.hg_marker.proofs.Formats.{IsBytes-right, Takes}
 use Rattle.hg_marker.proofs.MarkerLemmas.{marker_again, marker_takes}
 use Rattle.hg_marker.proofs.FaultLemmas.{fault_told, fault_given}
@@ -26,6 +26,20 @@ use Rattle.hg_obsstore.specs.Faults.{IsStoreFault, told_at, placed_marker, with_
 pub spelling_long : (m : Fields) (front : List ℕ) → IsSpelling m front → 0 < length front
 spelling_long m front s = let P : List ℕ → Type 0 = λ bytes. 0 < length bytes in subst P (sym s.layout) (omega arith)
 
+-- reading a marker takes bytes
+pub shorter : (bytes : List ℕ) (m : Fields) (rest : List ℕ) → IsBytes bytes → marker_at bytes ≡ Ok (m, rest) → length rest < length bytes
+shorter bytes m rest fits e =
+    let t = marker_takes bytes m rest fits e in
+    omega (arith, ap length t.parts, length-append t.front rest, spelling_long m t.front t.spells)
+
+pub spelled_longer : (ms : List Fields) (bytes : List ℕ) → AreSpelled ms bytes → 0 < length ms → 0 < length bytes
+spelled_longer [] bytes h more = absurd (omega (arith, more))
+spelled_longer (m ∷ ms) bytes h more = omega (arith, ap length h.3, length-append h.0 h.1, spelling_long m h.0 h.2)
+
+pub store_longer : (ms : List Fields) (bytes : List ℕ) → IsStoreSpelling ms bytes → 0 < length ms → 1 < length bytes
+store_longer ms [] h more = absurd (omega (arith, more, ap length h))
+store_longer ms (version ∷ bytes) h more = omega (arith, spelled_longer ms bytes h.1 more)
+
 err_with_length : (bytes : List ℕ) (r : Result (Fields × List ℕ) MarkerFault) (cause : MarkerFault) → with_length bytes r ≡ Err cause → r ≡ Err cause
 err_with_length bytes (Ok x) cause e = absurd cc
 err_with_length bytes (Err other) cause e = cc
@@ -38,7 +52,7 @@ marker_fault bytes cause e = fault_told bytes (Err (Fault cause)) (ap (with_leng
 
 -- ---- markers in front of what is read
 
-with_none : (r : Result (List Fields) StoreFault) → with_front [] r ≡ r
+pub with_none : (r : Result (List Fields) StoreFault) → with_front [] r ≡ r
 with_none (Ok ms) = refl
 with_none (Err fault) = refl
 
@@ -152,12 +166,11 @@ goes_on total (suc limit) front m rest after all shorter within h so_far =
     let one : markers_at total (suc limit) rest ≡ with_front (m ∷ []) (markers_at total limit after) = rw (not_zero (length rest) more, h) refl in
     (limit, omega (arith, shorter, within), sym (with_both front (m ∷ []) (markers_at total limit after)) ∙ ap (with_front front) (sym one) ∙ so_far)
 
-pub breaks_off : (e : ReadError StoreFault) (total limit : ℕ) (front : List Fields) (rest : List ℕ) (all : Result (List Fields) StoreFault) → 0 < length rest → length rest ≤ limit → Fails e (placed_marker total rest)
-    → with_front front (markers_at total limit rest) ≡ all → Fails e all
+pub breaks_off : (total limit : ℕ) (front : List Fields) (rest : List ℕ) (f : StoreFault) (all : Result (List Fields) StoreFault) → 0 < length rest → length rest ≤ limit → placed_marker total rest ≡ Err f
+    → with_front front (markers_at total limit rest) ≡ all → all ≡ Err f
 unfolding markers_at
-breaks_off NoMemory total limit front rest all more within h so_far = tt
-breaks_off (Fault f) total zero front rest all more within h so_far = absurd (omega (arith, more, within))
-breaks_off (Fault f) total (suc limit) front rest all more within h so_far =
+breaks_off total zero front rest f all more within h so_far = absurd (omega (arith, more, within))
+breaks_off total (suc limit) front rest f all more within h so_far =
     let one : markers_at total (suc limit) rest ≡ Err f = rw (not_zero (length rest) more, h) refl in
     sym so_far ∙ ap (with_front front) one
 
@@ -230,6 +243,36 @@ module _ {X Y F : Type 0} (view : X → Y) (P : Y → Type 0) (Q : F → Type 0)
       same_fault e = cc
 
 -- where nothing was read for a fault, something was read for none
+-- where there is a fault it is told, since memory can be wanting only for what is read
+pub told_first : {X Y F : Type 0} (view : X → Y) (r : Result X (ReadError F)) (read : Result Y F) (f : F) → Gives view r read → read ≡ Err f → IsErrOf r (Fault f)
+told_first {Y = Y} {F = F} view (Ok x) read f given h = absurd (no_ok (sym given ∙ h))
+  where
+    no_ok : ◌≡◌ {A = Result Y F} (Ok (view x)) (Err f) → ⊥
+    no_ok e = cc
+told_first {Y = Y} {F = F} view (Err NoMemory) read f given h = absurd (subst (λ (r : Result Y F). IsRead r) h given)
+told_first {Y = Y} {F = F} view (Err (Fault g)) read f given h = ap (λ (k : F). Err (Fault k)) (same_one (sym given ∙ h))
+  where
+    same_one : ◌≡◌ {A = Result Y F} (Err g) (Err f) → g ≡ f
+    same_one e = cc
+
+pub is_read : {Y F : Type 0} (read : Result Y F) (y : Y) → read ≡ Ok y → IsRead read
+is_read {Y} {F} read y e = subst (λ (r : Result Y F). IsRead r) (sym e) tt
+
+-- what was left tells what was read
+pub left_ok : {A F : Type 0} (r : Result (A × List ℕ) F) (after : List ℕ) → left r ≡ Ok after → (x : A) × (r ≡ Ok (x, after))
+left_ok {A} {F} (Ok y) after e = (y.0, ap (λ (b : List ℕ). Ok (y.0, b)) (same e))
+  where
+    same : ◌≡◌ {A = Result (List ℕ) F} (Ok y.1) (Ok after) → y.1 ≡ after
+    same e = cc
+left_ok (Err f) after e = absurd cc
+
+pub left_err : {A F : Type 0} (r : Result (A × List ℕ) F) (f : F) → left r ≡ Err f → r ≡ Err f
+left_err (Ok y) f e = absurd cc
+left_err {A} {F} (Err g) f e = ap (λ (k : F). Err k) (same e)
+  where
+    same : ◌≡◌ {A = Result (List ℕ) F} (Err g) (Err f) → g ≡ f
+    same e = cc
+
 pub fails_alike : {A B F : Type 0} (e : ReadError F) (x : A) (y : B) → Fails e (Ok x) → Fails e (Ok y)
 fails_alike NoMemory x y h = tt
 fails_alike (Fault f) x y h = absurd cc

@@ -1,5 +1,5 @@
 -- Markers that are added in turn, and the set that they make.
-use Rattle.std.proofs.Common.{◌≡◌, ◌<◌, ◌≤◌, ◌+◌, ◌-◌, length-append, ◌++◌, ◌∷◌, [], ◌∙◌, ◌||◌, ⊎_elim, arith, sym, ap, subst, ℕ, List, Bool, true, false, cond, refl, length, get_or, Contains, All, append_assoc}
+use Rattle.std.proofs.Common.{suc, ◌≡◌, ◌<◌, ◌≤◌, ◌+◌, ◌-◌, length-append, ◌++◌, ◌∷◌, [], ◌∙◌, ◌||◌, ⊎_elim, arith, sym, ap, subst, ℕ, List, Bool, true, false, cond, refl, length, get_or, Contains, All, append_assoc}
 use Rattle.std.specs.declared.alloc.AllocError.{AllocError}
 use Rattle.std.specs.declared.alloc.Global.{Global}
 use Rattle.std.specs.declared.vec.Vec.{Vec}
@@ -54,6 +54,22 @@ united_step ms m more = elim (holds ms m) as (λ b. united (cond b ms (ms ++ m �
   | true ↦ refl
   | false ↦ append_assoc ms (m ∷ []) (new_among (ms ++ m ∷ []) more)
 ]
+
+-- where there is more than before something was new
+pub longer_new : (old markers : List Fields) → length old < length (united old markers) → new_among old markers ≡ [] → ⊥
+longer_new old markers more none =
+    let both = length-append old (new_among old markers) in
+    let empty : length (new_among old markers) ≡ 0 = ap length none in
+    omega (arith, more, both, empty)
+
+-- a next marker that isn't held is new
+pub next_new : (old now markers rest : List Fields) (m : Fields) → StartsWith old now → united now (m ∷ rest) ≡ united old markers → ¬ Contains now m → new_among old markers ≡ [] → ⊥
+next_new old now markers rest m starts same absent =
+    let first : new_among now (m ∷ rest) ≡ m ∷ new_among (now ++ m ∷ []) rest = rw (not_held now m absent) refl in
+    let more : length (new_among now (m ∷ rest)) ≡ suc (length (new_among (now ++ m ∷ []) rest)) = ap length first in
+    let before : length now ≡ length old + length starts.0 = ap length starts.1 ∙ length-append old starts.0 in
+    let all : length (united old markers) ≡ length now + length (new_among now (m ∷ rest)) = ap length (sym same) ∙ length-append now (new_among now (m ∷ rest)) in
+    longer_new old markers (omega (arith, more, before, all))
 
 -- the set that they make
 either_assoc : (a b c : Bool) → ((a || b) || c) ≡ (a || (b || c))

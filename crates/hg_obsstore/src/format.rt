@@ -2,10 +2,11 @@
 //!
 //! A store is a version byte 0 and then its markers, one after the other. Lists of markers with repeats are written and
 //! read in the same way; a store that is read holds each marker once, at its first standing.
-ghost use Rattle.std.specs.Prelude.{◌≡◌, ◌<◌, List, [], length, IfOk, OnOk, IsErrOf, Ok, Err};
+ghost use Rattle.std.specs.Prelude.{◌≡◌, ◌<◌, ℕ, List, [], length, IfOk, OnErr, IsErrOf, MatchResult, Ok, Err};
 ghost use Rattle.hg_marker.specs.declared.error.ReadError.TheVariants.{Fault};
 ghost use Rattle.hg_marker.specs.Fields.{Fields};
-ghost use Rattle.hg_marker.specs.Reading.{Gives};
+ghost use Rattle.hg_marker.specs.Faults.{marker_at, left};
+ghost use Rattle.hg_marker.specs.Reading.{Gives, IsRead, IsReading};
 ghost use Rattle.hg_obsstore.specs.declared.fault.StoreFault.{StoreFault};
 ghost use Rattle.hg_obsstore.specs.Markers.{AreDifferent};
 ghost use Rattle.hg_obsstore.specs.Growth.{new_among};
@@ -15,7 +16,7 @@ ghost use Rattle.hg_obsstore.specs.Faults.{IsStoreFault, placed_marker, markers_
 use crate::fault::StoreFault;
 use crate::store::Store;
 use hg_join::NoMemory;
-use hg_marker::{Marker, ReadError, encode, read_marker};
+use hg_marker::{Marker, ReadError, encode, read_marker, skip_marker};
 use std::alloc::{AllocError, Global};
 
 /// The bytes of a store: its one written spelling, with its markers in their order.
@@ -42,7 +43,7 @@ pub fn markers_bytes(alloc: Global, markers: &[Marker]) -> Result<Vec<u8>, Alloc
 
 /// Reads the bytes of a store. No bytes at all are a store without markers, and of equal markers the first stands.
 ///
-/// Refuses with the first [`StoreFault`] from the front.
+/// Refuses with the first [`StoreFault`] from the front, before it takes any memory.
 pub fn read_store(alloc: Global, bytes: &[u8]) -> Result<Store, ReadError<StoreFault>>
     // What is spelled so is read, each marker once, unless memory runs out.
     ensures only { (ms : List Fields) → IsStoreSpelling ms bytes.now → Gives (λ store. store) result (Ok (new_among [] ms)) }
@@ -53,9 +54,12 @@ pub fn read_store(alloc: Global, bytes: &[u8]) -> Result<Store, ReadError<StoreF
     // Nothing else is read.
     ensures found { IfOk result (λ store. (ms : List Fields) × IsStoreSpelling ms bytes.now × (store ≡ new_among [] ms)) }
 
-    // The fault is the one that there is, and where there is one it is told, unless memory runs out.
+    // The fault is the one that there is, and where there is one it is told: want of memory never stands for it.
     ensures fault { (f : StoreFault) → IsErrOf result (Fault f) → IsStoreFault bytes.now f }
-    ensures refused { (f : StoreFault) → IsStoreFault bytes.now f → Gives (λ store. store) result (Err f) }
+    ensures refused { (f : StoreFault) → IsStoreFault bytes.now f → IsErrOf result (Fault f) }
+
+    // Without a marker behind the version no memory is taken.
+    ensures memory { IsErrOf result ReadError.NoMemory → 1 < length bytes.now }
 {
     let markers = read_markers(alloc, bytes)?;
     match store_of(alloc, markers) {
@@ -66,15 +70,18 @@ pub fn read_store(alloc: Global, bytes: &[u8]) -> Result<Store, ReadError<StoreF
 
 /// Reads the markers of a store with their repeats, in their order. No bytes at all have no markers.
 ///
-/// Refuses with the first [`StoreFault`] from the front.
+/// Refuses with the first [`StoreFault`] from the front, before it takes any memory.
 pub fn read_markers(alloc: Global, bytes: &[u8]) -> Result<Vec<Marker>, ReadError<StoreFault>>
     // What is spelled so is read, unless memory runs out, and nothing else.
     ensures only { (ms : List Fields) → IsStoreSpelling ms bytes.now → Gives (λ markers. markers.items) result (Ok ms) }
     ensures found { IfOk result (λ markers. IsStoreSpelling markers.items bytes.now) }
 
-    // The fault is the one that there is, and where there is one it is told, unless memory runs out.
+    // The fault is the one that there is, and where there is one it is told: want of memory never stands for it.
     ensures fault { (f : StoreFault) → IsErrOf result (Fault f) → IsStoreFault bytes.now f }
-    ensures refused { (f : StoreFault) → IsStoreFault bytes.now f → Gives (λ markers. markers.items) result (Err f) }
+    ensures refused { (f : StoreFault) → IsStoreFault bytes.now f → IsErrOf result (Fault f) }
+
+    // Without a marker behind the version no memory is taken.
+    ensures memory { IsErrOf result ReadError.NoMemory → 1 < length bytes.now }
 
     // The same, marker by marker.
     ensures exact { Gives (λ markers. markers.items) result (store_at bytes.now) }
@@ -87,55 +94,91 @@ fn read_version_and_markers(
     alloc: Global,
     bytes: &[u8],
 ) -> Result<Vec<Marker>, ReadError<StoreFault>>
-    ensures { Gives (λ markers. markers.items) result (store_at bytes.now) }
+    ensures exact { Gives (λ markers. markers.items) result (store_at bytes.now) }
+    ensures memory { IsErrOf result ReadError.NoMemory → 1 < length bytes.now }
 {
     match bytes {
         [] => Ok(Vec::new(alloc)),
-        [0, rest @ ..] => read_to_end(alloc, bytes.len(), rest),
+        [0, rest @ ..] => read_checked(alloc, bytes.len(), rest),
         [version, ..] => Err(ReadError::Fault(StoreFault::BadVersion(*version))),
     }
 }
 
-// The markers up to the end of the rest of so many bytes.
-fn read_to_end(
+// The markers up to the end of the rest of so many bytes. All of them are checked before any memory is taken.
+fn read_checked(
     alloc: Global,
     total: usize,
-    bytes: &[u8],
+    rest: &[u8],
 ) -> Result<Vec<Marker>, ReadError<StoreFault>>
-    ensures { Gives (λ markers. markers.items) result (markers_at total (length bytes.now) bytes.now) }
+    ensures exact { Gives (λ markers. markers.items) result (markers_at total (length rest.now) rest.now) }
+    ensures memory { IsErrOf result ReadError.NoMemory → 0 < length rest.now }
+{
+    match check_markers(total, rest) {
+        Ok(()) => Ok(read_to_end(alloc, rest)?),
+        Err(fault) => Err(ReadError::Fault(fault)),
+    }
+}
+
+// Refuses the first marker, up to the end of the rest of so many bytes, that can't be read. It takes no memory.
+fn check_markers(total: usize, bytes: &[u8]) -> Result<(), StoreFault>
+    ensures { MatchResult result
+        (λ _. IsRead (markers_at total (length bytes.now) bytes.now))
+        (λ fault. markers_at total (length bytes.now) bytes.now ≡ Err fault) }
+{
+    let mut rest = bytes;
+    while !rest.is_empty() {
+        match skip_placed(total, rest) {
+            Ok(after) => rest = after,
+            Err(fault) => return Err(fault),
+        }
+    }
+    Ok(())
+}
+
+// The bytes after the marker at the front of the rest of so many bytes.
+fn skip_placed(total: usize, rest: &[u8]) -> Result<&[u8], StoreFault>
+    ensures after { IsReading (λ after. after.now) result (left (placed_marker total rest.now)) }
+    ensures shorter { IfOk result (λ after. length after.now < length rest.now) }
+{
+    match skip_marker(rest) {
+        Ok(after) => Ok(after),
+        Err(cause) => {
+            let place = total.saturating_sub(rest.len());
+            Err(StoreFault::Bad(place, cause))
+        }
+    }
+}
+
+// The markers up to the end of bytes that were checked.
+fn read_to_end(alloc: Global, bytes: &[u8]) -> Result<Vec<Marker>, AllocError>
+    ensures read { (total : ℕ) → IfOk result (λ markers. markers_at total (length bytes.now) bytes.now ≡ Ok markers.items) }
+    ensures memory { OnErr result (0 < length bytes.now) }
 {
     let mut markers = Vec::new(alloc);
     let mut rest = bytes;
     while !rest.is_empty() {
-        let (marker, after) = read_placed(alloc, total, rest)?;
+        let (marker, after) = read_next(alloc, rest)?;
         markers.push(marker)?;
         rest = after;
     }
     Ok(markers)
 }
 
-// The marker at the front of the rest of so many bytes, and the bytes after it.
-fn read_placed(
-    alloc: Global,
-    total: usize,
-    rest: &[u8],
-) -> Result<(Marker, &[u8]), ReadError<StoreFault>>
-    ensures marker { Gives (λ x. (x.0, x.1.now)) result (placed_marker total rest.now) }
+// The marker at the front of bytes that were checked, so that memory alone can be wanting, and the bytes after it.
+fn read_next(alloc: Global, rest: &[u8]) -> Result<(Marker, &[u8]), AllocError>
+    ensures marker { IfOk result (λ x. marker_at rest.now ≡ Ok (x.0, x.1.now)) }
     ensures shorter { IfOk result (λ x. length x.1.now < length rest.now) }
 {
     match read_marker(alloc, rest) {
         Ok((marker, after)) => Ok((marker, after)),
-        Err(ReadError::NoMemory) => Err(ReadError::NoMemory),
-        Err(ReadError::Fault(cause)) => {
-            let place = total.saturating_sub(rest.len());
-            Err(ReadError::Fault(StoreFault::Bad(place, cause)))
-        }
+        Err(_) => Err(AllocError),
     }
 }
 
 // The store of the markers, each once.
 fn store_of(alloc: Global, markers: Vec<Marker>) -> Result<Store, NoMemory>
-    ensures { IfOk result (λ store. store ≡ new_among [] markers.items) }
+    ensures ok { IfOk result (λ store. store ≡ new_among [] markers.items) }
+    ensures err { OnErr result (0 < length markers.items) }
 {
     let mut store = Store::new(alloc);
     for marker in markers {

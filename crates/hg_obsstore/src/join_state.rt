@@ -2,7 +2,7 @@
 //!
 //! What a store contains is the set of its markers, free of the order in which they came: for each marker, whether it is
 //! held. So two stores that are below each other have one content.
-ghost use Rattle.std.specs.Prelude.{⊤};
+ghost use Rattle.std.specs.Prelude.{⊤, ◌↔◌, IsTrue, IsOkAnd};
 ghost use Rattle.hg_marker.specs.Fields.{Fields};
 ghost use Rattle.hg_obsstore.specs.Growth.{holds, Grows};
 ghost use Rattle.hg_obsstore.specs.Sets.{IsSet, IsWithin, HasAll, IsUnion, sets_ordered, stays_within, union_absorbed, union_commutes, union_associates, union_idempotent, union_least, union_again, union_swap};
@@ -97,7 +97,10 @@ impl JoinState for Store {
         Store::join(self, other)
     }
 
-    fn below(&self, other: &Store) -> Result<bool, NoMemory> {
+    fn below(&self, other: &Store) -> Result<bool, NoMemory>
+        // It takes no memory, so it is never refused.
+        ensures { IsOkAnd result (λ answer. IsTrue answer ↔ IsWithin (holds self.now) (holds other.now)) }
+    {
         Ok(self.is_below(other))
     }
 }

@@ -3,12 +3,12 @@
 //! The markers stand in the order in which they came, in a set that finds an equal one by its value in one look-up, so
 //! no marker stands twice. A marker is named by its place. Places only grow, so what is new stands last, and a call that
 //! is refused half way is taken back by cutting off what it added.
-ghost use Rattle.std.specs.Prelude.{◌≡◌, ◌+◌, ◌<◌, ◌≤◌, ◌↔◌, [], length, take, All, IsTrue, IfOk, OnOk, OnErr, Contains, slice_get};
+ghost use Rattle.std.specs.Prelude.{◌≡◌, ◌≢◌, ◌+◌, ◌<◌, ◌≤◌, ◌↔◌, [], length, take, All, IsTrue, IfOk, OnOk, OnErr, Contains, slice_get};
 ghost use Rattle.std.specs.Option.{option_copied};
 ghost use Rattle.hg_marker.specs.Parents.{recorded_parents};
 ghost use Rattle.hg_obsstore.specs.Places.{ListsAll};
 ghost use Rattle.hg_obsstore.specs.Markers.{AreDifferent, ArePlaces};
-ghost use Rattle.hg_obsstore.specs.Growth.{AddAnswer, AreNewPlaces, StartsWith, holds, united, with_marker};
+ghost use Rattle.hg_obsstore.specs.Growth.{AddAnswer, AreNewPlaces, StartsWith, holds, new_among, united, with_marker};
 ghost use Rattle.hg_obsstore.specs.Sets.{IsUnion};
 
 use crate::indexes::Indexes;
@@ -139,6 +139,9 @@ impl Store {
     }
 
     /// Forgets the markers from a place on. It costs what is forgotten.
+    ///
+    /// A store never shrinks for its users: this is for states above that hold one, which take back with it what they
+    /// added in a call that they then refuse.
     pub fn truncate(&mut self, len: usize)
         ensures { self.new ≡ take len self.old }
     {
@@ -175,6 +178,9 @@ impl Store {
         ensures places { IfOk result (λ places. AreNewPlaces self.old self.new places.items) }
         ensures union { OnOk result (IsUnion (holds self.old) (holds part.now) (holds self.new)) }
         ensures err { OnErr result (self.new ≡ self.old) }
+
+        // Where nothing is new no memory is taken.
+        ensures memory { OnErr result (new_among self.old part.now ≢ []) }
     {
         let before = self.len();
         let added = self.add_and_tell(part);
@@ -186,6 +192,9 @@ impl Store {
         ensures ok { OnOk result (self.new ≡ united self.old other.now) }
         ensures union { OnOk result (IsUnion (holds self.old) (holds other.now) (holds self.new)) }
         ensures err { OnErr result (self.new ≡ self.old) }
+
+        // Where nothing is new no memory is taken.
+        ensures memory { OnErr result (new_among self.old other.now ≢ []) }
     {
         let before = self.len();
         let added = self.add_copies(other.markers());
@@ -226,6 +235,7 @@ impl Store {
         ensures ok { OnOk result (self.new ≡ united self.old part.now) }
         ensures places { IfOk result (λ places. AreNewPlaces self.old self.new places.items) }
         ensures kept { StartsWith self.old self.new }
+        ensures memory { OnErr result (new_among self.old part.now ≢ []) }
     {
         let before = self.len();
         self.add_copies(part)?;
@@ -237,6 +247,7 @@ impl Store {
     fn add_copies(&mut self, markers: &[Marker]) -> Result<(), NoMemory>
         ensures ok { OnOk result (self.new ≡ united self.old markers.now) }
         ensures kept { StartsWith self.old self.new }
+        ensures memory { OnErr result (new_among self.old markers.now ≢ []) }
     {
         for marker in markers {
             self.add_copy(marker)?;
@@ -248,6 +259,7 @@ impl Store {
     fn add_copy(&mut self, marker: &Marker) -> Result<(), NoMemory>
         ensures ok { OnOk result (self.new ≡ with_marker self.old marker.now) }
         ensures err { OnErr result (self.new ≡ self.old) }
+        ensures memory { OnErr result (¬ Contains self.old marker.now) }
     {
         if self.contains(marker) {
             return Ok(());
@@ -258,9 +270,13 @@ impl Store {
     }
 }
 
-// The places from one on to before another.
+// The places from one on to before another. No memory is taken where there is none.
 fn places_between(alloc: Global, start: usize, end: usize) -> Result<Vec<usize>, AllocError>
-    ensures { IfOk result (λ places. ListsAll (λ i. (start ≤ i) × (i < end)) places.items) }
+    ensures places { IfOk result (λ places. ListsAll (λ i. (start ≤ i) × (i < end)) places.items) }
+    ensures memory { OnErr result (start < end) }
 {
+    if end <= start {
+        return Ok(Vec::new(alloc));
+    }
     (start..end).collect(alloc)
 }

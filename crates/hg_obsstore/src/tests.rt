@@ -87,9 +87,22 @@ fn refuses_bytes(rt: HostRuntime) {
             "at {len}"
         );
     }
+    assert!(rt; fault_of(alloc, &[1]) == Some(StoreFault::BadVersion(1)));
+}
+
+// The second marker stands at place 55, its successor from place 81 on, and its metadata has no colon.
+#[test]
+fn refuses_the_second_marker(rt: HostRuntime) {
+    let alloc = rt.alloc();
+    let mut bytes = bytes_of(alloc, &[b"user:bob", b"user=bob"]).expect(&rt, "memory");
     let bad = StoreFault::Bad(55, MarkerFault::BadMetadata);
     assert!(rt; fault_of(alloc, &bytes) == Some(bad));
-    assert!(rt; fault_of(alloc, &[1]) == Some(StoreFault::BadVersion(1)));
+    assert!(rt; bytes.len() == 109);
+    bytes[81..101].copy_from_slice(&Node::NULL.0);
+    let null = StoreFault::Bad(55, MarkerFault::NullSuccessor);
+    assert!(rt; fault_of(alloc, &bytes) == Some(null));
+    let truncated = StoreFault::Bad(55, MarkerFault::Truncated);
+    assert!(rt; fault_of(alloc, &bytes[..108]) == Some(truncated));
 }
 
 #[test]

@@ -1,9 +1,8 @@
 -- Reading line by line.
-use Rattle.std.proofs.Common.{◌≡◌, ℕ, ◌+◌, List, [], ◌∷◌, ◌++◌, Result, Ok, Err, Some, None, append_assoc, append-nil, refl, sym, ap, ◌∙◌}
+use Rattle.std.proofs.Common.{◌≡◌, ℕ, ◌+◌, List, [], ◌∷◌, ◌++◌, Option, Result, Ok, Err, Some, None, append_assoc, append-nil, refl, sym, ap, ◌∙◌}
 use Rattle.hg_phaseroots.specs.declared.error.RootsError.{RootsError}
-use Rattle.hg_phaseroots.specs.declared.error.RootsError.TheVariants.{BadLine, BadPhase, NoMemory}
 use Rattle.hg_phaseroots.specs.Lines.{lines_of}
-use Rattle.hg_phaseroots.specs.Reading.{Root, root_in, then_roots, roots_in, roots_of, IsReading}
+use Rattle.hg_phaseroots.specs.Reading.{Root, root_in, then_roots, roots_in, roots_of}
 
 -- the roots so far, and then what the rest says
 abbrev pub after_roots : List Root → Result (List Root) RootsError → Result (List Root) RootsError
@@ -34,15 +33,15 @@ module _ (text : List ℕ) (roots : List Root) (n : ℕ) (rest line after : List
       read ∙ ap (λ ls. after_roots roots (roots_in n ls)) split
       ∙ ap (λ r. after_roots roots (then_roots r (roots_in (n + 1) (lines_of after)))) (sym says)
 
-  pub read_fault : (e : RootsError) → Err e ≡ root_in n line → IsReading text (Err e)
-  read_fault e says = told e (
+  pub read_fault : (e : RootsError) → Err e ≡ root_in n line → roots_of text ≡ Err e
+  read_fault e says =
       read ∙ ap (λ ls. after_roots roots (roots_in n ls)) split
-      ∙ ap (λ r. after_roots roots (then_roots r (roots_in (n + 1) (lines_of after)))) (sym says))
-    where
-      told : (f : RootsError) → roots_of text ≡ Err f → IsReading text (Err f)
-      told (BadLine i) h = h
-      told (BadPhase i) h = h
-      told NoMemory h = tt
+      ∙ ap (λ r. after_roots roots (then_roots r (roots_in (n + 1) (lines_of after)))) (sym says)
+
+  -- whatever a line without fault lists
+  pub read_line : (o : Option Root) → Ok o ≡ root_in n line → (more : List Root) × IsReadTo text more (n + 1) after
+  read_line None says = (roots, read_none says)
+  read_line (Some root) says = (roots ++ root ∷ [], read_root root says)
 
 pub read_all : (text : List ℕ) (roots : List Root) (n : ℕ) (rest : List ℕ) → rest ≡ [] → IsReadTo text roots n rest → roots_of text ≡ Ok roots
 read_all text roots n rest e read = read ∙ ap (λ bytes. after_roots roots (roots_in n (lines_of bytes))) e ∙ ap (λ rs. Ok rs) (append-nil roots)

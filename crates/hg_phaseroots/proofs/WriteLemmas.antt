@@ -127,7 +127,7 @@ no_line_feed b digit = by (is_line_feed b) refl
     by true e = absurd (true≢false (sym digit ∙ ap is_hex_digit (eqb-true b 10 e)))
     by false e = refl
 
-node_found : (long : Bool) (v : Option Node) (n : Node) → long ≡ true → v ≡ Some n → result_ok (cond long (ok_or v BadDigit) (Err BadLength)) ≡ Some n
+pub node_found : (long : Bool) (v : Option Node) (n : Node) → long ≡ true → v ≡ Some n → result_ok (cond long (ok_or v BadDigit) (Err BadLength)) ≡ Some n
 node_found long v n e f = rw (e, f) refl
 
 spelled_node : (n : Node) → IsSpelled n → result_ok (node_of_hex (encode_lower n.0)) ≡ Some n

@@ -65,9 +65,9 @@ roots_in n (line ∷ lines) = then_roots (root_in n line) (roots_in (n + 1) line
 abbrev pub roots_of : List ℕ → Result (List Root) RootsError
 roots_of text = roots_in 1 (lines_of text)
 
--- the text was read, or memory was wanting
+-- the text was read, or its fault was met; memory can be wanting only for roots that are there
 abbrev pub IsReading : List ℕ → Result (List Root) RootsError → Type 0
 IsReading text (Ok roots) = roots_of text ≡ Ok roots
 IsReading text (Err (BadLine n)) = roots_of text ≡ Err (BadLine n)
 IsReading text (Err (BadPhase n)) = roots_of text ≡ Err (BadPhase n)
-IsReading text (Err NoMemory) = Unit {0}
+IsReading text (Err NoMemory) = (roots : List Root) × (roots_of text ≡ Ok roots)

@@ -4,6 +4,7 @@ ghost use Rattle.std.specs.List.Sorted.{IsStrictlySortedBy};
 ghost use Rattle.hg_changeset.specs.declared.node.Node.{Node};
 ghost use Rattle.hg_changeset.specs.Node.{node_cmp};
 ghost use Rattle.hg_phaseroots.specs.Reading.{Root, roots_of};
+ghost use Rattle.hg_phaseroots.specs.Spelling.{IsSpelling};
 ghost use Rattle.hg_phaseroots.specs.Writing.{AreInOrder, IsWritten, IsSpelled, line_of, text_of, digit_of};
 
 use hg_changeset::Node;
@@ -15,6 +16,9 @@ use std::collections::BTreeSet;
 /// ones have no line.
 pub fn roots_text(roots: &Roots) -> Result<Vec<u8>, AllocError>
     ensures written { IfOk result (λ text. IsWritten roots.now text.items) }
+
+    // It is a spelling of the roots in that order.
+    ensures spells { IfOk result (λ text. (sorted : List Root) → AreInOrder roots.now sorted → IsSpelling sorted text.items) }
 
     // Read back, the text lists the roots in that order.
     ensures reads_back { IfOk result (λ text. (sorted : List Root) → AreInOrder roots.now sorted → roots_of text.items ≡ Ok sorted) }

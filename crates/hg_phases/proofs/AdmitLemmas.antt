@@ -1,22 +1,22 @@
 -- The phase rule, where a changeset was added as secret.
-use Rattle.std.proofs.Common.{◌≡◌, ℕ, ◌<◌, ◌≤◌, zero, suc, ◌+◌, ◌-◌, List, [], ◌∷◌, ◌++◌, length, take, slice_get, Some, Contains, inl, inr, refl, sym, subst, arith}
-use Rattle.std.proofs.lemmas.List.{length-append}
+use Rattle.std.proofs.Common.{◌≡◌, ℕ, ◌<◌, ◌≤◌, zero, suc, ◌+◌, ◌-◌, List, [], ◌∷◌, ◌++◌, length, take, slice_get, Some, Contains, inl, inr, refl, sym, ap, subst, min, ◌∙◌, arith}
+use Rattle.std.proofs.lemmas.List.{length-append, length-take}
 use Rattle.std.proofs.lemmas.Option.{slice_get_within}
 use Rattle.hg_changeset.specs.declared.node.Node.{Node}
 use Rattle.hg_changeset.specs.Contents.{Contents}
 use Rattle.hg_changeset.specs.Changeset.{node_of}
 use Rattle.hg_graph.specs.Graph.{IsGraph, IsParent, nodes}
 use Rattle.hg_graph.specs.Places.{IsAt}
-use Rattle.hg_graph.proofs.GraphLemmas.{Contains-from_place, place_from_Contains, Holds-changeset, get-take}
+use Rattle.hg_graph.proofs.GraphLemmas.{Contains-from_place, place_from_Contains, Holds-changeset, get-take, IsGraph-take}
 use Rattle.hg_graph.proofs.MarkLemmas.{same_place, IsAt-from}
 use Rattle.hg_phases.specs.declared.phase.Phase.{Phase}
 use Rattle.hg_phases.specs.declared.phase.Phase.TheVariants.{Secret}
 use Rattle.hg_phases.specs.State.{Held, rank, state_of, IsValid}
 use Rattle.hg_phases.specs.Kept.{before_last}
 use Rattle.hg_phases.proofs.RankLemmas.{rank-top}
-use Rattle.hg_phases.proofs.PlaceLemmas.{get-push_cases, held-at, parts-at, changesets-held_of}
+use Rattle.hg_phases.proofs.PlaceLemmas.{get-push_cases, held-at, parts-at, changesets-held_of, graph_of_state}
 
-get-taken : {X : Type 0} (xs : List X) (n i : ℕ) (x : X) → i < n → slice_get xs i ≡ Some x → slice_get (take n xs) i ≡ Some x
+pub get-taken : {X : Type 0} (xs : List X) (n i : ℕ) (x : X) → i < n → slice_get xs i ≡ Some x → slice_get (take n xs) i ≡ Some x
 get-taken xs zero i x l h = absurd (omega arith)
 get-taken [] (suc n) i x l h = h
 get-taken (y ∷ xs) (suc n) zero x l h = h
@@ -63,3 +63,16 @@ module _ (cs : List Contents) (ks : List Phase) (graph : IsGraph cs) (len : leng
 
   pub admitted-valid : IsValid (state_of cs (ks ++ Secret ∷ []))
   admitted-valid = record { graph = subst IsGraph (sym (changesets-held_of cs now len_now)) graph; phases = rule }
+
+-- the first changesets of a valid state are valid
+pub valid-take : (n : ℕ) (cs : List Contents) (ks : List Phase) → length ks ≡ length cs → IsValid (state_of cs ks) → IsValid (state_of (take n cs) (take n ks))
+valid-take n cs ks len valid = record {
+  graph = subst IsGraph (sym (changesets-held_of (take n cs) (take n ks) (length-take n ks ∙ ap (min n) len ∙ sym (length-take n cs)))) (IsGraph-take n cs (graph_of_state cs ks len valid));
+  phases = λ child parent at_child at_parent is. valid.phases child parent (whole child at_child) (whole parent at_parent) is;
+}
+  where
+    whole : (h : Held) → Contains (state_of (take n cs) (take n ks)).held h → Contains (state_of cs ks).held h
+    whole h at =
+        let p = place_from_Contains (state_of (take n cs) (take n ks)).held h at in
+        let parts = parts-at (take n cs) (take n ks) p.0 h p.1 in
+        Contains-from_place (state_of cs ks).held p.0 h (held-at cs ks p.0 h.changeset h.phase (get-take cs n p.0 h.changeset parts.0).1 (get-take ks n p.0 h.phase parts.1).1)

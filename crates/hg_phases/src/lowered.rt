@@ -1,8 +1,11 @@
 //! What was lowered: the log of a walk, from which it is told and taken back.
-ghost use Rattle.std.specs.Prelude.{IfOk, [], ◌≡◌};
+ghost use Rattle.std.specs.Prelude.{IfOk, [], ◌≡◌, List, take};
 ghost use Rattle.std.specs.List.{flat_map};
-ghost use Rattle.hg_graph.specs.Graph.{nodes};
-ghost use Rattle.hg_phases.specs.Log.{node_before};
+ghost use Rattle.hg_graph.specs.Graph.{IsGraph, nodes};
+ghost use Rattle.hg_phases.specs.declared.phase.Phase.{Phase};
+ghost use Rattle.hg_phases.specs.State.{state_of};
+ghost use Rattle.hg_phases.specs.Log.{IsLog, node_before};
+ghost use Rattle.hg_phases.specs.Lowered.{ListsLowered};
 
 use crate::phase::Phase;
 use hg_changeset::Node;
@@ -17,39 +20,47 @@ pub struct LoweredPlace {
     pub had: Phase,
 }
 
-/// What went down, in the order in which it did: it tells the changesets, and takes the lowering back.
+/// What lowering did: the nodes of the changesets whose phase went down, each once, in no promised order.
 #[derive(Drop)]
 pub struct Lowered {
+    pub nodes: Vec<Node>,
+}
+
+/// What went down, in the order in which it did: it tells the changesets, and takes the lowering back.
+#[derive(Drop)]
+pub struct LoweringLog {
     pub(crate) places: Vec<LoweredPlace>,
 }
 
-impl Model for Lowered {
+impl Model for LoweringLog {
     ghost use Rattle.std.specs.Prelude.{List};
     ghost use Rattle.hg_phases.specs.declared.lowered.LoweredPlace.{LoweredPlace};
 
     ghost Value = { List LoweredPlace };
 
-    ghost view = { λ lowered. lowered.places.items };
+    ghost view = { λ log. log.places.items };
 }
 
-impl Lowered {
+impl LoweringLog {
     /// Nothing yet.
-    pub fn new(alloc: Global) -> Lowered
+    pub fn new(alloc: Global) -> LoweringLog
         ensures { result ≡ [] }
     {
-        Lowered {
+        LoweringLog {
             places: Vec::new(alloc),
         }
     }
 
-    /// The nodes of what went down and stands before a place, in the order in which they went down.
+    /// The nodes of what went down and stands before a place, in no promised order: those of the changesets before it
+    /// whose phase is lower than when the log was begun.
     pub fn nodes_before(&self, graph: &Graph, before: usize) -> Result<Vec<Node>, AllocError>
-        ensures { IfOk result (λ found. found.items ≡ flat_map (node_before (nodes graph.now) before) self.now) }
+        ensures { IfOk result (λ found. (phase : Phase) (start now : List Phase) → IsGraph graph.now → IsLog phase start now self.now → ListsLowered (state_of (take before graph.now) (take before start)) (state_of graph.now now) found.items) }
     {
         nodes_of(graph, &self.places, before, *self.places.allocator())
     }
 }
 
+// The nodes of the places in a log that stand before a place.
 fn nodes_of(
     graph: &Graph,
     log: &[LoweredPlace],

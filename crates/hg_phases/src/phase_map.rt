@@ -5,16 +5,17 @@
 //!
 //! Lowering a changeset lowers its ancestors with it. The walk keeps one log of what it lowered, with the phase that
 //! each had: the log is the queue of the walk, the answer, and what takes the lowering back.
-ghost use Rattle.std.specs.Prelude.{OnOk, slice_set, All, IfOk, IfSome, MatchOption, OnErr, length, take, slice_get, Some, [], ◌∷◌, ◌++◌, ◌+◌, ◌-◌, ℕ, List, ◌≡◌, ◌<◌};
+ghost use Rattle.std.specs.Prelude.{OnOk, slice_set, All, IfOk, IsOkAnd, IfSome, MatchOption, OnErr, length, take, slice_get, Some, [], ◌∷◌, ◌++◌, ◌+◌, ◌-◌, ℕ, List, ◌≡◌, ◌<◌};
 ghost use Rattle.hg_changeset.specs.declared.node.Node.{Node};
 ghost use Rattle.hg_graph.specs.Graph.{Holds as GraphHolds, IsGraph};
 ghost use Rattle.hg_graph.specs.Places.{IsAt};
 ghost use Rattle.hg_phases.specs.State.{state_of, Holds, IsPhaseOf, IsValid};
-ghost use Rattle.hg_phases.specs.Kept.{phases_at, kept_state, before_last};
+ghost use Rattle.hg_phases.specs.Kept.{phases_at, kept_state, before_last, phases_before, IsLogOf};
 ghost use Rattle.hg_phases.specs.Least.{IsLeast, bound_alone};
+ghost use Rattle.hg_phases.specs.Lowered.{ListsLowered};
 ghost use Rattle.hg_phases.specs.Log.{IsLog, restored, IsOneLowered, IsUnlowered};
 
-use crate::lowered::{Lowered, LoweredPlace};
+use crate::lowered::{Lowered, LoweredPlace, LoweringLog};
 use crate::phase::Phase;
 use hg_changeset::Node;
 use hg_graph::Graph;
@@ -67,7 +68,7 @@ impl PhaseMap {
     /// The phase of the changeset with this id, if it is held.
     pub fn phase_of(&self, graph: &Graph, node: Node) -> Result<Option<Phase>, AllocError>
         requires { length (phases_at graph.now self.now) ≡ length graph.now }
-        ensures { IfOk result (λ phase. MatchOption phase (¬ (Holds (kept_state graph.now self.now) node)) (IsPhaseOf (kept_state graph.now self.now) node)) }
+        ensures { IsOkAnd result (λ phase. MatchOption phase (¬ (Holds (kept_state graph.now self.now) node)) (IsPhaseOf (kept_state graph.now self.now) node)) }
     {
         match graph.place(node) {
             Some(place) => Ok(Some(self.at(graph, place))),
@@ -92,30 +93,61 @@ impl PhaseMap {
         ensures valid { IsGraph graph.now → IsValid (kept_state (before_last graph.now) self.old) → OnOk result (IsValid (kept_state graph.now self.new)) }
         ensures unchanged { OnErr result (self.new ≡ self.old) }
     {
-        self.push(Phase::Secret)
-    }
-
-    /// Gives the next changeset a phase.
-    pub fn push(&mut self, phase: Phase) -> Result<(), AllocError>
-        ensures pushed { OnOk result (self.new ≡ self.old ++ phase ∷ []) }
-        ensures unchanged { OnErr result (self.new ≡ self.old) }
-    {
-        self.phases.push(phase)?;
+        self.phases.push(Phase::Secret)?;
         Ok(())
     }
 
-    /// Forgets the phases from the place `len` on.
-    pub fn truncate(&mut self, len: usize)
-        ensures { self.new ≡ take len self.old }
+    /// Gives the changeset with this id and its ancestors the phase, where theirs is higher, and tells which went down. A
+    /// refusal leaves every phase as it was.
+    pub fn lower(&mut self, graph: &Graph, node: Node, phase: Phase) -> Result<Lowered, AllocError>
+        requires len { length (phases_at graph.now self.old) ≡ length graph.now }
+        requires valid { IsValid (kept_state graph.now self.old) }
+        requires held { GraphHolds graph.now node }
+        ensures least { OnOk result (IsLeast (kept_state graph.now self.old) (bound_alone (node, phase) ∷ []) (kept_state graph.now self.new)) }
+        ensures valid { OnOk result (IsValid (kept_state graph.now self.new)) }
+        ensures lowered { IfOk result (λ lowered. ListsLowered (kept_state graph.now self.old) (kept_state graph.now self.new) lowered.nodes.items) }
+        ensures unchanged { OnErr result (self.new ≡ self.old) }
     {
-        self.phases.truncate(len);
+        let mut log = LoweringLog::new(*self.phases.allocator());
+        match self.lower_and_tell(graph, &mut log, node, phase) {
+            Ok(lowered) => Ok(lowered),
+            Err(refused) => {
+                self.take_back(graph, &mut log, graph.len());
+                Err(refused)
+            }
+        }
     }
 
-    /// Gives the changeset with this id and its ancestors the phase, where theirs is higher, and logs each of them.
-    pub fn lower(
+    // Lowers, and tells from the log what went down. After a refusal the log takes back what was done.
+    fn lower_and_tell(
         &mut self,
         graph: &Graph,
-        log: &mut Lowered,
+        log: &mut LoweringLog,
+        node: Node,
+        phase: Phase,
+    ) -> Result<Lowered, AllocError>
+        requires len { length (phases_at graph.now self.old) ≡ length graph.now }
+        requires valid { IsValid (kept_state graph.now self.old) }
+        requires held { GraphHolds graph.now node }
+        requires fresh { log.old ≡ [] }
+        ensures least { OnOk result (IsLeast (kept_state graph.now self.old) (bound_alone (node, phase) ∷ []) (kept_state graph.now self.new)) }
+        ensures valid { OnOk result (IsValid (kept_state graph.now self.new)) }
+        ensures lowered { IfOk result (λ lowered. ListsLowered (kept_state graph.now self.old) (kept_state graph.now self.new) lowered.nodes.items) }
+        ensures logged { IsLog phase (phases_at graph.now self.old) (phases_at graph.now self.new) log.new }
+        ensures undoes { phases_before graph.now self.new log.new ≡ phases_at graph.now self.old }
+    {
+        self.lower_logged(graph, log, node, phase)?;
+        let nodes = log.nodes_before(graph, graph.len())?;
+        Ok(Lowered { nodes })
+    }
+
+    /// Lowers as [`lower`](PhaseMap::lower) does, and logs what goes down behind what was logged already, so that the
+    /// lowerings of several calls are told and taken back together. Phases are lowered to in ascending order: then each
+    /// changeset is logged once. A refusal may leave some of the phases low: the log takes back what was done.
+    pub fn lower_logged(
+        &mut self,
+        graph: &Graph,
+        log: &mut LoweringLog,
         node: Node,
         phase: Phase,
     ) -> Result<(), AllocError>
@@ -124,8 +156,8 @@ impl PhaseMap {
         requires held { GraphHolds graph.now node }
         ensures least { OnOk result (IsLeast (kept_state graph.now self.old) (bound_alone (node, phase) ∷ []) (kept_state graph.now self.new)) }
         ensures valid { OnOk result (IsValid (kept_state graph.now self.new)) }
-        ensures logged { (start : List Phase) → IsLog phase start self.old log.old → IsLog phase start self.new log.new }
-        ensures undoes { restored self.new log.new ≡ restored self.old log.old }
+        ensures logged { (start : List Phase) → IsLog phase start (phases_at graph.now self.old) log.old → IsLog phase start (phases_at graph.now self.new) log.new }
+        ensures undoes { phases_before graph.now self.new log.new ≡ phases_before graph.now self.old log.old }
         ensures len { length (phases_at graph.now self.new) ≡ length (phases_at graph.now self.old) }
     {
         match graph.place(node) {
@@ -134,27 +166,18 @@ impl PhaseMap {
         }
     }
 
-    /// Gives the changeset at a place alone the phase, where its own is higher, and logs it.
-    pub fn lower_alone(
-        &mut self,
-        log: &mut Lowered,
-        place: usize,
-        phase: Phase,
-    ) -> Result<(), AllocError>
-        requires { place < length self.old }
-        ensures lowered { OnOk result (IsOneLowered phase place self.old log.old self.new log.new) }
-        ensures unchanged { OnErr result (IsUnlowered self.old log.old self.new log.new) }
-    {
-        self.lower_one(&mut log.places, place, phase)
-    }
-
-    /// Takes back what was logged.
-    pub fn undo(&mut self, log: &mut Lowered)
-        requires { All (λ e. e.place < length self.old) log.old }
-        ensures restored { self.new ≡ restored self.old log.old }
+    /// Takes back what was logged, and forgets the changesets from the place `before` on, which the graph is about to
+    /// forget.
+    pub fn take_back(&mut self, graph: &Graph, log: &mut LoweringLog, before: usize)
+        requires len { length (phases_at graph.now self.old) ≡ length graph.now }
+        requires valid { IsValid (state_of graph.now (phases_before graph.now self.old log.old)) }
+        requires logged { IsLogOf graph.now self.old log.old }
+        ensures back { phases_at (take before graph.now) self.new ≡ take before (phases_before graph.now self.old log.old) }
+        ensures valid { IsValid (kept_state (take before graph.now) self.new) }
         ensures emptied { log.new ≡ [] }
     {
         self.restore(&mut log.places);
+        self.phases.truncate(before);
     }
 
     // Lowers what stands at a place, with its ancestors.

@@ -3,7 +3,7 @@
 //! What a replica contains is free of the order in which things came: for each id the changeset and its phase, where it
 //! is held, and for each marker whether it is held. So two replicas that are below each other have one content, in
 //! whatever order each keeps it. Each law is that of histories beside that of sets.
-ghost use Rattle.std.specs.Prelude.{◌≡◌};
+ghost use Rattle.std.specs.Prelude.{◌≡◌, ◌↔◌, IsTrue, IsOkAnd};
 ghost use Rattle.hg_history.specs.declared.fault.Fault.TheVariants.{NoMemory};
 ghost use Rattle.hg_history.specs.ContentLaws.{contents_stay_covered, contents_again, contents_swap, covered_admitted, admitted_faultless, memory_faultless};
 ghost use Rattle.hg_history.specs.JoinedLaws.{joins_commute, joins_itself, joined_apart, collided_for_good, memory_apart};
@@ -100,7 +100,12 @@ impl JoinState for Replica {
         Replica::join(self, other)
     }
 
-    fn below(&self, other: &Replica) -> Result<bool, NoMemory> {
+    fn below(&self, other: &Replica) -> Result<bool, NoMemory>
+        // It takes no memory, so it is never refused.
+        ensures answer { IsOkAnd result (λ answer. IsTrue answer ↔ ContentBelow (content_of self.now) (content_of other.now)) }
+        ensures valid { IsValidContent (content_of self.now) }
+        ensures other_valid { IsValidContent (content_of other.now) }
+    {
         Ok(self.is_below(other))
     }
 }

@@ -2,12 +2,13 @@
 //!
 //! The store comes first in each call that grows both, since what it added is cut off its end again where the history
 //! refuses. So a refusal costs what was taken in, and never a copy.
-ghost use Rattle.std.specs.Prelude.{IfOk, MatchOption, IsTrue, [], ◌≡◌, ◌↔◌};
+ghost use Rattle.std.specs.Prelude.{IfOk, IsErrOf, IsOkAnd, MatchOption, IsTrue, [], ◌≡◌, ◌↔◌};
 ghost use Rattle.hg_phases.specs.State.{changesets, state_of, Holds, IsPhaseOf};
 ghost use Rattle.hg_phases.specs.Roots.{AreRoots};
 ghost use Rattle.hg_obsstore.specs.Markers.{AreApart};
 ghost use Rattle.hg_replica.specs.State.{IsValid, Below};
-ghost use Rattle.hg_replica.specs.Answer.{AbsorbAnswer, JoinAnswer, OpenAnswer};
+ghost use Rattle.hg_replica.specs.Least.{part_of};
+ghost use Rattle.hg_replica.specs.Answer.{AbsorbAnswer, IsGrowthBeforeFault, JoinAnswer, OpenAnswer};
 
 use crate::part::{Change, Part};
 use hg_changeset::{Changeset, Node};
@@ -102,7 +103,7 @@ impl Replica {
 
     /// The phase of the changeset with this id, if it is held.
     pub fn phase_of(&self, node: Node) -> Result<Option<Phase>, AllocError>
-        ensures phase { IfOk result (λ phase. MatchOption phase (¬ (Holds self.now.history node)) (IsPhaseOf self.now.history node)) }
+        ensures phase { IsOkAnd result (λ phase. MatchOption phase (¬ (Holds self.now.history node)) (IsPhaseOf self.now.history node)) }
         ensures valid { IsValid self.now }
     {
         self.history.phase_of(node)
@@ -110,10 +111,13 @@ impl Replica {
 
     /// Takes in a part: the replica goes to the least state above its own that covers the part. What is new stands
     /// last, in the part's order. The first fault is told, of the changesets in their order and then of the bounds in
-    /// theirs; a refusal leaves the replica as it was.
+    /// theirs; a refusal leaves the replica as it was. Markers come before changesets, so want of memory is told in place of
+    /// a fault only where a marker is new, or where the history grew before the fault was met.
     pub fn absorb(&mut self, part: &Part) -> Result<Change, Fault>
         ensures answer { AbsorbAnswer self.old part.now result self.new }
+        ensures memory { IsErrOf result Fault.NoMemory → IsGrowthBeforeFault self.old part.now }
         ensures valid { IsValid self.old }
+        ensures still_valid { IsValid self.new }
     {
         let before = self.store.len();
         let markers = match self.store.absorb(&part.markers) {
@@ -138,8 +142,10 @@ impl Replica {
     /// refusal leaves the replica as it was.
     pub fn join(&mut self, other: &Replica) -> Result<(), Fault>
         ensures answer { JoinAnswer self.old other.now result self.new }
+        ensures memory { IsErrOf result Fault.NoMemory → IsGrowthBeforeFault self.old (part_of other.now) }
         ensures valid { IsValid self.old }
         ensures other_valid { IsValid other.now }
+        ensures still_valid { IsValid self.new }
     {
         let before = self.store.len();
         match self.store.join(&other.store) {

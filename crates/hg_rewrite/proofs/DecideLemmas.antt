@@ -12,78 +12,78 @@ use Rattle.hg_rewrite.proofs.RowLemmas.{none_both, sooner, later}
 use Rattle.hg_rewrite.proofs.PartLemmas.{admitted}
 
 module _ (s : ReplicaState) (op : Op) where
-  -- the rows from a number on
-  abbrev rows_from_10 : List Row
-  rows_from_10 = existing_ids s op
+  -- the rows from those of one refusal on
+  abbrev rows_from_existing : List Row
+  rows_from_existing = existing_ids s op
 
-  abbrev rows_from_9 : List Row
-  rows_from_9 = not_marked s op ++ rows_from_10
+  abbrev rows_from_unmarked : List Row
+  rows_from_unmarked = not_marked s op ++ rows_from_existing
 
-  abbrev rows_from_8 : List Row
-  rows_from_8 = not_written s op ++ rows_from_9
+  abbrev rows_from_unwritten : List Row
+  rows_from_unwritten = not_written s op ++ rows_from_unmarked
 
-  abbrev rows_from_7 : List Row
-  rows_from_7 = raise s op ++ rows_from_8
+  abbrev rows_from_raise : List Row
+  rows_from_raise = raise s op ++ rows_from_unwritten
 
-  abbrev rows_from_6 : List Row
-  rows_from_6 = wrong_count op ++ rows_from_7
+  abbrev rows_from_count : List Row
+  rows_from_count = wrong_count op ++ rows_from_raise
 
-  abbrev rows_from_5 : List Row
-  rows_from_5 = not_linear s op ++ rows_from_6
+  abbrev rows_from_not_linear : List Row
+  rows_from_not_linear = not_linear s op ++ rows_from_count
 
-  abbrev rows_from_4 : List Row
-  rows_from_4 = obsolete_nodes s op ++ rows_from_5
+  abbrev rows_from_obsolete : List Row
+  rows_from_obsolete = obsolete_nodes s op ++ rows_from_not_linear
 
-  abbrev rows_from_3 : List Row
-  rows_from_3 = public_nodes s op ++ rows_from_4
+  abbrev rows_from_public : List Row
+  rows_from_public = public_nodes s op ++ rows_from_obsolete
 
-  abbrev rows_from_2 : List Row
-  rows_from_2 = hidden_parents s op ++ rows_from_3
+  abbrev rows_from_hidden : List Row
+  rows_from_hidden = hidden_parents s op ++ rows_from_public
 
   -- a check refuses, after those before it have passed
-  pub refused_1 : (r : Refusal) → IsRefusal (unknown_nodes s op) r → IsRefusal (refusals s op) r
+  pub refused_unknown : (r : Refusal) → IsRefusal (unknown_nodes s op) r → IsRefusal (refusals s op) r
   unfolding refusals
-  refused_1 r h = sooner (unknown_nodes s op) rows_from_2 r h
+  refused_unknown r h = sooner (unknown_nodes s op) rows_from_hidden r h
 
-  pub refused_2 : (r : Refusal) → NoneApplies (unknown_nodes s op) → IsRefusal (hidden_parents s op) r → IsRefusal (refusals s op) r
+  pub refused_hidden : (r : Refusal) → NoneApplies (unknown_nodes s op) → IsRefusal (hidden_parents s op) r → IsRefusal (refusals s op) r
   unfolding refusals
-  refused_2 r known h = later (unknown_nodes s op) rows_from_2 r known (sooner (hidden_parents s op) rows_from_3 r h)
+  refused_hidden r known h = later (unknown_nodes s op) rows_from_hidden r known (sooner (hidden_parents s op) rows_from_public r h)
 
-  pub refused_3 : (r : Refusal) → NoneApplies (unknown_nodes s op) → NoneApplies (hidden_parents s op) → IsRefusal (public_nodes s op) r → IsRefusal (refusals s op) r
+  pub refused_public : (r : Refusal) → NoneApplies (unknown_nodes s op) → NoneApplies (hidden_parents s op) → IsRefusal (public_nodes s op) r → IsRefusal (refusals s op) r
   unfolding refusals
-  refused_3 r known visible h = later (unknown_nodes s op) rows_from_2 r known (later (hidden_parents s op) rows_from_3 r visible (sooner (public_nodes s op) rows_from_4 r h))
+  refused_public r known visible h = later (unknown_nodes s op) rows_from_hidden r known (later (hidden_parents s op) rows_from_public r visible (sooner (public_nodes s op) rows_from_obsolete r h))
 
-  pub refused_4 : (r : Refusal) → NoneApplies (unknown_nodes s op) → NoneApplies (hidden_parents s op) → NoneApplies (public_nodes s op) → IsRefusal (obsolete_nodes s op) r → IsRefusal (refusals s op) r
+  pub refused_obsolete : (r : Refusal) → NoneApplies (unknown_nodes s op) → NoneApplies (hidden_parents s op) → NoneApplies (public_nodes s op) → IsRefusal (obsolete_nodes s op) r → IsRefusal (refusals s op) r
   unfolding refusals
-  refused_4 r known visible unpublished h = later (unknown_nodes s op) rows_from_2 r known (later (hidden_parents s op) rows_from_3 r visible (later (public_nodes s op) rows_from_4 r unpublished (sooner (obsolete_nodes s op) rows_from_5 r h)))
+  refused_obsolete r known visible unpublished h = later (unknown_nodes s op) rows_from_hidden r known (later (hidden_parents s op) rows_from_public r visible (later (public_nodes s op) rows_from_obsolete r unpublished (sooner (obsolete_nodes s op) rows_from_not_linear r h)))
 
-  pub refused_5 : (r : Refusal) → NoneApplies (unknown_nodes s op) → NoneApplies (hidden_parents s op) → NoneApplies (public_nodes s op) → NoneApplies (obsolete_nodes s op) → IsRefusal (not_linear s op) r → IsRefusal (refusals s op) r
+  pub refused_not_linear : (r : Refusal) → NoneApplies (unknown_nodes s op) → NoneApplies (hidden_parents s op) → NoneApplies (public_nodes s op) → NoneApplies (obsolete_nodes s op) → IsRefusal (not_linear s op) r → IsRefusal (refusals s op) r
   unfolding refusals
-  refused_5 r known visible unpublished current h = later (unknown_nodes s op) rows_from_2 r known (later (hidden_parents s op) rows_from_3 r visible (later (public_nodes s op) rows_from_4 r unpublished (later (obsolete_nodes s op) rows_from_5 r current (sooner (not_linear s op) rows_from_6 r h))))
+  refused_not_linear r known visible unpublished current h = later (unknown_nodes s op) rows_from_hidden r known (later (hidden_parents s op) rows_from_public r visible (later (public_nodes s op) rows_from_obsolete r unpublished (later (obsolete_nodes s op) rows_from_not_linear r current (sooner (not_linear s op) rows_from_count r h))))
 
-  pub refused_6 : (r : Refusal) → NoneApplies (unknown_nodes s op) → NoneApplies (hidden_parents s op) → NoneApplies (public_nodes s op) → NoneApplies (obsolete_nodes s op) → NoneApplies (not_linear s op) → IsRefusal (wrong_count op) r → IsRefusal (refusals s op) r
+  pub refused_count : (r : Refusal) → NoneApplies (unknown_nodes s op) → NoneApplies (hidden_parents s op) → NoneApplies (public_nodes s op) → NoneApplies (obsolete_nodes s op) → NoneApplies (not_linear s op) → IsRefusal (wrong_count op) r → IsRefusal (refusals s op) r
   unfolding refusals
-  refused_6 r known visible unpublished current linear h = later (unknown_nodes s op) rows_from_2 r known (later (hidden_parents s op) rows_from_3 r visible (later (public_nodes s op) rows_from_4 r unpublished (later (obsolete_nodes s op) rows_from_5 r current (later (not_linear s op) rows_from_6 r linear (sooner (wrong_count op) rows_from_7 r h)))))
+  refused_count r known visible unpublished current linear h = later (unknown_nodes s op) rows_from_hidden r known (later (hidden_parents s op) rows_from_public r visible (later (public_nodes s op) rows_from_obsolete r unpublished (later (obsolete_nodes s op) rows_from_not_linear r current (later (not_linear s op) rows_from_count r linear (sooner (wrong_count op) rows_from_raise r h)))))
 
-  pub refused_7 : (r : Refusal) → NoneApplies (unknown_nodes s op) → NoneApplies (hidden_parents s op) → NoneApplies (public_nodes s op) → NoneApplies (obsolete_nodes s op) → NoneApplies (not_linear s op) → NoneApplies (wrong_count op) → IsRefusal (raise s op) r → IsRefusal (refusals s op) r
+  pub refused_raise : (r : Refusal) → NoneApplies (unknown_nodes s op) → NoneApplies (hidden_parents s op) → NoneApplies (public_nodes s op) → NoneApplies (obsolete_nodes s op) → NoneApplies (not_linear s op) → NoneApplies (wrong_count op) → IsRefusal (raise s op) r → IsRefusal (refusals s op) r
   unfolding refusals
-  refused_7 r known visible unpublished current linear counted h = later (unknown_nodes s op) rows_from_2 r known (later (hidden_parents s op) rows_from_3 r visible (later (public_nodes s op) rows_from_4 r unpublished (later (obsolete_nodes s op) rows_from_5 r current (later (not_linear s op) rows_from_6 r linear (later (wrong_count op) rows_from_7 r counted (sooner (raise s op) rows_from_8 r h))))))
+  refused_raise r known visible unpublished current linear counted h = later (unknown_nodes s op) rows_from_hidden r known (later (hidden_parents s op) rows_from_public r visible (later (public_nodes s op) rows_from_obsolete r unpublished (later (obsolete_nodes s op) rows_from_not_linear r current (later (not_linear s op) rows_from_count r linear (later (wrong_count op) rows_from_raise r counted (sooner (raise s op) rows_from_unwritten r h))))))
 
-  pub refused_8 : (r : Refusal) → NoneApplies (unknown_nodes s op) → NoneApplies (hidden_parents s op) → NoneApplies (public_nodes s op) → NoneApplies (obsolete_nodes s op) → NoneApplies (not_linear s op) → NoneApplies (wrong_count op) → NoneApplies (raise s op) → IsRefusal (not_written s op) r → IsRefusal (refusals s op) r
+  pub refused_unwritten : (r : Refusal) → NoneApplies (unknown_nodes s op) → NoneApplies (hidden_parents s op) → NoneApplies (public_nodes s op) → NoneApplies (obsolete_nodes s op) → NoneApplies (not_linear s op) → NoneApplies (wrong_count op) → NoneApplies (raise s op) → IsRefusal (not_written s op) r → IsRefusal (refusals s op) r
   unfolding refusals
-  refused_8 r known visible unpublished current linear counted lowered h = later (unknown_nodes s op) rows_from_2 r known (later (hidden_parents s op) rows_from_3 r visible (later (public_nodes s op) rows_from_4 r unpublished (later (obsolete_nodes s op) rows_from_5 r current (later (not_linear s op) rows_from_6 r linear (later (wrong_count op) rows_from_7 r counted (later (raise s op) rows_from_8 r lowered (sooner (not_written s op) rows_from_9 r h)))))))
+  refused_unwritten r known visible unpublished current linear counted lowered h = later (unknown_nodes s op) rows_from_hidden r known (later (hidden_parents s op) rows_from_public r visible (later (public_nodes s op) rows_from_obsolete r unpublished (later (obsolete_nodes s op) rows_from_not_linear r current (later (not_linear s op) rows_from_count r linear (later (wrong_count op) rows_from_raise r counted (later (raise s op) rows_from_unwritten r lowered (sooner (not_written s op) rows_from_unmarked r h)))))))
 
-  pub refused_9 : (r : Refusal) → NoneApplies (unknown_nodes s op) → NoneApplies (hidden_parents s op) → NoneApplies (public_nodes s op) → NoneApplies (obsolete_nodes s op) → NoneApplies (not_linear s op) → NoneApplies (wrong_count op) → NoneApplies (raise s op) → NoneApplies (not_written s op) → IsRefusal (not_marked s op) r → IsRefusal (refusals s op) r
+  pub refused_unmarked : (r : Refusal) → NoneApplies (unknown_nodes s op) → NoneApplies (hidden_parents s op) → NoneApplies (public_nodes s op) → NoneApplies (obsolete_nodes s op) → NoneApplies (not_linear s op) → NoneApplies (wrong_count op) → NoneApplies (raise s op) → NoneApplies (not_written s op) → IsRefusal (not_marked s op) r → IsRefusal (refusals s op) r
   unfolding refusals
-  refused_9 r known visible unpublished current linear counted lowered written h = later (unknown_nodes s op) rows_from_2 r known (later (hidden_parents s op) rows_from_3 r visible (later (public_nodes s op) rows_from_4 r unpublished (later (obsolete_nodes s op) rows_from_5 r current (later (not_linear s op) rows_from_6 r linear (later (wrong_count op) rows_from_7 r counted (later (raise s op) rows_from_8 r lowered (later (not_written s op) rows_from_9 r written (sooner (not_marked s op) rows_from_10 r h))))))))
+  refused_unmarked r known visible unpublished current linear counted lowered written h = later (unknown_nodes s op) rows_from_hidden r known (later (hidden_parents s op) rows_from_public r visible (later (public_nodes s op) rows_from_obsolete r unpublished (later (obsolete_nodes s op) rows_from_not_linear r current (later (not_linear s op) rows_from_count r linear (later (wrong_count op) rows_from_raise r counted (later (raise s op) rows_from_unwritten r lowered (later (not_written s op) rows_from_unmarked r written (sooner (not_marked s op) rows_from_existing r h))))))))
 
-  pub refused_10 : (r : Refusal) → NoneApplies (unknown_nodes s op) → NoneApplies (hidden_parents s op) → NoneApplies (public_nodes s op) → NoneApplies (obsolete_nodes s op) → NoneApplies (not_linear s op) → NoneApplies (wrong_count op) → NoneApplies (raise s op) → NoneApplies (not_written s op) → NoneApplies (not_marked s op) → IsRefusal (existing_ids s op) r → IsRefusal (refusals s op) r
+  pub refused_existing : (r : Refusal) → NoneApplies (unknown_nodes s op) → NoneApplies (hidden_parents s op) → NoneApplies (public_nodes s op) → NoneApplies (obsolete_nodes s op) → NoneApplies (not_linear s op) → NoneApplies (wrong_count op) → NoneApplies (raise s op) → NoneApplies (not_written s op) → NoneApplies (not_marked s op) → IsRefusal (existing_ids s op) r → IsRefusal (refusals s op) r
   unfolding refusals
-  refused_10 r known visible unpublished current linear counted lowered written marked h = later (unknown_nodes s op) rows_from_2 r known (later (hidden_parents s op) rows_from_3 r visible (later (public_nodes s op) rows_from_4 r unpublished (later (obsolete_nodes s op) rows_from_5 r current (later (not_linear s op) rows_from_6 r linear (later (wrong_count op) rows_from_7 r counted (later (raise s op) rows_from_8 r lowered (later (not_written s op) rows_from_9 r written (later (not_marked s op) rows_from_10 r marked h))))))))
+  refused_existing r known visible unpublished current linear counted lowered written marked h = later (unknown_nodes s op) rows_from_hidden r known (later (hidden_parents s op) rows_from_public r visible (later (public_nodes s op) rows_from_obsolete r unpublished (later (obsolete_nodes s op) rows_from_not_linear r current (later (not_linear s op) rows_from_count r linear (later (wrong_count op) rows_from_raise r counted (later (raise s op) rows_from_unwritten r lowered (later (not_written s op) rows_from_unmarked r written (later (not_marked s op) rows_from_existing r marked h))))))))
 
   none_of_table : NoneApplies (unknown_nodes s op) → NoneApplies (hidden_parents s op) → NoneApplies (public_nodes s op) → NoneApplies (obsolete_nodes s op) → NoneApplies (not_linear s op) → NoneApplies (wrong_count op) → NoneApplies (raise s op) → NoneApplies (not_written s op) → NoneApplies (not_marked s op) → NoneApplies (existing_ids s op) → NoneApplies (refusals s op)
   unfolding refusals
-  none_of_table known visible unpublished current linear counted lowered written marked new = none_both (unknown_nodes s op) rows_from_2 known (none_both (hidden_parents s op) rows_from_3 visible (none_both (public_nodes s op) rows_from_4 unpublished (none_both (obsolete_nodes s op) rows_from_5 current (none_both (not_linear s op) rows_from_6 linear (none_both (wrong_count op) rows_from_7 counted (none_both (raise s op) rows_from_8 lowered (none_both (not_written s op) rows_from_9 written (none_both (not_marked s op) rows_from_10 marked new))))))))
+  none_of_table known visible unpublished current linear counted lowered written marked new = none_both (unknown_nodes s op) rows_from_hidden known (none_both (hidden_parents s op) rows_from_public visible (none_both (public_nodes s op) rows_from_obsolete unpublished (none_both (obsolete_nodes s op) rows_from_not_linear current (none_both (not_linear s op) rows_from_count linear (none_both (wrong_count op) rows_from_raise counted (none_both (raise s op) rows_from_unwritten lowered (none_both (not_written s op) rows_from_unmarked written (none_both (not_marked s op) rows_from_existing marked new))))))))
 
   -- all checks have passed
   pub decided : IsValid s.history → NoneApplies (unknown_nodes s op) → NoneApplies (hidden_parents s op) → NoneApplies (public_nodes s op) → NoneApplies (obsolete_nodes s op) → NoneApplies (not_linear s op) → NoneApplies (wrong_count op) → NoneApplies (raise s op) → NoneApplies (not_written s op) → NoneApplies (not_marked s op) → NoneApplies (existing_ids s op) → (part : PartValue) → part ≡ part_of s op → DecideAnswer s op (Ok part)

@@ -7,4 +7,6 @@ pub mod EntryLemmas
 pub mod ChainLemmas
 pub mod MarkLemmas
 pub mod PartLemmas
+pub mod TableLemmas
+pub mod MemoryLemmas
 pub mod DecideLemmas

@@ -24,10 +24,15 @@ abbrev pub DecideAnswer : ReplicaState → Op → Result PartValue Refusal → T
 DecideAnswer s op (Ok part) = NoneApplies (refusals s op) × (part ≡ part_of s op) × IsAdmitted s part
 DecideAnswer s op (Err r) = IsRefusal (refusals s op) r
 
--- the answer of a check that tries these rows
+-- the answer of a check that tries these rows, and takes no memory
 abbrev pub Checked : List Row → Result (Unit {0}) Refusal → Type 0
 Checked rows (Ok done) = NoneApplies rows
-Checked rows (Err r) = IsRefusal rows r
+Checked rows (Err r) = IsFirstRefusal rows r
+
+-- the answer of one that may want memory
+abbrev pub CheckedInMemory : List Row → Result (Unit {0}) Refusal → Type 0
+CheckedInMemory rows (Ok done) = NoneApplies rows
+CheckedInMemory rows (Err r) = IsRefusal rows r
 
 -- the answer of what tries these rows and then gives these values
 abbrev pub Gives : {X : Type 0} → List Row → List X → Result (Vec X Global) Refusal → Type 0

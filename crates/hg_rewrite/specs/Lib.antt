@@ -2,4 +2,5 @@ pub mod Reading
 pub mod Parts
 pub mod Refusals
 pub mod Answer
+pub mod Memory
 pub mod Names

@@ -1,14 +1,15 @@
 //! The refusals that are tried before anything is made: one check for each number.
-ghost use Rattle.std.specs.Prelude.{◌≡◌, ◌↔◌, ◌∷◌, [], IsTrue, MatchOption, map};
+ghost use Rattle.std.specs.Prelude.{◌≡◌, ◌↔◌, ◌⊎◌, ◌∷◌, [], IsTrue, IsErrOf, MatchOption, map};
 ghost use Rattle.hg_changeset.specs.Node.{null_node};
-ghost use Rattle.hg_rewrite.specs.Reading.{parents_in};
+ghost use Rattle.hg_rewrite.specs.Reading.{parents_in, IsObsolete};
 ghost use Rattle.hg_replica.specs.State.{IsValid};
 ghost use Rattle.hg_rewrite.specs.Parts.{rewritten};
 ghost use Rattle.hg_rewrite.specs.Refusals.{targets, new_parents, unknown, unknown_parent, unknown_nodes, hidden, hidden_parents, public_nodes, obsolete_nodes, not_linear, wrong_count, raise, existing, IsLinear};
-ghost use Rattle.hg_rewrite.specs.Answer.{Checked};
+ghost use Rattle.hg_rewrite.specs.Answer.{Checked, CheckedInMemory};
+ghost use Rattle.hg_rewrite.specs.Memory.{WalksForHidden, WalksForAncestors};
 
 use crate::op::Op;
-use crate::reading::{contains, holds, is_hidden, is_obsolete, is_public, parents_in, phase_in};
+use crate::query::{contains, holds, is_hidden, is_obsolete, is_public, parents_in, phase_in};
 use crate::refusal::Refusal;
 use hg_changeset::Node;
 use hg_replica::Replica;
@@ -91,7 +92,8 @@ fn check_parents_held(replica: &Replica, p: Node, q: Node) -> Result<(), Refusal
 
 // Refuses a new parent that is hidden.
 pub(crate) fn check_visible(alloc: Global, replica: &Replica, op: &Op) -> Result<(), Refusal>
-    ensures { Checked (hidden_parents replica.now op.now) result }
+    ensures answer { CheckedInMemory (hidden_parents replica.now op.now) result }
+    ensures memory { IsErrOf result Refusal.NoMemory → WalksForHidden replica.now op.now }
 {
     match new_parents(op) {
         Some((p, q)) => check_parents_visible(alloc, replica, p, q),
@@ -100,7 +102,8 @@ pub(crate) fn check_visible(alloc: Global, replica: &Replica, op: &Op) -> Result
 }
 
 fn check_parents_visible(alloc: Global, replica: &Replica, p: Node, q: Node) -> Result<(), Refusal>
-    ensures { Checked (map (hidden replica.now) (p ∷ q ∷ [])) result }
+    ensures answer { CheckedInMemory (map (hidden replica.now) (p ∷ q ∷ [])) result }
+    ensures memory { IsErrOf result Refusal.NoMemory → IsObsolete replica.now p ⊎ IsObsolete replica.now q }
 {
     if is_hidden(alloc, replica, p)? {
         return Err(Refusal::Hidden(p));
@@ -117,7 +120,7 @@ pub(crate) fn check_not_public(replica: &Replica, op: &Op) -> Result<(), Refusal
 {
     let nodes = rewritten(op);
     for node in nodes {
-        if is_public(replica, *node)? {
+        if is_public(replica, *node) {
             return Err(Refusal::Public(*node));
         }
     }
@@ -125,12 +128,12 @@ pub(crate) fn check_not_public(replica: &Replica, op: &Op) -> Result<(), Refusal
 }
 
 // Refuses a node to be rewritten that is obsolete.
-pub(crate) fn check_current(replica: &Replica, op: &Op) -> Result<(), Refusal>
+pub(crate) fn check_not_obsolete(replica: &Replica, op: &Op) -> Result<(), Refusal>
     ensures { Checked (obsolete_nodes replica.now op.now) result }
 {
     let nodes = rewritten(op);
     for node in nodes {
-        if is_obsolete(replica, *node)? {
+        if is_obsolete(replica, *node) {
             return Err(Refusal::AlreadyObsolete(*node));
         }
     }
@@ -139,7 +142,8 @@ pub(crate) fn check_current(replica: &Replica, op: &Op) -> Result<(), Refusal>
 
 // Refuses a fold of what is no line, and a relocation onto the node itself or a descendant.
 pub(crate) fn check_linear(replica: &Replica, op: &Op) -> Result<(), Refusal>
-    ensures { Checked (not_linear replica.now op.now) result }
+    ensures answer { CheckedInMemory (not_linear replica.now op.now) result }
+    ensures memory { IsErrOf result Refusal.NoMemory → WalksForAncestors op.now }
 {
     let is_linear = match op {
         Op::Fold { nodes, .. } => is_line(replica, nodes),
@@ -196,7 +200,7 @@ pub(crate) fn check_raise(replica: &Replica, op: &Op) -> Result<(), Refusal>
 {
     match op {
         Op::Advance { node, phase } => {
-            if phase_in(replica, *node)? < *phase {
+            if phase_in(replica, *node) < *phase {
                 return Err(Refusal::Raise);
             }
             Ok(())

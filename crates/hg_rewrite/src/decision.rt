@@ -1,15 +1,20 @@
 //! Deciding an operation.
+ghost use Rattle.std.specs.Prelude.{Contains, IfOk, IsErrOf};
+ghost use Rattle.hg_changeset.specs.Contents.{Contents};
+ghost use Rattle.hg_changeset.specs.Changeset.{IsChangeset};
+ghost use Rattle.hg_replica.specs.State.{IsValid};
 ghost use Rattle.hg_rewrite.specs.Answer.{DecideAnswer};
+ghost use Rattle.hg_rewrite.specs.Memory.{MayWantMemory};
 
-use crate::bound::bounds;
+use crate::bounds::bounds;
+use crate::changesets::{ids, new_changesets};
 use crate::check::{
-    check_count, check_current, check_known, check_linear, check_new, check_not_public,
+    check_count, check_known, check_linear, check_new, check_not_obsolete, check_not_public,
     check_raise, check_visible,
 };
-use crate::mark::markers;
+use crate::markers::markers;
 use crate::op::Op;
 use crate::refusal::Refusal;
-use crate::write::{ids, new_changesets};
 use hg_replica::{Part, Replica};
 use std::alloc::Global;
 
@@ -19,12 +24,15 @@ use std::alloc::Global;
 /// where a growth was refused. The call costs what the operation names and writes, however much the replica holds; a
 /// relocation costs what lies between its nodes as well, and a parent that is obsolete a walk over all changesets.
 pub fn decide(alloc: Global, replica: &Replica, op: &Op) -> Result<Part, Refusal>
-    ensures { DecideAnswer replica.now op.now result }
+    ensures answer { DecideAnswer replica.now op.now result }
+    ensures memory { IsErrOf result Refusal.NoMemory → MayWantMemory replica.now op.now }
+    ensures changesets { IfOk result (λ part. (c : Contents) → Contains part.history.changesets c → IsChangeset c) }
+    ensures valid { IsValid replica.now }
 {
     check_known(replica, op)?;
     check_visible(alloc, replica, op)?;
     check_not_public(replica, op)?;
-    check_current(replica, op)?;
+    check_not_obsolete(replica, op)?;
     check_linear(replica, op)?;
     check_count(op)?;
     check_raise(replica, op)?;

@@ -7,16 +7,18 @@
 //! whole operation.
 #![tactic(auto)]
 
-mod bound;
+mod bounds;
+mod changesets;
 mod check;
 mod decision;
-mod mark;
+mod laws;
+mod markers;
 mod op;
-mod reading;
+mod query;
 mod refusal;
-mod write;
 
 pub use decision::decide;
+pub use laws::first_refusal_is_one;
 pub use op::Op;
 pub use refusal::{Cause, Refusal};
 

@@ -19,6 +19,8 @@ const S1: &[u8] = b"0aa197f561bad0791edaab69f99f664cdc976a22";
 
 const S2_ON_S1: &[u8] = b"857612b51da28d0d36f7f2a4ad6c4199d1c3754f";
 
+const S3_ON_S2: &[u8] = b"b1b9de87b803f6cae0961ebcca03ea0477b3a31a";
+
 const F: &[u8] = b"bfb2e47e53835cfaa68462f9ef32b1b28c1bd073";
 
 const G_FOR_F: &[u8] = b"93d0cacec425cc7e930eda2b087f625a5bb084c3";
@@ -57,9 +59,9 @@ fn amend(node: Node, entry: Entry) -> Op {
     Op::Amend { node, entry }
 }
 
-fn split(rt: &impl Abort, alloc: Global, node: Node) -> Op {
+fn split(rt: &impl Abort, alloc: Global, node: Node, descs: &[&[u8]]) -> Op {
     let mut entries = Vec::new(alloc);
-    for desc in [b"s1", b"s2"] {
+    for desc in descs {
         let pushed = entries.push(entry(rt, alloc, desc));
         assert!(rt; pushed.is_ok());
     }
@@ -200,7 +202,7 @@ fn a_split_is_folded_and_moved(rt: HostRuntime) {
     let alloc = rt.alloc();
     let mut replica = start(&rt, alloc);
     let both: [&[u8]; 2] = [S1, S2_ON_S1];
-    let op = split(&rt, alloc, id(&rt, A));
+    let op = split(&rt, alloc, id(&rt, A), &[b"s1", b"s2"]);
     run(&rt, alloc, &mut replica, op, &both, Phase::Draft);
     let op = fold(&rt, alloc, &[id(&rt, S1), id(&rt, S2_ON_S1)]);
     run(&rt, alloc, &mut replica, op, &[F], Phase::Draft);
@@ -209,6 +211,37 @@ fn a_split_is_folded_and_moved(rt: HostRuntime) {
     assert_eq!(rt; replica.store().len(), 4);
     let op = commit(id(&rt, F), entry(&rt, alloc, b"h"));
     expect_refusal(&rt, alloc, &replica, op, Refusal::Hidden(id(&rt, F)));
+    let op = amend(id(&rt, F), entry(&rt, alloc, b"h"));
+    expect_refusal(
+        &rt,
+        alloc,
+        &replica,
+        op,
+        Refusal::AlreadyObsolete(id(&rt, F)),
+    );
+}
+
+#[test]
+fn a_split_into_three_has_one_marker(rt: HostRuntime) {
+    let alloc = rt.alloc();
+    let replica = start(&rt, alloc);
+    let op = split(&rt, alloc, id(&rt, A), &[b"s1", b"s2", b"s3"]);
+    let part = decided(&rt, alloc, &replica, &op);
+    let ids: [&[u8]; 3] = [S1, S2_ON_S1, S3_ON_S2];
+    expect_ids(&rt, &part, &ids, Phase::Draft);
+    expect_marker(
+        &rt,
+        alloc,
+        &part,
+        &[3, 0, 0, 0, 0x23, 0],
+        &[
+            id(&rt, A),
+            id(&rt, S1),
+            id(&rt, S2_ON_S1),
+            id(&rt, S3_ON_S2),
+        ],
+        b"date:0 0\0operation:split\0user:fleet",
+    );
 }
 
 #[test]

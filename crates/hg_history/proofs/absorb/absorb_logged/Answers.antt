@@ -1,44 +1,93 @@
-use Rattle.std.proofs.Common.{◌≡◌, ◌∙◌, length, sym, subst, arith}
-use Rattle.std.specs.List.{flat_map}
+use Rattle.std.proofs.Common.{◌≡◌, ◌∙◌, drop, length, take, ap, subst, arith}
 use Rattle.hg_graph.specs.Graph.{nodes}
 use Rattle.hg_phases.specs.declared.phase.Phase.TheVariants.{Public, Draft}
 use Rattle.hg_phases.specs.State.{state_of}
-use Rattle.hg_phases.specs.Log.{node_before}
-use Rattle.hg_phases.proofs.LawLemmas.{least-valid}
-use Rattle.hg_phases.proofs.LogLemmas.{IsLog-above}
-use Rattle.hg_history.proofs.AddLemmas.{added-len, least-added}
+use Rattle.hg_phases.specs.Log.{restored}
+use Rattle.hg_phases.proofs.LogLemmas.{fresh_log, IsLog-above}
 use Rattle.hg_history.specs.Change.{ListsLowered}
-use Rattle.hg_history.proofs.AbsorbLemmas.{fresh_log, within_log, admitted, least-absorbed, in_order, told_at_state, bound_first}
-use Rattle.hg_history.proofs.ChangeLemmas.{lowered_are}
+use Rattle.hg_history.specs.declared.fault.Fault.TheVariants.{NoMemory}
+use Rattle.hg_history.proofs.AddLemmas.{front_kept, phases_kept, graph_added}
+use Rattle.hg_history.proofs.AbsorbLemmas.{back_added, back_lowered, admitted, least-absorbed, in_order, told_at_state, bound_first}
+use Rattle.hg_history.proofs.GrowthLemmas.{add_refusal, bound_wants_none, growth-adding, growth-after, refused_along}
 use Rattle.hg_history.proofs.absorb.absorb_logged.Goals as goal
 
-pub lower_to-requires-clause-valid : goal.lower_to-requires-clause-valid
-lower_to-requires-clause-valid c =
-    least-valid (state_of c.args.graph.now c.args.phases.now) _ (state_of c.add_changesets.new.graph c.add_changesets.new.phases)
-    (least-added c.args.graph.now c.args.phases.now c.args.changesets.now c.add_changesets.new.graph c.add_changesets.new.phases c.in-Ok.added.items c.requires.len c.in-Ok.ensures.added) c.requires.valid
+pub returns-in-Err-clause-back : goal.returns-in-Err-clause-back
+returns-in-Err-clause-back c =
+    let done = c.in-Err.ensures in
+    back_added c.args.graph.now c.args.phases.now c.args.changesets.now done.0 c.add_changesets.new.graph c.add_changesets.new.phases c.args.log.now c.requires.len done.3 c.requires.fresh
 
-pub returns-in_err-lower_to-clause-within : goal.returns-in_err-lower_to-clause-within
-returns-in_err-lower_to-clause-within c =
-    let start = c.add_changesets.new.phases in
-    within_log Public start c.lower_to.new.phases c.lower_to.new.log (c.lower_to.ensures.logged start (fresh_log Public start c.args.log.now c.requires.fresh))
+pub returns-in-Err-clause-refusal : goal.returns-in-Err-clause-refusal
+returns-in-Err-clause-refusal c =
+    add_refusal c.args.graph.now c.args.phases.now c.args.changesets.now c.args.bounds.now c.in-Err.fault c.add_changesets.new.graph c.add_changesets.new.phases c.in-Err.ensures
 
-pub returns-in_err-lower_to-2-clause-within : goal.returns-in_err-lower_to-2-clause-within
-returns-in_err-lower_to-2-clause-within c =
-    let start = c.add_changesets.new.phases in
-    let public = c.lower_to.ensures.logged start (fresh_log Public start c.args.log.now c.requires.fresh) in
-    within_log Draft start c.lower_to-2.new.phases c.lower_to-2.new.log (c.lower_to-2.ensures.logged start (IsLog-above Public Draft start c.lower_to.new.phases c.lower_to.new.log (omega arith) public))
+pub returns-in-Err-clause-memory : goal.returns-in-Err-clause-memory
+returns-in-Err-clause-memory c is =
+    growth-adding c.args.graph.now c.args.phases.now c.args.changesets.now c.args.bounds.now c.requires.len _ c.add_changesets.new.graph c.add_changesets.new.phases c.in-Err.ensures (refused_along c.in-Err.fault NoMemory is)
 
-pub returns-in_err-lowered-clause-within : goal.returns-in_err-lowered-clause-within
-returns-in_err-lowered-clause-within c =
-    let start = c.add_changesets.new.phases in
-    let public = c.lower_to.ensures.logged start (fresh_log Public start c.args.log.now c.requires.fresh) in
-    within_log Draft start c.lower_to-2.new.phases c.lower_to-2.new.log (c.lower_to-2.ensures.logged start (IsLog-above Public Draft start c.lower_to.new.phases c.lower_to.new.log (omega arith) public))
+pub returns-in-Err-check_bounds-clause-back : goal.returns-in-Err-check_bounds-clause-back
+returns-in-Err-check_bounds-clause-back c =
+    back_added c.args.graph.now c.args.phases.now c.args.changesets.now _ c.add_changesets.new.graph c.add_changesets.new.phases c.args.log.now c.requires.len c.in-Ok.ensures c.requires.fresh
 
-pub returns-clause-within : goal.returns-clause-within
-returns-clause-within c =
-    let start = c.add_changesets.new.phases in
-    let public = c.lower_to.ensures.logged start (fresh_log Public start c.args.log.now c.requires.fresh) in
-    within_log Draft start c.lower_to-2.new.phases c.lower_to-2.new.log (c.lower_to-2.ensures.logged start (IsLog-above Public Draft start c.lower_to.new.phases c.lower_to.new.log (omega arith) public))
+pub returns-in-Err-check_bounds-clause-refusal : goal.returns-in-Err-check_bounds-clause-refusal
+returns-in-Err-check_bounds-clause-refusal c =
+    bound_first c.args.graph.now c.args.phases.now c.args.changesets.now c.args.bounds.now c.add_changesets.new.graph c.add_changesets.new.phases c.in-Ok.ensures c.in-Err-check_bounds.fault c.in-Err-check_bounds.ensures.fault
+
+pub returns-in-Err-check_bounds-clause-memory : goal.returns-in-Err-check_bounds-clause-memory
+returns-in-Err-check_bounds-clause-memory c is = absurd (bound_wants_none c.add_changesets.new.graph c.args.bounds.now c.in-Err-check_bounds.fault c.in-Err-check_bounds.ensures.fault is)
+
+pub returns-in_err-lower_to-clause-back : goal.returns-in_err-lower_to-clause-back
+returns-in_err-lower_to-clause-back c =
+    let ks = c.add_changesets.new.phases in
+    back_lowered c.args.graph.now c.args.phases.now c.args.changesets.now _ c.add_changesets.new.graph ks c.lower_to.new.phases Public c.lower_to.new.log c.requires.len c.in-Ok.ensures
+    c.lower_to.ensures.len (c.lower_to.ensures.logged ks (fresh_log Public ks c.args.log.now c.requires.fresh)) (c.lower_to.ensures.undoes ∙ ap (restored ks) c.requires.fresh)
+
+pub returns-in_err-lower_to-clause-memory : goal.returns-in_err-lower_to-clause-memory
+returns-in_err-lower_to-clause-memory c is =
+    growth-after c.args.graph.now c.args.phases.now c.args.changesets.now c.args.bounds.now c.requires.len c.add_changesets.new.graph c.add_changesets.new.phases c.in-Ok.ensures c.in-Ok-check_bounds.ensures.held
+
+pub returns-in_err-lower_to-2-clause-memory : goal.returns-in_err-lower_to-2-clause-memory
+returns-in_err-lower_to-2-clause-memory c is =
+    growth-after c.args.graph.now c.args.phases.now c.args.changesets.now c.args.bounds.now c.requires.len c.add_changesets.new.graph c.add_changesets.new.phases c.in-Ok.ensures c.in-Ok-check_bounds.ensures.held
+
+pub returns-in_err-added-clause-memory : goal.returns-in_err-added-clause-memory
+returns-in_err-added-clause-memory c is =
+    growth-after c.args.graph.now c.args.phases.now c.args.changesets.now c.args.bounds.now c.requires.len c.add_changesets.new.graph c.add_changesets.new.phases c.in-Ok.ensures c.in-Ok-check_bounds.ensures.held
+
+pub returns-in_err-lowered-clause-memory : goal.returns-in_err-lowered-clause-memory
+returns-in_err-lowered-clause-memory c is =
+    growth-after c.args.graph.now c.args.phases.now c.args.changesets.now c.args.bounds.now c.requires.len c.add_changesets.new.graph c.add_changesets.new.phases c.in-Ok.ensures c.in-Ok-check_bounds.ensures.held
+
+pub returns-in_err-lower_to-2-clause-back : goal.returns-in_err-lower_to-2-clause-back
+returns-in_err-lower_to-2-clause-back c =
+    let ks = c.add_changesets.new.phases in
+    let public = c.lower_to.ensures.logged ks (fresh_log Public ks c.args.log.now c.requires.fresh) in
+    let logged = c.lower_to-2.ensures.logged ks (IsLog-above Public Draft ks c.lower_to.new.phases c.lower_to.new.log (omega arith) public) in
+    back_lowered c.args.graph.now c.args.phases.now c.args.changesets.now _ c.add_changesets.new.graph ks c.lower_to-2.new.phases Draft c.lower_to-2.new.log c.requires.len c.in-Ok.ensures
+    (c.lower_to-2.ensures.len ∙ c.lower_to.ensures.len) logged (c.lower_to-2.ensures.undoes ∙ c.lower_to.ensures.undoes ∙ ap (restored ks) c.requires.fresh)
+
+pub returns-in_err-added-clause-back : goal.returns-in_err-added-clause-back
+returns-in_err-added-clause-back c =
+    let ks = c.add_changesets.new.phases in
+    let public = c.lower_to.ensures.logged ks (fresh_log Public ks c.args.log.now c.requires.fresh) in
+    let logged = c.lower_to-2.ensures.logged ks (IsLog-above Public Draft ks c.lower_to.new.phases c.lower_to.new.log (omega arith) public) in
+    back_lowered c.args.graph.now c.args.phases.now c.args.changesets.now _ c.add_changesets.new.graph ks c.lower_to-2.new.phases Draft c.lower_to-2.new.log c.requires.len c.in-Ok.ensures
+    (c.lower_to-2.ensures.len ∙ c.lower_to.ensures.len) logged (c.lower_to-2.ensures.undoes ∙ c.lower_to.ensures.undoes ∙ ap (restored ks) c.requires.fresh)
+
+pub returns-in_err-lowered-clause-back : goal.returns-in_err-lowered-clause-back
+returns-in_err-lowered-clause-back c =
+    let ks = c.add_changesets.new.phases in
+    let public = c.lower_to.ensures.logged ks (fresh_log Public ks c.args.log.now c.requires.fresh) in
+    let logged = c.lower_to-2.ensures.logged ks (IsLog-above Public Draft ks c.lower_to.new.phases c.lower_to.new.log (omega arith) public) in
+    back_lowered c.args.graph.now c.args.phases.now c.args.changesets.now _ c.add_changesets.new.graph ks c.lower_to-2.new.phases Draft c.lower_to-2.new.log c.requires.len c.in-Ok.ensures
+    (c.lower_to-2.ensures.len ∙ c.lower_to.ensures.len) logged (c.lower_to-2.ensures.undoes ∙ c.lower_to.ensures.undoes ∙ ap (restored ks) c.requires.fresh)
+
+pub returns-clause-back : goal.returns-clause-back
+returns-clause-back c =
+    let ks = c.add_changesets.new.phases in
+    let public = c.lower_to.ensures.logged ks (fresh_log Public ks c.args.log.now c.requires.fresh) in
+    let logged = c.lower_to-2.ensures.logged ks (IsLog-above Public Draft ks c.lower_to.new.phases c.lower_to.new.log (omega arith) public) in
+    back_lowered c.args.graph.now c.args.phases.now c.args.changesets.now _ c.add_changesets.new.graph ks c.lower_to-2.new.phases Draft c.lower_to-2.new.log c.requires.len c.in-Ok.ensures
+    (c.lower_to-2.ensures.len ∙ c.lower_to.ensures.len) logged (c.lower_to-2.ensures.undoes ∙ c.lower_to.ensures.undoes ∙ ap (restored ks) c.requires.fresh)
 
 pub returns-clause-absorbed : goal.returns-clause-absorbed
 returns-clause-absorbed c =
@@ -48,31 +97,20 @@ returns-clause-absorbed c =
     let bounds = c.args.bounds.now in
     let cs = c.add_changesets.new.graph in
     let ks = c.add_changesets.new.phases in
-    let ns = c.in-Ok.added.items in
     let new = c.lower_to-2.new.phases in
-    let log = c.lower_to-2.new.log in
-    let a = c.in-Ok.ensures.added in
+    let a = c.in-Ok.ensures in
     let there = c.in-Ok-check_bounds.ensures.held in
-    let len : length new ≡ length cs = c.lower_to-2.ensures.len ∙ c.lower_to.ensures.len ∙ added-len held had part cs ks ns c.requires.len a in
+    let len : length new ≡ length cs = c.lower_to-2.ensures.len ∙ c.lower_to.ensures.len ∙ a.len in
     let public = c.lower_to.ensures.logged ks (fresh_log Public ks c.args.log.now c.requires.fresh) in
     let logged = c.lower_to-2.ensures.logged ks (IsLog-above Public Draft ks c.lower_to.new.phases c.lower_to.new.log (omega arith) public) in
     let before = c.len-before.ensures.len in
-    let down = lowered_are held _ cs had _ ks new Draft log a.graph a.appended a.secret c.requires.len logged in
-    let down_is : c.in_ok-lowered.lowered.items ≡ flat_map (node_before (nodes cs) (length held)) log =
-    c.in_ok-lowered.ensures ∙ (λ t. flat_map (node_before (nodes cs) (before t)) log) in
+    let down = c.in_ok-lowered.ensures Draft ks new (graph_added held had part _ cs ks a) logged in
+    let graph_is : take c.len-before.result cs ≡ held = ap (λ n. take n cs) before ∙ front_kept held had part _ cs ks a in
+    let phases_are : take c.len-before.result ks ≡ had = ap (λ n. take n ks) before ∙ phases_kept held had part _ cs ks a c.requires.len in
     record {
-      admitted = admitted held had part bounds cs ks ns a c.requires.len there;
-      least = least-absorbed held had part bounds cs ks ns a c.requires.len there c.lower_to.new.phases new
-          c.in_ok-lower_to.ensures.lowered
-          c.in_ok-lower_to-2.ensures.lowered len;
-      order = in_order held had part bounds cs ks ns a c.requires.len there new len;
-      added = told_at_state held had part bounds cs ks ns a c.requires.len there;
-      lowered = subst (ListsLowered (state_of held had) (state_of cs new)) (sym down_is) down;
+      admitted = admitted held had part bounds cs ks a c.requires.len there;
+      least = least-absorbed held had part bounds cs ks a c.requires.len there c.lower_to.new.phases new c.in_ok-lower_to.ensures.lowered c.in_ok-lower_to-2.ensures.lowered len;
+      order = in_order held had part bounds cs ks a c.requires.len there new len;
+      added = c.in_ok-added.ensures ∙ ap (λ n. drop n (nodes cs)) before ∙ told_at_state held had part bounds cs ks a c.requires.len there;
+      lowered = subst (λ ds. ListsLowered (state_of ds had) (state_of cs new) c.in_ok-lowered.lowered.items) graph_is (subst (λ xs. ListsLowered (state_of (take c.len-before.result cs) xs) (state_of cs new) c.in_ok-lowered.lowered.items) phases_are down);
     }
-
-pub returns-in-Err-clause-refusal : goal.returns-in-Err-clause-refusal
-returns-in-Err-clause-refusal c = c.in-Err.ensures.refusal c.args.bounds.now
-
-pub returns-in-Err-check_bounds-clause-refusal : goal.returns-in-Err-check_bounds-clause-refusal
-returns-in-Err-check_bounds-clause-refusal c =
-    bound_first c.args.graph.now c.args.phases.now c.args.changesets.now c.args.bounds.now c.add_changesets.new.graph c.add_changesets.new.phases c.in-Ok.added.items c.in-Ok.ensures.added c.in-Err-check_bounds.fault c.in-Err-check_bounds.ensures.fault

@@ -9,6 +9,6 @@ use Rattle.hg_history.proofs.absorb.lower_bound.Goals as goal
 pub returns-then-eq-clause-lowered : goal.returns-then-eq-clause-lowered
 returns-then-eq-clause-lowered c =
     let is : c.args.bound.1 ≡ c.args.phase = same_true the_type (search rules) _ _ (sym c.eq.ensures ∙ c.if-eq.true) in
-    on_ok_weaker c.lower.result
-    (λ least. inl (is, subst (λ k. IsLeast (state_of c.args.graph.now c.args.phases.now) (bound_alone (c.args.bound.0, k) ∷ []) (state_of c.args.graph.now c.lower.new.self)) (sym is) least))
-    c.lower.ensures.least
+    on_ok_weaker c.lower_logged.result
+    (λ least. inl (is, subst (λ k. IsLeast (state_of c.args.graph.now c.args.phases.now) (bound_alone (c.args.bound.0, k) ∷ []) (state_of c.args.graph.now c.lower_logged.new.self)) (sym is) least))
+    c.lower_logged.ensures.least

@@ -1,79 +1,81 @@
-use Rattle.std.proofs.Common.{◌≡◌, ◌+◌, ◌<◌, ◌≤◌, length, slice_get, Some, Ok, Err, sym, subst, arith}
-use Rattle.hg_phases.specs.State.{Held, held_of, state_of}
-use Rattle.hg_phases.proofs.PlaceLemmas.{held-at}
-use Rattle.hg_history.specs.Join.{CanTakeBack, IsJoinFault}
-use Rattle.hg_history.proofs.JoinLemmas.{missing, err-along, IsJoinedUpTo, joined-start, joined-step, joined-fault, joined-finish, joined-inside, ready, take_back-start, take_back-step}
+use Rattle.std.proofs.Common.{◌≡◌, ◌∙◌, [], ◌∷◌, length, ap, subst, arith}
+use Rattle.hg_phases.specs.declared.phase.Phase.TheVariants.{Public, Draft}
+use Rattle.hg_phases.specs.State.{state_of}
+use Rattle.hg_phases.specs.Least.{IsLeast}
+use Rattle.hg_phases.specs.Log.{restored}
+use Rattle.hg_phases.proofs.LogLemmas.{fresh_log, IsLog-above}
+use Rattle.hg_phases.proofs.PlaceLemmas.{graph_of_state}
+use Rattle.hg_history.specs.declared.fault.Fault.TheVariants.{NoMemory}
+use Rattle.hg_history.specs.Answer.{IsGrowthBeforeFault}
+use Rattle.hg_history.proofs.AbsorbLemmas.{back_added, back_lowered, least-absorbed}
+use Rattle.hg_history.proofs.GrowthLemmas.{growth-adding, growth-after, refused_along}
+use Rattle.hg_history.proofs.JoinLemmas.{bounds_held, fault_joined, part_is}
 use Rattle.hg_history.proofs.join.join_logged.Goals as goal
-use Rattle.hg_history.proofs.join.join_logged.Goals.{in-Some+in_ok-take_in, in_default}
 
-pub loop-place-init : goal.loop-place-init
-loop-place-init c = record {
-  joined = joined-start c.args.graph.now c.args.phases.now (state_of c.args.other.now c.args.other_phases.now) c.requires.len c.requires.valid;
-  back = take_back-start c.args.graph.now c.args.phases.now c.args.log.now c.requires.fresh;
-}
+pub returns-in-Err-clause-back : goal.returns-in-Err-clause-back
+returns-in-Err-clause-back c =
+    let done = c.in-Err.ensures in
+    back_added c.args.graph.now c.args.phases.now c.args.other.now done.0 c.add_all.new.graph c.add_all.new.phases c.args.log.now c.requires.len done.3 c.requires.fresh
 
-pub take_in-requires-clause-parents : goal.take_in-requires-clause-parents
-take_in-requires-clause-parents c =
-    let h : Held = record { changeset = c.in-Some.changeset.now; phase = c.at.result } in
-    ready (state_of c.args.graph.now c.args.phases.now) (state_of c.args.other.now c.args.other_phases.now) c.loop-place.place h
-    (held-at c.args.other.now c.args.other_phases.now c.loop-place.place c.in-Some.changeset.now c.at.result (sym c.in-Some.ensures) c.at.ensures)
-    c.requires.other_valid c.loop-place.graph c.loop-place.phases c.loop-place.log c.loop-place.invariant.joined
+pub returns-in-Err-clause-fault : goal.returns-in-Err-clause-fault
+returns-in-Err-clause-fault c =
+    fault_joined c.args.other.now c.args.other_phases.now c.requires.other_len c.args.graph.now c.args.phases.now c.requires.len
+    (graph_of_state c.args.other.now c.args.other_phases.now c.requires.other_len c.requires.other_valid) c.in-Err.fault c.add_all.new.graph c.add_all.new.phases c.in-Err.ensures
 
-pub returns-in_err-take_in-clause-back : goal.returns-in_err-take_in-clause-back
-returns-in_err-take_in-clause-back c =
-    take_back-step c.args.graph.now c.args.phases.now c.in-Some.changeset.now c.at.result c.loop-place.graph c.loop-place.phases c.loop-place.log c.loop-place.invariant.back
-    (Err c.in_err-take_in.field-0.0) c.take_in.new.graph c.take_in.new.phases c.take_in.new.log c.in_err-take_in.ensures
+pub returns-in-Err-clause-memory : goal.returns-in-Err-clause-memory
+returns-in-Err-clause-memory c is =
+    subst (IsGrowthBeforeFault (state_of c.args.graph.now c.args.phases.now)) (part_is c.args.other.now c.args.other_phases.now c.requires.other_len)
+    (growth-adding c.args.graph.now c.args.phases.now c.args.other.now _ c.requires.len _ c.add_all.new.graph c.add_all.new.phases c.in-Err.ensures (refused_along c.in-Err.fault NoMemory is))
 
-pub returns-in_err-take_in-clause-fault : goal.returns-in_err-take_in-clause-fault
-returns-in_err-take_in-clause-fault c =
-    let h : Held = record { changeset = c.in-Some.changeset.now; phase = c.at.result } in
-    let s = state_of c.args.graph.now c.args.phases.now in
-    let o = state_of c.args.other.now c.args.other_phases.now in
-    let fault : IsJoinFault s o c.in_err-take_in.field-0.0 =
-    joined-fault s o c.loop-place.place h
-    (held-at c.args.other.now c.args.other_phases.now c.loop-place.place c.in-Some.changeset.now c.at.result (sym c.in-Some.ensures) c.at.ensures)
-    c.requires.other_valid c.loop-place.graph c.loop-place.phases c.loop-place.log c.loop-place.invariant.joined c.in_err-take_in.field-0.0
-    c.take_in.new.graph c.take_in.new.phases c.take_in.new.log c.in_err-take_in.ensures in
-    err-along c.from_residual.result (IsJoinFault s o) c.from_residual.ensures.1 (λ e is. subst (IsJoinFault s o) (sym is) fault)
+pub returns-in_err-lower_to_each-clause-back : goal.returns-in_err-lower_to_each-clause-back
+returns-in_err-lower_to_each-clause-back c =
+    let ks = c.add_all.new.phases in
+    back_lowered c.args.graph.now c.args.phases.now c.args.other.now _ c.add_all.new.graph ks c.lower_to_each.new.phases Public c.lower_to_each.new.log c.requires.len c.in-Ok.ensures
+    c.lower_to_each.ensures.len (c.lower_to_each.ensures.logged ks (fresh_log Public ks c.args.log.now c.requires.fresh)) (c.lower_to_each.ensures.undoes ∙ ap (restored ks) c.requires.fresh)
 
-pub loop-place-preserved : goal.loop-place-preserved
-loop-place-preserved c = elim c.match-changeset_at.branch [
-  | in-Some+in_ok-take_in w ↦
-      let h : Held = record { changeset = w.in-Some.changeset.now; phase = w.at.result } in
-      let at_h : slice_get (held_of c.args.other.now c.args.other_phases.now) c.loop-place.place ≡ Some h =
-      held-at c.args.other.now c.args.other_phases.now c.loop-place.place w.in-Some.changeset.now w.at.result (sym w.in-Some.ensures) w.at.ensures in
-      let s = state_of c.args.graph.now c.args.phases.now in
-      let o = state_of c.args.other.now c.args.other_phases.now in
-      let joined : IsJoinedUpTo s o (c.loop-place.place + 1) w.take_in.new.graph w.take_in.new.phases =
-      joined-step s o c.loop-place.place h at_h c.requires.other_valid c.loop-place.graph c.loop-place.phases c.loop-place.log c.loop-place.invariant.joined w.take_in.new.graph w.take_in.new.phases w.take_in.new.log w.in_ok-take_in.ensures in
-      let back : CanTakeBack c.args.graph.now c.args.phases.now w.take_in.new.graph w.take_in.new.phases w.take_in.new.log =
-      take_back-step c.args.graph.now c.args.phases.now h.changeset h.phase c.loop-place.graph c.loop-place.phases c.loop-place.log c.loop-place.invariant.back (Ok w.in_ok-take_in.field-0) w.take_in.new.graph w.take_in.new.phases w.take_in.new.log w.in_ok-take_in.ensures in
-      record {
-        joined =
-            subst (λ g. IsJoinedUpTo s o (c.loop-place.place + 1) g c.match-changeset_at.phases) (sym w.graph-is)
-            (subst (λ p. IsJoinedUpTo s o (c.loop-place.place + 1) w.take_in.new.graph p) (sym w.phases-is) joined);
-        back =
-            subst (λ g. CanTakeBack c.args.graph.now c.args.phases.now g c.match-changeset_at.phases c.match-changeset_at.log) (sym w.graph-is)
-            (subst (λ p. CanTakeBack c.args.graph.now c.args.phases.now w.take_in.new.graph p c.match-changeset_at.log) (sym w.phases-is)
-            (subst (λ l. CanTakeBack c.args.graph.now c.args.phases.now w.take_in.new.graph w.take_in.new.phases l) (sym w.log-is) back));
-      }
-  | in_default w ↦
-      let within : c.loop-place.place < length c.args.other.now = omega arith in
-      absurd (missing c.args.other.now c.loop-place.place c.changeset_at.result within c.changeset_at.ensures w.in_default.is)
-]
+pub lower_to_each-requires-clause-held : goal.lower_to_each-requires-clause-held
+lower_to_each-requires-clause-held c = bounds_held c.args.other.now c.args.other_phases.now c.requires.other_len c.args.graph.now c.args.phases.now c.add_all.new.graph c.add_all.new.phases c.in-Ok.ensures
 
-pub returns-clause-inside : goal.returns-clause-inside
-returns-clause-inside c =
-    let all = c.loop-place.invariant.joined in
-    let s = state_of c.args.graph.now c.args.phases.now in
-    let o = state_of c.args.other.now c.args.other_phases.now in
-    let le : length c.args.other.now ≤ c.loop-place.place = omega arith in (
-      all.len,
-      joined-inside s o c.loop-place.graph c.loop-place.phases c.requires.valid c.requires.other_valid all.len all.graph
-          (joined-finish s c.args.other.now c.args.other_phases.now c.loop-place.place c.loop-place.graph c.loop-place.phases c.requires.other_len le all),
-    )
+pub lower_to_each-requires-2-clause-held : goal.lower_to_each-requires-2-clause-held
+lower_to_each-requires-2-clause-held c = bounds_held c.args.other.now c.args.other_phases.now c.requires.other_len c.args.graph.now c.args.phases.now c.add_all.new.graph c.add_all.new.phases c.in-Ok.ensures
+
+pub returns-in_err-lower_to_each-clause-memory : goal.returns-in_err-lower_to_each-clause-memory
+returns-in_err-lower_to_each-clause-memory c is =
+    subst (IsGrowthBeforeFault (state_of c.args.graph.now c.args.phases.now)) (part_is c.args.other.now c.args.other_phases.now c.requires.other_len)
+    (growth-after c.args.graph.now c.args.phases.now c.args.other.now _ c.requires.len c.add_all.new.graph c.add_all.new.phases c.in-Ok.ensures
+    (bounds_held c.args.other.now c.args.other_phases.now c.requires.other_len c.args.graph.now c.args.phases.now c.add_all.new.graph c.add_all.new.phases c.in-Ok.ensures))
+
+pub returns-in_err-lower_to_each-2-clause-memory : goal.returns-in_err-lower_to_each-2-clause-memory
+returns-in_err-lower_to_each-2-clause-memory c is =
+    subst (IsGrowthBeforeFault (state_of c.args.graph.now c.args.phases.now)) (part_is c.args.other.now c.args.other_phases.now c.requires.other_len)
+    (growth-after c.args.graph.now c.args.phases.now c.args.other.now _ c.requires.len c.add_all.new.graph c.add_all.new.phases c.in-Ok.ensures
+    (bounds_held c.args.other.now c.args.other_phases.now c.requires.other_len c.args.graph.now c.args.phases.now c.add_all.new.graph c.add_all.new.phases c.in-Ok.ensures))
+
+pub returns-in_err-lower_to_each-2-clause-back : goal.returns-in_err-lower_to_each-2-clause-back
+returns-in_err-lower_to_each-2-clause-back c =
+    let ks = c.add_all.new.phases in
+    let public = c.lower_to_each.ensures.logged ks (fresh_log Public ks c.args.log.now c.requires.fresh) in
+    let logged = c.lower_to_each-2.ensures.logged ks (IsLog-above Public Draft ks c.lower_to_each.new.phases c.lower_to_each.new.log (omega arith) public) in
+    back_lowered c.args.graph.now c.args.phases.now c.args.other.now _ c.add_all.new.graph ks c.lower_to_each-2.new.phases Draft c.lower_to_each-2.new.log c.requires.len c.in-Ok.ensures
+    (c.lower_to_each-2.ensures.len ∙ c.lower_to_each.ensures.len) logged (c.lower_to_each-2.ensures.undoes ∙ c.lower_to_each.ensures.undoes ∙ ap (restored ks) c.requires.fresh)
+
+pub returns-clause-back : goal.returns-clause-back
+returns-clause-back c =
+    let ks = c.add_all.new.phases in
+    let public = c.lower_to_each.ensures.logged ks (fresh_log Public ks c.args.log.now c.requires.fresh) in
+    let logged = c.lower_to_each-2.ensures.logged ks (IsLog-above Public Draft ks c.lower_to_each.new.phases c.lower_to_each.new.log (omega arith) public) in
+    back_lowered c.args.graph.now c.args.phases.now c.args.other.now _ c.add_all.new.graph ks c.lower_to_each-2.new.phases Draft c.lower_to_each-2.new.log c.requires.len c.in-Ok.ensures
+    (c.lower_to_each-2.ensures.len ∙ c.lower_to_each.ensures.len) logged (c.lower_to_each-2.ensures.undoes ∙ c.lower_to_each.ensures.undoes ∙ ap (restored ks) c.requires.fresh)
 
 pub returns-clause-joined : goal.returns-clause-joined
 returns-clause-joined c =
-    let le : length c.args.other.now ≤ c.loop-place.place = omega arith in
-    joined-finish (state_of c.args.graph.now c.args.phases.now) c.args.other.now c.args.other_phases.now c.loop-place.place c.loop-place.graph c.loop-place.phases c.requires.other_len le c.loop-place.invariant.joined
+    let held = c.args.graph.now in
+    let had = c.args.phases.now in
+    let cs = c.add_all.new.graph in
+    let ks = c.add_all.new.phases in
+    let new = c.lower_to_each-2.new.phases in
+    let a = c.in-Ok.ensures in
+    let there = bounds_held c.args.other.now c.args.other_phases.now c.requires.other_len held had cs ks a in
+    let len : length new ≡ length cs = c.lower_to_each-2.ensures.len ∙ c.lower_to_each.ensures.len ∙ a.len in
+    subst (λ k. IsLeast (state_of held had) (k ∷ []) (state_of cs new)) (part_is c.args.other.now c.args.other_phases.now c.requires.other_len)
+    (least-absorbed held had c.args.other.now _ cs ks a c.requires.len there c.lower_to_each.new.phases new c.in_ok-lower_to_each.ensures.lowered c.in_ok-lower_to_each-2.ensures.lowered len)

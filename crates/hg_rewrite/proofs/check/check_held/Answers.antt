@@ -1,4 +1,4 @@
-use Rattle.std.proofs.Common.{[], inr, get_or, refl, arith, true≢false, sym, subst, ◌∙◌}
+use Rattle.std.proofs.Common.{[], get_or, refl, arith, true≢false, sym, subst, ◌∙◌}
 use Rattle.hg_graph.specs.Graph.{Holds as GraphHolds}
 use Rattle.hg_rewrite.specs.declared.refusal.Refusal.TheVariants.{Unknown}
 use Rattle.hg_rewrite.specs.Refusals.{unknown}
@@ -9,7 +9,7 @@ pub returns-then-not-contains-clause-answer : goal.returns-then-not-contains-cla
 returns-then-not-contains-clause-answer c =
     let ns = c.args.nodes.now in
     let i = c.loop-node.node-index in
-    inr (first_next (unknown c.args.replica.now.history) ns i (record { 0 = [] }) (Unknown (get_or ns i (record { 0 = [] }))) (omega arith) c.loop-node.invariant ((λ held. true≢false (sym (c.contains.ensures.1 (subst (λ cs. GraphHolds cs (get_or ns i (record { 0 = [] }))) (sym c.graph-graph.ensures.graph) held)) ∙ c.if-not-contains.true)), refl))
+    first_next (unknown c.args.replica.now.history) ns i (record { 0 = [] }) (Unknown (get_or ns i (record { 0 = [] }))) (omega arith) c.loop-node.invariant ((λ held. true≢false (sym (c.contains.ensures.1 (subst (λ cs. GraphHolds cs (get_or ns i (record { 0 = [] }))) (sym c.graph-graph.ensures.graph) held)) ∙ c.if-not-contains.true)), refl)
 
 pub loop-node-preserved : goal.loop-node-preserved
 loop-node-preserved c =

@@ -14,8 +14,8 @@ returns-then-holds c =
     let id : Node = get_or ids i (record { 0 = [] }) in
     let at : slice_get ids i ≡ Some id = slice_get-get_or ids i (record { 0 = [] }) (omega arith) in
     elim c.then-holds.branch [
-      | then-holds-via-then-holds w ↦ inr (first_existing s ids i id c.loop-i.invariant at (inl (c.holds.ensures.0 w.if-holds.true)))
-      | then-holds-via-else-holds+then-contains w ↦ inr (first_existing s ids i id c.loop-i.invariant at (inr (subst (λ ns. Contains ns id) (rest-slice ids (i + 1)) (w.contains.ensures.0 w.if-contains.true))))
+      | then-holds-via-then-holds w ↦ first_existing s ids i id c.loop-i.invariant at (inl (c.holds.ensures.0 w.if-holds.true))
+      | then-holds-via-else-holds+then-contains w ↦ first_existing s ids i id c.loop-i.invariant at (inr (subst (λ ns. Contains ns id) (rest-slice ids (i + 1)) (w.contains.ensures.0 w.if-contains.true)))
     ]
 
 pub loop-i-preserved : goal.loop-i-preserved

@@ -1,8 +1,9 @@
-use Rattle.std.proofs.Common.{◌≡◌, take, sym, ◌∙◌, subst}
+use Rattle.std.proofs.Common.{◌≡◌, ◌≢◌, [], Err, inl, inr, ap, take, sym, ◌∙◌, subst}
 use Rattle.std.proofs.Math.Seq.{take-append_seam}
 use Rattle.hg_phases.specs.State.{changesets}
 use Rattle.hg_phases.proofs.LawLemmas.{least-valid}
-use Rattle.hg_history.specs.Answer.{IsAbsorbed as IsAbsorbedHistory, IsRefusal}
+use Rattle.hg_history.specs.Answer.{IsAbsorbed as IsAbsorbedHistory, IsRefusal, IsGrowthBeforeFault as IsHistoryGrowth}
+use Rattle.hg_history.specs.declared.fault.Fault.TheVariants.{NoMemory}
 use Rattle.hg_obsstore.specs.Growth.{new_among}
 use Rattle.hg_replica.specs.State.{ReplicaState}
 use Rattle.hg_replica.specs.Least.{PartValue}
@@ -46,3 +47,18 @@ returns-in-Err-absorb-clause-answer c =
 pub returns-in-Err-clause-answer : goal.returns-in-Err-clause-answer
 unfolding AbsorbAnswer
 returns-in-Err-clause-answer c = (tt, (λ i. record { history = c.self.inside.history; markers = c.in-Err.ensures.err i }) ∙ c.self.view_is)
+
+pub returns-in-Err-absorb-clause-memory : goal.returns-in-Err-absorb-clause-memory
+returns-in-Err-absorb-clause-memory c =
+    let k : PartValue = record { history = record { changesets = c.deref-2.result.now; bounds = c.deref-3.result.now }; markers = c.deref.result.now } in
+    let k_is : k ≡ c.args.part.now =
+    (λ i. record { history = record { changesets = c.deref-2.ensures.value i; bounds = c.deref-3.ensures.value i }; markers = c.deref.ensures.value i }) ∙ c.part.view_is in
+    let fault = c.in-Err-absorb.fault in
+    λ e.
+    let same : fault ≡ NoMemory = cc in
+    inr (subst (λ u. IsHistoryGrowth u.history c.args.part.now.history) c.self.view_is (subst (λ x. IsHistoryGrowth c.self.inside.history x.history) k_is (c.in-Err-absorb.ensures.memory (ap (λ x. Err x) same))))
+
+pub returns-in-Err-clause-memory : goal.returns-in-Err-clause-memory
+returns-in-Err-clause-memory c =
+    let new = subst (λ ms. new_among c.self.inside.store ms ≢ []) (c.deref.ensures.value ∙ ap (λ (x : PartValue). x.markers) c.part.view_is) c.in-Err.ensures.memory in
+    λ e. inl (subst (λ (u : ReplicaState). new_among u.markers c.args.part.now.markers ≢ []) c.self.view_is new)

@@ -1,5 +1,8 @@
-use Rattle.std.proofs.Common.{◌≡◌, take, ◌∙◌, subst}
+use Rattle.std.proofs.Common.{◌≡◌, ◌≢◌, [], Err, inl, inr, ap, take, ◌∙◌, subst}
 use Rattle.std.proofs.Math.Seq.{take-append_seam}
+use Rattle.hg_phases.specs.Least.{part_of as history_part_of}
+use Rattle.hg_history.specs.declared.fault.Fault.TheVariants.{NoMemory}
+use Rattle.hg_history.specs.Answer.{IsGrowthBeforeFault as IsHistoryGrowth}
 use Rattle.hg_history.specs.Join.{IsJoinFault}
 use Rattle.hg_obsstore.specs.Growth.{new_among}
 use Rattle.hg_replica.specs.State.{ReplicaState}
@@ -32,3 +35,14 @@ returns-in-Err-join-clause-answer c =
 pub returns-in-Err-clause-answer : goal.returns-in-Err-clause-answer
 unfolding JoinAnswer
 returns-in-Err-clause-answer c = (tt, (λ i. record { history = c.self.inside.history; markers = c.in-Err.ensures.err i }) ∙ c.self.view_is)
+
+pub returns-in-Err-join-clause-memory : goal.returns-in-Err-join-clause-memory
+returns-in-Err-join-clause-memory c =
+    let fault = c.in-Err-join.fault in
+    λ e.
+    let same : fault ≡ NoMemory = cc in
+    inr (subst (λ (u : ReplicaState). IsHistoryGrowth c.args.self.now.history (history_part_of u.history)) c.other.view_is (subst (λ (u : ReplicaState). IsHistoryGrowth u.history (history_part_of c.other.inside.history)) c.self.view_is (c.in-Err-join.ensures.memory (ap (λ x. Err x) same))))
+
+pub returns-in-Err-clause-memory : goal.returns-in-Err-clause-memory
+returns-in-Err-clause-memory c =
+    λ e. inl (subst (λ (u : ReplicaState). new_among c.args.self.now.markers u.markers ≢ []) c.other.view_is (subst (λ (u : ReplicaState). new_among u.markers c.other.inside.store ≢ []) c.self.view_is c.in-Err.ensures.memory))

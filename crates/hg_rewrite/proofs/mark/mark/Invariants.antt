@@ -1,9 +1,0 @@
-use Rattle.std.proofs.Common.{◌≡◌, map, take}
-use Rattle.hg_rewrite.specs.Parts.{marker}
-use Rattle.hg_rewrite.specs.Refusals.{NoneApplies, marker_refused}
-use Rattle.hg_rewrite.proofs.mark.mark.Given as goal
-
-abbrev pub invariant-loop-node : goal.invariant-loop-node
-invariant-loop-node l =
-    NoneApplies (map (λ node. marker_refused (marker l.metadata l.ids node)) (take l.node-index l.rewritten))
-    × (l.markers.items ≡ map (marker l.metadata l.ids) (take l.node-index l.rewritten))

@@ -1,0 +1,152 @@
+//! The new changesets of an operation.
+//!
+//! All entries are written before the first changeset is made, since the refusals of entries come first. Each changeset
+//! after the first stands on the one before.
+ghost use Rattle.std.specs.Prelude.{◌≡◌, Contains, IfOk, map};
+ghost use Rattle.hg_changeset.specs.Contents.{Contents};
+ghost use Rattle.hg_changeset.specs.Changeset.{IsChangeset};
+ghost use Rattle.hg_rewrite.specs.Parts.{with_extra, parents_of_first, made, chain, contents_of, written};
+ghost use Rattle.hg_rewrite.specs.Refusals.{changeset_refused, unwritten, not_written};
+ghost use Rattle.hg_rewrite.specs.Answer.{Gives, TextsAnswer, entry_refusal};
+ghost use Rattle.hg_graph.specs.Graph.{nodes};
+
+use crate::op::Op;
+use crate::query::parents_in;
+use crate::refusal::{Cause, Refusal};
+use hg_changeset::{Changeset, Entry, EntryError, Node, entry_text};
+use hg_replica::Replica;
+use std::alloc::{AllocError, Global};
+use std::slice;
+
+// The new changesets of an operation.
+pub(crate) fn new_changesets(
+    alloc: Global,
+    replica: &Replica,
+    op: &Op,
+) -> Result<Vec<Changeset>, Refusal>
+    ensures answer { Gives (not_written replica.now op.now) (made replica.now.history op.now) result }
+    ensures each { IfOk result (λ made. (c : Contents) → Contains made.items c → IsChangeset c) }
+{
+    match op {
+        Op::Commit { p, q, entry, .. } => write(alloc, (*p, *q), slice::from_ref(entry)),
+        Op::Amend { node, entry } => {
+            let entry = with_extra(alloc, b"amend_source", *node, entry)?;
+            write(alloc, parents_in(replica, *node), slice::from_ref(&entry))
+        }
+        Op::Split { node, entries } => write(alloc, parents_in(replica, *node), entries),
+        Op::Fold { nodes, entry } => {
+            write(
+                alloc,
+                parents_of_first(replica, nodes),
+                slice::from_ref(entry),
+            )
+        }
+        Op::Relocate { node, p, q, entry } => {
+            let entry = with_extra(alloc, b"rebase_source", *node, entry)?;
+            write(alloc, (*p, *q), slice::from_ref(&entry))
+        }
+        Op::Prune { .. } => write(alloc, (Node::NULL, Node::NULL), &[]),
+        Op::Advance { .. } => write(alloc, (Node::NULL, Node::NULL), &[]),
+    }
+}
+
+fn parents_of_first(replica: &Replica, nodes: &[Node]) -> (Node, Node)
+    ensures { result ≡ parents_of_first replica.now.history nodes.now }
+{
+    match nodes {
+        [] => (Node::NULL, Node::NULL),
+        [first, ..] => parents_in(replica, *first),
+    }
+}
+
+// A copy of the entry, with the node noted among its extras.
+fn with_extra(alloc: Global, key: &[u8], node: Node, entry: &Entry) -> Result<Entry, AllocError>
+    ensures { IfOk result (λ noted. noted ≡ with_extra key.now node entry.now) }
+{
+    let (secs, offset) = date(entry);
+    let mut extra = entry.extra.clone()?;
+    extra.insert(
+        Vec::from_slice(alloc, key)?,
+        Vec::from_slice(alloc, &node.to_hex())?,
+    )?;
+    Ok(Entry {
+        user: Vec::from_slice(alloc, &entry.user)?,
+        secs,
+        offset,
+        extra,
+        desc: Vec::from_slice(alloc, &entry.desc)?,
+    })
+}
+
+// When it was made, and the time zone's offset.
+pub(crate) fn date(entry: &Entry) -> (i64, i32)
+    ensures { result ≡ (entry.now.secs, entry.now.offset) }
+{
+    (entry.secs, entry.offset)
+}
+
+// The changesets of the entries: the first on these parents, each further one on the one before.
+fn write(alloc: Global, parents: (Node, Node), entries: &[Entry]) -> Result<Vec<Changeset>, Refusal>
+    ensures answer { Gives (unwritten entries.now (written parents entries.now)) (map contents_of (written parents entries.now)) result }
+    ensures each { IfOk result (λ made. (c : Contents) → Contains made.items c → IsChangeset c) }
+{
+    let texts = texts(alloc, entries)?;
+    chain(alloc, parents, texts)
+}
+
+// The texts of the entries.
+fn texts(alloc: Global, entries: &[Entry]) -> Result<Vec<Vec<u8>>, Refusal>
+    ensures { TextsAnswer entries.now result }
+{
+    let mut texts = Vec::new(alloc);
+    for entry in entries {
+        match entry_text(alloc, entry) {
+            Ok(text) => texts.push(text)?,
+            Err(fault) => return Err(entry_refusal(fault)),
+        }
+    }
+    Ok(texts)
+}
+
+fn entry_refusal(fault: EntryError) -> Refusal
+    ensures { result ≡ entry_refusal fault }
+{
+    match fault {
+        EntryError::NoMemory => Refusal::NoMemory,
+        _ => Refusal::Fault(Cause::Entry(fault)),
+    }
+}
+
+// The changesets with these texts.
+fn chain(
+    alloc: Global,
+    parents: (Node, Node),
+    texts: Vec<Vec<u8>>,
+) -> Result<Vec<Changeset>, Refusal>
+    ensures answer { Gives (map changeset_refused (chain parents (map (λ text. text.items) texts.items))) (map contents_of (chain parents (map (λ text. text.items) texts.items))) result }
+    ensures each { IfOk result (λ made. (c : Contents) → Contains made.items c → IsChangeset c) }
+{
+    let (mut p, mut q) = parents;
+    let mut changesets = Vec::new(alloc);
+    for text in texts {
+        match Changeset::new(p, q, text) {
+            Ok(changeset) => {
+                p = changeset.node();
+                q = Node::NULL;
+                changesets.push(changeset)?;
+            }
+            Err(fault) => return Err(Refusal::Fault(Cause::Changeset(fault))),
+        }
+    }
+    Ok(changesets)
+}
+
+// The ids of the changesets.
+pub(crate) fn ids(alloc: Global, changesets: &[Changeset]) -> Result<Vec<Node>, AllocError>
+    ensures { IfOk result (λ ids. ids.items ≡ nodes changesets.now) }
+{
+    changesets
+        .iter()
+        .map(|changeset| changeset.node())
+        .collect(alloc)
+}

@@ -1,0 +1,151 @@
+//! The markers of an operation: one for each node that is rewritten, with what is noted of the operation.
+ghost use Rattle.std.specs.Prelude.{◌≡◌, IfOk, OnOk, map};
+ghost use Rattle.std.specs.FinMap.{insert};
+ghost use Rattle.hg_changeset.specs.EntryText.{date_text};
+ghost use Rattle.hg_rewrite.specs.Parts.{new_ids, noted, noted_of, noted_of_first, with_parents, metadata, marker, markers};
+ghost use Rattle.hg_rewrite.specs.Refusals.{users, user_refused, marker_refused, not_marked};
+ghost use Rattle.hg_rewrite.specs.Answer.{Checked, Gives};
+
+use crate::changesets::date;
+use crate::check::rewritten;
+use crate::op::Op;
+use crate::query::parents_in;
+use crate::refusal::{Cause, Refusal};
+use hg_changeset::{Entry, Node, check_user, push_date, trimmed_user};
+use hg_marker::{Marker, Metadata};
+use hg_replica::Replica;
+use std::alloc::{AllocError, Global};
+
+// The markers of an operation that makes changesets with these ids.
+pub(crate) fn markers(
+    alloc: Global,
+    replica: &Replica,
+    op: &Op,
+    ids: &[Node],
+) -> Result<Vec<Marker>, Refusal>
+    requires { ids.now ≡ new_ids replica.now.history op.now }
+    ensures { Gives (not_marked replica.now op.now) (markers replica.now.history op.now) result }
+{
+    check_pruner(op)?;
+    let metadata = metadata(alloc, replica, op)?;
+    mark(alloc, rewritten(op), ids, &metadata)
+}
+
+// Refuses the user of a prune that is none.
+fn check_pruner(op: &Op) -> Result<(), Refusal>
+    ensures { Checked (map user_refused (users op.now)) result }
+{
+    match op {
+        Op::Prune { user, .. } => match check_user(trimmed_user(user)) {
+            Ok(()) => Ok(()),
+            Err(fault) => Err(Refusal::Fault(Cause::Entry(fault))),
+        },
+        _ => Ok(()),
+    }
+}
+
+// What is noted of an operation.
+fn metadata(alloc: Global, replica: &Replica, op: &Op) -> Result<Metadata, AllocError>
+    ensures { IfOk result (λ texts. texts ≡ metadata replica.now.history op.now) }
+{
+    match op {
+        Op::Commit { .. } => Ok(Metadata::new(alloc)),
+        Op::Amend { entry, .. } => noted_of(alloc, b"amend", entry),
+        Op::Split { entries, .. } => noted_of_first(alloc, b"split", entries),
+        Op::Fold { entry, .. } => noted_of(alloc, b"fold", entry),
+        Op::Prune {
+            node,
+            user,
+            secs,
+            offset,
+        } => {
+            let texts = noted(alloc, b"prune", user, *secs, *offset)?;
+            with_parents(alloc, parents_in(replica, *node), texts)
+        }
+        Op::Relocate { entry, .. } => noted_of(alloc, b"relocate", entry),
+        Op::Advance { .. } => Ok(Metadata::new(alloc)),
+    }
+}
+
+fn noted_of_first(
+    alloc: Global,
+    operation: &[u8],
+    entries: &[Entry],
+) -> Result<Metadata, AllocError>
+    ensures { IfOk result (λ texts. texts ≡ noted_of_first operation.now entries.now) }
+{
+    match entries {
+        [] => Ok(Metadata::new(alloc)),
+        [first, ..] => noted_of(alloc, operation, first),
+    }
+}
+
+fn noted_of(alloc: Global, operation: &[u8], entry: &Entry) -> Result<Metadata, AllocError>
+    ensures { IfOk result (λ texts. texts ≡ noted_of operation.now entry.now) }
+{
+    let (secs, offset) = date(entry);
+    noted(alloc, operation, &entry.user, secs, offset)
+}
+
+// When, by which operation and by whom.
+fn noted(
+    alloc: Global,
+    operation: &[u8],
+    user: &[u8],
+    secs: i64,
+    offset: i32,
+) -> Result<Metadata, AllocError>
+    ensures { IfOk result (λ texts. texts ≡ noted operation.now user.now secs offset) }
+{
+    let mut date = Vec::new(alloc);
+    push_date(&mut date, secs, offset)?;
+    let mut texts = Metadata::new(alloc);
+    note(alloc, &mut texts, b"date", &date)?;
+    note(alloc, &mut texts, b"operation", operation)?;
+    note(alloc, &mut texts, b"user", trimmed_user(user))?;
+    Ok(texts)
+}
+
+// And the parents of what is pruned.
+fn with_parents(
+    alloc: Global,
+    parents: (Node, Node),
+    texts: Metadata,
+) -> Result<Metadata, AllocError>
+    ensures { IfOk result (λ all. all ≡ with_parents parents texts) }
+{
+    let mut texts = texts;
+    let (first, second) = parents;
+    note(alloc, &mut texts, b"p1", &first.to_hex())?;
+    if second.is_null() {
+        return Ok(texts);
+    }
+    note(alloc, &mut texts, b"p2", &second.to_hex())?;
+    Ok(texts)
+}
+
+fn note(alloc: Global, texts: &mut Metadata, key: &[u8], value: &[u8]) -> Result<(), AllocError>
+    ensures { OnOk result (texts.new ≡ insert texts.old key.now value.now) }
+{
+    texts.insert(Vec::from_slice(alloc, key)?, Vec::from_slice(alloc, value)?)
+}
+
+// A marker from each node to all the ids.
+fn mark(
+    alloc: Global,
+    rewritten: &[Node],
+    ids: &[Node],
+    metadata: &Metadata,
+) -> Result<Vec<Marker>, Refusal>
+    ensures { Gives (map marker_refused (map (marker metadata.now ids.now) rewritten.now)) (map (marker metadata.now ids.now) rewritten.now) result }
+{
+    let mut markers = Vec::new(alloc);
+    for node in rewritten {
+        let successors = Vec::from_slice(alloc, ids)?;
+        match Marker::new(*node, successors, 0, metadata.copy()?) {
+            Ok(marker) => markers.push(marker)?,
+            Err(fault) => return Err(Refusal::Fault(Cause::Marker(fault))),
+        }
+    }
+    Ok(markers)
+}
