@@ -58,7 +58,7 @@ impl fmt::Display for ChangesetError {
 impl Error for ChangesetError {}
 
 /// A changeset: at most two parents, a text, and the id that these give.
-#[derive(Drop)]
+#[derive(Drop, Debug)]
 pub struct Changeset {
     node: Node,
     first: Node,

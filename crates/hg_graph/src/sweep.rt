@@ -1,7 +1,7 @@
 //! Ancestors, by one sweep from the last place to the first.
 //!
 //! Each place has a mark. Since a parent's place is before its child's, a walk down the places that marks the parents of each marked changeset has marked, when it comes to a changeset, all that reach it. Where only the changesets from a place on are asked for, the marks begin there, and so does the walk end there: whatever lies on the way to a changeset stands after it.
-ghost use Rattle.std.specs.Prelude.{◌≡◌, ◌↔◌, ℕ, ◌+◌, ◌<◌, ◌≤◌, Some, length, Contains, IsTrue, IfOk};
+ghost use Rattle.std.specs.Prelude.{◌≡◌, ◌↔◌, ℕ, ◌+◌, ◌<◌, ◌≤◌, Some, length, Contains, IsTrue, IfOk, OnErr};
 ghost use Rattle.hg_changeset.specs.declared.node.Node.{Node};
 ghost use Rattle.hg_graph.specs.Graph.{IsGraph, IsAncestorOfOne, Reaches, Selects};
 ghost use Rattle.hg_graph.specs.Places.{IsAt, IsParentPlace, IsAncestorPlace};
@@ -14,7 +14,10 @@ use std::alloc::AllocError;
 impl Graph {
     /// Whether zero or more parent steps lead from `node` to `ancestor`. False where either isn't held.
     pub fn is_ancestor(&self, ancestor: Node, node: Node) -> Result<bool, AllocError>
-        ensures { IfOk result (λ answer. IsTrue answer ↔ Reaches self.now ancestor node) }
+        ensures answer { IfOk result (λ answer. IsTrue answer ↔ Reaches self.now ancestor node) }
+
+        // Memory is taken only where the ancestor stands before the node.
+        ensures memory { OnErr result ((low : ℕ) × (high : ℕ) × IsAt self.now ancestor low × IsAt self.now node high × low < high) }
     {
         match self.place(ancestor) {
             None => Ok(false),
@@ -30,7 +33,8 @@ impl Graph {
         requires graph { IsGraph self.now }
         requires low { low < length self.now }
         requires high { high < length self.now }
-        ensures { IfOk result (λ answer. IsTrue answer ↔ IsAncestorPlace self.now low high) }
+        ensures answer { IfOk result (λ answer. IsTrue answer ↔ IsAncestorPlace self.now low high) }
+        ensures memory { OnErr result (low < high) }
     {
         if high <= low {
             return Ok(low == high);

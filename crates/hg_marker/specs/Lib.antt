@@ -10,3 +10,4 @@ pub mod Grammar
 pub mod Making
 pub mod Faults
 pub mod Laid
+pub mod ReadErrors

@@ -1,6 +1,7 @@
 //! Why fields make no marker, and why bytes are none.
 ghost use Rattle.std.specs.Prelude.{◌≡◌, Some};
 ghost use Rattle.hg_marker.specs.Refusals.{marker_error_number, marker_error_name, marker_fault_number, marker_fault_name};
+ghost use Rattle.hg_marker.specs.ReadErrors.{fault_of};
 ghost use Rattle.hg_marker.specs.declared.error.ReadError.TheVariants.{NoMemory};
 
 use std::alloc::{AllocError, AllocFailed};
@@ -95,7 +96,7 @@ impl fmt::Display for MarkerFault {
 
 impl Error for MarkerFault {}
 
-/// Why something was not read.
+/// Why something was not read. Its text is that of the fault.
 #[derive(PartialEq, Eq, Debug, Drop)]
 pub enum ReadError<F> {
     /// Memory ran out.
@@ -103,6 +104,33 @@ pub enum ReadError<F> {
     /// The bytes have this fault.
     Fault(F),
 }
+
+impl<F: Copy> ReadError<F> {
+    /// The fault of the bytes; none where memory ran out. Its number is the fault's.
+    pub fn fault(&self) -> Option<F>
+        ensures { result ≡ fault_of self.now }
+    {
+        match self {
+            ReadError::NoMemory => None,
+            ReadError::Fault(fault) => Some(*fault),
+        }
+    }
+}
+
+impl<F: fmt::Display> fmt::Display for ReadError<F> {
+    ghost use Rattle.hg_marker.specs.ReadErrors.{read_error_text};
+
+    ghost output = { read_error_text F.output };
+
+    fn fmt<W: fmt::Write>(&self, f: &mut fmt::Formatter<W>) -> fmt::Result {
+        match self {
+            ReadError::NoMemory => f.write_str("NoMemory"),
+            ReadError::Fault(fault) => write!(f, "{fault}"),
+        }
+    }
+}
+
+impl<F: fmt::Debug + fmt::Display + Drop> Error for ReadError<F> {}
 
 impl<F> From<AllocError> for ReadError<F> {
     ghost from_gives = { λ _ e. e ≡ NoMemory };

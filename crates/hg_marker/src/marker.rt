@@ -25,7 +25,7 @@ use std::marker::Model;
 pub const METADATA_LIMIT: u32 = 1_048_576;
 
 /// A marker: its predecessor was rewritten to its successors.
-#[derive(Drop)]
+#[derive(Drop, Debug)]
 pub struct Marker {
     predecessor: Node,
     successors: Vec<Node>,

@@ -18,7 +18,7 @@ use std::hash::{Hash, Hasher};
 use std::marker::Model;
 
 /// Values by key.
-#[derive(Drop)]
+#[derive(Drop, Debug)]
 pub struct Metadata {
     texts: BTreeMap<Vec<u8>, Vec<u8>>,
 }

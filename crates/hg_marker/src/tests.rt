@@ -23,10 +23,7 @@ fn bytes_with(alloc: Global, successor: Node, text: &[u8]) -> Result<Vec<u8>, Al
 }
 
 fn fault_of(read: Result<(Marker, usize), ReadError<MarkerFault>>) -> Option<MarkerFault> {
-    match read {
-        Err(ReadError::Fault(fault)) => Some(fault),
-        _ => None,
-    }
+    read.err()?.fault()
 }
 
 // Metadata with these values by these keys.
@@ -292,7 +289,13 @@ fn numbers_and_names(rt: HostRuntime) -> Result<(), Fail> {
     ] {
         assert_eq!(rt; fault.number(), number);
         assert_eq!(rt; format!(in alloc; "{fault}")?.as_str(), name);
+        let error = ReadError::Fault(fault);
+        assert_eq!(rt; error.fault(), Some(fault));
+        assert_eq!(rt; format!(in alloc; "{error}")?.as_str(), name);
     }
+    let error: ReadError<MarkerFault> = AllocError.into();
+    assert_eq!(rt; error.fault(), None);
+    assert_eq!(rt; format!(in alloc; "{error}")?.as_str(), "NoMemory");
     Ok(())
 }
 

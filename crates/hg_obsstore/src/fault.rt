@@ -1,6 +1,6 @@
 //! Why bytes are no store.
 ghost use Rattle.std.specs.Prelude.{◌≡◌, Some};
-ghost use Rattle.hg_obsstore.specs.Refusals.{store_fault_number, store_fault_name};
+ghost use Rattle.hg_obsstore.specs.Refusals.{store_fault_number, store_fault_text};
 
 use hg_marker::MarkerFault;
 use std::error::Error;
@@ -29,12 +29,12 @@ impl StoreFault {
 }
 
 impl fmt::Display for StoreFault {
-    ghost output = { λ fault. Some (store_fault_name fault) };
+    ghost output = { λ fault. Some (store_fault_text fault) };
 
     fn fmt<W: fmt::Write>(&self, f: &mut fmt::Formatter<W>) -> fmt::Result {
         match *self {
-            StoreFault::BadVersion(_) => write!(f, "BadVersion"),
-            StoreFault::Bad(_, _) => write!(f, "Bad"),
+            StoreFault::BadVersion(version) => write!(f, "BadVersion {version}"),
+            StoreFault::Bad(place, cause) => write!(f, "Bad at {place}: {cause}"),
         }
     }
 }

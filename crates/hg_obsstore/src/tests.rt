@@ -102,18 +102,22 @@ fn refuses_the_second_marker(rt: HostRuntime) {
     let null = StoreFault::Bad(55, MarkerFault::NullSuccessor);
     assert!(rt; fault_of(alloc, &bytes) == Some(null));
     let truncated = StoreFault::Bad(55, MarkerFault::Truncated);
-    assert!(rt; fault_of(alloc, &bytes[..108]) == Some(truncated));
+    assert!(rt; fault_of(alloc, &bytes[..bytes.len().min(108)]) == Some(truncated));
 }
 
 #[test]
-fn numbers_and_names(rt: HostRuntime) -> Result<(), Fail> {
+fn numbers_and_texts(rt: HostRuntime) -> Result<(), Fail> {
     let alloc = rt.alloc();
-    for (fault, number, name) in [
-        (StoreFault::BadVersion(1), 1, "BadVersion"),
-        (StoreFault::Bad(55, MarkerFault::BadMetadata), 2, "Bad"),
+    for (fault, number, text) in [
+        (StoreFault::BadVersion(1), 1, "BadVersion 1"),
+        (
+            StoreFault::Bad(55, MarkerFault::BadMetadata),
+            2,
+            "Bad at 55: BadMetadata",
+        ),
     ] {
         assert_eq!(rt; fault.number(), number);
-        assert_eq!(rt; format!(in alloc; "{fault}")?.as_str(), name);
+        assert_eq!(rt; format!(in alloc; "{fault}")?.as_str(), text);
     }
     Ok(())
 }

@@ -1,5 +1,6 @@
--- The numbers and names of the refusals.
-use Rattle.std.specs.Prelude.{ℕ, List, Option, Some, None, codes}
+-- The numbers and texts of the refusals.
+use Rattle.std.specs.Prelude.{ℕ, List, ◌++◌, Option, Some, None, codes}
+use Rattle.std.specs.Fmt.{decimal}
 use Rattle.hg_phaseroots.specs.declared.error.RootsError.{RootsError}
 use Rattle.hg_phaseroots.specs.declared.error.RootsError.TheVariants.{BadLine, BadPhase, NoMemory}
 
@@ -9,8 +10,8 @@ number (BadLine _) = Some 1
 number (BadPhase _) = Some 2
 number NoMemory = None
 
--- the bare name
-abbrev pub name : RootsError → List ℕ
-name (BadLine _) = codes "BadLine"
-name (BadPhase _) = codes "BadPhase"
-name NoMemory = codes "NoMemory"
+-- its text: the name and the line
+abbrev pub text : RootsError → List ℕ
+text (BadLine n) = codes "BadLine " ++ decimal n
+text (BadPhase n) = codes "BadPhase " ++ decimal n
+text NoMemory = codes "NoMemory"

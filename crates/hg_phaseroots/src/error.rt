@@ -33,14 +33,14 @@ impl RootsError {
 
 impl fmt::Display for RootsError {
     ghost use Rattle.std.specs.Prelude.{Some};
-    ghost use Rattle.hg_phaseroots.specs.Refusals.{name};
+    ghost use Rattle.hg_phaseroots.specs.Refusals.{text};
 
-    ghost output = { λ error. Some (name error) };
+    ghost output = { λ error. Some (text error) };
 
     fn fmt<W: fmt::Write>(&self, f: &mut fmt::Formatter<W>) -> fmt::Result {
         match self {
-            RootsError::BadLine(_) => f.write_str("BadLine"),
-            RootsError::BadPhase(_) => f.write_str("BadPhase"),
+            RootsError::BadLine(line) => write!(f, "BadLine {line}"),
+            RootsError::BadPhase(line) => write!(f, "BadPhase {line}"),
             RootsError::NoMemory => f.write_str("NoMemory"),
         }
     }

@@ -102,15 +102,15 @@ fn first_line_at_fault(rt: HostRuntime) {
 }
 
 #[test]
-fn numbers_and_names(rt: HostRuntime) -> Result<(), Fail> {
+fn numbers_and_texts(rt: HostRuntime) -> Result<(), Fail> {
     let alloc = rt.alloc();
-    for (error, number, name) in [
-        (RootsError::BadLine(7), Some(1), "BadLine"),
-        (RootsError::BadPhase(7), Some(2), "BadPhase"),
+    for (error, number, text) in [
+        (RootsError::BadLine(7), Some(1), "BadLine 7"),
+        (RootsError::BadPhase(12), Some(2), "BadPhase 12"),
         (RootsError::NoMemory, None, "NoMemory"),
     ] {
         assert!(rt; error.number() == number);
-        assert_eq!(rt; error.to_string(alloc)?.as_str(), name);
+        assert_eq!(rt; error.to_string(alloc)?.as_str(), text);
     }
     Ok(())
 }

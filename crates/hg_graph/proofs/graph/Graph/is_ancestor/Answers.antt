@@ -8,8 +8,8 @@ is_ancestor_place-requires-clause-low c = placed_within c.args.self.now c.args.a
 pub is_ancestor_place-requires-clause-high : goal.is_ancestor_place-requires-clause-high
 is_ancestor_place-requires-clause-high c = placed_within c.args.self.now c.args.node c.in-Some-place.high ((c.in-Some-place.ensures.place c.in-Some-place.high).1 refl)
 
-pub returns-in-None : goal.returns-in-None
-returns-in-None c = (λ e. cc, λ r. absurd (c.in-None.ensures.place (Holds-reaching c.args.self.now r)))
+pub returns-in-None-clause-answer : goal.returns-in-None-clause-answer
+returns-in-None-clause-answer c = (λ e. cc, λ r. absurd (c.in-None.ensures.place (Holds-reaching c.args.self.now r)))
 
-pub returns-in-None-place : goal.returns-in-None-place
-returns-in-None-place c = (λ e. cc, λ r. absurd (c.in-None-place.ensures.place (Holds-reached c.args.self.now r)))
+pub returns-in-None-place-clause-answer : goal.returns-in-None-place-clause-answer
+returns-in-None-place-clause-answer c = (λ e. cc, λ r. absurd (c.in-None-place.ensures.place (Holds-reached c.args.self.now r)))

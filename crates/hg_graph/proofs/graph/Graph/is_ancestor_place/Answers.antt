@@ -6,8 +6,8 @@ use Rattle.hg_graph.proofs.PlaceLemmas.{ancestor_first, ancestor_itself}
 use Rattle.hg_graph.proofs.MarkLemmas.{ancestor_marked, first_mark}
 use Rattle.hg_graph.proofs.graph.Graph.is_ancestor_place.Goals as goal
 
-pub returns-then-high-low : goal.returns-then-high-low
-returns-then-high-low c =
+pub returns-then-high-low-clause-answer : goal.returns-then-high-low-clause-answer
+returns-then-high-low-clause-answer c =
     let cs = c.args.self.now in
     let low = c.args.low in
     let high = c.args.high in (
@@ -15,8 +15,8 @@ returns-then-high-low c =
       λ h. let first = ancestor_first cs c.requires.graph low high h in eq-eqb low high (omega arith),
     )
 
-pub returns : goal.returns
-returns c =
+pub returns-clause-answer : goal.returns-clause-answer
+returns-clause-answer c =
     let cs = c.args.self.now in
     let low = c.args.low in
     let high = c.args.high in
