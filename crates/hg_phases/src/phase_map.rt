@@ -1,7 +1,8 @@
 //! The phases of a graph's changesets, one at each place.
 //!
 //! What is kept is the phase of each changeset. The contracts say no more than what that means for the graph, by
-//! `phases_at`, so that another form, as the roots alone, can take its place.
+//! `phases_at`, and by `phases_before` where a log is at hand, so that another form, as the roots alone, can take its
+//! place. No public call gives a changeset a phase without its parents: the phase rule is kept here alone.
 //!
 //! Lowering a changeset lowers its ancestors with it. The walk keeps one log of what it lowered, with the phase that
 //! each had: the log is the queue of the walk, the answer, and what takes the lowering back.

@@ -1,8 +1,6 @@
 use Rattle.std.proofs.Common.{◌≡◌, Some, MatchOption, length, slice_get, inl, inr, sym, ap, subst, ◌∙◌, arith}
 use Rattle.std.proofs.lemmas.Option.{slice_get-get_or}
 use Rattle.hg_phases.specs.declared.phase.Phase.TheVariants.{Public}
-use Rattle.hg_phases.specs.State.{state_of}
-use Rattle.hg_phases.specs.Roots.{IsOpened}
 use Rattle.hg_phases.proofs.RootLemmas.{opened-valid}
 use Rattle.hg_phases.proofs.OpenLemmas.{parent_within, highest-here, opened-more, opened-all}
 use Rattle.hg_phases.proofs.open.phases_under.Goals as goal
