@@ -12,7 +12,6 @@ use crate::absorb::absorb_or_undo;
 use crate::change::Change;
 use crate::fault::Fault;
 use crate::join::{is_below, join_or_undo};
-use crate::open::phases_under;
 use crate::roots::roots_of;
 use hg_changeset::{Changeset, Node};
 use hg_graph::Graph;
@@ -66,7 +65,7 @@ impl History {
             Ok(_) => {}
             Err(fault) => return Err(fault),
         }
-        history.phases = phases_under(&history.graph, alloc, roots.as_slice())?;
+        history.phases = PhaseMap::open(alloc, &history.graph, roots)?;
         Ok(history)
     }
 

@@ -14,7 +14,6 @@ mod fault;
 mod history;
 mod join;
 mod laws;
-mod open;
 mod roots;
 
 pub use change::Change;

@@ -1,7 +1,8 @@
 //! The phases of a graph's changesets, one at each place.
 //!
 //! What is kept is the phase of each changeset. The contracts say no more than what that means for the graph, by
-//! `phases_at`, so that another form, as the roots alone, can take its place.
+//! `phases_at`, and by `phases_before` where a log is at hand, so that another form, as the roots alone, can take its
+//! place. No public call gives a changeset a phase without its parents: the phase rule is kept here alone.
 //!
 //! Lowering a changeset lowers its ancestors with it. The walk keeps one log of what it lowered, with the phase that
 //! each had: the log is the queue of the walk, the answer, and what takes the lowering back.
@@ -13,10 +14,13 @@ ghost use Rattle.hg_phases.specs.State.{state_of, Holds, IsPhaseOf, IsValid};
 ghost use Rattle.hg_phases.specs.Kept.{phases_at, kept_state, before_last, phases_before, IsLogOf};
 ghost use Rattle.hg_phases.specs.Least.{IsLeast, bound_alone};
 ghost use Rattle.hg_phases.specs.Lowered.{ListsLowered};
+ghost use Rattle.hg_phases.specs.Roots.{IsOpened};
 ghost use Rattle.hg_phases.specs.Log.{IsLog, restored, IsOneLowered, IsUnlowered};
 
 use crate::lowered::{Lowered, LoweredPlace, LoweringLog};
+use crate::open::phases_under;
 use crate::phase::Phase;
+use crate::roots::Roots;
 use hg_changeset::Node;
 use hg_graph::Graph;
 use std::alloc::{AllocError, Global};
@@ -47,13 +51,14 @@ impl PhaseMap {
         }
     }
 
-    /// The map of these phases, one for each changeset of a graph in its order.
-    pub fn of(graph: &Graph, phases: Vec<Phase>) -> PhaseMap
-        requires len { length phases.items ≡ length graph.now }
-        requires valid { IsValid (state_of graph.now phases.items) }
-        ensures { phases_at graph.now result ≡ phases.items }
+    /// The phases that listed roots give the changesets of a graph: each the highest phase of a listed root that is it or
+    /// an ancestor of it, and public where there is none. Roots that the graph doesn't hold say nothing.
+    pub fn open(alloc: Global, graph: &Graph, roots: &Roots) -> Result<PhaseMap, AllocError>
+        ensures opened { IfOk result (λ map. (length (phases_at graph.now map) ≡ length graph.now) × IsOpened graph.now roots.now (kept_state graph.now map)) }
+        ensures valid { IfOk result (λ map. IsValid (kept_state graph.now map)) }
     {
-        PhaseMap { phases }
+        let phases = phases_under(graph, alloc, roots.as_slice())?;
+        Ok(PhaseMap { phases })
     }
 
     /// An equal map.

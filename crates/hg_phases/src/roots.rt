@@ -11,7 +11,7 @@ use std::marker::Model;
 
 /// Nodes with their phases, in the order in which they were listed. Any list will do: it may be redundant, and it may name
 /// nodes that nobody holds.
-#[derive(Drop)]
+#[derive(Debug, Drop)]
 pub struct Roots {
     listed: Vec<(Phase, Node)>,
 }

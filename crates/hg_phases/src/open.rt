@@ -5,22 +5,23 @@
 ghost use Rattle.std.specs.Prelude.{◌≡◌, ◌<◌, ◌∷◌, ◌++◌, [], List, Some, length, slice_get, IfOk, IfSome, MatchOption};
 ghost use Rattle.hg_changeset.specs.declared.node.Node.{Node};
 ghost use Rattle.hg_phases.specs.declared.phase.Phase.{Phase};
-ghost use Rattle.hg_phases.specs.Kept.{phases_at, kept_state};
+ghost use Rattle.hg_phases.specs.State.{state_of, IsValid};
 ghost use Rattle.hg_phases.specs.Roots.{IsOpened};
-ghost use Rattle.hg_history.specs.Open.{AreMarked, IsRaised, IsHigher};
+ghost use Rattle.hg_phases.specs.Marks.{AreMarked, IsRaised, IsHigher};
 
+use crate::phase::Phase;
 use hg_changeset::Node;
 use hg_graph::Graph;
-use hg_phases::{Phase, PhaseMap};
 use std::alloc::{AllocError, Global};
 
-/// The phases that the listed roots give the changesets of a graph.
+/// The phase that the listed roots give each changeset of a graph, at its place.
 pub(crate) fn phases_under(
     graph: &Graph,
     alloc: Global,
     roots: &[(Phase, Node)],
-) -> Result<PhaseMap, AllocError>
-    ensures { IfOk result (λ phases. (length (phases_at graph.now phases) ≡ length graph.now) × IsOpened graph.now roots.now (kept_state graph.now phases)) }
+) -> Result<Vec<Phase>, AllocError>
+    ensures opened { IfOk result (λ phases. (length phases.items ≡ length graph.now) × IsOpened graph.now roots.now (state_of graph.now phases.items)) }
+    ensures valid { IfOk result (λ phases. IsValid (state_of graph.now phases.items)) }
 {
     let marks = marks_of(graph, alloc, roots)?;
     let mut phases = Vec::new(alloc);
@@ -30,7 +31,7 @@ pub(crate) fn phases_under(
         let second = phase_at(&phases, parents.second);
         phases.push(higher(marks[place], higher(first, second)))?;
     }
-    Ok(PhaseMap::of(graph, phases))
+    Ok(phases)
 }
 
 // For each place the highest phase of a root there.

@@ -1,11 +1,9 @@
 use Rattle.std.proofs.Common.{◌≡◌, Some, MatchOption, length, slice_get, inl, inr, sym, ap, subst, ◌∙◌, arith}
 use Rattle.std.proofs.lemmas.Option.{slice_get-get_or}
 use Rattle.hg_phases.specs.declared.phase.Phase.TheVariants.{Public}
-use Rattle.hg_phases.specs.State.{state_of}
-use Rattle.hg_phases.specs.Roots.{IsOpened}
 use Rattle.hg_phases.proofs.RootLemmas.{opened-valid}
-use Rattle.hg_history.proofs.OpenLemmas.{parent_within, highest-here, opened-more, opened-all}
-use Rattle.hg_history.proofs.open.phases_under.Goals as goal
+use Rattle.hg_phases.proofs.OpenLemmas.{parent_within, highest-here, opened-more, opened-all}
+use Rattle.hg_phases.proofs.open.phases_under.Goals as goal
 
 pub phase_at-first-requires : goal.phase_at-first-requires
 phase_at-first-requires c =
@@ -25,16 +23,12 @@ loop-place-preserved c =
     c.index.result.now c.phase_at-first.result c.phase_at-second.result c.higher-in-loop-place.result (slice_get-get_or c.in_ok-marks.marks.items c.loop-place.place c.index.result.now (omega (arith, c.in_ok-marks.ensures.len, c.len-place-end.ensures.len, c.loop-place-test.true)) ∙ ap (λ k. Some k) (sym c.index.ensures)) first second
     c.higher.result c.higher.ensures c.higher-in-loop-place.ensures)
 
-pub of-requires-clause-len : goal.of-requires-clause-len
-of-requires-clause-len c = omega (arith, c.loop-place.invariant.0, c.loop-place-test.false, c.loop-place.auto.place-end, c.len-place-end.ensures.len)
+pub returns-clause-opened : goal.returns-clause-opened
+returns-clause-opened c =
+    let len : length c.loop-place.phases.items ≡ length c.args.graph.now = omega (arith, c.loop-place.invariant.0, c.loop-place-test.false, c.loop-place.auto.place-end, c.len-place-end.ensures.len) in
+    (len, opened-all c.args.graph.now c.args.roots.now c.loop-place.phases.items len c.loop-place.invariant.1)
 
-pub of-requires-clause-valid : goal.of-requires-clause-valid
-of-requires-clause-valid c =
+pub returns-clause-valid : goal.returns-clause-valid
+returns-clause-valid c =
     let len : length c.loop-place.phases.items ≡ length c.args.graph.now = omega (arith, c.loop-place.invariant.0, c.loop-place-test.false, c.loop-place.auto.place-end, c.len-place-end.ensures.len) in
     opened-valid c.args.graph.now c.args.roots.now _ (opened-all c.args.graph.now c.args.roots.now c.loop-place.phases.items len c.loop-place.invariant.1) c.len-place-end.ensures.graph
-
-pub returns : goal.returns
-returns c =
-    let len : length c.loop-place.phases.items ≡ length c.args.graph.now = omega (arith, c.loop-place.invariant.0, c.loop-place-test.false, c.loop-place.auto.place-end, c.len-place-end.ensures.len) in
-    subst (λ ks. (length ks ≡ length c.args.graph.now) × IsOpened c.args.graph.now c.args.roots.now (state_of c.args.graph.now ks)) (sym c.of.ensures)
-    (len, opened-all c.args.graph.now c.args.roots.now c.loop-place.phases.items len c.loop-place.invariant.1)

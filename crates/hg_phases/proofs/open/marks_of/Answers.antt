@@ -1,7 +1,7 @@
 use Rattle.std.proofs.Common.{take, sym, subst}
 use Rattle.std.proofs.lemmas.List.{take_more}
-use Rattle.hg_history.specs.Open.{AreMarked}
-use Rattle.hg_history.proofs.open.marks_of.Goals as goal
+use Rattle.hg_phases.specs.Marks.{AreMarked}
+use Rattle.hg_phases.proofs.open.marks_of.Goals as goal
 
 pub loop-root-preserved : goal.loop-root-preserved
 loop-root-preserved c =

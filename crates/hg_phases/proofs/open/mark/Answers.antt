@@ -1,7 +1,7 @@
 use Rattle.std.proofs.Common.{refl, arith}
 use Rattle.hg_graph.proofs.PlaceLemmas.{placed_within}
-use Rattle.hg_history.proofs.OpenLemmas.{marked-absent, marked-raised}
-use Rattle.hg_history.proofs.open.mark.Goals as goal
+use Rattle.hg_phases.proofs.OpenLemmas.{marked-absent, marked-raised}
+use Rattle.hg_phases.proofs.open.mark.Goals as goal
 
 pub raise-requires : goal.raise-requires
 raise-requires c = omega (arith, c.requires, placed_within c.args.graph.now c.args.root.now.1 c.in-Some.place ((c.in-Some.ensures.place c.in-Some.place).1 refl))
