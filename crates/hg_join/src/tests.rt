@@ -214,7 +214,7 @@ fn through_the_bound(rt: HostRuntime) -> Result<(), Fail> {
 }
 
 #[test]
-fn a_refused_part_changes_nothing(rt: HostRuntime) {
+fn refused_growth_in_absorbing_changes_nothing(rt: HostRuntime) {
     let Ok((mut map, part)) = twenties_and_fives(rt.alloc()) else {
         return;
     };
@@ -225,7 +225,7 @@ fn a_refused_part_changes_nothing(rt: HostRuntime) {
 }
 
 #[test]
-fn a_refused_join_changes_nothing(rt: HostRuntime) {
+fn refused_growth_in_joining_changes_nothing(rt: HostRuntime) {
     let Ok((mut map, part)) = twenties_and_fives(rt.alloc()) else {
         return;
     };
@@ -239,7 +239,7 @@ fn a_refused_join_changes_nothing(rt: HostRuntime) {
 }
 
 #[test]
-fn a_refused_half_changes_neither(rt: HostRuntime) {
+fn refused_growth_in_a_half_changes_neither(rt: HostRuntime) {
     let Ok((map, part)) = twenties_and_fives(rt.alloc()) else {
         return;
     };

@@ -61,7 +61,7 @@ fn copied(rt: &impl Abort, marker: &Marker) -> Marker {
 }
 
 #[test]
-fn reads_what_it_writes(rt: HostRuntime) {
+fn refused_growth_reads_and_writes_the_same(rt: HostRuntime) {
     let alloc = rt.alloc();
     let Ok(bytes) = bytes_with(alloc, NEW, b"user:bob") else {
         return;
@@ -75,7 +75,7 @@ fn reads_what_it_writes(rt: HostRuntime) {
 }
 
 #[test]
-fn appends_a_marker_or_nothing(rt: HostRuntime) {
+fn refused_growth_appends_nothing(rt: HostRuntime) {
     let alloc = rt.alloc();
     let Ok(bytes) = bytes_with(alloc, OLD, b"") else {
         return;
@@ -301,7 +301,7 @@ fn numbers_and_names(rt: HostRuntime) -> Result<(), Fail> {
 
 // Where a growth is refused, the value is as it was, and the same call with memory answers as ever.
 #[test]
-fn inserts_or_changes_nothing(rt: HostRuntime) {
+fn refused_growth_inserts_nothing(rt: HostRuntime) {
     let alloc = rt.alloc();
     let mut metadata = Metadata::new(alloc);
     for value in [b"eve".as_slice(), b"bob"] {

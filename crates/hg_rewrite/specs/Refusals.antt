@@ -19,6 +19,7 @@ use Rattle.hg_rewrite.specs.declared.op.Op.TheVariants.{Commit, Amend, Split, Fo
 use Rattle.hg_rewrite.specs.declared.refusal.Refusal.{Refusal}
 use Rattle.hg_rewrite.specs.declared.refusal.Refusal.TheVariants.{Unknown, Hidden, Public, AlreadyObsolete, NotLinear, Count, Raise, Fault, Exists}
 use Rattle.hg_rewrite.specs.declared.refusal.Cause.TheVariants.{Entry, Changeset, Marker}
+use Rattle.hg_rewrite.specs.Limits.{split_least, split_most, fold_least}
 use Rattle.hg_rewrite.specs.Reading.{phase_in, parents_in, IsObsolete, IsHidden}
 use Rattle.hg_rewrite.specs.Parts.{NewChangeset, entries, new_changesets, new_ids, markers, rewritten}
 
@@ -120,8 +121,8 @@ not_linear s op = where_so (IsNotLinear s.history op) NotLinear ∷ []
 abbrev pub IsWrongCount : Op → Type 0
 IsWrongCount (Commit p q entry secret) = ⊥
 IsWrongCount (Amend node entry) = ⊥
-IsWrongCount (Split node es) = (length es.items < 2) ⊎ (255 < length es.items)
-IsWrongCount (Fold nodes entry) = length nodes.items < 2
+IsWrongCount (Split node es) = (length es.items < split_least) ⊎ (split_most < length es.items)
+IsWrongCount (Fold nodes entry) = length nodes.items < fold_least
 IsWrongCount (Prune node user secs offset) = ⊥
 IsWrongCount (Relocate node p q entry) = ⊥
 IsWrongCount (Advance node phase) = ⊥

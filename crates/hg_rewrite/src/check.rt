@@ -16,6 +16,15 @@ use hg_replica::Replica;
 use std::alloc::Global;
 use std::slice;
 
+// The fewest changesets that a split makes.
+const SPLIT_LEAST: usize = 2;
+
+// The most changesets that a split makes: a marker names no more successors.
+const SPLIT_MOST: usize = 255;
+
+// The fewest changesets that a fold takes.
+const FOLD_LEAST: usize = 2;
+
 // The nodes that an operation names other than as parents.
 fn targets(op: &Op) -> &[Node]
     ensures { result.now ≡ targets op.now }
@@ -183,8 +192,8 @@ pub(crate) fn check_count(op: &Op) -> Result<(), Refusal>
     ensures { Checked (wrong_count op.now) result }
 {
     let is_right = match op {
-        Op::Split { entries, .. } => 2 <= entries.len() && entries.len() <= 255,
-        Op::Fold { nodes, .. } => 2 <= nodes.len(),
+        Op::Split { entries, .. } => SPLIT_LEAST <= entries.len() && entries.len() <= SPLIT_MOST,
+        Op::Fold { nodes, .. } => FOLD_LEAST <= nodes.len(),
         _ => true,
     };
     if is_right {

@@ -147,7 +147,10 @@ fn names_run(word: &str) -> bool
 fn further_words(alloc: Global) -> Result<Error, AllocError>
     ensures { IfOk result (λ e. kind_of e ≡ ErrorKind.UnknownArgument) }
 {
-    Command::new(alloc, "hgfleet").error(ErrorKind::UnknownArgument, "a run takes no further words")
+    Command::new(alloc, "hgfleet run").error(
+        ErrorKind::UnknownArgument,
+        "a run takes no further words",
+    )
 }
 
 fn parse(alloc: Global, words: &[&str]) -> Result<(), Error>

@@ -74,15 +74,7 @@ impl<'a> Operation<'a> {
                 new,
                 is_secret,
                 parents,
-            } => {
-                let (p, q) = names.parents(parents)?;
-                Op::Commit {
-                    p,
-                    q,
-                    entry: names.entry(new)?,
-                    secret: is_secret,
-                }
-            }
+            } => names.commit(new, is_secret, parents)?,
             Operation::Amend { old, new } => Op::Amend {
                 node: names.node(old)?,
                 entry: names.entry(new)?,
@@ -139,6 +131,16 @@ impl Names<'_> {
             Parents::One(p) => Ok((self.node(p)?, Node::NULL)),
             Parents::Two(p, q) => Ok((self.node(p)?, self.node(q)?)),
         }
+    }
+
+    fn commit(&self, new: &[u8], secret: bool, parents: Parents<'_>) -> Result<Op, RunFault> {
+        let (p, q) = self.parents(parents)?;
+        Ok(Op::Commit {
+            p,
+            q,
+            entry: self.entry(new)?,
+            secret,
+        })
     }
 
     fn nodes(&self, labels: &[&[u8]]) -> Result<Vec<Node>, RunFault> {
