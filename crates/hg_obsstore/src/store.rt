@@ -138,7 +138,8 @@ impl Store {
         Ok(Added::New)
     }
 
-    /// Forgets the markers from a place on. It costs what is forgotten.
+    /// Forgets the markers from a place on. It costs what is forgotten. It takes back what a refused call of a crate above
+    /// has added, and is for no other use.
     pub fn truncate(&mut self, len: usize)
         ensures { self.new ≡ take len self.old }
     {
