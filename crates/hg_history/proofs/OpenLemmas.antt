@@ -1,24 +1,18 @@
 -- A history that is opened.
-use Rattle.std.proofs.Common.{◌≡◌, ℕ, zero, suc, ◌+◌, ◌<◌, ◌≤◌, List, [], ◌∷◌, ◌++◌, length, replicate, slice_get, slice_set, Option, Some, None, Ok, Err, Contains, IfSome, MatchOption, ◌↔◌, ◌⊎◌, inl, inr, append_assoc, refl, sym, ap, subst, ◌∙◌, arith}
-use Rattle.std.proofs.lemmas.Bool.{cases_eq}
-use Rattle.std.proofs.lemmas.List.{length-append, length-replicate, length-set}
-use Rattle.std.proofs.lemmas.List.Elements.{Contains-append_left, Contains-push, Contains-push_cases}
-use Rattle.std.proofs.lemmas.Option.{none-some, same_Some, slice_get_within}
+use Rattle.std.proofs.Common.{◌≡◌, List, [], ◌∷◌, ◌++◌, length, slice_get, Some, Ok, Err, inl, inr, append_assoc, refl, sym, ap, subst, ◌∙◌, arith}
+use Rattle.std.proofs.lemmas.Option.{same_Some, slice_get_within}
 use Rattle.hg_changeset.specs.declared.node.Node.{Node}
 use Rattle.hg_changeset.specs.Contents.{Contents}
 use Rattle.hg_changeset.specs.Changeset.{node_of}
-use Rattle.hg_graph.specs.Graph.{Holds, IsGraph, IsParent, Reaches, nodes}
-use Rattle.hg_graph.specs.Graph.Reaches.{itself, below}
-use Rattle.hg_graph.specs.Places.{IsAt, IsOnlyAt, IsParentPlace}
-use Rattle.hg_graph.proofs.GraphLemmas.{Contains-from_place, place_from_Contains, absent}
-use Rattle.hg_graph.proofs.MarkLemmas.{get-set_same, get-set_other}
-use Rattle.hg_graph.proofs.PlaceLemmas.{get-within, same_place, IsAt-from, place_from_Holds, placed_within, Holds-reached, parent_first}
+use Rattle.hg_graph.specs.Graph.{Holds, IsGraph, nodes}
+use Rattle.hg_graph.specs.Places.{IsAt}
+use Rattle.hg_graph.proofs.GraphLemmas.{absent}
+use Rattle.hg_graph.proofs.PlaceLemmas.{get-within, same_place, IsAt-from, place_from_Holds, placed_within}
 use Rattle.hg_phases.specs.declared.phase.Phase.{Phase}
-use Rattle.hg_phases.specs.declared.phase.Phase.TheVariants.{Public}
-use Rattle.hg_phases.specs.State.{State, IsValid, rank, changesets, held_of, state_of}
+use Rattle.hg_phases.specs.State.{State, IsValid, changesets, state_of}
 use Rattle.hg_phases.specs.Least.{IsAdmitted}
-use Rattle.hg_phases.specs.Roots.{AreRoots, AreSameRoots, IsRootPhase, IsHighest, IsOpened}
-use Rattle.hg_phases.proofs.PlaceLemmas.{get-append_left, get-push_cases, changesets-held_of, parts-at}
+use Rattle.hg_phases.specs.Roots.{AreRoots, AreSameRoots, IsOpened}
+use Rattle.hg_phases.proofs.PlaceLemmas.{get-append_left, changesets-held_of}
 use Rattle.hg_phases.proofs.LeastLemmas.{same_changeset}
 use Rattle.hg_phases.proofs.RootLemmas.{opened-again}
 use Rattle.hg_history.proofs.FaultLemmas.{no_fault}
