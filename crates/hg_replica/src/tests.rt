@@ -133,12 +133,8 @@ pub(crate) fn fill_both(
     add_marked_root(alloc, other, phase)
 }
 
-// Asks again where the memory for the first answer is refused.
 pub(crate) fn expect_phase(rt: &impl Abort, replica: &Replica, node: Node, phase: Phase) {
-    let found = match replica.phase_of(node) {
-        Ok(found) => found,
-        Err(_) => replica.phase_of(node).expect(rt, "memory"),
-    };
+    let found = replica.phase_of(node).expect(rt, "an answer");
     assert!(rt; found == Some(phase));
 }
 
@@ -401,20 +397,6 @@ fn refused_growth_in_absorbing_changes_nothing(rt: HostRuntime) {
     let alloc = rt.alloc();
     let mut replica = Replica::new(alloc);
     publish_beside(&rt, alloc, &mut replica);
-}
-
-fn add_and_expect_phase(rt: &impl Abort, alloc: Global, replica: &mut Replica) {
-    if let Some(root) = committed(alloc, replica, Node::NULL, Phase::Draft) {
-        expect_phase(rt, replica, root, Phase::Draft);
-        expect_counts(rt, replica, 1, 0);
-    }
-}
-
-#[test]
-fn a_phase_is_told_after_refused_growth(rt: HostRuntime) {
-    let alloc = rt.alloc();
-    let mut replica = Replica::new(alloc);
-    add_and_expect_phase(&rt, alloc, &mut replica);
 }
 
 // A copy, made again where growth is refused: a refusal leaves the replica as it was before.
