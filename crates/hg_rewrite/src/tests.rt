@@ -75,10 +75,10 @@ fn fold(rt: &impl Abort, alloc: Global, nodes: &[Node]) -> Op {
     }
 }
 
-fn prune(alloc: Global, node: Node) -> Result<Op, AllocError> {
+fn prune(alloc: Global, node: Node, user: &[u8]) -> Result<Op, AllocError> {
     Ok(Op::Prune {
         node,
-        user: Vec::from_slice(alloc, b" fleet\n")?,
+        user: Vec::from_slice(alloc, user)?,
         secs: 0,
         offset: 0,
     })
@@ -167,7 +167,7 @@ fn prune_of_the_empty_root(rt: HostRuntime) {
     let mut replica = Replica::new(alloc);
     absorb(&rt, &mut replica, &empty_root(&rt, alloc));
     let node = id(&rt, N1);
-    let op = prune(alloc, node).expect(&rt, "memory");
+    let op = prune(alloc, node, b" fleet\n").expect(&rt, "memory");
     let part = decided(&rt, alloc, &replica, &op);
     assert!(rt; part.changesets.is_empty() && part.bounds.is_empty());
     let text =
@@ -276,8 +276,11 @@ fn refusals_by_number(rt: HostRuntime) {
     let alloc = rt.alloc();
     let replica = start(&rt, alloc);
     let node = id(&rt, A);
-    let op = prune(alloc, Node::NULL).expect(&rt, "memory");
+    let op = prune(alloc, Node::NULL, b"fleet").expect(&rt, "memory");
     expect_refusal(&rt, alloc, &replica, op, Refusal::Unknown(Node::NULL));
+    let op = prune(alloc, node, b" \n").expect(&rt, "memory");
+    let refusal = Refusal::Fault(Cause::Entry(EntryError::EmptyUser));
+    expect_refusal(&rt, alloc, &replica, op, refusal);
     let op = relocate(node, node, entry(&rt, alloc, b"a"));
     expect_refusal(&rt, alloc, &replica, op, Refusal::NotLinear);
     let op = fold(&rt, alloc, &[node]);
@@ -341,7 +344,7 @@ fn refused_growth_is_told(rt: HostRuntime) {
     let Ok(second) = entry_by(alloc, b"fleet", b"b") else {
         return;
     };
-    let Ok(last) = prune(alloc, id(&rt, A)) else {
+    let Ok(last) = prune(alloc, id(&rt, A), b"fleet") else {
         return;
     };
     let mut replica = Replica::new(alloc);
