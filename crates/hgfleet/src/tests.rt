@@ -62,6 +62,26 @@ impl Write for Full {
     }
 }
 
+// Takes one byte a write.
+#[derive(Drop)]
+struct Slow(Vec<u8>);
+
+impl Write for Slow {
+    fn write(&mut self, buf: &[u8]) -> io::Result<usize> {
+        match buf.first() {
+            Some(first) => match self.0.push(*first) {
+                Ok(()) => Ok(1),
+                Err(_) => Err(Error::from(ErrorKind::OutOfMemory)),
+            },
+            None => Ok(0),
+        }
+    }
+
+    fn flush(&mut self) -> io::Result<()> {
+        Ok(())
+    }
+}
+
 // Counts the writes, and those that end with LF.
 #[derive(Drop)]
 struct Noting {
@@ -254,6 +274,9 @@ fn faults_that_the_words_show(rt: HostRuntime) {
         ("split A\n", "line 1: wrong number of words"),
         ("fold A\n", "line 1: wrong number of words"),
         ("prune A\n", "line 1: wrong number of words"),
+        ("prune A a? b\n", "line 1: wrong number of words"),
+        ("relocate A a? b c d e\n", "line 1: wrong number of words"),
+        ("phase A a? low b\n", "line 1: wrong number of words"),
         ("relocate A a b c d e\n", "line 1: wrong number of words"),
         ("phase A a\n", "line 1: wrong number of words"),
         ("phase A a? low\n", "line 1: bad name"),
@@ -284,6 +307,24 @@ fn faults_of_names_that_stand_for_nothing_or_too_much(rt: HostRuntime) {
             "line 3: name is taken",
         ),
         ("node A\nagree A B\n", "line 2: unknown name"),
+        ("agree A A\n", "line 1: unknown name"),
+        ("node A\nsplit A a s s\n", "line 2: unknown name"),
+        (
+            "node A\ncommit A a draft\nsplit A a s t s\n",
+            "line 3: name is taken",
+        ),
+        (
+            "node A\ncommit A a draft\ncommit A b draft\nsplit A a s b\n",
+            "line 4: name is taken",
+        ),
+        (
+            "node A\ncommit A a draft\namend A a a\n",
+            "line 3: name is taken",
+        ),
+        (
+            "node A\nnode B\ncommit A a draft\ncommit A b draft a\ncommit B b draft\n",
+            "line 5: name is taken",
+        ),
         ("commit A a draft\n", "line 1: unknown name"),
         ("report A\n", "line 1: unknown name"),
         ("node A\ncommit A a draft b\n", "line 2: unknown name"),
@@ -302,8 +343,12 @@ fn limits_of_lines_and_scripts(rt: HostRuntime) {
     let alloc = rt.alloc();
     let mut script = vec![in alloc; b'#'; 4096].expect(&rt, "memory");
     expect(&rt, alloc, &script, b"", "");
-    script.push(b'#').expect(&rt, "memory");
-    expect(&rt, alloc, &script, b"", "line 1: line is too long");
+    script.extend_from_slice(b"\r\n").expect(&rt, "memory");
+    expect(&rt, alloc, &script, b"", "");
+    let words = vec![in alloc; b'x'; 4097].expect(&rt, "memory");
+    expect(&rt, alloc, &words, b"", "line 1: line is too long");
+    let comment = vec![in alloc; b'#'; 4097].expect(&rt, "memory");
+    expect(&rt, alloc, &comment, b"", "line 1: line is too long");
     let mut long = vec![in alloc; b'\n'; 1_048_576].expect(&rt, "memory");
     expect(&rt, alloc, &long, b"", "");
     long.push(b'\n').expect(&rt, "memory");
@@ -320,6 +365,53 @@ fn readers_and_writers_that_fail(rt: HostRuntime) {
     let script: &[u8] = b"node A\nreport A\nreport A\n";
     let done = run_counted(alloc, script, &mut Full(1));
     expect_ending(&rt, alloc, done, "write fault");
+    let refused: &[u8] = b"node A\ncommit A a draft\nphase A a secret\n";
+    let done = run_counted(alloc, refused, &mut Full(0));
+    expect_ending(&rt, alloc, done, "write fault");
+    let mut slow = Slow(Vec::new(alloc));
+    let done = run_counted(alloc, script, &mut slow);
+    let wanted: &[u8] = b"report A\n0 changesets 0 markers\nreport A\n0 changesets 0 markers\n";
+    assert_eq!(rt; slow.0.as_slice(), wanted);
+    expect_ending(&rt, alloc, done, "");
     assert_eq!(rt; RunFault::Write.status(), 1);
     assert_eq!(rt; RunFault::NoMemory.status(), 3);
+}
+
+// A and B do the same under other labels. A label of B would be listed for A where it named a changeset of A.
+#[test]
+fn new_changesets_are_described_by_their_labels(rt: HostRuntime) {
+    let script =
+        b"node A\nnode B\ncommit A p draft\ncommit B p draft\ncommit A x draft\ncommit B x draft\namend A x a1\namend B x a2\ncommit A y draft\ncommit B y draft\nrelocate A y r1 p\nrelocate B y r2 p\ncommit A s draft\ncommit B s draft\nsplit A s s1 s2\nsplit B s s1 s3\ncommit A v draft\ncommit A w draft v\ncommit B v draft\ncommit B w draft v\nfold A f1 v w\nfold B f2 v w\nreport A\n";
+    let output =
+        b"report A\na1 draft\nf1 draft\np draft\nr1 draft\ns draft\ns1 draft\ns2 draft\nv draft\nw draft\nx draft\ny draft\n11 changesets 5 markers\n";
+    expect(&rt, rt.alloc(), script, output, "");
+}
+
+#[test]
+fn replicas_of_other_markers_do_not_agree(rt: HostRuntime) {
+    let script =
+        b"node A\nnode B\ncommit A a draft\ncommit B a draft\nprune A a\nagree A B\nprune B a\nagree A B\n";
+    expect(
+        &rt,
+        rt.alloc(),
+        script,
+        b"agree A B: no\nagree A B: yes\n",
+        "",
+    );
+}
+
+#[test]
+fn a_relocation_onto_nothing_is_a_root(rt: HostRuntime) {
+    let script =
+        b"node A\ncommit A p draft\ncommit A x draft p\nrelocate A x y\nphase A y public\nreport A\n";
+    let output = b"report A\np draft\nx draft\ny public\n3 changesets 1 markers\n";
+    expect(&rt, rt.alloc(), script, output, "");
+}
+
+#[test]
+fn refusals_come_before_the_faults_of_new_labels(rt: HostRuntime) {
+    let script =
+        b"node A\nnode B\ncommit A a draft\nphase B a public\nphase A a public\nsplit A a s s\n";
+    let output = b"4: rewrite 1 Unknown\n6: rewrite 3 Public\n";
+    expect(&rt, rt.alloc(), script, output, "");
 }
