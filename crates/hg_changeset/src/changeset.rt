@@ -79,6 +79,25 @@ impl Model for Changeset {
     ghost invariant = { λ c. (c.node ≡ node_of (contents c.first c.second c.text.items)) × IsChangeset (contents c.first c.second c.text.items) };
 }
 
+impl PartialEq for Changeset {
+    ghost use Rattle.std.specs.Cmp.{partial_equiv_from_equiv};
+    ghost use Rattle.hg_changeset.specs.Same.{same_contents, contents_equivalence};
+
+    ghost eq = { same_contents };
+
+    ghost laws = { partial_equiv_from_equiv contents_equivalence };
+
+    fn eq(&self, other: &Changeset) -> bool {
+        self.is_same(other)
+    }
+}
+
+impl Eq for Changeset {
+    ghost use Rattle.hg_changeset.specs.Same.{contents_equivalence};
+
+    ghost laws = { contents_equivalence };
+}
+
 impl Changeset {
     /// The changeset of these parents, in either order, and this text.
     ///

@@ -1,8 +1,6 @@
 -- The entries of a BTreeMap of byte strings, as a finite map.
-use Rattle.std.specs.Prelude.{◌&&◌}
 use Rattle.std.specs.List.{AllZip, each_same}
 use Rattle.std.specs.Vec.{vec_len}
-use Rattle.std.specs.Cmp.Lexicographic.{pointwise}
 use Rattle.std.proofs.Common.{◌≡◌, ℕ, Bool, true, false, cond, List, [], ◌∷◌, map, Option, Some, refl, sym, ap, ◌∙◌, T, length}
 use Rattle.std.specs.declared.cmp.Ordering.{Ordering}
 use Rattle.std.specs.declared.cmp.Ordering.TheVariants.{Less, Equal, Greater}
@@ -17,7 +15,6 @@ use Rattle.std.specs.FinMap.{put, find, is_sorted, from_sorted, insert, entries,
 use Rattle.std.specs.FinMap.Entries.{is_sorted-put}
 use Rattle.std.proofs.lemmas.Cmp.{nat_list_cmp_total}
 use Rattle.hg_marker.specs.Texts.{bytes_cmp, entry_bytes}
-use Rattle.hg_marker.specs.Same.{same_entry, same_entries}
 
 abbrev pub vec_cmp : Vec ℕ Global → Vec ℕ Global → Ordering
 vec_cmp a b = bytes_cmp a.items b.items
@@ -80,10 +77,3 @@ same_bytes (e ∷ es) (f ∷ fs) h =
     let value : f.1.items ≡ e.1.items = each_same e.1.items f.1.items h.0.1.0 in
     let first : (f.0.items, f.1.items) ≡ (e.0.items, e.1.items) = λ i. (key i, value i) in
     ap (λ (x : List ℕ × List ℕ). x ∷ entry_bytes fs) first ∙ ap (λ (r : List (List ℕ × List ℕ)). (e.0.items, e.1.items) ∷ r) (same_bytes es fs h.1)
-
--- the test of two maps tests their bytes
-pub same_mapped : (xs ys : List (Vec ℕ Global × Vec ℕ Global)) → same_entries (entry_bytes xs) (entry_bytes ys) ≡ pointwise (λ (a b : Vec ℕ Global × Vec ℕ Global). same_entry (a.0.items, a.1.items) (b.0.items, b.1.items)) xs ys
-same_mapped [] [] = refl
-same_mapped [] (y ∷ ys) = refl
-same_mapped (x ∷ xs) [] = refl
-same_mapped (x ∷ xs) (y ∷ ys) = ap (λ b. same_entry (x.0.items, x.1.items) (y.0.items, y.1.items) && b) (same_mapped xs ys)

@@ -7,7 +7,7 @@ ghost use Rattle.std.specs.Prelude.{◌≡◌, ◌++◌, ◌^◌, ◌-◌, OnOk,
 ghost use Rattle.std.specs.FinMap as finite;
 ghost use Rattle.std.specs.List.{list_any};
 ghost use Rattle.hg_marker.specs.Texts.{entry_bytes};
-ghost use Rattle.hg_marker.specs.Same.{same_entries};
+ghost use Rattle.hg_changeset.specs.Same.{same_pairs};
 ghost use Rattle.hg_marker.specs.Fed.{entries_fed};
 ghost use Rattle.hg_marker.specs.Metadata.{written, piece, is_nul};
 ghost use Rattle.hg_marker.specs.Making.{has_bad_key, has_bad_value, ends_key};
@@ -162,7 +162,7 @@ impl Metadata {
 
 // Whether the same values stand at the same keys.
 fn are_same(a: &BTreeMap<Vec<u8>, Vec<u8>>, b: &BTreeMap<Vec<u8>, Vec<u8>>) -> bool
-    ensures { result ≡ same_entries (entry_bytes a.now.entries) (entry_bytes b.now.entries) }
+    ensures { result ≡ same_pairs (entry_bytes a.now.entries) (entry_bytes b.now.entries) }
 {
     a == b
 }

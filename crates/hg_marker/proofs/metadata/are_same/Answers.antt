@@ -1,5 +1,5 @@
 use Rattle.std.proofs.Common.{sym, ◌∙◌}
-use Rattle.hg_marker.proofs.TextsLemmas.{same_mapped}
+use Rattle.hg_changeset.proofs.SameLemmas.{same_mapped}
 use Rattle.hg_marker.proofs.metadata.are_same.Goals as goal
 
 pub returns : goal.returns
