@@ -18,6 +18,9 @@ mod roots;
 
 pub use change::Change;
 pub use fault::Fault;
+pub use hg_changeset::{Changeset, Node};
+pub use hg_graph::Graph;
+pub use hg_phases::{Phase, Roots};
 pub use history::History;
 pub use laws::{
     absorbed_is_valid_above_and_covers, contents_say_what_histories_say, first_fault_is_one,

@@ -16,6 +16,7 @@ mod tests;
 
 pub use error::{MarkerError, MarkerFault, ReadError};
 pub use format::{decode, encode, read_marker, skip_marker, spelling_laws};
+pub use hg_changeset::Node;
 pub use marker::{METADATA_LIMIT, Marker};
 pub use metadata::Metadata;
 pub use parents::Parents;

@@ -7,3 +7,4 @@ pub mod Sets
 pub mod Spelling
 pub mod Faults
 pub mod Refusals
+pub mod Same

@@ -12,4 +12,7 @@ mod tests;
 
 pub use fault::StoreFault;
 pub use format::{markers_bytes, read_markers, read_store, store_bytes};
+pub use hg_changeset::Node;
+pub use hg_join::NoMemory;
+pub use hg_marker::{Marker, MarkerFault};
 pub use store::{Added, Store};

@@ -17,6 +17,7 @@ use hg_join::NoMemory;
 use hg_marker::Marker;
 use indexmap::IndexSet;
 use std::alloc::{AllocError, Global};
+use std::fmt;
 use std::marker::Model;
 
 /// What [`Store::add`] did.
@@ -29,6 +30,8 @@ pub enum Added {
 }
 
 /// A set of markers, in the order in which they came. Contracts see that list.
+///
+/// Two stores are `==` where they hold the same markers in the same order.
 ///
 /// It joins as a [`JoinState`](hg_join::JoinState). A call that adds costs what it is given, and a refused one no more;
 /// the look-ups cost one look-up by a hash, however many markers they tell of.
@@ -54,6 +57,31 @@ impl Model for Store {
     ghost view = { λ s. s.markers.keys };
 
     ghost invariant = { λ s. AreApart s.markers.keys × AreIndexed s.markers.keys s.indexes };
+}
+
+impl PartialEq for Store {
+    ghost use Rattle.std.specs.Cmp.{partial_equiv_from_equiv};
+    ghost use Rattle.hg_obsstore.specs.Same.{same_markers, markers_equivalence};
+
+    ghost eq = { same_markers };
+
+    ghost laws = { partial_equiv_from_equiv markers_equivalence };
+
+    fn eq(&self, other: &Store) -> bool {
+        self.markers() == other.markers()
+    }
+}
+
+impl Eq for Store {
+    ghost use Rattle.hg_obsstore.specs.Same.{markers_equivalence};
+
+    ghost laws = { markers_equivalence };
+}
+
+impl fmt::Debug for Store {
+    fn fmt<W: fmt::Write>(&self, f: &mut fmt::Formatter<W>) -> fmt::Result {
+        fmt::Debug::fmt(self.markers(), f)
+    }
 }
 
 impl Store {

@@ -12,6 +12,7 @@ mod read;
 mod write;
 
 pub use error::RootsError;
+pub use hg_phases::Roots;
 pub use laws::roots_read_back;
 pub use read::read_roots;
 pub use write::roots_text;

@@ -18,6 +18,10 @@ mod query;
 mod refusal;
 
 pub use decision::decide;
+pub use hg_changeset::{ChangesetError, Entry, EntryError, Node};
+pub use hg_marker::MarkerError;
+pub use hg_phases::Phase;
+pub use hg_replica::{Part, Replica};
 pub use laws::first_refusal_is_one;
 pub use op::Op;
 pub use refusal::{Cause, Refusal};
