@@ -1,0 +1,77 @@
+-- Those of some nodes of which something holds.
+use Rattle.std.proofs.Common.{◌≡◌, ℕ, ◌+◌, ◌<◌, ◌≤◌, List, [], ◌∷◌, ◌++◌, length, take, get_or, Contains, IsTrue, Bool, true, false, ◌↔◌, ◌⊎◌, inl, inr, refl, sym, ap, subst, ◌∙◌, arith}
+use Rattle.std.proofs.lemmas.List.{take_more, take_all}
+use Rattle.std.proofs.lemmas.List.Elements.{Contains-append_left, Contains-push, Contains-push_cases}
+use Rattle.hg_changeset.specs.declared.node.Node.{Node}
+use Rattle.hg_marker.specs.Fields.{Fields}
+
+pub none_in : {X : Type 0} (y : X) → Contains [] y → ⊥
+none_in y h = omega (arith, h.1)
+
+-- one element more
+pub pushed : {X : Type 0} (xs : List X) (x y : X) → Contains (xs ++ x ∷ []) y ↔ (Contains xs y ⊎ (x ≡ y))
+pushed xs x y = (
+  λ h. Contains-push_cases xs x y h,
+  λ h. elim h [ inl old ↦ Contains-append_left xs (x ∷ []) y old | inr e ↦ subst (Contains (xs ++ x ∷ [])) e (Contains-push xs x) ],
+)
+
+pub taken : {X : Type 0} (xs : List X) (i : ℕ) (x y : X) → i < length xs → get_or xs i x ≡ x → Contains (take (i + 1) xs) y ↔ (Contains (take i xs) y ⊎ (x ≡ y))
+taken xs i x y l is =
+    let more : take (i + 1) xs ≡ take i xs ++ x ∷ [] = take_more xs i x l ∙ ap (λ z. take i xs ++ z ∷ []) is in (
+      λ h. (pushed (take i xs) x y).0 (subst (λ zs. Contains zs y) more h),
+      λ h. subst (λ zs. Contains zs y) (sym more) ((pushed (take i xs) x y).1 h),
+    )
+
+-- of what was seen, the found ones are those that are so
+abbrev pub AreThose : (Node → Type 0) → (Node → Type 0) → List Node → Type 0
+AreThose Seen P found = (n : Node) → Contains found n ↔ (Seen n × P n)
+
+-- one node more
+abbrev pub IsAlso : Node → (Node → Type 0) → (Node → Type 0) → Type 0
+IsAlso m Old New = (n : Node) → New n ↔ (Old n ⊎ (m ≡ n))
+
+pub those-none : (Seen P : Node → Type 0) (found : List Node) → found ≡ [] → ((n : Node) → ¬ (Seen n)) → AreThose Seen P found
+those-none Seen P found is never n = (λ h. absurd (none_in n (subst (λ ns. Contains ns n) is h)), λ h. absurd (never n h.0))
+
+module _ (Seen More P : Node → Type 0) (found : List Node) (m : Node) (those : AreThose Seen P found) (more : IsAlso m Seen More) where
+  pub those-found : P m → (new : List Node) → IsAlso m (Contains found) (Contains new) → AreThose More P new
+  those-found p new grown n = (
+    λ h. elim ((grown n).0 h) [
+      | inl old ↦ let x = (those n).0 old in ((more n).1 (inl x.0), x.1)
+      | inr e ↦ ((more n).1 (inr e), subst P e p)
+    ],
+    λ h. (grown n).1 (elim ((more n).0 h.0) [ inl old ↦ inl ((those n).1 (old, h.1)) | inr e ↦ inr e ]),
+  )
+
+  pub those-pushed : P m → (new : List Node) → new ≡ found ++ m ∷ [] → AreThose More P new
+  those-pushed p new is = those-found p new (λ n. (
+    λ h. (pushed found m n).0 (subst (λ ns. Contains ns n) is h),
+    λ h. subst (λ ns. Contains ns n) (sym is) ((pushed found m n).1 h),
+  ))
+
+  pub those-other : ¬ (P m) → AreThose More P found
+  those-other not n = (
+    λ h. let x = (those n).0 h in ((more n).1 (inl x.0), x.1),
+    λ h. elim ((more n).0 h.0) [ inl old ↦ (those n).1 (old, h.1) | inr e ↦ absurd (not (subst P (sym e) h.1)) ],
+  )
+
+-- all were seen
+pub those-all : {X : Type 0} (Seen : List X → Node → Type 0) (P : Node → Type 0) (xs : List X) (i : ℕ) (found : List Node) → length xs ≤ i → AreThose (Seen (take i xs)) P found → AreThose (Seen xs) P found
+those-all Seen P xs i found le those = subst (λ zs. AreThose (Seen zs) P found) (take_all i xs le) those
+
+pub also-taken : (xs : List Node) (i : ℕ) (d : Node) → i < length xs → IsAlso (get_or xs i d) (Contains (take i xs)) (Contains (take (i + 1) xs))
+also-taken xs i d l n =
+    let more : take (i + 1) xs ≡ take i xs ++ get_or xs i d ∷ [] = take_more xs i d l in (
+      λ h. (pushed (take i xs) (get_or xs i d) n).0 (subst (λ zs. Contains zs n) more h),
+      λ h. subst (λ zs. Contains zs n) (sym more) ((pushed (take i xs) (get_or xs i d) n).1 h),
+    )
+
+-- the predecessors of markers
+abbrev pub HavePredecessor : List Fields → Node → Type 0
+HavePredecessor ms n = (m : Fields) × Contains ms m × (m.predecessor ≡ n)
+
+pub also-predecessor : (ms : List Fields) (i : ℕ) (m : Fields) → i < length ms → get_or ms i m ≡ m → IsAlso m.predecessor (HavePredecessor (take i ms)) (HavePredecessor (take (i + 1) ms))
+also-predecessor ms i m l is n = (
+  λ h. elim ((taken ms i m h.0 l is).0 h.1) [ inl old ↦ inl (h.0, old, h.2) | inr e ↦ inr (ap (λ x. x.predecessor) e ∙ h.2) ],
+  λ h. elim h [ inl old ↦ (old.0, (taken ms i m old.0 l is).1 (inl old.1), old.2) | inr e ↦ (m, (taken ms i m m l is).1 (inr refl), e) ],
+)

@@ -1,0 +1,25 @@
+use Rattle.std.proofs.Common.{List, ◌↔◌, Contains, sym, subst}
+use Rattle.hg_changeset.specs.declared.node.Node.{Node}
+use Rattle.hg_replica.specs.Content.{content_of}
+use Rattle.hg_replica.specs.Evolution.{IsObsolete, IsSuspended, IsExtinct}
+use Rattle.hg_instab.proofs.SetLemmas.{along}
+use Rattle.hg_instab.proofs.instabilities.Instabilities.from_scratch.Goals as goal
+
+pub suspended_nodes-requires : goal.suspended_nodes-requires
+suspended_nodes-requires c = rw c.deref.ensures.value c.in_ok-orphan.ensures
+
+pub returns : goal.returns
+returns c =
+    let f = content_of c.args.replica.now in
+    let suspended : (n : Node) → Contains c.in_ok-suspended.suspended.keys n ↔ IsSuspended f n = λ n. along (c.in_ok-suspended.ensures n) (c.in_ok-suspended_nodes.ensures n) in
+    let outside : (n : Node) → Contains c.in_ok-extinct.extinct.items n ↔ (Contains c.in_ok-obsolete.obsolete.items n × ¬ (Contains c.in_ok-suspended.suspended.keys n)) = rw c.deref-2.ensures.value at c.in_ok-extinct.ensures in
+    record {
+      obsolete = λ n. along (c.in_ok-set_of.ensures n) (c.in_ok-obsolete.ensures n);
+      orphan = λ n. along (c.in_ok-set_of-2.ensures n) (c.in_ok-orphan.ensures n);
+      suspended = suspended;
+      extinct = λ n. along (c.in_ok-set_of-3.ensures n) (
+        λ h. let x = (outside n).0 h in ((c.in_ok-obsolete.ensures n).0 x.0, λ is. x.1 ((suspended n).1 is)),
+        λ h. (outside n).1 ((c.in_ok-obsolete.ensures n).1 h.0, λ at. h.1 ((suspended n).0 at)),
+      );
+      phase_divergent = λ n. along (c.in_ok-set_of-4.ensures n) (c.in_ok-phase_divergent.ensures n);
+    }

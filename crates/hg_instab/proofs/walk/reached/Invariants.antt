@@ -1,0 +1,9 @@
+use Rattle.std.proofs.Common.{◌-◌, length}
+use Rattle.hg_instab.proofs.WalkLemmas.{IsWalked, ids}
+use Rattle.hg_instab.proofs.walk.reached.Given as goal
+
+abbrev pub invariant-loop-next : goal.invariant-loop-next
+invariant-loop-next l = IsWalked l.replica l.seen.keys l.next
+
+abbrev pub decreases-loop-next : goal.decreases-loop-next
+decreases-loop-next l = length (ids l.replica.markers) - l.next

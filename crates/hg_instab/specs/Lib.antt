@@ -1,0 +1,3 @@
+pub mod Instabilities
+pub mod Walk
+pub mod Orphans
