@@ -7,15 +7,18 @@ use Rattle.std.proofs.lemmas.Option.{same_Some, slice_get_within, get_or_from_sl
 use Rattle.hg_changeset.specs.declared.node.Node.{Node}
 use Rattle.hg_changeset.specs.Contents.{Contents}
 use Rattle.hg_graph.specs.Graph.{Holds}
+use Rattle.hg_graph.proofs.GraphLemmas.{Contains-from_place}
 use Rattle.hg_phases.specs.declared.phase.Phase.{Phase}
 use Rattle.hg_phases.specs.declared.phase.Phase.TheVariants.{Secret}
 use Rattle.hg_phases.specs.State.{State, IsValid, rank, state_of, Holds as StateHolds}
+use Rattle.hg_phases.specs.declared.lowered.LoweredPlace.{LoweredPlace}
+use Rattle.hg_phases.specs.Lowered.{IsAbove}
 use Rattle.hg_phases.specs.Least.{PartValue, IsLeast}
 use Rattle.hg_phases.proofs.LeastLemmas.{rank-top, only_one}
 use Rattle.hg_phases.proofs.LawLemmas.{least-more, least-valid}
 use Rattle.hg_history.specs.declared.fault.Fault.{Fault}
 use Rattle.hg_history.specs.declared.fault.Fault.TheVariants.{UnknownParent, Collision, UnknownBound, NullBound, NoMemory}
-use Rattle.hg_history.specs.Answer.{AreHeldUpTo}
+use Rattle.hg_history.specs.Answer.{AreHeldUpTo, HasHigher}
 use Rattle.hg_history.specs.Steps.{IsBoundFault, IsBoundAt, OneLowered, IsLoweredTo}
 
 -- the first bound whose node isn't held
@@ -121,3 +124,18 @@ least-secrets s p bs bounds t sub all held l = record {
 
     one : (y : PartValue) → Contains (y ∷ []) y
     one y = (0, omega arith, refl)
+
+-- one more bound's node may be above it
+module _ (cs : List Contents) (bounds : List (Node × Phase)) (i : ℕ) (b : Node × Phase) (at : slice_get bounds i ≡ Some b) (old now : List Phase) (before log : List LoweredPlace)
+    (still : HasHigher (state_of cs old) bounds ⊎ ((now ≡ old) × (log ≡ before))) where
+  pub higher_at : IsAbove (state_of cs now) b.0 b.1 → HasHigher (state_of cs old) bounds
+  higher_at above = elim still [
+    | inl higher ↦ higher
+    | inr same ↦ (b, Contains-from_place bounds i b at, subst (λ ks. IsAbove (state_of cs ks) b.0 b.1) same.0 above)
+  ]
+
+  pub still_more : (new : List Phase) (newlog : List LoweredPlace) → IsAbove (state_of cs now) b.0 b.1 ⊎ ((new ≡ now) × (newlog ≡ log)) → HasHigher (state_of cs old) bounds ⊎ ((new ≡ old) × (newlog ≡ before))
+  still_more new newlog one = elim one [
+    | inl above ↦ inl (higher_at above)
+    | inr kept ↦ elim still [ inl higher ↦ inl higher | inr same ↦ inr (kept.0 ∙ same.0, kept.1 ∙ same.1) ]
+  ]

@@ -1,6 +1,7 @@
 -- What grows before any fault of a part is met.
-use Rattle.std.proofs.Common.{◌≡◌, ℕ, zero, suc, ◌<◌, ◌≤◌, List, ◌++◌, length, take, slice_get, Some, Contains, Result, Ok, Err, ◌⊎◌, inl, inr, sym, ap, subst, ◌∙◌, arith}
+use Rattle.std.proofs.Common.{◌≡◌, ℕ, zero, suc, ◌<◌, ◌≤◌, List, [], ◌++◌, length, map, take, slice_get, Some, Contains, Result, Ok, Err, ◌⊎◌, inl, inr, sym, ap, subst, ◌∙◌, arith}
 use Rattle.std.proofs.lemmas.Bool.{cases_eq}
+use Rattle.std.proofs.lemmas.List.{append-nil}
 use Rattle.std.proofs.lemmas.List.Elements.{Contains-append_left, Contains-append_cases}
 use Rattle.std.proofs.lemmas.Option.{same_Some, slice_get_within}
 use Rattle.hg_changeset.specs.declared.node.Node.{Node}
@@ -11,13 +12,17 @@ use Rattle.hg_graph.specs.Answers.{IsNew}
 use Rattle.hg_graph.proofs.GraphLemmas.{place_from_Contains, get-take, Holds-changeset}
 use Rattle.hg_graph.proofs.PlaceLemmas.{get-within}
 use Rattle.hg_phases.specs.declared.phase.Phase.{Phase}
+use Rattle.hg_phases.specs.declared.phase.Phase.TheVariants.{Secret}
+use Rattle.hg_phases.specs.declared.lowered.LoweredPlace.{LoweredPlace}
 use Rattle.hg_phases.specs.State.{state_of}
+use Rattle.hg_phases.specs.Log.{HasLogged}
 use Rattle.hg_phases.proofs.PlaceLemmas.{changesets-held_of}
 use Rattle.hg_history.specs.declared.fault.Fault.{Fault}
 use Rattle.hg_history.specs.declared.fault.Fault.TheVariants.{UnknownParent, Collision, UnknownBound, NullBound, NoMemory}
-use Rattle.hg_history.specs.Answer.{IsFineUpTo, AreHeldUpTo, AreKnownUpTo, IsFirstNew, IsGrowthBeforeFault, IsRefusal}
+use Rattle.hg_history.specs.Answer.{IsFineUpTo, AreHeldUpTo, AreKnownUpTo, IsFirstNew, HasHigher, IsGrowthBeforeFault, IsRefusal}
 use Rattle.hg_history.specs.Steps.{AddAllAnswer, IsAdded, IsBoundFault}
 use Rattle.hg_history.proofs.AddLemmas.{Holds-same}
+use Rattle.hg_history.proofs.UnheldLemmas.{unheld-none}
 use Rattle.hg_history.proofs.FirstFaultLemmas.{held_or_not, same_contents_or_not}
 
 module _ (held part : List Contents) where
@@ -30,6 +35,12 @@ module _ (held part : List Contents) where
         let q = get-take part i p.0 d p.1 in
         known p.0 d q.0 q.1
   ])
+
+  known_front : AreKnownUpTo held part (length part) → (c : Contents) → Contains (take (length part) part) c → Contains held c
+  known_front known c at =
+      let p = place_from_Contains (take (length part) part) c at in
+      let q = get-take part (length part) p.0 c p.1 in
+      known p.0 c q.0 q.1
 
   new-here : (i : ℕ) (c : Contents) → slice_get part i ≡ Some c → AreKnownUpTo held part i → IsNew (held ++ take i part) c → IsFirstNew held part
   new-here i c at known new = record {
@@ -85,21 +96,58 @@ add_growth held had part ds ls (i, c, at, a, h) =
 
 -- in the words of states
 module _ (held : List Contents) (had : List Phase) (part : List Contents) (bounds : List (Node × Phase)) (len : length had ≡ length held) where
-  at_state : IsFirstNew held part ⊎ (AreKnownUpTo held part (length part) × AreHeldUpTo held bounds (length bounds)) → IsGrowthBeforeFault (state_of held had) (record { changesets = part; bounds = bounds })
-  at_state = subst (λ cs. IsFirstNew cs part ⊎ (AreKnownUpTo cs part (length part) × AreHeldUpTo cs bounds (length bounds))) (sym (changesets-held_of held had len))
+  at_state : IsFirstNew held part ⊎ (AreKnownUpTo held part (length part) × AreHeldUpTo held bounds (length bounds) × HasHigher (state_of held had) bounds) → IsGrowthBeforeFault (state_of held had) (record { changesets = part; bounds = bounds })
+  unfolding IsGrowthBeforeFault
+  at_state = subst (λ cs. IsFirstNew cs part ⊎ (AreKnownUpTo cs part (length part) × AreHeldUpTo cs bounds (length bounds) × HasHigher (state_of held had) bounds)) (sym (changesets-held_of held had len))
 
   pub growth-adding : (r : Result Unit Fault) (ds : List Contents) (ls : List Phase) → AddAllAnswer held had part r ds ls → r ≡ Err NoMemory → IsGrowthBeforeFault (state_of held had) (record { changesets = part; bounds = bounds })
   growth-adding r ds ls answer is = at_state (inl (add_growth held had part ds ls (subst (λ x. AddAllAnswer held had part x ds ls) is answer)))
 
   -- once all changesets were added and the bounds looked up
-  pub growth-after : (cs : List Contents) (ks : List Phase) → IsAdded held had part (length part) cs ks → AreHeldUpTo cs bounds (length bounds) → IsGrowthBeforeFault (state_of held had) (record { changesets = part; bounds = bounds })
-  growth-after cs ks a there = at_state (elim (known_or_new held part (length part) (omega arith) a.fine) [
-    | inr new ↦ inl new
-    | inl known ↦ inr (
-      known,
-      λ j b l at. known_back held part (length part) known b.0 (Holds-same cs (held ++ take (length part) part) (λ d. (a.same d).0) b.0 (there j b l at)),
-    )
-  ])
+  module _ (cs : List Contents) (ks : List Phase) (a : IsAdded held had part (length part) cs ks) where
+    -- where all of them were held, nothing has grown
+    unchanged : AreKnownUpTo held part (length part) → (cs ≡ held) × (ks ≡ had)
+    unchanged known =
+        let none = unheld-none held (take (length part) part) (λ c at. known_front held part known c at) in (
+          a.appended ∙ ap (λ xs. held ++ xs) none ∙ append-nil held,
+          a.secret ∙ ap (λ xs. had ++ map (λ _. Secret) xs) none ∙ append-nil had,
+        )
+
+    pub growth-after : AreHeldUpTo cs bounds (length bounds) → HasHigher (state_of cs ks) bounds → IsGrowthBeforeFault (state_of held had) (record { changesets = part; bounds = bounds })
+    growth-after there higher = elim (known_or_new held part (length part) (omega arith) a.fine) [
+      | inr new ↦ at_state (inl new)
+      | inl known ↦
+          let same = unchanged known in
+          at_state (inr (
+            known,
+            λ j b l at. subst (λ ds. Holds ds b.0) same.0 (there j b l at),
+            subst (λ xs. HasHigher (state_of held xs) bounds) same.1 (subst (λ ds. HasHigher (state_of ds ks) bounds) same.0 higher),
+          ))
+    ]
+
+    -- where the graph has grown, a changeset was new
+    pub growth-longer : length held < length cs → IsGrowthBeforeFault (state_of held had) (record { changesets = part; bounds = bounds })
+    growth-longer more = elim (known_or_new held part (length part) (omega arith) a.fine) [
+      | inr new ↦ at_state (inl new)
+      | inl known ↦ let same = ap length (unchanged known).0 in absurd (omega (arith, more, same))
+    ]
+
+    -- where something was logged, some bound's node went down
+    pub growth-logged : AreHeldUpTo cs bounds (length bounds) → (start log end : List LoweredPlace) (mid : List Phase) (before : ℕ) → start ≡ []
+        → HasHigher (state_of cs ks) bounds ⊎ ((mid ≡ ks) × (log ≡ start)) → HasHigher (state_of cs mid) bounds ⊎ (end ≡ log) → HasLogged end before
+        → IsGrowthBeforeFault (state_of held had) (record { changesets = part; bounds = bounds })
+    growth-logged there start log end mid before fresh public draft logged = growth-after there (elim public [
+      | inl higher ↦ higher
+      | inr same ↦ elim draft [
+        | inl higher ↦ subst (λ xs. HasHigher (state_of cs xs) bounds) same.0 higher
+        | inr still ↦ absurd (let none = ap length (still ∙ same.1 ∙ fresh) in omega (arith, logged.1.1, none))
+      ]
+    ])
+
+    -- where the draft bounds want memory, some bound's node was above already
+    pub growth-draft : AreHeldUpTo cs bounds (length bounds) → (start log : List LoweredPlace) (mid : List Phase) → HasHigher (state_of cs ks) bounds ⊎ ((mid ≡ ks) × (log ≡ start)) → HasHigher (state_of cs mid) bounds
+        → IsGrowthBeforeFault (state_of held had) (record { changesets = part; bounds = bounds })
+    growth-draft there start log mid public higher = growth-after there (elim public [ inl h ↦ h | inr same ↦ subst (λ xs. HasHigher (state_of cs xs) bounds) same.0 higher ])
 
 -- a refusal is the same whatever would have been answered otherwise
 pub refused_along : {X Y : Type 0} (f g : Fault) → ◌≡◌ {A = Result X Fault} (Err f) (Err g) → ◌≡◌ {A = Result Y Fault} (Err f) (Err g)

@@ -1,12 +1,13 @@
 -- The changesets of a part that aren't held.
-use Rattle.std.proofs.Common.{◌≡◌, Bool, true, false, cond, List, [], ◌∷◌, ◌++◌, append_assoc, refl, sym, ap, ◌∙◌}
+use Rattle.std.proofs.Common.{◌≡◌, Bool, true, false, cond, List, [], ◌∷◌, ◌++◌, append_assoc, Contains, refl, sym, ap, ◌∙◌, arith}
 use Rattle.std.proofs.lemmas.List.{append-nil}
+use Rattle.std.proofs.lemmas.List.Elements.{Contains-append_right}
 use Rattle.std.proofs.lemmas.Map.Views.{list_any-from_Contains}
 use Rattle.hg_changeset.specs.Contents.{Contents}
 use Rattle.hg_changeset.specs.Changeset.{node_of}
 use Rattle.hg_changeset.proofs.NodeLemmas.{node_eq_laws}
 use Rattle.hg_graph.specs.Graph.{Holds, nodes}
-use Rattle.hg_graph.proofs.GraphLemmas.{absent}
+use Rattle.hg_graph.proofs.GraphLemmas.{absent, Holds-from}
 use Rattle.hg_history.specs.Change.{is_held, unheld}
 
 -- what one more changeset of the part makes of them
@@ -30,3 +31,10 @@ unheld-known held part c there =
     unheld-push held part c
     ∙ ap (λ b. unheld held part ++ cond b [] (c ∷ [])) (list_any-from_Contains node_eq_laws (node_of c) (nodes (held ++ unheld held part)) there)
     ∙ append-nil (unheld held part)
+
+-- of a part that is held nothing is added
+pub unheld-none : (held part : List Contents) → ((c : Contents) → Contains part c → Contains held c) → unheld held part ≡ []
+unheld-none held [] known = refl
+unheld-none held (c ∷ part) known =
+    ap (λ b. cond b (unheld held part) (c ∷ unheld (held ++ c ∷ []) part)) (list_any-from_Contains node_eq_laws (node_of c) (nodes held) (Holds-from held c (known c (0, omega arith, refl))))
+    ∙ unheld-none held part (λ d at. known d (Contains-append_right (c ∷ []) part d at))

@@ -8,6 +8,7 @@ use Rattle.hg_graph.specs.Graph.{nodes, HoldsParents}
 use Rattle.hg_graph.specs.Answers.{IsFirstMissing, Collides, IsNew}
 use Rattle.hg_phases.specs.declared.phase.Phase.{Phase}
 use Rattle.hg_phases.specs.State.{State, changesets}
+use Rattle.hg_phases.specs.Lowered.{IsAbove}
 use Rattle.hg_phases.specs.Least.{PartValue, IsAdmitted, IsLeast}
 use Rattle.hg_history.specs.declared.fault.Fault.{Fault}
 use Rattle.hg_history.specs.declared.fault.Fault.TheVariants.{UnknownParent, Collision, UnknownBound, NullBound, NoMemory}
@@ -58,9 +59,13 @@ pub record IsFirstNew (held part : List Contents) : Type 0 where
   pub before : AreKnownUpTo held part place
   pub new : IsNew held changeset
 
--- where the part is taken in at s, something grows before any fault is met: a changeset comes first that is new, or all changesets and the bounds' nodes are held, so that only phases can go down
-abbrev pub IsGrowthBeforeFault : State → PartValue → Type 0
-IsGrowthBeforeFault s k = IsFirstNew (changesets s) k.changesets ⊎ (AreKnownUpTo (changesets s) k.changesets (length k.changesets) × AreHeldUpTo (changesets s) k.bounds (length k.bounds))
+-- the node of some bound is held with a phase above the bound's, so that it goes down
+abbrev pub HasHigher : State → List (Node × Phase) → Type 0
+HasHigher s bounds = (b : Node × Phase) × Contains bounds b × IsAbove s b.0 b.1
+
+-- where the part is taken in at s, something grows before any fault is met: a changeset comes first that is new, or all changesets and the bounds' nodes are held, and one of these goes down
+unfoldable pub IsGrowthBeforeFault : State → PartValue → Type 0
+IsGrowthBeforeFault s k = IsFirstNew (changesets s) k.changesets ⊎ (AreKnownUpTo (changesets s) k.changesets (length k.changesets) × AreHeldUpTo (changesets s) k.bounds (length k.bounds) × HasHigher s k.bounds)
 
 -- the part could be absorbed: the state is the least one above s that covers it, what is new stands last in the part's order, and the change tells it all
 pub record IsAbsorbed (s : State) (k : PartValue) (change : ChangeValue) (after : State) : Type 0 where

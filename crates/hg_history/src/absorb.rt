@@ -4,7 +4,7 @@
 //! node is found, then the public bounds are lowered to, and then the draft ones, so that each place goes down once.
 //! Secret bounds say nothing more. A refusal takes back what was done: the log of what was lowered restores the phases,
 //! and what was added stands last, so it is cut off. Nothing costs more than the part and what it lowers.
-ghost use Rattle.std.specs.Prelude.{OnOk, OnErr, IfOk, IfErr, IsErrOf, MatchResult, length, take, drop, [], ◌∷◌, ◌++◌, ◌+◌, ◌-◌, ◌≤◌, List, ◌≡◌};
+ghost use Rattle.std.specs.Prelude.{OnOk, OnErr, IfOk, IfErr, IsErrOf, MatchResult, length, take, drop, [], ◌∷◌, ◌++◌, ◌+◌, ◌-◌, ◌≤◌, ◌<◌, ◌⊎◌, List, ◌≡◌};
 ghost use Rattle.hg_changeset.specs.declared.node.Node.{Node};
 ghost use Rattle.hg_graph.specs.Graph.{Holds, nodes};
 ghost use Rattle.hg_graph.specs.Places.{IsAt};
@@ -12,7 +12,8 @@ ghost use Rattle.hg_phases.specs.declared.phase.Phase.{Phase};
 ghost use Rattle.hg_phases.specs.State.{state_of, IsValid};
 ghost use Rattle.hg_phases.specs.Kept.{phases_at, kept_state, before_last, phases_before, IsLogOf};
 ghost use Rattle.hg_phases.specs.Log.{IsLog};
-ghost use Rattle.hg_history.specs.Answer.{AbsorbAnswer, AreHeldUpTo, IsAbsorbed, IsGrowthBeforeFault, IsRefusal};
+ghost use Rattle.hg_phases.specs.Lowered.{IsAbove};
+ghost use Rattle.hg_history.specs.Answer.{AbsorbAnswer, AreHeldUpTo, IsAbsorbed, IsGrowthBeforeFault, HasHigher, IsRefusal};
 ghost use Rattle.hg_history.specs.Steps.{AddAllAnswer, CanTakeBack, OneAdded, IsBoundFault, IsBoundAt, OneLowered, IsLoweredTo};
 
 use crate::change::Change;
@@ -156,7 +157,8 @@ fn admit_or_remove(graph: &mut Graph, phases: &mut PhaseMap, node: Node) -> Resu
 // The nodes of the changesets from a place on.
 fn nodes_from(graph: &Graph, from: usize, alloc: Global) -> Result<Vec<Node>, AllocError>
     requires { from ≤ length graph.now }
-    ensures { IfOk result (λ found. found.items ≡ drop from (nodes graph.now)) }
+    ensures nodes { IfOk result (λ found. found.items ≡ drop from (nodes graph.now)) }
+    ensures memory { OnErr result (from < length graph.now) }
 {
     let mut found = Vec::new(alloc);
     for place in from..graph.len() {
@@ -210,6 +212,8 @@ fn lower_to(
     ensures lowered { OnOk result (IsLoweredTo graph.now bounds.now phase (phases_at graph.now phases.old) (phases_at graph.now phases.new)) }
     ensures logged { (start : List Phase) → IsLog phase start (phases_at graph.now phases.old) log.old → IsLog phase start (phases_at graph.now phases.new) log.new }
     ensures undoes { phases_before graph.now phases.new log.new ≡ phases_before graph.now phases.old log.old }
+    ensures memory { OnErr result (HasHigher (kept_state graph.now phases.old) bounds.now) }
+    ensures still { HasHigher (kept_state graph.now phases.old) bounds.now ⊎ ((phases_at graph.now phases.new ≡ phases_at graph.now phases.old) × (log.new ≡ log.old)) }
 {
     for bound in bounds {
         lower_bound(graph, phases, log, *bound, phase)?;
@@ -232,6 +236,8 @@ pub(crate) fn lower_bound(
     ensures lowered { OnOk result (OneLowered graph.now bound phase (phases_at graph.now phases.old) (phases_at graph.now phases.new)) }
     ensures logged { (start : List Phase) → IsLog phase start (phases_at graph.now phases.old) log.old → IsLog phase start (phases_at graph.now phases.new) log.new }
     ensures undoes { phases_before graph.now phases.new log.new ≡ phases_before graph.now phases.old log.old }
+    ensures memory { OnErr result (IsAbove (kept_state graph.now phases.old) bound.0 bound.1) }
+    ensures still { IsAbove (kept_state graph.now phases.old) bound.0 bound.1 ⊎ ((phases_at graph.now phases.new ≡ phases_at graph.now phases.old) × (log.new ≡ log.old)) }
 {
     if bound.1 == phase {
         phases.lower_logged(graph, log, bound.0, phase)

@@ -108,7 +108,8 @@ impl History {
     /// Takes in changesets and bounds on phases: the history goes to the least state above its own that covers them. A
     /// bound `(node, phase)` says that the node and its ancestors have at most this phase. What is new stands last, in the
     /// given order. The first fault is told, of the changesets in their order and then of the bounds in theirs; a refusal
-    /// leaves the history as it was. [`Fault::NoMemory`] never stands for a fault that is met before anything grows.
+    /// leaves the history as it was. [`Fault::NoMemory`] never stands for a fault that is met before anything grows, and
+    /// what is covered already is absorbed without memory.
     pub fn absorb(
         &mut self,
         changesets: &[Changeset],
@@ -130,7 +131,8 @@ impl History {
 
     /// Takes in all that another history holds: the history goes to the least state above both, the union of the
     /// changesets with the lowest phases. Two changesets under one id are refused as a collision; a refusal leaves the
-    /// history as it was. [`Fault::NoMemory`] never stands for a collision that is met before anything grows.
+    /// history as it was. [`Fault::NoMemory`] never stands for a collision that is met before anything grows, and another
+    /// history that is below this one is joined without memory.
     pub fn join(&mut self, other: &History) -> Result<(), Fault>
         ensures answer { JoinAnswer self.old other.now result self.new }
         ensures valid { IsValid self.old }

@@ -4,14 +4,14 @@
 //! other's order, so the parents of each are there when it comes: a new one is copied, as secret, and stands last. Then
 //! each is lowered to its phase, the public ones first, which lowers hardly anything else, since its parents stand no
 //! higher in the other. A refusal takes back what was done, as in `absorb`. So a call costs about both sides once.
-ghost use Rattle.std.specs.Prelude.{◌≡◌, ◌↔◌, List, Some, IsTrue, OnOk, IfErr, IsErrOf, length, slice_get, [], ◌∷◌};
+ghost use Rattle.std.specs.Prelude.{◌≡◌, ◌↔◌, ◌⊎◌, List, Some, IsTrue, OnOk, OnErr, IfErr, IsErrOf, length, slice_get, [], ◌∷◌};
 ghost use Rattle.hg_phases.specs.declared.phase.Phase.{Phase};
 ghost use Rattle.hg_phases.specs.State.{IsValid};
 ghost use Rattle.hg_phases.specs.Kept.{phases_at, kept_state, phases_before};
 ghost use Rattle.hg_phases.specs.Least.{IsLeast, part_of};
 ghost use Rattle.hg_phases.specs.Log.{IsLog};
 ghost use Rattle.hg_phases.specs.Order.{Below};
-ghost use Rattle.hg_history.specs.Answer.{AreHeldUpTo, IsGrowthBeforeFault};
+ghost use Rattle.hg_history.specs.Answer.{AreHeldUpTo, HasHigher, IsGrowthBeforeFault};
 ghost use Rattle.hg_history.specs.Join.{IsJoinFault, JoinAnswer, IsHeldAsLow};
 ghost use Rattle.hg_history.specs.Steps.{AddAllAnswer, CanTakeBack, IsLoweredTo};
 
@@ -113,6 +113,8 @@ fn lower_to_each(
     ensures lowered { OnOk result (IsLoweredTo graph.now (part_of (kept_state other.now other_phases.now)).bounds phase (phases_at graph.now phases.old) (phases_at graph.now phases.new)) }
     ensures logged { (start : List Phase) → IsLog phase start (phases_at graph.now phases.old) log.old → IsLog phase start (phases_at graph.now phases.new) log.new }
     ensures undoes { phases_before graph.now phases.new log.new ≡ phases_before graph.now phases.old log.old }
+    ensures memory { OnErr result (HasHigher (kept_state graph.now phases.old) (part_of (kept_state other.now other_phases.now)).bounds) }
+    ensures still { HasHigher (kept_state graph.now phases.old) (part_of (kept_state other.now other_phases.now)).bounds ⊎ ((phases_at graph.now phases.new ≡ phases_at graph.now phases.old) × (log.new ≡ log.old)) }
 {
     for place in 0..other.len() {
         match other.node_at(place) {

@@ -1,10 +1,10 @@
 //! What was lowered: the log of a walk, from which it is told and taken back.
-ghost use Rattle.std.specs.Prelude.{IfOk, [], ◌≡◌, List, take};
+ghost use Rattle.std.specs.Prelude.{IfOk, OnErr, [], ◌≡◌, List, take};
 ghost use Rattle.std.specs.List.{flat_map};
 ghost use Rattle.hg_graph.specs.Graph.{IsGraph, nodes};
 ghost use Rattle.hg_phases.specs.declared.phase.Phase.{Phase};
 ghost use Rattle.hg_phases.specs.State.{state_of};
-ghost use Rattle.hg_phases.specs.Log.{IsLog, node_before};
+ghost use Rattle.hg_phases.specs.Log.{IsLog, HasLogged, node_before};
 ghost use Rattle.hg_phases.specs.Lowered.{ListsLowered};
 
 use crate::phase::Phase;
@@ -52,9 +52,10 @@ impl LoweringLog {
     }
 
     /// The nodes of what went down and stands before a place, in no promised order: those of the changesets before it
-    /// whose phase is lower than when the log was begun.
+    /// whose phase is lower than when the log was begun. It takes no memory where there are none.
     pub fn nodes_before(&self, graph: &Graph, before: usize) -> Result<Vec<Node>, AllocError>
-        ensures { IfOk result (λ found. (phase : Phase) (start now : List Phase) → IsGraph graph.now → IsLog phase start now self.now → ListsLowered (state_of (take before graph.now) (take before start)) (state_of graph.now now) found.items) }
+        ensures lowered { IfOk result (λ found. (phase : Phase) (start now : List Phase) → IsGraph graph.now → IsLog phase start now self.now → ListsLowered (state_of (take before graph.now) (take before start)) (state_of graph.now now) found.items) }
+        ensures memory { OnErr result (HasLogged self.now before) }
     {
         nodes_of(graph, &self.places, before, *self.places.allocator())
     }
@@ -67,7 +68,8 @@ fn nodes_of(
     before: usize,
     alloc: Global,
 ) -> Result<Vec<Node>, AllocError>
-    ensures { IfOk result (λ found. found.items ≡ flat_map (node_before (nodes graph.now) before) log.now) }
+    ensures nodes { IfOk result (λ found. found.items ≡ flat_map (node_before (nodes graph.now) before) log.now) }
+    ensures memory { OnErr result (HasLogged log.now before) }
 {
     let mut found = Vec::new(alloc);
     for lowered in log {

@@ -6,16 +6,16 @@
 //!
 //! Lowering a changeset lowers its ancestors with it. The walk keeps one log of what it lowered, with the phase that
 //! each had: the log is the queue of the walk, the answer, and what takes the lowering back.
-ghost use Rattle.std.specs.Prelude.{OnOk, slice_set, All, IfOk, IsOkAnd, IfSome, MatchOption, OnErr, length, take, slice_get, Some, [], ◌∷◌, ◌++◌, ◌+◌, ◌-◌, ℕ, List, ◌≡◌, ◌<◌};
+ghost use Rattle.std.specs.Prelude.{OnOk, slice_set, All, IfOk, IsOkAnd, IfSome, MatchOption, OnErr, length, take, slice_get, Some, [], ◌∷◌, ◌++◌, ◌+◌, ◌-◌, ℕ, List, ◌≡◌, ◌<◌, ◌⊎◌};
 ghost use Rattle.hg_changeset.specs.declared.node.Node.{Node};
 ghost use Rattle.hg_graph.specs.Graph.{Holds as GraphHolds, IsGraph};
 ghost use Rattle.hg_graph.specs.Places.{IsAt};
 ghost use Rattle.hg_phases.specs.State.{state_of, Holds, IsPhaseOf, IsValid};
 ghost use Rattle.hg_phases.specs.Kept.{phases_at, kept_state, before_last, phases_before, IsLogOf};
 ghost use Rattle.hg_phases.specs.Least.{IsLeast, bound_alone};
-ghost use Rattle.hg_phases.specs.Lowered.{ListsLowered};
+ghost use Rattle.hg_phases.specs.Lowered.{IsAbove, ListsLowered};
 ghost use Rattle.hg_phases.specs.Roots.{IsOpened};
-ghost use Rattle.hg_phases.specs.Log.{IsLog, restored, IsOneLowered, IsUnlowered};
+ghost use Rattle.hg_phases.specs.Log.{IsLog, restored, IsAboveAt, IsOneLowered, IsUnlowered};
 
 use crate::lowered::{Lowered, LoweredPlace, LoweringLog};
 use crate::open::phases_under;
@@ -103,7 +103,7 @@ impl PhaseMap {
     }
 
     /// Gives the changeset with this id and its ancestors the phase, where theirs is higher, and tells which went down. A
-    /// refusal leaves every phase as it was.
+    /// refusal leaves every phase as it was, and comes only where the changeset's phase is higher, so that it goes down.
     pub fn lower(&mut self, graph: &Graph, node: Node, phase: Phase) -> Result<Lowered, AllocError>
         requires len { length (phases_at graph.now self.old) ≡ length graph.now }
         requires valid { IsValid (kept_state graph.now self.old) }
@@ -112,6 +112,7 @@ impl PhaseMap {
         ensures valid { OnOk result (IsValid (kept_state graph.now self.new)) }
         ensures lowered { IfOk result (λ lowered. ListsLowered (kept_state graph.now self.old) (kept_state graph.now self.new) lowered.nodes.items) }
         ensures unchanged { OnErr result (self.new ≡ self.old) }
+        ensures memory { OnErr result (IsAbove (kept_state graph.now self.old) node phase) }
     {
         let mut log = LoweringLog::new(*self.phases.allocator());
         match self.lower_and_tell(graph, &mut log, node, phase) {
@@ -140,6 +141,7 @@ impl PhaseMap {
         ensures lowered { IfOk result (λ lowered. ListsLowered (kept_state graph.now self.old) (kept_state graph.now self.new) lowered.nodes.items) }
         ensures logged { IsLog phase (phases_at graph.now self.old) (phases_at graph.now self.new) log.new }
         ensures undoes { phases_before graph.now self.new log.new ≡ phases_at graph.now self.old }
+        ensures memory { OnErr result (IsAbove (kept_state graph.now self.old) node phase) }
     {
         self.lower_logged(graph, log, node, phase)?;
         let nodes = log.nodes_before(graph, graph.len())?;
@@ -148,7 +150,8 @@ impl PhaseMap {
 
     /// Lowers as [`lower`](PhaseMap::lower) does, and logs what goes down behind what was logged already, so that the
     /// lowerings of several calls are told and taken back together. Phases are lowered to in ascending order: then each
-    /// changeset is logged once. A refusal may leave some of the phases low: the log takes back what was done.
+    /// changeset is logged once. A refusal may leave some of the phases low: the log takes back what was done. It comes
+    /// only where the changeset's phase is higher; otherwise nothing changes.
     pub fn lower_logged(
         &mut self,
         graph: &Graph,
@@ -164,6 +167,8 @@ impl PhaseMap {
         ensures logged { (start : List Phase) → IsLog phase start (phases_at graph.now self.old) log.old → IsLog phase start (phases_at graph.now self.new) log.new }
         ensures undoes { phases_before graph.now self.new log.new ≡ phases_before graph.now self.old log.old }
         ensures len { length (phases_at graph.now self.new) ≡ length (phases_at graph.now self.old) }
+        ensures memory { OnErr result (IsAbove (kept_state graph.now self.old) node phase) }
+        ensures still { IsAbove (kept_state graph.now self.old) node phase ⊎ ((phases_at graph.now self.new ≡ phases_at graph.now self.old) × (log.new ≡ log.old)) }
     {
         match graph.place(node) {
             Some(place) => self.lower_at(graph, &mut log.places, place, phase),
@@ -203,6 +208,8 @@ impl PhaseMap {
         ensures logged { (start : List Phase) → IsLog phase start self.old log.old.items → IsLog phase start self.new log.new.items }
         ensures undoes { restored self.new log.new.items ≡ restored self.old log.old.items }
         ensures len { length self.new ≡ length self.old }
+        ensures memory { OnErr result (IsAboveAt phase self.old place) }
+        ensures still { IsAboveAt phase self.old place ⊎ IsUnlowered self.old log.old.items self.new log.new.items }
     {
         let mut i = log.len();
         self.lower_one(log, place, phase)?;
@@ -240,6 +247,7 @@ impl PhaseMap {
         requires { place < length self.old }
         ensures lowered { OnOk result (IsOneLowered phase place self.old log.old.items self.new log.new.items) }
         ensures unchanged { OnErr result (IsUnlowered self.old log.old.items self.new log.new.items) }
+        ensures memory { OnErr result (IsAboveAt phase self.old place) }
     {
         let had = self.phases[place];
         if phase < had {

@@ -10,7 +10,7 @@ use std::alloc::Global;
 use std::marker::Model;
 
 /// Nodes with their phases, in the order in which they were listed. Any list will do: it may be redundant, and it may name
-/// nodes that nobody holds.
+/// nodes that nobody holds. Two are equal where they list the same, in the same order.
 #[derive(Debug, Drop)]
 pub struct Roots {
     listed: Vec<(Phase, Node)>,
@@ -24,6 +24,25 @@ impl Model for Roots {
     ghost Value = { List (Phase × Node) };
 
     ghost view = { λ roots. roots.listed.items };
+}
+
+impl PartialEq for Roots {
+    ghost use Rattle.std.specs.Cmp.{partial_equiv_from_equiv};
+    ghost use Rattle.hg_phases.specs.Same.{same_roots, roots_equivalence};
+
+    ghost eq = { same_roots };
+
+    ghost laws = { partial_equiv_from_equiv roots_equivalence };
+
+    fn eq(&self, other: &Roots) -> bool {
+        self.listed == other.listed
+    }
+}
+
+impl Eq for Roots {
+    ghost use Rattle.hg_phases.specs.Same.{roots_equivalence};
+
+    ghost laws = { roots_equivalence };
 }
 
 impl Roots {

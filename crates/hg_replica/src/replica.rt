@@ -112,7 +112,8 @@ impl Replica {
     /// Takes in a part: the replica goes to the least state above its own that covers the part. What is new stands
     /// last, in the part's order. The first fault is told, of the changesets in their order and then of the bounds in
     /// theirs; a refusal leaves the replica as it was. Markers come before changesets, so want of memory is told in place of
-    /// a fault only where a marker is new, or where the history grew before the fault was met.
+    /// a fault only where a marker is new, or where the history grew before the fault was met. What is covered already is
+    /// absorbed without memory.
     pub fn absorb(&mut self, part: &Part) -> Result<Change, Fault>
         ensures answer { AbsorbAnswer self.old part.now result self.new }
         ensures memory { IsErrOf result Fault.NoMemory → IsGrowthBeforeFault self.old part.now }

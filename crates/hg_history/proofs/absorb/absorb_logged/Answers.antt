@@ -1,4 +1,4 @@
-use Rattle.std.proofs.Common.{◌≡◌, ◌∙◌, drop, length, take, ap, subst, arith}
+use Rattle.std.proofs.Common.{◌≡◌, ◌∙◌, drop, length, take, inl, inr, ap, subst, arith}
 use Rattle.hg_graph.specs.Graph.{nodes}
 use Rattle.hg_phases.specs.declared.phase.Phase.TheVariants.{Public, Draft}
 use Rattle.hg_phases.specs.State.{state_of}
@@ -8,7 +8,7 @@ use Rattle.hg_history.specs.Change.{ListsLowered}
 use Rattle.hg_history.specs.declared.fault.Fault.TheVariants.{NoMemory}
 use Rattle.hg_history.proofs.AddLemmas.{front_kept, phases_kept, graph_added}
 use Rattle.hg_history.proofs.AbsorbLemmas.{back_added, back_lowered, admitted, least-absorbed, in_order, told_at_state, bound_first}
-use Rattle.hg_history.proofs.GrowthLemmas.{add_refusal, bound_wants_none, growth-adding, growth-after, refused_along}
+use Rattle.hg_history.proofs.GrowthLemmas.{add_refusal, bound_wants_none, growth-adding, growth-after, growth-draft, growth-longer, growth-logged, refused_along}
 use Rattle.hg_history.proofs.absorb.absorb_logged.Goals as goal
 
 pub returns-in-Err-clause-back : goal.returns-in-Err-clause-back
@@ -43,19 +43,20 @@ returns-in_err-lower_to-clause-back c =
 
 pub returns-in_err-lower_to-clause-memory : goal.returns-in_err-lower_to-clause-memory
 returns-in_err-lower_to-clause-memory c is =
-    growth-after c.args.graph.now c.args.phases.now c.args.changesets.now c.args.bounds.now c.requires.len c.add_changesets.new.graph c.add_changesets.new.phases c.in-Ok.ensures c.in-Ok-check_bounds.ensures.held
+    growth-after c.args.graph.now c.args.phases.now c.args.changesets.now c.args.bounds.now c.requires.len c.add_changesets.new.graph c.add_changesets.new.phases c.in-Ok.ensures c.in-Ok-check_bounds.ensures.held c.in_err-lower_to.ensures.memory
 
 pub returns-in_err-lower_to-2-clause-memory : goal.returns-in_err-lower_to-2-clause-memory
 returns-in_err-lower_to-2-clause-memory c is =
-    growth-after c.args.graph.now c.args.phases.now c.args.changesets.now c.args.bounds.now c.requires.len c.add_changesets.new.graph c.add_changesets.new.phases c.in-Ok.ensures c.in-Ok-check_bounds.ensures.held
+    growth-draft c.args.graph.now c.args.phases.now c.args.changesets.now c.args.bounds.now c.requires.len c.add_changesets.new.graph c.add_changesets.new.phases c.in-Ok.ensures c.in-Ok-check_bounds.ensures.held c.args.log.now c.lower_to.new.log c.lower_to.new.phases c.lower_to.ensures.still c.in_err-lower_to-2.ensures.memory
 
 pub returns-in_err-added-clause-memory : goal.returns-in_err-added-clause-memory
 returns-in_err-added-clause-memory c is =
-    growth-after c.args.graph.now c.args.phases.now c.args.changesets.now c.args.bounds.now c.requires.len c.add_changesets.new.graph c.add_changesets.new.phases c.in-Ok.ensures c.in-Ok-check_bounds.ensures.held
+    growth-longer c.args.graph.now c.args.phases.now c.args.changesets.now c.args.bounds.now c.requires.len c.add_changesets.new.graph c.add_changesets.new.phases c.in-Ok.ensures (omega (arith, c.in_err-added.ensures.memory, c.len-before.ensures.len))
 
 pub returns-in_err-lowered-clause-memory : goal.returns-in_err-lowered-clause-memory
 returns-in_err-lowered-clause-memory c is =
-    growth-after c.args.graph.now c.args.phases.now c.args.changesets.now c.args.bounds.now c.requires.len c.add_changesets.new.graph c.add_changesets.new.phases c.in-Ok.ensures c.in-Ok-check_bounds.ensures.held
+    growth-logged c.args.graph.now c.args.phases.now c.args.changesets.now c.args.bounds.now c.requires.len c.add_changesets.new.graph c.add_changesets.new.phases c.in-Ok.ensures c.in-Ok-check_bounds.ensures.held c.args.log.now c.lower_to.new.log c.lower_to-2.new.log c.lower_to.new.phases c.len-before.result c.requires.fresh
+    c.lower_to.ensures.still (elim c.lower_to-2.ensures.still [ inl higher ↦ inl higher | inr same ↦ inr same.1 ]) c.in_err-lowered.ensures.memory
 
 pub returns-in_err-lower_to-2-clause-back : goal.returns-in_err-lower_to-2-clause-back
 returns-in_err-lower_to-2-clause-back c =
@@ -104,13 +105,13 @@ returns-clause-absorbed c =
     let public = c.lower_to.ensures.logged ks (fresh_log Public ks c.args.log.now c.requires.fresh) in
     let logged = c.lower_to-2.ensures.logged ks (IsLog-above Public Draft ks c.lower_to.new.phases c.lower_to.new.log (omega arith) public) in
     let before = c.len-before.ensures.len in
-    let down = c.in_ok-lowered.ensures Draft ks new (graph_added held had part _ cs ks a) logged in
+    let down = c.in_ok-lowered.ensures.lowered Draft ks new (graph_added held had part _ cs ks a) logged in
     let graph_is : take c.len-before.result cs ≡ held = ap (λ n. take n cs) before ∙ front_kept held had part _ cs ks a in
     let phases_are : take c.len-before.result ks ≡ had = ap (λ n. take n ks) before ∙ phases_kept held had part _ cs ks a c.requires.len in
     record {
       admitted = admitted held had part bounds cs ks a c.requires.len there;
       least = least-absorbed held had part bounds cs ks a c.requires.len there c.lower_to.new.phases new c.in_ok-lower_to.ensures.lowered c.in_ok-lower_to-2.ensures.lowered len;
       order = in_order held had part bounds cs ks a c.requires.len there new len;
-      added = c.in_ok-added.ensures ∙ ap (λ n. drop n (nodes cs)) before ∙ told_at_state held had part bounds cs ks a c.requires.len there;
+      added = c.in_ok-added.ensures.nodes ∙ ap (λ n. drop n (nodes cs)) before ∙ told_at_state held had part bounds cs ks a c.requires.len there;
       lowered = subst (λ ds. ListsLowered (state_of ds had) (state_of cs new) c.in_ok-lowered.lowered.items) graph_is (subst (λ xs. ListsLowered (state_of (take c.len-before.result cs) xs) (state_of cs new) c.in_ok-lowered.lowered.items) phases_are down);
     }

@@ -1,7 +1,8 @@
-use Rattle.std.proofs.Common.{◌≡◌, List, length, take}
+use Rattle.std.proofs.Common.{◌≡◌, ◌⊎◌, List, length, take}
 use Rattle.hg_phases.specs.declared.phase.Phase.{Phase}
 use Rattle.hg_phases.specs.State.{IsValid, state_of}
 use Rattle.hg_phases.specs.Log.{IsLog, restored}
+use Rattle.hg_history.specs.Answer.{HasHigher}
 use Rattle.hg_history.specs.Steps.{IsLoweredTo}
 use Rattle.hg_history.proofs.absorb.lower_to.Given as goal
 
@@ -12,4 +13,5 @@ invariant-loop-bound l = record {
   lowered : IsLoweredTo l.graph (take l.bound-index l.bounds) l.phase l.fn.phases l.phases;
   logged : (start : List Phase) → IsLog l.phase start l.fn.phases l.fn.log → IsLog l.phase start l.phases l.log;
   undoes : restored l.phases l.log ≡ restored l.fn.phases l.fn.log;
+  still : HasHigher (state_of l.graph l.fn.phases) l.bounds ⊎ ((l.phases ≡ l.fn.phases) × (l.log ≡ l.fn.log));
 }

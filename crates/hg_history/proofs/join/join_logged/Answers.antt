@@ -8,7 +8,7 @@ use Rattle.hg_phases.proofs.PlaceLemmas.{graph_of_state}
 use Rattle.hg_history.specs.declared.fault.Fault.TheVariants.{NoMemory}
 use Rattle.hg_history.specs.Answer.{IsGrowthBeforeFault}
 use Rattle.hg_history.proofs.AbsorbLemmas.{back_added, back_lowered, least-absorbed}
-use Rattle.hg_history.proofs.GrowthLemmas.{growth-adding, growth-after, refused_along}
+use Rattle.hg_history.proofs.GrowthLemmas.{growth-adding, growth-after, growth-draft, refused_along}
 use Rattle.hg_history.proofs.JoinLemmas.{bounds_held, fault_joined, part_is}
 use Rattle.hg_history.proofs.join.join_logged.Goals as goal
 
@@ -43,13 +43,14 @@ pub returns-in_err-lower_to_each-clause-memory : goal.returns-in_err-lower_to_ea
 returns-in_err-lower_to_each-clause-memory c is =
     subst (IsGrowthBeforeFault (state_of c.args.graph.now c.args.phases.now)) (part_is c.args.other.now c.args.other_phases.now c.requires.other_len)
     (growth-after c.args.graph.now c.args.phases.now c.args.other.now _ c.requires.len c.add_all.new.graph c.add_all.new.phases c.in-Ok.ensures
-    (bounds_held c.args.other.now c.args.other_phases.now c.requires.other_len c.args.graph.now c.args.phases.now c.add_all.new.graph c.add_all.new.phases c.in-Ok.ensures))
+    (bounds_held c.args.other.now c.args.other_phases.now c.requires.other_len c.args.graph.now c.args.phases.now c.add_all.new.graph c.add_all.new.phases c.in-Ok.ensures) c.in_err-lower_to_each.ensures.memory)
 
 pub returns-in_err-lower_to_each-2-clause-memory : goal.returns-in_err-lower_to_each-2-clause-memory
 returns-in_err-lower_to_each-2-clause-memory c is =
     subst (IsGrowthBeforeFault (state_of c.args.graph.now c.args.phases.now)) (part_is c.args.other.now c.args.other_phases.now c.requires.other_len)
-    (growth-after c.args.graph.now c.args.phases.now c.args.other.now _ c.requires.len c.add_all.new.graph c.add_all.new.phases c.in-Ok.ensures
-    (bounds_held c.args.other.now c.args.other_phases.now c.requires.other_len c.args.graph.now c.args.phases.now c.add_all.new.graph c.add_all.new.phases c.in-Ok.ensures))
+    (growth-draft c.args.graph.now c.args.phases.now c.args.other.now _ c.requires.len c.add_all.new.graph c.add_all.new.phases c.in-Ok.ensures
+    (bounds_held c.args.other.now c.args.other_phases.now c.requires.other_len c.args.graph.now c.args.phases.now c.add_all.new.graph c.add_all.new.phases c.in-Ok.ensures)
+    c.args.log.now c.lower_to_each.new.log c.lower_to_each.new.phases c.lower_to_each.ensures.still c.in_err-lower_to_each-2.ensures.memory)
 
 pub returns-in_err-lower_to_each-2-clause-back : goal.returns-in_err-lower_to_each-2-clause-back
 returns-in_err-lower_to_each-2-clause-back c =

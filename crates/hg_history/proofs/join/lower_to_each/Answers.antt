@@ -1,12 +1,13 @@
-use Rattle.std.proofs.Common.{◌≡◌, ◌<◌, ◌≤◌, ◌+◌, length, take, slice_get, Some, sym, ap, subst, ◌∙◌, arith}
+use Rattle.std.proofs.Common.{◌≡◌, ◌<◌, ◌≤◌, ◌+◌, length, take, slice_get, Some, inl, inr, sym, ap, subst, ◌∙◌, arith}
 use Rattle.std.proofs.lemmas.List.{take_all}
 use Rattle.std.proofs.lemmas.Option.{none-some, slice_get_within}
+use Rattle.std.proofs.lemmas.Result.{MatchResult-from_err}
 use Rattle.hg_graph.proofs.PlaceLemmas.{IsAt-within}
 use Rattle.hg_phases.specs.State.{IsValid, state_of}
 use Rattle.hg_phases.specs.Least.{part_of}
 use Rattle.hg_phases.specs.Log.{IsLog, restored}
 use Rattle.hg_history.specs.Steps.{IsLoweredTo}
-use Rattle.hg_history.proofs.BoundLemmas.{IsLoweredTo-step, valid-lowered}
+use Rattle.hg_history.proofs.BoundLemmas.{IsLoweredTo-step, valid-lowered, higher_at, still_more}
 use Rattle.hg_history.proofs.JoinLemmas.{bound_at, bounds_len}
 use Rattle.hg_history.proofs.join.lower_to_each.Goals as goal
 use Rattle.hg_history.proofs.join.lower_to_each.Goals.{in-Some+in_ok-lower_bound-in-Some, in-None}
@@ -34,6 +35,10 @@ loop-place-preserved c = elim c.match-node_at.branch [
         lowered = subst (λ ks. IsLoweredTo cs (take (i + 1) bounds) c.args.phase c.args.phases.now ks) (sym w.phases-is) step;
         logged = λ start h. subst (λ ks. IsLog c.args.phase start ks c.match-node_at.log) (sym w.phases-is) (subst (IsLog c.args.phase start new) (sym w.log-is) (ens.logged start (inv.logged start h)));
         undoes = (λ t. restored (w.phases-is t) (w.log-is t)) ∙ ens.undoes ∙ inv.undoes;
+        still = elim (still_more cs bounds i (w.in-Some.node, w.at.result) at c.args.phases.now c.loop-place.phases c.args.log.now c.loop-place.log inv.still new w.lower_bound.new.log ens.still) [
+          | inl higher ↦ inl higher
+          | inr same ↦ inr (w.phases-is ∙ same.0, w.log-is ∙ same.1)
+        ];
       }
   | in-None w ↦
       let within : c.loop-place.place < length c.args.other.now = omega (arith, c.loop-place-test.true, c.len-place-end.ensures.len) in
@@ -47,3 +52,16 @@ returns-clause-lowered c =
     let le : length bounds ≤ c.loop-place.place = omega (arith, bounds_len c.args.other.now c.args.other_phases.now c.requires.other_len, c.loop-place-test.false, c.len-place-end.ensures.len) in
     let all : take c.loop-place.place bounds ≡ bounds = take_all _ _ le in
     subst (λ bs. IsLoweredTo c.args.graph.now bs c.args.phase c.args.phases.now c.loop-place.phases) all c.loop-place.invariant.lowered
+
+pub returns-in_err-lower_bound-in-Some-clause-memory : goal.returns-in_err-lower_bound-in-Some-clause-memory
+returns-in_err-lower_bound-in-Some-clause-memory c =
+    let bounds = (part_of (state_of c.args.other.now c.args.other_phases.now)).bounds in
+    let at = bound_at c.args.other.now c.args.other_phases.now c.requires.other_len c.loop-place.place c.in-Some.node c.at.result (sym c.in-Some.ensures) c.at.ensures in
+    MatchResult-from_err c.from_residual.result _ _ c.from_residual.ensures.0
+    (λ _. higher_at c.args.graph.now bounds c.loop-place.place (c.in-Some.node, c.at.result) at c.args.phases.now c.loop-place.phases c.args.log.now c.loop-place.log c.loop-place.invariant.still c.in_err-lower_bound-in-Some.ensures.memory)
+
+pub returns-in_err-lower_bound-in-Some-clause-still : goal.returns-in_err-lower_bound-in-Some-clause-still
+returns-in_err-lower_bound-in-Some-clause-still c =
+    let bounds = (part_of (state_of c.args.other.now c.args.other_phases.now)).bounds in
+    let at = bound_at c.args.other.now c.args.other_phases.now c.requires.other_len c.loop-place.place c.in-Some.node c.at.result (sym c.in-Some.ensures) c.at.ensures in
+    still_more c.args.graph.now bounds c.loop-place.place (c.in-Some.node, c.at.result) at c.args.phases.now c.loop-place.phases c.args.log.now c.loop-place.log c.loop-place.invariant.still c.lower_bound.new.phases c.lower_bound.new.log c.in_err-lower_bound-in-Some.ensures.still

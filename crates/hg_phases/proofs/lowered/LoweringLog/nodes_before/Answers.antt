@@ -8,11 +8,11 @@ use Rattle.hg_phases.specs.Lowered.{ListsLowered}
 use Rattle.hg_phases.proofs.LoweredLemmas.{lowered_are}
 use Rattle.hg_phases.proofs.lowered.LoweringLog.nodes_before.Goals as goal
 
-pub returns : goal.returns
-returns c =
+pub returns-clause-lowered : goal.returns-clause-lowered
+returns-clause-lowered c =
     let cs = c.args.graph.now in
     IfOk-weaker c.nodes_of.result _ _
     (λ found told phase start now graph logged.
     subst (ListsLowered _ (state_of cs now)) (sym (told ∙ ap (flat_map (node_before (nodes cs) c.args.before)) (c.deref.ensures.value ∙ c.self.view_is)))
     (lowered_are cs c.args.before phase start now c.args.self.now graph logged))
-    c.nodes_of.ensures
+    c.nodes_of.ensures.nodes

@@ -11,7 +11,7 @@ returns-clause-lowered c =
     let old = c.args.self.now in
     let new = c.lower_logged.new.self in
     let logged = c.in_ok-lower_logged.ensures.logged old (fresh_log c.args.phase old c.args.log.now c.requires.fresh) in
-    let told = c.in_ok-nodes.ensures c.args.phase old new c.len.ensures.graph logged in
+    let told = c.in_ok-nodes.ensures.lowered c.args.phase old new c.len.ensures.graph logged in
     let same_graph = take_all c.len.result cs (omega (arith, c.len.ensures.len)) in
     let same_phases = take_all c.len.result old (omega (arith, c.len.ensures.len, c.requires.len)) in
     subst (λ ds. ListsLowered (state_of ds old) (state_of cs new) c.in_ok-nodes.nodes.items) same_graph

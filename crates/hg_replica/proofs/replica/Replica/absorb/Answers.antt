@@ -8,7 +8,7 @@ use Rattle.hg_obsstore.specs.Growth.{new_among}
 use Rattle.hg_replica.specs.State.{ReplicaState}
 use Rattle.hg_replica.specs.Least.{PartValue}
 use Rattle.hg_replica.specs.Change.{ChangeValue}
-use Rattle.hg_replica.specs.Answer.{AbsorbAnswer, IsAbsorbed}
+use Rattle.hg_replica.specs.Answer.{AbsorbAnswer, IsAbsorbed, IsGrowthBeforeFault}
 use Rattle.hg_replica.proofs.ReplicaLemmas.{absorbed}
 use Rattle.hg_replica.proofs.replica.Replica.absorb.Goals as goal
 
@@ -49,6 +49,7 @@ unfolding AbsorbAnswer
 returns-in-Err-clause-answer c = (tt, (λ i. record { history = c.self.inside.history; markers = c.in-Err.ensures.err i }) ∙ c.self.view_is)
 
 pub returns-in-Err-absorb-clause-memory : goal.returns-in-Err-absorb-clause-memory
+unfolding IsGrowthBeforeFault
 returns-in-Err-absorb-clause-memory c =
     let k : PartValue = record { history = record { changesets = c.deref-2.result.now; bounds = c.deref-3.result.now }; markers = c.deref.result.now } in
     let k_is : k ≡ c.args.part.now =
@@ -59,6 +60,7 @@ returns-in-Err-absorb-clause-memory c =
     inr (subst (λ u. IsHistoryGrowth u.history c.args.part.now.history) c.self.view_is (subst (λ x. IsHistoryGrowth c.self.inside.history x.history) k_is (c.in-Err-absorb.ensures.memory (ap (λ x. Err x) same))))
 
 pub returns-in-Err-clause-memory : goal.returns-in-Err-clause-memory
+unfolding IsGrowthBeforeFault
 returns-in-Err-clause-memory c =
     let new = subst (λ ms. new_among c.self.inside.store ms ≢ []) (c.deref.ensures.value ∙ ap (λ (x : PartValue). x.markers) c.part.view_is) c.in-Err.ensures.memory in
     λ e. inl (subst (λ (u : ReplicaState). new_among u.markers c.args.part.now.markers ≢ []) c.self.view_is new)

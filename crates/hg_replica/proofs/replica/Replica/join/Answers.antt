@@ -6,7 +6,7 @@ use Rattle.hg_history.specs.Answer.{IsGrowthBeforeFault as IsHistoryGrowth}
 use Rattle.hg_history.specs.Join.{IsJoinFault}
 use Rattle.hg_obsstore.specs.Growth.{new_among}
 use Rattle.hg_replica.specs.State.{ReplicaState}
-use Rattle.hg_replica.specs.Answer.{IsJoin, JoinAnswer}
+use Rattle.hg_replica.specs.Answer.{IsJoin, IsGrowthBeforeFault, JoinAnswer}
 use Rattle.hg_replica.proofs.ReplicaLemmas.{joined}
 use Rattle.hg_replica.proofs.replica.Replica.join.Goals as goal
 
@@ -37,6 +37,7 @@ unfolding JoinAnswer
 returns-in-Err-clause-answer c = (tt, (λ i. record { history = c.self.inside.history; markers = c.in-Err.ensures.err i }) ∙ c.self.view_is)
 
 pub returns-in-Err-join-clause-memory : goal.returns-in-Err-join-clause-memory
+unfolding IsGrowthBeforeFault
 returns-in-Err-join-clause-memory c =
     let fault = c.in-Err-join.fault in
     λ e.
@@ -44,5 +45,6 @@ returns-in-Err-join-clause-memory c =
     inr (subst (λ (u : ReplicaState). IsHistoryGrowth c.args.self.now.history (history_part_of u.history)) c.other.view_is (subst (λ (u : ReplicaState). IsHistoryGrowth u.history (history_part_of c.other.inside.history)) c.self.view_is (c.in-Err-join.ensures.memory (ap (λ x. Err x) same))))
 
 pub returns-in-Err-clause-memory : goal.returns-in-Err-clause-memory
+unfolding IsGrowthBeforeFault
 returns-in-Err-clause-memory c =
     λ e. inl (subst (λ (u : ReplicaState). new_among c.args.self.now.markers u.markers ≢ []) c.other.view_is (subst (λ (u : ReplicaState). new_among u.markers c.other.inside.store ≢ []) c.self.view_is c.in-Err.ensures.memory))
