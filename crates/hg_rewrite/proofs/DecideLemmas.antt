@@ -1,15 +1,26 @@
 -- The table of refusals, one check after the other.
-use Rattle.std.proofs.Common.{◌≡◌, List, ◌++◌, Ok, sym, subst}
+use Rattle.std.proofs.Common.{◌≡◌, inr, List, ◌++◌, map, Ok, sym, subst}
 use Rattle.hg_phases.specs.State.{IsValid}
 use Rattle.hg_replica.specs.State.{ReplicaState}
 use Rattle.hg_replica.specs.Least.{PartValue, IsAdmitted}
 use Rattle.hg_rewrite.specs.declared.op.Op.{Op}
+use Rattle.hg_rewrite.specs.declared.op.Op.TheVariants.{Commit, Amend, Split, Fold, Prune, Relocate, Advance}
 use Rattle.hg_rewrite.specs.declared.refusal.Refusal.{Refusal}
-use Rattle.hg_rewrite.specs.Parts.{part_of}
-use Rattle.hg_rewrite.specs.Refusals.{Row, NoneApplies, unknown_nodes, hidden_parents, public_nodes, obsolete_nodes, not_linear, wrong_count, raise, not_written, not_marked, existing_ids, refusals}
+use Rattle.hg_rewrite.specs.Parts.{part_of, markers}
+use Rattle.hg_rewrite.specs.Refusals.{Row, NoneApplies, IsFirstRefusal, unknown_nodes, hidden_parents, public_nodes, obsolete_nodes, not_linear, wrong_count, raise, bad_users, marker_refused, not_written, not_marked, existing_ids, refusals}
 use Rattle.hg_rewrite.specs.Answer.{IsRefusal, DecideAnswer}
 use Rattle.hg_rewrite.proofs.RowLemmas.{none_both, sooner, later}
 use Rattle.hg_rewrite.proofs.PartLemmas.{admitted}
+
+-- what names a user outside of an entry writes nothing
+writes_nothing : (s : ReplicaState) (op : Op) (r : Refusal) → IsFirstRefusal (bad_users op) r → NoneApplies (not_written s op)
+writes_nothing s (Commit p q entry secret) r h = absurd h
+writes_nothing s (Amend node entry) r h = absurd h
+writes_nothing s (Split node es) r h = absurd h
+writes_nothing s (Fold nodes entry) r h = absurd h
+writes_nothing s (Prune node user secs offset) r h = tt
+writes_nothing s (Relocate node p q entry) r h = absurd h
+writes_nothing s (Advance node phase) r h = absurd h
 
 module _ (s : ReplicaState) (op : Op) where
   -- the rows from those of one refusal on
@@ -76,6 +87,17 @@ module _ (s : ReplicaState) (op : Op) where
   pub refused_unmarked : (r : Refusal) → NoneApplies (unknown_nodes s op) → NoneApplies (hidden_parents s op) → NoneApplies (public_nodes s op) → NoneApplies (obsolete_nodes s op) → NoneApplies (not_linear s op) → NoneApplies (wrong_count op) → NoneApplies (raise s op) → NoneApplies (not_written s op) → IsRefusal (not_marked s op) r → IsRefusal (refusals s op) r
   unfolding refusals
   refused_unmarked r known visible unpublished current linear counted lowered written h = later (unknown_nodes s op) rows_from_hidden r known (later (hidden_parents s op) rows_from_public r visible (later (public_nodes s op) rows_from_obsolete r unpublished (later (obsolete_nodes s op) rows_from_not_linear r current (later (not_linear s op) rows_from_count r linear (later (wrong_count op) rows_from_raise r counted (later (raise s op) rows_from_unwritten r lowered (later (not_written s op) rows_from_unmarked r written (sooner (not_marked s op) rows_from_existing r h))))))))
+
+  -- the user of a prune, which is tried before anything is written
+  pub refused_user : (r : Refusal) → NoneApplies (unknown_nodes s op) → NoneApplies (hidden_parents s op) → NoneApplies (public_nodes s op) → NoneApplies (obsolete_nodes s op) → NoneApplies (not_linear s op) → NoneApplies (wrong_count op) → NoneApplies (raise s op) → IsFirstRefusal (bad_users op) r → IsRefusal (refusals s op) r
+  refused_user r known visible unpublished current linear counted lowered h = refused_unmarked r known visible unpublished current linear counted lowered (writes_nothing s op r h) (sooner (bad_users op) (map marker_refused (markers s.history op)) r (inr h))
+
+  -- the users are some, and so are the markers
+  pub none_unmarked : NoneApplies (bad_users op) → NoneApplies (map marker_refused (markers s.history op)) → NoneApplies (not_marked s op)
+  none_unmarked named marked = none_both (bad_users op) (map marker_refused (markers s.history op)) named marked
+
+  pub marks_refused : (r : Refusal) → NoneApplies (bad_users op) → IsRefusal (map marker_refused (markers s.history op)) r → IsRefusal (not_marked s op) r
+  marks_refused r named h = later (bad_users op) (map marker_refused (markers s.history op)) r named h
 
   pub refused_existing : (r : Refusal) → NoneApplies (unknown_nodes s op) → NoneApplies (hidden_parents s op) → NoneApplies (public_nodes s op) → NoneApplies (obsolete_nodes s op) → NoneApplies (not_linear s op) → NoneApplies (wrong_count op) → NoneApplies (raise s op) → NoneApplies (not_written s op) → NoneApplies (not_marked s op) → IsRefusal (existing_ids s op) r → IsRefusal (refusals s op) r
   unfolding refusals

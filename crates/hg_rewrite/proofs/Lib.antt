@@ -1,7 +1,6 @@
 pub mod ListLemmas
 pub mod ReadingLemmas
 pub mod RowLemmas
-pub mod HiddenLemmas
 pub mod LineLemmas
 pub mod EntryLemmas
 pub mod ChainLemmas

@@ -14,7 +14,7 @@ use Rattle.hg_rewrite.specs.declared.refusal.Refusal.TheVariants.{Unknown, Hidde
 use Rattle.hg_rewrite.specs.declared.refusal.Cause.{Cause}
 use Rattle.hg_rewrite.specs.declared.refusal.Cause.TheVariants.{Entry, Changeset, Marker}
 use Rattle.hg_rewrite.specs.Parts.{entries, new_changesets, new_ids, markers, rewritten}
-use Rattle.hg_rewrite.specs.Refusals.{Row, NoneApplies, IsFirstRefusal, where_so, unknown, unknown_parent, unknown_nodes, targets, new_parents, hidden, hidden_parents, is_public, public_nodes, is_obsolete, obsolete_nodes, not_linear, wrong_count, raise, entry_refused, changeset_refused, user_refused, marker_refused, users, not_written, not_marked, existing, existing_ids, refusals}
+use Rattle.hg_rewrite.specs.Refusals.{Row, NoneApplies, IsFirstRefusal, where_so, unknown, unknown_parent, unknown_nodes, targets, new_parents, hidden, hidden_parents, is_public, public_nodes, is_obsolete, obsolete_nodes, not_linear, wrong_count, raise, entry_refused, changeset_refused, user_refused, marker_refused, users, bad_users, not_written, not_marked, existing, existing_ids, refusals}
 
 -- the row tells one refusal at most, and never want of memory
 pub record IsTelling (row : Row) : Type 0 where
@@ -73,6 +73,9 @@ existing_tells : (s : State) (ns : List Node) → AreTelling (existing s ns)
 existing_tells s [] = tt
 existing_tells s (n ∷ ns) = (where_so_tells _ (Exists n) (λ e. cc), existing_tells s ns)
 
+pub users_tell : (op : Op) → AreTelling (bad_users op)
+users_tell op = mapped user_refused (λ user. fault_tells (user_fault (trimmed_user user)) Entry) (users op)
+
 module _ (s : ReplicaState) (op : Op) where
   pub unknown_tells : AreTelling (unknown_nodes s op)
   unknown_tells =
@@ -106,8 +109,8 @@ module _ (s : ReplicaState) (op : Op) where
 
   unmarked_tells : AreTelling (not_marked s op)
   unmarked_tells =
-      both (map user_refused (users op)) (map marker_refused (markers s.history op))
-      (mapped user_refused (λ user. fault_tells (user_fault (trimmed_user user)) Entry) (users op))
+      both (bad_users op) (map marker_refused (markers s.history op))
+      (users_tell op)
       (mapped marker_refused marker_tells (markers s.history op))
 
   existing_ids_tells : AreTelling (existing_ids s op)

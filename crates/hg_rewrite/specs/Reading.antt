@@ -1,14 +1,12 @@
 -- What an operation reads of the state.
-use Rattle.std.specs.Prelude.{◌≡◌, ◌≢◌, Bool, nat_lt, if◌then◌else◌, Contains}
+use Rattle.std.specs.Prelude.{Bool, nat_lt, if◌then◌else◌}
 use Rattle.std.specs.Option.{option_map_or}
 use Rattle.hg_changeset.specs.declared.node.Node.{Node}
 use Rattle.hg_changeset.specs.Node.{null_node}
 use Rattle.hg_phases.specs.declared.phase.Phase.{Phase}
 use Rattle.hg_phases.specs.declared.phase.Phase.TheVariants.{Public, Draft, Secret}
-use Rattle.hg_phases.specs.State.{State, Holds, Reaches, rank}
+use Rattle.hg_phases.specs.State.{State, rank}
 use Rattle.hg_phases.specs.Content.{content_of}
-use Rattle.hg_marker.specs.Fields.{Fields}
-use Rattle.hg_replica.specs.State.{ReplicaState}
 
 -- the phase of a changeset; that of an absent parent is public
 unfoldable pub phase_in : State → Node → Phase
@@ -24,16 +22,3 @@ highest j k = if nat_lt (rank j) (rank k) then k else j
 -- the phase that a commit asks for
 abbrev pub asked : Bool → Phase
 asked secret = if secret then Secret else Draft
-
--- some marker has it as its predecessor
-abbrev pub IsPredecessor : ReplicaState → Node → Type 0
-IsPredecessor s n = (m : Fields) × Contains s.markers m × (m.predecessor ≡ n)
-
--- it isn't public, and is the predecessor of some marker
-abbrev pub IsObsolete : ReplicaState → Node → Type 0
-IsObsolete s n = (phase_in s.history n ≢ Public) × IsPredecessor s n
-
--- it is held, and neither it nor a descendant is other than obsolete
-pub record IsHidden (s : ReplicaState) (n : Node) : Type 0 where
-  pub held : Holds s.history n
-  pub obsolete : (d : Node) → Reaches s.history n d → IsObsolete s d

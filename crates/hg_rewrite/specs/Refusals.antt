@@ -14,13 +14,15 @@ use Rattle.hg_marker.specs.declared.error.MarkerError.{MarkerError}
 use Rattle.hg_marker.specs.Fields.{Fields}
 use Rattle.hg_marker.specs.Making.{marker_of}
 use Rattle.hg_replica.specs.State.{ReplicaState}
+use Rattle.hg_replica.specs.Content.{content_of}
+use Rattle.hg_replica.specs.Evolution.{IsObsolete, IsHidden}
 use Rattle.hg_rewrite.specs.declared.op.Op.{Op}
 use Rattle.hg_rewrite.specs.declared.op.Op.TheVariants.{Commit, Amend, Split, Fold, Prune, Relocate, Advance}
 use Rattle.hg_rewrite.specs.declared.refusal.Refusal.{Refusal}
 use Rattle.hg_rewrite.specs.declared.refusal.Refusal.TheVariants.{Unknown, Hidden, Public, AlreadyObsolete, NotLinear, Count, Raise, Fault, Exists}
 use Rattle.hg_rewrite.specs.declared.refusal.Cause.TheVariants.{Entry, Changeset, Marker}
 use Rattle.hg_rewrite.specs.Limits.{split_least, split_most, fold_least}
-use Rattle.hg_rewrite.specs.Reading.{phase_in, parents_in, IsObsolete, IsHidden}
+use Rattle.hg_rewrite.specs.Reading.{phase_in, parents_in}
 use Rattle.hg_rewrite.specs.Parts.{NewChangeset, entries, new_changesets, new_ids, markers, rewritten}
 
 -- a row of the table: which refusals it gives
@@ -78,7 +80,7 @@ unknown_nodes s op = map (unknown s.history) (targets op) ++ map (unknown_parent
 -- ---- 2: a new parent is hidden
 
 abbrev pub hidden : ReplicaState → Node → Row
-hidden s n = where_so (IsHidden s n) (Hidden n)
+hidden s n = where_so (IsHidden (content_of s) n) (Hidden n)
 
 abbrev pub hidden_parents : ReplicaState → Op → List Row
 hidden_parents s op = map (hidden s) (new_parents op)
@@ -92,7 +94,7 @@ abbrev pub public_nodes : ReplicaState → Op → List Row
 public_nodes s op = map (is_public s.history) (rewritten op)
 
 abbrev pub is_obsolete : ReplicaState → Node → Row
-is_obsolete s n = where_so (IsObsolete s n) (AlreadyObsolete n)
+is_obsolete s n = where_so (IsObsolete (content_of s) n) (AlreadyObsolete n)
 
 abbrev pub obsolete_nodes : ReplicaState → Op → List Row
 obsolete_nodes s op = map (is_obsolete s) (rewritten op)
@@ -176,6 +178,9 @@ unwritten es new = map entry_refused es ++ map changeset_refused new
 -- what can't be marked by these users, and in these markers
 abbrev pub unmarked : List (List ℕ) → List Fields → List Row
 unmarked us ms = map user_refused us ++ map marker_refused ms
+
+abbrev pub bad_users : Op → List Row
+bad_users op = map user_refused (users op)
 
 abbrev pub not_written : ReplicaState → Op → List Row
 not_written s op = unwritten (entries op) (new_changesets s.history op)

@@ -1,18 +1,22 @@
 //! The refusals that are tried before anything is made: one check for each number.
 ghost use Rattle.std.specs.Prelude.{◌≡◌, ◌↔◌, ◌⊎◌, ◌∷◌, [], IsTrue, IsErrOf, MatchOption, map};
 ghost use Rattle.hg_changeset.specs.Node.{null_node};
-ghost use Rattle.hg_rewrite.specs.Reading.{parents_in, IsObsolete};
+ghost use Rattle.hg_replica.specs.Content.{content_of};
+ghost use Rattle.hg_replica.specs.Evolution.{IsObsolete};
+ghost use Rattle.hg_rewrite.specs.Reading.{parents_in};
 ghost use Rattle.hg_replica.specs.State.{IsValid};
 ghost use Rattle.hg_rewrite.specs.Parts.{rewritten};
-ghost use Rattle.hg_rewrite.specs.Refusals.{targets, new_parents, unknown, unknown_parent, unknown_nodes, hidden, hidden_parents, public_nodes, obsolete_nodes, not_linear, wrong_count, raise, existing, IsLinear};
+ghost use Rattle.hg_rewrite.specs.Refusals.{targets, new_parents, unknown, unknown_parent, unknown_nodes, hidden, hidden_parents, public_nodes, obsolete_nodes, not_linear, wrong_count, raise, bad_users, existing, IsLinear};
 ghost use Rattle.hg_rewrite.specs.Answer.{Checked, CheckedInMemory};
 ghost use Rattle.hg_rewrite.specs.Memory.{WalksForHidden, WalksForAncestors};
 
 use crate::op::Op;
-use crate::query::{contains, holds, is_hidden, is_obsolete, is_public, parents_in, phase_in};
-use crate::refusal::Refusal;
-use hg_changeset::Node;
+use crate::query::{contains, holds, is_public, parents_in, phase_in};
+use crate::refusal::{Cause, Refusal};
+use hg_changeset::{Node, check_user, trimmed_user};
+use hg_instab::is_obsolete;
 use hg_replica::Replica;
+use hg_view::is_visible;
 use std::alloc::Global;
 use std::slice;
 
@@ -112,12 +116,12 @@ pub(crate) fn check_visible(alloc: Global, replica: &Replica, op: &Op) -> Result
 
 fn check_parents_visible(alloc: Global, replica: &Replica, p: Node, q: Node) -> Result<(), Refusal>
     ensures answer { CheckedInMemory (map (hidden replica.now) (p ∷ q ∷ [])) result }
-    ensures memory { IsErrOf result Refusal.NoMemory → IsObsolete replica.now p ⊎ IsObsolete replica.now q }
+    ensures memory { IsErrOf result Refusal.NoMemory → IsObsolete (content_of replica.now) p ⊎ IsObsolete (content_of replica.now) q }
 {
-    if is_hidden(alloc, replica, p)? {
+    if holds(replica, p) && !is_visible(alloc, replica, p)? {
         return Err(Refusal::Hidden(p));
     }
-    if is_hidden(alloc, replica, q)? {
+    if holds(replica, q) && !is_visible(alloc, replica, q)? {
         return Err(Refusal::Hidden(q));
     }
     Ok(())
@@ -214,6 +218,19 @@ pub(crate) fn check_raise(replica: &Replica, op: &Op) -> Result<(), Refusal>
             }
             Ok(())
         }
+        _ => Ok(()),
+    }
+}
+
+// Refuses the user of a prune that is none.
+pub(crate) fn check_pruner(op: &Op) -> Result<(), Refusal>
+    ensures { Checked (bad_users op.now) result }
+{
+    match op {
+        Op::Prune { user, .. } => match check_user(trimmed_user(user)) {
+            Ok(()) => Ok(()),
+            Err(fault) => Err(Refusal::Fault(Cause::Entry(fault))),
+        },
         _ => Ok(()),
     }
 }

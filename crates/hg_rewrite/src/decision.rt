@@ -10,7 +10,7 @@ use crate::bounds::bounds;
 use crate::changesets::{ids, new_changesets};
 use crate::check::{
     check_count, check_known, check_linear, check_new, check_not_obsolete, check_not_public,
-    check_raise, check_visible,
+    check_pruner, check_raise, check_visible,
 };
 use crate::markers::markers;
 use crate::op::Op;
@@ -22,7 +22,8 @@ use std::alloc::Global;
 ///
 /// The replica admits the part, so that it refuses to absorb it only for want of memory, which is also told here only
 /// where a growth was refused. The call costs what the operation names and writes, however much the replica holds; a
-/// relocation costs what lies between its nodes as well, and a parent that is obsolete a walk over all changesets.
+/// relocation costs what lies between its nodes as well, and a parent that is obsolete a walk over its descendants, which
+/// ends at the first that isn't.
 pub fn decide(alloc: Global, replica: &Replica, op: &Op) -> Result<Part, Refusal>
     ensures answer { DecideAnswer replica.now op.now result }
     ensures memory { IsErrOf result Refusal.NoMemory → MayWantMemory replica.now op.now }
@@ -36,6 +37,7 @@ pub fn decide(alloc: Global, replica: &Replica, op: &Op) -> Result<Part, Refusal
     check_linear(replica, op)?;
     check_count(op)?;
     check_raise(replica, op)?;
+    check_pruner(op)?;
     let changesets = new_changesets(alloc, replica, op)?;
     let ids = ids(alloc, &changesets)?;
     let markers = markers(alloc, replica, op, &ids)?;

@@ -3,15 +3,15 @@ ghost use Rattle.std.specs.Prelude.{◌≡◌, IfOk, OnOk, map};
 ghost use Rattle.std.specs.FinMap.{insert};
 ghost use Rattle.hg_changeset.specs.EntryText.{date_text};
 ghost use Rattle.hg_rewrite.specs.Parts.{new_ids, noted, noted_of, noted_of_first, with_parents, metadata, marker, markers};
-ghost use Rattle.hg_rewrite.specs.Refusals.{users, user_refused, marker_refused, not_marked};
-ghost use Rattle.hg_rewrite.specs.Answer.{Checked, Gives};
+ghost use Rattle.hg_rewrite.specs.Refusals.{marker_refused};
+ghost use Rattle.hg_rewrite.specs.Answer.{Gives};
 
 use crate::changesets::date;
 use crate::check::rewritten;
 use crate::op::Op;
 use crate::query::parents_in;
 use crate::refusal::{Cause, Refusal};
-use hg_changeset::{Entry, Node, check_user, push_date, trimmed_user};
+use hg_changeset::{Entry, Node, push_date, trimmed_user};
 use hg_marker::{Marker, Metadata};
 use hg_replica::Replica;
 use std::alloc::{AllocError, Global};
@@ -24,24 +24,10 @@ pub(crate) fn markers(
     ids: &[Node],
 ) -> Result<Vec<Marker>, Refusal>
     requires { ids.now ≡ new_ids replica.now.history op.now }
-    ensures { Gives (not_marked replica.now op.now) (markers replica.now.history op.now) result }
+    ensures { Gives (map marker_refused (markers replica.now.history op.now)) (markers replica.now.history op.now) result }
 {
-    check_pruner(op)?;
     let metadata = metadata(alloc, replica, op)?;
     mark(alloc, rewritten(op), ids, &metadata)
-}
-
-// Refuses the user of a prune that is none.
-fn check_pruner(op: &Op) -> Result<(), Refusal>
-    ensures { Checked (map user_refused (users op.now)) result }
-{
-    match op {
-        Op::Prune { user, .. } => match check_user(trimmed_user(user)) {
-            Ok(()) => Ok(()),
-            Err(fault) => Err(Refusal::Fault(Cause::Entry(fault))),
-        },
-        _ => Ok(()),
-    }
 }
 
 // What is noted of an operation.

@@ -3,9 +3,9 @@ use crate::command::Command;
 use crate::fault::{LineFault, RunFault};
 use crate::operation::{Names, Operation};
 use crate::output::{print_line, print_refusal};
+use crate::report::print_report;
 use hg_changeset::{Changeset, Node};
 use hg_join::JoinState;
-use hg_phases::Phase;
 use hg_replica::{Part, Replica};
 use hg_rewrite::decide;
 use std::alloc::{AllocError, Global};
@@ -177,33 +177,8 @@ impl Fleet {
         print_line(writer, &mut line)
     }
 
-    // The replica's changesets in byte order of their labels, each with its phase, and how many changesets and markers
-    // there are.
     fn report<W: Write>(&self, number: usize, at: &[u8], writer: &mut W) -> Result<(), RunFault> {
         let replica = self.replica(number, at)?;
-        let mut line = Vec::new(self.alloc);
-        line.extend_from_slice(b"report ")?;
-        line.extend_from_slice(at)?;
-        print_line(writer, &mut line)?;
-        for (label, node) in &self.labels {
-            if let Some(phase) = replica.phase_of(*node)? {
-                line.extend_from_slice(label)?;
-                line.extend_from_slice(phase_word(phase))?;
-                print_line(writer, &mut line)?;
-            }
-        }
-        let changesets = replica.graph().len();
-        let markers = replica.store().len();
-        let text = format!(in self.alloc; "{changesets} changesets {markers} markers")?;
-        line.extend_from_slice(text.as_bytes())?;
-        print_line(writer, &mut line)
-    }
-}
-
-fn phase_word(phase: Phase) -> &'static [u8] {
-    match phase {
-        Phase::Public => b" public",
-        Phase::Draft => b" draft",
-        Phase::Secret => b" secret",
+        print_report(self.alloc, at, replica, &self.labels, writer)
     }
 }

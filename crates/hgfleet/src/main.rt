@@ -15,6 +15,7 @@ mod lines;
 mod operation;
 mod output;
 mod reading;
+mod report;
 mod script;
 mod steps;
 #[cfg(test)]

@@ -1,0 +1,83 @@
+//! The report of a replica: its changesets, what each is, and how many there are.
+use crate::fault::RunFault;
+use crate::output::print_line;
+use hg_changeset::Node;
+use hg_instab::Instabilities;
+use hg_phases::Phase;
+use hg_replica::Replica;
+use hg_view::visible;
+use std::alloc::{AllocError, Global};
+use std::collections::BTreeSet;
+use std::collections::BTreeMap;
+use std::io::Write;
+
+// What is said of a replica's changesets.
+#[derive(Drop)]
+struct Standing {
+    instabilities: Instabilities,
+    visible: BTreeSet<Node>,
+}
+
+impl Standing {
+    fn of(alloc: Global, replica: &Replica) -> Result<Standing, AllocError> {
+        Ok(Standing {
+            instabilities: Instabilities::from_scratch(alloc, replica)?,
+            visible: visible(alloc, replica)?,
+        })
+    }
+
+    // Appends the words that hold of a changeset of the replica, in the order in which a report has them.
+    fn push_words(&self, line: &mut Vec<u8>, node: &Node) -> Result<(), AllocError> {
+        let sets = &self.instabilities;
+        push_where(line, sets.obsolete().contains(node), b" obsolete")?;
+        push_where(line, sets.suspended().contains(node), b" suspended")?;
+        push_where(line, sets.extinct().contains(node), b" extinct")?;
+        push_where(line, sets.orphan().contains(node), b" orphan")?;
+        push_where(line, sets.phase_divergent().contains(node), b" phase-divergent")?;
+        push_where(line, !self.visible.contains(node), b" hidden")
+    }
+}
+
+fn push_where(line: &mut Vec<u8>, is_so: bool, word: &[u8]) -> Result<(), AllocError> {
+    if is_so {
+        line.extend_from_slice(word)?;
+    }
+    Ok(())
+}
+
+/// Prints the replica's name, then its changesets in byte order of their labels, each with its phase and the words that
+/// hold of it, and how many changesets and markers there are.
+pub fn print_report<W: Write>(
+    alloc: Global,
+    name: &[u8],
+    replica: &Replica,
+    labels: &BTreeMap<Vec<u8>, Node>,
+    writer: &mut W,
+) -> Result<(), RunFault> {
+    let standing = Standing::of(alloc, replica)?;
+    let mut line = Vec::new(alloc);
+    line.extend_from_slice(b"report ")?;
+    line.extend_from_slice(name)?;
+    print_line(writer, &mut line)?;
+    for (label, node) in labels {
+        if let Some(phase) = replica.phase_of(*node)? {
+            line.extend_from_slice(label)?;
+            line.extend_from_slice(phase_word(phase))?;
+            standing.push_words(&mut line, node)?;
+            print_line(writer, &mut line)?;
+        }
+    }
+    let changesets = replica.graph().len();
+    let markers = replica.store().len();
+    let text = format!(in alloc; "{changesets} changesets {markers} markers")?;
+    line.extend_from_slice(text.as_bytes())?;
+    print_line(writer, &mut line)
+}
+
+fn phase_word(phase: Phase) -> &'static [u8] {
+    match phase {
+        Phase::Public => b" public",
+        Phase::Draft => b" draft",
+        Phase::Secret => b" secret",
+    }
+}
