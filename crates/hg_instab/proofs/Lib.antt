@@ -1,6 +1,6 @@
 pub mod AmongLemmas
-mod QueryLemmas
-mod LawLemmas
-mod WalkLemmas
+pub mod QueryLemmas
+pub mod LawLemmas
+pub mod WalkLemmas
 pub mod OrphanLemmas
 pub mod SetLemmas

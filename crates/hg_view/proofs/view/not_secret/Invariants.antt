@@ -1,0 +1,9 @@
+use Rattle.std.proofs.Common.{take, Contains}
+use Rattle.hg_phases.specs.declared.phase.Phase.TheVariants.{Secret}
+use Rattle.hg_replica.specs.Content.{content_of}
+use Rattle.hg_replica.specs.Evolution.{HasPhase}
+use Rattle.hg_instab.proofs.AmongLemmas.{AreThose}
+use Rattle.hg_view.proofs.view.not_secret.Given as goal
+
+abbrev pub invariant-loop-node : goal.invariant-loop-node
+invariant-loop-node l = AreThose (Contains (take l.node-index l.nodes)) (λ n. ¬ (HasPhase (content_of l.replica) n Secret)) l.found.items

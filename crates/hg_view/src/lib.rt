@@ -1,0 +1,13 @@
+//! Views: which changesets are shown, and which are given to others.
+//!
+//! An obsolete changeset is hidden, unless something that isn't obsolete stands on it. What is visible and not secret is
+//! served: others may be told of it.
+#![tactic(auto)]
+
+mod laws;
+mod view;
+
+pub use laws::{
+    states_of_one_content_have_the_same_views, views_hold_the_ancestors_of_their_members,
+};
+pub use view::{served, visible};
