@@ -11,12 +11,11 @@ ghost use Rattle.hg_rewrite.specs.Answer.{Checked, CheckedInMemory};
 ghost use Rattle.hg_rewrite.specs.Memory.{WalksForHidden, WalksForAncestors};
 
 use crate::op::Op;
-use crate::query::{contains, holds, is_public, parents_in, phase_in};
+use crate::query::{contains, holds, is_hidden, is_public, parents_in, phase_in};
 use crate::refusal::{Cause, Refusal};
 use hg_changeset::{Node, check_user, trimmed_user};
 use hg_instab::is_obsolete;
 use hg_replica::Replica;
-use hg_view::is_visible;
 use std::alloc::Global;
 use std::slice;
 
@@ -118,10 +117,10 @@ fn check_parents_visible(alloc: Global, replica: &Replica, p: Node, q: Node) -> 
     ensures answer { CheckedInMemory (map (hidden replica.now) (p ∷ q ∷ [])) result }
     ensures memory { IsErrOf result Refusal.NoMemory → IsObsolete (content_of replica.now) p ⊎ IsObsolete (content_of replica.now) q }
 {
-    if holds(replica, p) && !is_visible(alloc, replica, p)? {
+    if is_hidden(alloc, replica, p)? {
         return Err(Refusal::Hidden(p));
     }
-    if holds(replica, q) && !is_visible(alloc, replica, q)? {
+    if is_hidden(alloc, replica, q)? {
         return Err(Refusal::Hidden(q));
     }
     Ok(())

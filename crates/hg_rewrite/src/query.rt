@@ -1,12 +1,16 @@
 //! What an operation reads of the replica.
-ghost use Rattle.std.specs.Prelude.{◌≡◌, ◌↔◌, Contains, IsTrue};
+ghost use Rattle.std.specs.Prelude.{◌≡◌, ◌↔◌, Contains, IfOk, OnErr, IsTrue};
 ghost use Rattle.hg_phases.specs.State.{Holds};
+ghost use Rattle.hg_replica.specs.Content.{content_of};
+ghost use Rattle.hg_replica.specs.Evolution.{IsObsolete, IsHidden};
 ghost use Rattle.hg_rewrite.specs.Reading.{phase_in, parents_in, highest};
 ghost use Rattle.hg_phases.specs.declared.phase.Phase.TheVariants.{Public as public_phase};
 
 use hg_changeset::Node;
 use hg_phases::Phase;
 use hg_replica::Replica;
+use hg_view::is_visible;
+use std::alloc::{AllocError, Global};
 
 // Whether it is held.
 pub(crate) fn holds(replica: &Replica, node: Node) -> bool
@@ -54,4 +58,16 @@ pub(crate) fn contains(nodes: &[Node], node: Node) -> bool
     ensures { IsTrue result ↔ Contains nodes.now node }
 {
     nodes.contains(&node)
+}
+
+// Whether it is hidden. Memory is wanted only for one that is obsolete.
+pub(crate) fn is_hidden(alloc: Global, replica: &Replica, node: Node) -> Result<bool, AllocError>
+    ensures answer { IfOk result (λ answer. IsTrue answer ↔ IsHidden (content_of replica.now) node) }
+    ensures memory { OnErr result (IsObsolete (content_of replica.now) node) }
+{
+    if !holds(replica, node) {
+        return Ok(false);
+    }
+    let is_visible = is_visible(alloc, replica, node)?;
+    Ok(!is_visible)
 }
