@@ -8,6 +8,7 @@ use Rattle.hg_changeset.specs.declared.node.Node.{Node}
 use Rattle.hg_graph.specs.Graph.{nodes, IsAncestorOfOne, Selects, itself}
 use Rattle.hg_changeset.specs.Contents.{Contents}
 use Rattle.hg_changeset.specs.Changeset.{node_of}
+use Rattle.hg_changeset.proofs.ListLemmas.{Contains-first, Contains-none}
 use Rattle.hg_graph.proofs.GraphLemmas.{Contains-from_place, place_from_Contains}
 use Rattle.hg_graph.proofs.PlaceLemmas.{Holds-reached, IsAt-within}
 use Rattle.hg_marker.specs.Fields.{Fields}
@@ -15,14 +16,14 @@ use Rattle.hg_obsstore.specs.Markers.{ArePlaces}
 use Rattle.hg_phases.specs.State.{Holds, changesets}
 use Rattle.hg_replica.specs.State.{ReplicaState}
 use Rattle.hg_rewrite.specs.Reading.{IsPredecessor, IsObsolete, IsHidden}
-use Rattle.hg_rewrite.proofs.ListLemmas.{here, none_in, kept, passed, not_true, not_untrue, some_length}
+use Rattle.hg_rewrite.proofs.ListLemmas.{kept, passed, not_true, not_untrue, some_length}
 
 -- of those that were seen, the found ones are those that aren't obsolete
 abbrev pub AreCurrent : ReplicaState → List Node → List Node → Type 0
 AreCurrent s seen found = ((n : Node) → Contains found n → ¬ (IsObsolete s n)) × ((n : Node) → Contains seen n → Contains found n ⊎ IsObsolete s n)
 
 pub none_current : (s : ReplicaState) → AreCurrent s [] []
-none_current s = ((λ n h. absurd (none_in n h)), (λ n h. absurd (none_in n h)))
+none_current s = ((λ n h. absurd (Contains-none n h)), (λ n h. absurd (Contains-none n h)))
 
 pub one_current : (s : ReplicaState) (seen found : List Node) (m : Node) → AreCurrent s seen found → ¬ (IsObsolete s m) → AreCurrent s (seen ++ m ∷ []) (found ++ m ∷ [])
 one_current s seen found m before not = (
@@ -77,16 +78,13 @@ seen_more s ns i m found at h =
 pub seen_all : (s : ReplicaState) (i : ℕ) (found : List Node) → length (changesets s.history) ≤ i → AreCurrent s (take i (nodes (changesets s.history))) found → AreCurrent s (nodes (changesets s.history)) found
 seen_all s i found le h = subst (λ xs. AreCurrent s xs found) (take_all i (nodes (changesets s.history)) (omega (arith, length-map (changesets s.history) node_of))) h
 
-pub not_past : (cs : List Contents) (i : ℕ) → i < length cs → slice_get (nodes cs) i ≡ None → ⊥
-not_past cs i lt e = let at = IsAt-within cs i lt in none-some at.0 (sym e ∙ at.1)
-
 -- the places tell whether there is a marker
 pub told_predecessor : (s : ReplicaState) (n : Node) (ms : List Fields) (places : List ℕ) (b : Bool) → ms ≡ s.markers → ArePlaces (λ m. m.predecessor ≡ n) ms places → b ≡ (length places == 0) → IsTrue (not b) ↔ IsPredecessor s n
 told_predecessor s n ms [] b is are e = (
   (λ t. absurd (not_true b t e)),
-  (λ h. let p = place_from_Contains ms h.0 (subst (λ xs. Contains xs h.0) (sym is) h.1) in absurd (none_in p.0 ((are.exact p.0).1 (h.0, p.1, h.2)))),
+  (λ h. let p = place_from_Contains ms h.0 (subst (λ xs. Contains xs h.0) (sym is) h.1) in absurd (Contains-none p.0 ((are.exact p.0).1 (h.0, p.1, h.2)))),
 )
 told_predecessor s n ms (x ∷ xs) b is are e = (
-  (λ t. let m = (are.exact x).0 (here x xs) in (m.0, subst (λ ys. Contains ys m.0) is (Contains-from_place ms x m.0 m.1), m.2)),
+  (λ t. let m = (are.exact x).0 (Contains-first x xs) in (m.0, subst (λ ys. Contains ys m.0) is (Contains-from_place ms x m.0 m.1), m.2)),
   (λ h. ap not (e ∙ some_length x xs)),
 )
