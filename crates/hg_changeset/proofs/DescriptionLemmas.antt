@@ -2,7 +2,7 @@
 use Rattle.std.proofs.Common.{◌≡◌, ℕ, ◌+◌, ◌-◌, ◌<◌, ◌≤◌, ◌&&◌, not, Bool, true, false, List, [], ◌∷◌, ◌++◌, length, map, take, drop, get_or, refl, sym, ap, ◌∙◌, arith, append_assoc, if◌then◌else◌}
 use Rattle.std.specs.List.{join_with_byte, slice_split, onto_first, suffix_len}
 use Rattle.std.specs.Cmp.Lexicographic.{same_text}
-use Rattle.std.proofs.lemmas.Bool.{and_parts}
+use Rattle.std.proofs.lemmas.Bool.{and_parts, not-true}
 use Rattle.std.proofs.lemmas.List.{append-nil, length-append, length-map, take-append-le, drop_more, take_more, get_or-drop, length-drop, reverse-append}
 use Rattle.std.proofs.lemmas.List.Splits.{slice_split-cons_yes, slice_split-cons_no, length-slice_split}
 use Rattle.hg_changeset.specs.WhiteSpace.{white_space, is_one_of, trimmed_end}
@@ -102,10 +102,6 @@ no_end : (x : List ℕ) (b : ℕ) (s : List ℕ) (c : Bool) → begins_with_cr_l
 no_end x b s true e h = before_lf x b s e
 no_end x b s false e h = line_goes_on x b s (left_false (is_one_of line_ends b) h) e
 
-not_false : (c : Bool) → not c ≡ true → c ≡ false
-not_false true h = cc
-not_false false h = refl
-
 -- ---- the steps of the loop: the line from `start` on was read up to i
 
 module _ (s text all : List ℕ) (start i : ℕ) (rest : text ++ rest_text (take (i - start) (drop start s)) (drop i s) ≡ all) where
@@ -118,7 +114,7 @@ module _ (s text all : List ℕ) (start i : ℕ) (rest : text ++ rest_text (take
       let y = take (i + 1 - j) (drop j s) in
       let front : drop i s ≡ b ∷ t = drop_more s i 0 within in
       let parts = and_parts (is_one_of line_ends b) (not (begins_with_cr_lf (drop i s))) ends in
-      let single : begins_with_cr_lf (b ∷ t) ≡ false = ap begins_with_cr_lf (sym front) ∙ not_false (begins_with_cr_lf (drop i s)) parts.1 in
+      let single : begins_with_cr_lf (b ∷ t) ≡ false = ap begins_with_cr_lf (sym front) ∙ not-true (begins_with_cr_lf (drop i s)) parts.1 in
       let zero : i + 1 - j ≡ 0 = omega arith in
       let none : y ≡ [] = ap (λ (n : ℕ). take n (drop j s)) zero in
       append_assoc (text ++ trimmed_end white_space x) (10 ∷ []) (rest_text y t)

@@ -4,3 +4,4 @@ pub mod ChangesetLemmas
 pub mod ExtrasLemmas
 pub mod DescriptionLemmas
 pub mod EntryLemmas
+pub mod ListLemmas

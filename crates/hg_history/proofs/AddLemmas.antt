@@ -8,6 +8,7 @@ use Rattle.std.proofs.lemmas.Option.{none-some, same_Some, slice_get_within, get
 use Rattle.hg_changeset.specs.declared.node.Node.{Node}
 use Rattle.hg_changeset.specs.Contents.{Contents}
 use Rattle.hg_changeset.specs.Changeset.{node_of}
+use Rattle.hg_changeset.proofs.ListLemmas.{slice_get-append, Contains-one}
 use Rattle.hg_graph.specs.Graph.{IsGraph, Holds, HoldsParents, nodes}
 use Rattle.hg_graph.specs.Answers.{Collides}
 use Rattle.hg_graph.specs.declared.graph.Added.{Added}
@@ -18,10 +19,10 @@ use Rattle.hg_phases.specs.declared.phase.Phase.{Phase}
 use Rattle.hg_phases.specs.declared.phase.Phase.TheVariants.{Secret}
 use Rattle.hg_phases.specs.State.{Held, IsValid, rank, state_of, changesets}
 use Rattle.hg_phases.specs.Least.{PartValue, IsLeast, IsBoundOfOne}
-use Rattle.hg_phases.proofs.PlaceLemmas.{get-append_left, held-at, parts-at, changesets-held_of, graph_of_state}
+use Rattle.hg_phases.proofs.PlaceLemmas.{held-at, parts-at, changesets-held_of, graph_of_state}
 use Rattle.hg_phases.proofs.AdmitLemmas.{admitted-valid}
 use Rattle.hg_phases.specs.Kept.{before_last}
-use Rattle.hg_phases.proofs.LeastLemmas.{rank-top, same_changeset, Holds-taken, only_one}
+use Rattle.hg_phases.proofs.LeastLemmas.{rank-top, same_changeset, Holds-taken}
 use Rattle.hg_history.specs.declared.fault.Fault.{Fault}
 use Rattle.hg_history.specs.declared.fault.Fault.TheVariants.{UnknownParent, Collision, UnknownBound, NullBound, NoMemory}
 use Rattle.hg_history.specs.Change.{unheld}
@@ -169,12 +170,12 @@ module _ (held : List Contents) (had : List Phase) (part : List Contents) (i : �
     }))
 
 -- a phase in the front, or one of those behind
-phase_cases : (had : List Phase) (new : List Contents) (p : ℕ) (k : Phase) → slice_get (had ++ map (λ _. Secret) new) p ≡ Some k → (slice_get had p ≡ Some k) ⊎ (k ≡ Secret)
+phase_cases : (had : List Phase) (more : List Contents) (p : ℕ) (k : Phase) → slice_get (had ++ map (λ _. Secret) more) p ≡ Some k → (slice_get had p ≡ Some k) ⊎ (k ≡ Secret)
 phase_cases [] [] p k h = absurd (none-some k h)
-phase_cases [] (c ∷ new) zero k h = inr (sym (same_Some Secret k h))
-phase_cases [] (c ∷ new) (suc p) k h = phase_cases [] new p k h
-phase_cases (x ∷ had) new zero k h = inl h
-phase_cases (x ∷ had) new (suc p) k h = phase_cases had new p k h
+phase_cases [] (c ∷ more) zero k h = inr (sym (same_Some Secret k h))
+phase_cases [] (c ∷ more) (suc p) k h = phase_cases [] more p k h
+phase_cases (x ∷ had) more zero k h = inl h
+phase_cases (x ∷ had) more (suc p) k h = phase_cases had more p k h
 
 front : {X : Type 0} (xs ys : List X) (p : ℕ) (x : X) → p < length xs → slice_get (xs ++ ys) p ≡ Some x → slice_get xs p ≡ Some x
 front [] ys p x l h = absurd (omega arith)
@@ -196,7 +197,7 @@ module _ (held : List Contents) (had : List Phase) (part : List Contents) (cs : 
   k = record { changesets = part; bounds = [] }
 
   no_bound : (b : Node × Phase) → IsBoundOfOne (k ∷ []) b → ⊥
-  no_bound b p = let e = only_one k p.0 p.1 in let m = subst (λ x. Contains x.bounds b) (sym e) p.2 in omega (arith, m.1)
+  no_bound b p = let e = Contains-one k p.0 p.1 in let m = subst (λ x. Contains x.bounds b) (sym e) p.2 in omega (arith, m.1)
 
   graph : IsGraph cs
   graph = graph_of_state cs ks a.len a.valid
@@ -211,7 +212,7 @@ module _ (held : List Contents) (had : List Phase) (part : List Contents) (cs : 
       ],
       λ h. subst (λ xs. Contains xs c) (sym same_now) ((a.same c).1 (subst (λ xs. Contains (held ++ xs) c) (sym whole) (elim h [
         | inl x ↦ Contains-append_left held part c (subst (λ xs. Contains xs c) same_then x)
-        | inr p ↦ let e = only_one k p.0 p.1 in Contains-append_right held part c (subst (λ x. Contains x.changesets c) (sym e) p.2)
+        | inr p ↦ let e = Contains-one k p.0 p.1 in Contains-append_right held part c (subst (λ x. Contains x.changesets c) (sym e) p.2)
       ]))),
     );
     bounded = λ b p. absurd (no_bound b p);
@@ -233,8 +234,8 @@ module _ (held : List Contents) (had : List Phase) (part : List Contents) (cs : 
               | inl old ↦
                   let q = place_from_Contains (state_of held had).held old.0 old.1 in
                   let old_parts = parts-at held had q.0 old.0 q.1 in
-                  let at_cs = subst (λ xs. slice_get xs q.0 ≡ Some old.0.changeset) (sym a.appended) (get-append_left held (unheld held (take (length part) part)) q.0 old.0.changeset old_parts.0) in
-                  let at_ks = subst (λ xs. slice_get xs q.0 ≡ Some old.0.phase) (sym a.secret) (get-append_left had (map (λ _. Secret) (unheld held (take (length part) part))) q.0 old.0.phase old_parts.1) in
+                  let at_cs = subst (λ xs. slice_get xs q.0 ≡ Some old.0.changeset) (sym a.appended) (slice_get-append held (unheld held (take (length part) part)) q.0 old.0.changeset old_parts.0) in
+                  let at_ks = subst (λ xs. slice_get xs q.0 ≡ Some old.0.phase) (sym a.secret) (slice_get-append had (map (λ _. Secret) (unheld held (take (length part) part))) q.0 old.0.phase old_parts.1) in
                   let same : q.0 ≡ p.0 = same_place (nodes cs) (node_of g.changeset) p.0 q.0 graph.distinct at_g (IsAt-from cs q.0 old.0.changeset (node_of g.changeset) at_cs (ap node_of old.2)) in
                   let phase_is : g.phase ≡ j = same_Some g.phase old.0.phase (sym parts.1 ∙ ap (slice_get ks) (sym same) ∙ at_ks) ∙ old.3 in
                   let e = ap rank phase_is in

@@ -6,6 +6,7 @@ use Rattle.std.proofs.lemmas.Bool.{cases_eq}
 use Rattle.std.proofs.lemmas.Option.{same_Some, slice_get_within, get_or_from_slice_get}
 use Rattle.hg_changeset.specs.declared.node.Node.{Node}
 use Rattle.hg_changeset.specs.Contents.{Contents}
+use Rattle.hg_changeset.proofs.ListLemmas.{Contains-one}
 use Rattle.hg_graph.specs.Graph.{Holds}
 use Rattle.hg_graph.proofs.GraphLemmas.{Contains-from_place}
 use Rattle.hg_phases.specs.declared.phase.Phase.{Phase}
@@ -14,7 +15,7 @@ use Rattle.hg_phases.specs.State.{State, IsValid, rank, state_of, Holds as State
 use Rattle.hg_phases.specs.declared.lowered.LoweredPlace.{LoweredPlace}
 use Rattle.hg_phases.specs.Lowered.{IsAbove}
 use Rattle.hg_phases.specs.Least.{PartValue, IsLeast}
-use Rattle.hg_phases.proofs.LeastLemmas.{rank-top, only_one}
+use Rattle.hg_phases.proofs.LeastLemmas.{rank-top}
 use Rattle.hg_phases.proofs.LawLemmas.{least-more, least-valid}
 use Rattle.hg_history.specs.declared.fault.Fault.{Fault}
 use Rattle.hg_history.specs.declared.fault.Fault.TheVariants.{UnknownParent, Collision, UnknownBound, NullBound, NoMemory}
@@ -89,16 +90,16 @@ pub least-secrets : (s : State) (p : List Contents) (bs bounds : List (Node × P
 least-secrets s p bs bounds t sub all held l = record {
   graph = l.graph;
   union = λ c. (
-    λ at. elim ((l.union c).0 at) [ inl x ↦ inl x | inr h ↦ let e = only_one few h.0 h.1 in inr (full, one full, subst (λ x. Contains x.changesets c) (sym e) h.2) ],
-    λ h. elim h [ inl x ↦ (l.union c).1 (inl x) | inr h ↦ let e = only_one full h.0 h.1 in (l.union c).1 (inr (few, one few, subst (λ x. Contains x.changesets c) (sym e) h.2)) ],
+    λ at. elim ((l.union c).0 at) [ inl x ↦ inl x | inr h ↦ let e = Contains-one few h.0 h.1 in inr (full, one full, subst (λ x. Contains x.changesets c) (sym e) h.2) ],
+    λ h. elim h [ inl x ↦ (l.union c).1 (inl x) | inr h ↦ let e = Contains-one full h.0 h.1 in (l.union c).1 (inr (few, one few, subst (λ x. Contains x.changesets c) (sym e) h.2)) ],
   );
-  bounded = λ b h. let e = only_one full h.0 h.1 in held b (subst (λ x. Contains x.bounds b) (sym e) h.2);
+  bounded = λ b h. let e = Contains-one full h.0 h.1 in held b (subst (λ x. Contains x.bounds b) (sym e) h.2);
   phases = λ g at. (
     elim (l.phases g at).0 [
       | inl x ↦ inl x
       | inr o ↦ elim o [
         | inl x ↦ inr (inl x)
-        | inr b ↦ let e = only_one few b.1.0 b.1.1 in inr (inr (b.0, (full, one full, sub b.0 (subst (λ x. Contains x.bounds b.0) (sym e) b.1.2)), b.2, b.3))
+        | inr b ↦ let e = Contains-one few b.1.0 b.1.1 in inr (inr (b.0, (full, one full, sub b.0 (subst (λ x. Contains x.bounds b.0) (sym e) b.1.2)), b.2, b.3))
       ]
     ],
     λ j candidate. elim candidate [
@@ -106,7 +107,7 @@ least-secrets s p bs bounds t sub all held l = record {
       | inr o ↦ elim o [
         | inl x ↦ (l.phases g at).1 j (inr (inl x))
         | inr b ↦
-            let e = only_one full b.1.0 b.1.1 in
+            let e = Contains-one full b.1.0 b.1.1 in
             elim (all b.0 (subst (λ x. Contains x.bounds b.0) (sym e) b.1.2)) [
               | inl x ↦ (l.phases g at).1 j (inr (inr (b.0, (few, one few, x), b.2, b.3)))
               | inr top ↦ subst (λ x. rank g.phase ≤ rank x) (sym top ∙ b.3) (rank-top g.phase)

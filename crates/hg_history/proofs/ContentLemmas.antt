@@ -3,6 +3,7 @@ use Rattle.std.proofs.Common.{◌≡◌, ℕ, zero, suc, ◌<◌, [], ◌∷◌,
 use Rattle.hg_changeset.specs.declared.node.Node.{Node}
 use Rattle.hg_changeset.specs.Contents.{Contents}
 use Rattle.hg_changeset.specs.Changeset.{node_of, IsChangeset}
+use Rattle.hg_changeset.proofs.ListLemmas.{Contains-one}
 use Rattle.hg_graph.specs.Graph.{nodes, IsGraph, IsParent}
 use Rattle.hg_graph.specs.Graph.Reaches.{itself as reaches_itself, below as reaches_below}
 use Rattle.hg_graph.proofs.GraphLemmas.{Contains-from_place, place_from_Contains, Holds-from, Holds-changeset}
@@ -11,7 +12,7 @@ use Rattle.hg_phases.specs.declared.phase.Phase.{Phase}
 use Rattle.hg_phases.specs.State.{State, Held, changesets, Holds, Reaches, IsValid}
 use Rattle.hg_phases.specs.Order.{Below}
 use Rattle.hg_phases.specs.Least.{PartValue, Covers, IsAdmitted, IsBoundOfOne, IsChangesetOfOne, IsCandidate, IsLeast}
-use Rattle.hg_phases.proofs.LeastLemmas.{held_from, changeset_from, same_changeset, Holds-taken, only_one}
+use Rattle.hg_phases.proofs.LeastLemmas.{held_from, changeset_from, same_changeset, Holds-taken}
 use Rattle.hg_history.specs.declared.fault.Fault.{Fault}
 use Rattle.hg_history.specs.declared.fault.Fault.TheVariants.{UnknownParent, Collision, UnknownBound, NullBound, NoMemory}
 use Rattle.hg_history.specs.Change.{ChangeValue, unheld}
@@ -177,7 +178,7 @@ module _ (s t : State) (k : PartValue) (valid : IsValid s) (large : IsGraph (cha
         inr (inl (old.0, content-held s valid.graph n old.0 old.1 (ap node_of old.2 ∙ f.1), old.3))
     candidate-there n h phase e (inr (inr b)) =
         let f = held_in_content t n h e in
-        let within = subst (λ x. Contains x.bounds b.0) (sym (only_one k b.1.0 b.1.1)) b.1.2 in
+        let within = subst (λ x. Contains x.bounds b.0) (sym (Contains-one k b.1.0 b.1.1)) b.1.2 in
         inr (inr (b.0, within, leads_from_reach t large n b.0.0 (subst (λ m. Reaches t m b.0.0) f.1 b.2), b.3))
 
     candidate-back : (n : Node) (h : Held) (phase : Phase) → content_of t n ≡ Some h → IsContentCandidate (content_of s) k (content_of t) n phase → IsCandidate s (k ∷ []) t h.changeset phase
@@ -198,7 +199,7 @@ module _ (s t : State) (k : PartValue) (valid : IsValid s) (large : IsGraph (cha
             let f = changeset_in_content t large n c x in
             elim ((l.union c).0 f.0) [
               | inl old ↦ inl (content-changeset s valid.graph n c old f.1)
-              | inr new ↦ inr (subst (λ y. Contains y.changesets c) (sym (only_one k new.0 new.1)) new.2, f.1)
+              | inr new ↦ inr (subst (λ y. Contains y.changesets c) (sym (Contains-one k new.0 new.1)) new.2, f.1)
             ],
         λ h. elim h [
           | inl old ↦ let f = changeset_in_content s valid.graph n c old in content-changeset t large n c ((l.union c).1 (inl f.0)) f.1
@@ -221,13 +222,13 @@ module _ (s t : State) (k : PartValue) (valid : IsValid s) (large : IsGraph (cha
       ],
       λ h. elim h [
         | inl old ↦ (changeset_in_content t large (node_of c) c ((after.union (node_of c) c).1 (inl (content-changeset s valid.graph (node_of c) c old refl)))).0
-        | inr new ↦ (changeset_in_content t large (node_of c) c ((after.union (node_of c) c).1 (inr (subst (λ y. Contains y.changesets c) (sym (only_one k new.0 new.1)) new.2, refl)))).0
+        | inr new ↦ (changeset_in_content t large (node_of c) c ((after.union (node_of c) c).1 (inr (subst (λ y. Contains y.changesets c) (sym (Contains-one k new.0 new.1)) new.2, refl)))).0
       ],
     )
 
     least-bounded : (b : Node × Phase) → IsBoundOfOne (k ∷ []) b → Holds t b.0
     least-bounded b one =
-        let at = subst (λ x. Contains x.bounds b) (sym (only_one k one.0 one.1)) one.2 in
+        let at = subst (λ x. Contains x.bounds b) (sym (Contains-one k one.0 one.1)) one.2 in
         elim (after.admitted.bounds b at) [
           | inl held ↦
               let x = (after.union b.0 held.0.changeset).1 (inl (held.0, held.1, refl)) in
@@ -241,7 +242,7 @@ module _ (s t : State) (k : PartValue) (valid : IsValid s) (large : IsGraph (cha
     forth h phase at (inl top) = inl top
     forth h phase at (inr (inl old)) = inr (inl (old.0, content-held s valid.graph (node_of h.changeset) old.0 old.1 (ap node_of old.2), old.3))
     forth h phase at (inr (inr b)) =
-        let within = subst (λ x. Contains x.bounds b.0) (sym (only_one k b.1.0 b.1.1)) b.1.2 in
+        let within = subst (λ x. Contains x.bounds b.0) (sym (Contains-one k b.1.0 b.1.1)) b.1.2 in
         inr (inr (b.0, within, leads_from_reach t large (node_of h.changeset) b.0.0 b.2, b.3))
 
     back : (h : Held) (phase : Phase) → Contains t.held h → IsContentCandidate (content_of s) k (content_of t) (node_of h.changeset) phase → IsCandidate s (k ∷ []) t h.changeset phase

@@ -9,39 +9,30 @@ use Rattle.hg_changeset.specs.declared.node.Node.{Node}
 use Rattle.hg_changeset.specs.Node.{node_eq, null_node}
 use Rattle.hg_changeset.specs.Contents.{Contents}
 use Rattle.hg_changeset.specs.Changeset.{node_of}
-use Rattle.hg_changeset.proofs.NodeLemmas.{same_node, node_eq_laws, node_itself}
+use Rattle.hg_changeset.proofs.NodeLemmas.{same_node, node_eq_laws, node_itself, node_cases}
+use Rattle.hg_changeset.proofs.ListLemmas.{slice_get-take, Contains-one, slice_get_some}
 use Rattle.hg_graph.specs.Graph.{nodes, Holds, HoldsParents}
 use Rattle.hg_graph.specs.Answers.{IsFirstMissing, Collides}
 use Rattle.hg_graph.proofs.GraphLemmas.{Contains-from_place, place_from_Contains, Holds-from, Holds-changeset}
-use Rattle.hg_graph.proofs.PlaceLemmas.{get-within}
 use Rattle.hg_phases.specs.declared.phase.Phase.{Phase}
 use Rattle.hg_phases.specs.State.{State, changesets}
 use Rattle.hg_phases.specs.Least.{PartValue, IsAdmitted}
-use Rattle.hg_phases.proofs.AdmitLemmas.{get-taken}
-use Rattle.hg_phases.proofs.LeastLemmas.{only_one}
 use Rattle.hg_history.specs.declared.fault.Fault.{Fault}
 use Rattle.hg_history.specs.declared.fault.Fault.TheVariants.{UnknownParent, Collision, UnknownBound, NullBound}
 use Rattle.hg_history.specs.Answer.{IsFineUpTo, AreHeldUpTo, IsFirstUnheld, IsFirstFault}
 
 -- ---- what can be decided
 
-same_or_not : (p q : Node) → (p ≡ q) ⊎ (p ≢ q)
-same_or_not p q = by (node_eq p q) refl
-  where
-    by : (b : Bool) → node_eq p q ≡ b → (p ≡ q) ⊎ (p ≢ q)
-    by true e = inl (same_node p q e)
-    by false e = inr (λ x. let is = node_itself p q x in cc (is, e))
-
 same_text_or_not : (xs ys : List ℕ) → (xs ≡ ys) ⊎ (xs ≢ ys)
-same_text_or_not xs ys = elim (same_or_not (record { 0 = xs }) (record { 0 = ys })) [
+same_text_or_not xs ys = elim (node_cases (record { 0 = xs }) (record { 0 = ys })) [
   | inl e ↦ inl (ap (λ n. n.0) e)
   | inr ne ↦ inr (λ e. ne (λ i. record { 0 = e i }))
 ]
 
 pub same_contents_or_not : (c d : Contents) → (c ≡ d) ⊎ (c ≢ d)
-same_contents_or_not c d = elim (same_or_not c.first d.first) [
+same_contents_or_not c d = elim (node_cases c.first d.first) [
   | inr ne ↦ inr (λ e. ne (ap (λ x. x.first) e))
-  | inl first ↦ elim (same_or_not c.second d.second) [
+  | inl first ↦ elim (node_cases c.second d.second) [
     | inr ne ↦ inr (λ e. ne (ap (λ x. x.second) e))
     | inl second ↦ elim (same_text_or_not c.text d.text) [
       | inr ne ↦ inr (λ e. ne (ap (λ x. x.text) e))
@@ -67,15 +58,15 @@ collides_or_not cs c = elim (held_or_not cs (node_of c)) [
     by [] = inr (λ h. absurd (omega (arith, h.1.1)))
     by (d ∷ ds) = elim (by ds) [
       | inl h ↦ inl (h.0, Contains-append_right (d ∷ []) ds h.0 h.1, h.2, h.3)
-      | inr none ↦ elim (same_or_not (node_of d) (node_of c)) [
+      | inr none ↦ elim (node_cases (node_of d) (node_of c)) [
         | inr other ↦ inr (λ h. elim (Contains-append_cases (d ∷ []) ds h.0 h.1) [
-          | inl x ↦ other (ap node_of (only_one d h.0 x) ∙ h.2)
+          | inl x ↦ other (ap node_of (Contains-one d h.0 x) ∙ h.2)
           | inr x ↦ none (h.0, x, h.2, h.3)
         ])
         | inl same ↦ elim (same_contents_or_not d c) [
           | inr differ ↦ inl (d, (0, omega arith, refl), same, differ)
           | inl is ↦ inr (λ h. elim (Contains-append_cases (d ∷ []) ds h.0 h.1) [
-            | inl x ↦ h.3 (sym (only_one d h.0 x) ∙ is)
+            | inl x ↦ h.3 (sym (Contains-one d h.0 x) ∙ is)
             | inr x ↦ none (h.0, x, h.2, h.3)
           ])
         ]
@@ -84,7 +75,7 @@ collides_or_not cs c = elim (held_or_not cs (node_of c)) [
 
 -- a parent that is absent or held, or one that is missing
 there_or_not : (cs : List Contents) (p : Node) → ((p ≡ null_node) ⊎ Holds cs p) ⊎ ((p ≢ null_node) × ¬ (Holds cs p))
-there_or_not cs p = elim (same_or_not p null_node) [
+there_or_not cs p = elim (node_cases p null_node) [
   | inl e ↦ inl (inl e)
   | inr ne ↦ elim (held_or_not cs p) [ inl h ↦ inl (inr h) | inr out ↦ inr (ne, out) ]
 ]
@@ -121,7 +112,7 @@ module _ (held part : List Contents) where
     | inr fault ↦ inr fault
     | inl fine ↦
         let within : i < length part = omega arith in
-        let c = get-within part i within in
+        let c = slice_get_some part i within in
         elim (missing_or_not (held ++ take i part) c.0) [
           | inl p ↦ inr (UnknownParent p.0, λ bounds. (i, c.0, c.1, fine, p.1))
           | inr parents ↦ elim (collides_or_not (held ++ take i part) c.0) [
@@ -138,7 +129,7 @@ bounds_tried cs bounds (suc i) le = elim (bounds_tried cs bounds i (omega arith)
   | inr fault ↦ inr fault
   | inl before ↦
       let within : i < length bounds = omega arith in
-      let b = get-within bounds i within in
+      let b = slice_get_some bounds i within in
       elim (held_or_not cs b.0.0) [
         | inr out ↦ inr (b.0.0, record { place = i; bound = b.0; at = b.1; before = before; node = refl; unheld = out })
         | inl h ↦ inl (λ j d l at_d. elim (cases_eq j i) [
@@ -168,7 +159,7 @@ module _ (s : State) (k : PartValue) (fine : IsFineUpTo (changesets s) k.changes
   ]
 
   in_front : (i j : ℕ) (c : Contents) → j < i → slice_get k.changesets j ≡ Some c → Contains (changesets s ++ take i k.changesets) c
-  in_front i j c l at = Contains-append_right (changesets s) (take i k.changesets) c (Contains-from_place (take i k.changesets) j c (get-taken k.changesets i j c l at))
+  in_front i j c l at = Contains-append_right (changesets s) (take i k.changesets) c (Contains-from_place (take i k.changesets) j c (slice_get-take k.changesets i j c l at))
 
   pub fine-admitted : AreHeldUpTo (changesets s ++ k.changesets) k.bounds (length k.bounds) → IsAdmitted s k
   fine-admitted there = record {
@@ -196,7 +187,7 @@ admitted_or_fault s k = elim (changesets_tried (changesets s) k.changesets (leng
   | inr fault ↦ inr (fault.0, fault.1 k.bounds)
   | inl fine ↦ elim (bounds_tried (changesets s ++ k.changesets) k.bounds (length k.bounds) (omega arith)) [
     | inl there ↦ inl (fine-admitted s k fine there)
-    | inr out ↦ elim (same_or_not out.0 null_node) [
+    | inr out ↦ elim (node_cases out.0 null_node) [
       | inr ne ↦ inr (UnknownBound out.0, (fine, out.1, ne))
       | inl null ↦ inr (NullBound, (fine, subst (IsFirstUnheld (changesets s ++ k.changesets) k.bounds) null out.1))
     ]

@@ -7,10 +7,10 @@ use Rattle.std.proofs.lemmas.Option.{same_Some, slice_get_within}
 use Rattle.hg_changeset.specs.declared.node.Node.{Node}
 use Rattle.hg_changeset.specs.Contents.{Contents}
 use Rattle.hg_changeset.specs.Changeset.{node_of}
+use Rattle.hg_changeset.proofs.ListLemmas.{slice_get_some}
 use Rattle.hg_graph.specs.Graph.{Holds}
 use Rattle.hg_graph.specs.Answers.{IsNew}
 use Rattle.hg_graph.proofs.GraphLemmas.{place_from_Contains, get-take, Holds-changeset}
-use Rattle.hg_graph.proofs.PlaceLemmas.{get-within}
 use Rattle.hg_phases.specs.declared.phase.Phase.{Phase}
 use Rattle.hg_phases.specs.declared.phase.Phase.TheVariants.{Secret}
 use Rattle.hg_phases.specs.declared.lowered.LoweredPlace.{LoweredPlace}
@@ -67,7 +67,7 @@ module _ (held part : List Contents) where
     | inr new ↦ inr new
     | inl known ↦
         let within : i < length part = omega arith in
-        let c = get-within part i within in
+        let c = slice_get_some part i within in
         let here = fine i c.0 (omega arith) c.1 in
         elim (held_or_not held (node_of c.0)) [
           | inr out ↦ inr (new-here i c.0 c.1 known (here.0, λ h. out (known_back i known (node_of c.0) h)))

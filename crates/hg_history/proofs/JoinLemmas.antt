@@ -9,6 +9,7 @@ use Rattle.std.proofs.lemmas.Option.{none-some, same_Some, slice_get-map, slice_
 use Rattle.hg_changeset.specs.declared.node.Node.{Node}
 use Rattle.hg_changeset.specs.Contents.{Contents}
 use Rattle.hg_changeset.specs.Changeset.{node_of}
+use Rattle.hg_changeset.proofs.ListLemmas.{slice_get_some, Contains-one}
 use Rattle.hg_graph.specs.Graph.{IsGraph, nodes, Holds as GraphHolds}
 use Rattle.hg_graph.specs.Graph.Reaches.{itself}
 use Rattle.hg_graph.specs.Places.{IsAt, IsOnlyAt}
@@ -21,9 +22,9 @@ use Rattle.hg_phases.specs.Order.{Below}
 use Rattle.hg_phases.specs.Least.{PartValue, IsCandidate, IsChangesetOfOne, IsLeast, part_of}
 use Rattle.hg_phases.specs.Content.{content_of}
 use Rattle.hg_phases.proofs.RankLemmas.{rank-apart, rank-top}
-use Rattle.hg_phases.proofs.PlaceLemmas.{get-within, held-at, parts-at, changesets-held_of}
+use Rattle.hg_phases.proofs.PlaceLemmas.{held-at, parts-at, changesets-held_of}
 use Rattle.hg_phases.proofs.FormLemmas.{valid-reach}
-use Rattle.hg_phases.proofs.LeastLemmas.{held_from, changeset_from, only_one, same_changeset, Reaches-back, Reaches-from}
+use Rattle.hg_phases.proofs.LeastLemmas.{held_from, changeset_from, same_changeset, Reaches-back, Reaches-from}
 use Rattle.hg_phases.proofs.JoinLemmas.{bound_from, bound_of, join-least}
 use Rattle.hg_phases.proofs.ContentLemmas.{held_in_content, content-held}
 use Rattle.hg_history.specs.declared.fault.Fault.{Fault}
@@ -177,7 +178,7 @@ module _ (s o t : State) (w : IsValid o) (l : IsLeast s (part_of o ∷ []) t) wh
       subst (Contains o.held) (same-phase h g e le ((l.phases h at_h).1 g.phase (inr (inr ((node_of g.changeset, g.phase), (part_of o, (0, omega arith, refl), bound_of o g at_g), reach, refl))))) at_g
 
   in_other : (c : Contents) → IsChangesetOfOne (part_of o ∷ []) c → Contains (changesets o) c
-  in_other c p = subst (λ k. Contains k.changesets c) (sym (only_one (part_of o) p.0 p.1)) p.2
+  in_other c p = subst (λ k. Contains k.changesets c) (sym (Contains-one (part_of o) p.0 p.1)) p.2
 
   other_within : (c : Contents) → Contains (changesets o) c → Contains (changesets t) c
   other_within c at = (l.union c).1 (inr (part_of o, (0, omega arith, refl), at))
@@ -191,7 +192,7 @@ module _ (s o t : State) (w : IsValid o) (l : IsLeast s (part_of o ∷ []) t) wh
       ]
   by h at (inr (inl old)) = let e = ap rank old.3 in inl (of_first h old.0 at old.1 old.2 (omega (arith, e)))
   by h at (inr (inr (b, p, reach, e))) =
-      let bound = bound_from o b (subst (λ k. Contains k.bounds b) (sym (only_one (part_of o) p.0 p.1)) p.2) in
+      let bound = bound_from o b (subst (λ k. Contains k.bounds b) (sym (Contains-one (part_of o) p.0 p.1)) p.2) in
       let b_is : node_of bound.0.changeset ≡ b.0 = ap (λ x. x.0) bound.2 in
       let there = subst (GraphHolds (changesets o)) b_is (Holds-from (changesets o) bound.0.changeset (changeset_from o bound.0 bound.1)) in
       let back = Reaches-back (changesets o) (changesets t) w.graph l.graph other_within (node_of h.changeset) b.0 there reach in
@@ -264,7 +265,7 @@ module _ (ocs : List Contents) (oks : List Phase) (olen : length oks ≡ length 
 -- there is a changeset at each place
 pub missing : (cs : List Contents) (p : ℕ) (r : Option (Bor Contents)) → p < length cs → option_copied r ≡ slice_get cs p → r ≡ None → ⊥
 missing cs p r within e none =
-    let d = get-within cs p within in
+    let d = slice_get_some cs p within in
     none-some d.0 (sym (ap option_copied none) ∙ e ∙ d.1)
 
 -- ---- answers, in the words of contents

@@ -4,15 +4,16 @@ use Rattle.std.proofs.lemmas.Option.{same_Some, slice_get_within}
 use Rattle.hg_changeset.specs.declared.node.Node.{Node}
 use Rattle.hg_changeset.specs.Contents.{Contents}
 use Rattle.hg_changeset.specs.Changeset.{node_of}
+use Rattle.hg_changeset.proofs.ListLemmas.{slice_get-append, slice_get-append_seam, slice_get_some}
 use Rattle.hg_graph.specs.Graph.{Holds, IsGraph, nodes}
 use Rattle.hg_graph.specs.Places.{IsAt}
 use Rattle.hg_graph.proofs.GraphLemmas.{absent}
-use Rattle.hg_graph.proofs.PlaceLemmas.{get-within, same_place, IsAt-from, place_from_Holds, placed_within}
+use Rattle.hg_graph.proofs.PlaceLemmas.{same_place, IsAt-from, place_from_Holds, placed_within}
 use Rattle.hg_phases.specs.declared.phase.Phase.{Phase}
 use Rattle.hg_phases.specs.State.{State, IsValid, changesets, state_of}
 use Rattle.hg_phases.specs.Least.{IsAdmitted}
 use Rattle.hg_phases.specs.Roots.{AreRoots, AreSameRoots, IsOpened}
-use Rattle.hg_phases.proofs.PlaceLemmas.{get-append_left, changesets-held_of}
+use Rattle.hg_phases.proofs.PlaceLemmas.{changesets-held_of}
 use Rattle.hg_phases.proofs.LeastLemmas.{same_changeset}
 use Rattle.hg_phases.proofs.RootLemmas.{opened-again}
 use Rattle.hg_history.proofs.FaultLemmas.{no_fault}
@@ -34,10 +35,6 @@ history-opened part roots change old after cs ks ls none absorbed is len opened 
 
 -- ---- a history's own changesets
 
-get-append_seam : {X : Type 0} (xs : List X) (y : X) (ys : List X) → slice_get (xs ++ y ∷ ys) (length xs) ≡ Some y
-get-append_seam [] y ys = refl
-get-append_seam (x ∷ xs) y ys = get-append_seam xs y ys
-
 -- none of a graph's changesets is held twice
 pub unheld-graph : (held part : List Contents) → IsGraph (held ++ part) → unheld held part ≡ part
 unheld-graph held [] graph = refl
@@ -45,14 +42,14 @@ unheld-graph held (c ∷ part) graph =
     rw (absent held (node_of c) apart) (ap (λ cs. c ∷ cs) (unheld-graph (held ++ c ∷ []) part (subst IsGraph (sym (append_assoc held (c ∷ []) part)) graph)))
   where
     at_c : IsAt (held ++ c ∷ part) (node_of c) (length held)
-    at_c = IsAt-from (held ++ c ∷ part) (length held) c (node_of c) (get-append_seam held c part) refl
+    at_c = IsAt-from (held ++ c ∷ part) (length held) c (node_of c) (slice_get-append_seam held c part) refl
 
     apart : ¬ (Holds held (node_of c))
     apart holds =
         let place = place_from_Holds held (node_of c) holds in
-        let d = get-within held place.0 (placed_within held (node_of c) place.0 place.1) in
+        let d = slice_get_some held place.0 (placed_within held (node_of c) place.0 place.1) in
         let d_is : node_of d.0 ≡ node_of c = same_Some (node_of d.0) (node_of c) (sym (IsAt-from held place.0 d.0 (node_of d.0) d.1 refl) ∙ place.1) in
-        let at_d = IsAt-from (held ++ c ∷ part) place.0 d.0 (node_of c) (get-append_left held (c ∷ part) place.0 d.0 d.1) d_is in
+        let at_d = IsAt-from (held ++ c ∷ part) place.0 d.0 (node_of c) (slice_get-append held (c ∷ part) place.0 d.0 d.1) d_is in
         let same = same_place (nodes (held ++ c ∷ part)) (node_of c) (length held) place.0 graph.distinct at_c at_d in
         omega (arith, same, slice_get_within held place.0 d.0 d.1)
 

@@ -5,10 +5,11 @@ use Rattle.std.proofs.lemmas.Option.{none-some, same_Some}
 use Rattle.hg_changeset.specs.declared.node.Node.{Node}
 use Rattle.hg_changeset.specs.Contents.{Contents}
 use Rattle.hg_changeset.specs.Changeset.{node_of}
+use Rattle.hg_changeset.proofs.ListLemmas.{slice_get_some}
 use Rattle.hg_graph.specs.Graph.{IsParent, nodes}
 use Rattle.hg_graph.specs.Places.{IsAt, IsParentPlace}
 use Rattle.hg_graph.proofs.GraphLemmas.{Contains-from_place, place_from_Contains}
-use Rattle.hg_graph.proofs.PlaceLemmas.{get-within, IsAt-from, IsAt-within, placed_within}
+use Rattle.hg_graph.proofs.PlaceLemmas.{IsAt-from, IsAt-within, placed_within}
 use Rattle.hg_phases.specs.declared.phase.Phase.{Phase}
 use Rattle.hg_phases.specs.declared.phase.Phase.TheVariants.{Public}
 use Rattle.hg_phases.specs.State.{State, Held, held_of, state_of}
@@ -45,8 +46,8 @@ listed_all s i listed none before = subst (AreRoots s) (append-nil listed) (befo
 module _ (cs : List Contents) (ks : List Phase) (len : length ks ≡ length cs) (i : ℕ) (listed : List (Phase × Node)) (before : AreListedTo (state_of cs ks) i listed) where
   pub none_after : i < length cs → ((h : Held) → slice_get (held_of cs ks) i ≡ Some h → ¬ (IsRoot (state_of cs ks) h)) → AreListedTo (state_of cs ks) (i + 1) listed
   none_after within none =
-      let c = get-within cs i within in
-      let k = get-within ks i (omega arith) in
+      let c = slice_get_some cs i within in
+      let k = slice_get_some ks i (omega arith) in
       let h : Held = record { changeset = c.0; phase = k.0 } in
       let at = held-at cs ks i c.0 k.0 c.1 k.1 in
       none_next (state_of cs ks) i listed before h at (none h at)
@@ -68,7 +69,7 @@ parent_at_either cs ks i phase first second places = (
 
 at_changeset : (cs : List Contents) (n : Node) (k : ℕ) → IsAt cs n k → (c : Contents) × (slice_get cs k ≡ Some c) × (node_of c ≡ n)
 at_changeset cs n k at =
-    let c = get-within cs k (placed_within cs n k at) in
+    let c = slice_get_some cs k (placed_within cs n k at) in
     (c.0, c.1, same_Some (node_of c.0) n (sym (IsAt-from cs k c.0 (node_of c.0) c.1 refl) ∙ at))
 
 module _ (cs : List Contents) (ks : List Phase) (i : ℕ) (phase : Phase) (at_phase : slice_get ks i ≡ Some phase) where

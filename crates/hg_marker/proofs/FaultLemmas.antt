@@ -4,7 +4,7 @@ use Rattle.std.specs.Prelude.{◌⊎◌, ◌||◌, nat_le}
 use Rattle.std.specs.List.{list_any, list_all}
 use Rattle.std.specs.Int.{w32, from_be_bytes}
 use Rattle.std.specs.Result.{IsErrOf}
-use Rattle.std.proofs.lemmas.Bool.{cases_lt, lt-ltb, le-ltb, le-leb, false≢true}
+use Rattle.std.proofs.lemmas.Bool.{cases_lt, lt-ltb, le-ltb, le-leb, false≢true, or_cases, or_right}
 use Rattle.std.proofs.lemmas.List.{drop-drop, length-drop}
 use Rattle.hg_changeset.specs.declared.node.Node.{Node}
 use Rattle.hg_changeset.specs.Node.{null_node, node_eq}
@@ -150,17 +150,9 @@ next_id bytes k =
     let at : drop (20 * k) (drop 20 bytes) ≡ drop (20 * suc k) bytes = drop-drop (20 * k) 20 bytes ∙ ap (λ (n : ℕ). drop n bytes) more in
     λ i. record { 0 = take 20 (at i) }
 
-or_true : (a b : Bool) → (a || b) ≡ true → (a ≡ true) ⊎ (b ≡ true)
-or_true true b h = inl refl
-or_true false b h = inr h
-
-or_right : (a b : Bool) → b ≡ true → (a || b) ≡ true
-or_right true b h = refl
-or_right false b h = h
-
 null_among : (n : ℕ) (bytes : List ℕ) → list_any (node_eq null_node) (ids_in n bytes) ≡ true → (k : ℕ) × (k < n) × (id_at bytes k ≡ null_node)
 null_among zero bytes h = absurd cc
-null_among (suc n) bytes h = elim (or_true (node_eq null_node (id_at bytes 0)) (list_any (node_eq null_node) (ids_in n (drop 20 bytes))) h) [
+null_among (suc n) bytes h = elim (or_cases (node_eq null_node (id_at bytes 0)) (list_any (node_eq null_node) (ids_in n (drop 20 bytes))) h) [
   | inl first ↦ (0, omega arith, sym (same_node null_node (id_at bytes 0) first))
   | inr other ↦ let found = null_among n (drop 20 bytes) other in (suc found.0, omega (arith, found.1), sym (next_id bytes found.0) ∙ found.2)
 ]

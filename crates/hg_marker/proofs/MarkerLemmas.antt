@@ -2,7 +2,7 @@
 use Rattle.std.proofs.Common.{◌≡◌, ℕ, ◌+◌, ◌^◌, ◌<◌, ◌≤◌, Bool, true, false, not, List, [], ◌∷◌, ◌++◌, length, Result, Ok, Err, refl, sym, ap, subst, ◌∙◌, append_assoc, arith}
 use Rattle.std.specs.Prelude.{nat_le, cond}
 use Rattle.std.specs.Int.{w32, to_be_bytes}
-use Rattle.std.proofs.lemmas.Bool.{leb-true, le-leb}
+use Rattle.std.proofs.lemmas.Bool.{leb-true, le-leb, not-true}
 use Rattle.std.proofs.lemmas.List.{append-nil, append_cancel_right, length-append, take_at}
 use Rattle.std.specs.List.{list_any, list_all}
 use Rattle.hg_changeset.specs.Node.{null_node, node_eq}
@@ -42,10 +42,6 @@ eq_then {a' = a'} {b = b} e f g = e ∙ ap (λ (t : List ℕ). t ++ b) f ∙ ap 
 in_order : (count len flags : ℕ) (predecessor ids text : List ℕ) → (count ∷ []) ++ (to_be_bytes w32 len ++ ((flags ∷ []) ++ (predecessor ++ (ids ++ text)))) ≡ (count ∷ to_be_bytes w32 len) ++ (flags ∷ predecessor) ++ ids ++ text
 in_order count len flags predecessor ids text = simp append_assoc
 
-not_true : (b : Bool) → not b ≡ true → b ≡ false
-not_true true e = absurd cc
-not_true false e = refl
-
 metadata_takes : (text : List ℕ) (m : Texts) → metadata_at text ≡ Ok m → IsMetadata m text
 unfolding metadata_at
 metadata_takes text m e = let g = found (list_all has_colon (pieces text)) BadMetadata (texts (pieces text)) m e in record { colons = g.0; texts = sym g.1 }
@@ -79,7 +75,7 @@ to_spelling m bytes p =
     let short : length u.first ≤ metadata_limit = rw (← len_is) (leb-true _ _ w.first_spells.0) in
     let spelled : IsSpelling made bytes = record {
       text = u.first;
-      fits = record { predecessor = s.first_spells.is_node; successors = t.first_spells.each; present = not_true _ v.first_spells.0; few = few; flags = r.first_spells.below };
+      fits = record { predecessor = s.first_spells.is_node; successors = t.first_spells.each; present = not-true _ v.first_spells.0; few = few; flags = r.first_spells.below };
       short = short;
       metadata = metadata_takes u.first x.first x.first_spells.0;
       layout = laid;

@@ -15,7 +15,7 @@ use Rattle.hg_marker.specs.Faults.{marker_at, with_length, IsFault, left}
 use Rattle.hg_marker.specs.Reading.{Gives, Fails, IsRead}
 use Rattle.hg_marker.proofs.Formats.{IsBytes-right, Takes}
 use Rattle.hg_marker.proofs.MarkerLemmas.{marker_again, marker_takes}
-use Rattle.hg_marker.proofs.FaultLemmas.{fault_told, fault_given}
+use Rattle.hg_marker.proofs.FaultLemmas.{is_met, is_told}
 use Rattle.hg_obsstore.specs.declared.fault.StoreFault.{StoreFault}
 use Rattle.hg_obsstore.specs.declared.fault.StoreFault.TheVariants.{BadVersion, Bad}
 use Rattle.hg_obsstore.specs.Spelling.{AreSpelled, IsStoreSpelling, store_spelling}
@@ -39,16 +39,6 @@ spelled_longer (m ∷ ms) bytes h more = omega (arith, ap length h.3, length-app
 pub store_longer : (ms : List Fields) (bytes : List ℕ) → IsStoreSpelling ms bytes → 0 < length ms → 1 < length bytes
 store_longer ms [] h more = absurd (omega (arith, more, ap length h))
 store_longer ms (version ∷ bytes) h more = omega (arith, spelled_longer ms bytes h.1 more)
-
-err_with_length : (bytes : List ℕ) (r : Result (Fields × List ℕ) MarkerFault) (cause : MarkerFault) → with_length bytes r ≡ Err cause → r ≡ Err cause
-err_with_length bytes (Ok x) cause e = absurd cc
-err_with_length bytes (Err other) cause e = cc
-
-marker_refused : (bytes : List ℕ) (cause : MarkerFault) → IsFault bytes cause → marker_at bytes ≡ Err cause
-marker_refused bytes cause h = err_with_length bytes (marker_at bytes) cause (fault_given bytes cause h)
-
-marker_fault : (bytes : List ℕ) (cause : MarkerFault) → marker_at bytes ≡ Err cause → IsFault bytes cause
-marker_fault bytes cause e = fault_told bytes (Err (Fault cause)) (ap (with_length bytes) e)
 
 -- ---- markers in front of what is read
 
@@ -97,7 +87,7 @@ whole_read total ms bytes limit h fits =
 stopped : (total limit : ℕ) (rest : List ℕ) (cause : MarkerFault) → 0 < length rest → length rest ≤ limit → IsFault rest cause → markers_at total limit rest ≡ Err (Bad (total - length rest) cause)
 unfolding markers_at
 stopped total zero rest cause more fits h = absurd (omega (arith, more, fits))
-stopped total (suc limit) rest cause more fits h = rw (not_zero (length rest) more, marker_refused rest cause h) refl
+stopped total (suc limit) rest cause more fits h = rw (not_zero (length rest) more, is_met rest cause h) refl
 
 -- ---- what was read, or why not
 
@@ -143,7 +133,7 @@ first_told total limit bytes (Err cause) e more fits within others = record {
   spelled = refl;
   is = refl;
   more = more;
-  cause_is = marker_fault bytes cause e;
+  cause_is = is_told bytes cause e;
 }
 
 told : (total limit : ℕ) (bytes : List ℕ) → IsBytes bytes → length bytes ≤ limit → MatchResult (markers_at total limit bytes) (λ ms. AreSpelled ms bytes) (Stops total bytes)

@@ -12,6 +12,7 @@ use Rattle.std.proofs.lemmas.List.FromFn.{length-range_with_len, get_or-range_wi
 use Rattle.std.proofs.lemmas.Map.Keys.{apart_from_distinct}
 use Rattle.std.proofs.lemmas.List.Folds.{list_any-append}
 use Rattle.std.proofs.lemmas.List.Elements.{All-contains, Contains-get_or}
+use Rattle.std.proofs.Math.Bool.{or_assoc}
 use Rattle.hg_marker.specs.Fields.{Fields}
 use Rattle.hg_marker.specs.Same.{same_fields, fields_decides}
 use Rattle.hg_obsstore.specs.declared.store.Added.{Added}
@@ -71,11 +72,6 @@ next_new old now markers rest m starts same absent =
     let all : length (united old markers) ≡ length now + length (new_among now (m ∷ rest)) = ap length (sym same) ∙ length-append now (new_among now (m ∷ rest)) in
     longer_new old markers (omega (arith, more, before, all))
 
--- the set that they make
-either_assoc : (a b c : Bool) → ((a || b) || c) ≡ (a || (b || c))
-either_assoc true b c = refl
-either_assoc false b c = refl
-
 either_held : (a b : Bool) → (b ≡ true → a ≡ true) → a ≡ (a || b)
 either_held true b f = refl
 either_held false true f = f refl
@@ -97,7 +93,7 @@ holds_united ms (m ∷ more) k =
     ap (λ all. holds all k) (sym (united_step ms m more))
     ∙ holds_united (with_marker ms m) more k
     ∙ ap (λ b. b || holds more k) (holds_with ms m k)
-    ∙ either_assoc (holds ms k) (same_fields k m) (holds more k)
+    ∙ or_assoc (holds ms k) (same_fields k m) (holds more k)
 
 union_of_united : (ms more all : List Fields) → all ≡ united ms more → IsUnion (holds ms) (holds more) (holds all)
 union_of_united ms more all e = ap holds e ∙ (λ i k. holds_united ms more k i)

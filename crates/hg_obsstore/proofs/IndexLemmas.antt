@@ -5,16 +5,13 @@ use Rattle.std.proofs.lemmas.List.{take_more, take-append-drop}
 use Rattle.std.proofs.lemmas.List.Elements.{Contains-push, Contains-push_cases, Contains-append_left}
 use Rattle.std.specs.List.{list_any}
 use Rattle.std.proofs.lemmas.Map.Views.{Contains-from_any, list_any-from_Contains}
-use Rattle.hg_changeset.proofs.NodeLemmas.{same_node, node_itself, node_eq_laws}
+use Rattle.hg_changeset.proofs.NodeLemmas.{same_node, node_itself, node_eq_laws, node_cases}
 use Rattle.indexmap.specs.IndexMap.{get, get_by}
 use Rattle.hg_changeset.specs.declared.node.Node.{Node}
 use Rattle.hg_changeset.specs.Node.{node_eq}
 use Rattle.hg_obsstore.specs.declared.index.Index.{Index}
 use Rattle.hg_obsstore.specs.Index.{places_of, items_of, SamePlaces, AreBelow, AddsPlace, MayAddPlace, with_last, without_last}
 use Rattle.hg_obsstore.proofs.PlaceLemmas.{with_last_below, with_last_again, without_last_below, without_last_pushed}
-
-pub same_or_other : (a b : Node) → (a ≡ b) ⊎ (a ≢ b)
-same_or_other a b = ⊎_elim (λ (t : node_eq a b ≡ true). inl (same_node a b t)) (λ (f : node_eq a b ≡ false). inr (λ e. false≢true (sym f ∙ node_itself a b e))) (cases_Bool (node_eq a b))
 
 pub among_or_not : (ns : List Node) (n : Node) → Contains ns n ⊎ ¬ Contains ns n
 among_or_not ns n = ⊎_elim (λ (t : list_any (node_eq n) ns ≡ true). inl (Contains-from_any same_node n ns t))
@@ -28,7 +25,7 @@ module _ (old new : Index) (node : Node) where
       (ap items_of here ∙ items, λ q other. ap items_of (others q (false_from_ne_true (node_eq node q) (λ h. other (sym (same_node node q h))))))
 
   pub same_everywhere : (places_of new node ≡ places_of old node) → ((other : Node) → other ≢ node → places_of new other ≡ places_of old other) → SamePlaces old new
-  same_everywhere here others q = ⊎_elim (λ (same : q ≡ node). rw same here) (λ (other : q ≢ node). others q other) (same_or_other q node)
+  same_everywhere here others q = ⊎_elim (λ (same : q ≡ node). rw same here) (λ (other : q ≢ node). others q other) (node_cases q node)
 
 -- one node more
 abbrev Lists : Type 0
@@ -48,11 +45,11 @@ adds_more ns node place old mid new below adds here others =
       here = λ n h. ⊎_elim
           (λ (same : n ≡ node). rw same now)
           (λ (other : n ≢ node). others n other ∙ adds.here n (⊎_elim (λ (before : Contains ns n). before) (λ (e : node ≡ n). absurd (other (sym e))) (Contains-push_cases ns node n h)))
-          (same_or_other n node);
+          (node_cases n node);
       others = λ n no. ⊎_elim
           (λ (same : n ≡ node). absurd (no (subst (Contains (ns ++ node ∷ [])) (sym same) (Contains-push ns node))))
           (λ (other : n ≢ node). others n other ∙ adds.others n (λ h. no (Contains-append_left ns (node ∷ []) n h)))
-          (same_or_other n node);
+          (node_cases n node);
     }
 
 pub may_add : (ns all : List Node) (place : ℕ) (old mid new : Lists) → ((n : Node) → Contains ns n → Contains all n) → AddsPlace ns place old mid → ((n : Node) → new n ≡ mid n) → MayAddPlace all place old new
@@ -77,11 +74,11 @@ takes_more ns all node place before mid new below takes here others =
       done = λ n h. ⊎_elim
           (λ (same : n ≡ node). rw same now)
           (λ (other : n ≢ node). others n other ∙ takes.done n (⊎_elim (λ (b : Contains ns n). b) (λ (e : node ≡ n). absurd (other (sym e))) (Contains-push_cases ns node n h)))
-          (same_or_other n node);
+          (node_cases n node);
       may = λ n. ⊎_elim
           (λ (same : n ≡ node). inl (rw same now))
           (λ (other : n ≢ node). ⊎_elim (λ (s : mid n ≡ before n). inl (others n other ∙ s)) (λ (m : Contains all n × (mid n ≡ before n ++ place ∷ [])). inr (m.0, others n other ∙ m.1)) (takes.may n))
-          (same_or_other n node);
+          (node_cases n node);
     }
 
 pub all_taken : (ns : List Node) (place : ℕ) (before now : Lists) → TakesFrom ns before now place ns → (n : Node) → now n ≡ before n

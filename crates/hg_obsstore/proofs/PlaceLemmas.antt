@@ -6,6 +6,7 @@ use Rattle.std.proofs.lemmas.List.Elements.{Contains-push, Contains-push_cases, 
 use Rattle.std.proofs.lemmas.Option.{slice_get_within, slice_get_read, get_or_from_slice_get}
 use Rattle.std.proofs.lemmas.Bool.{cases_lt, false_from_ne_true}
 use Rattle.std.specs.Cmp.{unsigned_Decides}
+use Rattle.std.proofs.Math.Seq.{take-append_seam}
 use Rattle.hg_obsstore.specs.Places.{ListsAll}
 use Rattle.hg_obsstore.specs.Index.{stands_last, with_last, without_last}
 
@@ -75,17 +76,12 @@ pub without_last_below : (xs : List ℕ) (k : ℕ) → ((i : ℕ) → Contains x
 unfolding without_last
 without_last_below xs k below = rw (below_not_last xs k below) refl
 
-pub take_front : {A : Type 0} (xs ys : List A) → take (length xs) (xs ++ ys) ≡ xs
-take_front [] [] = refl
-take_front [] (y ∷ ys) = refl
-take_front {A} (x ∷ xs) ys = ap (λ (zs : List A). x ∷ zs) (take_front xs ys)
-
 pub without_last_pushed : (xs : List ℕ) (k : ℕ) → without_last (xs ++ k ∷ []) k ≡ xs
 unfolding without_last
 without_last_pushed xs k =
     let long : length (xs ++ k ∷ []) ≡ length xs + 1 = length-append xs (k ∷ []) in
     let at : length (xs ++ k ∷ []) - 1 ≡ length xs = omega (arith, long) in
-    rw (pushed_stands_last xs k) (ap (λ n. take n (xs ++ k ∷ [])) at ∙ take_front xs (k ∷ []))
+    rw (pushed_stands_last xs k) (ap (λ n. take n (xs ++ k ∷ [])) at ∙ take-append_seam xs (k ∷ []))
 
 pub with_last_none : (k : ℕ) → with_last [] k ≡ k ∷ []
 unfolding with_last

@@ -6,6 +6,7 @@ use Rattle.std.proofs.lemmas.Option.{slice_get_within, slice_get_read, get_or_fr
 use Rattle.std.specs.List.{list_any}
 use Rattle.std.proofs.lemmas.Bool.{false≢true}
 use Rattle.std.proofs.lemmas.Map.Views.{Contains-from_any, list_any-from_Contains}
+use Rattle.std.proofs.Math.Seq.{take-append_seam}
 use Rattle.indexmap.specs.IndexSet.{insert_key}
 use Rattle.hg_changeset.specs.declared.node.Node.{Node}
 use Rattle.hg_marker.specs.Same.{same_fields, fields_decides, fields_equivalence}
@@ -16,7 +17,7 @@ use Rattle.hg_obsstore.specs.Places.{ListsAll}
 use Rattle.hg_obsstore.specs.Markers.{IsAt, ArePlaces, predecessors, successors}
 use Rattle.hg_obsstore.specs.Index.{places_of, AreBelow, AddsPlace}
 use Rattle.hg_obsstore.specs.Indexes.{IsIndexBy, AreIndexed, HaveBelow, AddMarker, SameIndexes}
-use Rattle.hg_obsstore.proofs.PlaceLemmas.{take_front, one_more, no_more, all_listed}
+use Rattle.hg_obsstore.proofs.PlaceLemmas.{one_more, no_more, all_listed}
 use Rattle.hg_obsstore.proofs.IndexLemmas.{among_or_not}
 
 pub some_same : {A : Type 0} {x y : A} → Some x ≡ Some y → x ≡ y
@@ -115,10 +116,7 @@ pub read_last : (ms xs : List Fields) (m x : Fields) (place : ℕ) → xs ≡ ms
 read_last ms xs m x place e at read = read ∙ ap (λ (ys : List Fields). get_or ys place x) e ∙ get_or_push ms m x place (sym at)
 
 pub cut_back : (ms xs ys : List Fields) (m : Fields) (place : ℕ) → xs ≡ ms ++ m ∷ [] → place ≡ length ms → ys ≡ take place xs → ys ≡ ms
-cut_back ms xs ys m place e at cut = cut ∙ (λ i. take (at i) (e i)) ∙ take_front ms (m ∷ [])
-
-pub alone : {A : Type 0} (x y : A) → Contains (x ∷ []) y → x ≡ y
-alone x y h = ⊎_elim (λ (none : Contains [] y). absurd (omega (arith, none.1))) (λ (e : x ≡ y). e) (Contains-push_cases [] x y h)
+cut_back ms xs ys m place e at cut = cut ∙ (λ i. take (at i) (e i)) ∙ take-append_seam ms (m ∷ [])
 
 pub alone_back : {A : Type 0} (x y : A) → x ≡ y → Contains (x ∷ []) y
 alone_back x y e = subst (Contains (x ∷ [])) e (Contains-push [] x)

@@ -1,38 +1,14 @@
 -- Sets, as the answers that they give to "is it in?", and the laws of their union.
 use Rattle.std.specs.Prelude.{◌≡◌, ◌↔◌, Bool, true, false, ◌||◌, [], ◌∷◌, ⊤}
 use Rattle.std.proofs.Common.{refl, sym, ap, ◌∙◌}
+use Rattle.std.proofs.lemmas.Bool.{or_left, or_right}
+use Rattle.std.proofs.Math.Bool.{or_comm, or_assoc, or_self}
+use Rattle.std.specs.Cmp.{both_ways}
 use Rattle.hg_join.specs.Order.{IsPartialOrder, IsLeastAbove, IsLeastCovering, again_by_least, swap_by_least}
-
-either_left : (a b : Bool) → a ≡ true → (a || b) ≡ true
-either_left true b h = refl
-either_left false b h = absurd cc
-
-either_right : (a b : Bool) → b ≡ true → (a || b) ≡ true
-either_right true b h = refl
-either_right false b h = h
-
-either_comm : (a b : Bool) → (a || b) ≡ (b || a)
-either_comm true true = refl
-either_comm true false = refl
-either_comm false true = refl
-either_comm false false = refl
-
-either_assoc : (a b c : Bool) → ((a || b) || c) ≡ (a || (b || c))
-either_assoc true b c = refl
-either_assoc false b c = refl
-
-either_same : (a : Bool) → (a || a) ≡ a
-either_same true = refl
-either_same false = refl
 
 either_within : (a b c : Bool) → (a ≡ true → c ≡ true) → (b ≡ true → c ≡ true) → (a || b) ≡ true → c ≡ true
 either_within true b c f g h = f refl
 either_within false b c f g h = g h
-
-both_ways : (a b : Bool) → (a ≡ true → b ≡ true) → (b ≡ true → a ≡ true) → a ≡ b
-both_ways true b f g = sym (f refl)
-both_ways false true f g = absurd (let e : false ≡ true = g refl in cc)
-both_ways false false f g = refl
 
 module _ {K : Type 0} where
   -- any set will do
@@ -59,16 +35,16 @@ module _ {K : Type 0} where
   }
 
   pub union_commutes : (s t u : K → Bool) → IsUnion s t u → IsUnion t s u
-  union_commutes s t u e = e ∙ (λ i k. either_comm (s k) (t k) i)
+  union_commutes s t u e = e ∙ (λ i k. or_comm (s k) (t k) i)
 
   pub union_associates : (s t u stu : K → Bool) → ((st : K → Bool) × IsUnion s t st × IsUnion st u stu) ↔ ((tu : K → Bool) × IsUnion t u tu × IsUnion s tu stu)
   union_associates s t u stu = (
-    (λ h. ((λ k. t k || u k), refl, h.2 ∙ (λ i k. (h.1 i) k || u k) ∙ (λ i k. either_assoc (s k) (t k) (u k) i))),
-    (λ h. ((λ k. s k || t k), refl, h.2 ∙ (λ i k. s k || (h.1 i) k) ∙ sym (λ i k. either_assoc (s k) (t k) (u k) i))),
+    (λ h. ((λ k. t k || u k), refl, h.2 ∙ (λ i k. (h.1 i) k || u k) ∙ (λ i k. or_assoc (s k) (t k) (u k) i))),
+    (λ h. ((λ k. s k || t k), refl, h.2 ∙ (λ i k. s k || (h.1 i) k) ∙ sym (λ i k. or_assoc (s k) (t k) (u k) i))),
   )
 
   pub union_idempotent : (s : K → Bool) → IsUnion s s s
-  union_idempotent s = sym (λ i k. either_same (s k) i)
+  union_idempotent s = sym (λ i k. or_self (s k) i)
 
   at_point : (s t u : K → Bool) → IsUnion s t u → (k : K) → u k ≡ (s k || t k)
   at_point s t u e k = ap (λ (f : K → Bool). f k) e
@@ -76,8 +52,8 @@ module _ {K : Type 0} where
   pub union_least : (s t u : K → Bool) → IsUnion s t u → IsLeastAbove IsSet IsWithin s t u
   union_least s t u e = record {
     valid = tt;
-    above_first = λ k h. at_point s t u e k ∙ either_left (s k) (t k) h;
-    above_second = λ k h. at_point s t u e k ∙ either_right (s k) (t k) h;
+    above_first = λ k h. at_point s t u e k ∙ or_left (s k) (t k) h;
+    above_second = λ k h. at_point s t u e k ∙ or_right (s k) (t k) h;
     least = λ other v f g k h. either_within (s k) (t k) (other k) (f k) (g k) (sym (at_point s t u e k) ∙ h);
   }
 

@@ -23,7 +23,7 @@ use Rattle.hg_phaseroots.specs.Lines.{lines_of}
 use Rattle.hg_phaseroots.specs.Reading.{Root, is_space, is_decimal, number_of, root_of, root_around, root_in, then_roots, roots_in, roots_of, IsReading}
 use Rattle.hg_phaseroots.specs.Spelling.{IsLine, IsListed, Lists, AreSpelled, IsSpelling, IsNoLine, HasBadPhase, IsRootsFault}
 use Rattle.hg_phaseroots.proofs.LineLemmas.{first_at}
-use Rattle.hg_phaseroots.proofs.ReadLemmas.{after_roots}
+use Rattle.hg_phaseroots.proofs.ReadLemmas.{after_roots, after_none}
 use Rattle.hg_phaseroots.proofs.WriteLemmas.{node_found}
 
 -- ---- the parts of a line
@@ -188,14 +188,10 @@ after_both : (first second : List Root) (r : Result (List Root) RootsError) → 
 after_both first second (Ok roots) = ap (λ (all : List Root). Ok all) (sym (append_assoc first second roots))
 after_both first second (Err e) = refl
 
-after_nothing : (r : Result (List Root) RootsError) → r ≡ after_roots [] r
-after_nothing (Ok roots) = refl
-after_nothing (Err e) = refl
-
 past_spelled : (n : ℕ) (before rest : List (List ℕ)) (roots : List Root) → AreSpelled roots before → roots_in n (before ++ rest) ≡ after_roots roots (roots_in (n + length before) rest)
 past_spelled n [] rest roots h =
     let same : n ≡ n + 0 = omega arith in
-    ap (λ (k : ℕ). roots_in k rest) same ∙ after_nothing (roots_in (n + 0) rest) ∙ ap (λ (rs : List Root). after_roots rs (roots_in (n + 0) rest)) (sym h)
+    ap (λ (k : ℕ). roots_in k rest) same ∙ after_none (roots_in (n + 0) rest) ∙ ap (λ (rs : List Root). after_roots rs (roots_in (n + 0) rest)) (sym h)
 past_spelled n (line ∷ before) rest roots h =
     let same : n + 1 + length before ≡ n + length (line ∷ before) = omega arith in
     first_read n line (before ++ rest) h.0 h.2

@@ -21,9 +21,9 @@ use Rattle.hg_changeset.specs.declared.node.NodeError.TheVariants.{BadLength, Ba
 use Rattle.hg_changeset.specs.Bytes.{line_feed, space}
 use Rattle.hg_changeset.specs.Node.{IsNode, node_cmp, node_of_hex, id_value}
 use Rattle.hg_changeset.proofs.NodeLemmas.{node_cmp_exact, node_cmp_total}
+use Rattle.hg_changeset.proofs.ListLemmas.{Contains-map_from, Contains-map, Contains-first, Contains-cons_cases, Contains-later}
 use Rattle.hg_phases.specs.declared.phase.Phase.{Phase}
 use Rattle.hg_phases.specs.declared.phase.Phase.TheVariants.{Public, Draft, Secret}
-use Rattle.hg_phases.proofs.RootLemmas.{first_is, cons_cases, cons_more}
 use Rattle.hg_phaseroots.specs.Lines.{is_line_feed, lines_of}
 use Rattle.hg_phaseroots.specs.Reading.{Root, root_in, then_roots, roots_in, roots_of}
 use Rattle.hg_phaseroots.specs.Writing.{AreListed, AreInOrder, IsSpelled, IsWritten, digit_of, line_of, text_of}
@@ -40,21 +40,21 @@ bool_from_iff {a = false} {b = false} to from = refl
 inserted_by : (k n x : Node) (ns : List Node) → (Contains (insert_key node_cmp ns k) n ↔ (Contains ns n ⊎ (k ≡ n)))
     → (o : Ordering) → node_cmp k x ≡ o → Contains (match_ordering o (k ∷ x ∷ ns) (x ∷ ns) (x ∷ insert_key node_cmp ns k)) n ↔ (Contains (x ∷ ns) n ⊎ (k ≡ n))
 inserted_by k n x ns rest Less e = (
-  λ h. elim (cons_cases k (x ∷ ns) n h) [ inl same ↦ inr same | inr more ↦ inl more ],
-  λ h. elim h [ inl more ↦ Contains-append_right (k ∷ []) (x ∷ ns) n more | inr same ↦ subst (λ m. Contains (k ∷ x ∷ ns) m) same (first_is k (x ∷ ns)) ],
+  λ h. elim (Contains-cons_cases k (x ∷ ns) n h) [ inl same ↦ inr same | inr more ↦ inl more ],
+  λ h. elim h [ inl more ↦ Contains-append_right (k ∷ []) (x ∷ ns) n more | inr same ↦ subst (λ m. Contains (k ∷ x ∷ ns) m) same (Contains-first k (x ∷ ns)) ],
 )
 inserted_by k n x ns rest Equal e = (
   λ h. inl h,
-  λ h. elim h [ inl more ↦ more | inr same ↦ subst (λ m. Contains (x ∷ ns) m) (sym (node_cmp_exact k x e) ∙ same) (first_is x ns) ],
+  λ h. elim h [ inl more ↦ more | inr same ↦ subst (λ m. Contains (x ∷ ns) m) (sym (node_cmp_exact k x e) ∙ same) (Contains-first x ns) ],
 )
 inserted_by k n x ns rest Greater e = (
-  λ h. elim (cons_cases x (insert_key node_cmp ns k) n h) [
-    | inl same ↦ inl (subst (λ m. Contains (x ∷ ns) m) same (first_is x ns))
+  λ h. elim (Contains-cons_cases x (insert_key node_cmp ns k) n h) [
+    | inl same ↦ inl (subst (λ m. Contains (x ∷ ns) m) same (Contains-first x ns))
     | inr more ↦ elim (rest.0 more) [ inl old ↦ inl (Contains-append_right (x ∷ []) ns n old) | inr same ↦ inr same ]
   ],
   λ h. elim h [
-    | inl old ↦ elim (cons_cases x ns n old) [
-      | inl same ↦ subst (λ m. Contains (x ∷ insert_key node_cmp ns k) m) same (first_is x (insert_key node_cmp ns k))
+    | inl old ↦ elim (Contains-cons_cases x ns n old) [
+      | inl same ↦ subst (λ m. Contains (x ∷ insert_key node_cmp ns k) m) same (Contains-first x (insert_key node_cmp ns k))
       | inr more ↦ Contains-append_right (x ∷ []) (insert_key node_cmp ns k) n (rest.1 (inl more))
     ]
     | inr same ↦ Contains-append_right (x ∷ []) (insert_key node_cmp ns k) n (rest.1 (inr same))
@@ -63,8 +63,8 @@ inserted_by k n x ns rest Greater e = (
 
 pub inserted : (ns : List Node) (k n : Node) → Contains (insert_key node_cmp ns k) n ↔ (Contains ns n ⊎ (k ≡ n))
 inserted [] k n = (
-  λ h. elim (cons_cases k [] n h) [ inl e ↦ inr e | inr none ↦ inl none ],
-  λ h. elim h [ inl none ↦ absurd (omega (arith, none.1)) | inr e ↦ subst (λ m. Contains (k ∷ []) m) e (first_is k []) ],
+  λ h. elim (Contains-cons_cases k [] n h) [ inl e ↦ inr e | inr none ↦ inl none ],
+  λ h. elim h [ inl none ↦ absurd (omega (arith, none.1)) | inr e ↦ subst (λ m. Contains (k ∷ []) m) e (Contains-first k []) ],
 )
 inserted (x ∷ ns) k n = inserted_by k n x ns (inserted ns k n) (node_cmp k x) refl
 
@@ -214,32 +214,18 @@ order_once roots sorted others a b =
     ∙ (λ t. map (λ n. (Draft, n)) (listed_once roots Draft a.drafts b.drafts a.draft b.draft t) ++ map (λ n. (Secret, n)) (listed_once roots Secret a.secrets b.secrets a.secret b.secret t))
     ∙ sym b.all
 
-mapped_from : {X Y : Type 0} (f : X → Y) (xs : List X) (y : Y) → Contains (map f xs) y → (x : X) × Contains xs x × (f x ≡ y)
-mapped_from f [] y h = absurd (omega (arith, h.1))
-mapped_from f (x ∷ xs) y h = elim (cons_cases (f x) (map f xs) y h) [
-  | inl e ↦ (x, first_is x xs, e)
-  | inr more ↦ let r = mapped_from f xs y more in (r.0, cons_more x xs r.0 r.1, r.2)
-]
-
-mapped_into : {X Y : Type 0} (f : X → Y) (xs : List X) (x : X) → Contains xs x → Contains (map f xs) (f x)
-mapped_into f [] x h = absurd (omega (arith, h.1))
-mapped_into f (z ∷ xs) x h = elim (cons_cases z xs x h) [
-  | inl e ↦ subst (λ y. Contains (f z ∷ map f xs) (f y)) e (first_is (f z) (map f xs))
-  | inr more ↦ cons_more (f z) (map f xs) (f x) (mapped_into f xs x more)
-]
-
 ordered_into : (roots sorted : List Root) → AreInOrder roots sorted → (k : Phase) (n : Node) → Contains roots (k, n) → k ≢ Public → Contains sorted (k, n)
 ordered_into roots sorted order Public n at listed = absurd (listed refl)
 ordered_into roots sorted order Draft n at listed =
-    subst (λ rs. Contains rs (Draft, n)) (sym order.all) (Contains-append_left (map (λ m. (Draft, m)) order.drafts) (map (λ m. (Secret, m)) order.secrets) (Draft, n) (mapped_into (λ m. (Draft, m)) order.drafts n ((order.draft.same n).1 at)))
+    subst (λ rs. Contains rs (Draft, n)) (sym order.all) (Contains-append_left (map (λ m. (Draft, m)) order.drafts) (map (λ m. (Secret, m)) order.secrets) (Draft, n) (Contains-map (λ m. (Draft, m)) order.drafts n ((order.draft.same n).1 at)))
 ordered_into roots sorted order Secret n at listed =
-    subst (λ rs. Contains rs (Secret, n)) (sym order.all) (Contains-append_right (map (λ m. (Draft, m)) order.drafts) (map (λ m. (Secret, m)) order.secrets) (Secret, n) (mapped_into (λ m. (Secret, m)) order.secrets n ((order.secret.same n).1 at)))
+    subst (λ rs. Contains rs (Secret, n)) (sym order.all) (Contains-append_right (map (λ m. (Draft, m)) order.drafts) (map (λ m. (Secret, m)) order.secrets) (Secret, n) (Contains-map (λ m. (Secret, m)) order.secrets n ((order.secret.same n).1 at)))
 
 pub order_same : (roots sorted : List Root) → AreInOrder roots sorted → (r : Root) → Contains sorted r ↔ (Contains roots r × (r.0 ≢ Public))
 order_same roots sorted order r = (
   λ h. elim (Contains-append_cases (map (λ n. (Draft, n)) order.drafts) (map (λ n. (Secret, n)) order.secrets) r (subst (λ rs. Contains rs r) order.all h)) [
-    | inl d ↦ let m = mapped_from (λ n. (Draft, n)) order.drafts r d in subst (λ x. Contains roots x × (x.0 ≢ Public)) m.2 ((order.draft.same m.0).0 m.1, draft_not_public)
-    | inr d ↦ let m = mapped_from (λ n. (Secret, n)) order.secrets r d in subst (λ x. Contains roots x × (x.0 ≢ Public)) m.2 ((order.secret.same m.0).0 m.1, secret_not_public)
+    | inl d ↦ let m = Contains-map_from (λ n. (Draft, n)) order.drafts r d in subst (λ x. Contains roots x × (x.0 ≢ Public)) m.2 ((order.draft.same m.0).0 m.1, draft_not_public)
+    | inr d ↦ let m = Contains-map_from (λ n. (Secret, n)) order.secrets r d in subst (λ x. Contains roots x × (x.0 ≢ Public)) m.2 ((order.secret.same m.0).0 m.1, secret_not_public)
   ],
   λ h. ordered_into roots sorted order r.0 r.1 h.0 h.1,
 )

@@ -5,6 +5,7 @@ use Rattle.std.proofs.lemmas.Option.{slice_get_within}
 use Rattle.hg_changeset.specs.declared.node.Node.{Node}
 use Rattle.hg_changeset.specs.Contents.{Contents}
 use Rattle.hg_changeset.specs.Changeset.{node_of}
+use Rattle.hg_changeset.proofs.ListLemmas.{slice_get-push_cases, slice_get-take}
 use Rattle.hg_graph.specs.Graph.{IsGraph, IsParent, nodes}
 use Rattle.hg_graph.specs.Places.{IsAt}
 use Rattle.hg_graph.proofs.GraphLemmas.{Contains-from_place, place_from_Contains, Holds-changeset, get-take, IsGraph-take}
@@ -14,13 +15,7 @@ use Rattle.hg_phases.specs.declared.phase.Phase.TheVariants.{Secret}
 use Rattle.hg_phases.specs.State.{Held, rank, state_of, IsValid}
 use Rattle.hg_phases.specs.Kept.{before_last}
 use Rattle.hg_phases.proofs.RankLemmas.{rank-top}
-use Rattle.hg_phases.proofs.PlaceLemmas.{get-push_cases, held-at, parts-at, changesets-held_of, graph_of_state}
-
-pub get-taken : {X : Type 0} (xs : List X) (n i : ℕ) (x : X) → i < n → slice_get xs i ≡ Some x → slice_get (take n xs) i ≡ Some x
-get-taken xs zero i x l h = absurd (omega arith)
-get-taken [] (suc n) i x l h = h
-get-taken (y ∷ xs) (suc n) zero x l h = h
-get-taken (y ∷ xs) (suc n) (suc i) x l h = get-taken xs n i x (omega arith) h
+use Rattle.hg_phases.proofs.PlaceLemmas.{held-at, parts-at, changesets-held_of, graph_of_state}
 
 module _ (cs : List Contents) (ks : List Phase) (graph : IsGraph cs) (len : length cs ≡ length ks + 1) (valid : IsValid (state_of (before_last cs) ks)) where
   abbrev now : List Phase
@@ -33,7 +28,7 @@ module _ (cs : List Contents) (ks : List Phase) (graph : IsGraph cs) (len : leng
   earlier : (j : ℕ) (h : Held) → slice_get cs j ≡ Some h.changeset → slice_get ks j ≡ Some h.phase → Contains (state_of (before_last cs) ks).held h
   earlier j h at_c at_k =
       let l : j < length cs - 1 = omega (arith, slice_get_within ks j h.phase at_k, len) in
-      Contains-from_place (state_of (before_last cs) ks).held j h (held-at (before_last cs) ks j h.changeset h.phase (get-taken cs (length cs - 1) j h.changeset l at_c) at_k)
+      Contains-from_place (state_of (before_last cs) ks).held j h (held-at (before_last cs) ks j h.changeset h.phase (slice_get-take cs (length cs - 1) j h.changeset l at_c) at_k)
 
   parent_first : (i : ℕ) (c : Contents) (n : Node) → slice_get cs i ≡ Some c → IsParent c n → (j : ℕ) × (j < i) × IsAt cs n j
   parent_first i c n at is =
@@ -46,12 +41,12 @@ module _ (cs : List Contents) (ks : List Phase) (graph : IsGraph cs) (len : leng
   rule child parent at_child at_parent is =
       let p = place_from_Contains (state_of cs now).held child at_child in
       let c = parts-at cs now p.0 child p.1 in
-      elim (get-push_cases ks Secret p.0 child.phase c.1) [
+      elim (slice_get-push_cases ks Secret p.0 child.phase c.1) [
         | inr top ↦ subst (λ k. rank parent.phase ≤ rank k) top.1 (rank-top parent.phase)
         | inl old ↦
             let q = place_from_Contains (state_of cs now).held parent at_parent in
             let d = parts-at cs now q.0 parent q.1 in
-            elim (get-push_cases ks Secret q.0 parent.phase d.1) [
+            elim (slice_get-push_cases ks Secret q.0 parent.phase d.1) [
               | inl was ↦ valid.phases child parent (earlier p.0 child c.0 old) (earlier q.0 parent d.0 was) is
               | inr last ↦
                   let before = parent_first p.0 child.changeset (node_of parent.changeset) c.0 is in

@@ -7,13 +7,14 @@ use Rattle.hg_changeset.specs.Node.{node_eq}
 use Rattle.hg_changeset.specs.Contents.{Contents}
 use Rattle.hg_changeset.specs.Changeset.{node_of}
 use Rattle.hg_changeset.proofs.NodeLemmas.{same_node, node_eq_laws}
+use Rattle.hg_changeset.proofs.ListLemmas.{Contains-one}
 use Rattle.hg_graph.specs.Graph.{IsGraph}
 use Rattle.hg_phases.specs.declared.phase.Phase.{Phase}
 use Rattle.hg_phases.specs.State.{State, Held, changesets}
 use Rattle.hg_phases.specs.Order.{Below, IsSameState}
 use Rattle.hg_phases.specs.Content.{content_of}
 use Rattle.hg_phases.specs.Least.{PartValue, IsCandidate, IsLeast}
-use Rattle.hg_phases.proofs.LeastLemmas.{same_held, only_one}
+use Rattle.hg_phases.proofs.LeastLemmas.{same_held}
 use Rattle.hg_phases.proofs.FormLemmas.{same_phase, changeset_above, least-along}
 
 abbrev is_node : Node → Held → Bool
@@ -39,7 +40,7 @@ found_some n (x ∷ hs) h at e = by (is_node n x) refl (found_some n hs h)
     by true b_is later = (x, λ t. cond (b_is t) (Some x) (find (is_node n) hs))
     by false b_is later = elim (Contains-append_cases (x ∷ []) hs h at) [
       | inl here ↦
-          let x_is = only_one x h here in
+          let x_is = Contains-one x h here in
           let n_is : n ≡ node_of x.changeset = sym e ∙ ap (λ y. node_of y.changeset) (sym x_is) in
           absurd (true≢false (sym (subst (λ m. node_eq n m ≡ true) n_is (node_eq_laws.refl n)) ∙ b_is))
       | inr rest ↦ let g = later rest e in (g.0, (λ t. cond (b_is t) (Some x) (find (is_node n) hs)) ∙ g.1)

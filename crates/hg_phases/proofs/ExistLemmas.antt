@@ -12,6 +12,7 @@ use Rattle.hg_changeset.specs.Node.{node_eq, null_node}
 use Rattle.hg_changeset.specs.Contents.{Contents}
 use Rattle.hg_changeset.specs.Changeset.{node_of, IsChangeset}
 use Rattle.hg_changeset.proofs.NodeLemmas.{same_node, node_eq_laws}
+use Rattle.hg_changeset.proofs.ListLemmas.{slice_get_some, slice_get-push_cases, Contains-one}
 use Rattle.hg_graph.specs.Graph.{IsGraph, IsParent, HoldsParents, nodes, Holds as GraphHolds}
 use Rattle.hg_graph.specs.Places.{IsAt, IsParentPlace, IsAncestorPlace}
 use Rattle.hg_graph.proofs.GraphLemmas.{Holds-from, Holds-changeset, IsGraph-push}
@@ -21,8 +22,7 @@ use Rattle.hg_phases.specs.declared.phase.Phase.TheVariants.{Secret}
 use Rattle.hg_phases.specs.State.{State, Held, rank, changesets, Holds, IsValid, held_of, state_of}
 use Rattle.hg_phases.specs.Least.{PartValue, Covers, IsAdmitted, AreAdmitted, IsBoundOfOne, IsLowest, IsLeast, IsSmallest, bound_alone}
 use Rattle.hg_phases.specs.Log.{IsLowered}
-use Rattle.hg_phases.proofs.PlaceLemmas.{get-within, get-push_cases}
-use Rattle.hg_phases.proofs.LeastLemmas.{rank-top, changeset_from, same_held, Holds-taken, least-then, only_one}
+use Rattle.hg_phases.proofs.LeastLemmas.{rank-top, changeset_from, same_held, Holds-taken, least-then}
 use Rattle.hg_phases.proofs.LawLemmas.{least-same, least-lowered, least-more, least-valid}
 use Rattle.hg_phases.proofs.FormLemmas.{least-covered, least-smallest, smallest-least, least-none}
 
@@ -59,7 +59,7 @@ module _ (cs : List Contents) (graph : IsGraph cs) where
   decided_from j i within before = elim (cases_eq j i) [
     | inl e ↦ inl (subst (λ x. IsAncestorPlace cs x i) (sym e) (ancestor_itself cs graph i within))
     | inr ne ↦
-        let c = get-within cs i within in
+        let c = slice_get_some cs i within in
         let one = by_parent j i c.0 c.1 before c.0.first (inl refl) in
         let two = by_parent j i c.0 c.1 before c.0.second (inr refl) in
         elim one [
@@ -134,11 +134,11 @@ module _ (cs : List Contents) (graph : IsGraph cs) where
   front_phases place phase old len within zero le = ([], refl, λ j k at. absurd (none-some k at))
   front_phases place phase old len within (suc n) le =
       let front = front_phases place phase old len within n (omega arith) in
-      let k = get-within old n (omega (arith, len)) in
+      let k = slice_get_some old n (omega (arith, len)) in
       let x = one_phase place phase old n k.0 k.1 (decided_below (suc place) n place (omega arith) within) in (
         front.0 ++ x.0 ∷ [],
         omega (arith, length-append front.0 (x.0 ∷ []), front.1),
-        λ j y at. elim (get-push_cases front.0 x.0 j y at) [
+        λ j y at. elim (slice_get-push_cases front.0 x.0 j y at) [
           | inl before ↦ front.2 j y before
           | inr last ↦ subst (λ i. IsLowestAt place phase old i y) (sym (last.0 ∙ front.1)) (subst (IsLowestAt place phase old n) last.1 x.1)
         ],
@@ -194,7 +194,7 @@ abbrev pushed : State → Contents → State
 pushed s c = record { held = s.held ++ record { changeset = c; phase = Secret } ∷ [] }
 
 none_bound : (cs : List Contents) (b : Node × Phase) → IsBoundOfOne (changesets_alone cs ∷ []) b → ⊥
-none_bound cs b p = let e = only_one (changesets_alone cs) p.0 p.1 in let m = subst (λ x. Contains x.bounds b) (sym e) p.2 in omega (arith, m.1)
+none_bound cs b p = let e = Contains-one (changesets_alone cs) p.0 p.1 in let m = subst (λ x. Contains x.bounds b) (sym e) p.2 in omega (arith, m.1)
 
 -- a new changeset, whose parents are held, is added as secret
 least-new : (s : State) (c : Contents) → IsGraph (changesets s) → IsChangeset c → HoldsParents (changesets s) c → ¬ (Holds s (node_of c)) → IsLeast s (changesets_alone (c ∷ []) ∷ []) (pushed s c)
@@ -207,7 +207,7 @@ least-new s c graph is parents out = record {
     ],
     λ h. subst (λ ds. Contains ds d) (sym same) (elim h [
       | inl x ↦ Contains-append_left (changesets s) (c ∷ []) d x
-      | inr p ↦ let e = only_one k p.0 p.1 in Contains-append_right (changesets s) (c ∷ []) d (subst (λ x. Contains x.changesets d) (sym e) p.2)
+      | inr p ↦ let e = Contains-one k p.0 p.1 in Contains-append_right (changesets s) (c ∷ []) d (subst (λ x. Contains x.changesets d) (sym e) p.2)
     ]),
   );
   bounded = λ b p. absurd (none_bound (c ∷ []) b p);
@@ -252,10 +252,10 @@ least-one_more : (s : State) (p : List Contents) (c : Contents) (t u : State) �
 least-one_more s p c t u first next = least-same s (k ∷ l ∷ []) (m ∷ []) u
     (λ d. (
       λ h. elim (Contains-push_cases (k ∷ []) l h.0 h.1) [
-        | inl x ↦ let e = only_one k h.0 x in (m, (0, omega arith, refl), Contains-append_left p (c ∷ []) d (subst (λ y. Contains y.changesets d) (sym e) h.2))
+        | inl x ↦ let e = Contains-one k h.0 x in (m, (0, omega arith, refl), Contains-append_left p (c ∷ []) d (subst (λ y. Contains y.changesets d) (sym e) h.2))
         | inr e ↦ (m, (0, omega arith, refl), Contains-append_right p (c ∷ []) d (subst (λ y. Contains y.changesets d) (sym e) h.2))
       ],
-      λ h. let e = only_one m h.0 h.1 in elim (Contains-append_cases p (c ∷ []) d (subst (λ y. Contains y.changesets d) (sym e) h.2)) [
+      λ h. let e = Contains-one m h.0 h.1 in elim (Contains-append_cases p (c ∷ []) d (subst (λ y. Contains y.changesets d) (sym e) h.2)) [
         | inl x ↦ (k, (0, omega arith, refl), x)
         | inr x ↦ (l, (1, omega arith, refl), x)
       ],
@@ -294,12 +294,12 @@ module _ (s : State) (k : PartValue) (valid : IsValid s) (admitted : IsAdmitted 
         let d = Holds-changeset (changesets t) (node_of c) held in
         let from : Contains (changesets s) d.0 ⊎ Contains k.changesets d.0 = elim ((l.union d.0).0 d.1) [
           | inl x ↦ inl x
-          | inr p ↦ let x = only_one (changesets_alone done) p.0 p.1 in inr (in_part d.0 (Contains-append_left done (c ∷ rest) d.0 (subst (λ y. Contains y.changesets d.0) (sym x) p.2)))
+          | inr p ↦ let x = Contains-one (changesets_alone done) p.0 p.1 in inr (in_part d.0 (Contains-append_left done (c ∷ rest) d.0 (subst (λ y. Contains y.changesets d.0) (sym x) p.2)))
         ] in
         let same : c ≡ d.0 = admitted.apart c d.0 (in_part c here) from (sym d.2) in
         let there : Contains (changesets t) c = subst (Contains (changesets t)) (sym same) d.1 in
-        let stays = least-covered t (changesets_alone (c ∷ []) ∷ []) t_valid (λ x at. subst (Covers t) (only_one (changesets_alone (c ∷ [])) x at) (record {
-          holds = λ y at_y. subst (Contains (changesets t)) (only_one c y at_y) there;
+        let stays = least-covered t (changesets_alone (c ∷ []) ∷ []) t_valid (λ x at. subst (Covers t) (Contains-one (changesets_alone (c ∷ [])) x at) (record {
+          holds = λ y at_y. subst (Contains (changesets t)) (Contains-one c y at_y) there;
           bounded = λ b at_b. absurd (omega (arith, at_b.1));
         })) in
         (t, t_valid, least-one_more s done c t t l stays)
@@ -344,7 +344,7 @@ module _ (s : State) (k : PartValue) (valid : IsValid s) (admitted : IsAdmitted 
   -- a part that is admitted has a least state
   pub least-admitted : (t : State) × IsLeast s (k ∷ []) t
   least-admitted =
-      let nothing = least-covered s (changesets_alone [] ∷ []) valid (λ x at. subst (Covers s) (only_one (changesets_alone []) x at) (record {
+      let nothing = least-covered s (changesets_alone [] ∷ []) valid (λ x at. subst (Covers s) (Contains-one (changesets_alone []) x at) (record {
         holds = λ c at_c. absurd (omega (arith, at_c.1));
         bounded = λ b at_b. absurd (omega (arith, at_b.1));
       })) in

@@ -12,6 +12,7 @@ use Rattle.hg_changeset.specs.Node.{node_eq}
 use Rattle.hg_changeset.specs.Contents.{Contents}
 use Rattle.hg_changeset.specs.Changeset.{node_of}
 use Rattle.hg_changeset.proofs.NodeLemmas.{same_node}
+use Rattle.hg_changeset.proofs.ListLemmas.{slice_get_some, slice_get-take, Contains-one}
 use Rattle.hg_graph.specs.Graph.{IsGraph, nodes}
 use Rattle.hg_graph.proofs.GraphLemmas.{Contains-from_place, place_from_Contains}
 use Rattle.hg_graph.proofs.MarkLemmas.{same_place, IsAt-from, get-take}
@@ -20,9 +21,7 @@ use Rattle.hg_phases.specs.declared.lowered.LoweredPlace.{LoweredPlace}
 use Rattle.hg_phases.specs.State.{Held, rank, state_of}
 use Rattle.hg_phases.specs.Log.{IsLog, node_before}
 use Rattle.hg_phases.specs.Lowered.{WentDown, ListsLowered}
-use Rattle.hg_phases.proofs.AdmitLemmas.{get-taken}
-use Rattle.hg_phases.proofs.PlaceLemmas.{get-within, held-at, parts-at}
-use Rattle.hg_phases.proofs.LeastLemmas.{only_one}
+use Rattle.hg_phases.proofs.PlaceLemmas.{held-at, parts-at}
 
 pub each_place : {X : Type 0} (P : X → Type 0) (xs : List X) → ((x : X) → Contains xs x → P x) → AllByRecursion P xs
 each_place P [] h = tt
@@ -55,7 +54,7 @@ module _ (ns : List Node) (before : ℕ) where
     | inl x ↦ elim (shape e) [
       | inl none ↦ absurd (let y = subst (λ ms. Contains ms n) none x in omega (arith, y.1))
       | inr one ↦
-          let n_is = only_one one.0 n (subst (λ ms. Contains ms n) (one_node e one.0 one.1 one.2) x) in
+          let n_is = Contains-one one.0 n (subst (λ ms. Contains ms n) (one_node e one.0 one.1 one.2) x) in
           (e, (0, omega arith, refl), one.1, one.2 ∙ ap (λ m. Some m) n_is)
     ]
   ]
@@ -64,7 +63,7 @@ module _ (ns : List Node) (before : ℕ) where
   listed_of [] e n h l at = absurd (omega (arith, h.1))
   listed_of (f ∷ log) e n h l at = elim (Contains-append_cases (f ∷ []) log e h) [
     | inl x ↦
-        let e_is = only_one f e x in
+        let e_is = Contains-one f e x in
         Contains-append_left (node_before ns before f) (listed log) n (subst (λ g. Contains (node_before ns before g) n) (sym e_is) (subst (λ ms. Contains ms n) (sym (one_node e n l at)) (0, omega arith, refl)))
     | inr x ↦ Contains-append_right (node_before ns before f) (listed log) n (listed_of log e n x l at)
   ]
@@ -104,12 +103,12 @@ module _ (cs : List Contents) (before : ℕ) (phase : Phase) (start now : List P
   went_down n e in_log within at =
       let x = l.logged e in_log in
       let p = e.place in
-      let c = get-within cs p (subst (λ m. p < m) (length-map cs node_of) (slice_get_within (nodes cs) p n at)) in
+      let c = slice_get_some cs p (subst (λ m. p < m) (length-map cs node_of) (slice_get_within (nodes cs) p n at)) in
       let h : Held = record { changeset = c.0; phase = e.had } in
       let g : Held = record { changeset = c.0; phase = x.0 } in (
         h,
         g,
-        Contains-from_place (state_of held had).held p h (held-at held had p c.0 e.had (get-taken cs before p c.0 within c.1) (get-taken start before p e.had within x.1)),
+        Contains-from_place (state_of held had).held p h (held-at held had p c.0 e.had (slice_get-take cs before p c.0 within c.1) (slice_get-take start before p e.had within x.1)),
         Contains-from_place (state_of cs now).held p g (held-at cs now p c.0 x.0 c.1 x.2),
         refl,
         same_Some (node_of c.0) n (sym (IsAt-from cs p c.0 (node_of c.0) c.1 refl) ∙ at),

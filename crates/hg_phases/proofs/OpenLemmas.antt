@@ -7,6 +7,7 @@ use Rattle.std.proofs.lemmas.Option.{none-some, same_Some, slice_get_within}
 use Rattle.hg_changeset.specs.declared.node.Node.{Node}
 use Rattle.hg_changeset.specs.Contents.{Contents}
 use Rattle.hg_changeset.specs.Changeset.{node_of}
+use Rattle.hg_changeset.proofs.ListLemmas.{slice_get-push_cases}
 use Rattle.hg_graph.specs.Graph.{Holds, IsGraph, IsParent, Reaches, nodes}
 use Rattle.hg_graph.specs.Graph.Reaches.{itself, below}
 use Rattle.hg_graph.specs.Places.{IsAt, IsOnlyAt, IsParentPlace}
@@ -18,7 +19,7 @@ use Rattle.hg_phases.specs.declared.phase.Phase.TheVariants.{Public}
 use Rattle.hg_phases.specs.State.{rank, held_of, state_of}
 use Rattle.hg_phases.specs.Marks.{IsMark, AreMarked, IsRaised, IsHigher}
 use Rattle.hg_phases.specs.Roots.{IsRootPhase, IsHighest, IsOpened}
-use Rattle.hg_phases.proofs.PlaceLemmas.{get-push_cases, changesets-held_of, parts-at}
+use Rattle.hg_phases.proofs.PlaceLemmas.{changesets-held_of, parts-at}
 
 -- ---- marks
 
@@ -178,7 +179,7 @@ pub opened-more : (cs : List Contents) (roots : List (Phase × Node)) (ks : List
     → ((n : Node) → IsAt cs n i → IsHighest (IsRootPhase cs roots n) k) → (length new ≡ i + 1) × AreOpenedTo cs roots new
 opened-more cs roots ks i len so_far k new is here = (
   ap length is ∙ omega (arith, length-append ks (k ∷ []), len),
-  λ j x at n at_n. elim (get-push_cases ks k j x (ap (λ xs. slice_get xs j) (sym is) ∙ at)) [
+  λ j x at n at_n. elim (slice_get-push_cases ks k j x (ap (λ xs. slice_get xs j) (sym is) ∙ at)) [
     | inl old ↦ so_far j x old n at_n
     | inr last ↦ subst (IsHighest (IsRootPhase cs roots n)) last.1 (here n (subst (IsAt cs n) (last.0 ∙ len) at_n))
   ],

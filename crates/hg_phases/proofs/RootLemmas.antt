@@ -7,6 +7,7 @@ use Rattle.std.proofs.lemmas.List.Elements.{Contains-append_left, Contains-appen
 use Rattle.hg_changeset.specs.declared.node.Node.{Node}
 use Rattle.hg_changeset.specs.Contents.{Contents}
 use Rattle.hg_changeset.specs.Changeset.{node_of}
+use Rattle.hg_changeset.proofs.ListLemmas.{Contains-first, Contains-cons_cases, Contains-later}
 use Rattle.hg_graph.specs.Graph.{IsGraph, IsParent, Reaches}
 use Rattle.hg_graph.specs.Graph.Reaches.{itself, below}
 use Rattle.hg_graph.proofs.GraphLemmas.{Contains-from_place, place_from_Contains, Holds-from, Holds-changeset, get-take}
@@ -17,35 +18,23 @@ use Rattle.hg_phases.proofs.RankLemmas.{rank-apart}
 use Rattle.hg_phases.proofs.LeastLemmas.{changeset_from, same_held}
 use Rattle.hg_phases.proofs.FormLemmas.{valid-reach}
 
-pub first_is : {X : Type 0} (x : X) (xs : List X) → Contains (x ∷ xs) x
-first_is x xs = Contains-append_left (x ∷ []) xs x (Contains-push [] x)
-
-pub cons_cases : {X : Type 0} (y : X) (xs : List X) (x : X) → Contains (y ∷ xs) x → (y ≡ x) ⊎ Contains xs x
-cons_cases y xs x h = elim (Contains-append_cases (y ∷ []) xs x h) [
-  | inl one ↦ elim (Contains-push_cases [] y x one) [ inl none ↦ absurd (omega (arith, none.1)) | inr e ↦ inl e ]
-  | inr more ↦ inr more
-]
-
-pub cons_more : {X : Type 0} (y : X) (xs : List X) (x : X) → Contains xs x → Contains (y ∷ xs) x
-cons_more y xs x h = Contains-append_right (y ∷ []) xs x h
-
 -- ---- the roots of a state
 
 root_from : (s : State) (hs : List Held) (roots : List (Phase × Node)) → AreRootsAmong s hs roots → (r : Phase × Node) → Contains roots r → (h : Held) × Contains hs h × IsRoot s h × (root_of h ≡ r)
 root_from s [] roots none r at = let l : at.0 < length roots = at.1 in absurd (omega (arith, l, ap length none))
-root_from s (h ∷ hs) roots (inl is) r at = elim (cons_cases (root_of h) is.1 r (subst (λ rs. Contains rs r) is.2 at)) [
-  | inl e ↦ (h, first_is h hs, is.0, e)
-  | inr more ↦ let rest = root_from s hs is.1 is.3 r more in (rest.0, cons_more h hs rest.0 rest.1, rest.2, rest.3)
+root_from s (h ∷ hs) roots (inl is) r at = elim (Contains-cons_cases (root_of h) is.1 r (subst (λ rs. Contains rs r) is.2 at)) [
+  | inl e ↦ (h, Contains-first h hs, is.0, e)
+  | inr more ↦ let rest = root_from s hs is.1 is.3 r more in (rest.0, Contains-later h hs rest.0 rest.1, rest.2, rest.3)
 ]
-root_from s (h ∷ hs) roots (inr isnt) r at = let rest = root_from s hs roots isnt.1 r at in (rest.0, cons_more h hs rest.0 rest.1, rest.2, rest.3)
+root_from s (h ∷ hs) roots (inr isnt) r at = let rest = root_from s hs roots isnt.1 r at in (rest.0, Contains-later h hs rest.0 rest.1, rest.2, rest.3)
 
 root_listed : (s : State) (hs : List Held) (roots : List (Phase × Node)) → AreRootsAmong s hs roots → (h : Held) → Contains hs h → IsRoot s h → Contains roots (root_of h)
 root_listed s [] roots none h at is = absurd (omega (arith, at.1))
-root_listed s (g ∷ hs) roots (inl its) h at is = subst (λ rs. Contains rs (root_of h)) (sym its.2) (elim (cons_cases g hs h at) [
-  | inl e ↦ subst (λ x. Contains (root_of g ∷ its.1) (root_of x)) e (first_is (root_of g) its.1)
-  | inr more ↦ cons_more (root_of g) its.1 (root_of h) (root_listed s hs its.1 its.3 h more is)
+root_listed s (g ∷ hs) roots (inl its) h at is = subst (λ rs. Contains rs (root_of h)) (sym its.2) (elim (Contains-cons_cases g hs h at) [
+  | inl e ↦ subst (λ x. Contains (root_of g ∷ its.1) (root_of x)) e (Contains-first (root_of g) its.1)
+  | inr more ↦ Contains-later (root_of g) its.1 (root_of h) (root_listed s hs its.1 its.3 h more is)
 ])
-root_listed s (g ∷ hs) roots (inr isnt) h at is = elim (cons_cases g hs h at) [
+root_listed s (g ∷ hs) roots (inr isnt) h at is = elim (Contains-cons_cases g hs h at) [
   | inl e ↦ absurd (isnt.0 (subst (IsRoot s) (sym e) is))
   | inr more ↦ root_listed s hs roots isnt.1 h more is
 ]

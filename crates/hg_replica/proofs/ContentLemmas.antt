@@ -123,10 +123,6 @@ unfolding AbsorbAnswer
 unchanged s t k (Ok change) h = tt
 unchanged s t k (Err fault) h = h.1
 
-pub whatever_answer : {X E : Type 0} (r : Result X E) (P : Type 0) → P → OnOk r P
-whatever_answer (Ok x) P h = h
-whatever_answer (Err e) P h = tt
-
 pub joined-content : (s o t : ReplicaState) (r : Result Unit Fault) → IsValid s → IsValid o → JoinAnswer s o r t → OnOk r (ContentsJoined (content_of s) (content_of o) (content_of t))
 unfolding JoinAnswer
 joined-content s o t (Ok u) v w h = join-contents s o t v w h.0 h.1

@@ -4,10 +4,11 @@ use Rattle.std.specs.Option.{option_map}
 use Rattle.std.proofs.lemmas.List.{length-map, map-append}
 use Rattle.std.proofs.lemmas.List.Elements.{Contains-append_left, Contains-append_right, Contains-append_cases}
 use Rattle.std.proofs.lemmas.Option.{slice_get-map, slice_get-get_or, get_or_from_slice_get}
+use Rattle.hg_changeset.proofs.ListLemmas.{Contains-one}
 use Rattle.hg_marker.specs.Fields.{Fields}
 use Rattle.hg_graph.proofs.GraphLemmas.{Contains-from_place, place_from_Contains}
 use Rattle.hg_phases.specs.Least.{PartValue as HistoryPart, IsLeast as IsLeastHistory}
-use Rattle.hg_phases.proofs.LeastLemmas.{only_one, least-above as history-above, least-below as history-below, least-then as history-then}
+use Rattle.hg_phases.proofs.LeastLemmas.{least-above as history-above, least-below as history-below, least-then as history-then}
 use Rattle.hg_phases.proofs.LawLemmas.{least-valid as history-valid, least-swap as history-swap, least-again as history-again, least-covers as history-covers}
 use Rattle.hg_phases.proofs.FormLemmas.{Below-itself, Below-then, least-along as history-along, least-covered as history-covered, admitted-covered as history-admitted, covered_above as history-stays}
 use Rattle.hg_phases.proofs.JoinLemmas.{join-least as history-join, below-covers as history-below_covers}
@@ -40,7 +41,7 @@ histories-append ks ls = map-append (λ k. k.history) ks ls
 
 -- a marker of one part alone
 pub marker_of_one : (k : PartValue) (m : Fields) → IsMarkerOfOne (k ∷ []) m ↔ Contains k.markers m
-marker_of_one k m = (λ p. subst (λ x. Contains x.markers m) (sym (only_one k p.0 p.1)) p.2, λ at. (k, (0, omega arith, refl), at))
+marker_of_one k m = (λ p. subst (λ x. Contains x.markers m) (sym (Contains-one k p.0 p.1)) p.2, λ at. (k, (0, omega arith, refl), at))
 
 -- ---- the order
 
@@ -199,11 +200,11 @@ join-least s t u l =
     let h = history-join s.history t.history u.history l.history in (
       least-above s (part_of t ∷ []) u l,
       record { history = h.1; markers = λ m at. (l.markers m).1 (inr ((marker_of_one (part_of t) m).1 at)) },
-      λ v valid above_s above_t. least-below s (part_of t ∷ []) u l v valid above_s (λ k at. subst (Covers v) (only_one (part_of t) k at) (below-covers t v valid above_t)),
+      λ v valid above_s above_t. least-below s (part_of t ∷ []) u l v valid above_s (λ k at. subst (Covers v) (Contains-one (part_of t) k at) (below-covers t v valid above_t)),
     )
 
 pub least-itself : (s : ReplicaState) → IsValid s → IsLeast s (part_of s ∷ []) s
-least-itself s valid = least-covered s (part_of s ∷ []) valid (λ k at. subst (Covers s) (only_one (part_of s) k at) (below-covers s s valid (below-itself s)))
+least-itself s valid = least-covered s (part_of s ∷ []) valid (λ k at. subst (Covers s) (Contains-one (part_of s) k at) (below-covers s s valid (below-itself s)))
 
 -- for states that say the same, in whatever order each is kept
 pub least-unordered : (s t u v : ReplicaState) (ks : List PartValue) → IsValid s → IsValid t → IsValid v → IsSameState s t → IsSameState u v → IsLeast s ks u → IsLeast t ks v

@@ -1,6 +1,8 @@
 -- Lists of markers as sets.
 use Rattle.std.proofs.Common.{◌≡◌, Bool, true, false, ◌||◌, List, Contains, ◌↔◌, ◌⊎◌, inl, inr, refl, sym, ap, ◌∙◌}
 use Rattle.std.proofs.lemmas.Map.Views.{list_any-from_Contains, Contains-from_any}
+use Rattle.std.proofs.lemmas.Bool.{or_left, or_right, or_cases}
+use Rattle.std.specs.Cmp.{both_ways}
 use Rattle.hg_marker.specs.Fields.{Fields}
 use Rattle.hg_marker.specs.Same.{fields_decides, fields_equivalence}
 use Rattle.hg_obsstore.specs.Sets.{IsWithin, IsUnion}
@@ -19,38 +21,21 @@ within-sets ms ns = (
   λ within m at. in_from_holds ns m (within m (holds-from ms m at)),
 )
 
-same_answer : (a b : Bool) → (a ≡ true → b ≡ true) → (b ≡ true → a ≡ true) → a ≡ b
-same_answer true b f g = sym (f refl)
-same_answer false true f g = absurd (let e : false ≡ true = g refl in cc)
-same_answer false false f g = refl
-
-either : (a b : Bool) → (a || b) ≡ true → (a ≡ true) ⊎ (b ≡ true)
-either true b h = inl refl
-either false b h = inr h
-
-first : (a b : Bool) → a ≡ true → (a || b) ≡ true
-first true b h = refl
-first false b h = absurd cc
-
-second : (a b : Bool) → b ≡ true → (a || b) ≡ true
-second true b h = refl
-second false b h = h
-
 -- the list has the markers of both, and no others
 pub union-sets : (ms ns us : List Fields) → ((m : Fields) → Contains us m ↔ (Contains ms m ⊎ Contains ns m)) ↔ IsUnion (holds ms) (holds ns) (holds us)
 union-sets ms ns us = (
-  λ h i m. same_answer (holds us m) (holds ms m || holds ns m)
-      (λ e. elim ((h m).0 (in_from_holds us m e)) [ inl x ↦ first _ _ (holds-from ms m x) | inr x ↦ second (holds ms m) _ (holds-from ns m x) ])
-      (λ e. elim (either _ _ e) [
+  λ h i m. both_ways (holds us m) (holds ms m || holds ns m)
+      (λ e. elim ((h m).0 (in_from_holds us m e)) [ inl x ↦ or_left _ _ (holds-from ms m x) | inr x ↦ or_right (holds ms m) _ (holds-from ns m x) ])
+      (λ e. elim (or_cases _ _ e) [
         | inl x ↦ holds-from us m ((h m).1 (inl (in_from_holds ms m x)))
         | inr x ↦ holds-from us m ((h m).1 (inr (in_from_holds ns m x)))
       ]) i,
   λ u m. let e : holds us m ≡ (holds ms m || holds ns m) = ap (λ (f : Fields → Bool). f m) u in (
-    λ at. elim (either (holds ms m) (holds ns m) (sym e ∙ holds-from us m at)) [ inl x ↦ inl (in_from_holds ms m x) | inr x ↦ inr (in_from_holds ns m x) ],
-    λ h. in_from_holds us m (e ∙ elim h [ inl x ↦ first (holds ms m) (holds ns m) (holds-from ms m x) | inr x ↦ second (holds ms m) (holds ns m) (holds-from ns m x) ]),
+    λ at. elim (or_cases (holds ms m) (holds ns m) (sym e ∙ holds-from us m at)) [ inl x ↦ inl (in_from_holds ms m x) | inr x ↦ inr (in_from_holds ns m x) ],
+    λ h. in_from_holds us m (e ∙ elim h [ inl x ↦ or_left (holds ms m) (holds ns m) (holds-from ms m x) | inr x ↦ or_right (holds ms m) (holds ns m) (holds-from ns m x) ]),
   ),
 )
 
 -- the same markers are one set
 pub same-sets : (ms ns : List Fields) → AreWithin ms ns → AreWithin ns ms → holds ms ≡ holds ns
-same-sets ms ns up down i m = same_answer (holds ms m) (holds ns m) ((within-sets ms ns).0 up m) ((within-sets ns ms).0 down m) i
+same-sets ms ns up down i m = both_ways (holds ms m) (holds ns m) ((within-sets ms ns).0 up m) ((within-sets ns ms).0 down m) i

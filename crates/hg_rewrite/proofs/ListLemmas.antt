@@ -8,58 +8,28 @@ use Rattle.std.proofs.lemmas.List.Elements.{Contains-append_right, Contains-appe
 use Rattle.hg_changeset.specs.declared.node.Node.{Node}
 use Rattle.hg_changeset.specs.Node.{node_eq}
 use Rattle.hg_changeset.proofs.NodeLemmas.{same_node, node_itself}
-
-pub here : {X : Type 0} (x : X) (xs : List X) → Contains (x ∷ xs) x
-here x xs = (0, omega arith, refl)
-
-pub there : {X : Type 0} (x : X) (xs : List X) (y : X) → Contains xs y → Contains (x ∷ xs) y
-there x xs y h = Contains-append_right (x ∷ []) xs y h
-
-pub only : {X : Type 0} (x y : X) → Contains (x ∷ []) y → x ≡ y
-only x y (zero, lt, e) = e
-only x y (suc k, lt, e) = let far : suc k < 1 = lt in absurd (omega arith)
-
-pub none_in : {X : Type 0} (y : X) → Contains [] y → ⊥
-none_in y h = let far : h.0 < 0 = h.1 in omega arith
-
-pub first_or_later : {X : Type 0} (x : X) (xs : List X) (y : X) → Contains (x ∷ xs) y → (x ≡ y) ⊎ Contains xs y
-first_or_later x xs y h = elim (Contains-append_cases (x ∷ []) xs y h) [ inl e ↦ inl (only x y e) | inr e ↦ inr e ]
-
--- an element of a mapped list comes from one of the list
-pub Contains-map : {X Y : Type 0} (f : X → Y) (xs : List X) (y : Y) → Contains (map f xs) y → (x : X) × Contains xs x × (f x ≡ y)
-Contains-map f [] y h = absurd (none_in y h)
-Contains-map f (x ∷ xs) y h = elim (first_or_later (f x) (map f xs) y h) [
-  | inl e ↦ (x, here x xs, e)
-  | inr e ↦ let r = Contains-map f xs y e in (r.0, there x xs r.0 r.1, r.2)
-]
-
-pub map-Contains : {X Y : Type 0} (f : X → Y) (xs : List X) (x : X) → Contains xs x → Contains (map f xs) (f x)
-map-Contains f [] x h = absurd (none_in x h)
-map-Contains f (z ∷ xs) x h = elim (first_or_later z xs x h) [
-  | inl e ↦ subst (λ y. Contains (f z ∷ map f xs) (f y)) e (here (f z) (map f xs))
-  | inr e ↦ there (f z) (map f xs) (f x) (map-Contains f xs x e)
-]
+use Rattle.hg_changeset.proofs.ListLemmas.{Contains-first, Contains-later, Contains-none, Contains-cons_cases}
 
 -- what a filter keeps
 kept_by : {X : Type 0} (test : X → Bool) (x : X) (xs : List X) (y : X) → (Contains xs y → Contains (filter test xs) y) → IsTrue (test y) → (b : Bool) → test x ≡ b → (x ≡ y) ⊎ Contains xs y → Contains (filter test (x ∷ xs)) y
-kept_by test x xs y rest t true e (inl is) = rw e (subst (Contains (x ∷ filter test xs)) is (here x (filter test xs)))
-kept_by test x xs y rest t true e (inr later) = rw e (there x (filter test xs) y (rest later))
+kept_by test x xs y rest t true e (inl is) = rw e (subst (Contains (x ∷ filter test xs)) is (Contains-first x (filter test xs)))
+kept_by test x xs y rest t true e (inr later) = rw e (Contains-later x (filter test xs) y (rest later))
 kept_by test x xs y rest t false e (inl is) = absurd (true≢false (sym t ∙ sym (ap test is) ∙ e))
 kept_by test x xs y rest t false e (inr later) = rw e (rest later)
 
 pub kept : {X : Type 0} (test : X → Bool) (xs : List X) (y : X) → Contains xs y → IsTrue (test y) → Contains (filter test xs) y
-kept test [] y h t = absurd (none_in y h)
-kept test (x ∷ xs) y h t = kept_by test x xs y (λ later. kept test xs y later t) t (test x) refl (first_or_later x xs y h)
+kept test [] y h t = absurd (Contains-none y h)
+kept test (x ∷ xs) y h t = kept_by test x xs y (λ later. kept test xs y later t) t (test x) refl (Contains-cons_cases x xs y h)
 
 passed_by : {X : Type 0} (test : X → Bool) (x : X) (xs : List X) (y : X) → (Contains (filter test xs) y → Contains xs y × IsTrue (test y)) → (b : Bool) → test x ≡ b → Contains (filter test (x ∷ xs)) y → Contains (x ∷ xs) y × IsTrue (test y)
-passed_by test x xs y rest true e g = elim (first_or_later x (filter test xs) y (rw e at g)) [
-  | inl is ↦ (subst (Contains (x ∷ xs)) is (here x xs), subst (λ z. IsTrue (test z)) is e)
-  | inr r ↦ let p = rest r in (there x xs y p.0, p.1)
+passed_by test x xs y rest true e g = elim (Contains-cons_cases x (filter test xs) y (rw e at g)) [
+  | inl is ↦ (subst (Contains (x ∷ xs)) is (Contains-first x xs), subst (λ z. IsTrue (test z)) is e)
+  | inr r ↦ let p = rest r in (Contains-later x xs y p.0, p.1)
 ]
-passed_by test x xs y rest false e g = let p = rest (rw e at g) in (there x xs y p.0, p.1)
+passed_by test x xs y rest false e g = let p = rest (rw e at g) in (Contains-later x xs y p.0, p.1)
 
 pub passed : {X : Type 0} (test : X → Bool) (xs : List X) (y : X) → Contains (filter test xs) y → Contains xs y × IsTrue (test y)
-passed test [] y h = absurd (none_in y h)
+passed test [] y h = absurd (Contains-none y h)
 passed test (x ∷ xs) y h = passed_by test x xs y (passed test xs y) (test x) refl h
 
 -- tests of a Bool
@@ -80,8 +50,8 @@ rest-slice xs i = take_all (length xs - i) (drop i xs) (omega (arith, length-dro
 
 -- the nodes that `contains` finds
 any_first : (n y : Node) (ns : List Node) → (list_any (λ m. node_eq m n) ns ≡ true → Contains ns n) → (b : Bool) → node_eq y n ≡ b → list_any (λ m. node_eq m n) (y ∷ ns) ≡ true → Contains (y ∷ ns) n
-any_first n y ns rest true e h = subst (Contains (y ∷ ns)) (same_node y n e) (here y ns)
-any_first n y ns rest false e h = there y ns n (rest (subst (λ b. (b || list_any (λ m. node_eq m n) ns) ≡ true) e h))
+any_first n y ns rest true e h = subst (Contains (y ∷ ns)) (same_node y n e) (Contains-first y ns)
+any_first n y ns rest false e h = Contains-later y ns n (rest (subst (λ b. (b || list_any (λ m. node_eq m n) ns) ≡ true) e h))
 
 pub Contains-any : (ns : List Node) (n : Node) → list_any (λ m. node_eq m n) ns ≡ true → Contains ns n
 Contains-any [] n h = absurd (true≢false (sym h))
@@ -92,8 +62,8 @@ or_true true = refl
 or_true false = refl
 
 pub any-Contains : (ns : List Node) (n : Node) → Contains ns n → list_any (λ m. node_eq m n) ns ≡ true
-any-Contains [] n h = absurd (none_in n h)
-any-Contains (y ∷ ns) n h = elim (first_or_later y ns n h) [
+any-Contains [] n h = absurd (Contains-none n h)
+any-Contains (y ∷ ns) n h = elim (Contains-cons_cases y ns n h) [
   | inl e ↦ ap (λ b. b || list_any (λ m. node_eq m n) ns) (node_itself y n e)
   | inr later ↦ ap (λ b. node_eq y n || b) (any-Contains ns n later) ∙ or_true (node_eq y n)
 ]

@@ -8,6 +8,7 @@ use Rattle.hg_changeset.specs.Node.{node_eq, node_cmp, null_node}
 use Rattle.hg_changeset.specs.Contents.{Contents, contents}
 use Rattle.hg_changeset.specs.Changeset.{node_of, changeset_of}
 use Rattle.hg_changeset.specs.EntryText.{entry_text}
+use Rattle.hg_changeset.proofs.ListLemmas.{Contains-first, Contains-later, Contains-one, Contains-none, Contains-cons_cases, Contains-map}
 use Rattle.hg_graph.specs.Graph.{nodes, IsParent}
 use Rattle.hg_graph.proofs.GraphLemmas.{Contains-from_place, place_from_Contains, Holds-changeset, Holds-from}
 use Rattle.hg_phases.specs.declared.phase.Phase.{Phase}
@@ -22,7 +23,6 @@ use Rattle.hg_rewrite.specs.declared.refusal.Refusal.TheVariants.{Unknown, Exist
 use Rattle.hg_rewrite.specs.Reading.{parents_in}
 use Rattle.hg_rewrite.specs.Parts.{contents_of, chain, entries, parents_of_first, base, made, new_ids, on_last, last, bounds, markers, part_of}
 use Rattle.hg_rewrite.specs.Refusals.{Applies, NoneApplies, unknown, unknown_parent, unknown_nodes, existing, existing_ids}
-use Rattle.hg_rewrite.proofs.ListLemmas.{here, there, only, none_in, first_or_later, map-Contains}
 use Rattle.hg_rewrite.proofs.ReadingLemmas.{held_or_not, parents_in-held}
 
 -- a parent of the changeset that is made is one of the two that are named
@@ -50,36 +50,36 @@ chain_parents K on (text ∷ texts) known (suc i) c at m h =
     let ids : List Node = nodes (take i (map contents_of (chain (id, null_node) texts))) in
     let known_then : AreKnown (λ n. K n ⊎ (n ≡ id)) (id, null_node) = λ n some which. elim which [ inl e ↦ inr e | inr e ↦ absurd (some e) ] in
     elim (chain_parents (λ n. K n ⊎ (n ≡ id)) (id, null_node) texts known_then i c at m h) [
-      | inl k ↦ elim k [ inl held ↦ inl held | inr e ↦ inr (subst (Contains (id ∷ ids)) (sym e) (here id ids)) ]
-      | inr earlier ↦ inr (there id ids m earlier)
+      | inl k ↦ elim k [ inl held ↦ inl held | inr e ↦ inr (subst (Contains (id ∷ ids)) (sym e) (Contains-first id ids)) ]
+      | inr earlier ↦ inr (Contains-later id ids m earlier)
     ]
 
 -- what is new isn't held
 fresh : (s : State) (cs : List Contents) (c : Contents) → NoneApplies (existing s (nodes cs)) → Contains cs c → ¬ (Holds s (node_of c))
-fresh s [] c none at held = none_in c at
-fresh s (d ∷ cs) c none at held = elim (first_or_later d cs c at) [
+fresh s [] c none at held = Contains-none c at
+fresh s (d ∷ cs) c none at held = elim (Contains-cons_cases d cs c at) [
   | inl e ↦ none.0 (Exists (node_of d), (inl (subst (λ x. Holds s (node_of x)) (sym e) held), refl))
   | inr later ↦ fresh s cs c none.1 later held
 ]
 
 -- no two new ones have one id
 apart : (s : State) (cs : List Contents) (c d : Contents) → NoneApplies (existing s (nodes cs)) → Contains cs c → Contains cs d → node_of c ≡ node_of d → c ≡ d
-apart s [] c d none at other same = absurd (none_in c at)
+apart s [] c d none at other same = absurd (Contains-none c at)
 apart s (x ∷ cs) c d none at other same =
-    elim (first_or_later x cs c at) [
-      | inl e ↦ elim (first_or_later x cs d other) [
+    elim (Contains-cons_cases x cs c at) [
+      | inl e ↦ elim (Contains-cons_cases x cs d other) [
         | inl f ↦ sym e ∙ f
-        | inr later ↦ absurd (none.0 (Exists (node_of x), (inr (subst (Contains (nodes cs)) (sym (ap node_of e ∙ same)) (map-Contains node_of cs d later)), refl)))
+        | inr later ↦ absurd (none.0 (Exists (node_of x), (inr (subst (Contains (nodes cs)) (sym (ap node_of e ∙ same)) (Contains-map node_of cs d later)), refl)))
       ]
-      | inr early ↦ elim (first_or_later x cs d other) [
-        | inl f ↦ absurd (none.0 (Exists (node_of x), (inr (subst (Contains (nodes cs)) (same ∙ sym (ap node_of f)) (map-Contains node_of cs c early)), refl)))
+      | inr early ↦ elim (Contains-cons_cases x cs d other) [
+        | inl f ↦ absurd (none.0 (Exists (node_of x), (inr (subst (Contains (nodes cs)) (same ∙ sym (ap node_of f)) (Contains-map node_of cs c early)), refl)))
         | inr later ↦ apart s cs c d none.1 early later same
       ]
     ]
 
 bound_on_last : (ns : List Node) (k : Phase) (o : Option Node) → slice_get ns (length ns - 1) ≡ o → (b : Node × Phase) → Contains (option_to_list (option_map (λ n. (n, k)) o)) b → Contains ns b.0
-bound_on_last ns k None e b h = absurd (none_in b h)
-bound_on_last ns k (Some n) e b h = subst (Contains ns) (ap (λ (x : Node × Phase). x.0) (only (n, k) b h)) (Contains-from_place ns (length ns - 1) n e)
+bound_on_last ns k None e b h = absurd (Contains-none b h)
+bound_on_last ns k (Some n) e b h = subst (Contains ns) (ap (λ (x : Node × Phase). x.0) (Contains-one (n, k) b h)) (Contains-from_place ns (length ns - 1) n e)
 
 on_last_in : (ns : List Node) (k : Phase) (b : Node × Phase) → Contains (on_last ns k) b → Contains ns b.0
 on_last_in ns k b h = bound_on_last ns k (slice_get ns (length ns - 1)) refl b h
@@ -128,9 +128,9 @@ module _ (s : ReplicaState) (valid : IsValid s.history) where
   bounds_known (Amend node entry) none b h = inr (on_last_in _ _ b h)
   bounds_known (Split node es) none b h = inr (on_last_in _ _ b h)
   bounds_known (Fold nodes entry) none b h = inr (on_last_in _ _ b h)
-  bounds_known (Prune node user secs offset) none b h = absurd (none_in b h)
+  bounds_known (Prune node user secs offset) none b h = absurd (Contains-none b h)
   bounds_known (Relocate node p q entry) none b h = inr (on_last_in _ _ b h)
-  bounds_known (Advance node phase) none b h = inl (subst (Holds s.history) (ap (λ (x : Node × Phase). x.0) (only (node, phase) b h)) (known_target s.history valid node none.0))
+  bounds_known (Advance node phase) none b h = inl (subst (Holds s.history) (ap (λ (x : Node × Phase). x.0) (Contains-one (node, phase) b h)) (known_target s.history valid node none.0))
 
   pub admitted : (op : Op) → NoneApplies (unknown_nodes s op) → NoneApplies (existing_ids s op) → IsAdmitted s (part_of s op)
   unfolding part_of

@@ -4,14 +4,14 @@ use Rattle.std.proofs.lemmas.List.Elements.{Contains-push_cases}
 use Rattle.std.proofs.lemmas.Iterator.Adapters.{YieldsList-from_vec}
 use Rattle.std.proofs.lemmas.Iterator.Consumers.{YieldsList-turn, YieldsList-end}
 use Rattle.hg_changeset.specs.Changeset.{IsChangeset}
-use Rattle.hg_rewrite.proofs.ListLemmas.{none_in}
+use Rattle.hg_changeset.proofs.ListLemmas.{Contains-none}
 use Rattle.hg_rewrite.proofs.ChainLemmas.{IsMadeSoFar, nothing_made, made_next, refused_next, all_made_at_end}
 use Rattle.hg_rewrite.proofs.changesets.chain.Goals as goal
 
 pub loop-text-init : goal.loop-text-init
 loop-text-init c = (
   subst (IsMadeSoFar c.args.parents c.args.texts.items c.args.texts.items c.args.parents) (sym c.new-changesets.ensures.items) (nothing_made c.args.parents c.args.texts.items),
-  (λ d h. absurd (none_in d (subst (λ ds. Contains ds d) c.new-changesets.ensures.items h))),
+  (λ d h. absurd (Contains-none d (subst (λ ds. Contains ds d) c.new-changesets.ensures.items h))),
 )
 
 pub returns-in-Err-clause-answer : goal.returns-in-Err-clause-answer

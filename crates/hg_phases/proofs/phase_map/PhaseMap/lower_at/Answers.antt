@@ -1,11 +1,12 @@
 use Rattle.std.proofs.Common.{refl, get_or, ◌≡◌, ◌<◌, ℕ, List, length, slice_get, Some, sym, ap, subst, ◌∙◌, arith}
 use Rattle.std.proofs.lemmas.Option.{slice_get-get_or}
 use Rattle.hg_changeset.specs.Changeset.{node_of}
+use Rattle.hg_changeset.proofs.ListLemmas.{slice_get_some}
 use Rattle.hg_graph.proofs.MarkLemmas.{IsAt-from}
 use Rattle.hg_phases.specs.declared.phase.Phase.{Phase}
 use Rattle.hg_phases.specs.declared.lowered.LoweredPlace.{LoweredPlace}
 use Rattle.hg_phases.specs.Log.{IsLog, restored, IsUnlowered}
-use Rattle.hg_phases.proofs.PlaceLemmas.{get-within, graph_of_state}
+use Rattle.hg_phases.proofs.PlaceLemmas.{graph_of_state}
 use Rattle.hg_phases.proofs.LowerLemmas.{IsWalked, IsWalked-start, IsWalked-step, logged_within, first_within, second_within, halfway, lowered_are}
 use Rattle.hg_phases.proofs.LawLemmas.{least-lowered}
 use Rattle.hg_phases.proofs.phase_map.PhaseMap.lower_at.Goals as goal
@@ -19,7 +20,7 @@ loop-i-init c =
     let cs = c.args.graph.now in
     let place = c.args.place in
     let within : place < length cs = omega (arith, c.requires.within, c.requires.len) in
-    let d = get-within cs place within in
+    let d = slice_get_some cs place within in
     let start = IsWalked-start cs place c.args.phase c.args.self.now c.args.log.now.items (node_of d.0) (IsAt-from cs place d.0 (node_of d.0) d.1 refl) c.lower_one.new.self c.lower_one.new.log.items c.in_ok-lower_one.ensures.lowered in
     subst (IsWalked cs place c.args.phase c.args.self.now c.args.log.now.items c.lower_one.new.self c.lower_one.new.log.items) (sym (c.len-i.ensures ∙ c.args.log.now.ok.0)) start
 

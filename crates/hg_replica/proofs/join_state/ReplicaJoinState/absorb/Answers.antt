@@ -1,5 +1,6 @@
+use Rattle.hg_history.proofs.ContentLemmas.{whatever_answer}
 use Rattle.hg_replica.specs.Content.{content_of, IsValidContent}
-use Rattle.hg_replica.proofs.ContentLemmas.{absorbed-content, refused-content, told-change, unchanged, content-valid, whatever_answer}
+use Rattle.hg_replica.proofs.ContentLemmas.{absorbed-content, refused-content, told-change, unchanged, content-valid}
 use Rattle.hg_replica.proofs.join_state.ReplicaJoinState.absorb.Goals as goal
 
 pub returns-clause-after : goal.returns-clause-after

@@ -1,5 +1,6 @@
+use Rattle.hg_history.proofs.ContentLemmas.{whatever_answer}
 use Rattle.hg_replica.specs.Content.{content_of, IsValidContent}
-use Rattle.hg_replica.proofs.ContentLemmas.{content-valid, whatever_answer, joined-content, join-unchanged, refused-join}
+use Rattle.hg_replica.proofs.ContentLemmas.{content-valid, joined-content, join-unchanged, refused-join}
 use Rattle.hg_replica.proofs.join_state.ReplicaJoinState.join.Goals as goal
 
 pub returns-clause-joined : goal.returns-clause-joined
