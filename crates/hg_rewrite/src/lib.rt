@@ -21,6 +21,3 @@ pub use decision::decide;
 pub use laws::first_refusal_is_one;
 pub use op::Op;
 pub use refusal::{Cause, Refusal};
-
-#[cfg(test)]
-mod tests;
