@@ -7,8 +7,6 @@ mod index;
 mod indexes;
 mod join_state;
 mod store;
-#[cfg(test)]
-mod tests;
 
 pub use fault::StoreFault;
 pub use format::{markers_bytes, read_markers, read_store, store_bytes};

@@ -35,11 +35,21 @@ pub enum Added {
 ///
 /// It joins as a [`JoinState`](hg_join::JoinState). A call that adds costs what it is given, and a refused one no more;
 /// the look-ups cost one look-up by a hash, however many markers they tell of.
-#[derive(Drop)]
 pub struct Store {
     alloc: Global,
     markers: IndexSet<Marker>,
     indexes: Indexes,
+}
+
+// Whoever owns a store calls this once, and is proved without a look at each collection in it.
+impl Drop for Store {
+    fn drop(self) {
+        let Store {
+            alloc: _,
+            markers: _,
+            indexes: _,
+        } = self;
+    }
 }
 
 impl Model for Store {

@@ -22,10 +22,19 @@ use std::marker::Model;
 
 /// A replica of one repository: its changesets, their phases, and its markers. No changeset has a lower phase than a
 /// parent of it, and no two markers are equal.
-#[derive(Drop)]
 pub struct Replica {
     history: History,
     store: Store,
+}
+
+// Whoever owns a replica calls this once, and is proved without a look at each collection in it.
+impl Drop for Replica {
+    fn drop(self) {
+        let Replica {
+            history: _,
+            store: _,
+        } = self;
+    }
 }
 
 impl Model for Replica {

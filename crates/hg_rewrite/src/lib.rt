@@ -25,6 +25,3 @@ pub use hg_replica::{Part, Replica};
 pub use laws::first_refusal_is_one;
 pub use op::Op;
 pub use refusal::{Cause, Refusal};
-
-#[cfg(test)]
-mod tests;

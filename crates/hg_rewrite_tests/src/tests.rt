@@ -1,9 +1,9 @@
 //! Worked operations, whose ids and bytes were computed outside; refusals; and each growth refused in turn.
-use crate::{Cause, Op, Refusal, decide};
 use hg_changeset::{Changeset, Entry, EntryError, Node};
 use hg_marker::{Parents, encode};
 use hg_phases::Phase;
 use hg_replica::{Part, Replica};
+use hg_rewrite::{Cause, Op, Refusal, decide};
 use std::alloc::{AllocError, Global};
 use std::collections::BTreeMap;
 use std::process::Abort;

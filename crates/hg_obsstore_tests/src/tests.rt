@@ -1,8 +1,8 @@
 //! Values from outside: stores byte for byte, markers that come again, and growths that are refused.
-use crate::{Added, Store, StoreFault, markers_bytes, read_markers, read_store, store_bytes};
 use hg_changeset::Node;
 use hg_join::{JoinState, NoMemory};
 use hg_marker::{Marker, MarkerFault, Metadata, ReadError};
+use hg_obsstore::{Added, Store, StoreFault, markers_bytes, read_markers, read_store, store_bytes};
 use std::alloc::{AllocError, Global};
 use std::process::Abort;
 use std::test::Fail;

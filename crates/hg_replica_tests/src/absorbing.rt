@@ -1,0 +1,164 @@
+//! Worked parts: what they change, again or refused, and each growth refused in turn.
+use crate::parts::{
+    ONES, TWOS, are_equal, bound, changeset, child, commit, counts, marker, phase, push_marker,
+};
+use hg_changeset::Node;
+use hg_phases::Phase;
+use hg_replica::{Fault, Replica};
+use std::test::Fail;
+
+#[test]
+fn a_changeset_is_added_once(rt: HostRuntime) {
+    let alloc = rt.alloc();
+    let mut replica = Replica::new(alloc);
+    let (part, node) = child(alloc, Node::NULL, Phase::Draft).expect(&rt, "memory");
+    let change = replica.absorb(&part).expect(&rt, "a change");
+    assert!(rt; change.added.as_slice() == [node].as_slice());
+    assert!(rt; change.lowered.is_empty() && change.markers.is_empty());
+    let again = replica.absorb(&part).expect(&rt, "a change");
+    assert!(rt; again.added.is_empty() && again.lowered.is_empty());
+    assert!(rt; counts(&replica) == (1, 0));
+}
+
+#[test]
+fn a_bound_covers_ancestors_and_no_descendants(rt: HostRuntime) {
+    let alloc = rt.alloc();
+    let mut replica = Replica::new(alloc);
+    let root = commit(alloc, &mut replica, Node::NULL, Phase::Secret).expect(&rt, "memory");
+    let middle = commit(alloc, &mut replica, root, Phase::Secret).expect(&rt, "memory");
+    let tip = commit(alloc, &mut replica, middle, Phase::Secret).expect(&rt, "memory");
+    let publish = bound(alloc, middle, Phase::Public).expect(&rt, "memory");
+    let change = replica.absorb(&publish).expect(&rt, "a change");
+    assert!(rt; change.added.is_empty() && change.lowered.len() == 2);
+    assert!(rt; change.lowered.contains(&root) && change.lowered.contains(&middle));
+    let again = replica.absorb(&publish).expect(&rt, "a change");
+    assert!(rt; again.lowered.is_empty());
+    assert!(rt; phase(&replica, root) == Some(Phase::Public));
+    assert!(rt; phase(&replica, middle) == Some(Phase::Public));
+    assert!(rt; phase(&replica, tip) == Some(Phase::Secret));
+    assert!(rt; phase(&replica, Node::NULL).is_none());
+}
+
+#[test]
+fn a_marker_is_new_once(rt: HostRuntime) {
+    let alloc = rt.alloc();
+    let mut replica = Replica::new(alloc);
+    let part = marker(alloc, ONES, TWOS).expect(&rt, "memory");
+    let change = replica.absorb(&part).expect(&rt, "a change");
+    assert!(rt; change.markers.as_slice() == [0usize].as_slice());
+    let again = replica.absorb(&part).expect(&rt, "a change");
+    assert!(rt; again.markers.is_empty());
+    let store = replica.store();
+    assert!(rt; store.len() == 1 && store.get(0) == part.markers.first());
+    assert!(rt; store.with_predecessor(ONES) == [0usize].as_slice());
+    assert!(rt; store.with_successor(TWOS) == [0usize].as_slice());
+}
+
+// The part has a child of the root and a marker on it, and then a changeset of an unknown parent; and it publishes the root.
+#[test]
+fn a_refused_part_changes_nothing(rt: HostRuntime) {
+    let alloc = rt.alloc();
+    let mut replica = Replica::new(alloc);
+    let root = commit(alloc, &mut replica, Node::NULL, Phase::Draft).expect(&rt, "memory");
+    let before = replica.copy().expect(&rt, "memory");
+    let (mut part, node) = child(alloc, root, Phase::Draft).expect(&rt, "memory");
+    push_marker(alloc, &mut part, root, node).expect(&rt, "memory");
+    let orphan = changeset(alloc, ONES).expect(&rt, "memory");
+    part.changesets.push(orphan).expect(&rt, "memory");
+    part.bounds
+        .push((root, Phase::Public))
+        .expect(&rt, "memory");
+    let fault = replica.absorb(&part).err();
+    assert!(rt; fault == Some(Fault::UnknownParent(ONES)));
+    assert!(rt; are_equal(&replica, &before));
+    assert!(rt; phase(&replica, root) == Some(Phase::Draft));
+}
+
+#[test]
+fn a_refused_bound_changes_nothing(rt: HostRuntime) {
+    let alloc = rt.alloc();
+    let mut replica = Replica::new(alloc);
+    commit(alloc, &mut replica, Node::NULL, Phase::Draft).expect(&rt, "memory");
+    let before = replica.copy().expect(&rt, "memory");
+    for (node, fault) in [
+        (Node::NULL, Fault::NullBound),
+        (ONES, Fault::UnknownBound(ONES)),
+    ] {
+        let part = bound(alloc, node, Phase::Public).expect(&rt, "memory");
+        assert!(rt; replica.absorb(&part).err() == Some(fault));
+    }
+    assert!(rt; are_equal(&replica, &before));
+}
+
+#[test]
+fn faults_have_numbers_and_names(rt: HostRuntime) -> Result<(), Fail> {
+    for (fault, number, name) in [
+        (Fault::UnknownParent(ONES), Some(1), "UnknownParent"),
+        (Fault::Collision(ONES), Some(2), "Collision"),
+        (Fault::UnknownBound(ONES), Some(3), "UnknownBound"),
+        (Fault::NullBound, Some(4), "NullBound"),
+        (Fault::NoMemory, None, "NoMemory"),
+    ] {
+        assert!(rt; fault.number() == number);
+        assert_eq!(rt; fault.to_string(rt.alloc())?.as_str(), name);
+    }
+    Ok(())
+}
+
+#[test]
+fn refused_growth_leaves_an_empty_replica_empty(rt: HostRuntime) {
+    let alloc = rt.alloc();
+    let mut replica = Replica::new(alloc);
+    let Some((part, node)) = child(alloc, Node::NULL, Phase::Draft) else {
+        return;
+    };
+    if let Err(fault) = replica.absorb(&part) {
+        assert!(rt; fault == Fault::NoMemory && counts(&replica) == (0, 0));
+        assert!(rt; replica.absorb(&part).is_ok());
+    }
+    assert!(rt; counts(&replica) == (1, 0));
+    assert!(rt; phase(&replica, node) == Some(Phase::Draft));
+}
+
+// The part publishes a secret root, and adds a child of it and a marker.
+#[test]
+fn refused_growth_in_absorbing_changes_nothing(rt: HostRuntime) {
+    let alloc = rt.alloc();
+    let mut replica = Replica::new(alloc);
+    let Some(root) = commit(alloc, &mut replica, Node::NULL, Phase::Secret) else {
+        return;
+    };
+    let Ok(before) = replica.copy() else {
+        return;
+    };
+    let Some((mut part, node)) = child(alloc, root, Phase::Public) else {
+        return;
+    };
+    if push_marker(alloc, &mut part, root, node).is_none() {
+        return;
+    }
+    if let Err(fault) = replica.absorb(&part) {
+        assert!(rt; fault == Fault::NoMemory && are_equal(&replica, &before));
+        assert!(rt; replica.absorb(&part).is_ok());
+    }
+    assert!(rt; counts(&replica) == (2, 1));
+    assert!(rt; phase(&replica, root) == Some(Phase::Public));
+}
+
+#[test]
+fn refused_growth_in_copying_changes_nothing(rt: HostRuntime) {
+    let alloc = rt.alloc();
+    let mut replica = Replica::new(alloc);
+    let Some((mut part, node)) = child(alloc, Node::NULL, Phase::Draft) else {
+        return;
+    };
+    if push_marker(alloc, &mut part, node, ONES).is_none() || replica.absorb(&part).is_err() {
+        return;
+    }
+    let copy = match replica.copy() {
+        Ok(copy) => copy,
+        Err(_) => replica.copy().expect(&rt, "memory"),
+    };
+    assert!(rt; counts(&copy) == (1, 1) && are_equal(&copy, &replica));
+    assert!(rt; phase(&copy, node) == Some(Phase::Draft));
+}
