@@ -2,7 +2,7 @@ use Rattle.std.proofs.Common.{◌≡◌, subst, sym, ap, ◌∷◌, [], ◌++◌
 use Rattle.indexmap.specs.IndexMap.{keys, values}
 use Rattle.hg_graph.specs.Graph.{nodes, Holds, IsGraph}
 use Rattle.hg_graph.specs.Places.{ArePlaces}
-use Rattle.hg_graph.proofs.GraphLemmas.{added}
+use Rattle.hg_graph.proofs.TableLemmas.{added}
 use Rattle.hg_graph.proofs.PlaceLemmas.{ArePlaces-push}
 use Rattle.hg_graph.proofs.LinkLemmas.{linkable}
 use Rattle.hg_graph.proofs.graph.Graph.push.Goals as goal
