@@ -10,7 +10,7 @@ mod rewrites;
 mod states;
 
 use markers::{Shape, add_markers, list_markers, read_markers, write_markers};
-use rewrites::amend_bottom;
+use rewrites::{amend_bottom, tell_instabilities};
 use states::{absorb_at_once, absorb_one_by_one, ask_below, join_into_empty, join_into_equal};
 use std::time::{CpuClock, Duration};
 use std::{env, io};
@@ -45,6 +45,7 @@ fn spent(rt: &(impl CpuClock + AllocGlobal), case: &str, size: usize) -> io::Res
         "read" => read_markers(rt, size),
         "list" => list_markers(rt, size),
         "amend-bottom" => amend_bottom(rt, size),
+        "instabilities" => tell_instabilities(rt, size),
         _ => Ok(Duration::ZERO),
     }
 }

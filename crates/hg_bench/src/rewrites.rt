@@ -1,8 +1,10 @@
 //! Cases of operations: what deciding them and absorbing their parts cost.
 use crate::chain::{chain_on, replica_of, tip_of};
 use hg_changeset::{Entry, Node};
+use hg_instab::Instabilities;
 use hg_replica::{Part, Replica};
 use hg_rewrite::{Op, decide};
+use hg_view::{served, visible};
 use std::alloc::{AllocError, Global};
 use std::collections::BTreeMap;
 use std::io;
@@ -19,6 +21,26 @@ pub fn amend_bottom(rt: &(impl CpuClock + AllocGlobal), size: usize) -> io::Resu
         bottom_of(&part),
         size,
     )
+}
+
+/// The instabilities and the views of a stack whose bottom was amended, so that all above it are orphans.
+pub fn tell_instabilities(
+    rt: &(impl CpuClock + AllocGlobal),
+    size: usize,
+) -> io::Result<Duration> {
+    let alloc = rt.alloc();
+    let part = chain_on(alloc, Node::NULL, size)?;
+    let mut replica = replica_of(alloc, &part);
+    amend_again(alloc, &mut replica, bottom_of(&part), 1);
+    time_telling(rt, alloc, &replica)
+}
+
+fn time_telling(rt: &impl CpuClock, alloc: Global, replica: &Replica) -> io::Result<Duration> {
+    let before = rt.thread_cpu_time()?;
+    let _sets = Instabilities::from_scratch(alloc, replica)?;
+    let _visible = visible(alloc, replica)?;
+    let _served = served(alloc, replica)?;
+    Ok(rt.thread_cpu_time()?.saturating_sub(before))
 }
 
 fn bottom_of(part: &Part) -> Node {

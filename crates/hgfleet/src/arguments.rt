@@ -94,7 +94,7 @@ A script has a command on each line; the words are divided by spaces:
   prune A b           nothing in place of b
   relocate A b c d    another changeset, c, in place of b, on the parent d; a second may follow
   phase A b public    b and its ancestors go to this phase, where theirs is higher
-  report A            prints the changesets of A with their phases, and how many markers there are
+  report A            prints the changesets of A with their phases and instabilities, and counts them and the markers
   agree A B           prints whether A and B hold the same in the same phases
 Empty lines and lines that begin with # are skipped.
 
