@@ -35,10 +35,19 @@ pub struct ParentPlaces {
 }
 
 /// Changesets in an order in which every parent is there and comes first.
-#[derive(Drop)]
 pub struct Graph {
     changesets: IndexMap<Node, Changeset>,
     links: Links,
+}
+
+// Whoever owns a graph calls this once, and is proved without a look at each collection in it.
+impl Drop for Graph {
+    fn drop(self) {
+        let Graph {
+            changesets: _,
+            links: _,
+        } = self;
+    }
 }
 
 impl Model for Graph {

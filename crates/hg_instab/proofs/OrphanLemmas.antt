@@ -11,7 +11,7 @@ use Rattle.hg_graph.proofs.GraphLemmas.{Contains-from_place, Holds-from, null_no
 use Rattle.hg_graph.proofs.PlaceLemmas.{Holds-reaching, Holds-reached}
 use Rattle.hg_phases.specs.State.{Held, changesets}
 use Rattle.hg_phases.proofs.LeastLemmas.{Holds-taken}
-use Rattle.hg_phases.proofs.RootLemmas.{first_is, cons_cases, cons_more}
+use Rattle.hg_changeset.proofs.ListLemmas.{Contains-first, Contains-cons_cases, Contains-later}
 use Rattle.hg_history.specs.Content.{IsHeld, IsHeldAs, Leads}
 use Rattle.hg_history.specs.Content.Leads.{itself, below}
 use Rattle.hg_history.proofs.ContentLemmas.{content-changeset, content-node, node_in_content, leads_from_reach, reach_from_leads}
@@ -79,18 +79,18 @@ module _ (s : ReplicaState) (valid : IsValid s) where
 -- what a filter keeps
 passed_by : (test : Node → Bool) (x : Node) (xs : List Node) (y : Node) → (Contains (filter test xs) y ↔ (Contains xs y × IsTrue (test y))) → (b : Bool) → test x ≡ b → Contains (filter test (x ∷ xs)) y ↔ (Contains (x ∷ xs) y × IsTrue (test y))
 passed_by test x xs y rest true e = rw e (
-  λ h. elim (cons_cases x (filter test xs) y h) [
-    | inl is ↦ (subst (Contains (x ∷ xs)) is (first_is x xs), subst (λ z. IsTrue (test z)) is e)
-    | inr r ↦ let p = rest.0 r in (cons_more x xs y p.0, p.1)
+  λ h. elim (Contains-cons_cases x (filter test xs) y h) [
+    | inl is ↦ (subst (Contains (x ∷ xs)) is (Contains-first x xs), subst (λ z. IsTrue (test z)) is e)
+    | inr r ↦ let p = rest.0 r in (Contains-later x xs y p.0, p.1)
   ],
-  λ h. elim (cons_cases x xs y h.0) [
-    | inl is ↦ subst (Contains (x ∷ filter test xs)) is (first_is x (filter test xs))
-    | inr later ↦ cons_more x (filter test xs) y (rest.1 (later, h.1))
+  λ h. elim (Contains-cons_cases x xs y h.0) [
+    | inl is ↦ subst (Contains (x ∷ filter test xs)) is (Contains-first x (filter test xs))
+    | inr later ↦ Contains-later x (filter test xs) y (rest.1 (later, h.1))
   ],
 )
 passed_by test x xs y rest false e = rw e (
-  λ h. let p = rest.0 h in (cons_more x xs y p.0, p.1),
-  λ h. elim (cons_cases x xs y h.0) [
+  λ h. let p = rest.0 h in (Contains-later x xs y p.0, p.1),
+  λ h. elim (Contains-cons_cases x xs y h.0) [
     | inl is ↦ absurd (true≢false (sym h.1 ∙ sym (ap test is) ∙ e))
     | inr later ↦ rest.1 (later, h.1)
   ],

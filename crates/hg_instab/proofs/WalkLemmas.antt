@@ -10,7 +10,7 @@ use Rattle.hg_changeset.specs.Node.{node_eq}
 use Rattle.hg_changeset.proofs.NodeLemmas.{same_node, node_eq_laws}
 use Rattle.hg_graph.proofs.GraphLemmas.{Contains-from_place, place_from_Contains}
 use Rattle.hg_phases.specs.declared.phase.Phase.TheVariants.{Public}
-use Rattle.hg_phases.proofs.RootLemmas.{cons_cases}
+use Rattle.hg_changeset.proofs.ListLemmas.{Contains-cons_cases}
 use Rattle.hg_marker.specs.Fields.{Fields}
 use Rattle.hg_obsstore.specs.Markers.{ArePlaces}
 use Rattle.hg_replica.specs.State.{ReplicaState}
@@ -113,7 +113,7 @@ ids (m ∷ ms) = (m.predecessor ∷ m.successors) ++ ids ms
 
 named : (ms : List Fields) (m : Fields) (n : Node) → Contains ms m → Contains (m.predecessor ∷ m.successors) n → Contains (ids ms) n
 named [] m n at h = absurd (none_in m at)
-named (x ∷ ms) m n at h = elim (cons_cases x ms m at) [
+named (x ∷ ms) m n at h = elim (Contains-cons_cases x ms m at) [
   | inl e ↦ Contains-append_left (x.predecessor ∷ x.successors) (ids ms) n (subst (λ y. Contains (y.predecessor ∷ y.successors) n) (sym e) h)
   | inr more ↦ Contains-append_right (x.predecessor ∷ x.successors) (ids ms) n (named ms m n more h)
 ]
