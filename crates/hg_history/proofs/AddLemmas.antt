@@ -170,12 +170,12 @@ module _ (held : List Contents) (had : List Phase) (part : List Contents) (i : �
     }))
 
 -- a phase in the front, or one of those behind
-phase_cases : (had : List Phase) (more : List Contents) (p : ℕ) (k : Phase) → slice_get (had ++ map (λ _. Secret) more) p ≡ Some k → (slice_get had p ≡ Some k) ⊎ (k ≡ Secret)
+phase_cases : (had : List Phase) (cs : List Contents) (p : ℕ) (k : Phase) → slice_get (had ++ map (λ _. Secret) cs) p ≡ Some k → (slice_get had p ≡ Some k) ⊎ (k ≡ Secret)
 phase_cases [] [] p k h = absurd (none-some k h)
-phase_cases [] (c ∷ more) zero k h = inr (sym (same_Some Secret k h))
-phase_cases [] (c ∷ more) (suc p) k h = phase_cases [] more p k h
-phase_cases (x ∷ had) more zero k h = inl h
-phase_cases (x ∷ had) more (suc p) k h = phase_cases had more p k h
+phase_cases [] (c ∷ cs) zero k h = inr (sym (same_Some Secret k h))
+phase_cases [] (c ∷ cs) (suc p) k h = phase_cases [] cs p k h
+phase_cases (x ∷ had) cs zero k h = inl h
+phase_cases (x ∷ had) cs (suc p) k h = phase_cases had cs p k h
 
 front : {X : Type 0} (xs ys : List X) (p : ℕ) (x : X) → p < length xs → slice_get (xs ++ ys) p ≡ Some x → slice_get xs p ≡ Some x
 front [] ys p x l h = absurd (omega arith)

@@ -9,7 +9,7 @@ use Rattle.hg_changeset.specs.declared.node.Node.{Node}
 use Rattle.hg_changeset.specs.Node.{node_eq, null_node}
 use Rattle.hg_changeset.specs.Contents.{Contents}
 use Rattle.hg_changeset.specs.Changeset.{node_of}
-use Rattle.hg_changeset.proofs.NodeLemmas.{same_node, node_eq_laws, node_itself, node_cases}
+use Rattle.hg_changeset.proofs.NodeLemmas.{same_node, node_eq_laws, node_cases}
 use Rattle.hg_changeset.proofs.ListLemmas.{slice_get-take, Contains-one, slice_get_some}
 use Rattle.hg_graph.specs.Graph.{nodes, Holds, HoldsParents}
 use Rattle.hg_graph.specs.Answers.{IsFirstMissing, Collides}

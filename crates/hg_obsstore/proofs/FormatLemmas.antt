@@ -11,7 +11,7 @@ use Rattle.hg_marker.specs.declared.error.ReadError.{ReadError}
 use Rattle.hg_marker.specs.declared.error.ReadError.TheVariants.{NoMemory, Fault}
 use Rattle.hg_marker.specs.Fields.{Fields}
 use Rattle.hg_marker.specs.Grammar.{IsSpelling, spelling}
-use Rattle.hg_marker.specs.Faults.{marker_at, with_length, IsFault, left}
+use Rattle.hg_marker.specs.Faults.{marker_at, IsFault, left}
 use Rattle.hg_marker.specs.Reading.{Gives, Fails, IsRead}
 use Rattle.hg_marker.proofs.Formats.{IsBytes-right, Takes}
 use Rattle.hg_marker.proofs.MarkerLemmas.{marker_again, marker_takes}

@@ -5,7 +5,7 @@ use Rattle.std.proofs.lemmas.List.{take_more, take-append-drop}
 use Rattle.std.proofs.lemmas.List.Elements.{Contains-push, Contains-push_cases, Contains-append_left}
 use Rattle.std.specs.List.{list_any}
 use Rattle.std.proofs.lemmas.Map.Views.{Contains-from_any, list_any-from_Contains}
-use Rattle.hg_changeset.proofs.NodeLemmas.{same_node, node_itself, node_eq_laws, node_cases}
+use Rattle.hg_changeset.proofs.NodeLemmas.{same_node, node_eq_laws, node_cases}
 use Rattle.indexmap.specs.IndexMap.{get, get_by}
 use Rattle.hg_changeset.specs.declared.node.Node.{Node}
 use Rattle.hg_changeset.specs.Node.{node_eq}

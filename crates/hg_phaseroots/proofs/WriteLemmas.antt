@@ -21,7 +21,7 @@ use Rattle.hg_changeset.specs.declared.node.NodeError.TheVariants.{BadLength, Ba
 use Rattle.hg_changeset.specs.Bytes.{line_feed, space}
 use Rattle.hg_changeset.specs.Node.{IsNode, node_cmp, node_of_hex, id_value}
 use Rattle.hg_changeset.proofs.NodeLemmas.{node_cmp_exact, node_cmp_total}
-use Rattle.hg_changeset.proofs.ListLemmas.{Contains-map_from, Contains-map, Contains-first, Contains-cons_cases, Contains-later}
+use Rattle.hg_changeset.proofs.ListLemmas.{Contains-map_from, Contains-map, Contains-first, Contains-cons_cases}
 use Rattle.hg_phases.specs.declared.phase.Phase.{Phase}
 use Rattle.hg_phases.specs.declared.phase.Phase.TheVariants.{Public, Draft, Secret}
 use Rattle.hg_phaseroots.specs.Lines.{is_line_feed, lines_of}

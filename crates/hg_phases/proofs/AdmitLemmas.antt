@@ -1,5 +1,5 @@
 -- The phase rule, where a changeset was added as secret.
-use Rattle.std.proofs.Common.{◌≡◌, ℕ, ◌<◌, ◌≤◌, zero, suc, ◌+◌, ◌-◌, List, [], ◌∷◌, ◌++◌, length, take, slice_get, Some, Contains, inl, inr, refl, sym, ap, subst, min, ◌∙◌, arith}
+use Rattle.std.proofs.Common.{◌≡◌, ℕ, ◌<◌, ◌≤◌, ◌+◌, ◌-◌, List, [], ◌∷◌, ◌++◌, length, take, slice_get, Some, Contains, inl, inr, refl, sym, ap, subst, min, ◌∙◌, arith}
 use Rattle.std.proofs.lemmas.List.{length-append, length-take}
 use Rattle.std.proofs.lemmas.Option.{slice_get_within}
 use Rattle.hg_changeset.specs.declared.node.Node.{Node}

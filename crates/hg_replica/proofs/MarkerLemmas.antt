@@ -1,5 +1,5 @@
 -- Lists of markers as sets.
-use Rattle.std.proofs.Common.{◌≡◌, Bool, true, false, ◌||◌, List, Contains, ◌↔◌, ◌⊎◌, inl, inr, refl, sym, ap, ◌∙◌}
+use Rattle.std.proofs.Common.{◌≡◌, Bool, true, ◌||◌, List, Contains, ◌↔◌, ◌⊎◌, inl, inr, sym, ap, ◌∙◌}
 use Rattle.std.proofs.lemmas.Map.Views.{list_any-from_Contains, Contains-from_any}
 use Rattle.std.proofs.lemmas.Bool.{or_left, or_right, or_cases}
 use Rattle.std.specs.Cmp.{both_ways}

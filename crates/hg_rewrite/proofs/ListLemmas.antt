@@ -1,10 +1,9 @@
 -- Elements of lists, and what is kept of them.
-use Rattle.std.proofs.Common.{◌≡◌, ℕ, zero, suc, ◌<◌, ◌⊎◌, inl, inr, Bool, true, false, List, [], ◌∷◌, length, map, take, drop, ◌-◌, filter, Contains, IsTrue, refl, ap, sym, subst, ◌∙◌, arith, not, ◌||◌, true≢false}
+use Rattle.std.proofs.Common.{◌≡◌, ℕ, ◌⊎◌, inl, inr, Bool, true, false, List, [], ◌∷◌, length, take, drop, ◌-◌, filter, Contains, IsTrue, refl, ap, sym, subst, ◌∙◌, arith, not, ◌||◌, true≢false}
 use Rattle.std.specs.List.{list_any}
 use Rattle.std.specs.Bool.{◌==◌}
 use Rattle.std.proofs.lemmas.Bool.Decides.{nat_tests}
 use Rattle.std.proofs.lemmas.List.{take_all, length-drop}
-use Rattle.std.proofs.lemmas.List.Elements.{Contains-append_right, Contains-append_cases}
 use Rattle.hg_changeset.specs.declared.node.Node.{Node}
 use Rattle.hg_changeset.specs.Node.{node_eq}
 use Rattle.hg_changeset.proofs.NodeLemmas.{same_node, node_itself}
