@@ -1,5 +1,5 @@
 -- Where the changesets of a graph stand: places count from 0, in the graph's order.
-use Rattle.std.specs.Prelude.{◌≡◌, ℕ, List, length, slice_get, ◌↔◌, Option, Some, MatchOption}
+use Rattle.std.specs.Prelude.{◌≡◌, ℕ, List, length, slice_get, ◌↔◌, Option, Some, MatchOption, Contains}
 use Rattle.hg_changeset.specs.declared.node.Node.{Node}
 use Rattle.hg_changeset.specs.Node.{null_node}
 use Rattle.hg_changeset.specs.Contents.{Contents}
@@ -21,6 +21,14 @@ IsParentPlace cs j k = (c : Contents) × (p : Node) × (slice_get cs j ≡ Some 
 -- the changeset at j is the one at i, or an ancestor of it
 abbrev pub IsAncestorPlace : List Contents → ℕ → ℕ → Type 0
 IsAncestorPlace cs j i = (a : Node) × (n : Node) × IsAt cs a j × IsAt cs n i × Reaches cs a n
+
+-- one of the nodes stands at this place
+abbrev pub IsPlaceOfOne : List Contents → List Node → ℕ → Type 0
+IsPlaceOfOne cs ns k = (n : Node) × Contains ns n × IsAt cs n k
+
+-- the place is one of these, and none of the others is a descendant's
+abbrev pub IsHeadPlace : List Contents → List ℕ → ℕ → Type 0
+IsHeadPlace cs places k = Contains places k × ((j : ℕ) → Contains places j → IsAncestorPlace cs k j → j ≡ k)
 
 -- where a parent stands: nowhere if it is absent
 abbrev pub IsPlaceOf : List Contents → Node → Option ℕ → Type 0

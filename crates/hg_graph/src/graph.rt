@@ -1,6 +1,7 @@
 //! The changesets in their order, with the places of their parents.
 ghost use Rattle.std.specs.Prelude.{Some, ◌⊎◌, ◌≡◌, ◌≢◌, ◌↔◌, ℕ, [], ◌∷◌, ◌++◌, ◌<◌, slice_get, take, length, Contains, IsTrue, IsNone, IfSome, IfOk, IfErr, OnOk, OnErr, IsErrOf, MatchOption};
 ghost use Rattle.std.specs.Option.{option_copied};
+ghost use Rattle.std.specs.List.Sorted.{IsStrictlyIncreasing};
 ghost use Rattle.hg_changeset.specs.Node.{null_node};
 ghost use Rattle.hg_changeset.specs.Contents.{Contents};
 ghost use Rattle.hg_changeset.specs.Changeset.{node_of, IsChangeset};
@@ -9,6 +10,7 @@ ghost use Rattle.hg_graph.specs.Places.{IsOnlyAt, IsParentPlace, IsPlaceOf, AreP
 ghost use Rattle.hg_graph.specs.Answers.{IsFirstMissing, IsNew, AddAnswer, LookUpAnswer};
 
 use crate::error::GraphError;
+use crate::links::Links;
 use hg_changeset::{Changeset, Node};
 use indexmap::IndexMap;
 use std::alloc::{AllocError, Global};
@@ -36,7 +38,7 @@ pub struct ParentPlaces {
 #[derive(Drop)]
 pub struct Graph {
     changesets: IndexMap<Node, Changeset>,
-    parents: Vec<ParentPlaces>,
+    links: Links,
 }
 
 impl Model for Graph {
@@ -50,7 +52,7 @@ impl Model for Graph {
 
     ghost view = { λ g. values g.changesets };
 
-    ghost invariant = { λ g. (keys g.changesets ≡ nodes (values g.changesets)) × IsGraph (values g.changesets) × ArePlaces (values g.changesets) g.parents.items };
+    ghost invariant = { λ g. (keys g.changesets ≡ nodes (values g.changesets)) × IsGraph (values g.changesets) × ArePlaces (values g.changesets) g.links };
 }
 
 impl Graph {
@@ -60,7 +62,7 @@ impl Graph {
     {
         Graph {
             changesets: IndexMap::new(alloc),
-            parents: Vec::new(alloc),
+            links: Links::new(alloc),
         }
     }
 
@@ -136,7 +138,16 @@ impl Graph {
         ensures places { (k : ℕ) → IsParentPlace self.now place k ↔ ((result.first ≡ Some k) ⊎ (result.second ≡ Some k)) }
         ensures in_order { IfSome (slice_get self.now place) (λ c. ArePlacesOf self.now c result) }
     {
-        self.parents[place]
+        self.links.parents(place)
+    }
+
+    /// Where the children of the changeset at a place stand, ascending. It takes no memory.
+    pub fn children(&self, place: usize) -> &[usize]
+        requires { place < length self.now }
+        ensures exact { (k : ℕ) → Contains result.now k ↔ IsParentPlace self.now k place }
+        ensures ascending { IsStrictlyIncreasing result.now }
+    {
+        self.links.children(place)
     }
 
     /// Adds a changeset whose parents are held.
@@ -217,11 +228,12 @@ impl Graph {
         ensures pushed { OnOk result (self.new ≡ self.old ++ changeset ∷ []) }
         ensures unchanged { OnErr result (self.new ≡ self.old) }
     {
-        self.parents.push(parents)?;
-        match self.changesets.insert(changeset.node(), changeset) {
+        let node = changeset.node();
+        self.links.push(parents)?;
+        match self.changesets.insert(node, changeset) {
             Ok(_) => Ok(()),
             Err(refused) => {
-                self.parents.pop();
+                self.links.pop();
                 Err(refused.into())
             }
         }
@@ -233,7 +245,7 @@ impl Graph {
         ensures { self.new ≡ take len self.old }
     {
         self.changesets.truncate(len);
-        self.parents.truncate(len);
+        self.links.truncate(len);
     }
 
     /// An equal graph.
@@ -242,7 +254,7 @@ impl Graph {
     {
         let mut graph = Graph {
             changesets: IndexMap::with_capacity(self.alloc(), self.len())?,
-            parents: Vec::with_capacity(self.alloc(), self.len())?,
+            links: Links::with_capacity(self.alloc(), self.len())?,
         };
         for place in 0..self.len() {
             if let Some(changeset) = self.changeset_at(place) {

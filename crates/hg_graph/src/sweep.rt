@@ -78,7 +78,7 @@ impl Graph {
     }
 
     // Marks the ancestors of the marked changesets. The marks are for the places from `low` up to `high`.
-    fn sweep(&self, low: usize, high: usize, marks: &mut [bool])
+    pub(crate) fn sweep(&self, low: usize, high: usize, marks: &mut [bool])
         requires graph { IsGraph self.now }
         requires window { low + length marks.old ≡ high }
         requires within { high ≤ length self.now }
@@ -92,7 +92,7 @@ impl Graph {
     }
 
     // Marks the parents of the changeset at a place, from the place `low` on.
-    fn mark_parents(&self, place: usize, low: usize, marks: &mut [bool])
+    pub(crate) fn mark_parents(&self, place: usize, low: usize, marks: &mut [bool])
         requires { place < length self.now }
         ensures { MarksAlso low (IsParentPlace self.now place) marks.old marks.new }
     {
