@@ -1,80 +1,16 @@
--- What stands on obsolete changesets, found by one sweep forward; and what is below orphans.
-use Rattle.std.proofs.Common.{◌≡◌, ◌≢◌, ℕ, ◌+◌, ◌<◌, ◌≤◌, List, [], ◌∷◌, ◌++◌, length, map, filter, take, slice_get, Some, Bool, true, false, true≢false, Contains, IsTrue, ◌↔◌, ◌⊎◌, inl, inr, refl, sym, ap, subst, ◌∙◌, arith}
-use Rattle.std.proofs.lemmas.List.{take_more, map-append}
-use Rattle.std.proofs.lemmas.Option.{same_Some, slice_get_within, get_or_from_slice_get}
+-- What stands on obsolete changesets, and what is below orphans.
+use Rattle.std.proofs.Common.{◌≡◌, List, [], ◌∷◌, filter, Bool, true, false, true≢false, Contains, IsTrue, ◌↔◌, inl, inr, refl, sym, ap, subst, ◌∙◌}
 use Rattle.hg_changeset.specs.declared.node.Node.{Node}
-use Rattle.hg_changeset.specs.Node.{null_node}
 use Rattle.hg_changeset.specs.Contents.{Contents}
-use Rattle.hg_changeset.specs.Changeset.{node_of}
-use Rattle.hg_graph.specs.Graph.{nodes, Holds, IsParent, IsAncestorOfOne, Selects}
-use Rattle.hg_graph.proofs.GraphLemmas.{Contains-from_place, Holds-from, null_not_held}
+use Rattle.hg_graph.specs.Graph.{nodes, Holds, IsAncestorOfOne, IsDescendantOfOne, Selects}
 use Rattle.hg_graph.proofs.PlaceLemmas.{Holds-reaching, Holds-reached}
-use Rattle.hg_phases.specs.State.{Held, changesets}
-use Rattle.hg_phases.proofs.LeastLemmas.{Holds-taken}
+use Rattle.hg_phases.specs.State.{changesets}
 use Rattle.hg_changeset.proofs.ListLemmas.{Contains-first, Contains-cons_cases, Contains-later}
-use Rattle.hg_history.specs.Content.{IsHeld, IsHeldAs, Leads}
-use Rattle.hg_history.specs.Content.Leads.{itself, below}
-use Rattle.hg_history.proofs.ContentLemmas.{content-changeset, content-node, node_in_content, leads_from_reach, reach_from_leads}
+use Rattle.hg_history.proofs.ContentLemmas.{content-node, node_in_content, leads_from_reach, reach_from_leads}
 use Rattle.hg_replica.specs.State.{ReplicaState, IsValid}
 use Rattle.hg_replica.specs.Content.{content_of}
-use Rattle.hg_replica.specs.Evolution.{IsObsolete, IsOrphan, IsSuspended, IsUnder, IsCurrent}
-use Rattle.hg_instab.specs.Orphans.{IsOnObsolete}
-use Rattle.hg_instab.proofs.AmongLemmas.{AreThose, IsAlso, none_in, pushed}
-
--- one changeset more was seen
-pub also-held : (cs : List Contents) (i : ℕ) (c : Contents) → slice_get cs i ≡ Some c → IsAlso (node_of c) (Holds (take i cs)) (Holds (take (i + 1) cs))
-also-held cs i c at n =
-    let more : take (i + 1) cs ≡ take i cs ++ c ∷ [] = take_more cs i c (slice_get_within cs i c at) ∙ ap (λ x. take i cs ++ x ∷ []) (get_or_from_slice_get cs i c c at) in
-    let ids : nodes (take (i + 1) cs) ≡ nodes (take i cs) ++ node_of c ∷ [] = ap nodes more ∙ map-append node_of (take i cs) (c ∷ []) in (
-      λ h. (pushed (nodes (take i cs)) (node_of c) n).0 (subst (λ ns. Contains ns n) ids h),
-      λ h. subst (λ ns. Contains ns n) (sym ids) ((pushed (nodes (take i cs)) (node_of c) n).1 h),
-    )
-
-module _ (s : ReplicaState) (valid : IsValid s) where
-  -- the changeset at a place stands on an obsolete one exactly if it is obsolete, or a parent that was found does
-  module _ (i : ℕ) (c : Contents) (at : slice_get (changesets s.history) i ≡ Some c) (found : List Node) (those : AreThose (Holds (take i (changesets s.history))) (IsOnObsolete (content_of s)) found) where
-    cs : List Contents
-    cs = changesets s.history
-
-    here : IsHeldAs (content_of s).0 (node_of c) c
-    here = content-changeset s.history valid.graph (node_of c) c (Contains-from_place (changesets s.history) i c at) refl
-
-    by_parent : (p : Node) → IsParent c p → IsOnObsolete (content_of s) p → Contains found p
-    by_parent p is on = (those p).1 (valid.graph.parents_first i c at p is, on)
-
-    from_parent : (p : Node) → (c.first ≡ p) ⊎ (c.second ≡ p) → Contains found p → IsOnObsolete (content_of s) (node_of c)
-    from_parent p which h =
-        let x = (those p).0 h in
-        let a = x.1.0 in
-        let not_null : p ≢ null_node = λ e. null_not_held (changesets s.history) valid.graph (subst (Holds (changesets s.history)) e (Holds-taken (changesets s.history) i p x.0)) in
-        let up : IsParent here.0.changeset p = subst (λ d. IsParent d p) (sym here.2) (not_null, which) in
-        (a, ((here.0, here.1), below x.1.1.1 here.1 up), x.1.2)
-
-    pub on-step : IsOnObsolete (content_of s) (node_of c) ↔ (IsObsolete (content_of s) (node_of c) ⊎ (Contains found c.first ⊎ Contains found c.second))
-    on-step = (
-      λ h. by h.0 h.1.1 h.2,
-      λ h. elim h [
-        | inl o ↦ (node_of c, ((here.0, here.1), itself), o)
-        | inr p ↦ elim p [ inl one ↦ from_parent c.first (inl refl) one | inr other ↦ from_parent c.second (inr refl) other ]
-      ],
-    )
-      where
-        by : (a : Node) → Leads (content_of s).0 a (node_of c) → IsObsolete (content_of s) a → IsObsolete (content_of s) (node_of c) ⊎ (Contains found c.first ⊎ Contains found c.second)
-        by a itself o = inl o
-        by a (below {p = p} {h = h} r e is) o =
-            let same : h.changeset ≡ c = ap (λ x. x.changeset) (same_Some h here.0 (sym e ∙ here.1)) ∙ here.2 in
-            let up : IsParent c p = subst (λ d. IsParent d p) same is in
-            let held = content-node s.history valid.graph p (Holds-taken (changesets s.history) i p (valid.graph.parents_first i c at p up)) in
-            let has = by_parent p up (a, (held, r), o) in
-            inr (elim up.1 [ inl f ↦ inl (subst (Contains found) (sym f) has) | inr g ↦ inr (subst (Contains found) (sym g) has) ])
-
-  -- what stands on an obsolete changeset is held
-  pub on-held : (n : Node) → IsOnObsolete (content_of s) n → Holds (changesets s.history) n
-  on-held n h = node_in_content s.history valid.graph n h.1.0
-
-  -- the orphans are the current ones among them
-  pub orphans-are : (n : Node) → (IsOnObsolete (content_of s) n × IsCurrent (content_of s) n) ↔ IsOrphan (content_of s) n
-  orphans-are n = (λ h. (h.1, h.0), λ h. (h.1, h.0))
+use Rattle.hg_replica.specs.Evolution.{IsObsolete, IsOrphan, IsSuspended, IsCurrent}
+use Rattle.hg_instab.proofs.AmongLemmas.{none_in}
 
 -- what a filter keeps
 passed_by : (test : Node → Bool) (x : Node) (xs : List Node) (y : Node) → (Contains (filter test xs) y ↔ (Contains xs y × IsTrue (test y))) → (b : Bool) → test x ≡ b → Contains (filter test (x ∷ xs)) y ↔ (Contains (x ∷ xs) y × IsTrue (test y))
@@ -105,6 +41,21 @@ pub selected : (cs : List Contents) (P : Node → Type 0) (found : List Node) �
 selected cs P found select n = (
   λ h. let x = (passed select.0 (nodes cs) n).0 (subst (λ ns. Contains ns n) select.1 h) in (x.0, (select.2 n x.0).0 x.1),
   λ h. subst (λ ns. Contains ns n) (sym select.1) ((passed select.0 (nodes cs) n).1 (h.0, (select.2 n h.0).1 h.1)),
+)
+
+-- the orphans are the current ones among the obsolete changesets and their descendants
+pub orphans-are : (s : ReplicaState) → IsValid s → (obsolete above : List Node) → ((n : Node) → Contains obsolete n ↔ IsObsolete (content_of s) n)
+    → Selects (changesets s.history) (IsDescendantOfOne (changesets s.history) obsolete) above → (n : Node) → (Contains above n × IsCurrent (content_of s) n) ↔ IsOrphan (content_of s) n
+orphans-are s valid obsolete above are select n = (
+  λ h.
+      let x = (selected (changesets s.history) (IsDescendantOfOne (changesets s.history) obsolete) above select n).0 h.0 in
+      let a = x.1 in
+      (h.1, (a.0, (content-node s.history valid.graph n x.0, leads_from_reach s.history valid.graph a.0 n a.2), (are a.0).0 a.1)),
+  λ h.
+      let a = h.1 in
+      let held = node_in_content s.history valid.graph n a.1.0 in
+      let reach = reach_from_leads s.history valid.graph a.0 n held a.1.1 in
+      ((selected (changesets s.history) (IsDescendantOfOne (changesets s.history) obsolete) above select n).1 (held, (a.0, (are a.0).1 a.2, reach)), h.0),
 )
 
 -- the suspended changesets are the obsolete ones among the orphans and their ancestors

@@ -68,6 +68,15 @@ adds-one xs ys x is = by (list_any (node_eq x) xs) refl
 pub adds-more : (nodes : List Node) (i : ℕ) (x : Node) (xs ys zs : List Node) → i < length nodes → get_or nodes i x ≡ x → Adds (Contains (take i nodes)) xs ys → zs ≡ insert_key node_eq ys x → Adds (Contains (take (i + 1) nodes)) xs zs
 adds-more nodes i x xs ys zs l at before is = adds-then (Contains (take i nodes)) (λ n. x ≡ n) (Contains (take (i + 1) nodes)) xs ys zs (λ n. taken nodes i x n l at) before (adds-one ys zs x is)
 
+-- what stood first still does
+take-front : (k : ℕ) (xs more : List Node) → k ≤ length xs → take k (xs ++ more) ≡ take k xs
+take-front zero xs more le = refl
+take-front (suc k) [] more le = absurd (omega (arith, le))
+take-front (suc k) (y ∷ xs) more le = ap (λ l. y ∷ l) (take-front k xs more (omega (arith, le)))
+
+pub front-kept : (xs ys : List Node) (k : ℕ) → (more : List Node) × (ys ≡ xs ++ more) → k ≤ length xs → take k ys ≡ take k xs
+front-kept xs ys k kept le = ap (take k) kept.1 ∙ take-front k xs kept.0 le
+
 -- ---- one step
 
 -- a marker at one of the places isn't bumpedfix, and has n as a successor
@@ -146,20 +155,12 @@ module _ (s : ReplicaState) where
     ];
     begun = λ n p h. (a.members n).1 (inl (w.begun n p h));
     closed = λ p n h next.
-        let before : Contains (take (i + 1) seen) p = subst (λ zs. Contains zs p) (front seen new (i + 1) a.kept (omega (arith, l))) h in
+        let before : Contains (take (i + 1) seen) p = subst (λ zs. Contains zs p) (front-kept seen new (i + 1) a.kept (omega (arith, l))) h in
         (a.members n).1 (elim ((taken seen i x p l at).0 before) [
           | inl old ↦ inl (w.closed p n old next)
           | inr e ↦ inr (subst (λ y. IsNext s.markers y n) (sym e) next)
         ]);
   }
-    where
-      front : (xs ys : List Node) (k : ℕ) → (more : List Node) × (ys ≡ xs ++ more) → k ≤ length xs → take k ys ≡ take k xs
-      front xs ys k kept le = ap (take k) kept.1 ∙ take-front k xs kept.0 le
-        where
-          take-front : (k : ℕ) (xs more : List Node) → k ≤ length xs → take k (xs ++ more) ≡ take k xs
-          take-front zero xs more le = refl
-          take-front (suc k) [] more le = absurd (omega (arith, le))
-          take-front (suc k) (y ∷ xs) more le = ap (λ l. y ∷ l) (take-front k xs more (omega (arith, le)))
 
   -- all that was seen is named by a marker, so the walk ends
   pub walk-within : (seen : List Node) (i : ℕ) → IsWalked s seen i → IsDistinct node_eq seen → length seen ≤ length (ids s.markers)

@@ -1,3 +1,2 @@
 pub mod Instabilities
 pub mod Walk
-pub mod Orphans

@@ -37,12 +37,13 @@ impl Model for Instabilities {
 }
 
 impl Instabilities {
-    /// The instabilities of what a replica holds now. It takes one look at each marker and at each changeset.
+    /// The instabilities of what a replica holds now. It looks at each marker once, and then at
+    /// the descendants of obsolete changesets and the ancestors of orphans.
     pub fn from_scratch(alloc: Global, replica: &Replica) -> Result<Instabilities, AllocError>
         ensures { IfOk result (AreInstabilities (content_of replica.now)) }
     {
         let obsolete = obsolete_nodes(alloc, replica)?;
-        let orphan = orphan_nodes(alloc, replica)?;
+        let orphan = orphan_nodes(alloc, replica, &obsolete)?;
         let suspended = set_of(alloc, suspended_nodes(alloc, replica, &orphan)?)?;
         let extinct = outside(alloc, &obsolete, &suspended)?;
         let phase_divergent = phase_divergent_nodes(alloc, replica)?;

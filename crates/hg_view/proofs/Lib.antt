@@ -1,2 +1,3 @@
 mod LawLemmas
 mod ViewLemmas
+mod ShownLemmas

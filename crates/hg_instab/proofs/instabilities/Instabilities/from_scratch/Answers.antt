@@ -5,14 +5,17 @@ use Rattle.hg_replica.specs.Evolution.{IsObsolete, IsSuspended, IsExtinct}
 use Rattle.hg_instab.proofs.SetLemmas.{along}
 use Rattle.hg_instab.proofs.instabilities.Instabilities.from_scratch.Goals as goal
 
+pub orphan_nodes-requires : goal.orphan_nodes-requires
+orphan_nodes-requires c = rw c.deref.ensures.value c.in_ok-obsolete.ensures
+
 pub suspended_nodes-requires : goal.suspended_nodes-requires
-suspended_nodes-requires c = rw c.deref.ensures.value c.in_ok-orphan.ensures
+suspended_nodes-requires c = rw c.deref-2.ensures.value c.in_ok-orphan.ensures
 
 pub returns : goal.returns
 returns c =
     let f = content_of c.args.replica.now in
     let suspended : (n : Node) → Contains c.in_ok-suspended.suspended.keys n ↔ IsSuspended f n = λ n. along (c.in_ok-suspended.ensures n) (c.in_ok-suspended_nodes.ensures n) in
-    let outside : (n : Node) → Contains c.in_ok-extinct.extinct.items n ↔ (Contains c.in_ok-obsolete.obsolete.items n × ¬ (Contains c.in_ok-suspended.suspended.keys n)) = rw c.deref-2.ensures.value at c.in_ok-extinct.ensures in
+    let outside : (n : Node) → Contains c.in_ok-extinct.extinct.items n ↔ (Contains c.in_ok-obsolete.obsolete.items n × ¬ (Contains c.in_ok-suspended.suspended.keys n)) = rw c.deref-3.ensures.value at c.in_ok-extinct.ensures in
     record {
       obsolete = λ n. along (c.in_ok-set_of.ensures n) (c.in_ok-obsolete.ensures n);
       orphan = λ n. along (c.in_ok-set_of-2.ensures n) (c.in_ok-orphan.ensures n);
