@@ -6,7 +6,7 @@ use Rattle.hg_replica.specs.Least.{PartValue, IsAdmitted}
 use Rattle.hg_rewrite.specs.declared.op.Op.{Op}
 use Rattle.hg_rewrite.specs.declared.op.Op.TheVariants.{Commit, Amend, Split, Fold, Prune, Relocate, Advance}
 use Rattle.hg_rewrite.specs.declared.refusal.Refusal.{Refusal}
-use Rattle.hg_rewrite.specs.Parts.{part_of, markers}
+use Rattle.hg_rewrite.specs.Parts.{part_of, chain, markers}
 use Rattle.hg_rewrite.specs.Refusals.{Row, NoneApplies, IsFirstRefusal, unknown_nodes, hidden_parents, public_nodes, obsolete_nodes, not_linear, wrong_count, raise, bad_users, marker_refused, not_written, not_marked, existing_ids, refusals}
 use Rattle.hg_rewrite.specs.Answer.{IsRefusal, DecideAnswer}
 use Rattle.hg_rewrite.proofs.RowLemmas.{none_both, sooner, later}
@@ -14,6 +14,7 @@ use Rattle.hg_rewrite.proofs.PartLemmas.{admitted}
 
 -- what names a user outside of an entry writes nothing
 writes_nothing : (s : ReplicaState) (op : Op) (r : Refusal) → IsFirstRefusal (bad_users op) r → NoneApplies (not_written s op)
+unfolding chain
 writes_nothing s (Commit p q entry secret) r h = absurd h
 writes_nothing s (Amend node entry) r h = absurd h
 writes_nothing s (Split node es) r h = absurd h

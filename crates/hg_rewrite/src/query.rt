@@ -65,7 +65,8 @@ pub(crate) fn is_hidden(alloc: Global, replica: &Replica, node: Node) -> Result<
     ensures answer { IfOk result (λ answer. IsTrue answer ↔ IsHidden (content_of replica.now) node) }
     ensures memory { OnErr result (IsObsolete (content_of replica.now) node) }
 {
-    if !holds(replica, node) {
+    let graph = replica.graph();
+    if !graph.contains(node) {
         return Ok(false);
     }
     let is_visible = is_visible(alloc, replica, node)?;
