@@ -15,6 +15,3 @@ pub use error::RootsError;
 pub use laws::roots_read_back;
 pub use read::read_roots;
 pub use write::roots_text;
-
-#[cfg(test)]
-mod tests;
