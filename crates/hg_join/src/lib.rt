@@ -56,8 +56,6 @@ mod laws;
 mod low_map;
 mod memory;
 mod state;
-#[cfg(test)]
-mod tests;
 
 pub use both::{Both, BothFault};
 pub use laws::{covering_is_agreeing, each_is_least, joined_is_least, one_outcome};

@@ -11,8 +11,6 @@ mod metadata;
 mod parents;
 mod pieces;
 mod reading;
-#[cfg(test)]
-mod tests;
 
 pub use error::{MarkerError, MarkerFault, ReadError};
 pub use format::{decode, encode, read_marker, skip_marker, spelling_laws};

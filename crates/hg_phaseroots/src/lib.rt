@@ -16,6 +16,3 @@ pub use hg_phases::Roots;
 pub use laws::roots_read_back;
 pub use read::read_roots;
 pub use write::roots_text;
-
-#[cfg(test)]
-mod tests;

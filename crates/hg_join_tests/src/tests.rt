@@ -1,9 +1,9 @@
+//! The states that this crate brings, a state of a caller's own, and functions over any state; each growth refused in turn.
 ghost use Rattle.std.specs.Prelude.{◌≡◌, ◌≢◌, ℕ, ⊤, IsTrue, IfSome};
 ghost use Rattle.std.proofs.Common.{refl, sym, ◌∙◌};
 
-use super::*;
+use hg_join::{Both, BothFault, JoinState, LowMap, NoMemory};
 use std::alloc::Global;
-use std::test::Fail;
 
 /// A state that never changes: it takes in only what it is, and refuses all else without a look at memory.
 #[derive(Drop)]
@@ -169,48 +169,54 @@ fn has(map: &LowMap<u8>, even: Option<u8>, odd: Option<u8>) -> bool {
 }
 
 #[test]
-fn a_map_keeps_the_lowest(rt: HostRuntime) -> Result<(), Fail> {
+fn a_map_keeps_the_lowest(rt: HostRuntime) {
     let alloc = rt.alloc();
-    let before = map_of(alloc, &[(1, 5), (2, 3), (1, 7)])?;
-    let mut map = before.copy()?;
-    map.absorb(&[(1, 4), (3, 9), (2, 7)].to_vec(alloc)?)?;
+    let before = map_of(alloc, &[(1, 5), (2, 3), (1, 7)]).expect(&rt, "memory");
+    let mut map = before.copy().expect(&rt, "memory");
+    map.absorb(&[(1, 4), (3, 9), (2, 7)].to_vec(alloc).expect(&rt, "memory"))
+        .expect(&rt, "memory");
     assert_eq!(rt; numbers(&before), [Some(5), Some(3), None]);
     assert_eq!(rt; numbers(&map), [Some(4), Some(3), Some(9)]);
-    assert!(rt; before.below(&map)?);
-    assert!(rt; !map.below(&before)?);
-    map.join(&map_of(alloc, &[(2, 1), (3, 10)])?)?;
+    assert!(rt; before.below(&map).expect(&rt, "memory"));
+    assert!(rt; !map.below(&before).expect(&rt, "memory"));
+    map.join(&map_of(alloc, &[(2, 1), (3, 10)]).expect(&rt, "memory"))
+        .expect(&rt, "memory");
     assert_eq!(rt; numbers(&map), [Some(4), Some(1), Some(9)]);
-    Ok(())
 }
 
 #[test]
-fn both_halves_grow(rt: HostRuntime) -> Result<(), Fail> {
+fn both_halves_grow(rt: HostRuntime) {
     let alloc = rt.alloc();
-    let mut pair = Both::new(map_of(alloc, &[(1, 5)])?, map_of(alloc, &[(1, 6)])?);
-    pair.absorb(&([(1, 4)].to_vec(alloc)?, [(2, 3)].to_vec(alloc)?))?;
+    let mut pair = Both::new(
+        map_of(alloc, &[(1, 5)]).expect(&rt, "memory"),
+        map_of(alloc, &[(1, 6)]).expect(&rt, "memory"),
+    );
+    pair.absorb(&(
+        [(1, 4)].to_vec(alloc).expect(&rt, "memory"),
+        [(2, 3)].to_vec(alloc).expect(&rt, "memory"),
+    ))
+    .expect(&rt, "memory");
     assert_eq!(rt; numbers(pair.first()), [Some(4), None, None]);
     assert_eq!(rt; numbers(pair.second()), [Some(6), Some(3), None]);
-    Ok(())
 }
 
 #[test]
-fn through_the_bound(rt: HostRuntime) -> Result<(), Fail> {
+fn through_the_bound(rt: HostRuntime) {
     let alloc = rt.alloc();
-    let map = map_of(alloc, &[(1, 5)])?;
-    let other = map_of(alloc, &[(1, 4), (2, 9)])?;
-    let p = [(1, 3), (2, 8)].to_vec(alloc)?;
-    let q = [(2, 7), (3, 0)].to_vec(alloc)?;
+    let map = map_of(alloc, &[(1, 5)]).expect(&rt, "memory");
+    let other = map_of(alloc, &[(1, 4), (2, 9)]).expect(&rt, "memory");
+    let p = [(1, 3), (2, 8)].to_vec(alloc).expect(&rt, "memory");
+    let q = [(2, 7), (3, 0)].to_vec(alloc).expect(&rt, "memory");
     assert_eq!(rt; alike_in_either_order(&map, &p, &q), Some(true));
     assert_eq!(rt; joined_is_above(&map, &other), Some(true));
     let pair = Both::new(map, other);
-    let more = [(1, 2)].to_vec(alloc)?;
+    let more = [(1, 2)].to_vec(alloc).expect(&rt, "memory");
     let none = Vec::new(alloc);
     assert_eq!(rt;
         alike_in_either_order(&pair, &(p, q), &(more, none)),
         Some(true)
     );
     assert_eq!(rt; joined_is_above(&pair, &pair), Some(true));
-    Ok(())
 }
 
 #[test]
@@ -304,11 +310,10 @@ fn a_refused_join_tells_its_half(rt: HostRuntime) {
 }
 
 #[test]
-fn faults_show_their_names(rt: HostRuntime) -> Result<(), Fail> {
+fn faults_show_their_names(rt: HostRuntime) {
     let first: BothFault<NoMemory, u8> = BothFault::First(NoMemory);
     let second: BothFault<NoMemory, u8> = BothFault::Second(7);
     let neither: BothFault<NoMemory, u8> = NoMemory.into();
-    let text = format!(in rt.alloc(); "{first} {second} {neither}")?;
+    let text = format!(in rt.alloc(); "{first} {second} {neither}").expect(&rt, "memory");
     assert_eq!(rt; text.as_str(), "NoMemory 7 NoMemory");
-    Ok(())
 }

@@ -1,11 +1,10 @@
 //! Values from outside: markers byte for byte, each refusal at its limit, and growths that are refused.
-use crate::{
+use hg_changeset::Node;
+use hg_marker::{
     Marker, MarkerError, MarkerFault, Metadata, Parents, ReadError, decode, encode, skip_marker,
 };
-use hg_changeset::Node;
 use std::alloc::{AllocError, Global};
 use std::process::Abort;
-use std::test::Fail;
 
 const OLD: Node = Node([0x11; 20]);
 
@@ -99,9 +98,9 @@ fn is_spelling(rt: &impl Abort, alloc: Global, marker: &Marker, bytes: &[u8]) ->
 }
 
 #[test]
-fn reads_further_spellings(rt: HostRuntime) -> Result<(), Fail> {
+fn reads_further_spellings(rt: HostRuntime) {
     let alloc = rt.alloc();
-    let bytes = bytes_with(alloc, NEW, b"user:bob")?;
+    let bytes = bytes_with(alloc, NEW, b"user:bob").expect(&rt, "memory");
     let (marker, _) = read(&rt, alloc, &bytes);
     assert!(rt; marker.meta().get(b"user") == Some(b"bob".as_slice()));
     for (text, is_same) in [
@@ -110,16 +109,15 @@ fn reads_further_spellings(rt: HostRuntime) -> Result<(), Fail> {
         (b"user:bob\0user:eve", false),
         (b"user:bob:", false),
     ] {
-        let bytes = bytes_with(alloc, NEW, text)?;
+        let bytes = bytes_with(alloc, NEW, text).expect(&rt, "memory");
         assert!(rt; is_spelling(&rt, alloc, &marker, &bytes) == is_same);
     }
-    Ok(())
 }
 
 #[test]
-fn refuses_bytes(rt: HostRuntime) -> Result<(), Fail> {
+fn refuses_bytes(rt: HostRuntime) {
     let alloc = rt.alloc();
-    let bytes = bytes_with(alloc, NEW, b"user:bob")?;
+    let bytes = bytes_with(alloc, NEW, b"user:bob").expect(&rt, "memory");
     for len in 0..54 {
         let fault = fault_of(decode(alloc, &bytes[..len.min(bytes.len())]));
         assert_eq!(rt; fault, Some(MarkerFault::Truncated), "at {len}");
@@ -134,44 +132,44 @@ fn refuses_bytes(rt: HostRuntime) -> Result<(), Fail> {
         (NEW, b"user=bob", MarkerFault::BadMetadata),
         (NEW, b"user:bob\0x", MarkerFault::BadMetadata),
     ] {
-        let bytes = bytes_with(alloc, successor, text)?;
+        let bytes = bytes_with(alloc, successor, text).expect(&rt, "memory");
         assert_eq!(rt; fault_of(decode(alloc, &bytes)), Some(fault));
         let short = fault_of(decode(alloc, &bytes[..bytes.len().saturating_sub(1)]));
         assert_eq!(rt; short, Some(MarkerFault::Truncated));
     }
-    Ok(())
 }
 
 #[test]
-fn skips_a_marker(rt: HostRuntime) -> Result<(), Fail> {
-    let mut bytes = bytes_with(rt.alloc(), NEW, b"user:bob")?;
-    bytes.push(7)?;
-    assert_eq!(rt; skip_marker(&bytes)?, [7].as_slice());
-    Ok(())
+fn skips_a_marker(rt: HostRuntime) {
+    let mut bytes = bytes_with(rt.alloc(), NEW, b"user:bob").expect(&rt, "memory");
+    bytes.push(7).expect(&rt, "memory");
+    assert_eq!(rt; skip_marker(&bytes).expect(&rt, "memory"), [7].as_slice());
 }
 
 // A marker without successors, with metadata of NULs alone, one more than the limit or as many.
 #[test]
-fn limits_metadata(rt: HostRuntime) -> Result<(), Fail> {
+fn limits_metadata(rt: HostRuntime) {
     let alloc = rt.alloc();
-    let mut bytes = vec![in alloc; 0u8; 26 + 1_048_577]?;
+    let mut bytes = vec![in alloc; 0u8; 26 + 1_048_577].expect(&rt, "memory");
     bytes[1..5].copy_from_slice(&[0, 0x10, 0, 1]);
     assert_eq!(rt;
         fault_of(decode(alloc, &bytes)),
         Some(MarkerFault::BadMetadata)
     );
     bytes[1..5].copy_from_slice(&[0, 0x10, 0, 0]);
-    let (marker, used) = decode(alloc, &bytes)?;
+    let (marker, used) = decode(alloc, &bytes).expect(&rt, "memory");
     assert_eq!(rt; used, 26 + 1_048_576);
     assert_eq!(rt; marker.predecessor(), Node::NULL);
-    assert_eq!(rt; encode(&marker)?.as_slice(), [0u8; 26].as_slice());
-    Ok(())
+    assert_eq!(rt;
+        encode(&marker).expect(&rt, "memory").as_slice(),
+        [0u8; 26].as_slice()
+    );
 }
 
 #[test]
-fn writes_a_prune(rt: HostRuntime) -> Result<(), Fail> {
+fn writes_a_prune(rt: HostRuntime) {
     let alloc = rt.alloc();
-    let pruned = Node::from_hex(b"b80de5d138758541c5f05265ad144ab9fa86d1db")?;
+    let pruned = Node::from_hex(b"b80de5d138758541c5f05265ad144ab9fa86d1db").expect(&rt, "memory");
     let metadata = metadata_of(
         alloc,
         &[
@@ -180,25 +178,30 @@ fn writes_a_prune(rt: HostRuntime) -> Result<(), Fail> {
             (b"operation", b"prune"),
             (b"date", b"0 0"),
         ],
-    )?;
-    let marker = Marker::new(pruned, Vec::new(alloc), 0, metadata)?;
+    )
+    .expect(&rt, "memory");
+    let marker = Marker::new(pruned, Vec::new(alloc), 0, metadata).expect(&rt, "memory");
     assert_eq!(rt; marker.parents(), Parents::One(Node::NULL));
-    let mut want = Vec::from_slice(alloc, &[0, 0, 0, 0, 0x4f, 0])?;
-    want.extend_from_slice(&pruned.0)?;
-    want.extend_from_slice(b"date:0 0\0operation:prune\0p1:")?;
-    want.extend_from_slice(&[b'0'; 40])?;
-    want.extend_from_slice(b"\0user:fleet")?;
+    let mut want = Vec::from_slice(alloc, &[0, 0, 0, 0, 0x4f, 0]).expect(&rt, "memory");
+    want.extend_from_slice(&pruned.0).expect(&rt, "memory");
+    want.extend_from_slice(b"date:0 0\0operation:prune\0p1:")
+        .expect(&rt, "memory");
+    want.extend_from_slice(&[b'0'; 40]).expect(&rt, "memory");
+    want.extend_from_slice(b"\0user:fleet")
+        .expect(&rt, "memory");
     assert_eq!(rt; want.len(), 105);
-    assert_eq!(rt; encode(&marker)?.as_slice(), want.as_slice());
-    Ok(())
+    assert_eq!(rt;
+        encode(&marker).expect(&rt, "memory").as_slice(),
+        want.as_slice()
+    );
 }
 
 #[test]
-fn records_parents(rt: HostRuntime) -> Result<(), Fail> {
+fn records_parents(rt: HostRuntime) {
     let alloc = rt.alloc();
     let first = b"2222222222222222222222222222222222222222".as_slice();
     let bad = b"222222222222222222222222222222222222222g".as_slice();
-    let other = Node::from_hex(OTHER)?;
+    let other = Node::from_hex(OTHER).expect(&rt, "memory");
     for (texts, parents) in [
         (
             [(b"p1".as_slice(), first), (b"p2", OTHER)],
@@ -213,10 +216,15 @@ fn records_parents(rt: HostRuntime) -> Result<(), Fail> {
         ([(b"p0", bad), (b"user", b"bob")], Parents::Empty),
         ([(b"p3", first), (b"P1", first)], Parents::Unrecorded),
     ] {
-        let marker = Marker::new(OLD, Vec::new(alloc), 0, metadata_of(alloc, &texts)?)?;
+        let marker = Marker::new(
+            OLD,
+            Vec::new(alloc),
+            0,
+            metadata_of(alloc, &texts).expect(&rt, "memory"),
+        )
+        .expect(&rt, "memory");
         assert_eq!(rt; marker.parents(), parents);
     }
-    Ok(())
 }
 
 fn refusal_of(
@@ -232,10 +240,10 @@ fn refusal_of(
 }
 
 #[test]
-fn refuses_fields(rt: HostRuntime) -> Result<(), Fail> {
+fn refuses_fields(rt: HostRuntime) {
     let alloc = rt.alloc();
     let many = [NEW; 256];
-    let long = vec![in alloc; b'x'; 1_048_575]?;
+    let long = vec![in alloc; b'x'; 1_048_575].expect(&rt, "memory");
     for (successors, key, value, refusal) in [
         (
             [OLD, Node::NULL].as_slice(),
@@ -263,13 +271,15 @@ fn refuses_fields(rt: HostRuntime) -> Result<(), Fail> {
         (&many[1..], b"", b"a:b", None),
         (&[], b"k", &long[1..], None),
     ] {
-        assert_eq!(rt; refusal_of(alloc, successors, &[(key, value)])?, refusal);
+        assert_eq!(rt;
+            refusal_of(alloc, successors, &[(key, value)]).expect(&rt, "memory"),
+            refusal
+        );
     }
-    Ok(())
 }
 
 #[test]
-fn numbers_and_names(rt: HostRuntime) -> Result<(), Fail> {
+fn numbers_and_names(rt: HostRuntime) {
     let alloc = rt.alloc();
     for (error, number, name) in [
         (MarkerError::SelfSuccessor, 1, "SelfSuccessor"),
@@ -280,7 +290,10 @@ fn numbers_and_names(rt: HostRuntime) -> Result<(), Fail> {
         (MarkerError::MetaTooLong, 6, "MetaTooLong"),
     ] {
         assert_eq!(rt; error.number(), number);
-        assert_eq!(rt; format!(in alloc; "{error}")?.as_str(), name);
+        assert_eq!(rt;
+            format!(in alloc; "{error}").expect(&rt, "memory").as_str(),
+            name
+        );
     }
     for (fault, number, name) in [
         (MarkerFault::Truncated, 1, "Truncated"),
@@ -288,15 +301,23 @@ fn numbers_and_names(rt: HostRuntime) -> Result<(), Fail> {
         (MarkerFault::BadMetadata, 3, "BadMetadata"),
     ] {
         assert_eq!(rt; fault.number(), number);
-        assert_eq!(rt; format!(in alloc; "{fault}")?.as_str(), name);
+        assert_eq!(rt;
+            format!(in alloc; "{fault}").expect(&rt, "memory").as_str(),
+            name
+        );
         let error = ReadError::Fault(fault);
         assert_eq!(rt; error.fault(), Some(fault));
-        assert_eq!(rt; format!(in alloc; "{error}")?.as_str(), name);
+        assert_eq!(rt;
+            format!(in alloc; "{error}").expect(&rt, "memory").as_str(),
+            name
+        );
     }
     let error: ReadError<MarkerFault> = AllocError.into();
     assert_eq!(rt; error.fault(), None);
-    assert_eq!(rt; format!(in alloc; "{error}")?.as_str(), "NoMemory");
-    Ok(())
+    assert_eq!(rt;
+        format!(in alloc; "{error}").expect(&rt, "memory").as_str(),
+        "NoMemory"
+    );
 }
 
 // Where a growth is refused, the value is as it was, and the same call with memory answers as ever.

@@ -1,6 +1,6 @@
 //! Values from outside: texts byte for byte, the first line at fault, and growths that are refused.
-use crate::{RootsError, read_roots, roots_text};
 use hg_changeset::Node;
+use hg_phaseroots::{RootsError, read_roots, roots_text};
 use hg_phases::{Phase, Roots};
 use std::alloc::Global;
 use std::process::Abort;
