@@ -7,15 +7,23 @@ use hg_phases::Phase;
 use hg_replica::Replica;
 use hg_view::visible;
 use std::alloc::{AllocError, Global};
-use std::collections::BTreeSet;
-use std::collections::BTreeMap;
+use std::collections::{BTreeMap, BTreeSet};
 use std::io::Write;
 
 // What is said of a replica's changesets.
-#[derive(Drop)]
 struct Standing {
     instabilities: Instabilities,
     visible: BTreeSet<Node>,
+}
+
+// Whoever owns it calls this once, and is proved without a look at each set in it.
+impl Drop for Standing {
+    fn drop(self) {
+        let Standing {
+            instabilities: _,
+            visible: _,
+        } = self;
+    }
 }
 
 impl Standing {
@@ -33,7 +41,11 @@ impl Standing {
         push_where(line, sets.suspended().contains(node), b" suspended")?;
         push_where(line, sets.extinct().contains(node), b" extinct")?;
         push_where(line, sets.orphan().contains(node), b" orphan")?;
-        push_where(line, sets.phase_divergent().contains(node), b" phase-divergent")?;
+        push_where(
+            line,
+            sets.phase_divergent().contains(node),
+            b" phase-divergent",
+        )?;
         push_where(line, !self.visible.contains(node), b" hidden")
     }
 }
