@@ -14,7 +14,8 @@ use Rattle.hg_graph.specs.Graph.{IsGraph, Holds, nodes}
 use Rattle.hg_graph.specs.Places.{IsAt, IsParentPlace, IsPlaceOf, ArePlacesOf, ArePlaces}
 use Rattle.hg_graph.specs.Links.{IsOneOf, IsLinkable, IsChildPlace, AreChildPlaces, AreChildren, lists_of, put_last, drop_last, changed_at}
 use Rattle.hg_graph.proofs.GraphLemmas.{Contains-from_place, place_from_Contains, get-take, null_not_held}
-use Rattle.hg_graph.proofs.PlaceLemmas.{get-append, get-push_cases, take-get, get-within, placed_within, kept_places, parent_places_are}
+use Rattle.hg_changeset.proofs.ListLemmas.{slice_get-append, slice_get-push_cases, slice_get-take, slice_get_some}
+use Rattle.hg_graph.proofs.PlaceLemmas.{placed_within, kept_places, parent_places_are}
 use Rattle.hg_graph.proofs.MarkLemmas.{get-set_same, get-set_other}
 
 -- ---- ascending places
@@ -66,7 +67,7 @@ module _ (xs : List ℕ) (n : ℕ) (up : IsStrictlyIncreasing xs) (most : (i : �
         | inr ne ↦
             let l = slice_get_within xs p.0 i p.1 in
             let front : p.0 < length xs - 1 = omega (arith, l, end, ne) in
-            Contains-from_place (drop_last xs) p.0 i (take-get xs (length xs - 1) p.0 i front p.1)
+            Contains-from_place (drop_last xs) p.0 i (slice_get-take xs (length xs - 1) p.0 i front p.1)
       ]
 
 -- ---- one changeset more or less
@@ -77,12 +78,12 @@ child_within ps k j h = slice_get_within ps j h.0 h.1
 module _ (ps : List ParentPlaces) (p : ParentPlaces) where
   child_more : (k j : ℕ) → IsChildPlace (ps ++ p ∷ []) k j ↔ (IsChildPlace ps k j ⊎ ((j ≡ length ps) × IsOneOf p k))
   child_more k j = (
-    λ h. elim (get-push_cases ps p j h.0 h.1) [
+    λ h. elim (slice_get-push_cases ps p j h.0 h.1) [
       | inl before ↦ inl (h.0, before, h.2)
       | inr last ↦ inr (last.0, subst (λ q. IsOneOf q k) (sym last.1) h.2)
     ],
     λ h. elim h [
-      | inl before ↦ (before.0, get-append ps (p ∷ []) j before.0 before.1, before.2)
+      | inl before ↦ (before.0, slice_get-append ps (p ∷ []) j before.0 before.1, before.2)
       | inr last ↦
           let within : j < length (ps ++ p ∷ []) = omega (arith, length-append ps (p ∷ []), last.0) in
           (p, slice_get-get_or (ps ++ p ∷ []) j p within ∙ ap (λ q. Some q) (get_or_push ps p p j (sym last.0)), last.1)
@@ -225,7 +226,7 @@ module _ (ps : List ParentPlaces) (p : ParentPlaces) (lists : List (List ℕ)) w
   AreChildren-push old link = record {
     len = omega (arith, length-append (both p (put_last (length ps)) lists) ([] ∷ []), length-append ps (p ∷ []), length-both p (put_last (length ps)) lists, old.len);
     linkable = linkable;
-    each = λ k places at. elim (get-push_cases (both p (put_last (length ps)) lists) [] k places at) [
+    each = λ k places at. elim (slice_get-push_cases (both p (put_last (length ps)) lists) [] k places at) [
       | inl before ↦ elim (both_cases p (put_last (length ps)) lists (length ps) link k places before) [
         | inl h ↦ subst (AreChildPlaces (ps ++ p ∷ []) k) (sym h.3) (more_children ps p k h.1 h.0 (old.each k h.1 h.2))
         | inr h ↦ same_children ps p k places h.0 (old.each k places h.1)
@@ -235,7 +236,7 @@ module _ (ps : List ParentPlaces) (p : ParentPlaces) (lists : List (List ℕ)) w
   }
     where
       linkable : (j : ℕ) (places : ParentPlaces) → slice_get (ps ++ p ∷ []) j ≡ Some places → IsLinkable j places
-      linkable j places at = elim (get-push_cases ps p j places at) [
+      linkable j places at = elim (slice_get-push_cases ps p j places at) [
         | inl before ↦ old.linkable j places before
         | inr last ↦ subst (λ i. IsLinkable i places) (sym last.0) (subst (IsLinkable (length ps)) last.1 link)
       ]
@@ -258,7 +259,7 @@ module _ (ps : List ParentPlaces) (p : ParentPlaces) (lists : List (List ℕ)) w
   pub AreChildren-pop : AreChildren (ps ++ p ∷ []) lists → AreChildren ps (take (length lists - 1) (both p drop_last lists))
   AreChildren-pop old = record {
     len = omega (arith, length-take (length lists - 1) (both p drop_last lists), length-append ps (p ∷ []), length-both p drop_last lists, old.len);
-    linkable = λ j places at. old.linkable j places (get-append ps (p ∷ []) j places at);
+    linkable = λ j places at. old.linkable j places (slice_get-append ps (p ∷ []) j places at);
     each = λ k places at. elim (both_cases p drop_last lists (length ps) (last_linkable old) k places (get-take (both p drop_last lists) (length lists - 1) k places at).1) [
       | inl h ↦ subst (AreChildPlaces ps k) (sym h.3) (fewer_children ps p k h.1 h.0 (old.each k h.1 h.2))
       | inr h ↦ kept_children ps p k places h.0 (old.each k places h.1)
@@ -291,6 +292,6 @@ module _ (cs : List Contents) (graph : IsGraph cs) where
         let c = kept_places cs graph ps places j h.0 h.1 in
         (parent_places_are cs graph j c.0 h.0 c.1 c.2 k).1 h.2,
     λ h.
-        let p = get-within ps j (omega (arith, slice_get_within cs j h.0 h.2, places.len)) in
+        let p = slice_get_some ps j (omega (arith, slice_get_within cs j h.0 h.2, places.len)) in
         (p.0, p.1, (parent_places_are cs graph j h.0 p.0 h.2 (places.each j h.0 p.0 h.2 p.1) k).0 h),
   )

@@ -13,13 +13,25 @@ use std::collections::BTreeSet;
 use std::marker::Model;
 
 /// The instabilities of a replica: for each kind the changesets that are so. Contracts see the five sets.
-#[derive(Drop)]
 pub struct Instabilities {
     obsolete: BTreeSet<Node>,
     orphan: BTreeSet<Node>,
     suspended: BTreeSet<Node>,
     extinct: BTreeSet<Node>,
     phase_divergent: BTreeSet<Node>,
+}
+
+// Whoever owns them calls this once, and is proved without a look at each set.
+impl Drop for Instabilities {
+    fn drop(self) {
+        let Instabilities {
+            obsolete: _,
+            orphan: _,
+            suspended: _,
+            extinct: _,
+            phase_divergent: _,
+        } = self;
+    }
 }
 
 impl Model for Instabilities {

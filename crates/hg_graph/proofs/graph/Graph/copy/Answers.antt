@@ -4,7 +4,8 @@ use Rattle.std.proofs.lemmas.Option.{get_or_from_slice_get, none-some}
 use Rattle.std.specs.Option.{option_copied}
 use Rattle.hg_graph.specs.Answers.{IsNew}
 use Rattle.hg_graph.specs.Places.{ArePlacesOf}
-use Rattle.hg_graph.proofs.PlaceLemmas.{IsNew-front, ArePlacesOf-take, get-within}
+use Rattle.hg_changeset.proofs.ListLemmas.{slice_get_some}
+use Rattle.hg_graph.proofs.PlaceLemmas.{IsNew-front, ArePlacesOf-take}
 use Rattle.hg_graph.proofs.graph.Graph.copy.Goals as goal
 use Rattle.hg_graph.proofs.graph.Graph.copy.Goals.{in-Some+in_ok-copy+in_ok-push, in_default}
 
@@ -38,6 +39,6 @@ loop-place-preserved c =
           w.graph-is ∙ w.in_ok-push.ensures.pushed ∙ ap (λ g. g ++ w.in_ok-copy.field-0 ∷ []) c.loop-place.invariant
           ∙ ap (λ y. take i cs ++ y ∷ []) (sym last) ∙ sym (take_more cs i x within)
       | in_default w ↦
-          let there = get-within cs i within in
+          let there = slice_get_some cs i within in
           absurd (none-some there.0 (sym (ap option_copied w.in_default.is) ∙ c.changeset_at.ensures ∙ there.1))
     ]
