@@ -1,0 +1,111 @@
+//! Changesets and markers for a replica to take in, and what it is expected to say. `None` where memory ran out.
+use hg_changeset::{Changeset, Node};
+use hg_instab::Instabilities;
+use hg_marker::{Marker, decode};
+use hg_phases::Phase;
+use hg_replica::{Part, Replica};
+use std::alloc::Global;
+use std::collections::BTreeSet;
+use std::process::Abort;
+
+/// An id under which nothing is held.
+pub const ELSEWHERE: Node = Node([0x11; 20]);
+
+/// What an expectation says of each kind of instability.
+#[derive(Clone, Copy)]
+pub struct Kinds<'a> {
+    pub obsolete: &'a [Node],
+    pub orphan: &'a [Node],
+    pub suspended: &'a [Node],
+    pub extinct: &'a [Node],
+    pub phase_divergent: &'a [Node],
+}
+
+fn empty(alloc: Global) -> Part {
+    Part {
+        changesets: Vec::new(alloc),
+        bounds: Vec::new(alloc),
+        markers: Vec::new(alloc),
+    }
+}
+
+/// Takes in a changeset of this parent and text, with a bound.
+pub fn commit(
+    alloc: Global,
+    replica: &mut Replica,
+    parent: Node,
+    text: &[u8],
+    phase: Phase,
+) -> Option<Node> {
+    let text = Vec::from_slice(alloc, text).ok()?;
+    let changeset = Changeset::new(parent, Node::NULL, text).ok()?;
+    let node = changeset.node();
+    let mut part = empty(alloc);
+    part.changesets.push(changeset).ok()?;
+    part.bounds.push((node, phase)).ok()?;
+    replica.absorb(&part).ok()?;
+    Some(node)
+}
+
+/// Takes in a bound.
+pub fn lower(alloc: Global, replica: &mut Replica, node: Node, phase: Phase) -> Option<()> {
+    let mut part = empty(alloc);
+    part.bounds.push((node, phase)).ok()?;
+    replica.absorb(&part).ok()?;
+    Some(())
+}
+
+// The marker as it comes from elsewhere, by its bytes: one that is made may not be its own successor.
+fn received(alloc: Global, old: Node, new: &[Node], flags: u8) -> Option<Marker> {
+    let mut bytes = Vec::new(alloc);
+    bytes.push(u8::try_from(new.len()).ok()?).ok()?;
+    bytes.extend_from_slice(&[0, 0, 0, 0, flags]).ok()?;
+    bytes.extend_from_slice(&old.0).ok()?;
+    for node in new {
+        bytes.extend_from_slice(&node.0).ok()?;
+    }
+    let (marker, _) = decode(alloc, &bytes).ok()?;
+    Some(marker)
+}
+
+/// Takes in the marker that a node was rewritten to others.
+pub fn rewrite(
+    alloc: Global,
+    replica: &mut Replica,
+    old: Node,
+    new: &[Node],
+    flags: u8,
+) -> Option<()> {
+    let marker = received(alloc, old, new, flags)?;
+    let mut part = empty(alloc);
+    part.markers.push(marker).ok()?;
+    replica.absorb(&part).ok()?;
+    Some(())
+}
+
+/// Whether the set has exactly these nodes, which are listed once each.
+pub fn has_exactly(set: &BTreeSet<Node>, nodes: &[Node]) -> bool {
+    for node in nodes {
+        if !set.contains(node) {
+            return false;
+        }
+    }
+    set.len() == nodes.len()
+}
+
+/// The instabilities are these, and a copy has them too.
+pub fn expect_kinds(rt: &impl Abort, alloc: Global, replica: &Replica, kinds: &Kinds) {
+    let told = Instabilities::from_scratch(alloc, replica).expect(rt, "memory");
+    let copy = told.copy().expect(rt, "memory");
+    for sets in [told, copy] {
+        expect_sets(rt, &sets, kinds);
+    }
+}
+
+fn expect_sets(rt: &impl Abort, told: &Instabilities, kinds: &Kinds) {
+    assert!(rt; has_exactly(told.obsolete(), kinds.obsolete));
+    assert!(rt; has_exactly(told.orphan(), kinds.orphan));
+    assert!(rt; has_exactly(told.suspended(), kinds.suspended));
+    assert!(rt; has_exactly(told.extinct(), kinds.extinct));
+    assert!(rt; has_exactly(told.phase_divergent(), kinds.phase_divergent));
+}
