@@ -24,10 +24,7 @@ pub fn amend_bottom(rt: &(impl CpuClock + AllocGlobal), size: usize) -> io::Resu
 }
 
 /// The instabilities and the views of a stack whose bottom was amended, so that all above it are orphans.
-pub fn tell_instabilities(
-    rt: &(impl CpuClock + AllocGlobal),
-    size: usize,
-) -> io::Result<Duration> {
+pub fn tell_instabilities(rt: &(impl CpuClock + AllocGlobal), size: usize) -> io::Result<Duration> {
     let alloc = rt.alloc();
     let part = chain_on(alloc, Node::NULL, size)?;
     let mut replica = replica_of(alloc, &part);
