@@ -1,6 +1,9 @@
 -- Places in lists and members of lists, beside the toolchain's lemmas, for this crate and those above it.
-use Rattle.std.proofs.Common.{◌≡◌, ℕ, zero, suc, ◌<◌, List, [], ◌∷◌, ◌++◌, length, map, take, slice_get, Some, Contains, ◌⊎◌, inl, inr, refl, ap, subst, arith}
-use Rattle.std.proofs.lemmas.List.Elements.{Contains-append_right, Contains-append_cases}
+use Rattle.std.proofs.Common.{◌≡◌, ℕ, zero, suc, ◌+◌, ◌-◌, ◌<◌, List, [], ◌∷◌, ◌++◌, length, map, take, drop, get_or, slice_get, Some, Contains, Result, Ok, Err, OnErr, ◌⊎◌, inl, inr, refl, sym, ap, subst, arith, length-append}
+use Rattle.std.specs.List.Sorted.{IsStrictlyIncreasing}
+use Rattle.std.proofs.lemmas.Bool.{cases_lt}
+use Rattle.std.proofs.lemmas.List.{get_or_append_left, get_or_push, take_all, length-drop}
+use Rattle.std.proofs.lemmas.List.Elements.{Contains-append_left, Contains-append_right, Contains-append_cases, Contains-get_or}
 use Rattle.std.proofs.lemmas.Option.{none-some, same_Some}
 
 -- ---- places
@@ -30,6 +33,19 @@ slice_get-take xs zero i x l h = absurd (omega arith)
 slice_get-take [] (suc n) i x l h = absurd (none-some x h)
 slice_get-take (y ∷ xs) (suc n) zero x l h = h
 slice_get-take (y ∷ xs) (suc n) (suc i) x l h = slice_get-take xs n i x (omega arith) h
+
+-- what is left behind a place is the list without its front
+pub take-drop_rest : {X : Type 0} (xs : List X) (i : ℕ) → take (length xs - i) (drop i xs) ≡ drop i xs
+take-drop_rest xs i = take_all (length xs - i) (drop i xs) (omega (arith, length-drop i xs))
+
+pub IsStrictlyIncreasing-push : (xs : List ℕ) (k : ℕ) → IsStrictlyIncreasing xs → ((i : ℕ) → Contains xs i → i < k) → IsStrictlyIncreasing (xs ++ k ∷ [])
+IsStrictlyIncreasing-push xs k up below j h =
+    let long : length (xs ++ k ∷ []) ≡ length xs + 1 = length-append xs (k ∷ []) in
+    let lt : j < length xs = omega arith in
+    rw (get_or_append_left xs (k ∷ []) 0 j lt) (elim (cases_lt (j + 1) (length xs)) [
+      | inl next ↦ rw (get_or_append_left xs (k ∷ []) 0 (j + 1) next) (up j next)
+      | inr ge ↦ let same : j + 1 ≡ length xs = omega arith in rw (get_or_push xs k 0 (j + 1) (sym same)) (below (get_or xs j 0) (Contains-get_or xs j 0 lt))
+    ])
 
 -- ---- members
 
@@ -63,3 +79,13 @@ Contains-map_from f (x ∷ xs) y h = elim (Contains-cons_cases (f x) (map f xs) 
   | inl e ↦ (x, Contains-first x xs, e)
   | inr e ↦ let r = Contains-map_from f xs y e in (r.0, Contains-later x xs r.0 r.1, r.2)
 ]
+
+pub Contains-append_swap : {X : Type 0} (xs ys : List X) (x : X) → Contains (xs ++ ys) x → Contains (ys ++ xs) x
+Contains-append_swap xs ys x h = elim (Contains-append_cases xs ys x h) [ inl e ↦ Contains-append_right ys xs x e | inr e ↦ Contains-append_left ys xs x e ]
+
+-- ---- errors
+
+-- what holds anyway holds where there is an error
+pub on_err_anyway : {T E : Type 0} (r : Result T E) (P : Type 0) → P → OnErr r P
+on_err_anyway (Ok x) P p = tt
+on_err_anyway (Err e) P p = p

@@ -14,20 +14,11 @@ use Rattle.hg_graph.specs.Graph.{IsGraph, Holds, nodes}
 use Rattle.hg_graph.specs.Places.{IsAt, IsParentPlace, IsPlaceOf, ArePlacesOf, ArePlaces}
 use Rattle.hg_graph.specs.Links.{IsOneOf, IsLinkable, IsChildPlace, AreChildPlaces, AreChildren, lists_of, put_last, drop_last, changed_at}
 use Rattle.hg_graph.proofs.GraphLemmas.{Contains-from_place, place_from_Contains, get-take, null_not_held}
-use Rattle.hg_changeset.proofs.ListLemmas.{slice_get-append, slice_get-push_cases, slice_get-take, slice_get_some}
+use Rattle.hg_changeset.proofs.ListLemmas.{slice_get-append, slice_get-push_cases, slice_get-take, slice_get_some, IsStrictlyIncreasing-push}
 use Rattle.hg_graph.proofs.PlaceLemmas.{placed_within, kept_places, parent_places_are}
 use Rattle.hg_graph.proofs.MarkLemmas.{get-set_same, get-set_other}
 
 -- ---- ascending places
-
-pub increasing_push : (xs : List ℕ) (k : ℕ) → IsStrictlyIncreasing xs → ((i : ℕ) → Contains xs i → i < k) → IsStrictlyIncreasing (xs ++ k ∷ [])
-increasing_push xs k up below j h =
-    let long : length (xs ++ k ∷ []) ≡ length xs + 1 = length-append xs (k ∷ []) in
-    let lt : j < length xs = omega arith in
-    rw (get_or_append_left xs (k ∷ []) 0 j lt) (elim (cases_lt (j + 1) (length xs)) [
-      | inl next ↦ rw (get_or_append_left xs (k ∷ []) 0 (j + 1) next) (up j next)
-      | inr ge ↦ let same : j + 1 ≡ length xs = omega arith in rw (get_or_push xs k 0 (j + 1) (sym same)) (below (get_or xs j 0) (Contains-get_or xs j 0 lt))
-    ])
 
 increasing_take : (xs : List ℕ) (n : ℕ) → IsStrictlyIncreasing xs → IsStrictlyIncreasing (take n xs)
 increasing_take xs n up j h =
@@ -93,7 +84,7 @@ module _ (ps : List ParentPlaces) (p : ParentPlaces) where
   module _ (k : ℕ) (places : List ℕ) where
     more_children : IsOneOf p k → AreChildPlaces ps k places → AreChildPlaces (ps ++ p ∷ []) k (put_last (length ps) places)
     more_children is old = record {
-      ascending = increasing_push places (length ps) old.ascending (λ i h. child_within ps k i ((old.exact i).0 h));
+      ascending = IsStrictlyIncreasing-push places (length ps) old.ascending (λ i h. child_within ps k i ((old.exact i).0 h));
       exact = λ j. (
         λ h. (child_more k j).1 (elim (Contains-push_cases places (length ps) j h) [ inl before ↦ inl ((old.exact j).0 before) | inr e ↦ inr (sym e, is) ]),
         λ h. elim ((child_more k j).0 h) [
@@ -190,10 +181,6 @@ within_option (Some k) n h = h k refl
 pub within_index : (o : Option ℕ) (k n : ℕ) → IfSome o (λ k. k < n) → o ≡ Some k → k < n
 within_index None k n h e = absurd (none-some k e)
 within_index (Some i) k n h e = subst (λ j. j < n) (same_Some i k e) h
-
-pub on_err : {T E : Type 0} (r : Result T E) (P : Type 0) → P → OnErr r P
-on_err (Ok x) P p = tt
-on_err (Err e) P p = p
 
 module _ (p : ParentPlaces) (f : List ℕ → List ℕ) (lists : List (List ℕ)) where
   abbrev pub both : List (List ℕ)

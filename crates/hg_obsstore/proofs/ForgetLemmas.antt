@@ -3,7 +3,7 @@ use Rattle.std.proofs.Common.{◌≡◌, ◌≢◌, ◌<◌, ◌+◌, ◌++◌, 
 use Rattle.std.proofs.lemmas.List.{get_or_append_left, get_or_push, take_more, take_all, length-take}
 use Rattle.std.proofs.lemmas.List.Elements.{Contains-push, Contains-push_cases, Contains-append_left}
 use Rattle.std.proofs.lemmas.List.Kept.{AllPairs-from_increasing}
-use Rattle.std.proofs.lemmas.Option.{slice_get_within}
+use Rattle.std.proofs.lemmas.Option.{slice_get_within, same_Some}
 use Rattle.std.proofs.lemmas.Bool.{cases_eq}
 use Rattle.std.specs.List.Sorted.{IsStrictlyIncreasing}
 use Rattle.hg_changeset.specs.declared.node.Node.{Node}
@@ -14,7 +14,7 @@ use Rattle.hg_obsstore.specs.Places.{ListsAll}
 use Rattle.hg_obsstore.specs.Markers.{IsAt, predecessors, successors}
 use Rattle.hg_obsstore.specs.Index.{places_of, TakesPlaces}
 use Rattle.hg_obsstore.specs.Indexes.{IsIndexBy, AreIndexed, TakeMarker}
-use Rattle.hg_obsstore.proofs.StoreLemmas.{stays, was, last, some_same}
+use Rattle.hg_obsstore.proofs.StoreLemmas.{stays, was, last}
 
 end_view : (xs : List ℕ) → (xs ≡ []) ⊎ ((front : List ℕ) × (l : ℕ) × (xs ≡ front ++ l ∷ []))
 end_view [] = inl refl
@@ -90,7 +90,7 @@ indexed_forget nodes_of ms m old new all takes =
     (λ i q. let lt = slice_get_within (ms ++ m ∷ []) i q.0 q.1 in omega (arith, lt, length-append ms (m ∷ []))) in
     let same : (n : Node) → new n ≡ (each n).front = takes.restores (λ n. (each n).front) (λ n i h. (((each n).all.exact i).0 h).0)
     (λ n. ⊎_elim (λ (e : old n ≡ (each n).front). inl e)
-    (λ (h : Q n (length ms) × (old n ≡ (each n).front ++ length ms ∷ [])). inr (subst (λ x. Contains (nodes_of x) n) (some_same (sym h.0.1 ∙ last ms m)) h.0.2, h.1)) (each n).whole) in
+    (λ (h : Q n (length ms) × (old n ≡ (each n).front ++ length ms ∷ [])). inr (subst (λ x. Contains (nodes_of x) n) (same_Some _ _ (sym h.0.1 ∙ last ms m)) h.0.2, h.1)) (each n).whole) in
     λ n. subst (ListsAll (IsAt (λ x. Contains (nodes_of x) n) ms)) (sym (same n)) (record {
       ascending = (each n).all.ascending;
       exact = λ i. (

@@ -87,10 +87,6 @@ all_taken ns place before now takes n = ⊎_elim (λ (same : now n ≡ before n)
 pub take_one_more : (ns : List Node) (k : ℕ) (node : Node) → k < length ns → node ≡ get_or ns k node → take (k + 1) ns ≡ take k ns ++ node ∷ []
 take_one_more ns k node within read = take_more ns k node within ∙ ap (λ x. take k ns ++ x ∷ []) (sym read)
 
-pub on_err_anyhow : {T E : Type 0} (r : Result T E) (P : Type 0) → P → OnErr r P
-on_err_anyhow (Ok x) P p = tt
-on_err_anyhow (Err e) P p = p
-
 pub Contains-take : {A : Type 0} (xs : List A) (k : ℕ) (x : A) → Contains (take k xs) x → Contains xs x
 Contains-take xs k x h = subst (λ ys. Contains ys x) (take-append-drop k xs) (Contains-append_left (take k xs) (drop k xs) x h)
 

@@ -7,22 +7,14 @@ use Rattle.std.proofs.lemmas.Option.{slice_get_within, slice_get_read, get_or_fr
 use Rattle.std.proofs.lemmas.Bool.{cases_lt, false_from_ne_true}
 use Rattle.std.specs.Cmp.{unsigned_Decides}
 use Rattle.std.proofs.Math.Seq.{take-append_seam}
+use Rattle.hg_changeset.proofs.ListLemmas.{IsStrictlyIncreasing-push}
 use Rattle.hg_obsstore.specs.Places.{ListsAll}
 use Rattle.hg_obsstore.specs.Index.{stands_last, with_last, without_last}
-
-pub increasing_push : (xs : List ℕ) (k : ℕ) → IsStrictlyIncreasing xs → ((i : ℕ) → Contains xs i → i < k) → IsStrictlyIncreasing (xs ++ k ∷ [])
-increasing_push xs k up below j h =
-    let long : length (xs ++ k ∷ []) ≡ length xs + 1 = length-append xs (k ∷ []) in
-    ⊎_elim
-    (λ (lt : j + 1 < length xs). rw (get_or_append_left xs (k ∷ []) 0 (j + 1) lt) (let lt' : j < length xs = omega arith in rw (get_or_append_left xs (k ∷ []) 0 j lt') (up j lt)))
-    (λ (ge : length xs ≤ j + 1). let same : j + 1 ≡ length xs = omega arith in let lt : j < length xs = omega arith in
-    rw (get_or_append_left xs (k ∷ []) 0 j lt) (rw (get_or_push xs k 0 (j + 1) (sym same)) (below (get_or xs j 0) (Contains-get_or xs j 0 lt))))
-    (cases_lt (j + 1) (length xs))
 
 module _ (Q : ℕ → Type 0) where
   pub one_more : (xs : List ℕ) (k : ℕ) → ListsAll (λ i. (i < k) × Q i) xs → Q k → ListsAll (λ i. (i < k + 1) × Q i) (xs ++ k ∷ [])
   one_more xs k all q = record {
-    ascending = increasing_push xs k all.ascending (λ i h. ((all.exact i).0 h).0);
+    ascending = IsStrictlyIncreasing-push xs k all.ascending (λ i h. ((all.exact i).0 h).0);
     exact = λ i. (
       (λ h. ⊎_elim (λ there. let e = (all.exact i).0 there in let lt : i < k + 1 = omega (arith, e.0) in (lt, e.1)) (λ (same : k ≡ i). let lt : i < k + 1 = omega arith in (lt, subst Q same q)) (Contains-push_cases xs k i h)),
       (λ h. ⊎_elim (λ (lt : i < k). Contains-append_left xs (k ∷ []) i ((all.exact i).1 (lt, h.1)))

@@ -2,7 +2,7 @@
 use Rattle.std.proofs.Common.{◌≡◌, ◌<◌, ◌+◌, ◌++◌, ◌∷◌, [], ◌∙◌, ⊎_elim, arith, sym, ap, subst, ℕ, List, Bool, true, false, Some, refl, length, length-append, slice_get, get_or, Contains, take, not}
 use Rattle.std.proofs.lemmas.List.{get_or_append_left, get_or_push}
 use Rattle.std.proofs.lemmas.List.Elements.{Contains-push}
-use Rattle.std.proofs.lemmas.Option.{slice_get_within, slice_get_read, get_or_from_slice_get}
+use Rattle.std.proofs.lemmas.Option.{slice_get_within, slice_get_read, get_or_from_slice_get, same_Some}
 use Rattle.std.specs.List.{list_any}
 use Rattle.std.proofs.lemmas.Bool.{false≢true}
 use Rattle.std.proofs.lemmas.Map.Views.{Contains-from_any, list_any-from_Contains}
@@ -19,9 +19,6 @@ use Rattle.hg_obsstore.specs.Index.{places_of, AreBelow, AddsPlace}
 use Rattle.hg_obsstore.specs.Indexes.{IsIndexBy, AreIndexed, HaveBelow, AddMarker, SameIndexes}
 use Rattle.hg_obsstore.proofs.PlaceLemmas.{one_more, no_more, all_listed}
 use Rattle.hg_obsstore.proofs.IndexLemmas.{among_or_not}
-
-pub some_same : {A : Type 0} {x y : A} → Some x ≡ Some y → x ≡ y
-some_same e = cc
 
 module _ {A : Type 0} (xs : List A) (m : A) where
   long : length (xs ++ m ∷ []) ≡ length xs + 1
@@ -55,7 +52,7 @@ module _ (P : Fields → Type 0) (ms : List Fields) (m : Fields) (ps : List ℕ)
   places_push_yes p = all_listed (IsAt P (ms ++ m ∷ [])) (ps ++ length ms ∷ []) (length ms + 1) (one_more (IsAt P (ms ++ m ∷ [])) ps (length ms) before (m, last ms m, p)) inside
 
   pub places_push_no : (P m → ⊥) → ArePlaces P (ms ++ m ∷ []) ps
-  places_push_no not = all_listed (IsAt P (ms ++ m ∷ [])) ps (length ms + 1) (no_more (IsAt P (ms ++ m ∷ [])) ps (length ms) before (λ h. not (subst P (some_same (sym h.1 ∙ last ms m)) h.2))) inside
+  places_push_no not = all_listed (IsAt P (ms ++ m ∷ [])) ps (length ms + 1) (no_more (IsAt P (ms ++ m ∷ [])) ps (length ms) before (λ h. not (subst P (same_Some _ _ (sym h.1 ∙ last ms m)) h.2))) inside
 
 module _ (nodes_of : Fields → List Node) (ms : List Fields) where
   pub indexed_push : (m : Fields) (old new : Node → List ℕ) → IsIndexBy nodes_of ms old → AddsPlace (nodes_of m) (length ms) old new → IsIndexBy nodes_of (ms ++ m ∷ []) new

@@ -3,13 +3,9 @@ use Rattle.std.proofs.Common.{◌≡◌, ℕ, suc, ◌+◌, ◌-◌, ◌<◌, �
 use Rattle.std.specs.Prelude.{nat_lt, position}
 use Rattle.std.specs.List.{position_or_len, All}
 use Rattle.std.proofs.lemmas.Bool.{ltb-true, ltb-false}
-use Rattle.std.proofs.lemmas.List.{take_all, length-drop}
 use Rattle.std.proofs.lemmas.List.Elements.{All-head, All-tail}
+use Rattle.hg_changeset.proofs.ListLemmas.{take-drop_rest}
 use Rattle.hg_phaseroots.specs.Lines.{is_line_feed, before_lines, lines_of}
-
--- what is left behind a place is the list without its front
-pub rest_from : (xs : List ℕ) (k : ℕ) → take (length xs - k) (drop k xs) ≡ drop k xs
-rest_from xs k = take_all (length xs - k) (drop k xs) (omega (arith, length-drop k xs))
 
 -- a list is split at the first element that passes, where there is one
 pub first_at : (p : ℕ → Bool) (xs : List ℕ) (i : ℕ) → position p xs ≡ Some i → (position_or_len p xs < length xs) × (position_or_len p xs ≡ i)
@@ -61,7 +57,7 @@ line_alone (b ∷ text) l none = alone_by b text (line_alone text) none (is_line
 pub line_found : (text : List ℕ) (i : ℕ) → position is_line_feed text ≡ Some i → lines_of text ≡ take i text ∷ lines_of (take (length text - (i + 1)) (drop (i + 1) text))
 line_found text i h =
     let at = first_at is_line_feed text i h in
-    rw (rest_from text (i + 1)) (line_before text i at.1 (omega arith))
+    rw (take-drop_rest text (i + 1)) (line_before text i at.1 (omega arith))
 
 pub line_last : (text : List ℕ) → 0 < length text → position is_line_feed text ≡ None → lines_of text ≡ text ∷ lines_of (take (length text - length text) (drop (length text) text))
 line_last text l h =

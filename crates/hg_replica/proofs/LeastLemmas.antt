@@ -4,7 +4,7 @@ use Rattle.std.specs.Option.{option_map}
 use Rattle.std.proofs.lemmas.List.{length-map, map-append}
 use Rattle.std.proofs.lemmas.List.Elements.{Contains-append_left, Contains-append_right, Contains-append_cases}
 use Rattle.std.proofs.lemmas.Option.{slice_get-map, slice_get-get_or, get_or_from_slice_get}
-use Rattle.hg_changeset.proofs.ListLemmas.{Contains-one}
+use Rattle.hg_changeset.proofs.ListLemmas.{Contains-one, Contains-append_swap}
 use Rattle.hg_marker.specs.Fields.{Fields}
 use Rattle.hg_graph.proofs.GraphLemmas.{Contains-from_place, place_from_Contains}
 use Rattle.hg_phases.specs.Least.{PartValue as HistoryPart, IsLeast as IsLeastHistory}
@@ -124,15 +124,12 @@ least-then s t u ks ls first next = record {
   );
 }
 
-either_way : (ks ls : List PartValue) (k : PartValue) → Contains (ks ++ ls) k → Contains (ls ++ ks) k
-either_way ks ls k at = elim (Contains-append_cases ks ls k at) [ inl x ↦ Contains-append_right ls ks k x | inr x ↦ Contains-append_left ls ks k x ]
-
 pub least-swap : (s t : ReplicaState) (ks ls : List PartValue) → IsLeast s (ks ++ ls) t → IsLeast s (ls ++ ks) t
 least-swap s t ks ls l = record {
   history = subst (λ hs. IsLeastHistory s.history hs t.history) (sym (histories-append ls ks)) (history-swap s.history (histories ks) (histories ls) t.history (subst (λ hs. IsLeastHistory s.history hs t.history) (histories-append ks ls) l.history));
   markers = λ m. (
-    λ at. elim ((l.markers m).0 at) [ inl x ↦ inl x | inr p ↦ inr (p.0, either_way ks ls p.0 p.1, p.2) ],
-    λ h. elim h [ inl x ↦ (l.markers m).1 (inl x) | inr p ↦ (l.markers m).1 (inr (p.0, either_way ls ks p.0 p.1, p.2)) ],
+    λ at. elim ((l.markers m).0 at) [ inl x ↦ inl x | inr p ↦ inr (p.0, Contains-append_swap ks ls p.0 p.1, p.2) ],
+    λ h. elim h [ inl x ↦ (l.markers m).1 (inl x) | inr p ↦ (l.markers m).1 (inr (p.0, Contains-append_swap ls ks p.0 p.1, p.2)) ],
   );
 }
 

@@ -1,7 +1,6 @@
 -- Tests of a Bool, and elements of lists.
-use Rattle.std.proofs.Common.{◌≡◌, ℕ, inl, inr, Bool, true, false, List, [], ◌∷◌, length, take, drop, ◌-◌, Contains, refl, ap, sym, subst, ◌∙◌, arith, not, ◌||◌, true≢false}
+use Rattle.std.proofs.Common.{◌≡◌, inl, inr, Bool, true, false, List, [], ◌∷◌, Contains, refl, ap, sym, subst, ◌∙◌, not, ◌||◌, true≢false}
 use Rattle.std.specs.List.{list_any}
-use Rattle.std.proofs.lemmas.List.{take_all, length-drop}
 use Rattle.hg_changeset.specs.declared.node.Node.{Node}
 use Rattle.hg_changeset.specs.Node.{node_eq}
 use Rattle.hg_changeset.proofs.NodeLemmas.{same_node, node_itself}
@@ -15,10 +14,6 @@ not_true false h e = true≢false (sym e)
 pub not_untrue : (b : Bool) → (b ≡ true → ⊥) → not b ≡ true
 not_untrue true h = absurd (h refl)
 not_untrue false h = refl
-
--- the end of a list, from a place on
-pub rest-slice : {X : Type 0} (xs : List X) (i : ℕ) → take (length xs - i) (drop i xs) ≡ drop i xs
-rest-slice xs i = take_all (length xs - i) (drop i xs) (omega (arith, length-drop i xs))
 
 -- the nodes that `contains` finds
 any_first : (n y : Node) (ns : List Node) → (list_any (λ m. node_eq m n) ns ≡ true → Contains ns n) → (b : Bool) → node_eq y n ≡ b → list_any (λ m. node_eq m n) (y ∷ ns) ≡ true → Contains (y ∷ ns) n

@@ -1,7 +1,7 @@
 use Rattle.std.proofs.Common.{◌≡◌, ◌+◌, ◌++◌, ◌∷◌, [], length, sym, ap, subst, arith, ◌∙◌, true≢false}
 use Rattle.std.proofs.lemmas.List.{length-append}
 use Rattle.std.proofs.lemmas.Option.{none-some}
-use Rattle.hg_graph.proofs.LinkLemmas.{on_err}
+use Rattle.hg_changeset.proofs.ListLemmas.{on_err_anyway}
 use Rattle.hg_graph.proofs.WalkLemmas.{IsWalked, IsWalked-start, IsWalked-step, IsWalked-end, found_less, one_held, taken_at, taken_within, emptied}
 use Rattle.hg_graph.proofs.graph.Graph.descendants.Goals as goal
 
@@ -26,7 +26,7 @@ loop-place-smaller c = absurd (not_past c)
 
 pub returns-in_err-push-clause-memory : goal.returns-in_err-push-clause-memory
 returns-in_err-push-clause-memory c =
-    on_err c.from_residual-in_err-push.result _ (one_held c.args.self.now c.alloc.ensures c.args.nodes.now c.loop-place.waiting.keys c.loop-place.found.items c.loop-place.invariant.0 c.loop-place.invariant.1
+    on_err_anyway c.from_residual-in_err-push.result _ (one_held c.args.self.now c.alloc.ensures c.args.nodes.now c.loop-place.waiting.keys c.loop-place.found.items c.loop-place.invariant.0 c.loop-place.invariant.1
     c.in-Some.place c.pop_first.new.self.keys c.in-Some.ensures.removal c.in-Some.ensures.all_above)
 
 pub add_children-requires : goal.add_children-requires
@@ -50,7 +50,7 @@ loop-place-preserved-in-Continue-branch-3 c =
 
 pub returns-in_err-add_children-clause-memory : goal.returns-in_err-add_children-clause-memory
 returns-in_err-add_children-clause-memory c =
-    on_err c.from_residual-in_err-add_children.result _ (one_held c.args.self.now c.alloc.ensures c.args.nodes.now c.loop-place.waiting.keys c.loop-place.found.items c.loop-place.invariant.0 c.loop-place.invariant.1
+    on_err_anyway c.from_residual-in_err-add_children.result _ (one_held c.args.self.now c.alloc.ensures c.args.nodes.now c.loop-place.waiting.keys c.loop-place.found.items c.loop-place.invariant.0 c.loop-place.invariant.1
     c.in-Some.place c.pop_first.new.self.keys c.in-Some.ensures.removal c.in-Some.ensures.all_above)
 
 pub returns-clause-answer : goal.returns-clause-answer

@@ -7,7 +7,7 @@ use Rattle.std.proofs.lemmas.Map.Views.{btree_set_contains_iff}
 use Rattle.hg_changeset.specs.declared.node.Node.{Node}
 use Rattle.hg_changeset.specs.Node.{node_cmp}
 use Rattle.hg_graph.specs.Graph.{IsHeadOfThem}
-use Rattle.hg_graph.proofs.LinkLemmas.{on_err}
+use Rattle.hg_changeset.proofs.ListLemmas.{on_err_anyway}
 use Rattle.hg_graph.proofs.WalkLemmas.{emptied}
 use Rattle.hg_graph.proofs.HeadLemmas.{heads_are, no_heads, given_within, given_held}
 use Rattle.hg_graph.proofs.graph.Graph.heads_of.Goals as goal
@@ -22,7 +22,7 @@ heads_between-requires-clause-within c =
 pub returns-in_err-heads-in-Some-Some-clause-memory : goal.returns-in_err-heads-in-Some-Some-clause-memory
 returns-in_err-heads-in-Some-Some-clause-memory c =
     let places = c.in_ok-places.places in
-    on_err c.from_residual-in_err-heads-in-Some-Some.result _ (given_held c.args.self.now c.alloc-alloc.ensures c.args.nodes.now places.keys c.in_ok-places.ensures.answer c.in-Some-Some.first.now
+    on_err_anyway c.from_residual-in_err-heads-in-Some-Some.result _ (given_held c.args.self.now c.alloc-alloc.ensures c.args.nodes.now places.keys c.in_ok-places.ensures.answer c.in-Some-Some.first.now
     ((btree_set_contains_iff nat_cmp_total exact_unsigned places c.in-Some-Some.first.now).0 c.in-Some-Some.ensures.member))
 
 pub returns-in-Some-Some-clause-exact : goal.returns-in-Some-Some-clause-exact
@@ -34,7 +34,7 @@ returns-in-Some-Some-clause-exact c =
 pub returns-in-Some-Some-clause-memory : goal.returns-in-Some-Some-clause-memory
 returns-in-Some-Some-clause-memory c =
     let places = c.in_ok-places.places in
-    on_err c.listed.result _ (given_held c.args.self.now c.alloc-alloc.ensures c.args.nodes.now places.keys c.in_ok-places.ensures.answer c.in-Some-Some.first.now
+    on_err_anyway c.listed.result _ (given_held c.args.self.now c.alloc-alloc.ensures c.args.nodes.now places.keys c.in_ok-places.ensures.answer c.in-Some-Some.first.now
     ((btree_set_contains_iff nat_cmp_total exact_unsigned places c.in-Some-Some.first.now).0 c.in-Some-Some.ensures.member))
 
 none_held : (c : goal.After-drop-places-2) → c.in_ok-places.places.keys ≡ []

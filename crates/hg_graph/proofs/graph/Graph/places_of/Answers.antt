@@ -1,6 +1,6 @@
 use Rattle.std.proofs.Common.{◌≡◌, [], take, arith}
 use Rattle.std.proofs.lemmas.List.{take_all}
-use Rattle.hg_graph.proofs.LinkLemmas.{on_err}
+use Rattle.hg_changeset.proofs.ListLemmas.{on_err_anyway}
 use Rattle.hg_graph.proofs.WalkLemmas.{contains_none, place_more, place_none, place_held}
 use Rattle.hg_graph.proofs.graph.Graph.places_of.Goals as goal
 use Rattle.hg_graph.proofs.graph.Graph.places_of.Goals.{in-Some+in_ok-insert, in_default}
@@ -26,4 +26,4 @@ returns-clause-answer c =
 
 pub returns-in_err-insert-clause-memory : goal.returns-in_err-insert-clause-memory
 returns-in_err-insert-clause-memory c =
-    on_err c.from_residual.result _ (place_held c.args.self.now c.args.nodes.now c.loop-node.node-index (record { 0 = [] }) c.loop-node-test.true c.place.result c.place.ensures.place c.in-Some.place c.in-Some.is)
+    on_err_anyway c.from_residual.result _ (place_held c.args.self.now c.args.nodes.now c.loop-node.node-index (record { 0 = [] }) c.loop-node-test.true c.place.result c.place.ensures.place c.in-Some.place c.in-Some.is)

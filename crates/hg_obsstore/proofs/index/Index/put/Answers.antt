@@ -2,7 +2,8 @@ use Rattle.std.proofs.Common.{◌≡◌, ◌∙◌, ap, sym, ◌++◌, ◌∷◌
 use Rattle.indexmap.specs.IndexMap.{get, get_by}
 use Rattle.hg_changeset.specs.Node.{node_eq}
 use Rattle.hg_obsstore.specs.Index.{items_of, with_last, places_of}
-use Rattle.hg_obsstore.proofs.IndexLemmas.{looked_up, same_everywhere, on_err_anyhow}
+use Rattle.hg_changeset.proofs.ListLemmas.{on_err_anyway}
+use Rattle.hg_obsstore.proofs.IndexLemmas.{looked_up, same_everywhere}
 use Rattle.hg_obsstore.proofs.PlaceLemmas.{with_last_none}
 use Rattle.hg_obsstore.proofs.index.Index.put.Goals as goal
 
@@ -28,4 +29,4 @@ returns-in_err-push_new-in-Some-clause-err c =
     let found : is_some (get_by (node_eq c.args.node) c.args.self.now.by_node) ≡ true = ap is_some (sym c.in-Some.ensures.value) in
     let h = (c.get_mut.follows.holds c.push_new.new.places).3 found in
     let both = looked_up c.args.self.now (record { alloc = c.args.self.now.alloc; by_node = c.get_mut.follows.lender c.push_new.new.places }) c.args.node c.push_new.new.places (places_of c.args.self.now c.args.node) h.1 h.2 (c.in_err-push_new-in-Some.ensures.err ∙ ap items_of c.in-Some.ensures.value) in
-    on_err_anyhow c.from_residual.result _ (same_everywhere c.args.self.now (record { alloc = c.args.self.now.alloc; by_node = c.get_mut.follows.lender c.push_new.new.places }) c.args.node both.0 both.1)
+    on_err_anyway c.from_residual.result _ (same_everywhere c.args.self.now (record { alloc = c.args.self.now.alloc; by_node = c.get_mut.follows.lender c.push_new.new.places }) c.args.node both.0 both.1)
