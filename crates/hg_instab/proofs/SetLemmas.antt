@@ -1,5 +1,5 @@
 -- Sets of nodes that were collected from lists.
-use Rattle.std.proofs.Common.{List, Contains, IsTrue, ◌↔◌, ◌≡◌, sym, ◌∙◌}
+use Rattle.std.proofs.Common.{List, Contains, ◌↔◌, sym, ◌∙◌}
 use Rattle.std.specs.BTreeSet.{BTreeSet, IsFromIterResult}
 use Rattle.std.proofs.lemmas.Cmp.{eq_by_cmp_equiv}
 use Rattle.std.proofs.lemmas.Map.Views.{btree_set_contains_iff, Contains-from_any, list_any-from_Contains, tells_apart}

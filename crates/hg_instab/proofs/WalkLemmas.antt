@@ -1,8 +1,8 @@
 -- Steps over markers, and the walk along them.
-use Rattle.std.proofs.Common.{◌≡◌, ℕ, zero, suc, ◌+◌, ◌<◌, ◌≤◌, List, [], ◌∷◌, ◌++◌, length, take, get_or, slice_get, Some, Contains, Bool, true, false, IsTrue, ◌↔◌, ◌⊎◌, inl, inr, refl, sym, ap, subst, ◌∙◌, append_assoc, arith}
+use Rattle.std.proofs.Common.{◌≡◌, ℕ, zero, suc, ◌+◌, ◌<◌, ◌≤◌, List, [], ◌∷◌, ◌++◌, length, take, get_or, slice_get, Some, Contains, Bool, true, false, ◌↔◌, ◌⊎◌, inl, inr, refl, sym, ap, subst, ◌∙◌, append_assoc, arith}
 use Rattle.std.specs.List.{list_any, IsDistinct}
-use Rattle.std.proofs.lemmas.List.{append-nil, take_all, take_more}
-use Rattle.std.proofs.lemmas.List.Elements.{Contains-append_left, Contains-append_right, Contains-append_cases, Contains-get_or}
+use Rattle.std.proofs.lemmas.List.{append-nil, take_all}
+use Rattle.std.proofs.lemmas.List.Elements.{Contains-append_left, Contains-append_right, Contains-get_or}
 use Rattle.std.proofs.lemmas.Map.Made.{length-le_from_is_member}
 use Rattle.std.proofs.lemmas.Map.Views.{Contains-from_any, list_any-from_Contains}
 use Rattle.hg_changeset.specs.declared.node.Node.{Node}
@@ -19,7 +19,7 @@ use Rattle.hg_replica.specs.Evolution.{HasPhase, IsPredecessor, Precedes, IsBump
 use Rattle.hg_replica.specs.Evolution.Precedes.{step, further}
 use Rattle.hg_replica.proofs.MarkerLemmas.{holds-from, in_from_holds}
 use Rattle.hg_instab.specs.Walk.{IsReached, IsNext, Adds}
-use Rattle.hg_instab.proofs.AmongLemmas.{none_in, pushed, taken, AreThose, HavePredecessor}
+use Rattle.hg_instab.proofs.AmongLemmas.{none_in, pushed, taken}
 use Rattle.hg_instab.proofs.QueryLemmas.{one_phase}
 use Rattle.indexmap.specs.IndexSet.{insert_key}
 

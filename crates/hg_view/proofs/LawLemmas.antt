@@ -1,8 +1,7 @@
 -- Ancestors of what is in view.
-use Rattle.std.proofs.Common.{◌≡◌, ◌≤◌, refl, sym, ap, subst, ◌∙◌, arith}
+use Rattle.std.proofs.Common.{◌≡◌, ap, arith}
 use Rattle.hg_changeset.specs.declared.node.Node.{Node}
-use Rattle.hg_phases.specs.declared.phase.Phase.{Phase}
-use Rattle.hg_phases.specs.declared.phase.Phase.TheVariants.{Public, Draft, Secret}
+use Rattle.hg_phases.specs.declared.phase.Phase.TheVariants.{Secret}
 use Rattle.hg_phases.specs.State.{rank}
 use Rattle.hg_phases.proofs.RankLemmas.{rank-apart, rank-top}
 use Rattle.hg_history.specs.Content.{Content as HistoryContent, IsHeld, Leads, IsValidContent as IsValidHistory}

@@ -1,8 +1,8 @@
 -- What is in view, and what was looked at so far.
-use Rattle.std.proofs.Common.{◌≡◌, ℕ, ◌+◌, ◌<◌, List, take, get_or, length, slice_get, Some, Contains, ◌↔◌, ◌⊎◌, inl, inr, arith}
+use Rattle.std.proofs.Common.{◌≡◌, ℕ, ◌+◌, List, take, slice_get, Some, Contains, ◌↔◌}
 use Rattle.std.proofs.lemmas.Option.{get_or_from_slice_get, slice_get_within}
 use Rattle.hg_changeset.specs.declared.node.Node.{Node}
-use Rattle.hg_graph.specs.Graph.{nodes, Holds, IsAncestorOfOne, Selects}
+use Rattle.hg_graph.specs.Graph.{nodes, IsAncestorOfOne, Selects}
 use Rattle.hg_graph.proofs.PlaceLemmas.{Holds-reaching}
 use Rattle.hg_phases.specs.State.{changesets}
 use Rattle.hg_history.proofs.ContentLemmas.{content-node, node_in_content, leads_from_reach, reach_from_leads}

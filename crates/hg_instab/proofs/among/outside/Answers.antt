@@ -1,4 +1,4 @@
-use Rattle.std.proofs.Common.{take, ◌+◌, [], length, get_or, Contains, IsTrue, ◌↔◌, true≢false, sym, ap, subst, ◌∙◌, arith}
+use Rattle.std.proofs.Common.{take, ◌+◌, [], get_or, Contains, IsTrue, ◌↔◌, true≢false, sym, ap, subst, ◌∙◌}
 use Rattle.std.proofs.lemmas.Map.Views.{btree_set_contains_iff}
 use Rattle.hg_changeset.specs.declared.node.Node.{Node}
 use Rattle.hg_changeset.proofs.NodeLemmas.{node_cmp_total, node_cmp_exact}

@@ -1,6 +1,5 @@
-use Rattle.std.proofs.Common.{subst, ◌∙◌, sym, List}
+use Rattle.std.proofs.Common.{subst, List}
 use Rattle.std.proofs.lemmas.Result.{IfOk-weaker}
-use Rattle.hg_changeset.specs.declared.node.Node.{Node}
 use Rattle.hg_changeset.specs.Contents.{Contents}
 use Rattle.hg_graph.specs.Graph.{Selects, IsAncestorOfOne}
 use Rattle.hg_phases.specs.State.{changesets}

@@ -1,10 +1,8 @@
-use Rattle.std.proofs.Common.{◌+◌, ◌≡◌, ℕ, List, take, length, get_or, slice_get, Option, Some, None, Contains, sym, subst, ap, ◌∙◌, arith}
+use Rattle.std.proofs.Common.{◌+◌, ◌≡◌, ℕ, List, take, get_or, slice_get, Some, Contains, sym, subst, ap, ◌∙◌}
 use Rattle.std.specs.Option.{option_copied}
 use Rattle.std.proofs.lemmas.List.{get_or_default, take_all}
 use Rattle.std.proofs.lemmas.List.Elements.{Contains-get_or}
 use Rattle.std.proofs.lemmas.Option.{none-some}
-use Rattle.hg_changeset.specs.declared.node.Node.{Node}
-use Rattle.hg_marker.specs.Fields.{Fields}
 use Rattle.hg_replica.specs.Evolution.{IsBumpedFix}
 use Rattle.hg_instab.specs.Walk.{Adds, IsNext}
 use Rattle.hg_instab.proofs.WalkLemmas.{IsNextAt, adds-then, adds-same, next-more, next-all}

@@ -1,6 +1,5 @@
-use Rattle.std.proofs.Common.{Contains, true≢false, sym, subst, ◌∙◌}
+use Rattle.std.proofs.Common.{Contains, true≢false, sym, ◌∙◌}
 use Rattle.std.proofs.lemmas.Result.{on_ok_weaker}
-use Rattle.hg_changeset.specs.declared.node.Node.{Node}
 use Rattle.hg_replica.specs.Evolution.{IsBumpedFix}
 use Rattle.hg_instab.proofs.WalkLemmas.{adds-same}
 use Rattle.hg_instab.proofs.walk.follow.Goals as goal

@@ -1,4 +1,3 @@
-use Rattle.std.proofs.Common.{Contains, sym, subst}
 use Rattle.std.proofs.lemmas.Result.{IfOk-weaker}
 use Rattle.hg_instab.proofs.WalkLemmas.{reached-divergent}
 use Rattle.hg_instab.proofs.walk.phase_divergent_nodes.Goals as goal

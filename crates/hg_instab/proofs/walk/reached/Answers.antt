@@ -1,9 +1,9 @@
-use Rattle.std.proofs.Common.{◌≡◌, ◌<◌, ◌+◌, List, [], length, get_or, sym, subst, ap, ◌∙◌, arith}
+use Rattle.std.proofs.Common.{◌<◌, List, [], length, get_or, subst, arith}
 use Rattle.std.proofs.lemmas.List.{get_or_default}
 use Rattle.hg_changeset.specs.declared.node.Node.{Node}
 use Rattle.hg_marker.specs.Fields.{Fields}
 use Rattle.hg_instab.specs.Walk.{Adds, IsNext}
-use Rattle.hg_instab.proofs.WalkLemmas.{IsWalked, walk-start, walk-step, walk-within, walk-end, ids}
+use Rattle.hg_instab.proofs.WalkLemmas.{walk-start, walk-step, walk-within, walk-end}
 use Rattle.hg_instab.proofs.walk.reached.Goals as goal
 
 pub loop-next-init : goal.loop-next-init

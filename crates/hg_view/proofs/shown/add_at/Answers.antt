@@ -1,7 +1,6 @@
-use Rattle.std.proofs.Common.{◌≡◌, ◌+◌, ℕ, Some, take, get_or, slice_get, sym, subst, ap, ◌∙◌}
+use Rattle.std.proofs.Common.{◌≡◌, ◌+◌, Some, take, get_or, slice_get, sym, subst, ap, ◌∙◌}
 use Rattle.std.proofs.lemmas.List.{get_or_default}
 use Rattle.std.proofs.lemmas.Option.{none-some}
-use Rattle.hg_changeset.specs.declared.node.Node.{Node}
 use Rattle.hg_graph.specs.Graph.{nodes}
 use Rattle.hg_instab.specs.Walk.{Adds}
 use Rattle.hg_instab.proofs.WalkLemmas.{adds-then, adds-one, adds-same}

@@ -1,4 +1,4 @@
-use Rattle.std.proofs.Common.{take, ◌+◌, [], length, get_or, Contains, true≢false, sym, ap, subst, ◌∙◌}
+use Rattle.std.proofs.Common.{take, ◌+◌, [], get_or, Contains, true≢false, sym, ap, subst, ◌∙◌}
 use Rattle.hg_changeset.specs.declared.node.Node.{Node}
 use Rattle.hg_phases.specs.declared.phase.Phase.TheVariants.{Secret}
 use Rattle.hg_replica.specs.Content.{content_of}

@@ -1,9 +1,7 @@
 use Rattle.std.proofs.Common.{List, subst}
 use Rattle.std.proofs.lemmas.Result.{IfOk-weaker}
-use Rattle.hg_changeset.specs.declared.node.Node.{Node}
 use Rattle.hg_changeset.specs.Contents.{Contents}
 use Rattle.hg_graph.specs.Graph.{Selects, IsAncestorOfOne}
-use Rattle.hg_phases.specs.State.{changesets}
 use Rattle.hg_view.proofs.ViewLemmas.{visible-are}
 use Rattle.hg_view.proofs.view.visible_nodes.Goals as goal
 

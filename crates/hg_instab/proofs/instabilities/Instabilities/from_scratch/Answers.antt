@@ -1,7 +1,7 @@
-use Rattle.std.proofs.Common.{List, ◌↔◌, Contains, sym, subst}
+use Rattle.std.proofs.Common.{◌↔◌, Contains}
 use Rattle.hg_changeset.specs.declared.node.Node.{Node}
 use Rattle.hg_replica.specs.Content.{content_of}
-use Rattle.hg_replica.specs.Evolution.{IsObsolete, IsSuspended, IsExtinct}
+use Rattle.hg_replica.specs.Evolution.{IsSuspended}
 use Rattle.hg_instab.proofs.SetLemmas.{along}
 use Rattle.hg_instab.proofs.instabilities.Instabilities.from_scratch.Goals as goal
 
