@@ -116,6 +116,12 @@ module _ (s : ReplicaState) (valid : IsValid s) (start : Node) where
       let reach = w.sound x h in
       (x, (content-node s.history valid.graph x (Holds-reached (changesets s.history) reach), not), leads_from_reach s.history valid.graph start x reach)
 
+  -- what was met has a child that isn't obsolete
+  pub search-child : (met : List Node) (i : ℕ) → IsSearched s start met i → (p x : Node) → Contains met p → IsChild (changesets s.history) p x → ¬ (IsObsolete (content_of s) x) → IsVisible (content_of s) start
+  search-child met i w p x h child not =
+      let reach = below (w.sound p h) child.3 child.1 child.2 in
+      (x, (content-node s.history valid.graph x (Holds-reached (changesets s.history) reach), not), leads_from_reach s.history valid.graph start x reach)
+
   -- all that was met is obsolete, and that is all that there is
   pub search-end : (met : List Node) (i : ℕ) → IsSearched s start met i → length met ≤ i → ¬ (IsVisible (content_of s) start)
   search-end met i w ended v = v.1.1 (w.obsolete v.0 (subst (λ zs. Contains zs v.0) (sym (take_all i met ended)) (all v.0 (reach_from_leads s.history valid.graph start v.0 (node_in_content s.history valid.graph v.0 v.1.0) v.2))))

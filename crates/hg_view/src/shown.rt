@@ -1,5 +1,7 @@
 //! Whether one changeset is visible, by a walk to what stands on it.
 ghost use Rattle.std.specs.Prelude.{◌↔◌, IfOk, OnOk, OnErr, IsTrue};
+ghost use Rattle.hg_changeset.specs.declared.node.Node.{Node};
+ghost use Rattle.hg_phases.specs.State.{changesets};
 ghost use Rattle.hg_replica.specs.Content.{content_of};
 ghost use Rattle.hg_replica.specs.Evolution.{IsObsolete, IsVisible};
 ghost use Rattle.hg_instab.specs.Walk.{Adds};
@@ -40,10 +42,43 @@ fn has_revealed(alloc: Global, replica: &Replica, node: Node) -> Result<bool, Al
         if !is_obsolete(replica, node) {
             return Ok(true);
         }
+        if has_current_child(replica, node) {
+            return Ok(true);
+        }
         add_children(graph, node, &mut met)?;
         next += 1;
     }
     Ok(false)
+}
+
+// Whether some child of a changeset isn't obsolete. The walk would come to it anyway; a look ahead spares it the other
+// children, of which there may be many.
+fn has_current_child(replica: &Replica, node: Node) -> bool
+    ensures { IsTrue result → ((n : Node) × IsChild (changesets replica.now.history) node n × ¬ (IsObsolete (content_of replica.now) n)) }
+{
+    let graph = replica.graph();
+    match graph.place(node) {
+        Some(place) => has_current_at(replica, graph.children(place)),
+        None => false,
+    }
+}
+
+// Whether some changeset at the places isn't obsolete.
+fn has_current_at(replica: &Replica, places: &[usize]) -> bool
+    ensures { IsTrue result → ((n : Node) × IsAtOne (changesets replica.now.history) places.now n × ¬ (IsObsolete (content_of replica.now) n)) }
+{
+    let graph = replica.graph();
+    for place in places {
+        match graph.node_at(*place) {
+            Some(node) => {
+                if !is_obsolete(replica, node) {
+                    return true;
+                }
+            }
+            None => {}
+        }
+    }
+    false
 }
 
 // Adds the children of a changeset.
