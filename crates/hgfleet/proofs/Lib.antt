@@ -1,3 +1,1 @@
 mod ArgumentLemmas
-mod InputLemmas
-mod WordLemmas

@@ -1,30 +1,14 @@
 //! `hgfleet` runs scripts of a fleet of Mercurial repositories.
 //!
-//! A script comes in, a report goes out: `run_script` reads the whole script, does its lines in order and prints what
-//! they report. Everything below `main` is over any reader and any writer.
+//! The arguments say what is wanted; a script is run by `hg_script`, from standard input to standard output. The status
+//! says what came of it.
 #![tactic(auto)]
 
 mod arguments;
-mod command;
-mod counted;
-mod fault;
-mod fleet;
-mod input;
-mod limits;
-mod lines;
-mod operation;
-mod output;
-mod reading;
-mod report;
-mod script;
-mod steps;
-#[cfg(test)]
-mod tests;
 
 use arguments::{ArgumentFault, Wanted, read_args};
 use clap::Error;
-use fault::RunFault;
-use script::run_counted;
+use hg_script::{RunFault, run_counted};
 use std::env::Env;
 use std::io::{BufWriter, ErrorKind, Write};
 use std::process::ExitCode;

@@ -1,0 +1,166 @@
+-- The commands of a script: what the words of a line say, or the first fault that they show.
+use Rattle.std.specs.Prelude.{ℕ, ◌≤◌, ◌≡◌, ◌≢◌, ◌+◌, List, [], ◌∷◌, length, take, drop, map, slice_get, codes, Contains, IfSome, Bool, if◌then◌else◌, Option, Some, None, Result, Ok, Err}
+use denote.Bor.{Bor}
+use Rattle.std.specs.List.{AllPass}
+use Rattle.hg_phases.specs.declared.phase.Phase.{Phase}
+use Rattle.hg_phases.specs.declared.phase.Phase.TheVariants.{Public, Draft, Secret}
+use Rattle.hg_script.specs.Words.{is_name}
+use Rattle.hg_script.specs.declared.command.Command.{Command}
+use Rattle.hg_script.specs.declared.command.Command.TheVariants.{Node, Operation as operation, Report, Agree}
+use Rattle.hg_script.specs.declared.operation.Operation.{Operation}
+use Rattle.hg_script.specs.declared.operation.Operation.TheVariants.{Commit, Amend, Split, Fold, Prune, Relocate, Advance}
+use Rattle.hg_script.specs.declared.operation.Parents.{Parents}
+use Rattle.hg_script.specs.declared.operation.Parents.TheVariants.{NoParent, One, Two}
+use Rattle.hg_script.specs.declared.fault.LineFault.{LineFault}
+use Rattle.hg_script.specs.declared.fault.LineFault.TheVariants.{UnknownCommand, WordCount, BadName, BadPhase}
+
+abbrev pub Text : Type 0
+Text = List ℕ
+
+-- a word where it stands in its line
+abbrev pub Word : Type 0
+Word = Bor Text
+
+abbrev pub texts : List Word → List Text
+texts words = map (λ w. w.now) words
+
+-- ---- what each command is spelled as
+
+abbrev pub phase_word : Phase → Text
+phase_word Public = codes "public"
+phase_word Draft = codes "draft"
+phase_word Secret = codes "secret"
+
+abbrev pub asked_word : Bool → Text
+asked_word is_secret = if is_secret then codes "secret" else codes "draft"
+
+abbrev pub parent_words : Parents → List Text
+parent_words NoParent = []
+parent_words (One p) = p.now ∷ []
+parent_words (Two p q) = p.now ∷ q.now ∷ []
+
+abbrev pub operation_words : Text → Operation → List Text
+operation_words at (Commit new is_secret parents) = codes "commit" ∷ at ∷ new.now ∷ asked_word is_secret ∷ parent_words parents
+operation_words at (Amend old new) = codes "amend" ∷ at ∷ old.now ∷ new.now ∷ []
+operation_words at (Split old new) = codes "split" ∷ at ∷ old.now ∷ texts new.now
+operation_words at (Fold new old) = codes "fold" ∷ at ∷ new.now ∷ texts old.now
+operation_words at (Prune old) = codes "prune" ∷ at ∷ old.now ∷ []
+operation_words at (Relocate old new parents) = codes "relocate" ∷ at ∷ old.now ∷ new.now ∷ parent_words parents
+operation_words at (Advance label phase) = codes "phase" ∷ at ∷ label.now ∷ phase_word phase ∷ []
+
+-- the words of the line that says this command
+abbrev pub words_of_command : Command → List Text
+words_of_command (Node at) = codes "node" ∷ at.now ∷ []
+words_of_command (operation at op) = operation_words at.now op
+words_of_command (Report at) = codes "report" ∷ at.now ∷ []
+words_of_command (Agree one other) = codes "agree" ∷ one.now ∷ other.now ∷ []
+
+-- ---- the forms of lines
+
+-- a command's first word, how many words follow it, and where among these a phase stands, and which; all others are names
+pub record Form : Type 0 where
+  pub word : Text
+  pub least : ℕ
+  pub most : Option ℕ
+  pub phase_at : Option ℕ
+  pub phases : List Text
+
+abbrev pub names_alone : Text → ℕ → Option ℕ → Form
+names_alone word least most = record { word = word; least = least; most = most; phase_at = None; phases = [] }
+
+abbrev pub node_form : Form
+node_form = names_alone (codes "node") 1 (Some 1)
+
+abbrev pub commit_form : Form
+commit_form = record { word = codes "commit"; least = 3; most = Some 5; phase_at = Some 2; phases = codes "draft" ∷ codes "secret" ∷ [] }
+
+abbrev pub amend_form : Form
+amend_form = names_alone (codes "amend") 3 (Some 3)
+
+abbrev pub split_form : Form
+split_form = names_alone (codes "split") 2 None
+
+abbrev pub fold_form : Form
+fold_form = names_alone (codes "fold") 2 None
+
+abbrev pub prune_form : Form
+prune_form = names_alone (codes "prune") 2 (Some 2)
+
+abbrev pub relocate_form : Form
+relocate_form = names_alone (codes "relocate") 3 (Some 5)
+
+abbrev pub advance_form : Form
+advance_form = record { word = codes "phase"; least = 3; most = Some 3; phase_at = Some 2; phases = codes "public" ∷ codes "draft" ∷ codes "secret" ∷ [] }
+
+abbrev pub report_form : Form
+report_form = names_alone (codes "report") 1 (Some 1)
+
+abbrev pub agree_form : Form
+agree_form = names_alone (codes "agree") 2 (Some 2)
+
+-- ---- the faults of lines, in the order in which they are tried
+
+abbrev pub IsAtMost : ℕ → Option ℕ → Type 0
+IsAtMost n None = Unit {0}
+IsAtMost n (Some most) = n ≤ most
+
+-- as many words follow as the form takes
+abbrev pub Fits : Form → List Word → Type 0
+Fits form words = (form.least ≤ length words) × IsAtMost (length words) form.most
+
+-- each of the words is a name
+abbrev pub AllNames : List Word → Type 0
+AllNames words = AllPass (λ w. is_name w.now) words
+
+-- each word is a name but for the one at a place, if there is one
+abbrev pub AreNamesBut : Option ℕ → List Word → Type 0
+AreNamesBut None words = AllNames words
+AreNamesBut (Some place) words = AllNames (take place words) × AllNames (drop (place + 1) words)
+
+-- each word in a name's place is a name
+abbrev pub AreNames : Form → List Word → Type 0
+AreNames form words = AreNamesBut form.phase_at words
+
+-- the word at the place, if there is one, is among the phases
+abbrev pub IsPhaseAt : Option ℕ → List Text → List Word → Type 0
+IsPhaseAt None phases words = Unit {0}
+IsPhaseAt (Some place) phases words = IfSome (slice_get words place) (λ w. Contains phases w.now)
+
+-- the word in a phase's place is a phase that the form takes
+abbrev pub HasPhase : Form → List Word → Type 0
+HasPhase form words = IsPhaseAt form.phase_at form.phases words
+
+-- what is answered to a line whose first word is the form's, and these words after it
+abbrev pub FormAnswer : Form → List Word → Result Command LineFault → Type 0
+FormAnswer form words (Ok command) = (words_of_command command ≡ form.word ∷ texts words) × AreNames form words
+FormAnswer form words (Err WordCount) = ¬ (Fits form words)
+FormAnswer form words (Err BadName) = Fits form words × ¬ (AreNames form words)
+FormAnswer form words (Err BadPhase) = Fits form words × AreNames form words × ¬ (HasPhase form words)
+FormAnswer form words (Err _) = ⊥
+
+-- no command begins with this word
+abbrev pub IsNoCommand : Text → Type 0
+IsNoCommand word =
+    (word ≢ codes "node") × (word ≢ codes "commit") × (word ≢ codes "amend") × (word ≢ codes "split") × (word ≢ codes "fold")
+    × (word ≢ codes "prune") × (word ≢ codes "relocate") × (word ≢ codes "phase") × (word ≢ codes "report") × (word ≢ codes "agree")
+
+-- what is answered to a line with this first word and these after it, by the command that the first word names
+abbrev pub LineAnswer : Text → List Word → Result Command LineFault → Type 0
+LineAnswer word words result =
+    (word ≡ codes "node" → FormAnswer node_form words result)
+    × (word ≡ codes "commit" → FormAnswer commit_form words result)
+    × (word ≡ codes "amend" → FormAnswer amend_form words result)
+    × (word ≡ codes "split" → FormAnswer split_form words result)
+    × (word ≡ codes "fold" → FormAnswer fold_form words result)
+    × (word ≡ codes "prune" → FormAnswer prune_form words result)
+    × (word ≡ codes "relocate" → FormAnswer relocate_form words result)
+    × (word ≡ codes "phase" → FormAnswer advance_form words result)
+    × (word ≡ codes "report" → FormAnswer report_form words result)
+    × (word ≡ codes "agree" → FormAnswer agree_form words result)
+    × (IsNoCommand word → result ≡ Err UnknownCommand)
+
+-- a line without words says nothing; any other says the command whose words they are, or is at fault
+abbrev pub CommandAnswer : List Word → Result (Option Command) LineFault → Type 0
+CommandAnswer words (Ok None) = words ≡ []
+CommandAnswer words (Ok (Some command)) = (word : Word) × (rest : List Word) × (words ≡ word ∷ rest) × LineAnswer word.now rest (Ok command)
+CommandAnswer words (Err fault) = (word : Word) × (rest : List Word) × (words ≡ word ∷ rest) × LineAnswer word.now rest (Err fault)

@@ -1,0 +1,5 @@
+pub mod Commands
+pub mod Entries
+pub mod Faults
+pub mod Limits
+pub mod Words

@@ -1,0 +1,25 @@
+//! Scripts of a fleet: their language, and what their lines do.
+//!
+//! A script comes in by any reader, and what its lines report goes out by any writer: [`run_script`] reads the whole
+//! script, does its lines in order and prints what they report. A line is divided into words and read as a command before
+//! anything is done. What a line's replica refuses is printed, and the script goes on; a [`RunFault`] ends it.
+#![tactic(auto)]
+
+mod command;
+mod counted;
+mod fault;
+mod fleet;
+mod input;
+mod limits;
+mod lines;
+mod operation;
+mod output;
+mod reading;
+mod report;
+mod script;
+mod steps;
+
+pub use counted::CountedRead;
+pub use fault::{LineFault, RunFault};
+pub use limits::{LINE_LIMIT, NAME_LIMIT, SCRIPT_LIMIT, limits_are_those_of_the_format};
+pub use script::{run_counted, run_script};

@@ -1,0 +1,7 @@
+//! Tests of `hg_script`, as a caller from outside sees it.
+#![tactic(auto)]
+
+#[cfg(test)]
+mod streams;
+#[cfg(test)]
+mod tests;
