@@ -5,22 +5,21 @@ use Rattle.std.proofs.lemmas.List.{append-nil, take_all}
 use Rattle.std.proofs.lemmas.List.Elements.{Contains-append_left, Contains-append_right, Contains-get_or}
 use Rattle.std.proofs.lemmas.Map.Made.{length-le_from_is_member}
 use Rattle.std.proofs.lemmas.Map.Views.{Contains-from_any, list_any-from_Contains}
+use Rattle.std.proofs.lemmas.Option.{same_Some}
 use Rattle.hg_changeset.specs.declared.node.Node.{Node}
 use Rattle.hg_changeset.specs.Node.{node_eq}
 use Rattle.hg_changeset.proofs.NodeLemmas.{same_node, node_eq_laws}
 use Rattle.hg_graph.proofs.GraphLemmas.{Contains-from_place, place_from_Contains}
-use Rattle.hg_phases.specs.declared.phase.Phase.TheVariants.{Public}
 use Rattle.hg_changeset.proofs.ListLemmas.{Contains-cons_cases}
 use Rattle.hg_marker.specs.Fields.{Fields}
 use Rattle.hg_obsstore.specs.Markers.{ArePlaces}
 use Rattle.hg_replica.specs.State.{ReplicaState}
-use Rattle.hg_replica.specs.Content.{content_of}
-use Rattle.hg_replica.specs.Evolution.{HasPhase, IsPredecessor, Precedes, IsBumpedFix, IsPhaseDivergent, IsCurrent}
+use Rattle.hg_replica.specs.Content.{Content, content_of}
+use Rattle.hg_replica.specs.Evolution.{IsPredecessor, Precedes, IsCurrent}
 use Rattle.hg_replica.specs.Evolution.Precedes.{step, further}
 use Rattle.hg_replica.proofs.MarkerLemmas.{holds-from, in_from_holds}
 use Rattle.hg_instab.specs.Walk.{IsReached, IsNext, Adds}
 use Rattle.hg_instab.proofs.AmongLemmas.{none_in, pushed, taken}
-use Rattle.hg_instab.proofs.QueryLemmas.{one_phase}
 use Rattle.indexmap.specs.IndexSet.{insert_key}
 
 -- ---- what is added
@@ -79,39 +78,33 @@ front-kept xs ys k kept le = ap (take k) kept.1 ∙ take-front k xs kept.0 le
 
 -- ---- one step
 
--- a marker at one of the places isn't bumpedfix, and has n as a successor
-abbrev pub IsNextAt : List Fields → List ℕ → Node → Type 0
-IsNextAt ms places n = (k : ℕ) × Contains places k × (m : Fields) × (slice_get ms k ≡ Some m) × ¬ (IsBumpedFix m) × Contains m.successors n
+-- a marker of this kind, at one of the places, has n as a successor
+abbrev pub IsNextAt : (Fields → Type 0) → List Fields → List ℕ → Node → Type 0
+IsNextAt Kind ms places n = (k : ℕ) × Contains places k × (m : Fields) × (slice_get ms k ≡ Some m) × Kind m × Contains m.successors n
 
-pub next-more : (ms : List Fields) (places : List ℕ) (i k : ℕ) (m : Fields) → i < length places → get_or places i k ≡ k → slice_get ms k ≡ Some m → (n : Node)
-    → IsNextAt ms (take (i + 1) places) n ↔ (IsNextAt ms (take i places) n ⊎ (¬ (IsBumpedFix m) × Contains m.successors n))
-next-more ms places i k m l is at n = (
+pub next-more : (Kind : Fields → Type 0) (ms : List Fields) (places : List ℕ) (i k : ℕ) (m : Fields) → i < length places → get_or places i k ≡ k → slice_get ms k ≡ Some m → (n : Node)
+    → IsNextAt Kind ms (take (i + 1) places) n ↔ (IsNextAt Kind ms (take i places) n ⊎ (Kind m × Contains m.successors n))
+next-more Kind ms places i k m l is at n = (
   λ h. elim ((taken places i k h.0 l is).0 h.1) [
     | inl old ↦ inl (h.0, old, h.2, h.3, h.4, h.5)
     | inr e ↦
-        let same : h.2 ≡ m = some_is (sym h.3 ∙ ap (slice_get ms) (sym e) ∙ at) in
-        inr (subst (λ x. ¬ (IsBumpedFix x) × Contains x.successors n) same (h.4, h.5))
+        let same : h.2 ≡ m = same_Some h.2 m (sym h.3 ∙ ap (slice_get ms) (sym e) ∙ at) in
+        inr (subst (λ x. Kind x × Contains x.successors n) same (h.4, h.5))
   ],
   λ h. elim h [
     | inl old ↦ (old.0, (taken places i k old.0 l is).1 (inl old.1), old.2, old.3, old.4, old.5)
     | inr new ↦ (k, (taken places i k k l is).1 (inr refl), m, at, new.0, new.1)
   ],
 )
-  where
-    some_is : {a b : Fields} → Some a ≡ Some b → a ≡ b
-    some_is e = cc
 
-pub next-all : (ms : List Fields) (places : List ℕ) (p n : Node) → ArePlaces (λ m. m.predecessor ≡ p) ms places → IsNext ms p n ↔ IsNextAt ms places n
-next-all ms places p n are = (
+pub next-all : (Kind : Fields → Type 0) (ms : List Fields) (places : List ℕ) (p n : Node) → ArePlaces (λ m. m.predecessor ≡ p) ms places → IsNext Kind ms p n ↔ IsNextAt Kind ms places n
+next-all Kind ms places p n are = (
   λ h. let k = place_from_Contains ms h.0 h.1 in (k.0, (are.exact k.0).1 (h.0, k.1, h.2), h.0, k.1, h.3, h.4),
   λ h.
       let m = (are.exact h.0).0 h.1 in
-      let same : m.0 ≡ h.2 = some_is (sym m.1 ∙ h.3) in
+      let same : m.0 ≡ h.2 = same_Some m.0 h.2 (sym m.1 ∙ h.3) in
       (h.2, Contains-from_place ms h.0 h.2 h.3, ap (λ x. x.predecessor) (sym same) ∙ m.2, h.4, h.5),
 )
-  where
-    some_is : {a b : Fields} → Some a ≡ Some b → a ≡ b
-    some_is e = cc
 
 -- ---- the walk
 
@@ -128,74 +121,78 @@ named (x ∷ ms) m n at h = elim (Contains-cons_cases x ms m at) [
 ]
 
 -- how far the walk has come: from the first i of those that were seen, all that a step leads to was seen
-pub record IsWalked (s : ReplicaState) (seen : List Node) (i : ℕ) : Type 0 where
-  pub sound : (n : Node) → Contains seen n → IsReached (content_of s) n
-  pub begun : (n : Node) → IsPredecessor (content_of s) n → HasPhase (content_of s) n Public → Contains seen n
-  pub closed : (p n : Node) → Contains (take i seen) p → IsNext s.markers p n → Contains seen n
+pub record IsWalked (s : ReplicaState) (Kind : Fields → Type 0) (starts seen : List Node) (i : ℕ) : Type 0 where
+  pub sound : (n : Node) → Contains seen n → IsReached (content_of s) Kind starts n
+  pub begun : (n : Node) → Contains starts n → Contains seen n
+  pub closed : (p n : Node) → Contains (take i seen) p → IsNext Kind s.markers p n → Contains seen n
 
-module _ (s : ReplicaState) where
-  pub walk-start : (seen : List Node) → ((n : Node) → Contains seen n ↔ (IsPredecessor (content_of s) n × HasPhase (content_of s) n Public)) → IsWalked s seen 0
-  walk-start seen are = record {
-    sound = λ n h. inl ((are n).0 h);
-    begun = λ n p h. (are n).1 (p, h);
+module _ (s : ReplicaState) (Kind : Fields → Type 0) (starts : List Node) where
+  pub walk-start : IsWalked s Kind starts starts 0
+  walk-start = record {
+    sound = λ n h. inl h;
+    begun = λ n h. h;
     closed = λ p n h next. absurd (none_in p h);
   }
 
   -- what a step leads to from what is reached is reached
-  reached-next : (p n : Node) → IsReached (content_of s) p → IsNext s.markers p n → IsReached (content_of s) n
-  reached-next p n (inl first) next = inr (p, first.1, step (holds-from s.markers next.0 next.1) next.3 next.4 next.2)
+  reached-next : (p n : Node) → IsReached (content_of s) Kind starts p → IsNext Kind s.markers p n → IsReached (content_of s) Kind starts n
+  reached-next p n (inl first) next = inr (p, first, step (holds-from s.markers next.0 next.1) next.3 next.4 next.2)
   reached-next p n (inr far) next =
-      inr (far.0, far.1, further (holds-from s.markers next.0 next.1) next.3 next.4 (subst (Precedes (content_of s) (λ m. ¬ (IsBumpedFix m)) far.0) (sym next.2) far.2))
+      inr (far.0, far.1, further (holds-from s.markers next.0 next.1) next.3 next.4 (subst (Precedes (content_of s) Kind far.0) (sym next.2) far.2))
 
-  pub walk-step : (seen new : List Node) (i : ℕ) (x : Node) → i < length seen → get_or seen i x ≡ x → IsWalked s seen i → Adds (IsNext s.markers x) seen new → IsWalked s new (i + 1)
+  pub walk-step : (seen new : List Node) (i : ℕ) (x : Node) → i < length seen → get_or seen i x ≡ x → IsWalked s Kind starts seen i → Adds (IsNext Kind s.markers x) seen new → IsWalked s Kind starts new (i + 1)
   walk-step seen new i x l at w a = record {
     sound = λ n h. elim ((a.members n).0 h) [
       | inl old ↦ w.sound n old
       | inr next ↦ reached-next x n (w.sound x (subst (Contains seen) at (Contains-get_or seen i x l))) next
     ];
-    begun = λ n p h. (a.members n).1 (inl (w.begun n p h));
+    begun = λ n h. (a.members n).1 (inl (w.begun n h));
     closed = λ p n h next.
         let before : Contains (take (i + 1) seen) p = subst (λ zs. Contains zs p) (front-kept seen new (i + 1) a.kept (omega (arith, l))) h in
         (a.members n).1 (elim ((taken seen i x p l at).0 before) [
           | inl old ↦ inl (w.closed p n old next)
-          | inr e ↦ inr (subst (λ y. IsNext s.markers y n) (sym e) next)
+          | inr e ↦ inr (subst (λ y. IsNext Kind s.markers y n) (sym e) next)
         ]);
   }
 
-  -- all that was seen is named by a marker, so the walk ends
-  pub walk-within : (seen : List Node) (i : ℕ) → IsWalked s seen i → IsDistinct node_eq seen → length seen ≤ length (ids s.markers)
-  walk-within seen i w distinct = length-le_from_is_member node_eq_laws seen (ids s.markers) distinct (λ q e. list_any-from_Contains node_eq_laws q (ids s.markers) (reached-named q (w.sound q (Contains-from_any same_node q seen e))))
+  -- all that was seen is a start, or named by a marker, so the walk ends
+  pub walk-within : (seen : List Node) (i : ℕ) → IsWalked s Kind starts seen i → IsDistinct node_eq seen → length seen ≤ length (starts ++ ids s.markers)
+  walk-within seen i w distinct = length-le_from_is_member node_eq_laws seen (starts ++ ids s.markers) distinct (λ q e. list_any-from_Contains node_eq_laws q (starts ++ ids s.markers) (reached-named q (w.sound q (Contains-from_any same_node q seen e))))
     where
-      precedes-named : (p n : Node) → Precedes (content_of s) (λ m. ¬ (IsBumpedFix m)) p n → Contains (ids s.markers) n
+      precedes-named : (p n : Node) → Precedes (content_of s) Kind p n → Contains (ids s.markers) n
       precedes-named p n (step {m = m} held kind at is) = named s.markers m n (in_from_holds s.markers m held) (Contains-append_right (m.predecessor ∷ []) m.successors n at)
       precedes-named p n (further {m = m} held kind at r) = named s.markers m n (in_from_holds s.markers m held) (Contains-append_right (m.predecessor ∷ []) m.successors n at)
 
-      reached-named : (n : Node) → IsReached (content_of s) n → Contains (ids s.markers) n
-      reached-named n (inl first) =
-          let m = first.0 in
-          named s.markers m.0 n (in_from_holds s.markers m.0 m.1) (Contains-append_left (m.0.predecessor ∷ []) m.0.successors n (subst (Contains (m.0.predecessor ∷ [])) m.2 (0, omega arith, refl)))
-      reached-named n (inr far) = precedes-named far.0 n far.2
+      reached-named : (n : Node) → IsReached (content_of s) Kind starts n → Contains (starts ++ ids s.markers) n
+      reached-named n (inl first) = Contains-append_left starts (ids s.markers) n first
+      reached-named n (inr far) = Contains-append_right starts (ids s.markers) n (precedes-named far.0 n far.2)
 
-  module _ (seen : List Node) (i : ℕ) (w : IsWalked s seen i) (ended : length seen ≤ i) where
-    closed-all : (p n : Node) → Contains seen p → IsNext s.markers p n → Contains seen n
+  module _ (seen : List Node) (i : ℕ) (w : IsWalked s Kind starts seen i) (ended : length seen ≤ i) where
+    closed-all : (p n : Node) → Contains seen p → IsNext Kind s.markers p n → Contains seen n
     closed-all p n h next = w.closed p n (subst (λ zs. Contains zs p) (sym (take_all i seen ended)) h) next
 
-    complete : (p n : Node) → HasPhase (content_of s) p Public → Precedes (content_of s) (λ m. ¬ (IsBumpedFix m)) p n → Contains seen n
-    complete p n public (step {m = m} held kind at is) = closed-all p n (w.begun p (m, held, is) public) (m, in_from_holds s.markers m held, is, kind, at)
-    complete p n public (further {m = m} held kind at r) = closed-all m.predecessor n (complete p m.predecessor public r) (m, in_from_holds s.markers m held, refl, kind, at)
+    complete : (p n : Node) → Contains starts p → Precedes (content_of s) Kind p n → Contains seen n
+    complete p n first (step {m = m} held kind at is) = closed-all p n (w.begun p first) (m, in_from_holds s.markers m held, is, kind, at)
+    complete p n first (further {m = m} held kind at r) = closed-all m.predecessor n (complete p m.predecessor first r) (m, in_from_holds s.markers m held, refl, kind, at)
 
-    pub walk-end : (n : Node) → Contains seen n ↔ IsReached (content_of s) n
+    pub walk-end : (n : Node) → Contains seen n ↔ IsReached (content_of s) Kind starts n
     walk-end n = (
       λ h. w.sound n h,
-      λ h. elim h [ inl first ↦ w.begun n first.0 first.1 | inr far ↦ complete far.0 n far.1 far.2 ],
+      λ h. elim h [ inl first ↦ w.begun n first | inr far ↦ complete far.0 n far.1 far.2 ],
     )
 
--- of what was reached the current ones are phase-divergent: a public one isn't current
-pub reached-divergent : (s : ReplicaState) (n : Node) → (IsReached (content_of s) n × IsCurrent (content_of s) n) ↔ IsPhaseDivergent (content_of s) n
-reached-divergent s n = (
+-- what precedes something is the predecessor of a marker
+precedes-predecessor : (f : Content) (Kind : Fields → Type 0) (p n : Node) → Precedes f Kind p n → IsPredecessor f p
+precedes-predecessor f Kind p n (step {m = m} held kind at is) = (m, held, is)
+precedes-predecessor f Kind p n (further {m = m} held kind at r) = precedes-predecessor f Kind p m.predecessor r
+
+-- of what was reached from predecessors that are so the current ones are those that such a one precedes: no predecessor is current
+pub reached-current : (f : Content) (Kind : Fields → Type 0) (P : Node → Type 0) (starts : List Node) (n : Node) → ((p : Node) → Contains starts p ↔ (IsPredecessor f p × P p))
+    → (IsReached f Kind starts n × IsCurrent f n) ↔ (IsCurrent f n × ((p : Node) × P p × Precedes f Kind p n))
+reached-current f Kind P starts n are = (
   λ h. elim h.0 [
-    | inl first ↦ absurd (h.1.0.2 (one_phase (content_of s) n h.1.0.0.phase Public (h.1.0.0, h.1.0.1, refl) first.1))
-    | inr far ↦ (h.1, far)
+    | inl first ↦ absurd (h.1.1 (h.1.0, ((are n).0 first).0))
+    | inr far ↦ (h.1, (far.0, ((are far.0).0 far.1).1, far.2))
   ],
-  λ h. (inr h.1, h.0),
+  λ h. (inr (h.1.0, (are h.1.0).1 (precedes-predecessor f Kind h.1.0 n h.1.2, h.1.1), h.1.2), h.0),
 )

@@ -4,8 +4,8 @@ ghost use Rattle.hg_replica.specs.Content.{content_of};
 ghost use Rattle.hg_instab.specs.Instabilities.{AreInstabilities};
 
 use crate::among::{obsolete_nodes, outside, set_of};
+use crate::divergence::phase_divergent_nodes;
 use crate::orphans::{orphan_nodes, suspended_nodes};
-use crate::walk::phase_divergent_nodes;
 use hg_changeset::Node;
 use hg_replica::Replica;
 use std::alloc::{AllocError, Global};

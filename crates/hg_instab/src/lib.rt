@@ -6,6 +6,7 @@
 #![tactic(auto)]
 
 mod among;
+mod divergence;
 mod instabilities;
 mod laws;
 mod orphans;

@@ -7,8 +7,8 @@ use Rattle.hg_replica.specs.Evolution.{HasPhase}
 use Rattle.hg_replica.proofs.MarkerLemmas.{holds-from, in_from_holds}
 use Rattle.hg_instab.proofs.AmongLemmas.{AreThose, IsAlso, HavePredecessor, those-found, those-other, those-all, also-predecessor}
 use Rattle.hg_instab.proofs.WalkLemmas.{adds-one}
-use Rattle.hg_instab.proofs.walk.public_predecessors.Goals as goal
-use Rattle.hg_instab.proofs.walk.public_predecessors.Goals.{then-has_phase+in_ok-insert, else-has_phase}
+use Rattle.hg_instab.proofs.divergence.public_predecessors.Goals as goal
+use Rattle.hg_instab.proofs.divergence.public_predecessors.Goals.{then-has_phase+in_ok-insert, else-has_phase}
 
 pub loop-marker-preserved : goal.loop-marker-preserved
 loop-marker-preserved c =
