@@ -1,0 +1,845 @@
+-- What a search keeps so, step by step.
+use Rattle.std.proofs.Common.{◌≡◌, ◌≢◌, ℕ, suc, ◌+◌, ◌-◌, ◌<◌, ◌≤◌, Bool, true, false, IsTrue, List, [], ◌∷◌, ◌++◌, length, take, set, Some, Contains, ◌⊎◌, ◌↔◌, inl, inr, refl, sym, ap, subst, ◌∙◌, arith, slice_get, get_or, Vec, Global, sum, length-append, length-set, true≢false}
+use Rattle.std.proofs.lemmas.Bool.{cases_lt}
+use Rattle.std.proofs.lemmas.List.{length_push, length-take-le, take_all, take_at, take-take, append-nil, append_assoc, length-map}
+use Rattle.std.proofs.lemmas.Option.{slice_get_within, slice_get_read, none-some, same_Some}
+use Rattle.std.proofs.lemmas.List.Elements.{Contains-append_left, Contains-push, Contains-push_cases, Contains-append_cases}
+use Rattle.hg_succ.specs.declared.search.Mark.{Mark}
+use Rattle.hg_succ.specs.declared.search.Mark.TheVariants.{New, Waiting, Done}
+use Rattle.hg_succ.specs.declared.search.Settled.{Settled}
+use Rattle.hg_succ.specs.Steps.{Reaches, LeadsBack}
+use Rattle.hg_succ.specs.Steps.Reaches.{no_step, one_step_more}
+use Rattle.hg_succ.specs.Rows.{At, rows_of, Edge, IsOrder, StandsBefore, AreWithin}
+use Rattle.hg_succ.specs.Search.{SearchState, EndsWith, IsAscending, AreJoined, IsAccounted, IsListed, IsSearch, IsAtEnd, entered, KeepsUpTo, Settles, SettlesLast, CanEnter, GoesTo, IsCyclicPart, StaysMet, work}
+use Rattle.hg_succ.proofs.ListLemmas.{get_one, get_append_cases, get_set, get_set_other, get_set_cases, get_set_keeps, ascending_push, ascending_front, ascending_last, sum_set, split_last, row_at}
+use Rattle.hg_changeset.proofs.ListLemmas.{slice_get-append, slice_get-append_seam, slice_get-push_cases, slice_get-take, slice_get_some}
+use Rattle.hg_graph.proofs.GraphLemmas.{get-take, Contains-from_place, place_from_Contains}
+
+-- nothing stands in an empty list
+none_at : {X : Type 0} (xs : List X) (i : ℕ) (x : X) → xs ≡ [] → At xs i x → ⊥
+none_at xs i x e h = none-some x (subst (λ ys. At ys i x) e h)
+
+new_waiting : (p : ℕ) → Some New ≡ Some (Waiting p) → ⊥
+new_waiting p e = let f = same_Some New (Waiting p) e in cc
+
+new_done : Some New ≡ Some Done → ⊥
+new_done e = let f = same_Some New Done e in cc
+
+waiting_done : (p : ℕ) → Some (Waiting p) ≡ Some Done → ⊥
+waiting_done p e = let f = same_Some (Waiting p) Done e in cc
+
+same_waiting : (p q : ℕ) → Waiting p ≡ Waiting q → p ≡ q
+same_waiting p q e = cc
+
+-- one path of two
+pub reaches_on : {A : Type 0} (step : A → A → Type 0) (x y z : A) → Reaches step x y → Reaches step y z → Reaches step x z
+reaches_on step x y z a no_step = a
+reaches_on step x y z a (one_step_more {y = w} b s) = one_step_more (reaches_on step x y w a b) s
+
+-- the first step of a path that leads elsewhere
+pub first_step : {A : Type 0} (step : A → A → Type 0) (x z : A) → Reaches step x z → (x ≡ z) ⊎ ((y : A) × step x y × Reaches step y z)
+first_step step x z no_step = inl refl
+first_step step x z (one_step_more {y = w} b s) = elim (first_step step x w b) [
+  | inl e ↦ inr (z, subst (λ v. step v z) (sym e) s, no_step)
+  | inr f ↦ inr (f.0, f.1, one_step_more f.2 s)
+]
+
+-- what is closed under steps has all that its members lead to
+pub stays_within : {A : Type 0} (step : A → A → Type 0) (P : A → Type 0) → ((x y : A) → P x → step x y → P y) → (x y : A) → P x → Reaches step x y → P y
+stays_within step P closed x y px no_step = px
+stays_within step P closed x y px (one_step_more {y = w} b s) = closed w y (stays_within step P closed x w px b) s
+
+module _ (R : List (List ℕ)) (s : SearchState) (so : IsSearch R s) where
+  -- the place of a node that waits is its only one
+  one_place : (p q x : ℕ) → At s.waiting p x → At s.waiting q x → p ≡ q
+  one_place p q x h g = same_waiting p q (get_one s.marks x (Waiting p) (Waiting q) (so.met p x h) (so.met q x g))
+
+  waiting_not_new : (p x : ℕ) → At s.waiting p x → At s.marks x New → ⊥
+  waiting_not_new p x h n = new_waiting p (sym n ∙ so.met p x h)
+
+  waiting_not_done : (p x : ℕ) → At s.waiting p x → At s.marks x Done → ⊥
+  waiting_not_done p x h d = waiting_done p (sym (so.met p x h) ∙ d)
+
+  module _ (t u : ℕ) (end : IsAtEnd s t u) where
+    on_path : Contains s.path t
+    on_path = subst (λ (xs : List ℕ). Contains xs t) (sym end.last.1) (Contains-push end.last.0 t)
+
+    path_below : (b : ℕ) → Contains s.path b → b ≤ t
+    path_below b h =
+        let up : IsAscending (end.last.0 ++ t ∷ []) = subst IsAscending end.last.1 so.path_up in
+        elim (Contains-push_cases end.last.0 t b (subst (λ (xs : List ℕ). Contains xs b) end.last.1 h)) [
+          | inl before ↦ (let l = ascending_last end.last.0 t up b before in omega arith)
+          | inr same ↦ omega (arith, same)
+        ]
+
+    starts_below : (b : ℕ) → Contains s.starts b → b ≤ t
+    starts_below b h = path_below b (so.starts_in b h)
+
+    -- each waiting node leads to the end of the path
+    to_end : (p x : ℕ) → At s.waiting p x → Reaches (Edge R) x u
+    to_end p x h = elim (cases_lt t p) [
+      | inl after ↦ so.back t p u x (λ b g. inl (starts_below b g)) (omega arith) end.waits h
+      | inr before ↦ so.onward p t x u before h end.waits
+    ]
+
+module _ (R : List (List ℕ)) (s : SearchState) (so : IsSearch R s) (y : ℕ) (new : At s.marks y New) (from : CanEnter R s y) where
+  other_mark : (x : ℕ) (m : Mark) → (New ≡ m → ⊥) → At s.marks x m → At (set s.marks y (Waiting (length s.waiting))) x m
+  other_mark x m differs h =
+      get_set_other s.marks y (Waiting (length s.waiting)) x (λ e. differs (same_Some New m (sym new ∙ subst (λ z. At s.marks z m) (sym e) h))) ∙ h
+
+  new_done' : (x : ℕ) → At s.marks x Done → At (set s.marks y (Waiting (length s.waiting))) x Done
+  new_done' x h = other_mark x Done (λ e. cc) h
+
+  old_done : (x : ℕ) → At (set s.marks y (Waiting (length s.waiting))) x Done → At s.marks x Done
+  old_done x h = elim (get_set_cases s.marks y (Waiting (length s.waiting)) x Done h) [ inl same ↦ absurd (waiting_done (length s.waiting) (ap (λ (m : Mark). Some m) same.1)) | inr old ↦ old ]
+
+  entered_met : (p x : ℕ) → At (s.waiting ++ y ∷ []) p x → At (set s.marks y (Waiting (length s.waiting))) x (Waiting p)
+  entered_met p x h = elim (slice_get-push_cases s.waiting y p x h) [
+    | inl before ↦ other_mark x (Waiting p) (λ e. cc) (so.met p x before)
+    | inr last ↦
+        let here : At (set s.marks y (Waiting (length s.waiting))) y (Waiting (length s.waiting)) = get_set s.marks y (Waiting (length s.waiting)) (slice_get_within s.marks y New new) in
+        subst (λ z. At (set s.marks y (Waiting (length s.waiting))) z (Waiting p)) last.1 (subst (λ k. At (set s.marks y (Waiting (length s.waiting))) y (Waiting k)) (sym last.0) here)
+  ]
+
+  entered_waits : (p x : ℕ) → At (set s.marks y (Waiting (length s.waiting))) x (Waiting p) → At (s.waiting ++ y ∷ []) p x
+  entered_waits p x h = elim (get_set_cases s.marks y (Waiting (length s.waiting)) x (Waiting p) h) [
+    | inl same ↦ subst (λ z. At (s.waiting ++ y ∷ []) p z) same.0 (subst (λ k. At (s.waiting ++ y ∷ []) k y) (same_waiting (length s.waiting) p same.1) (slice_get-append_seam s.waiting y []))
+    | inr old ↦ slice_get-append s.waiting (y ∷ []) p x (so.waits p x old)
+  ]
+
+  entered_fresh : (x : ℕ) (row : List ℕ) → At (set s.marks y (Waiting (length s.waiting))) x New → At R x row → At s.left x (length row)
+  entered_fresh x row h r = elim (get_set_cases s.marks y (Waiting (length s.waiting)) x New h) [ inl same ↦ absurd (new_waiting (length s.waiting) (ap (λ (m : Mark). Some m) (sym same.1))) | inr old ↦ so.fresh x row old r ]
+
+  entered_spent : (p x : ℕ) → At (s.waiting ++ y ∷ []) p x → Contains (s.path ++ length s.waiting ∷ []) p ⊎ At s.left x 0
+  entered_spent p x h = elim (slice_get-push_cases s.waiting y p x h) [
+    | inl before ↦ elim (so.spent p x before) [ inl on ↦ inl (Contains-append_left s.path (length s.waiting ∷ []) p on) | inr none ↦ inr none ]
+    | inr last ↦ inl (subst (Contains (s.path ++ length s.waiting ∷ [])) (sym last.0) (Contains-push s.path (length s.waiting)))
+  ]
+
+  entered_joined : (p q : ℕ) → q < length s.waiting → AreJoined s.starts p q → AreJoined (s.starts ++ length s.waiting ∷ []) p q
+  entered_joined p q l j b h = elim (Contains-push_cases s.starts (length s.waiting) b h) [ inl old ↦ j b old | inr last ↦ inr (omega (arith, last)) ]
+
+  entered_followed : (p x l e z : ℕ) (row : List ℕ) → At (s.waiting ++ y ∷ []) p x → At s.left x l → At R x row → l ≤ e → At row e z → IsAccounted (entered y s) p z
+  entered_followed p x l e z row h left_at row_at le edge = elim (slice_get-push_cases s.waiting y p x h) [
+    | inl before ↦ elim (so.followed p x l e z row before left_at row_at le edge) [
+      | inl done ↦ inl (new_done' z done)
+      | inr waits ↦ inr (waits.0, slice_get-append s.waiting (y ∷ []) waits.0 z waits.1, entered_joined waits.0 p (slice_get_within s.waiting p x before) waits.2)
+    ]
+    | inr last ↦
+        let full : l ≡ length row = get_one s.left x l (length row) left_at (so.fresh x row (subst (λ v. At s.marks v New) last.1 new) row_at) in
+        absurd (omega (arith, full, slice_get_within row e z edge))
+  ]
+
+  entered_onward : (p q x z : ℕ) → p ≤ q → At (s.waiting ++ y ∷ []) p x → At (s.waiting ++ y ∷ []) q z → Reaches (Edge R) x z
+  entered_onward p q x z le at_p at_q = elim (slice_get-push_cases s.waiting y q z at_q) [
+    | inl q_in ↦ elim (slice_get-push_cases s.waiting y p x at_p) [
+      | inl p_in ↦ so.onward p q x z le p_in q_in
+      | inr p_end ↦ absurd (omega (arith, p_end.0, slice_get_within s.waiting q z q_in))
+    ]
+    | inr q_end ↦ elim (slice_get-push_cases s.waiting y p x at_p) [
+      | inl p_in ↦ elim from [
+        | inl empty ↦ absurd (none_at s.waiting p x empty p_in)
+        | inr edge ↦ subst (Reaches (Edge R) x) q_end.1 (one_step_more (to_end R s so edge.0 edge.1 edge.2 p x p_in) edge.3)
+      ]
+      | inr p_end ↦ subst (Reaches (Edge R) x) (sym p_end.1 ∙ q_end.1) no_step
+    ]
+  ]
+
+  entered_back : (p q x z : ℕ) → AreJoined (s.starts ++ length s.waiting ∷ []) p q → p ≤ q → At (s.waiting ++ y ∷ []) p x → At (s.waiting ++ y ∷ []) q z → Reaches (Edge R) z x
+  entered_back p q x z j le at_p at_q = elim (slice_get-push_cases s.waiting y q z at_q) [
+    | inl q_in ↦ elim (slice_get-push_cases s.waiting y p x at_p) [
+      | inl p_in ↦ so.back p q x z (λ b h. j b (Contains-append_left s.starts (length s.waiting ∷ []) b h)) le p_in q_in
+      | inr p_end ↦ absurd (omega (arith, p_end.0, slice_get_within s.waiting q z q_in))
+    ]
+    | inr q_end ↦ elim (slice_get-push_cases s.waiting y p x at_p) [
+      | inl p_in ↦ elim (j (length s.waiting) (Contains-push s.starts (length s.waiting))) [
+        | inl low ↦ absurd (omega (arith, low, slice_get_within s.waiting p x p_in))
+        | inr high ↦ absurd (omega (arith, high, q_end.0))
+      ]
+      | inr p_end ↦ subst (Reaches (Edge R) z) (sym q_end.1 ∙ p_end.1) no_step
+    ]
+  ]
+
+  long_waiting : length (s.waiting ++ y ∷ []) ≡ length s.waiting + 1
+  long_waiting = length_push s.waiting y
+
+  entered_path_in : (p : ℕ) → Contains (s.path ++ length s.waiting ∷ []) p → p < length (s.waiting ++ y ∷ [])
+  entered_path_in p h = elim (Contains-push_cases s.path (length s.waiting) p h) [
+    | inl old ↦ (let l = so.path_in p old in omega (arith, long_waiting))
+    | inr last ↦ omega (arith, last, long_waiting)
+  ]
+
+  entered_starts_in : (b : ℕ) → Contains (s.starts ++ length s.waiting ∷ []) b → Contains (s.path ++ length s.waiting ∷ []) b
+  entered_starts_in b h = elim (Contains-push_cases s.starts (length s.waiting) b h) [
+    | inl old ↦ Contains-append_left s.path (length s.waiting ∷ []) b (so.starts_in b old)
+    | inr last ↦ subst (Contains (s.path ++ length s.waiting ∷ [])) last (Contains-push s.path (length s.waiting))
+  ]
+
+  entered_first : Contains (s.starts ++ length s.waiting ∷ []) 0
+  entered_first = elim (cases_lt 0 (length s.waiting)) [
+    | inl some ↦ Contains-append_left s.starts (length s.waiting ∷ []) 0 (so.first some)
+    | inr none ↦ (let e : length s.waiting ≡ 0 = omega arith in subst (Contains (s.starts ++ length s.waiting ∷ [])) e (Contains-push s.starts (length s.waiting)))
+  ]
+
+  pub enters : IsSearch R (entered y s)
+  enters = record {
+    left_long = so.left_long;
+    marks_long = length-set s.marks y (Waiting (length s.waiting)) ∙ so.marks_long;
+    met = entered_met;
+    waits = entered_waits;
+    listed = λ x h. so.listed x (old_done x h);
+    fresh = entered_fresh;
+    bounded = so.bounded;
+    spent = entered_spent;
+    followed = entered_followed;
+    path_up = ascending_push s.path (length s.waiting) so.path_up so.path_in;
+    path_in = entered_path_in;
+    starts_up = ascending_push s.starts (length s.waiting) so.starts_up (λ b h. so.path_in b (so.starts_in b h));
+    starts_in = entered_starts_in;
+    first = λ some. entered_first;
+    onward = entered_onward;
+    back = entered_back;
+    closed = λ x z h edge. new_done' z (so.closed x z (old_done x h) edge);
+    order = so.order;
+  }
+
+  -- and an edge to it is thought of
+  pub entered_accounted : (p : ℕ) → IsAccounted (entered y s) p y
+  entered_accounted p = inr (
+    length s.waiting,
+    slice_get-append_seam s.waiting y [],
+    λ b h. elim (Contains-push_cases s.starts (length s.waiting) b h) [
+      | inl old ↦ inl (let l = so.path_in b (so.starts_in b old) in omega arith)
+      | inr last ↦ inl (omega (arith, last))
+    ],
+  )
+
+-- the end of the path leads to a node that waits: all from it on are one part
+module _ (R : List (List ℕ)) (s : SearchState) (so : IsSearch R s) (t u : ℕ) (end : IsAtEnd s t u) (at y : ℕ) (waits : At s.waiting at y) (edge : Edge R u y)
+    (kept : List ℕ) (keeps : KeepsUpTo at s.starts kept) where
+  kept_up : IsAscending kept
+  kept_up = ascending_front kept keeps.first.0 (subst IsAscending keeps.first.1 so.starts_up)
+
+  kept_in : (b : ℕ) → Contains kept b → Contains s.starts b
+  kept_in b h = subst (λ (xs : List ℕ). Contains xs b) (sym keeps.first.1) (Contains-append_left kept keeps.first.0 b h)
+
+  -- a start up to the place is kept
+  low_kept : (b : ℕ) → Contains s.starts b → b ≤ at → Contains kept b
+  low_kept b h le = elim (Contains-append_cases kept keeps.first.0 b (subst (λ (xs : List ℕ). Contains xs b) keeps.first.1 h)) [
+    | inl in' ↦ in'
+    | inr out ↦ absurd (let l = keeps.first.2 b out in omega arith)
+  ]
+
+  kept_low : (b : ℕ) → Contains kept b → b ≤ at
+  kept_low b h = by kept kept_up keeps.last h
+    where
+      from_end : (front : List ℕ) (x : ℕ) → IsAscending (front ++ x ∷ []) → x ≤ at → Contains (front ++ x ∷ []) b → b ≤ at
+      from_end front x up le g = elim (Contains-push_cases front x b g) [
+        | inl before ↦ (let l = ascending_last front x up b before in omega arith)
+        | inr same ↦ omega (arith, same)
+      ]
+
+      ends : (xs : List ℕ) → Contains xs b → (x : ℕ) × EndsWith xs x
+      ends [] g = absurd (omega (arith, g.1))
+      ends (x ∷ []) g = (x, ([], refl))
+      ends (x ∷ z ∷ xs) g = let r = ends' z xs in (r.0, (x ∷ r.1.0, ap (λ zs. x ∷ zs) r.1.1))
+        where
+          ends' : (z : ℕ) (xs : List ℕ) → (x : ℕ) × EndsWith (z ∷ xs) x
+          ends' z [] = (z, ([], refl))
+          ends' z (w ∷ xs) = let r = ends' w xs in (r.0, (z ∷ r.1.0, ap (λ zs. z ∷ zs) r.1.1))
+
+      by : (xs : List ℕ) → IsAscending xs → ((x : ℕ) → EndsWith xs x → x ≤ at) → Contains xs b → b ≤ at
+      by xs up last g = let e = ends xs g in from_end e.1.0 e.0 (subst IsAscending e.1.1 up) (last e.0 e.1) (subst (λ (zs : List ℕ). Contains zs b) e.1.1 g)
+
+  joined_kept : (p q : ℕ) → AreJoined s.starts p q → AreJoined kept p q
+  joined_kept p q j b h = j b (kept_in b h)
+
+  merged_state : SearchState
+  merged_state = record s { starts = kept }
+
+  merged_followed : (p x l e z : ℕ) (row : List ℕ) → At s.waiting p x → At s.left x l → At R x row → l ≤ e → At row e z → IsAccounted (record s { starts = kept }) p z
+  merged_followed p x l e z row h left_at row_at le edge' = elim (so.followed p x l e z row h left_at row_at le edge') [
+    | inl done ↦ inl done
+    | inr w ↦ inr (w.0, w.1, joined_kept w.0 p w.2)
+  ]
+
+  -- the nodes from the place on lead to the one there
+  to_place : (q z : ℕ) → At s.waiting q z → Reaches (Edge R) z y
+  to_place q z h = one_step_more (to_end R s so t u end q z h) edge
+
+  merged_back : (p q x z : ℕ) → AreJoined kept p q → p ≤ q → At s.waiting p x → At s.waiting q z → Reaches (Edge R) z x
+  merged_back p q x z j le at_p at_q = elim (cases_lt at q) [
+    | inr low ↦ so.back p q x z (λ b h. elim (cases_lt at b) [ inl high ↦ inr (omega arith) | inr in' ↦ j b (low_kept b h in') ]) le at_p at_q
+    | inl high ↦ reaches_on (Edge R) z y x (to_place q z at_q) (elim (cases_lt p at) [
+      | inr after ↦ so.onward at p y x after waits at_p
+      | inl before ↦ so.back p at x y (λ b h. elim (cases_lt at b) [
+        | inl over ↦ inr over
+        | inr in' ↦ elim (j b (low_kept b h in')) [ inl small ↦ inl small | inr big ↦ absurd (omega arith) ]
+      ]) (omega arith) at_p waits
+    ])
+  ]
+
+  pub merges : IsSearch R (record s { starts = kept })
+  merges = record {
+    left_long = so.left_long;
+    marks_long = so.marks_long;
+    met = so.met;
+    waits = so.waits;
+    listed = so.listed;
+    fresh = so.fresh;
+    bounded = so.bounded;
+    spent = so.spent;
+    followed = merged_followed;
+    path_up = so.path_up;
+    path_in = so.path_in;
+    starts_up = kept_up;
+    starts_in = λ b h. so.starts_in b (kept_in b h);
+    first = λ some. low_kept 0 (so.first some) (omega arith);
+    onward = so.onward;
+    back = merged_back;
+    closed = so.closed;
+    order = so.order;
+  }
+
+  pub merged_accounted : (p : ℕ) → IsAccounted (record s { starts = kept }) p y
+  merged_accounted p = inr (at, waits, λ b h. inl (kept_low b h))
+
+-- the last edge of a waiting node on the path that isn't followed is thought of
+module _ (R : List (List ℕ)) (s : SearchState) (so : IsSearch R s) (t u l y : ℕ) (row : List ℕ) (waits : At s.waiting t u) (on : Contains s.path t)
+    (left : At s.left u (suc l)) (row_at : At R u row) (edge : At row l y) (thought : IsAccounted s t y) where
+  after_followed : (p x k e z : ℕ) (r : List ℕ) → At s.waiting p x → At (set s.left u l) x k → At R x r → k ≤ e → At r e z → IsAccounted (record s { left = set s.left u l }) p z
+  after_followed p x k e z r h k_at r_at le z_at = elim (get_set_cases s.left u l x k k_at) [
+    | inr old ↦ so.followed p x k e z r h old r_at le z_at
+    | inl same ↦
+        let place : t ≡ p = one_place R s so t p u waits (subst (At s.waiting p) (sym same.0) h) in
+        let rows : row ≡ r = get_one R u row r row_at (subst (λ v. At R v r) (sym same.0) r_at) in
+        elim (cases_lt l e) [
+          | inl more ↦ so.followed p x (suc l) e z r h (subst (λ v. At s.left v (suc l)) same.0 left) r_at (omega arith) z_at
+          | inr last ↦
+              let e_is : l ≡ e = omega (arith, same.1) in
+              let z_is : y ≡ z = get_one row l y z edge (subst (λ (v : List ℕ). At v l z) (sym rows) (subst (λ i. At r i z) (sym e_is) z_at)) in
+              subst (λ v. IsAccounted s v z) place (subst (IsAccounted s t) z_is thought)
+        ]
+  ]
+
+  pub follows : IsSearch R (record s { left = set s.left u l })
+  follows = record {
+    left_long = length-set s.left u l ∙ so.left_long;
+    marks_long = so.marks_long;
+    met = so.met;
+    waits = so.waits;
+    listed = so.listed;
+    fresh = λ x r new r_at. get_set_other s.left u l x (λ e. waiting_not_new R s so t u waits (subst (λ v. At s.marks v New) (sym e) new)) ∙ so.fresh x r new r_at;
+    bounded = λ x k r k_at r_at. elim (get_set_cases s.left u l x k k_at) [
+      | inr old ↦ so.bounded x k r old r_at
+      | inl same ↦ (let b = so.bounded x (suc l) r (subst (λ v. At s.left v (suc l)) same.0 left) r_at in omega (arith, same.1))
+    ];
+    spent = λ p x h. elim (so.spent p x h) [
+      | inl on' ↦ inl on'
+      | inr none ↦ inr (get_set_other s.left u l x (λ e. (let bad : suc l ≡ 0 = get_one s.left u (suc l) 0 left (subst (λ v. At s.left v 0) (sym e) none) in omega (arith, bad))) ∙ none)
+    ];
+    followed = after_followed;
+    path_up = so.path_up;
+    path_in = so.path_in;
+    starts_up = so.starts_up;
+    starts_in = so.starts_in;
+    first = so.first;
+    onward = so.onward;
+    back = so.back;
+    closed = so.closed;
+    order = so.order;
+  }
+
+-- the end of the path is left, and no part begins there
+module _ (R : List (List ℕ)) (s : SearchState) (so : IsSearch R s) (t u : ℕ) (end : IsAtEnd s t u) (none : At s.left u 0) (inner : ¬ (Contains s.starts t)) where
+  pub leaves : IsSearch R (record s { path = end.last.0 })
+  leaves = record {
+    left_long = so.left_long;
+    marks_long = so.marks_long;
+    met = so.met;
+    waits = so.waits;
+    listed = so.listed;
+    fresh = so.fresh;
+    bounded = so.bounded;
+    spent = λ p x h. elim (so.spent p x h) [
+      | inr spent ↦ inr spent
+      | inl on ↦ elim (Contains-push_cases end.last.0 t p (subst (λ (xs : List ℕ). Contains xs p) end.last.1 on)) [
+        | inl before ↦ inl before
+        | inr same ↦ inr (subst (λ v. At s.left v 0) (get_one s.waiting p u x (subst (λ k. At s.waiting k u) same end.waits) h) none)
+      ]
+    ];
+    followed = so.followed;
+    path_up = ascending_front end.last.0 (t ∷ []) (subst IsAscending end.last.1 so.path_up);
+    path_in = λ p h. so.path_in p (subst (λ (xs : List ℕ). Contains xs p) (sym end.last.1) (Contains-append_left end.last.0 (t ∷ []) p h));
+    starts_up = so.starts_up;
+    starts_in = λ b h. elim (Contains-push_cases end.last.0 t b (subst (λ (xs : List ℕ). Contains xs b) end.last.1 (so.starts_in b h))) [
+      | inl before ↦ before
+      | inr same ↦ absurd (inner (subst (Contains s.starts) (sym same) h))
+    ];
+    first = so.first;
+    onward = so.onward;
+    back = so.back;
+    closed = so.closed;
+    order = so.order;
+  }
+
+-- the end of the path is left, and the last part, which begins there, is settled
+module _ (R : List (List ℕ)) (s : SearchState) (so : IsSearch R s) (t u : ℕ) (end : IsAtEnd s t u) (none : At s.left u 0)
+    (front : List ℕ) (starts_are : s.starts ≡ front ++ t ∷ []) (c : Bool) (c_is : IsTrue c ↔ IsCyclicPart R s.waiting t u)
+    (new : SearchState) (st : Settles t c (record s { path = end.last.0; starts = front }) new) where
+  t_within : t < length s.waiting
+  t_within = slice_get_within s.waiting t u end.waits
+
+  t_starts : Contains s.starts t
+  t_starts = subst (λ (xs : List ℕ). Contains xs t) (sym starts_are) (Contains-push front t)
+
+  keeps_done : (x : ℕ) → At s.marks x Done → At new.marks x Done
+  keeps_done x h = st.others x (λ p le w. waiting_not_done R s so p x w h) ∙ h
+
+  in_part : (p q x z : ℕ) → t ≤ p → t ≤ q → At s.waiting p x → At s.waiting q z → Reaches (Edge R) x z
+  in_part p q x z le lf at_p at_q = elim (cases_lt q p) [
+    | inr later ↦ so.onward p q x z later at_p at_q
+    | inl before ↦ so.back q p z x (λ b h. inl (let l = starts_below R s so t u end b h in omega arith)) (omega arith) at_q at_p
+  ]
+
+  -- isnt edge is left to follow in the part
+  part_spent : (p x : ℕ) → t ≤ p → At s.waiting p x → At s.left x 0
+  part_spent p x le h = elim (so.spent p x h) [
+    | inr spent ↦ spent
+    | inl on ↦ (let l = path_below R s so t u end p on in let same : t ≡ p = omega arith in subst (λ v. At s.left v 0) (get_one s.waiting p u x (subst (λ k. At s.waiting k u) same end.waits) h) none)
+  ]
+
+  -- an edge from the part leads to what is settled, or stays in it
+  part_edge : (p x y : ℕ) → t ≤ p → At s.waiting p x → Edge R x y → At s.marks y Done ⊎ ((q : ℕ) × (t ≤ q) × At s.waiting q y)
+  part_edge p x y le h edge =
+      let e = place_from_Contains edge.0 y edge.2 in
+      elim (so.followed p x 0 e.0 y edge.0 h (part_spent p x le h) edge.1 (omega arith) e.1) [
+        | inl done ↦ inl done
+        | inr w ↦ elim (w.2 t t_starts) [ inl later ↦ inr (w.0, later, w.1) | inr before ↦ absurd (omega arith) ]
+      ]
+
+  -- where the part is one node, its edges lead to what is settled, or to itself
+  alone_edge : (p x y : ℕ) → length s.waiting ≤ t + 1 → t ≤ p → At s.waiting p x → Edge R x y → At s.marks y Done ⊎ Edge R u u
+  alone_edge p x y short le h edge = elim (part_edge p x y le h edge) [
+    | inl done ↦ inl done
+    | inr w ↦
+        let p_is : t ≡ p = omega (arith, slice_get_within s.waiting p x h) in
+        let q_is : t ≡ w.0 = omega (arith, w.1, slice_get_within s.waiting w.0 y w.2) in
+        let x_is : u ≡ x = get_one s.waiting p u x (subst (λ k. At s.waiting k u) p_is end.waits) h in
+        let y_is : u ≡ y = get_one s.waiting w.0 u y (subst (λ k. At s.waiting k u) q_is end.waits) w.2 in
+        inr (subst (Edge R u) (sym y_is) (subst (λ v. Edge R v y) (sym x_is) edge))
+  ]
+
+  -- the other node of a part of several
+  back_by : (p q x z : ℕ) → p ≢ q → t ≤ p → t ≤ q → At s.waiting p x → At s.waiting q z → LeadsBack (Edge R) x
+  back_by p q x z apart le lf at_p at_q = elim (first_step (Edge R) x z (in_part p q x z le lf at_p at_q)) [
+    | inl same ↦ absurd (apart (one_place R s so p q x at_p (subst (At s.waiting q) (sym same) at_q)))
+    | inr f ↦ (f.0, f.1, reaches_on (Edge R) f.0 z x f.2 (in_part q p z x lf le at_q at_p))
+  ]
+
+  several_back : (p x : ℕ) → t + 1 < length s.waiting → t ≤ p → At s.waiting p x → LeadsBack (Edge R) x
+  several_back p x long le h = elim (cases_lt t p) [
+    | inl later ↦ back_by p t x u (λ e. omega arith) le (omega arith) h end.waits
+    | inr same ↦ (let other = slice_get_some s.waiting (t + 1) long in back_by p (t + 1) x other.0 (λ e. omega arith) le (omega arith) h other.1)
+  ]
+
+  part_back : (p x : ℕ) → t ≤ p → At s.waiting p x → IsTrue c → LeadsBack (Edge R) x
+  part_back p x le h is_so = elim (cases_lt (t + 1) (length s.waiting)) [
+    | inl long ↦ several_back p x long le h
+    | inr short ↦ elim (c_is.0 is_so) [
+      | inl long ↦ absurd (omega arith)
+      | inr edge ↦
+          let p_is : t ≡ p = omega (arith, slice_get_within s.waiting p x h) in
+          let x_is : u ≡ x = get_one s.waiting p u x (subst (λ k. At s.waiting k u) p_is end.waits) h in
+          subst (LeadsBack (Edge R)) x_is (u, edge, no_step)
+    ]
+  ]
+
+  back_part : (p x : ℕ) → t ≤ p → At s.waiting p x → LeadsBack (Edge R) x → IsTrue c
+  back_part p x le h leads = elim (cases_lt (t + 1) (length s.waiting)) [
+    | inl long ↦ c_is.1 (inl long)
+    | inr short ↦ elim (alone_edge p x leads.0 short le h leads.1) [
+      | inl done ↦ absurd (waiting_not_done R s so p x h (stays_within (Edge R) (λ v. At s.marks v Done) so.closed leads.0 x done leads.2))
+      | inr edge ↦ c_is.1 (inr edge)
+    ]
+  ]
+
+  part_after : (p x y : ℕ) → t ≤ p → At s.waiting p x → c ≡ false → Edge R x y → At s.marks y Done
+  part_after p x y le h isnt edge = elim (cases_lt (t + 1) (length s.waiting)) [
+    | inl long ↦ (let is_so : c ≡ true = c_is.1 (inl long) in absurd (true≢false (sym is_so ∙ isnt)))
+    | inr short ↦ elim (alone_edge p x y short le h edge) [
+      | inl done ↦ done
+      | inr loop ↦ (let is_so : c ≡ true = c_is.1 (inr loop) in absurd (true≢false (sym is_so ∙ isnt)))
+    ]
+  ]
+
+  longer : (k k' x : ℕ) → k ≤ k' → StandsBefore s.order k x → StandsBefore (s.order ++ st.more.0) k' x
+  longer k k' x le h = (h.0, h.1, omega (arith, h.2), slice_get-append s.order st.more.0 h.0 h.1 h.3, h.4)
+
+  settled_order : IsOrder R (s.order ++ st.more.0)
+  settled_order = record {
+    nodes = λ k e h. elim (get_append_cases s.order st.more.0 k e h) [
+      | inl old ↦ so.order.nodes k e old
+      | inr more ↦ (let w = st.more.2 more.0 e more.2 in omega (arith, so.marks_long, slice_get_within s.marks e.node (Waiting w.1) (so.met w.1 e.node w.3)))
+    ];
+    cyclic = λ k e h. elim (get_append_cases s.order st.more.0 k e h) [
+      | inl old ↦ so.order.cyclic k e old
+      | inr more ↦ (let w = st.more.2 more.0 e more.2 in ((λ is_so. part_back w.1 e.node w.2 w.3 (sym w.0 ∙ is_so)), (λ leads. w.0 ∙ back_part w.1 e.node w.2 w.3 leads)))
+    ];
+    after = λ k e y h isnt edge. elim (get_append_cases s.order st.more.0 k e h) [
+      | inl old ↦ longer k k y (omega arith) (so.order.after k e y old isnt edge)
+      | inr more ↦ (let w = st.more.2 more.0 e more.2 in longer (length s.order) k y (omega (arith, more.1)) (so.listed y (part_after w.1 e.node y w.2 w.3 (sym w.0 ∙ isnt) edge)))
+    ];
+  }
+
+  short_waiting : length (take t s.waiting) ≡ t
+  short_waiting = length-take-le t s.waiting (omega (arith, t_within))
+
+  not_end : (b : ℕ) → b < t → Contains s.path b → Contains end.last.0 b
+  not_end b l h = elim (Contains-push_cases end.last.0 t b (subst (λ (xs : List ℕ). Contains xs b) end.last.1 h)) [ inl before ↦ before | inr same ↦ absurd (omega (arith, same)) ]
+
+  front_below : (b : ℕ) → Contains front b → b < t
+  front_below b h = ascending_last front t (subst IsAscending starts_are so.starts_up) b h
+
+  front_start : (b : ℕ) → Contains front b → Contains s.starts b
+  front_start b h = subst (λ (xs : List ℕ). Contains xs b) (sym starts_are) (Contains-append_left front (t ∷ []) b h)
+
+  -- the state that is left
+  settled_state : SearchState
+  settled_state = record { left = s.left; marks = new.marks; waiting = take t s.waiting; path = end.last.0; starts = front; order = s.order ++ st.more.0 }
+
+  settled_listed : (x : ℕ) → At new.marks x Done → IsListed (s.order ++ st.more.0) x
+  settled_listed x h = elim (st.from x Done h) [
+    | inl part ↦ subst (λ (o : List Settled). IsListed o x) st.more.1 (st.listed part.1 x part.2 part.3)
+    | inr old ↦ longer (length s.order) (length (s.order ++ st.more.0)) x (omega (arith, length-append s.order st.more.0)) (so.listed x old)
+  ]
+
+  settled_met : (p x : ℕ) → At (take t s.waiting) p x → At new.marks x (Waiting p)
+  settled_met p x h =
+      let w = get-take s.waiting t p x h in
+      st.others x (λ q le g. (let same = one_place R s so p q x w.1 g in omega (arith, w.0))) ∙ so.met p x w.1
+
+  settled_waits : (p x : ℕ) → At new.marks x (Waiting p) → At (take t s.waiting) p x
+  settled_waits p x h = elim (st.from x (Waiting p) h) [
+    | inl part ↦ absurd (let e = part.0 in waiting_done p (ap (λ (m : Mark). Some m) e))
+    | inr old ↦ elim (cases_lt p t) [
+      | inl before ↦ slice_get-take s.waiting t p x before (so.waits p x old)
+      | inr after ↦ absurd (waiting_done p (sym h ∙ st.done p x after (so.waits p x old)))
+    ]
+  ]
+
+  settled_fresh : (x : ℕ) → At new.marks x New → At s.marks x New
+  settled_fresh x h = elim (st.from x New h) [ inl part ↦ absurd (new_done (ap (λ (m : Mark). Some m) part.0)) | inr old ↦ old ]
+
+  settled_spent : (p x : ℕ) → At (take t s.waiting) p x → Contains end.last.0 p ⊎ At s.left x 0
+  settled_spent p x h =
+      let w = get-take s.waiting t p x h in
+      elim (so.spent p x w.1) [ inl on ↦ inl (not_end p w.0 on) | inr spent ↦ inr spent ]
+
+  settled_followed : (p x l e y : ℕ) (row : List ℕ) → At (take t s.waiting) p x → At s.left x l → At R x row → l ≤ e → At row e y
+      → At new.marks y Done ⊎ ((q : ℕ) × At (take t s.waiting) q y × AreJoined front q p)
+  settled_followed p x l e y row h l_at r_at le y_at =
+      let w = get-take s.waiting t p x h in
+      elim (so.followed p x l e y row w.1 l_at r_at le y_at) [
+        | inl done ↦ inl (keeps_done y done)
+        | inr g ↦ elim (cases_lt g.0 t) [
+          | inl before ↦ inr (g.0, slice_get-take s.waiting t g.0 y before g.1, λ b i. g.2 b (front_start b i))
+          | inr after ↦ inl (st.done g.0 y after g.1)
+        ]
+      ]
+
+  settled_back : (p q x y : ℕ) → AreJoined front p q → p ≤ q → At (take t s.waiting) p x → At (take t s.waiting) q y → Reaches (Edge R) y x
+  settled_back p q x y j le at_p at_q =
+      let v = get-take s.waiting t p x at_p in
+      let w = get-take s.waiting t q y at_q in
+      so.back p q x y (λ b h. elim (Contains-push_cases front t b (subst (λ (xs : List ℕ). Contains xs b) starts_are h)) [ inl before ↦ j b before | inr same ↦ inr (omega (arith, same, w.0)) ]) le v.1 w.1
+
+  settled_closed : (x y : ℕ) → At new.marks x Done → Edge R x y → At new.marks y Done
+  settled_closed x y h edge = elim (st.from x Done h) [
+    | inr old ↦ keeps_done y (so.closed x y old edge)
+    | inl part ↦ elim (part_edge part.1 x y part.2 part.3 edge) [ inl done ↦ keeps_done y done | inr w ↦ st.done w.0 y w.1 w.2 ]
+  ]
+
+  settles_so : IsSearch R (record { left = s.left; marks = new.marks; waiting = take t s.waiting; path = end.last.0; starts = front; order = s.order ++ st.more.0 })
+  settles_so = record {
+    left_long = so.left_long;
+    marks_long = st.marks_long ∙ so.marks_long;
+    met = settled_met;
+    waits = settled_waits;
+    listed = settled_listed;
+    fresh = λ x row h r. so.fresh x row (settled_fresh x h) r;
+    bounded = so.bounded;
+    spent = settled_spent;
+    followed = settled_followed;
+    path_up = ascending_front end.last.0 (t ∷ []) (subst IsAscending end.last.1 so.path_up);
+    path_in = λ p h. (let l = ascending_last end.last.0 t (subst IsAscending end.last.1 so.path_up) p h in omega (arith, short_waiting));
+    starts_up = ascending_front front (t ∷ []) (subst IsAscending starts_are so.starts_up);
+    starts_in = λ b h. not_end b (front_below b h) (so.starts_in b (front_start b h));
+    first = λ some. elim (Contains-push_cases front t 0 (subst (λ (xs : List ℕ). Contains xs 0) starts_are (so.first (omega (arith, t_within))))) [
+      | inl before ↦ before
+      | inr same ↦ absurd (omega (arith, same, some, short_waiting))
+    ];
+    onward = λ p q x y le at_p at_q. so.onward p q x y le (get-take s.waiting t p x at_p).1 (get-take s.waiting t q y at_q).1;
+    back = settled_back;
+    closed = settled_closed;
+    order = settled_order;
+  }
+
+  new_is : new ≡ record { left = s.left; marks = new.marks; waiting = take t s.waiting; path = end.last.0; starts = front; order = s.order ++ st.more.0 }
+  new_is i = record { left = st.left i; marks = new.marks; waiting = st.waiting i; path = st.path i; starts = st.starts i; order = st.more.1 i }
+
+  pub settles : IsSearch R new
+  settles = subst (IsSearch R) (sym new_is) settles_so
+
+-- settling one by one, from the last
+pub settles_none : (c : Bool) (s : SearchState) → Settles (length s.waiting) c s s
+settles_none c s = record {
+  left = refl;
+  waiting = sym (take_all (length s.waiting) s.waiting (omega arith));
+  path = refl;
+  starts = refl;
+  marks_long = refl;
+  done = λ p x le h. absurd (omega (arith, slice_get_within s.waiting p x h));
+  others = λ x isnt. refl;
+  from = λ x m h. inr h;
+  more = ([], sym (append-nil s.order), λ k e h. absurd (none-some e h));
+  listed = λ p x le h. absurd (omega (arith, slice_get_within s.waiting p x h));
+}
+
+module _ (c : Bool) (old s new : SearchState) (so : Settles (length s.waiting) c old s) (last : SettlesLast c s new) (within : last.node < length s.marks) where
+  longer_waiting : length s.waiting ≡ length new.waiting + 1
+  longer_waiting = ap length last.waiting ∙ length_push new.waiting last.node
+
+  shorter_waiting : new.waiting ≡ take (length new.waiting) old.waiting
+  shorter_waiting =
+      sym (take_at new.waiting (last.node ∷ []) (length new.waiting) refl)
+      ∙ ap (take (length new.waiting)) (sym last.waiting ∙ so.waiting)
+      ∙ take-take (length new.waiting) (length s.waiting) old.waiting (omega (arith, longer_waiting))
+
+  last_at : At old.waiting (length new.waiting) last.node
+  last_at = (get-take old.waiting (length s.waiting) (length new.waiting) last.node (subst (λ (xs : List ℕ). At xs (length new.waiting) last.node) (sym last.waiting ∙ so.waiting) (slice_get-append_seam new.waiting last.node []))).1
+
+  more_done : (p x : ℕ) → length new.waiting ≤ p → At old.waiting p x → At new.marks x Done
+  more_done p x le h = subst (λ (ms : List Mark). At ms x Done) (sym last.marks) (elim (cases_lt (length new.waiting) p) [
+    | inl later ↦ get_set_keeps s.marks last.node Done x (so.done p x (omega (arith, longer_waiting)) h)
+    | inr same ↦
+        let e : length new.waiting ≡ p = omega arith in
+        let x_is : last.node ≡ x = get_one old.waiting p last.node x (subst (λ k. At old.waiting k last.node) e last_at) h in
+        subst (λ v. At (set s.marks last.node Done) v Done) x_is (get_set s.marks last.node Done within)
+  ])
+
+  more_others : (x : ℕ) → ((p : ℕ) → length new.waiting ≤ p → ¬ (At old.waiting p x)) → slice_get new.marks x ≡ slice_get old.marks x
+  more_others x isnt =
+      ap (λ (ms : List Mark). slice_get ms x) last.marks
+      ∙ get_set_other s.marks last.node Done x (λ e. isnt (length new.waiting) (omega arith) (subst (At old.waiting (length new.waiting)) e last_at))
+      ∙ so.others x (λ p le h. isnt p (omega (arith, longer_waiting)) h)
+
+  more_from : (x : ℕ) (m : Mark) → At new.marks x m → ((m ≡ Done) × (p : ℕ) × (length new.waiting ≤ p) × At old.waiting p x) ⊎ At old.marks x m
+  more_from x m h = elim (get_set_cases s.marks last.node Done x m (subst (λ (ms : List Mark). At ms x m) last.marks h)) [
+    | inl same ↦ inl (sym same.1, length new.waiting, omega arith, subst (At old.waiting (length new.waiting)) same.0 last_at)
+    | inr before ↦ elim (so.from x m before) [ inl part ↦ inl (part.0, part.1, omega (arith, part.2, longer_waiting), part.3) | inr first ↦ inr first ]
+  ]
+
+  entry : Settled
+  entry = record { node = last.node; cyclic = c }
+
+  order_is : new.order ≡ old.order ++ (so.more.0 ++ record { node = last.node; cyclic = c } ∷ [])
+  order_is = last.order ∙ ap (λ (o : List Settled). o ++ record { node = last.node; cyclic = c } ∷ []) so.more.1 ∙ append_assoc old.order so.more.0 (record { node = last.node; cyclic = c } ∷ [])
+
+  more_entries : (k : ℕ) (e : Settled) → At (so.more.0 ++ record { node = last.node; cyclic = c } ∷ []) k e → (e.cyclic ≡ c) × (p : ℕ) × (length new.waiting ≤ p) × At old.waiting p e.node
+  more_entries k e h = elim (slice_get-push_cases so.more.0 (record { node = last.node; cyclic = c }) k e h) [
+    | inl before ↦ (let w = so.more.2 k e before in (w.0, w.1, omega (arith, w.2, longer_waiting), w.3))
+    | inr at ↦ (ap (λ (d : Settled). d.cyclic) (sym at.1), length new.waiting, omega arith, subst (λ (d : Settled). At old.waiting (length new.waiting) d.node) at.1 last_at)
+  ]
+
+  longer_order : length new.order ≡ length s.order + 1
+  longer_order = ap length last.order ∙ length_push s.order (record { node = last.node; cyclic = c })
+
+  more_listed : (p x : ℕ) → length new.waiting ≤ p → At old.waiting p x → IsListed new.order x
+  more_listed p x le h = elim (cases_lt (length new.waiting) p) [
+    | inl later ↦
+        let b = so.listed p x (omega (arith, longer_waiting)) h in
+        (b.0, b.1, omega (arith, b.2, longer_order), subst (λ (o : List Settled). At o b.0 b.1) (sym last.order) (slice_get-append s.order (record { node = last.node; cyclic = c } ∷ []) b.0 b.1 b.3), b.4)
+    | inr same ↦
+        let e : length new.waiting ≡ p = omega arith in (
+          length s.order,
+          record { node = last.node; cyclic = c },
+          omega (arith, longer_order),
+          subst (λ (o : List Settled). At o (length s.order) (record { node = last.node; cyclic = c })) (sym last.order) (slice_get-append_seam s.order (record { node = last.node; cyclic = c }) []),
+          get_one old.waiting p last.node x (subst (λ k. At old.waiting k last.node) e last_at) h,
+        )
+  ]
+
+  pub settles_more : Settles (length new.waiting) c old new
+  settles_more = record {
+    left = last.left ∙ so.left;
+    waiting = shorter_waiting;
+    path = last.path ∙ so.path;
+    starts = last.starts ∙ so.starts;
+    marks_long = ap length last.marks ∙ length-set s.marks last.node Done ∙ so.marks_long;
+    done = more_done;
+    others = more_others;
+    from = more_from;
+    more = (so.more.0 ++ record { node = last.node; cyclic = c } ∷ [], order_is, more_entries);
+    listed = more_listed;
+  }
+
+-- what a step along an edge leaves
+pub record Went (R : List (List ℕ)) (s : SearchState) (t u y : ℕ) (mid : SearchState) : Type 0 where
+  pub so : IsSearch R mid
+  pub accounted : IsAccounted mid t y
+  pub left : mid.left ≡ s.left
+  pub waits : At mid.waiting t u
+  pub on : Contains mid.path t
+  pub path : length mid.path ≤ length s.path + 1
+  pub met : StaysMet s.marks mid.marks
+
+module _ (R : List (List ℕ)) (s : SearchState) (so : IsSearch R s) (t u : ℕ) (end : IsAtEnd s t u) (l : ℕ) (left_at : At s.left u (suc l)) (row : List ℕ) (row_at : At R u row) (y : ℕ) (edge : At row l y) where
+  is_edge : Edge R u y
+  is_edge = (row, row_at, Contains-from_place row l y edge)
+
+  entered_stays : StaysMet s.marks (set s.marks y (Waiting (length s.waiting)))
+  entered_stays x h = elim (get_set_cases s.marks y (Waiting (length s.waiting)) x New h) [ inl same ↦ absurd (new_waiting (length s.waiting) (ap (λ (m : Mark). Some m) (sym same.1))) | inr old ↦ old ]
+
+  went : (mid : SearchState) (m : Mark) → At s.marks y m → GoesTo m y s mid → Went R s t u y mid
+  went mid New mark goes = subst (Went R s t u y) (sym goes) (record {
+    so = enters R s so y mark (inr (t, u, end, is_edge));
+    accounted = entered_accounted R s so y mark (inr (t, u, end, is_edge)) t;
+    left = refl;
+    waits = slice_get-append s.waiting (y ∷ []) t u end.waits;
+    on = Contains-append_left s.path (length s.waiting ∷ []) t (on_path R s so t u end);
+    path = omega (arith, length_push s.path (length s.waiting));
+    met = entered_stays;
+  })
+  went mid (Waiting at) mark goes = subst (Went R s t u y) (sym goes.1) (record {
+    so = merges R s so t u end at y (so.waits at y mark) is_edge mid.starts goes.0;
+    accounted = merged_accounted R s so t u end at y (so.waits at y mark) is_edge mid.starts goes.0 t;
+    left = refl;
+    waits = end.waits;
+    on = on_path R s so t u end;
+    path = omega arith;
+    met = λ x h. h;
+  })
+  went mid Done mark goes = subst (Went R s t u y) (sym goes) (record {
+    so = so;
+    accounted = inl mark;
+    left = refl;
+    waits = end.waits;
+    on = on_path R s so t u end;
+    path = omega arith;
+    met = λ x h. h;
+  })
+
+  module _ (mid : SearchState) (goes : (m : Mark) → At s.marks y m → GoesTo m y s mid) (within : y < length s.marks) where
+    gone : Went R s t u y mid
+    gone = let m = slice_get_some s.marks y within in went mid m.0 m.1 (goes m.0 m.1)
+
+    pub stepped : IsSearch R (record mid { left = set mid.left u l })
+    stepped = follows R mid gone.so t u l y row gone.waits gone.on (subst (λ (xs : List ℕ). At xs u (suc l)) (sym gone.left) left_at) row_at edge gone.accounted
+
+    pub stepped_met : StaysMet s.marks mid.marks
+    stepped_met = gone.met
+
+    pub stepped_less : work (record mid { left = set mid.left u l }) < work s
+    stepped_less =
+        let e = sum_set mid.left u l (subst (λ (xs : List ℕ). At xs u (suc l)) (sym gone.left) left_at) in
+        let f = ap sum gone.left in
+        omega (arith, e, f, gone.path)
+
+-- with nothing on the path nothing waits
+pub none_waits : (R : List (List ℕ)) (s : SearchState) → IsSearch R s → s.path ≡ [] → s.waiting ≡ []
+none_waits R s so empty = by s.waiting (λ some. so.first some)
+  where
+    by : (xs : List ℕ) → (0 < length xs → Contains s.starts 0) → xs ≡ []
+    by [] h = refl
+    by (x ∷ xs) h = let in' : Contains [] 0 = subst (λ (ys : List ℕ). Contains ys 0) empty (so.starts_in 0 (h (omega arith))) in absurd (omega (arith, in'.1))
+
+-- a node that was met and doesn't wait is done
+pub all_listed : (R : List (List ℕ)) (s : SearchState) → IsSearch R s → s.waiting ≡ [] → (x : ℕ) → x < length R → ¬ (At s.marks x New) → IsListed s.order x
+all_listed R s so empty x l old = let m = slice_get_some s.marks x (omega (arith, so.marks_long)) in by m.0 m.1
+  where
+    by : (m : Mark) → At s.marks x m → IsListed s.order x
+    by New h = absurd (old h)
+    by (Waiting p) h = absurd (none_at s.waiting p x empty (so.waits p x h))
+    by Done h = so.listed x h
+
+-- nodes that wait have marks
+pub waiting_within : (R : List (List ℕ)) (s : SearchState) → IsSearch R s → (p x : ℕ) → At s.waiting p x → x < length s.marks
+waiting_within R s so p x h = slice_get_within s.marks x (Waiting p) (so.met p x h)
+
+-- a place that isn't the last start is none, where it is the end of the path
+pub inner_start : (R : List (List ℕ)) (s : SearchState) (so : IsSearch R s) (t u : ℕ) (end : IsAtEnd s t u) → (EndsWith s.starts t → ⊥) → Contains s.starts t → ⊥
+inner_start R s so t u end not_last h = not_last (by s.starts so.starts_up (λ b g. starts_below R s so t u end b g) h)
+  where
+    by : (xs : List ℕ) → IsAscending xs → ((b : ℕ) → Contains xs b → b ≤ t) → Contains xs t → EndsWith xs t
+    by xs up low g =
+        let at = place_from_Contains xs t g in
+        elim (cases_lt (at.0 + 1) (length xs)) [
+          | inl more ↦ absurd (let next = slice_get_some xs (at.0 + 1) more in let l = up at.0 (at.0 + 1) t next.0 (omega arith) at.1 next.1 in let m = low next.0 (Contains-from_place xs (at.0 + 1) next.0 next.1) in omega (arith, l, m))
+          | inr end' ↦ (let e : at.0 ≡ length xs - 1 = omega (arith, slice_get_within xs at.0 t at.1) in split_last xs t (subst (λ i. At xs i t) e at.1))
+        ]
+
+pub settled_within : (c : Bool) (old s : SearchState) → Settles (length s.waiting) c old s → ((p x : ℕ) → At old.waiting p x → x < length old.marks) → (p x : ℕ) → At s.waiting p x → x < length s.marks
+settled_within c old s so within p x h =
+    let w = get-take old.waiting (length s.waiting) p x (subst (λ (xs : List ℕ). At xs p x) so.waiting h) in
+    omega (arith, within p x w.1, so.marks_long)
+
+-- the end of the path waits
+pub place_waits : (R : List (List ℕ)) (s : SearchState) → IsSearch R s → (t : ℕ) → EndsWith s.path t → t < length s.waiting
+place_waits R s so t end = so.path_in t (subst (λ (xs : List ℕ). Contains xs t) (sym end.1) (Contains-push end.0 t))
+
+-- what a step reads: the node at the end of the path, how many of its edges are left, its row, and the next of its edges
+module _ (rows : List (Vec ℕ Global)) (s : SearchState) (so : IsSearch (rows_of rows) s) (within : AreWithin (rows_of rows)) (t : ℕ) (end : EndsWith s.path t)
+    (u : ℕ) (u_is : u ≡ get_or s.waiting t u) where
+  pub node_waits : At s.waiting t u
+  node_waits = slice_get_read s.waiting (length s.waiting) t u refl (place_waits (rows_of rows) s so t end) u_is
+
+  pub node_end : IsAtEnd s t u
+  node_end = record { last = end; waits = node_waits }
+
+  pub node_rows : u < length rows
+  node_rows = let l = waiting_within (rows_of rows) s so t u node_waits in omega (arith, l, so.marks_long, length-map rows (λ (row : Vec ℕ Global). row.items))
+
+  pub node_left : u < length s.left
+  node_left = omega (arith, node_rows, so.left_long, length-map rows (λ (row : Vec ℕ Global). row.items))
+
+  module _ (n : ℕ) (n_is : n ≡ get_or s.left u n) where
+    pub left_is : At s.left u n
+    left_is = slice_get_read s.left (length s.left) u n refl node_left n_is
+
+    module _ (row : Vec ℕ Global) (row_is : row ≡ get_or rows u row) where
+      pub row_stands : At (rows_of rows) u row.items
+      row_stands = row_at rows u row node_rows row_is
+
+      pub left_within : n ≤ length row.items
+      left_within = so.bounded u n row.items left_is row_stands
+
+      module _ (some : n ≢ 0) (y : ℕ) (y_is : y ≡ get_or row.items (n - 1) y) where
+        edge_is : At row.items (n - 1) y
+        edge_is = slice_get_read row.items (length row.items) (n - 1) y refl (omega (arith, left_within)) y_is
+
+        pub edge_within : y < length s.marks
+        edge_within = (let l = within u y (row.items, row_stands, Contains-from_place row.items (n - 1) y edge_is) in omega (arith, l, so.marks_long))
+
+        left_one : At s.left u (suc (n - 1))
+        left_one = (let e : n ≡ suc (n - 1) = omega arith in subst (At s.left u) e left_is)
+
+        module _ (mid : SearchState) (goes : (m : Mark) → At s.marks y m → GoesTo m y s mid) where
+          pub step_search : IsSearch (rows_of rows) (record mid { left = set mid.left u (n - 1) })
+          step_search = stepped (rows_of rows) s so t u node_end (n - 1) left_one row.items row_stands y edge_is mid goes edge_within
+
+          pub step_met : StaysMet s.marks mid.marks
+          step_met = stepped_met (rows_of rows) s so t u node_end (n - 1) left_one row.items row_stands y edge_is mid goes edge_within
+
+          pub step_less : work (record mid { left = set mid.left u (n - 1) }) < work s
+          step_less = stepped_less (rows_of rows) s so t u node_end (n - 1) left_one row.items row_stands y edge_is mid goes edge_within
+
+          pub step_left : u < length mid.left
+          step_left = omega (arith, node_left, ap length (gone (rows_of rows) s so t u node_end (n - 1) left_one row.items row_stands y edge_is mid goes edge_within).left)
+
+-- a mark that is made leaves no new node
+pub set_stays : (ms : List Mark) (y p : ℕ) → StaysMet ms (set ms y (Waiting p))
+set_stays ms y p x h = elim (get_set_cases ms y (Waiting p) x New h) [ inl same ↦ absurd (new_waiting p (ap (λ (m : Mark). Some m) (sym same.1))) | inr old ↦ old ]
+
+pub set_not_new : (ms : List Mark) (y p : ℕ) → y < length ms → At (set ms y (Waiting p)) y New → ⊥
+set_not_new ms y p l h = new_waiting p (sym h ∙ get_set ms y (Waiting p) l)
