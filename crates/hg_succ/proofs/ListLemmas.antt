@@ -1,5 +1,5 @@
 -- Elements and the places where they stand.
-use Rattle.std.proofs.Common.{◌≡◌, ◌≢◌, ℕ, zero, suc, ◌+◌, ◌-◌, ◌<◌, List, [], ◌∷◌, ◌++◌, length, take, set, get_or, Contains, ◌⊎◌, inl, inr, refl, sym, ap, subst, ◌∙◌, arith, slice_get, sum, map, Bool, IsTrue, ◌↔◌, eqb, Vec, Global}
+use Rattle.std.proofs.Common.{◌≡◌, ℕ, zero, suc, ◌+◌, ◌-◌, ◌<◌, List, [], ◌∷◌, ◌++◌, length, take, set, get_or, Contains, ◌⊎◌, inl, inr, refl, sym, ap, subst, ◌∙◌, arith, sum, map, Bool, IsTrue, ◌↔◌, eqb, Vec, Global}
 use Rattle.std.specs.List.{IsAnyAnswer}
 use Rattle.std.proofs.lemmas.List.Sums.{sum_by-set}
 use Rattle.std.proofs.lemmas.List.Elements.{Decides-contains, contains_decides}
@@ -24,18 +24,6 @@ module _ {X : Type 0} where
   pub get_later : (xs ys : List X) (k : ℕ) (x : X) → At ys k x → At (xs ++ ys) (length xs + k) x
   get_later [] ys k x h = let e : k ≡ 0 + k = omega arith in subst (λ i. At ys i x) e h
   get_later (z ∷ xs) ys k x h = let e : suc (length xs + k) ≡ suc (length xs) + k = omega arith in subst (λ i. At (z ∷ xs ++ ys) i x) e (get_later xs ys k x h)
-
-  pub get_set : (xs : List X) (i : ℕ) (v : X) → i < length xs → At (set xs i v) i v
-  get_set [] i v l = absurd (omega arith)
-  get_set (x ∷ xs) zero v l = refl
-  get_set (x ∷ xs) (suc i) v l = get_set xs i v (omega arith)
-
-  pub get_set_other : (xs : List X) (i : ℕ) (v : X) (j : ℕ) → i ≢ j → slice_get (set xs i v) j ≡ slice_get xs j
-  get_set_other [] i v j apart = refl
-  get_set_other (x ∷ xs) zero v zero apart = absurd (apart refl)
-  get_set_other (x ∷ xs) zero v (suc j) apart = refl
-  get_set_other (x ∷ xs) (suc i) v zero apart = refl
-  get_set_other (x ∷ xs) (suc i) v (suc j) apart = get_set_other xs i v j (λ e. apart (ap suc e))
 
   pub get_set_cases : (xs : List X) (i : ℕ) (v : X) (j : ℕ) (w : X) → At (set xs i v) j w → ((i ≡ j) × (v ≡ w)) ⊎ At xs j w
   get_set_cases [] i v j w h = inr h

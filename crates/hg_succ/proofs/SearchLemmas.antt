@@ -11,7 +11,8 @@ use Rattle.hg_succ.specs.Steps.{Reaches, LeadsBack}
 use Rattle.hg_succ.specs.Steps.Reaches.{no_step, one_step_more}
 use Rattle.hg_succ.specs.Rows.{At, rows_of, Edge, IsOrder, StandsBefore, AreWithin}
 use Rattle.hg_succ.specs.Search.{SearchState, EndsWith, IsAscending, AreJoined, IsAccounted, IsListed, IsSearch, IsAtEnd, entered, KeepsUpTo, Settles, SettlesLast, CanEnter, GoesTo, IsCyclicPart, StaysMet, work}
-use Rattle.hg_succ.proofs.ListLemmas.{get_one, get_append_cases, get_set, get_set_other, get_set_cases, get_set_keeps, ascending_push, ascending_front, ascending_last, sum_set, split_last, row_at}
+use Rattle.hg_graph.proofs.MarkLemmas.{get-set_same, get-set_other}
+use Rattle.hg_succ.proofs.ListLemmas.{get_one, get_append_cases, get_set_cases, get_set_keeps, ascending_push, ascending_front, ascending_last, sum_set, split_last, row_at}
 use Rattle.hg_changeset.proofs.ListLemmas.{slice_get-append, slice_get-append_seam, slice_get-push_cases, slice_get-take, slice_get_some}
 use Rattle.hg_graph.proofs.GraphLemmas.{get-take, Contains-from_place, place_from_Contains}
 
@@ -85,7 +86,7 @@ module _ (R : List (List ℕ)) (s : SearchState) (so : IsSearch R s) where
 module _ (R : List (List ℕ)) (s : SearchState) (so : IsSearch R s) (y : ℕ) (new : At s.marks y New) (from : CanEnter R s y) where
   other_mark : (x : ℕ) (m : Mark) → (New ≡ m → ⊥) → At s.marks x m → At (set s.marks y (Waiting (length s.waiting))) x m
   other_mark x m differs h =
-      get_set_other s.marks y (Waiting (length s.waiting)) x (λ e. differs (same_Some New m (sym new ∙ subst (λ z. At s.marks z m) (sym e) h))) ∙ h
+      get-set_other s.marks y x (Waiting (length s.waiting)) (λ e. differs (same_Some New m (sym new ∙ subst (λ z. At s.marks z m) e h))) ∙ h
 
   new_done' : (x : ℕ) → At s.marks x Done → At (set s.marks y (Waiting (length s.waiting))) x Done
   new_done' x h = other_mark x Done (λ e. cc) h
@@ -97,7 +98,7 @@ module _ (R : List (List ℕ)) (s : SearchState) (so : IsSearch R s) (y : ℕ) (
   entered_met p x h = elim (slice_get-push_cases s.waiting y p x h) [
     | inl before ↦ other_mark x (Waiting p) (λ e. cc) (so.met p x before)
     | inr last ↦
-        let here : At (set s.marks y (Waiting (length s.waiting))) y (Waiting (length s.waiting)) = get_set s.marks y (Waiting (length s.waiting)) (slice_get_within s.marks y New new) in
+        let here : At (set s.marks y (Waiting (length s.waiting))) y (Waiting (length s.waiting)) = get-set_same s.marks y (Waiting (length s.waiting)) (slice_get_within s.marks y New new) in
         subst (λ z. At (set s.marks y (Waiting (length s.waiting))) z (Waiting p)) last.1 (subst (λ k. At (set s.marks y (Waiting (length s.waiting))) y (Waiting k)) (sym last.0) here)
   ]
 
@@ -329,14 +330,14 @@ module _ (R : List (List ℕ)) (s : SearchState) (so : IsSearch R s) (t u l y : 
     met = so.met;
     waits = so.waits;
     listed = so.listed;
-    fresh = λ x r new r_at. get_set_other s.left u l x (λ e. waiting_not_new R s so t u waits (subst (λ v. At s.marks v New) (sym e) new)) ∙ so.fresh x r new r_at;
+    fresh = λ x r new r_at. get-set_other s.left u x l (λ e. waiting_not_new R s so t u waits (subst (λ v. At s.marks v New) e new)) ∙ so.fresh x r new r_at;
     bounded = λ x k r k_at r_at. elim (get_set_cases s.left u l x k k_at) [
       | inr old ↦ so.bounded x k r old r_at
       | inl same ↦ (let b = so.bounded x (suc l) r (subst (λ v. At s.left v (suc l)) same.0 left) r_at in omega (arith, same.1))
     ];
     spent = λ p x h. elim (so.spent p x h) [
       | inl on' ↦ inl on'
-      | inr none ↦ inr (get_set_other s.left u l x (λ e. (let bad : suc l ≡ 0 = get_one s.left u (suc l) 0 left (subst (λ v. At s.left v 0) (sym e) none) in omega (arith, bad))) ∙ none)
+      | inr none ↦ inr (get-set_other s.left u x l (λ e. (let bad : suc l ≡ 0 = get_one s.left u (suc l) 0 left (subst (λ v. At s.left v 0) e none) in omega (arith, bad))) ∙ none)
     ];
     followed = after_followed;
     path_up = so.path_up;
@@ -625,13 +626,13 @@ module _ (c : Bool) (old s new : SearchState) (so : Settles (length s.waiting) c
     | inr same ↦
         let e : length new.waiting ≡ p = omega arith in
         let x_is : last.node ≡ x = get_one old.waiting p last.node x (subst (λ k. At old.waiting k last.node) e last_at) h in
-        subst (λ v. At (set s.marks last.node Done) v Done) x_is (get_set s.marks last.node Done within)
+        subst (λ v. At (set s.marks last.node Done) v Done) x_is (get-set_same s.marks last.node Done within)
   ])
 
   more_others : (x : ℕ) → ((p : ℕ) → length new.waiting ≤ p → ¬ (At old.waiting p x)) → slice_get new.marks x ≡ slice_get old.marks x
   more_others x isnt =
       ap (λ (ms : List Mark). slice_get ms x) last.marks
-      ∙ get_set_other s.marks last.node Done x (λ e. isnt (length new.waiting) (omega arith) (subst (At old.waiting (length new.waiting)) e last_at))
+      ∙ get-set_other s.marks last.node x Done (λ e. isnt (length new.waiting) (omega arith) (subst (At old.waiting (length new.waiting)) (sym e) last_at))
       ∙ so.others x (λ p le h. isnt p (omega (arith, longer_waiting)) h)
 
   more_from : (x : ℕ) (m : Mark) → At new.marks x m → ((m ≡ Done) × (p : ℕ) × (length new.waiting ≤ p) × At old.waiting p x) ⊎ At old.marks x m
@@ -842,4 +843,4 @@ pub set_stays : (ms : List Mark) (y p : ℕ) → StaysMet ms (set ms y (Waiting 
 set_stays ms y p x h = elim (get_set_cases ms y (Waiting p) x New h) [ inl same ↦ absurd (new_waiting p (ap (λ (m : Mark). Some m) (sym same.1))) | inr old ↦ old ]
 
 pub set_not_new : (ms : List Mark) (y p : ℕ) → y < length ms → At (set ms y (Waiting p)) y New → ⊥
-set_not_new ms y p l h = new_waiting p (sym h ∙ get_set ms y (Waiting p) l)
+set_not_new ms y p l h = new_waiting p (sym h ∙ get-set_same ms y (Waiting p) l)

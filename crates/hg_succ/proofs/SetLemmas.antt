@@ -1,5 +1,5 @@
 -- Members of lists that are made from others, and the largest of some sets.
-use Rattle.std.proofs.Common.{◌≡◌, ◌≢◌, take, nat_cmp, IsPermutation, ℕ, zero, suc, ◌+◌, ◌<◌, ◌≤◌, Bool, true, false, cond, not, ◌||◌, List, [], ◌∷◌, ◌++◌, length, map, filter, Contains, ◌⊎◌, ◌↔◌, inl, inr, refl, sym, ap, subst, ◌∙◌, arith, true≢false, eqb, Vec, Global, nat_lt, get_or, Result, Ok, Err, is_ok}
+use Rattle.std.proofs.Common.{◌≡◌, ◌≢◌, take, nat_cmp, IsPermutation, ℕ, zero, suc, ◌+◌, ◌<◌, ◌≤◌, Bool, true, false, cond, not, List, [], ◌∷◌, ◌++◌, length, map, filter, Contains, ◌⊎◌, ◌↔◌, inl, inr, refl, sym, ap, subst, ◌∙◌, arith, true≢false, eqb, Vec, Global, nat_lt, get_or, Result, Ok, Err, is_ok}
 use Rattle.std.specs.List.{dedup, flat_map, list_any, list_all, AllByRecursion}
 use Rattle.std.specs.List.Sorted.{IsStrictlySortedBy, IsSorted, IsNonDecreasingBy, IsSearchInRange, IsBinarySearchResult}
 use Rattle.std.specs.Ordering.{ordering_index}
@@ -7,7 +7,9 @@ use Rattle.std.specs.declared.cmp.Ordering.TheVariants.{Less, Equal, Greater}
 use Rattle.std.specs.Cmp.{unsigned_Decides, unsigned_ties, IsEquivalence, IsTotalOrder}
 use Rattle.std.specs.declared.cmp.Ordering.{Ordering}
 use Rattle.std.specs.Cmp.Lexicographic.{slice_cmp, lists_ties, lists_total, lists_equiv, pointwise, pointwise_decides}
-use Rattle.std.proofs.lemmas.Bool.{cases_lt, and_parts, and_from, lt-ltb, ltb-true}
+use Rattle.std.proofs.lemmas.List.Folds.{Any-from_list_any, list_any_at, list_all_at}
+use Rattle.std.proofs.lemmas.Map.Keys.{sorted_tail}
+use Rattle.std.proofs.lemmas.Bool.{cases_Bool, cases_lt, and_parts, and_from, lt-ltb, ltb-true}
 use Rattle.std.proofs.lemmas.List.Elements.{Contains-push, Contains-push_cases, Contains-append_left, Contains-append_right, Contains-append_cases, Contains-get_or}
 use Rattle.std.proofs.lemmas.List.Kept.{IsStrictlySortedBy-filter, IsStrictlySortedBy-dedup, Contains-dedup, Contains-from_dedup, Any-dedup}
 use Rattle.std.proofs.lemmas.List.Sorted.{Contains-permutation, IsPermutation-sym}
@@ -19,7 +21,7 @@ use Rattle.hg_changeset.proofs.NodeLemmas.{node_eq_laws, same_node, node_itself,
 use Rattle.hg_succ.specs.Successors.{AreWithin}
 use Rattle.hg_succ.specs.Answer.{sets_of}
 use Rattle.hg_succ.specs.Unions.{IsSetOf, AreSetsOf, AreLargest, is_within, is_within_larger, is_largest, products, with_sets, choices_on, IsChoice}
-use Rattle.hg_succ.proofs.SortedLemmas.{below_rest, rest_sorted, less_by_place}
+use Rattle.hg_succ.proofs.SortedLemmas.{below_rest, less_by_place}
 use Rattle.hg_succ.proofs.NumberLemmas.{more_of}
 use Rattle.hg_changeset.proofs.ListLemmas.{Contains-cons_cases, Contains-later, Contains-first, Contains-none, Contains-map, Contains-map_from}
 
@@ -38,10 +40,6 @@ module _ {X Y : Type 0} (f : X → List Y) where
     | inr later ↦ (let r = flat_contains xs y later in (r.0, Contains-later z xs r.0 r.1, r.2))
   ]
 
-pub true_or_false : (b : Bool) → (b ≡ true) ⊎ (b ≡ false)
-true_or_false true = inl refl
-true_or_false false = inr refl
-
 not_true : (b : Bool) → not b ≡ true → b ≡ false
 not_true true h = absurd (true≢false (sym h))
 not_true false h = refl
@@ -57,7 +55,7 @@ module _ {X : Type 0} (p : X → Bool) where
   contains_filter [] x h e = absurd (Contains-none x h)
   contains_filter (z ∷ xs) x h e = elim (Contains-cons_cases z xs x h) [
     | inl same ↦ (let ez : p z ≡ true = ap p same ∙ e in subst (λ (ys : List X). Contains ys x) (sym (filter_take z xs ez)) (subst (Contains (z ∷ filter p xs)) same (Contains-first z (filter p xs))))
-    | inr later ↦ elim (true_or_false (p z)) [
+    | inr later ↦ elim (cases_Bool (p z)) [
       | inl yes' ↦ subst (λ (ys : List X). Contains ys x) (sym (filter_take z xs yes')) (Contains-later z (filter p xs) x (contains_filter xs x later e))
       | inr no' ↦ subst (λ (ys : List X). Contains ys x) (sym (filter_drop z xs no')) (contains_filter xs x later e)
     ]
@@ -65,7 +63,7 @@ module _ {X : Type 0} (p : X → Bool) where
 
   pub filter_contains : (xs : List X) (x : X) → Contains (filter p xs) x → Contains xs x × (p x ≡ true)
   filter_contains [] x h = absurd (Contains-none x h)
-  filter_contains (z ∷ xs) x h = elim (true_or_false (p z)) [
+  filter_contains (z ∷ xs) x h = elim (cases_Bool (p z)) [
     | inl yes' ↦ elim (Contains-cons_cases z (filter p xs) x (subst (λ (ys : List X). Contains ys x) (filter_take z xs yes') h)) [
       | inl same ↦ (subst (Contains (z ∷ xs)) same (Contains-first z xs), sym (ap p same) ∙ yes')
       | inr later ↦ (let r = filter_contains xs x later in (Contains-later z xs x r.0, r.1))
@@ -74,22 +72,10 @@ module _ {X : Type 0} (p : X → Bool) where
   ]
 
   pub any_has : (xs : List X) → list_any p xs ≡ true → (x : X) × Contains xs x × (p x ≡ true)
-  any_has [] h = absurd (true≢false (sym h))
-  any_has (z ∷ xs) h = elim (true_or_false (p z)) [
-    | inl yes' ↦ (z, Contains-first z xs, yes')
-    | inr no' ↦ (let r = any_has xs (ap (λ b. b || list_any p xs) (sym no') ∙ h) in (r.0, Contains-later z xs r.0 r.1, r.2))
-  ]
-
-  or_true : (b c : Bool) → c ≡ true → (b || c) ≡ true
-  or_true true c e = refl
-  or_true false c e = e
+  any_has xs h = let a = Any-from_list_any p xs h in (a.1, (a.0, a.2, a.3), a.4)
 
   pub has_any : (xs : List X) (x : X) → Contains xs x → p x ≡ true → list_any p xs ≡ true
-  has_any [] x h e = absurd (Contains-none x h)
-  has_any (z ∷ xs) x h e = elim (Contains-cons_cases z xs x h) [
-    | inl same ↦ ap (λ b. b || list_any p xs) (ap p same ∙ e)
-    | inr later ↦ or_true (p z) (list_any p xs) (has_any xs x later e)
-  ]
+  has_any xs x h e = list_any_at p xs h.0 x h.1 (ap p h.2 ∙ e)
 
   pub all_has : (xs : List X) → list_all p xs ≡ true → (x : X) → Contains xs x → p x ≡ true
   all_has [] h x g = absurd (Contains-none x g)
@@ -121,7 +107,7 @@ same_or_smaller (x ∷ xs) [] up vp w = absurd (Contains-none x (w x (Contains-f
 same_or_smaller (x ∷ xs) (y ∷ ys) up vp w = elim (Contains-cons_cases y ys x (w x (Contains-first x xs))) [
   | inl same ↦
       -- the first is the first: the others are among the others
-      elim (same_or_smaller xs ys (rest_sorted node_cmp_total x xs up) (rest_sorted node_cmp_total y ys vp) (λ z g. elim (Contains-cons_cases y ys z (w z (Contains-later x xs z g))) [
+      elim (same_or_smaller xs ys (sorted_tail node_cmp x xs up) (sorted_tail node_cmp y ys vp) (λ z g. elim (Contains-cons_cases y ys z (w z (Contains-later x xs z g))) [
         | inl first ↦ absurd (same_not_less x z (sym same ∙ first) (below_rest node_cmp_total x xs z up g))
         | inr later ↦ later
       ])) [
@@ -130,7 +116,7 @@ same_or_smaller (x ∷ xs) (y ∷ ys) up vp w = elim (Contains-cons_cases y ys x
       ]
   | inr later ↦
       -- the first comes later: so do all
-      elim (same_or_smaller (x ∷ xs) ys up (rest_sorted node_cmp_total y ys vp) (λ z g. elim (Contains-cons_cases y ys z (w z g)) [
+      elim (same_or_smaller (x ∷ xs) ys up (sorted_tail node_cmp y ys vp) (λ z g. elim (Contains-cons_cases y ys z (w z g)) [
         | inl first ↦ elim (Contains-cons_cases x xs z g) [
           | inl at ↦ absurd (same_not_less y x (first ∙ sym at) (below_rest node_cmp_total y ys x vp later))
           | inr in' ↦ absurd (less_both x y (subst (λ v. node_cmp x v ≡ Less) (sym first) (below_rest node_cmp_total x xs z up in')) (below_rest node_cmp_total y ys x vp later))
@@ -173,7 +159,7 @@ pub searched_has : (set : List Node) (x : Node) (r : Result ℕ ℕ) → IsStric
 searched_has set x (Ok i) up within found =
     let y = get_or set i x in
     sym (has_any (λ z. node_eq z x) set y (Contains-get_or set i x within) (node_itself y x (node_cmp_exact y x (found x))))
-searched_has set x (Err i) up within parted = elim (true_or_false (list_any (λ z. node_eq z x) set)) [
+searched_has set x (Err i) up within parted = elim (cases_Bool (list_any (λ z. node_eq z x) set)) [
   | inr none ↦ sym none
   | inl any ↦
       let y = any_has (λ z. node_eq z x) set any in
@@ -207,9 +193,9 @@ module _ (sets : List (List Node)) where
   -- a set is empty, or the largest, or within a larger one
   look : (set : List Node) → Contains sets set → ((other : List Node) → Contains sets other → length set < length other → AreWithin set other → LargestAbove set) → LargestAbove set
   unfolding LargestAbove
-  look set h up = elim (true_or_false (eqb (length set) 0)) [
+  look set h up = elim (cases_Bool (eqb (length set) 0)) [
     | inl empty ↦ inl (empty_by_length set empty)
-    | inr some ↦ elim (true_or_false (list_any (is_within_larger set) sets)) [
+    | inr some ↦ elim (cases_Bool (list_any (is_within_larger set) sets)) [
       | inr none ↦ inr (set, h, and_from (not (eqb (length set) 0)) (not (list_any (is_within_larger set) sets)) (ap not some) (ap not none), λ x g. g)
       | inl more ↦ (let o = any_has (is_within_larger set) sets more in let l = larger_one set o.0 o.2 in up o.0 o.1 l.0 l.1)
     ]
@@ -293,7 +279,7 @@ choices_push (g ∷ fs) f unions = choices_push fs f (with_sets g unions)
 
 -- one failure is enough
 pub all_fails : {X : Type 0} (p : X → Bool) (xs : List X) (x : X) → Contains xs x → p x ≡ false → list_all p xs ≡ false
-all_fails p xs x h no' = elim (true_or_false (list_all p xs)) [ inl all ↦ absurd (true≢false (sym (all_has p xs all x h) ∙ no')) | inr none ↦ none ]
+all_fails p xs x h e = list_all_at p xs h.0 x h.1 (ap p h.2 ∙ e)
 
 pub all_more : {X : Type 0} (p : X → Bool) (xs : List X) (i : ℕ) (x : X) → i < length xs → x ≡ get_or xs i x → list_all p (take i xs) ≡ true → p x ≡ true → list_all p (take (i + 1) xs) ≡ true
 all_more p xs i x l e before here = has_all p (take (i + 1) xs) (λ y h. elim ((more_of xs i x l e y).0 h) [ inl old ↦ all_has p (take i xs) before y old | inr same ↦ ap p (sym same) ∙ here ])
@@ -301,7 +287,7 @@ all_more p xs i x l e before here = has_all p (take (i + 1) xs) (λ y h. elim ((
 -- a set that is as long as any is within no larger one
 pub none_longer : (sets : List (List Node)) (longest : ℕ) (set : List Node) → ((other : List Node) → Contains sets other → length other ≤ longest) → longest ≤ length set → eqb (length set) 0 ≡ false → is_largest sets set ≡ true
 none_longer sets longest set bound long some =
-    and_from (not (eqb (length set) 0)) (not (list_any (is_within_larger set) sets)) (ap not some) (elim (true_or_false (list_any (is_within_larger set) sets)) [
+    and_from (not (eqb (length set) 0)) (not (list_any (is_within_larger set) sets)) (ap not some) (elim (cases_Bool (list_any (is_within_larger set) sets)) [
       | inr none ↦ ap not none
       | inl any ↦ absurd (let o = any_has (is_within_larger set) sets any in let l = larger_one sets set o.0 o.2 in let b = bound o.0 o.1 in omega (arith, l.0, b))
     ])

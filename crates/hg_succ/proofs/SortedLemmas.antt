@@ -1,6 +1,8 @@
 -- Strictly ascending lists.
 use Rattle.std.proofs.Common.{◌≡◌, ◌<◌, ◌∷◌, [], ℕ, List, length, Contains, arith, ⊎_elim, get_or, subst, sym, ap, ◌∙◌, refl, zero, suc}
-use Rattle.std.proofs.lemmas.List.Elements.{All-from_recursion, All-contains, Contains-get_or}
+use Rattle.std.proofs.lemmas.List.Elements.{All-contains, Contains-get_or}
+use Rattle.std.proofs.lemmas.Map.Keys.{sorted_tail}
+use Rattle.std.proofs.lemmas.Map.Views.{All-after_first}
 use Rattle.std.specs.Cmp.{IsTotalOrder}
 use Rattle.std.specs.List.Sorted.{IsStrictlySortedBy}
 use Rattle.std.specs.declared.cmp.Ordering.{Ordering}
@@ -19,12 +21,7 @@ module _ {K : Type 0} {R : K → K → Ordering} (o : IsTotalOrder R) where
   not_below_itself x h = no_less_itself (R x x) (o.antisymm x x) h
 
   pub below_rest : (x : K) (xs : List K) (y : K) → IsStrictlySortedBy R (x ∷ xs) → Contains xs y → R x y ≡ Less
-  unfolding IsStrictlySortedBy
-  below_rest x xs y up h = All-contains (λ z. R x z ≡ Less) xs y (All-from_recursion (λ z. R x z ≡ Less) xs up.0) h
-
-  pub rest_sorted : (x : K) (xs : List K) → IsStrictlySortedBy R (x ∷ xs) → IsStrictlySortedBy R xs
-  unfolding IsStrictlySortedBy
-  rest_sorted x xs up = up.1
+  below_rest x xs y up h = All-contains (λ z. R x z ≡ Less) xs y (All-after_first R x xs up) h
 
   -- the heads of two ascending lists with the same members are one
   same_heads : (x : K) (xs : List K) (y : K) (ys : List K) → IsStrictlySortedBy R (x ∷ xs) → IsStrictlySortedBy R (y ∷ ys) → Contains (y ∷ ys) x → Contains (x ∷ xs) y → x ≡ y
@@ -45,7 +42,7 @@ module _ {K : Type 0} {R : K → K → Ordering} (o : IsTotalOrder R) where
   same_members (x ∷ xs) [] up vp in' back = let h : Contains [] x = in' x (0, omega arith, refl) in absurd (omega (arith, h.1))
   same_members (x ∷ xs) (y ∷ ys) up vp in' back =
       let same = same_heads x xs y ys up vp (in' x (0, omega arith, refl)) (back y (0, omega arith, refl)) in
-      let rest = same_members xs ys (rest_sorted x xs up) (rest_sorted y ys vp) (rest_within x xs y ys up same in') (rest_within y ys x xs vp (sym same) back) in
+      let rest = same_members xs ys (sorted_tail R x xs up) (sorted_tail R y ys vp) (rest_within x xs y ys up same in') (rest_within y ys x xs vp (sym same) back) in
       ap (λ z. z ∷ xs) same ∙ ap (λ zs. y ∷ zs) rest
 
   -- what stands earlier is less
@@ -54,4 +51,4 @@ module _ {K : Type 0} {R : K → K → Ordering} (o : IsTotalOrder R) where
   less_by_place (x ∷ xs) up zero zero d l within = absurd (omega (arith, l))
   less_by_place (x ∷ xs) up zero (suc j) d l within = below_rest x xs (get_or xs j d) up (Contains-get_or xs j d (omega (arith, within)))
   less_by_place (x ∷ xs) up (suc i) zero d l within = absurd (omega (arith, l))
-  less_by_place (x ∷ xs) up (suc i) (suc j) d l within = less_by_place xs (rest_sorted x xs up) i j d (omega (arith, l)) (omega (arith, within))
+  less_by_place (x ∷ xs) up (suc i) (suc j) d l within = less_by_place xs (sorted_tail R x xs up) i j d (omega (arith, l)) (omega (arith, within))

@@ -192,8 +192,9 @@ impl Table {
         requires { ¬ (IsPredecessor (content_of replica.now) node) }
         ensures { IfOk result (λ family. IsSolved (content_of replica.now) node (are_sets (sets_of family.items))) }
     {
+        let held = replica.graph().contains(node);
         let mut family = Vec::new(self.alloc);
-        if replica.graph().contains(node) {
+        if held {
             let mut set = Vec::new(self.alloc);
             set.push(node)?;
             family.push(set)?;
