@@ -1,7 +1,7 @@
 use Rattle.std.proofs.Common.{◌≡◌, ◌≤◌, ℕ, List, length}
 use Rattle.hg_marker.specs.Fields.{Fields}
 use Rattle.hg_obsstore.specs.Faults.{markers_at, with_front}
-use Rattle.hg_obsstore.proofs.format.check_markers.Given as goal
+use Rattle.hg_obsstore.proofs.format.check_rest.Given as goal
 
 -- some markers, with what is left to check, are all that there is
 abbrev pub invariant-loop-rest : goal.invariant-loop-rest

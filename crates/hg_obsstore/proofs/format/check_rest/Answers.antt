@@ -1,7 +1,7 @@
 use Rattle.std.proofs.Common.{rules, arith, ◌≡◌, ◌<◌, ◌++◌, [], ◌∷◌, length}
 use Rattle.hg_obsstore.specs.Faults.{markers_at, placed_marker}
 use Rattle.hg_obsstore.proofs.FormatLemmas.{with_none, goes_on, breaks_off, ends, is_read, left_ok, left_err}
-use Rattle.hg_obsstore.proofs.format.check_markers.Goals as goal
+use Rattle.hg_obsstore.proofs.format.check_rest.Goals as goal
 
 pub loop-rest-init : goal.loop-rest-init
 loop-rest-init c = ([], length c.args.bytes.now, omega arith, with_none (markers_at c.args.total (length c.args.bytes.now) c.args.bytes.now))
