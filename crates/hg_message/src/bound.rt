@@ -50,7 +50,7 @@ pub(crate) fn skip_bounds(total: usize, count: u32, bytes: &[u8]) -> Result<&[u8
         (λ fault. counted (λ _. bound_at total) 0 count bytes.now ≡ Err fault) }
 {
     let mut rest = bytes;
-    for _index in 0..count {
+    for _ in 0..count {
         match read_bound(total, rest) {
             Ok((_, after)) => rest = after,
             Err(fault) => return Err(fault),
@@ -59,7 +59,7 @@ pub(crate) fn skip_bounds(total: usize, count: u32, bytes: &[u8]) -> Result<&[u8
     Ok(rest)
 }
 
-/// So many bounds that were checked.
+/// So many bounds that were checked. Room is taken for just so many.
 pub(crate) fn read_bounds(
     alloc: Global,
     total: usize,
@@ -68,9 +68,9 @@ pub(crate) fn read_bounds(
 ) -> Result<Vec<(Node, Phase)>, AllocError>
     ensures { IfOk result (λ bounds. first_of (counted (λ _. bound_at total) 0 count bytes.now) ≡ Ok bounds.items) }
 {
-    let mut bounds = Vec::new(alloc);
+    let mut bounds = Vec::with_capacity(alloc, count as usize)?;
     let mut rest = bytes;
-    for _index in 0..count {
+    for _ in 0..count {
         match read_bound(total, rest) {
             Ok((bound, after)) => {
                 bounds.push(bound)?;

@@ -97,7 +97,7 @@ fn read_record(
     }
 }
 
-/// The changesets of so many records that were checked.
+/// The changesets of so many records that were checked. Room is taken for just so many.
 pub(crate) fn read_records(
     alloc: Global,
     total: usize,
@@ -107,7 +107,7 @@ pub(crate) fn read_records(
     requires { IsRead (counted (record_at total) 0 count bytes.now) }
     ensures { IfOk result (λ changesets. first_of (counted (record_at total) 0 count bytes.now) ≡ Ok changesets.items) }
 {
-    let mut changesets = Vec::new(alloc);
+    let mut changesets = Vec::with_capacity(alloc, count as usize)?;
     let mut rest = bytes;
     for index in 0..count {
         let (changeset, after) = read_record(alloc, total, index, rest)?;

@@ -5,7 +5,7 @@ use Rattle.hg_message.proofs.CountedLemmas.{starts, goes_on, is_done, next_is_re
 use Rattle.hg_message.proofs.record.read_records.Goals as goal
 
 pub loop-index-init : goal.loop-index-init
-loop-index-init c = starts (record_at c.args.total) c.args.count c.args.bytes.now c.new-changesets.result.items c.new-changesets.ensures.items
+loop-index-init c = starts (record_at c.args.total) c.args.count c.args.bytes.now c.in_ok-changesets.changesets.items c.in_ok-changesets.ensures.items
 
 pub read_record-requires : goal.read_record-requires
 read_record-requires c =
