@@ -18,3 +18,4 @@ pub use hg_changeset::Node;
 pub use marker::{METADATA_LIMIT, Marker};
 pub use metadata::Metadata;
 pub use parents::Parents;
+pub use reading::{read_byte, read_field, read_node, read_number, write_number};
