@@ -3,6 +3,7 @@ pub mod SortedLemmas
 pub mod MarkerLists
 pub mod TableLemmas
 pub mod SearchLemmas
+pub mod SettleLemmas
 pub mod NumberLemmas
 pub mod FamilyLemmas
 pub mod SetLemmas

@@ -4,7 +4,8 @@ use Rattle.std.proofs.lemmas.Option.{slice_get_within}
 use Rattle.hg_succ.specs.Rows.{rows_of}
 use Rattle.hg_succ.specs.Search.{state_of, IsSearch, IsAtEnd}
 use Rattle.hg_succ.proofs.ListLemmas.{popped}
-use Rattle.hg_succ.proofs.SearchLemmas.{leaves, settles, waiting_within, inner_start}
+use Rattle.hg_succ.proofs.SearchLemmas.{waiting_within, inner_start}
+use Rattle.hg_succ.proofs.SettleLemmas.{leaves, settles}
 use Rattle.hg_succ.proofs.search.Search.leave.Goals as goal
 
 pub returns-then-not-starts_at-clause-search : goal.returns-then-not-starts_at-clause-search

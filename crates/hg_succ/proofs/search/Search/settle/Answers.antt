@@ -3,7 +3,8 @@ use Rattle.std.proofs.lemmas.List.{length_push}
 use Rattle.hg_succ.specs.Rows.{At}
 use Rattle.hg_succ.specs.Search.{state_of}
 use Rattle.hg_changeset.proofs.ListLemmas.{slice_get-append_seam}
-use Rattle.hg_succ.proofs.SearchLemmas.{settles_none, settles_more, settled_within}
+use Rattle.hg_succ.proofs.SearchLemmas.{settled_within}
+use Rattle.hg_succ.proofs.SettleLemmas.{settles_none, settles_more}
 use Rattle.hg_succ.proofs.search.Search.settle.Goals as goal
 
 pub loop-self-init : goal.loop-self-init
