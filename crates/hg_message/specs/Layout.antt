@@ -1,5 +1,5 @@
 -- A message whose parts still stand in bytes.
-use Rattle.std.specs.Prelude.{ℕ, ◌+◌, ◌<◌, ◌≤◌, ◌^◌, ◌==◌, List, length, Result, Ok, Err, if◌then◌else◌}
+use Rattle.std.specs.Prelude.{ℕ, ◌+◌, ◌<◌, ◌≤◌, ◌*◌, ◌^◌, ◌⊎◌, ◌==◌, List, length, Result, Ok, Err, if◌then◌else◌}
 use Rattle.hg_changeset.specs.declared.node.Node.{Node}
 use Rattle.hg_changeset.specs.Contents.{Contents}
 use Rattle.hg_marker.specs.Fields.{Fields}
@@ -49,3 +49,11 @@ pub record IsLayout (l : Layout) : Type 0 where
   pub bounds : IsRead (bounds_in l)
   pub short : length l.store.now ≤ count_limit
   pub within : l.start + length l.store.now < 2 ^ 64
+
+-- the bytes that the parts take at least: 17 of the head and the numbers, 64 of each record and 24 of each bound
+abbrev pub least_len : Layout → ℕ
+least_len l = 17 + 64 * l.count + 24 * l.entries + length l.store.now
+
+-- there is a record, a bound, or a store with more than its version
+abbrev pub HoldsSomething : Layout → Type 0
+HoldsSomething l = (0 < l.count) ⊎ (0 < l.entries) ⊎ (1 < length l.store.now)

@@ -1,7 +1,7 @@
 //! The bounds of a message.
 //!
 //! A bound is a phase in four bytes, and a node id. Bounds are checked before any memory is taken, and then copied.
-ghost use Rattle.std.specs.Prelude.{◌≡◌, List, IfOk, MatchResult, Ok, Err};
+ghost use Rattle.std.specs.Prelude.{◌≡◌, ◌<◌, List, IfOk, OnErr, MatchResult, Ok, Err};
 ghost use Rattle.hg_marker.specs.Reading.{IsReading};
 ghost use Rattle.hg_changeset.specs.declared.node.Node.{Node};
 ghost use Rattle.hg_phases.specs.declared.phase.Phase.{Phase};
@@ -66,7 +66,8 @@ pub(crate) fn read_bounds(
     count: u32,
     bytes: &[u8],
 ) -> Result<Vec<(Node, Phase)>, AllocError>
-    ensures { IfOk result (λ bounds. first_of (counted (λ _. bound_at total) 0 count bytes.now) ≡ Ok bounds.items) }
+    ensures read { IfOk result (λ bounds. first_of (counted (λ _. bound_at total) 0 count bytes.now) ≡ Ok bounds.items) }
+    ensures memory { OnErr result (0 < count) }
 {
     let mut bounds = Vec::with_capacity(alloc, count as usize)?;
     let mut rest = bytes;

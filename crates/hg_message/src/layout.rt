@@ -2,10 +2,10 @@
 //!
 //! First the parts of the message are found in its bytes, and all faults before the store are told, without memory.
 //! Then the parts are copied. The store's fault, and bytes that follow it, are told before anything else is copied.
-ghost use Rattle.std.specs.Prelude.{◌≡◌, ◌<◌, ◌+◌, ◌^◌, IfOk, MatchResult, length, Err};
+ghost use Rattle.std.specs.Prelude.{◌≡◌, ◌<◌, ◌≤◌, ◌+◌, ◌^◌, IfOk, IsErrOf, MatchResult, length, Err};
 ghost use Rattle.hg_marker.specs.Reading.{Gives};
 ghost use Rattle.hg_obsstore.specs.Spelling.{IsStoreSpelling};
-ghost use Rattle.hg_message.specs.Layout.{IsLayout, markers_in, said};
+ghost use Rattle.hg_message.specs.Layout.{IsLayout, HoldsSomething, least_len, markers_in, said};
 ghost use Rattle.hg_obsstore.specs.Faults.{IsStoreFault, store_at};
 ghost use Rattle.hg_message.specs.Message.{message_at, told_in};
 
@@ -45,6 +45,7 @@ pub(crate) fn split_message(bytes: &[u8]) -> Result<Layout<'_>, MessageFault>
         (λ layout. message_at bytes.now ≡ said layout)
         (λ fault. message_at bytes.now ≡ Err fault) }
     ensures layout { IfOk result IsLayout }
+    ensures long { IfOk result (λ layout. least_len layout ≤ length bytes.now) }
 {
     let total = bytes.len();
     let (magic, rest) = read_number(bytes, truncated(total, bytes))?;
@@ -78,7 +79,8 @@ impl<'a> Layout<'a> {
     /// The message of the parts. Faults are told before want of memory.
     pub(crate) fn read(&self, alloc: Global) -> Result<Message, ReadError<MessageFault>>
         requires { IsLayout self.now }
-        ensures { Gives (λ message. message) result (said self.now) }
+        ensures exact { Gives (λ message. message) result (said self.now) }
+        ensures memory { IsErrOf result ReadError.NoMemory → HoldsSomething self.now }
     {
         let markers = self.read_last(alloc)?;
         let changesets = read_records(alloc, self.total, self.count, self.records)?;
@@ -91,6 +93,7 @@ impl<'a> Layout<'a> {
         requires { IsLayout self.now }
         ensures exact { Gives (λ markers. markers.items) result (markers_in self.now) }
         ensures spelled { IfOk result (λ markers. IsStoreSpelling markers.items self.now.store.now) }
+        ensures memory { IsErrOf result ReadError.NoMemory → 1 < length self.now.store.now }
     {
         match read_placed(alloc, self.start, self.store) {
             Err(ReadError::Fault(fault)) => Err(ReadError::Fault(fault)),
@@ -109,6 +112,7 @@ fn read_placed(
     requires { start + length store.now < 2 ^ 64 }
     ensures exact { Gives (λ markers. markers.items) result (told_in start (store_at store.now)) }
     ensures spelled { IfOk result (λ markers. IsStoreSpelling markers.items store.now) }
+    ensures memory { IsErrOf result ReadError.NoMemory → 1 < length store.now }
 {
     match read_markers(alloc, store) {
         Ok(markers) => Ok(markers),

@@ -204,6 +204,9 @@ impl Message {
         ensures only { (m : MessageValue) → IsMessageSpelling m bytes.now → Gives (λ message. message) result (Ok m) }
         ensures found { IfOk result (λ message. IsMessageSpelling message bytes.now) }
 
+        // Without a changeset, a bound or a marker no memory is taken.
+        ensures memory { IsErrOf result ReadError.NoMemory → 18 < length bytes.now }
+
         // The same, field by field, up to the first fault.
         ensures exact { Gives (λ message. message) result (message_at bytes.now) }
     {
@@ -222,7 +225,8 @@ fn fit(markers: &[Marker]) -> bool
 }
 
 fn read_message(alloc: Global, bytes: &[u8]) -> Result<Message, ReadError<MessageFault>>
-    ensures { Gives (λ message. message) result (message_at bytes.now) }
+    ensures exact { Gives (λ message. message) result (message_at bytes.now) }
+    ensures memory { IsErrOf result ReadError.NoMemory → 18 < length bytes.now }
 {
     match split_message(bytes) {
         Ok(layout) => layout.read(alloc),

@@ -2,7 +2,7 @@
 //!
 //! A record is a node id, two parents, the length of a text, and the text. Records are checked before any memory is
 //! taken, each against its hash, and then copied without hashing them again.
-ghost use Rattle.std.specs.Prelude.{◌≡◌, ◌≤◌, List, IfOk, MatchResult, Ok, Err, length};
+ghost use Rattle.std.specs.Prelude.{◌≡◌, ◌<◌, ◌≤◌, List, IfOk, OnErr, MatchResult, Ok, Err, length};
 ghost use Rattle.hg_changeset.specs.Changeset.{text_limit};
 ghost use Rattle.hg_changeset.specs.Contents.{Contents};
 ghost use Rattle.hg_marker.specs.Faults.{left};
@@ -105,7 +105,8 @@ pub(crate) fn read_records(
     bytes: &[u8],
 ) -> Result<Vec<Changeset>, AllocError>
     requires { IsRead (counted (record_at total) 0 count bytes.now) }
-    ensures { IfOk result (λ changesets. first_of (counted (record_at total) 0 count bytes.now) ≡ Ok changesets.items) }
+    ensures read { IfOk result (λ changesets. first_of (counted (record_at total) 0 count bytes.now) ≡ Ok changesets.items) }
+    ensures memory { OnErr result (0 < count) }
 {
     let mut changesets = Vec::with_capacity(alloc, count as usize)?;
     let mut rest = bytes;

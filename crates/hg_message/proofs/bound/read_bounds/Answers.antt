@@ -11,6 +11,6 @@ pub loop-preserved : goal.loop-preserved
 loop-preserved c =
     rw c.in_ok-push-in-Ok.ensures.items (goes_on (λ _. bound_at c.args.total) c.args.count c.loop.counter c.loop.bounds.items c.loop.rest.now (counted (λ _. bound_at c.args.total) 0 c.args.count c.args.bytes.now) c.in-Ok.bound c.in-Ok.after.now c.loop-test.true c.in-Ok.ensures c.loop.invariant)
 
-pub returns : goal.returns
-returns c =
+pub returns-clause-read : goal.returns-clause-read
+returns-clause-read c =
     ap first_of (is_done (λ _. bound_at c.args.total) c.args.count c.loop.counter c.loop.bounds.items c.loop.rest.now (counted (λ _. bound_at c.args.total) 0 c.args.count c.args.bytes.now) c.loop-test.false c.loop.invariant)

@@ -15,6 +15,6 @@ pub loop-index-preserved : goal.loop-index-preserved
 loop-index-preserved c =
     rw c.in_ok-push.ensures.items (goes_on (record_at c.args.total) c.args.count c.loop-index.index c.loop-index.changesets.items c.loop-index.rest.now (counted (record_at c.args.total) 0 c.args.count c.args.bytes.now) c.in_ok-changeset.changeset c.in_ok-changeset.after.now c.loop-index-test.true c.in_ok-changeset.ensures c.loop-index.invariant)
 
-pub returns : goal.returns
-returns c =
+pub returns-clause-read : goal.returns-clause-read
+returns-clause-read c =
     ap first_of (is_done (record_at c.args.total) c.args.count c.loop-index.index c.loop-index.changesets.items c.loop-index.rest.now (counted (record_at c.args.total) 0 c.args.count c.args.bytes.now) c.loop-index-test.false c.loop-index.invariant)
