@@ -119,7 +119,7 @@ module _ {S O A R P C F : Type 0} (J : StateWords S P C F) (W : ActorWords S O A
   same_count old new event (Refused refusal) None h = ap (λ (w : Snapshot S). length w.nodes) h.1
   same_count old new event (Refused refusal) (Some part) h = absurd h
 
-  same_counts : (old new : Snapshot S) (events : List (Event O A)) (answers : List (Answer C R F)) (parts : List (Option P)) → Runs J W old events answers parts new → length new.nodes ≡ length old.nodes
+  pub same_counts : (old new : Snapshot S) (events : List (Event O A)) (answers : List (Answer C R F)) (parts : List (Option P)) → Runs J W old events answers parts new → length new.nodes ≡ length old.nodes
   same_counts old new [] [] [] h = ap (λ (w : Snapshot S). length w.nodes) h
   same_counts old new [] [] (part ∷ parts) h = absurd h
   same_counts old new [] (answer ∷ answers) parts h = absurd h

@@ -1,5 +1,5 @@
 //! A world of nodes, with the pool of all that was offered.
-ghost use Rattle.std.specs.Prelude.{◌≡◌, ◌<◌, Option, List, [], length, IfOk, OnErr, slice_get};
+ghost use Rattle.std.specs.Prelude.{◌≡◌, ◌<◌, Option, List, [], length, IfOk, OnErr, vec_len, slice_get};
 ghost use Rattle.std.specs.Option.{option_copied};
 ghost use Rattle.hg_world.specs.Runs.{Runs, AllEmpty, AllLeast, AllValid};
 
@@ -69,6 +69,7 @@ impl<S: Actor> World<S> {
         events: &[Event<S::Op, S::Ask>],
     ) -> Result<Vec<Answer<S::Change, S::Refusal, S::Fault>>, NoMemory>
         ensures ran { IfOk result (λ answers. (parts : List (Option S.Part)) × Runs S.JoinState S.Actor.own self.old events.now answers.items parts self.new × AllLeast S.JoinState self.old events.now parts self.new) }
+        ensures count { IfOk result (λ answers. vec_len answers ≡ length events.now) }
         ensures err { OnErr result (self.new ≡ self.old) }
         ensures wants { OnErr result (0 < length events.now) }
 
