@@ -1,5 +1,5 @@
 -- Those of some nodes of which something holds.
-use Rattle.std.proofs.Common.{◌≡◌, ℕ, ◌+◌, ◌<◌, ◌≤◌, List, [], ◌∷◌, ◌++◌, length, take, get_or, Contains, ◌↔◌, ◌⊎◌, inl, inr, refl, sym, ap, subst, ◌∙◌, arith}
+use Rattle.std.proofs.Common.{◌≡◌, Bool, true, false, true≢false, not, IsTrue, ℕ, ◌+◌, ◌<◌, ◌≤◌, List, [], ◌∷◌, ◌++◌, length, take, get_or, Contains, ◌↔◌, ◌⊎◌, inl, inr, refl, sym, ap, subst, ◌∙◌, arith}
 use Rattle.std.proofs.lemmas.List.{take_more, take_all}
 use Rattle.std.proofs.lemmas.List.Elements.{Contains-append_left, Contains-push, Contains-push_cases}
 use Rattle.hg_changeset.specs.declared.node.Node.{Node}
@@ -54,6 +54,47 @@ module _ (Seen More P : Node → Type 0) (found : List Node) (m : Node) (those :
     λ h. let x = (those n).0 h in ((more n).1 (inl x.0), x.1),
     λ h. elim ((more n).0 h.0) [ inl old ↦ (those n).1 (old, h.1) | inr e ↦ absurd (not (subst P (sym e) h.1)) ],
   )
+
+-- of what was seen, the found ones pass, and the others fail
+abbrev pub AreDivided : (Node → Type 0) → (Node → Type 0) → (Node → Type 0) → List Node → Type 0
+AreDivided Seen Pass Fail found = (n : Node) → (Contains found n → Seen n × Pass n) × (Seen n → Contains found n ⊎ Fail n)
+
+pub divided-none : (Seen Pass Fail : Node → Type 0) (found : List Node) → found ≡ [] → ((n : Node) → ¬ (Seen n)) → AreDivided Seen Pass Fail found
+divided-none Seen Pass Fail found is never n = (λ h. absurd (none_in n (subst (λ ns. Contains ns n) is h)), λ h. absurd (never n h))
+
+module _ (Seen More Pass Fail : Node → Type 0) (found : List Node) (m : Node) (divided : AreDivided Seen Pass Fail found) (more : IsAlso m Seen More) where
+  pub divided-pushed : Pass m → (new : List Node) → new ≡ found ++ m ∷ [] → AreDivided More Pass Fail new
+  divided-pushed p new is n = (
+    λ h. elim ((pushed found m n).0 (subst (λ ns. Contains ns n) is h)) [
+      | inl old ↦ let x = (divided n).0 old in ((more n).1 (inl x.0), x.1)
+      | inr e ↦ ((more n).1 (inr e), subst Pass e p)
+    ],
+    λ h. elim ((more n).0 h) [
+      | inl old ↦ elim ((divided n).1 old) [ inl f ↦ inl (subst (λ ns. Contains ns n) (sym is) ((pushed found m n).1 (inl f))) | inr f ↦ inr f ]
+      | inr e ↦ inl (subst (λ ns. Contains ns n) (sym is) ((pushed found m n).1 (inr e)))
+    ],
+  )
+
+  pub divided-other : Fail m → AreDivided More Pass Fail found
+  divided-other f n = (
+    λ h. let x = (divided n).0 h in ((more n).1 (inl x.0), x.1),
+    λ h. elim ((more n).0 h) [ inl old ↦ (divided n).1 old | inr e ↦ inr (subst Fail e f) ],
+  )
+
+-- what passes is so, and what fails isn't
+pub those-divided : (Seen Pass Fail P : Node → Type 0) (found : List Node) → AreDivided Seen Pass Fail found → ((n : Node) → Pass n → IsTrue true ↔ P n) → ((n : Node) → Fail n → IsTrue false ↔ P n) → AreThose Seen P found
+those-divided Seen Pass Fail P found divided passes fails n = (
+  λ h. let x = (divided n).0 h in (x.0, (passes n x.1).0 refl),
+  λ h. elim ((divided n).1 h.0) [ inl f ↦ f | inr f ↦ absurd (true≢false (sym ((fails n f).1 h.1))) ],
+)
+
+-- what a test tells
+pub told-alike : {P : Type 0} (a b : Bool) → a ≡ b → IsTrue a ↔ P → IsTrue b ↔ P
+told-alike {P = P} a b is told = subst (λ (x : Bool). IsTrue x ↔ P) is told
+
+pub other-told : {P : Type 0} (b : Bool) → IsTrue b ↔ P → IsTrue (not b) ↔ (¬ P)
+other-told true told = (λ h. absurd (true≢false (sym h)), λ no. absurd (no (told.0 refl)))
+other-told false told = (λ h p. true≢false (sym (told.1 p)), λ no. refl)
 
 -- all were seen
 pub those-all : {X : Type 0} (Seen : List X → Node → Type 0) (P : Node → Type 0) (xs : List X) (i : ℕ) (found : List Node) → length xs ≤ i → AreThose (Seen (take i xs)) P found → AreThose (Seen xs) P found

@@ -1,5 +1,5 @@
 //! Those of some changesets of which something holds.
-ghost use Rattle.std.specs.Prelude.{◌↔◌, Contains, IfOk};
+ghost use Rattle.std.specs.Prelude.{◌↔◌, ◌⊎◌, Contains, IfOk, IsTrue, true, false};
 ghost use Rattle.hg_changeset.specs.declared.node.Node.{Node};
 ghost use Rattle.hg_replica.specs.Content.{content_of};
 ghost use Rattle.hg_replica.specs.Evolution.{IsObsolete, IsCurrent};
@@ -32,13 +32,13 @@ pub(crate) fn obsolete_among(
 ) -> Result<Vec<Node>, AllocError>
     ensures { IfOk result (λ found. (n : Node) → Contains found.items n ↔ (Contains nodes.now n × IsObsolete (content_of replica.now) n)) }
 {
-    let mut found = Vec::new(alloc);
-    for node in nodes {
-        if is_obsolete(replica, *node) {
-            found.push(*node)?;
-        }
-    }
-    Ok(found)
+    among(
+        alloc,
+        nodes,
+        |node|
+            ensures { IsTrue result ↔ IsObsolete (content_of replica.entry.now) node }
+        { is_obsolete(replica, node) },
+    )
 }
 
 // Those of the nodes that are neither public nor obsolete.
@@ -49,13 +49,13 @@ pub(crate) fn current_among(
 ) -> Result<Vec<Node>, AllocError>
     ensures { IfOk result (λ found. (n : Node) → Contains found.items n ↔ (Contains nodes.now n × IsCurrent (content_of replica.now) n)) }
 {
-    let mut found = Vec::new(alloc);
-    for node in nodes {
-        if is_current(replica, *node) {
-            found.push(*node)?;
-        }
-    }
-    Ok(found)
+    among(
+        alloc,
+        nodes,
+        |node|
+            ensures { IsTrue result ↔ IsCurrent (content_of replica.entry.now) node }
+        { is_current(replica, node) },
+    )
 }
 
 // Those of the nodes that the set hasn't.
@@ -66,9 +66,27 @@ pub(crate) fn outside(
 ) -> Result<Vec<Node>, AllocError>
     ensures { IfOk result (λ found. (n : Node) → Contains found.items n ↔ (Contains nodes.now n × ¬ (Contains set.now.keys n))) }
 {
+    among(alloc, nodes, |node| is_missing(set, node))
+}
+
+fn is_missing(set: &BTreeSet<Node>, node: Node) -> bool
+    ensures { IsTrue result ↔ ¬ (Contains set.now.keys node) }
+{
+    !set.contains(&node)
+}
+
+// Those of the nodes that pass the test.
+fn among<F: Fn(Node) -> bool>(
+    alloc: Global,
+    nodes: &[Node],
+    test: F,
+) -> Result<Vec<Node>, AllocError>
+    requires { F.IsAlwaysCallable test }
+    ensures { IfOk result (λ found. (n : Node) → (Contains found.items n → Contains nodes.now n × F.post test n true) × (Contains nodes.now n → Contains found.items n ⊎ F.post test n false)) }
+{
     let mut found = Vec::new(alloc);
     for node in nodes {
-        if !set.contains(node) {
+        if test(*node) {
             found.push(*node)?;
         }
     }
