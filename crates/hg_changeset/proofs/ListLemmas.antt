@@ -1,10 +1,12 @@
 -- Places in lists and members of lists, beside the toolchain's lemmas, for this crate and those above it.
-use Rattle.std.proofs.Common.{◌≡◌, ℕ, zero, suc, ◌+◌, ◌-◌, ◌<◌, List, [], ◌∷◌, ◌++◌, length, map, take, drop, get_or, slice_get, Some, Contains, Result, Ok, Err, OnErr, ◌⊎◌, inl, inr, refl, sym, ap, subst, arith, length-append}
+use Rattle.std.proofs.Common.{◌≡◌, ℕ, zero, suc, ◌+◌, ◌-◌, ◌<◌, ◌≤◌, Bool, true, false, cond, List, [], ◌∷◌, ◌++◌, length, map, take, drop, get_or, slice_get, Some, None, Contains, Result, Ok, Err, OnErr, ◌⊎◌, inl, inr, refl, sym, ap, subst, arith, length-append}
+use Rattle.std.specs.Prelude.{position}
+use Rattle.std.specs.List.{position_or_len}
 use Rattle.std.specs.List.Sorted.{IsStrictlyIncreasing}
-use Rattle.std.proofs.lemmas.Bool.{cases_lt}
+use Rattle.std.proofs.lemmas.Bool.{cases_lt, ltb-true, ltb-false}
 use Rattle.std.proofs.lemmas.List.{get_or_append_left, get_or_push, take_all, length-drop}
 use Rattle.std.proofs.lemmas.List.Elements.{Contains-append_left, Contains-append_right, Contains-append_cases, Contains-get_or}
-use Rattle.std.proofs.lemmas.Option.{none-some, same_Some}
+use Rattle.std.proofs.lemmas.Option.{cond_some, none-some, same_Some}
 
 -- ---- places
 
@@ -33,6 +35,17 @@ slice_get-take xs zero i x l h = absurd (omega arith)
 slice_get-take [] (suc n) i x l h = absurd (none-some x h)
 slice_get-take (y ∷ xs) (suc n) zero x l h = h
 slice_get-take (y ∷ xs) (suc n) (suc i) x l h = slice_get-take xs n i x (omega arith) h
+
+-- the first place that passes, where one does
+pub position-found : {X : Type 0} (p : X → Bool) (xs : List X) (i : ℕ) → position p xs ≡ Some i → (position_or_len p xs < length xs) × (position_or_len p xs ≡ i)
+position-found p xs i h = let is = cond_some _ _ _ h in (ltb-true _ _ is.0, is.1)
+
+pub position-none : {X : Type 0} (p : X → Bool) (xs : List X) → position p xs ≡ None → length xs ≤ position_or_len p xs
+position-none p xs h = ltb-false _ _ (none_from_false _ _ h)
+  where
+    none_from_false : {A : Type 0} (b : Bool) (x : A) → cond b (Some x) None ≡ None → b ≡ false
+    none_from_false true x e = absurd cc
+    none_from_false false x e = refl
 
 -- what is left behind a place is the list without its front
 pub take-drop_rest : {X : Type 0} (xs : List X) (i : ℕ) → take (length xs - i) (drop i xs) ≡ drop i xs

@@ -272,13 +272,13 @@ pub fault_given : (bytes : List ℕ) (f : MarkerFault) → IsFault bytes f → m
 fault_given bytes f h = ap (with_length bytes) (is_met bytes f h)
 
 -- where there is a fault it is told, since memory can be wanting only for what is read
-pub told_first : {X : Type 0} (view : X → Fields × ℕ) (bytes : List ℕ) (r : Result X (ReadError MarkerFault)) (f : MarkerFault) → Gives view r (marker_and_length bytes) → IsFault bytes f → IsErrOf r (Fault f)
-told_first view bytes (Ok x) f given h = absurd (no_ok (sym given ∙ fault_given bytes f h))
+pub told_first : {X Y F : Type 0} (view : X → Y) (r : Result X (ReadError F)) (read : Result Y F) (f : F) → Gives view r read → read ≡ Err f → IsErrOf r (Fault f)
+told_first {Y = Y} {F = F} view (Ok x) read f given h = absurd (no_ok (sym given ∙ h))
   where
-    no_ok : ◌≡◌ {A = Result (Fields × ℕ) MarkerFault} (Ok (view x)) (Err f) → ⊥
+    no_ok : ◌≡◌ {A = Result Y F} (Ok (view x)) (Err f) → ⊥
     no_ok e = cc
-told_first view bytes (Err NoMemory) f given h = absurd (subst (λ (r : Result (Fields × ℕ) MarkerFault). IsRead r) (fault_given bytes f h) given)
-told_first view bytes (Err (Fault g)) f given h = ap (λ (k : MarkerFault). Err (Fault k)) (same_one (sym given ∙ fault_given bytes f h))
+told_first {Y = Y} {F = F} view (Err NoMemory) read f given h = absurd (subst (λ (r : Result Y F). IsRead r) h given)
+told_first {Y = Y} {F = F} view (Err (Fault g)) read f given h = ap (λ (k : F). Err (Fault k)) (same_one (sym given ∙ h))
   where
-    same_one : ◌≡◌ {A = Result (Fields × ℕ) MarkerFault} (Err g) (Err f) → g ≡ f
+    same_one : ◌≡◌ {A = Result Y F} (Err g) (Err f) → g ≡ f
     same_one e = cc

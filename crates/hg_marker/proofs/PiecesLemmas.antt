@@ -1,16 +1,15 @@
 -- Pieces of metadata, one after another.
-use Rattle.std.proofs.Common.{◌≡◌, ℕ, ◌+◌, ◌<◌, ◌≤◌, Bool, true, false, cond, not, eqb, List, [], ◌∷◌, ◌++◌, length, take, drop, map, reverse, Some, None, refl, sym, ap, ◌∙◌, arith, append_assoc}
+use Rattle.std.proofs.Common.{◌≡◌, ℕ, ◌+◌, Bool, true, false, cond, not, eqb, List, [], ◌∷◌, ◌++◌, length, take, drop, map, reverse, Some, None, refl, sym, ap, ◌∙◌, arith, append_assoc}
 use Rattle.std.specs.Prelude.{position, ◌&&◌}
 use Rattle.std.specs.List.{list_all, position_or_len, slice_split, before_first, after_first}
 use Rattle.std.proofs.lemmas.List.Splits.{slice_split_first, slice_split_none}
-use Rattle.std.proofs.lemmas.Bool.{ltb-false}
 use Rattle.std.proofs.lemmas.List.{map-append, reverse-append, append-nil, nil_from_length, take_all, length-drop}
 use Rattle.std.proofs.lemmas.List.Elements.{filter-append}
 use Rattle.std.proofs.lemmas.List.Folds.{list_all-append, list_any_none, list_any_at}
 use Rattle.std.proofs.lemmas.List.Sums.{fails_before_first}
 use Rattle.std.proofs.lemmas.List.Quantifiers.{position-Some}
-use Rattle.std.proofs.lemmas.Option.{cond_some}
 use Rattle.std.specs.FinMap.{from_entries, insert, empty}
+use Rattle.hg_changeset.proofs.ListLemmas.{position-found, position-none}
 use Rattle.hg_marker.specs.Texts.{Texts, bytes_cmp}
 use Rattle.hg_marker.specs.Metadata.{is_nul, is_colon, nonempty, has_colon, entry, texts, pieces}
 
@@ -19,28 +18,16 @@ use Rattle.hg_marker.specs.Metadata.{is_nul, is_colon, nonempty, has_colon, entr
 first_apart : (p : List ℕ) (ps : List (List ℕ)) → nonempty (p ∷ ps) ≡ nonempty (p ∷ []) ++ nonempty ps
 first_apart p ps = filter-append (λ q. not (eqb (length q) 0)) (p ∷ []) ps
 
-none_from_false : {A : Type 0} (b : Bool) (x : A) → cond b (Some x) None ≡ None → b ≡ false
-none_from_false true x e = absurd cc
-none_from_false false x e = refl
-
--- where no byte passes
-past_all : (p : ℕ → Bool) (bytes : List ℕ) → position p bytes ≡ None → length bytes ≤ position_or_len p bytes
-past_all p bytes e = ltb-false _ _ (none_from_false _ _ e)
-
-at_place : (p : ℕ → Bool) (bytes : List ℕ) (i : ℕ) → position p bytes ≡ Some i → position_or_len p bytes ≡ i
-at_place p bytes i e = (cond_some _ _ _ e).1
-
 pub first_piece : (bytes : List ℕ) (i : ℕ) → position is_nul bytes ≡ Some i → pieces bytes ≡ nonempty (take i bytes ∷ []) ++ pieces (drop (i + 1) bytes)
 first_piece bytes i e =
-    let at = at_place is_nul bytes i e in
-    let lt : position_or_len is_nul bytes < length bytes = rw at (position-Some is_nul bytes i 0 e).0 in
-    ap nonempty (slice_split_first is_nul bytes 0 lt)
+    let found = position-found is_nul bytes i e in
+    ap nonempty (slice_split_first is_nul bytes 0 found.0)
     ∙ first_apart (before_first is_nul bytes) (slice_split is_nul (after_first is_nul bytes))
-    ∙ ap (λ (n : ℕ). nonempty (take n bytes ∷ []) ++ pieces (drop (n + 1) bytes)) at
+    ∙ ap (λ (n : ℕ). nonempty (take n bytes ∷ []) ++ pieces (drop (n + 1) bytes)) found.1
 
 pub last_piece : (bytes : List ℕ) → position is_nul bytes ≡ None → pieces bytes ≡ nonempty (bytes ∷ []) ++ pieces []
 last_piece bytes e =
-    let past = past_all is_nul bytes e in
+    let past = position-none is_nul bytes e in
     ap nonempty (slice_split_none is_nul bytes (λ k d lt. fails_before_first is_nul bytes k d (omega arith)))
     ∙ first_apart bytes []
 
@@ -88,11 +75,11 @@ is_read bytes rest m none h =
 -- ---- one piece
 
 pub split_there : (p : List ℕ) (i : ℕ) → position is_colon p ≡ Some i → (take i p, drop (i + 1) p) ≡ entry p
-split_there p i e = ap (λ (n : ℕ). (take n p, drop (n + 1) p)) (sym (at_place is_colon p i e))
+split_there p i e = ap (λ (n : ℕ). (take n p, drop (n + 1) p)) (sym (position-found is_colon p i e).1)
 
 pub split_nowhere : (p : List ℕ) → position is_colon p ≡ None → (p, []) ≡ entry p
 split_nowhere p e =
-    let past = past_all is_colon p e in
+    let past = position-none is_colon p e in
     let front : take (position_or_len is_colon p) p ≡ p = take_all (position_or_len is_colon p) p past in
     let back : drop (position_or_len is_colon p + 1) p ≡ [] = nil_from_length _ (omega (arith, past, length-drop (position_or_len is_colon p + 1) p)) in
     λ i. (sym front i, sym back i)
@@ -101,7 +88,7 @@ split_nowhere p e =
 
 lacks_none : (p : List ℕ) → position is_colon p ≡ None → has_colon p ≡ false
 lacks_none p e =
-    let past = past_all is_colon p e in
+    let past = position-none is_colon p e in
     list_any_none is_colon p (λ k d lt. fails_before_first is_colon p k d (omega arith))
 
 has_some : (p : List ℕ) (i : ℕ) → position is_colon p ≡ Some i → has_colon p ≡ true

@@ -1,26 +1,10 @@
 -- The first line of a text.
 use Rattle.std.proofs.Common.{◌≡◌, ℕ, suc, ◌+◌, ◌-◌, ◌<◌, ◌≤◌, Bool, true, false, List, [], ◌∷◌, ◌++◌, length, take, drop, Some, None, refl, ap, subst, arith}
-use Rattle.std.specs.Prelude.{nat_lt, position}
+use Rattle.std.specs.Prelude.{position}
 use Rattle.std.specs.List.{position_or_len, All}
-use Rattle.std.proofs.lemmas.Bool.{ltb-true, ltb-false}
 use Rattle.std.proofs.lemmas.List.Elements.{All-head, All-tail}
-use Rattle.hg_changeset.proofs.ListLemmas.{take-drop_rest}
+use Rattle.hg_changeset.proofs.ListLemmas.{position-found, position-none, take-drop_rest}
 use Rattle.hg_phaseroots.specs.Lines.{is_line_feed, before_lines, lines_of}
-
--- a list is split at the first element that passes, where there is one
-pub first_at : (p : ℕ → Bool) (xs : List ℕ) (i : ℕ) → position p xs ≡ Some i → (position_or_len p xs < length xs) × (position_or_len p xs ≡ i)
-first_at p xs i h = by (nat_lt (position_or_len p xs) (length xs)) refl
-  where
-    by : (b : Bool) → nat_lt (position_or_len p xs) (length xs) ≡ b → (position_or_len p xs < length xs) × (position_or_len p xs ≡ i)
-    by true e = (ltb-true _ _ e, let f : Some (position_or_len p xs) ≡ Some i = rw e at h in cc)
-    by false e = let f : None ≡ Some i = rw e at h in absurd (let g : ⊥ = cc in g)
-
-pub none_passes : (p : ℕ → Bool) (xs : List ℕ) → position p xs ≡ None → length xs ≤ position_or_len p xs
-none_passes p xs h = by (nat_lt (position_or_len p xs) (length xs)) refl
-  where
-    by : (b : Bool) → nat_lt (position_or_len p xs) (length xs) ≡ b → length xs ≤ position_or_len p xs
-    by true e = let f : Some (position_or_len p xs) ≡ None = rw e at h in absurd (let g : ⊥ = cc in g)
-    by false e = ltb-false _ _ e
 
 -- the line before a line feed, by the first byte
 before_by : (b : ℕ) (text : List ℕ) (i : ℕ) → ((j : ℕ) → position_or_len is_line_feed text ≡ j → j < length text → lines_of text ≡ take j text ∷ lines_of (drop (j + 1) text))
@@ -56,13 +40,13 @@ line_alone (b ∷ text) l none = alone_by b text (line_alone text) none (is_line
 
 pub line_found : (text : List ℕ) (i : ℕ) → position is_line_feed text ≡ Some i → lines_of text ≡ take i text ∷ lines_of (take (length text - (i + 1)) (drop (i + 1) text))
 line_found text i h =
-    let at = first_at is_line_feed text i h in
+    let at = position-found is_line_feed text i h in
     rw (take-drop_rest text (i + 1)) (line_before text i at.1 (omega arith))
 
 pub line_last : (text : List ℕ) → 0 < length text → position is_line_feed text ≡ None → lines_of text ≡ text ∷ lines_of (take (length text - length text) (drop (length text) text))
 line_last text l h =
     let z : length text - length text ≡ 0 = omega arith in
-    rw z (line_alone text l (none_passes is_line_feed text h))
+    rw z (line_alone text l (position-none is_line_feed text h))
 
 -- a line that holds no line feed, and what follows its own
 pub line_first : (line rest : List ℕ) → All (λ b. is_line_feed b ≡ false) line → lines_of (line ++ 10 ∷ rest) ≡ line ∷ lines_of rest

@@ -17,12 +17,12 @@ use Rattle.hg_changeset.specs.declared.node.NodeError.TheVariants.{BadLength, Ba
 use Rattle.hg_changeset.specs.Bytes.{space}
 use Rattle.hg_changeset.specs.Node.{node_of_hex, id_value}
 use Rattle.hg_phases.specs.declared.phase.Phase.TheVariants.{Draft, Secret}
+use Rattle.hg_changeset.proofs.ListLemmas.{position-found}
 use Rattle.hg_phaseroots.specs.declared.error.RootsError.{RootsError}
 use Rattle.hg_phaseroots.specs.declared.error.RootsError.TheVariants.{BadLine, BadPhase, NoMemory}
 use Rattle.hg_phaseroots.specs.Lines.{lines_of}
 use Rattle.hg_phaseroots.specs.Reading.{Root, is_space, is_decimal, number_of, root_of, root_around, root_in, then_roots, roots_in, roots_of, IsReading}
 use Rattle.hg_phaseroots.specs.Spelling.{IsLine, IsListed, Lists, AreSpelled, IsSpelling, IsNoLine, HasBadPhase, IsRootsFault}
-use Rattle.hg_phaseroots.proofs.LineLemmas.{first_at}
 use Rattle.hg_phaseroots.proofs.ReadLemmas.{after_roots, after_none}
 use Rattle.hg_phaseroots.proofs.WriteLemmas.{node_found}
 
@@ -75,7 +75,7 @@ node_back false v n e = absurd (none-some n e)
 parts_back : (number : ℕ) (node : Node) (line : List ℕ) → AreParts number node line → IsLine number node line
 parts_back number node line p =
     let i = p.at in
-    let found = first_at is_space line i p.space_at in
+    let found = position-found is_space line i p.space_at in
     let within : i < length line = omega (arith, found.0, found.1) in
     let is_there : get_or line i 0 ≡ space = eqb-true (get_or line i 0) space (position-Some is_space line i 0 p.space_at).1 in
     let next : suc i ≡ i + 1 = omega arith in

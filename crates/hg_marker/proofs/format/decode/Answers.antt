@@ -1,7 +1,8 @@
 use Rattle.std.proofs.Common.{arith, subst}
 use Rattle.hg_marker.specs.Reading.{Gives}
+use Rattle.hg_marker.specs.Faults.{marker_and_length}
 use Rattle.hg_marker.proofs.MarkerLemmas.{is_found, is_only}
-use Rattle.hg_marker.proofs.FaultLemmas.{fault_told, told_first}
+use Rattle.hg_marker.proofs.FaultLemmas.{fault_told, fault_given, told_first}
 use Rattle.hg_marker.proofs.format.decode.Goals as goal
 
 pub returns-clause-found : goal.returns-clause-found
@@ -14,4 +15,4 @@ pub returns-clause-fault : goal.returns-clause-fault
 returns-clause-fault c = fault_told c.args.bytes.now c.marker_and_used.result c.marker_and_used.ensures
 
 pub returns-clause-refused : goal.returns-clause-refused
-returns-clause-refused c = λ f h. told_first (λ x. x) c.args.bytes.now c.marker_and_used.result f c.marker_and_used.ensures h
+returns-clause-refused c = λ f h. told_first (λ x. x) c.marker_and_used.result (marker_and_length c.args.bytes.now) f c.marker_and_used.ensures (fault_given c.args.bytes.now f h)
