@@ -2,9 +2,10 @@
 //!
 //! A changeset has at most two parents and a text, and is named by the SHA-1 of these. Its parents are an unordered
 //! pair, which is kept in normal form: an absent parent, the null id, stands last, otherwise the lesser stands first.
-ghost use Rattle.std.specs.Prelude.{◌≡◌, ◌↔◌, ◌≤◌, length, Some, IsTrue, MatchOption, IfOk, Ok, Err};
+ghost use Rattle.std.specs.Prelude.{◌≡◌, ◌↔◌, ◌≤◌, length, Some, None, IsTrue, MatchOption, IfOk, Ok, Err};
 ghost use Rattle.hex.specs.Hex.{IsBytes};
 ghost use Rattle.hg_changeset.specs.Contents.{contents};
+ghost use Rattle.hg_changeset.specs.Node.{IsNode};
 ghost use Rattle.hg_changeset.specs.Changeset.{node_of, lesser, greater, is_given_twice, IsNormal, IsNormalFormOf, IsChangeset, changeset_of, changeset_fault, text_limit};
 ghost use Rattle.hg_changeset.specs.Refusals.{changeset_error_number, changeset_error_name};
 
@@ -108,6 +109,19 @@ impl Changeset {
             (result ≡ Ok (changeset_of p q text.items))
             (λ fault. result ≡ Err fault) }
     {
+        let node = Changeset::id_of(p, q, &text)?;
+        Ok(Changeset::with_id(node, p, q, text))
+    }
+
+    /// The id of the changeset of these parents, in either order, and this text. It takes no memory.
+    ///
+    /// Refuses as [`new`](Changeset::new) does.
+    pub fn id_of(p: Node, q: Node, text: &[u8]) -> Result<Node, ChangesetError>
+        ensures answer { MatchOption (changeset_fault p q text.now)
+            (result ≡ Ok (node_of (changeset_of p q text.now)))
+            (λ fault. result ≡ Err fault) }
+        ensures node { IfOk result IsNode }
+    {
         let (first, second) = match normal_form(p, q) {
             Some(parents) => parents,
             None => return Err(ChangesetError::SameParent),
@@ -115,16 +129,28 @@ impl Changeset {
         if text.len() > TEXT_LIMIT {
             return Err(ChangesetError::TextTooLong);
         }
-        let node = id_of(first, second, &text);
+        let node = id_of(first, second, text);
         if node.is_null() {
             return Err(ChangesetError::NullNode);
         }
-        Ok(Changeset {
+        Ok(node)
+    }
+
+    /// The changeset of these parents, in either order, and this text, where its id is known already. Nothing is
+    /// hashed.
+    pub fn with_id(node: Node, p: Node, q: Node, text: Vec<u8>) -> Changeset
+        requires faultless { changeset_fault p q text.items ≡ None }
+        requires id { node ≡ node_of (changeset_of p q text.items) }
+        requires node { IsNode node }
+        ensures { result ≡ changeset_of p q text.items }
+    {
+        let (first, second) = normal_form(p, q).unwrap();
+        Changeset {
             node,
             first,
             second,
             text,
-        })
+        }
     }
 
     /// The id.

@@ -32,7 +32,7 @@ lower_second None b = as_low_same b
 lower_second (Some m) None = tt
 lower_second (Some m) (Some n) = omega arith
 
-lower_least : (a b c : Option ℕ) → IsAsLow a c → IsAsLow b c → IsAsLow (lower_of a b) c
+pub lower_least : (a b c : Option ℕ) → IsAsLow a c → IsAsLow b c → IsAsLow (lower_of a b) c
 lower_least None b c p q = q
 lower_least (Some m) None c p q = p
 lower_least (Some m) (Some n) None p q = absurd p

@@ -49,16 +49,56 @@
 //!   needs to know of a part stands in `Admits`, or is no part of `PartContent`.
 //!
 //! [`Both`] puts two states side by side, each with its own laws.
+//!
+//! # States that act
+//!
+//! An [`Actor`] is a state that also decides what its owner asks for, offers what it holds as bytes, and reads what
+//! others offered. Each of that gives a part or bytes and changes nothing, so that all a node ever does to its state
+//! is to absorb. What follows for many nodes that exchange messages is proved once for all of them, in `hg_world`.
+//!
+//! `Prices` of the crate `hg_join_tests` is the plain example: over a [`LowMap`], the lowest price that was heard of
+//! for each item. It is told of a price, tells others the prices of some items, and hears of theirs.
+//!
+//! 1. **What an operation comes to.** `Decides s op p` gives the part by a formula over what the state says, so that
+//!    states with one content decide alike (`decided_once`). For `Prices`, `Lowers`: a quote below the price that is
+//!    held is the part with that one quote. The part has to be admitted where it was decided, so that an operation is
+//!    refused as a whole, before anything changed.
+//! 2. **What is refused, and why.** `IsAgainstOp`, `IsAgainstAsk` and `IsAgainstBytes` are the reasons, and a refusal
+//!    that is none of them says that memory ran out (`IsRefusalOfMemory`). No reason stands against what succeeds, and
+//!    there is always a part or a reason (the clauses `due`). So write a reason as the denial of what `Decides` asks:
+//!    `IsAgainstQuote` holds of the quotes that lower nothing. Where several reasons apply, give the first.
+//! 3. **What bytes spell.** `Spells bytes p` is the format, as a relation: for `Prices`, `AreBytesOf`, each item with
+//!    its price after it. Bytes spell one part (`spelled_once`); a part may be spelled in several ways.
+//! 4. **What is offered.** `Offers s ask bytes` gives one message for each state and ask. States with one content may
+//!    spell it differently, as where it follows the order in which they keep things, but then it says the same
+//!    (`offered_alike`). It can be read, and says no more than the state says (`offered_is_covered`): nothing is
+//!    invented, and [`offers_are_known`] says what follows. `Prices` offers the quotes of those of the asked items that
+//!    have a price, so it has no reason against an ask.
+//! 5. **Parts that no code made.** The clauses `due` hold also where memory ran out, so they speak of parts that no
+//!    code made. Let contracts see a part as a plain value: `Quotes` is a list to them, while a `Vec` also has room and
+//!    an address, which no formula gives.
+//! 6. **Invariants.** A law ranges over every value that contracts see as a state, and not only over those that its
+//!    type admits. Where a law needs the type's invariant, say in `Decides`, in `Offers` and in the reasons that it
+//!    holds; the methods know it, and each clause can hand it on.
+//!
+//! The laws of acting have their limits too. An actor that has a reason against each operation, each ask and all bytes
+//! keeps them, and so does code that always answers want of memory. The former shows in the definitions, and the
+//! latter is for tests: call each method once with ample memory.
 #![tactic(auto)]
 
+mod actor;
 mod both;
 mod laws;
 mod low_map;
 mod memory;
 mod state;
 
+pub use actor::Actor;
 pub use both::{Both, BothFault};
-pub use laws::{covering_is_agreeing, each_is_least, joined_is_least, one_outcome};
+pub use laws::{
+    covering_is_agreeing, each_is_least, joined_is_least, least_is_agreeing, offers_are_known,
+    one_outcome,
+};
 pub use low_map::LowMap;
 pub use memory::NoMemory;
 pub use state::JoinState;

@@ -27,11 +27,12 @@ pub fn encode(marker: &Marker) -> Result<Vec<u8>, AllocError>
     ensures spells { IfOk result (λ v. IsSpelling marker.now v.items) }
 {
     let mut out = Vec::new(marker.allocator());
-    write_fields(&mut out, marker)?;
+    write_marker(&mut out, marker)?;
     Ok(out)
 }
 
-fn write_fields(out: &mut Vec<u8>, marker: &Marker) -> Result<(), AllocError>
+/// Appends the bytes of a marker: its one written spelling. After an error a front of it may stand there.
+pub fn write_marker(out: &mut Vec<u8>, marker: &Marker) -> Result<(), AllocError>
     ensures written { OnOk result (out.new.items ≡ out.old.items ++ spelling marker.now) }
     ensures marker { IsMarker marker.now }
 {

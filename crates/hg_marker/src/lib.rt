@@ -13,8 +13,9 @@ mod pieces;
 mod reading;
 
 pub use error::{MarkerError, MarkerFault, ReadError};
-pub use format::{decode, encode, read_marker, skip_marker, spelling_laws};
+pub use format::{decode, encode, read_marker, skip_marker, spelling_laws, write_marker};
 pub use hg_changeset::Node;
 pub use marker::{METADATA_LIMIT, Marker};
 pub use metadata::Metadata;
 pub use parents::Parents;
+pub use reading::{read_byte, read_field, read_node, read_number, write_number};

@@ -2,7 +2,7 @@
 //!
 //! A marker says that its predecessor was rewritten to its successors, in their order. Two markers are equal where
 //! their fields are, the metadata as a map, whatever bytes they were read from.
-ghost use Rattle.std.specs.Prelude.{◌≡◌, ◌++◌, IfOk, OnOk, OnErr, false, fold, nat_eq};
+ghost use Rattle.std.specs.Prelude.{◌≡◌, ◌++◌, IfOk, OnOk, OnErr, false, fold, length, nat_eq};
 ghost use Rattle.std.specs.List.{list_any, AllByRecursion};
 ghost use Rattle.hex.specs.Hex.{IsBytes};
 ghost use lib.Pointwise.{pointwise};
@@ -215,6 +215,14 @@ impl Marker {
             flags: self.flags,
             metadata,
         })
+    }
+
+    /// How many bytes the marker takes as it is written.
+    pub fn written_len(&self) -> usize
+        ensures len { result ≡ length (spelling self.now) }
+        ensures marker { IsMarker self.now }
+    {
+        26 + 20 * self.successors.len() + self.metadata.written_len()
     }
 
     /// Appends the marker's one written spelling. Without memory nothing is appended.

@@ -16,7 +16,7 @@ use std::alloc::{AllocError, Global};
 const ID_LEN: usize = 20;
 
 /// The first n bytes.
-pub(crate) fn read_field<F: Copy>(bytes: &[u8], n: usize, short: F) -> Result<(&[u8], &[u8]), F>
+pub fn read_field<F: Copy>(bytes: &[u8], n: usize, short: F) -> Result<(&[u8], &[u8]), F>
     ensures { IsReading (λ x. (x.0.now, x.1.now)) result (field short n bytes.now) }
 {
     if bytes.len() < n {
@@ -26,7 +26,7 @@ pub(crate) fn read_field<F: Copy>(bytes: &[u8], n: usize, short: F) -> Result<(&
 }
 
 /// A number in four bytes, the highest first.
-pub(crate) fn read_number<F: Copy>(bytes: &[u8], short: F) -> Result<(u32, &[u8]), F>
+pub fn read_number<F: Copy>(bytes: &[u8], short: F) -> Result<(u32, &[u8]), F>
     ensures { IsReading (λ x. (x.0, x.1.now)) result (number short bytes.now) }
 {
     if bytes.len() < 4 {
@@ -37,7 +37,7 @@ pub(crate) fn read_number<F: Copy>(bytes: &[u8], short: F) -> Result<(u32, &[u8]
 }
 
 /// One byte.
-pub(crate) fn read_byte<F: Copy>(bytes: &[u8], short: F) -> Result<(u8, &[u8]), F>
+pub fn read_byte<F: Copy>(bytes: &[u8], short: F) -> Result<(u8, &[u8]), F>
     ensures { IsReading (λ x. (x.0, x.1.now)) result (byte short bytes.now) }
 {
     match bytes {
@@ -47,7 +47,7 @@ pub(crate) fn read_byte<F: Copy>(bytes: &[u8], short: F) -> Result<(u8, &[u8]), 
 }
 
 /// A node id.
-pub(crate) fn read_node<F: Copy>(bytes: &[u8], short: F) -> Result<(Node, &[u8]), F>
+pub fn read_node<F: Copy>(bytes: &[u8], short: F) -> Result<(Node, &[u8]), F>
     ensures { IsReading (λ x. (x.0, x.1.now)) result (node short bytes.now) }
 {
     if bytes.len() < ID_LEN {
@@ -108,7 +108,7 @@ pub(crate) fn copy_ids(alloc: Global, ids: &[u8], count: u8) -> Result<Vec<Node>
 }
 
 /// Appends a number in four bytes, the highest first. Without memory nothing is appended.
-pub(crate) fn write_number(out: &mut Vec<u8>, number: u32) -> Result<(), AllocError>
+pub fn write_number(out: &mut Vec<u8>, number: u32) -> Result<(), AllocError>
     ensures ok { OnOk result (out.new.items ≡ out.old.items ++ to_be_bytes w32 number) }
     ensures err { OnErr result (out.new.items ≡ out.old.items) }
 {

@@ -90,6 +90,7 @@ fn refused_growth_appends_nothing(rt: HostRuntime) {
         assert!(rt; marker.write_onto(&mut out).is_ok());
     }
     assert!(rt; out.len() == 47 && out.ends_with(&bytes));
+    assert!(rt; marker.written_len() == 46);
 }
 
 // Whether these bytes are a marker of equal fields.

@@ -1,6 +1,7 @@
 -- Reading a store marker by marker, against its grammar.
-use Rattle.std.proofs.Common.{◌≡◌, ◌<◌, ◌≤◌, ℕ, zero, suc, ◌+◌, ◌-◌, ◌==◌, false, List, [], ◌∷◌, ◌++◌, length, Result, Ok, Err, refl, sym, ap, subst, ◌∙◌, append_assoc, length-append, arith}
-use Rattle.std.proofs.lemmas.List.{append-nil}
+use Rattle.std.proofs.Common.{◌≡◌, ◌<◌, ◌≤◌, ℕ, zero, suc, ◌+◌, ◌-◌, ◌==◌, false, List, [], ◌∷◌, ◌++◌, length, drop, take, get_or, Result, Ok, Err, refl, sym, ap, subst, ◌∙◌, append_assoc, length-append, arith}
+use Rattle.std.proofs.lemmas.List.{append-nil, take_more}
+use Rattle.std.proofs.lemmas.List.Concat.{flat_map-append, flat_map-cons}
 use Rattle.std.proofs.lemmas.Bool.{false_from_ne_true}
 use Rattle.std.specs.Cmp.{unsigned_Decides}
 use Rattle.std.specs.List.{flat_map, AllByRecursion}
@@ -9,6 +10,7 @@ use Rattle.hex.specs.Hex.{IsBytes}
 use Rattle.hg_marker.specs.declared.error.MarkerFault.{MarkerFault}
 use Rattle.hg_marker.specs.declared.error.ReadError.{ReadError}
 use Rattle.hg_marker.specs.declared.error.ReadError.TheVariants.{NoMemory, Fault}
+use Rattle.hg_join.proofs.Entries.{all_next}
 use Rattle.hg_marker.specs.Fields.{Fields}
 use Rattle.hg_marker.specs.Grammar.{IsSpelling, spelling}
 use Rattle.hg_marker.specs.Faults.{marker_at, IsFault, left}
@@ -209,6 +211,31 @@ store_refused (zero ∷ bytes) (Bad place cause) h =
     let p = past_whole total h.1.markers h.1.front h.1.rest (length bytes) h.1.spelled (omega (arith, ap length h.1.parts)) in
     let place_is : total - length h.1.rest ≡ place = omega (arith, h.1.place_is, ap length h.1.parts, length-append h.1.front h.1.rest) in
     ap (markers_at total (length bytes)) h.1.parts ∙ p.2 ∙ ap (with_front h.1.markers) (stopped total p.0 h.1.rest cause h.1.more p.1 h.1.fault) ∙ ap (λ (n : ℕ). Err (Bad n cause)) place_is
+
+pub store_empty : (bytes : List ℕ) (ms : List Fields) → length bytes < 1 → ms ≡ [] → store_at bytes ≡ Ok ms
+unfolding store_at
+store_empty [] ms l none = ap (λ (all : List Fields). Ok all) (sym none)
+store_empty (b ∷ bytes) ms l none = absurd (omega (arith, l))
+
+-- bytes that were checked, behind the version
+pub store_checked : (bytes : List ℕ) (ms : List Fields) → 0 < length bytes → IsRead (store_at bytes) → markers_at (length bytes) (length (drop 1 bytes)) (drop 1 bytes) ≡ Ok ms → store_at bytes ≡ Ok ms
+unfolding store_at
+store_checked [] ms l h read = absurd (omega (arith, l))
+store_checked (zero ∷ bytes) ms l h read = read
+store_checked (suc version ∷ bytes) ms l h read = let above : 0 < suc version = omega arith in absurd (rw (not_zero (suc version) above) at h)
+
+-- one marker more
+pub length_more : (ms : List Fields) (i : ℕ) (m : Fields) → i < length ms → m ≡ get_or ms i m → length (store_spelling (take (i + 1) ms)) ≡ length (store_spelling (take i ms)) + length (spelling m)
+length_more ms i m l is =
+    let more : take (i + 1) ms ≡ take i ms ++ m ∷ [] = take_more ms i m l ∙ ap (λ x. take i ms ++ x ∷ []) (sym is) in
+    let each : flat_map spelling (take (i + 1) ms) ≡ flat_map spelling (take i ms) ++ flat_map spelling (m ∷ []) = ap (flat_map spelling) more ∙ flat_map-append spelling (take i ms) (m ∷ []) in
+    let one : flat_map spelling (m ∷ []) ≡ spelling m = flat_map-cons spelling m [] ∙ append-nil (spelling m) in
+    omega (arith, ap length each, length-append (flat_map spelling (take i ms)) (flat_map spelling (m ∷ [])), ap length one)
+
+pub each_more : (P : Fields → Type 0) (ms : List Fields) (i : ℕ) (m : Fields) → i < length ms → m ≡ get_or ms i m → AllByRecursion P (take i ms) → P m → AllByRecursion P (take (i + 1) ms)
+each_more P ms i m l is each one =
+    let more : take (i + 1) ms ≡ take i ms ++ m ∷ [] = take_more ms i m l ∙ ap (λ x. take i ms ++ x ∷ []) (sym is) in
+    subst (AllByRecursion P) (sym more) (all_next P (take i ms) m each one)
 
 spelled_each : (ms : List Fields) → AllByRecursion (λ m. IsSpelling m (spelling m)) ms → AreSpelled ms (flat_map spelling ms)
 spelled_each [] h = refl

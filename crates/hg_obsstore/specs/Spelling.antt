@@ -1,5 +1,5 @@
 -- How a store is spelled: the grammar of stores, apart from any reader or writer.
-use Rattle.std.specs.Prelude.{◌≡◌, ℕ, List, [], ◌∷◌, ◌++◌}
+use Rattle.std.specs.Prelude.{◌≡◌, ◌<◌, ◌-◌, ◌^◌, ℕ, List, [], ◌∷◌, ◌++◌, Option, None, Some}
 use Rattle.std.specs.List.{flat_map}
 use Rattle.hg_marker.specs.Fields.{Fields}
 use Rattle.hg_marker.specs.Grammar.{IsSpelling, spelling}
@@ -17,3 +17,8 @@ IsStoreSpelling markers (version ∷ bytes) = (version ≡ 0) × AreSpelled mark
 -- the one spelling that is written
 abbrev pub store_spelling : List Fields → List ℕ
 store_spelling markers = 0 ∷ flat_map spelling markers
+
+-- so many, or more than a `usize` can tell
+abbrev pub IsLength : Option ℕ → ℕ → Type 0
+IsLength (Some len) n = len ≡ n
+IsLength None n = 2 ^ 64 - 1 < n

@@ -2,7 +2,7 @@
 //!
 //! A store is a version byte 0 and then its markers, one after the other. Lists of markers with repeats are written and
 //! read in the same way; a store that is read holds each marker once, at its first standing.
-ghost use Rattle.std.specs.Prelude.{◌≡◌, ◌<◌, ℕ, List, [], length, IfOk, OnErr, IsErrOf, MatchResult, Ok, Err};
+ghost use Rattle.std.specs.Prelude.{◌≡◌, ◌<◌, ◌+◌, ◌-◌, ◌^◌, ◌++◌, ℕ, List, [], length, IfOk, IfSome, OnOk, OnErr, IsErrOf, MatchResult, Ok, Err, None};
 ghost use Rattle.hg_marker.specs.declared.error.ReadError.TheVariants.{Fault};
 ghost use Rattle.hg_marker.specs.Fields.{Fields};
 ghost use Rattle.hg_marker.specs.Faults.{marker_at, left};
@@ -10,13 +10,13 @@ ghost use Rattle.hg_marker.specs.Reading.{Gives, IsRead, IsReading};
 ghost use Rattle.hg_obsstore.specs.declared.fault.StoreFault.{StoreFault};
 ghost use Rattle.hg_obsstore.specs.Markers.{AreDifferent};
 ghost use Rattle.hg_obsstore.specs.Growth.{new_among};
-ghost use Rattle.hg_obsstore.specs.Spelling.{IsStoreSpelling, store_spelling};
+ghost use Rattle.hg_obsstore.specs.Spelling.{IsLength, IsStoreSpelling, store_spelling};
 ghost use Rattle.hg_obsstore.specs.Faults.{IsStoreFault, placed_marker, markers_at, store_at};
 
 use crate::fault::StoreFault;
 use crate::store::Store;
 use hg_join::NoMemory;
-use hg_marker::{Marker, ReadError, encode, read_marker, skip_marker};
+use hg_marker::{Marker, ReadError, read_marker, skip_marker, write_marker};
 use std::alloc::{AllocError, Global};
 
 /// The bytes of a store: its one written spelling, with its markers in their order.
@@ -32,13 +32,46 @@ pub fn markers_bytes(alloc: Global, markers: &[Marker]) -> Result<Vec<u8>, Alloc
     ensures written { IfOk result (λ bytes. bytes.items ≡ store_spelling markers.now) }
     ensures spells { IfOk result (λ bytes. IsStoreSpelling markers.now bytes.items) }
 {
-    let mut out = Vec::new(alloc);
+    let room = markers_len(markers).unwrap_or(0);
+    let mut out = Vec::with_capacity(alloc, room)?;
+    write_markers(&mut out, markers)?;
+    Ok(out)
+}
+
+/// Appends the bytes of markers, with their repeats. After an error a front of them may stand there.
+pub fn write_markers(out: &mut Vec<u8>, markers: &[Marker]) -> Result<(), AllocError>
+    ensures { OnOk result (out.new.items ≡ out.old.items ++ store_spelling markers.now) }
+{
     out.push(0)?;
     for marker in markers {
-        let bytes = encode(marker)?;
-        out.extend_from_slice(&bytes)?;
+        write_marker(out, marker)?;
     }
-    Ok(out)
+    Ok(())
+}
+
+/// How many bytes the markers take as they are written, if a `usize` can tell it.
+pub fn markers_len(markers: &[Marker]) -> Option<usize>
+    ensures some { IfSome result (λ n. n ≡ length (store_spelling markers.now)) }
+    ensures none { result ≡ None → 2 ^ 64 - 1 < length (store_spelling markers.now) }
+
+    // Any markers can be spelled.
+    ensures spells { IsStoreSpelling markers.now (store_spelling markers.now) }
+{
+    let mut len = Some(1);
+    for marker in markers {
+        len = add_len(len, marker.written_len());
+    }
+    len
+}
+
+// So many bytes more.
+fn add_len(len: Option<usize>, more: usize) -> Option<usize>
+    ensures { (n : ℕ) → IsLength len n → IsLength result (n + more) }
+{
+    match len {
+        Some(len) => len.checked_add(more),
+        None => None,
+    }
 }
 
 /// Reads the bytes of a store. No bytes at all are a store without markers, and of equal markers the first stands.
@@ -89,7 +122,6 @@ pub fn read_markers(alloc: Global, bytes: &[u8]) -> Result<Vec<Marker>, ReadErro
     read_version_and_markers(alloc, bytes)
 }
 
-#[tactic(auto, unfolding(crate::specs::Faults::store_at))]
 fn read_version_and_markers(
     alloc: Global,
     bytes: &[u8],
@@ -97,30 +129,28 @@ fn read_version_and_markers(
     ensures exact { Gives (λ markers. markers.items) result (store_at bytes.now) }
     ensures memory { IsErrOf result ReadError.NoMemory → 1 < length bytes.now }
 {
-    match bytes {
-        [] => Ok(Vec::new(alloc)),
-        [0, rest @ ..] => read_checked(alloc, bytes.len(), rest),
-        [version, ..] => Err(ReadError::Fault(StoreFault::BadVersion(*version))),
-    }
-}
-
-// The markers up to the end of the rest of so many bytes. All of them are checked before any memory is taken.
-fn read_checked(
-    alloc: Global,
-    total: usize,
-    rest: &[u8],
-) -> Result<Vec<Marker>, ReadError<StoreFault>>
-    ensures exact { Gives (λ markers. markers.items) result (markers_at total (length rest.now) rest.now) }
-    ensures memory { IsErrOf result ReadError.NoMemory → 0 < length rest.now }
-{
-    match check_markers(total, rest) {
-        Ok(()) => Ok(read_to_end(alloc, rest)?),
+    match check_markers(bytes) {
+        Ok(()) => Ok(read_checked(alloc, bytes)?),
         Err(fault) => Err(ReadError::Fault(fault)),
     }
 }
 
+/// Refuses bytes that [`read_markers`] refuses, with the same [`StoreFault`]. It takes no memory.
+#[tactic(auto, unfolding(crate::specs::Faults::store_at))]
+pub fn check_markers(bytes: &[u8]) -> Result<(), StoreFault>
+    ensures { MatchResult result
+        (λ _. IsRead (store_at bytes.now))
+        (λ fault. store_at bytes.now ≡ Err fault) }
+{
+    match bytes {
+        [] => Ok(()),
+        [0, rest @ ..] => check_rest(bytes.len(), rest),
+        [version, ..] => Err(StoreFault::BadVersion(*version)),
+    }
+}
+
 // Refuses the first marker, up to the end of the rest of so many bytes, that can't be read. It takes no memory.
-fn check_markers(total: usize, bytes: &[u8]) -> Result<(), StoreFault>
+fn check_rest(total: usize, bytes: &[u8]) -> Result<(), StoreFault>
     ensures { MatchResult result
         (λ _. IsRead (markers_at total (length bytes.now) bytes.now))
         (λ fault. markers_at total (length bytes.now) bytes.now ≡ Err fault) }
@@ -149,7 +179,19 @@ fn skip_placed(total: usize, rest: &[u8]) -> Result<&[u8], StoreFault>
     }
 }
 
-// The markers up to the end of bytes that were checked.
+// The markers of bytes that were checked.
+fn read_checked(alloc: Global, bytes: &[u8]) -> Result<Vec<Marker>, AllocError>
+    requires { IsRead (store_at bytes.now) }
+    ensures read { IfOk result (λ markers. store_at bytes.now ≡ Ok markers.items) }
+    ensures memory { OnErr result (1 < length bytes.now) }
+{
+    match bytes {
+        [] => Ok(Vec::new(alloc)),
+        [_, rest @ ..] => read_to_end(alloc, rest),
+    }
+}
+
+// The markers up to the end of bytes behind the version that were checked.
 fn read_to_end(alloc: Global, bytes: &[u8]) -> Result<Vec<Marker>, AllocError>
     ensures read { (total : ℕ) → IfOk result (λ markers. markers_at total (length bytes.now) bytes.now ≡ Ok markers.items) }
     ensures memory { OnErr result (0 < length bytes.now) }

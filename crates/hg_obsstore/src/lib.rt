@@ -9,7 +9,9 @@ mod join_state;
 mod store;
 
 pub use fault::StoreFault;
-pub use format::{markers_bytes, read_markers, read_store, store_bytes};
+pub use format::{
+    check_markers, markers_bytes, markers_len, read_markers, read_store, store_bytes, write_markers,
+};
 pub use hg_changeset::Node;
 pub use hg_join::NoMemory;
 pub use hg_marker::{Marker, MarkerFault};

@@ -2,7 +2,10 @@
 use hg_changeset::Node;
 use hg_join::{JoinState, NoMemory};
 use hg_marker::{Marker, MarkerFault, Metadata, ReadError};
-use hg_obsstore::{Added, Store, StoreFault, markers_bytes, read_markers, read_store, store_bytes};
+use hg_obsstore::{
+    Added, Store, StoreFault, check_markers, markers_bytes, markers_len, read_markers, read_store,
+    store_bytes, write_markers,
+};
 use std::alloc::{AllocError, Global};
 use std::process::Abort;
 use std::test::Fail;
@@ -69,6 +72,19 @@ fn reads_and_writes(rt: HostRuntime) {
     assert!(rt; rewritten(&rt, alloc, &[0])[..] == [0u8]);
 }
 
+// Two equal markers take 1 + 2 * 54 bytes, behind whatever stands there.
+#[test]
+fn appends_markers_and_tells_their_length(rt: HostRuntime) {
+    let alloc = rt.alloc();
+    let bytes = bytes_of(alloc, &[b"user:bob", b"user:bob"]).expect(&rt, "memory");
+    assert!(rt; check_markers(&bytes) == Ok(()));
+    let markers = read_markers(alloc, &bytes).expect(&rt, "markers");
+    assert!(rt; markers_len(&markers) == Some(109));
+    let mut out = Vec::from_slice(alloc, &[7]).expect(&rt, "memory");
+    write_markers(&mut out, &markers).expect(&rt, "memory");
+    assert!(rt; out.len() == 110 && out.first() == Some(&7) && out.ends_with(&bytes));
+}
+
 fn fault_of(alloc: Global, bytes: &[u8]) -> Option<StoreFault> {
     match read_store(alloc, bytes) {
         Err(ReadError::Fault(fault)) => Some(fault),
@@ -88,6 +104,7 @@ fn refuses_bytes(rt: HostRuntime) {
         );
     }
     assert!(rt; fault_of(alloc, &[1]) == Some(StoreFault::BadVersion(1)));
+    assert!(rt; check_markers(&[1]) == Err(StoreFault::BadVersion(1)));
 }
 
 // The second marker stands at place 55, its successor from place 81 on, and its metadata has no colon.

@@ -23,10 +23,15 @@ pub fn visible(alloc: Global, replica: &Replica) -> Result<BTreeSet<Node>, Alloc
 pub fn served(alloc: Global, replica: &Replica) -> Result<BTreeSet<Node>, AllocError>
     ensures { IfOk result (λ set. (n : Node) → Contains set.keys n ↔ IsServed (content_of replica.now) n) }
 {
+    served_nodes(alloc, replica)?.into_iter().collect(alloc)
+}
+
+/// What [`served`] holds, as a list.
+pub fn served_nodes(alloc: Global, replica: &Replica) -> Result<Vec<Node>, AllocError>
+    ensures { IfOk result (λ found. (n : Node) → Contains found.items n ↔ IsServed (content_of replica.now) n) }
+{
     let visible = visible_nodes(alloc, replica)?;
-    not_secret(alloc, replica, &visible)?
-        .into_iter()
-        .collect(alloc)
+    not_secret(alloc, replica, &visible)
 }
 
 // The visible changesets, in the graph's order.

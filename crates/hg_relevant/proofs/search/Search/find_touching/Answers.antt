@@ -8,13 +8,13 @@ use Rattle.hg_relevant.proofs.SearchLemmas.{finds-touching, place-within}
 use Rattle.hg_relevant.proofs.search.Search.find_touching.Goals as goal
 
 pub find_all-requires-clause-within : goal.find_all-requires-clause-within
-find_all-requires-clause-within c = rw c.markers-markers.ensures.markers (place-within c.args.store.now (λ m. Contains m.successors c.args.node) c.with_successor.result.now c.with_successor.ensures)
+find_all-requires-clause-within c = rw c.markers-markers.ensures.markers (place-within c.args.store.now _ c.with_successor.result.now c.with_successor.ensures)
 
 pub find_prunes-requires-clause-within : goal.find_prunes-requires-clause-within
-find_prunes-requires-clause-within c = rw c.markers-markers.ensures.markers (place-within c.args.store.now (λ m. m.predecessor ≡ c.args.node) c.with_predecessor.result.now c.with_predecessor.ensures)
+find_prunes-requires-clause-within c = rw c.markers-markers.ensures.markers (place-within c.args.store.now _ c.with_predecessor.result.now c.with_predecessor.ensures)
 
 pub find_prunes-requires-2-clause-within : goal.find_prunes-requires-2-clause-within
-find_prunes-requires-2-clause-within c = rw c.markers-markers.ensures.markers (place-within c.args.store.now (λ m. Contains (recorded_parents m) c.args.node) c.with_child.result.now c.with_child.ensures)
+find_prunes-requires-2-clause-within c = rw c.markers-markers.ensures.markers (place-within c.args.store.now _ c.with_child.result.now c.with_child.ensures)
 
 pub returns : goal.returns
 returns c =

@@ -1,0 +1,9 @@
+pub mod CountedLemmas
+pub mod FormatLemmas
+pub mod RecordLemmas
+pub mod BoundLemmas
+pub mod StoreLemmas
+pub mod LayoutLemmas
+pub mod MessageLemmas
+pub mod WritingLemmas
+pub mod SpellingLemmas

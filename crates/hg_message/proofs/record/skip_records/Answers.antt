@@ -1,0 +1,23 @@
+use Rattle.std.proofs.Common.{◌++◌, [], ◌∷◌, refl}
+use Rattle.hg_obsstore.proofs.FormatLemmas.{left_ok, left_err}
+use Rattle.hg_message.specs.Counted.{counted}
+use Rattle.hg_message.specs.Record.{record_at}
+use Rattle.hg_message.proofs.CountedLemmas.{starts, goes_on, breaks_off, is_done}
+use Rattle.hg_message.proofs.record.skip_records.Goals as goal
+
+pub loop-index-init : goal.loop-index-init
+loop-index-init c = ([], starts (record_at c.args.total) c.args.count c.args.bytes.now [] refl)
+
+pub returns-in-Err : goal.returns-in-Err
+returns-in-Err c =
+    breaks_off (record_at c.args.total) c.args.count c.loop-index.index c.loop-index.invariant.0 c.loop-index.rest.now (counted (record_at c.args.total) 0 c.args.count c.args.bytes.now) c.in-Err.fault c.loop-index-test.true
+    (left_err (record_at c.args.total c.loop-index.index c.loop-index.rest.now) c.in-Err.fault c.in-Err.ensures) c.loop-index.invariant.1
+
+pub loop-index-preserved : goal.loop-index-preserved
+loop-index-preserved c =
+    let read = left_ok (record_at c.args.total c.loop-index.index c.loop-index.rest.now) c.in-Ok.after.now c.in-Ok.ensures in
+    (c.loop-index.invariant.0 ++ read.0 ∷ [], goes_on (record_at c.args.total) c.args.count c.loop-index.index c.loop-index.invariant.0 c.loop-index.rest.now (counted (record_at c.args.total) 0 c.args.count c.args.bytes.now) read.0 c.in-Ok.after.now c.loop-index-test.true read.1 c.loop-index.invariant.1)
+
+pub returns : goal.returns
+returns c =
+    (c.loop-index.invariant.0, is_done (record_at c.args.total) c.args.count c.loop-index.index c.loop-index.invariant.0 c.loop-index.rest.now (counted (record_at c.args.total) 0 c.args.count c.args.bytes.now) c.loop-index-test.false c.loop-index.invariant.1)

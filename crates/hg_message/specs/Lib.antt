@@ -1,0 +1,12 @@
+pub mod Value
+pub mod Same
+pub mod Refusals
+pub mod Place
+pub mod Counted
+pub mod Record
+pub mod RecordView
+pub mod Bound
+pub mod Message
+pub mod Layout
+pub mod Spelling
+pub mod Part

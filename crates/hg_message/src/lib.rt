@@ -1,0 +1,26 @@
+//! Messages between replicas.
+//!
+//! A [`Message`] carries changesets, bounds on phases, and obsolescence markers. It is written in one way, and read in
+//! whichever way it is spelled: the parents of a record may stand in either order, the metadata of a marker may be
+//! spelled in further ways, and no bytes at all are a store without markers. What a replica takes in of it is its
+//! [part](Message::part).
+#![tactic(auto)]
+
+mod bound;
+mod copies;
+mod error;
+mod laws;
+mod layout;
+mod message;
+mod place;
+mod record;
+mod writing;
+
+pub use error::{MessageError, MessageFault};
+pub use hg_changeset::{Changeset, Node};
+pub use hg_marker::{Marker, MarkerFault, ReadError};
+pub use hg_obsstore::StoreFault;
+pub use hg_phases::Phase;
+pub use hg_replica::Part;
+pub use laws::spelling_laws;
+pub use message::Message;

@@ -1,0 +1,12 @@
+pub mod ListLemmas
+pub mod SortedLemmas
+pub mod MarkerLists
+pub mod TableLemmas
+pub mod SearchLemmas
+pub mod SettleLemmas
+pub mod NumberLemmas
+pub mod FamilyLemmas
+pub mod SetLemmas
+pub mod FactorLemmas
+pub mod SolveLemmas
+pub mod PathLemmas

@@ -1,0 +1,11 @@
+use Rattle.std.proofs.Common.{◌≡◌, ◌≤◌, ℕ, take, sum, Contains}
+use Rattle.hg_succ.specs.Numbered.{successors_at}
+use Rattle.hg_succ.specs.Cover.{NoneOverfull}
+use Rattle.hg_succ.specs.Factors.{ways_at}
+use Rattle.hg_succ.proofs.families.Table.is_overfull.Given as goal
+
+abbrev pub invariant-loop-place : goal.invariant-loop-place
+invariant-loop-place l = record {
+  so_far : ((p : ℕ) → Contains (take l.place-index l.places) p → NoneOverfull l.self (successors_at l.markers p)) × (l.sum ≡ sum (ways_at l.self l.markers (take l.place-index l.places)));
+  few : l.sum ≤ 4096;
+}

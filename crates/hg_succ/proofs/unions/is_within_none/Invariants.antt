@@ -1,0 +1,8 @@
+use Rattle.std.proofs.Common.{◌≡◌, false, take}
+use Rattle.std.specs.List.{list_any}
+use Rattle.hg_succ.specs.Answer.{sets_of}
+use Rattle.hg_succ.specs.Unions.{is_within_larger}
+use Rattle.hg_succ.proofs.unions.is_within_none.Given as goal
+
+abbrev pub invariant-loop-other : goal.invariant-loop-other
+invariant-loop-other l = list_any (is_within_larger l.set) (sets_of (take l.other-index l.sets)) ≡ false

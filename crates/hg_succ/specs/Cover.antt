@@ -1,0 +1,112 @@
+-- What is known of a node whose sets are found.
+use Rattle.std.specs.Prelude.{◌≡◌, ◌≢◌, ◌⊎◌, ◌<◌, ◌++◌, ◌∷◌, ℕ, List, [], Contains, length, slice_get, Option, Some, None}
+use Rattle.std.specs.Option.{option_map, option_map_or}
+use Rattle.std.specs.List.Sorted.{IsStrictlySortedBy}
+use Rattle.std.specs.Cmp.Lexicographic.{slice_cmp}
+use Rattle.std.specs.declared.vec.Vec.{Vec}
+use Rattle.std.specs.declared.alloc.Global.{Global}
+use Rattle.indexmap.specs.IndexMap.{get}
+use Rattle.hg_changeset.specs.declared.node.Node.{Node}
+use Rattle.hg_changeset.specs.Node.{node_cmp, node_eq}
+use Rattle.hg_replica.specs.Content.{Content}
+use Rattle.hg_replica.specs.Evolution.{IsPredecessor}
+use Rattle.hg_succ.specs.declared.families.Solved.{Solved}
+use Rattle.hg_succ.specs.declared.families.Solved.TheVariants.{Family, Overfull}
+use Rattle.hg_succ.specs.declared.families.Table.{Table}
+use Rattle.hg_succ.specs.Successors.{IsPick, AreWithin, IsOverfull}
+use Rattle.hg_succ.specs.Answer.{sets_of}
+
+-- The sets are picks, not empty, ascending, none within another, and each pick is within one of them or empty.
+pub record IsCover (f : Content) (n : Node) (family : List (List Node)) : Type 0 where
+  pub ascending : IsStrictlySortedBy (slice_cmp node_cmp) family
+  pub each_ascending : (set : List Node) → Contains family set → IsStrictlySortedBy node_cmp set
+  pub some : (set : List Node) → Contains family set → set ≢ []
+  pub one : (p : List Node) × IsPick f n p
+  pub picks : (set : List Node) → Contains family set → (p : List Node) × IsPick f n p × AreWithin set p × AreWithin p set
+  pub apart : (a b : List Node) → Contains family a → Contains family b → AreWithin a b → a ≡ b
+  pub covers : (p : List Node) → IsPick f n p → (p ≡ []) ⊎ ((set : List Node) × Contains family set × AreWithin p set)
+
+-- the sets of a node, or that it is overfull
+pub data Known : Type 0 where
+  are_sets : List (List Node) → Known
+  overfull : Known
+
+abbrev pub IsSolved : Content → Node → Known → Type 0
+IsSolved f n (are_sets family) = IsCover f n family × ¬ (IsOverfull f n)
+IsSolved f n overfull = IsOverfull f n
+
+-- the sets of the family at a place
+abbrev pub sets_at : List (Vec (Vec Node Global) Global) → ℕ → List (List Node)
+sets_at families place = option_map_or (λ family. sets_of family.items) (slice_get families place) []
+
+-- a node's answer tells where its family stands, if it isn't overfull
+abbrev pub known_by : List (Vec (Vec Node Global) Global) → Solved → Known
+known_by families (Family place) = are_sets (sets_at families place)
+known_by families Overfull = overfull
+
+-- a family stands there
+abbrev pub IsPlaced : List (Vec (Vec Node Global) Global) → Solved → Type 0
+IsPlaced families (Family place) = place < length families
+IsPlaced families Overfull = Unit {0}
+
+-- the answer is placed, and right
+abbrev pub IsRight : Content → Node → List (Vec (Vec Node Global) Global) → Solved → Type 0
+IsRight f n families solved = IsPlaced families solved × IsSolved f n (known_by families solved)
+
+-- what a table answers for a node
+abbrev pub answer : Table → Node → Option Solved
+answer table n = get node_eq table.answers n
+
+-- what a table knows of a node
+abbrev pub entry : Table → Node → Option Known
+entry table n = option_map (known_by table.families.items) (answer table n)
+
+abbrev pub HasEntry : Table → Node → Type 0
+HasEntry table n = (solved : Solved) × (answer table n ≡ Some solved)
+
+-- the table's answers are right
+abbrev pub IsTable : Content → Table → Type 0
+IsTable f table = (n : Node) (solved : Solved) → answer table n ≡ Some solved → IsRight f n table.families.items solved
+
+-- each predecessor of a marker has its answer
+abbrev pub HasPredecessors : Content → Table → Type 0
+HasPredecessors f table = (n : Node) → IsPredecessor f n → HasEntry table n
+
+-- the family that is known, if any
+abbrev pub family_in : Option Known → List (List Node)
+family_in (Some (are_sets family)) = family
+family_in (Some overfull) = []
+family_in None = []
+
+abbrev pub families : Table → Node → List (List Node)
+families table n = family_in (entry table n)
+
+-- none of the nodes is overfull
+abbrev pub NoneOverfull : Table → List Node → Type 0
+NoneOverfull table ns = (x : Node) → Contains ns x → ¬ (entry table x ≡ Some overfull)
+
+-- one of the nodes is overfull
+abbrev pub SomeOverfull : Table → List Node → Type 0
+SomeOverfull table ns = (x : Node) × Contains ns x × (entry table x ≡ Some overfull)
+
+-- several sets, or overfull
+abbrev pub IsSeveral : Option Known → Type 0
+IsSeveral (Some (are_sets family)) = 1 < length family
+IsSeveral (Some overfull) = Unit {0}
+IsSeveral None = ⊥
+
+-- the family is put last, and that is its place
+pub record PutsLast (family : Vec (Vec Node Global) Global) (old new : Table) (solved : Solved) : Type 0 where
+  pub place : solved ≡ Family (length old.families.items)
+  pub families : new.families.items ≡ old.families.items ++ family ∷ []
+  pub answers : new.answers ≡ old.answers
+
+-- the answers are as they were, and families are put last
+pub record Keeps (old new : Table) : Type 0 where
+  pub answers : new.answers ≡ old.answers
+  pub families : (more : List (Vec (Vec Node Global) Global)) × (new.families.items ≡ old.families.items ++ more)
+
+-- the answer is right for n, by the families that the table has now
+pub record Solves (f : Content) (n : Node) (old new : Table) (solved : Solved) : Type 0 where
+  pub right : IsRight f n new.families.items solved
+  pub keeps : Keeps old new

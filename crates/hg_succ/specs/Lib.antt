@@ -1,0 +1,9 @@
+pub mod Successors
+pub mod Answer
+pub mod Steps
+pub mod Rows
+pub mod Search
+pub mod Numbered
+pub mod Cover
+pub mod Unions
+pub mod Factors

@@ -1,0 +1,53 @@
+//! Nodes that exchange messages, in one process, and what holds of them whatever is lost, late, repeated or reordered.
+//!
+//! A [`World`] has nodes, each with a state that acts ([`Actor`](hg_join::Actor)), and a pool of every message that was
+//! ever offered. It is given a list of [`Event`]s and gives an [`Answer`] for each: a node does an operation of its own,
+//! offers what it holds, or takes a message of the pool. A message that nobody takes is lost. Any node may take any
+//! message, late, again, and before older ones, so whatever a network does to messages is a list of events.
+//!
+//! # What a run is
+//!
+//! The contract of [`World::run`] says that what happened is a run, by the definition `Runs` of `specs/Runs.antt`. Each
+//! event has one of three outcomes, by `Happens`:
+//!
+//! - It is accepted: the node at its place absorbs the part that it decided, or that the message spells. No other node
+//!   changes, and no message.
+//! - It is offered: the bytes that the node offers become the last message, and nothing else changes.
+//! - It is refused, and nothing changes: the world has no such node; or else the pool has no such message; or else the
+//!   node has a reason against the operation, the ask, the bytes or the part; or memory ran out.
+//!
+//! What each node accepted is not kept anywhere. The contract gives it as a list of its own, `parts`, with one part or
+//! none for each event, and says that afterwards each node is the least valid state above what it was that covers the
+//! parts that it accepted (`AllLeast`).
+//!
+//! # What follows
+//!
+//! Each of these functions has an empty body, and its contract is a law of all runs, at any states that act.
+//!
+//! | Law | What it says |
+//! |---|---|
+//! | [`states_are_least`] | each state is the least that covers what the node accepted; from empty nodes on, of all that is valid |
+//! | [`covering_nodes_agree`] | nodes that cover what the other accepted have one content |
+//! | [`runs_compose`] | two runs, one after the other, are one: a list of events may be given in one call or in several |
+//! | [`messages_are_offers`] | messages stay, and each that a run adds is what a node offered at an event of it |
+//! | [`answers_are_exact`] | what is missing is told exactly, and what may succeed is refused for want of memory alone |
+//! | [`events_and_answers_tell`] | events and answers alone tell what became of every node |
+//!
+//! # What is not promised
+//!
+//! No message need ever be taken, and nodes need not come to cover each other. Where there is an event, memory may run
+//! out: in [`World::run`] before the first event, and else within one, which is then refused as that node's refusals
+//! say. No contract can tell such an answer from one that need not have been, so that is for tests.
+#![tactic(auto)]
+
+mod event;
+mod laws;
+mod steps;
+mod world;
+
+pub use event::{Answer, Event, EventRefusal};
+pub use laws::{
+    answers_are_exact, covering_nodes_agree, events_and_answers_tell, messages_are_offers,
+    runs_compose, states_are_least,
+};
+pub use world::World;

@@ -1,0 +1,93 @@
+//! A world of nodes, with the pool of all that was offered.
+ghost use Rattle.std.specs.Prelude.{◌≡◌, ◌<◌, Option, List, [], length, IfOk, OnErr, vec_len, slice_get};
+ghost use Rattle.std.specs.Option.{option_copied};
+ghost use Rattle.hg_world.specs.Runs.{Runs, AllEmpty, AllLeast, AllValid};
+
+use crate::event::{Answer, Event};
+use crate::steps::run_all;
+use hg_join::{Actor, NoMemory};
+use std::alloc::Global;
+use std::marker::Model;
+
+/// Nodes, and every message that was ever offered. Contracts see the list of the nodes' states beside that of the
+/// messages.
+///
+/// Messages are bytes, numbered from 0, and stay for good. Any node may take any of them, late, again or never.
+pub struct World<S: Actor> {
+    alloc: Global,
+    nodes: Vec<S>,
+    messages: Vec<Vec<u8>>,
+}
+
+// Whoever owns a world calls this once, and is proved without a look at each collection in it.
+impl<S: Actor> Drop for World<S> {
+    fn drop(self) {
+        let World {
+            alloc: _,
+            nodes: _,
+            messages: _,
+        } = self;
+    }
+}
+
+impl<S: Actor> Model for World<S> {
+    ghost use Rattle.hg_world.specs.Runs.{Snapshot, snapshot, AllValid};
+
+    ghost Value = { Snapshot S };
+
+    ghost view = { λ w. snapshot w.nodes.items w.messages.items };
+
+    ghost invariant = { λ w. AllValid S.JoinState (snapshot w.nodes.items w.messages.items) };
+}
+
+impl<S: Actor> World<S> {
+    /// A world of so many empty nodes, and no message.
+    pub fn new(alloc: Global, count: usize) -> Result<World<S>, NoMemory>
+        ensures nodes { IfOk result (λ world. length world.nodes ≡ count) }
+        ensures empty { IfOk result (λ world. AllEmpty S.JoinState world) }
+        ensures messages { IfOk result (λ world. world.messages ≡ []) }
+        ensures wants { OnErr result (0 < count) }
+    {
+        let mut nodes = Vec::with_capacity(alloc, count)?;
+        for _ in 0..count {
+            nodes.push(S::empty(alloc)?).unwrap();
+        }
+        Ok(World {
+            alloc,
+            nodes,
+            messages: Vec::new(alloc),
+        })
+    }
+
+    /// Does the events one after another and gives their answers, one for each.
+    ///
+    /// What happened is a run: each event was accepted, offered or refused as its definition says. Afterwards each node
+    /// is the least valid state above what it was that covers the parts that it accepted. Memory runs out here only
+    /// before the first event, and where there is one; within an event it is that event's refusal.
+    pub fn run(
+        &mut self,
+        events: &[Event<S::Op, S::Ask>],
+    ) -> Result<Vec<Answer<S::Change, S::Refusal, S::Fault>>, NoMemory>
+        ensures ran { IfOk result (λ answers. (parts : List (Option S.Part)) × Runs S.JoinState S.Actor.own self.old events.now answers.items parts self.new × AllLeast S.JoinState self.old events.now parts self.new) }
+        ensures count { IfOk result (λ answers. vec_len answers ≡ length events.now) }
+        ensures err { OnErr result (self.new ≡ self.old) }
+        ensures wants { OnErr result (0 < length events.now) }
+
+        // Each node's state is valid, as the laws of runs ask.
+        ensures valid { AllValid S.JoinState self.old }
+    {
+        run_all(
+            self.alloc,
+            self.nodes.as_mut_slice(),
+            &mut self.messages,
+            events,
+        )
+    }
+
+    /// The state of a node, if there is one at the place, counted from 0.
+    pub fn state(&self, at: usize) -> Option<&S>
+        ensures { option_copied result ≡ slice_get self.now.nodes at }
+    {
+        self.nodes.get(at)
+    }
+}

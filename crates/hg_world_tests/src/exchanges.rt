@@ -1,0 +1,124 @@
+//! Short lists of events, and what each is answered; each growth refused in turn.
+use hg_join::NoMemory;
+use hg_join_tests::{PriceRefusal, Prices};
+use hg_world::{Answer, Event, EventRefusal, World};
+use std::alloc::Global;
+
+type PriceAnswer = Answer<(), PriceRefusal, NoMemory>;
+
+type PriceEvent = Event<(u8, u8), Vec<u8>>;
+
+#[test]
+fn what_is_missing_is_told_and_an_own_message_changes_nothing(rt: HostRuntime) {
+    let alloc = rt.alloc();
+    let mut world = World::<Prices>::new(alloc, 1).expect(&rt, "memory");
+    let events = [
+        Event::Take { at: 0, message: 0 },
+        Event::Offer {
+            at: 1,
+            ask: Vec::new(alloc),
+        },
+        Event::Offer {
+            at: 0,
+            ask: Vec::new(alloc),
+        },
+        Event::Take { at: 0, message: 0 },
+    ];
+    let answers = world.run(&events).expect(&rt, "memory");
+    let expected: [PriceAnswer; 4] = [
+        Answer::Refused(EventRefusal::NoMessage),
+        Answer::Refused(EventRefusal::NoNode),
+        Answer::Offered(0),
+        Answer::Accepted(()),
+    ];
+    assert!(rt; answers.as_slice() == expected.as_slice());
+}
+
+#[test]
+fn a_missing_node_is_told_before_a_missing_message(rt: HostRuntime) {
+    let mut world = World::<Prices>::new(rt.alloc(), 2).expect(&rt, "memory");
+    let event: PriceEvent = Event::Take { at: 2, message: 7 };
+    assert_eq!(rt; event.place(), 2);
+    let answers = world.run(&[event]).expect(&rt, "memory");
+    let expected: [PriceAnswer; 1] = [Answer::Refused(EventRefusal::NoNode)];
+    assert!(rt; answers.as_slice() == expected.as_slice());
+    assert!(rt; world.state(1).is_some() && world.state(2).is_none());
+}
+
+/// An offer of the price of item 1.
+fn offer_at(alloc: Global, at: usize) -> Option<PriceEvent> {
+    let ask = [1].to_vec(alloc).ok()?;
+    Some(Event::Offer { at, ask })
+}
+
+/// The price of item 1 at a node.
+fn price_at(world: &World<Prices>, at: usize) -> Option<u8> {
+    world.state(at)?.get(1)
+}
+
+#[test]
+fn late_reordered_and_repeated_messages_leave_the_same(rt: HostRuntime) {
+    let alloc = rt.alloc();
+    let mut world = World::<Prices>::new(alloc, 2).expect(&rt, "memory");
+    let events = [
+        Event::Local { at: 0, op: (1, 9) },
+        offer_at(alloc, 0).expect(&rt, "memory"),
+        Event::Local { at: 0, op: (1, 7) },
+        offer_at(alloc, 0).expect(&rt, "memory"),
+        Event::Local { at: 0, op: (1, 8) },
+        Event::Take { at: 1, message: 1 },
+        Event::Take { at: 1, message: 0 },
+        Event::Take { at: 1, message: 1 },
+    ];
+    let answers = world.run(&events).expect(&rt, "memory");
+    let expected: [PriceAnswer; 8] = [
+        Answer::Accepted(()),
+        Answer::Offered(0),
+        Answer::Accepted(()),
+        Answer::Offered(1),
+        Answer::Refused(EventRefusal::ByActor(PriceRefusal::NotLower)),
+        Answer::Accepted(()),
+        Answer::Accepted(()),
+        Answer::Accepted(()),
+    ];
+    assert!(rt; answers.as_slice() == expected.as_slice());
+    assert_eq!(rt;
+        [price_at(&world, 0), price_at(&world, 1)],
+        [Some(7), Some(7)]
+    );
+}
+
+#[test]
+fn refusals_show_their_names(rt: HostRuntime) {
+    let refusals: [EventRefusal<NoMemory, NoMemory>; 3] = [
+        EventRefusal::NoNode,
+        EventRefusal::NoMessage,
+        EventRefusal::ByState(NoMemory),
+    ];
+    let [node, message, state] = refusals;
+    let text = format!(in rt.alloc(); "{node} {message} {state}").expect(&rt, "memory");
+    assert_eq!(rt; text.as_str(), "NoNode NoMessage NoMemory");
+}
+
+#[test]
+fn refused_growth_of_a_world_is_told(rt: HostRuntime) {
+    let alloc = rt.alloc();
+    assert!(rt; World::<Prices>::new(alloc, 0).is_ok());
+    match World::<Prices>::new(alloc, 3) {
+        Ok(world) => assert!(rt; world.state(2).is_some() && world.state(3).is_none()),
+        Err(NoMemory) => {}
+    }
+}
+
+#[test]
+fn refused_growth_of_a_run_leaves_what_its_answers_say(rt: HostRuntime) {
+    let Ok(mut world) = World::<Prices>::new(rt.alloc(), 1) else {
+        return;
+    };
+    assert!(rt; world.run(&[]).is_ok());
+    let accepted = match world.run(&[Event::Local { at: 0, op: (1, 9) }]) {
+        Ok(answers) => answers.first() == Some(&Answer::Accepted(())),
+        Err(NoMemory) => false,
+    };
+    assert_eq!(rt; price_at(&world, 0).is_some(), accepted);
+}
