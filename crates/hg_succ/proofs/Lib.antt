@@ -1,6 +1,7 @@
 pub mod ListLemmas
 pub mod SortedLemmas
 pub mod MarkerLists
+pub mod LookupLemmas
 pub mod TableLemmas
 pub mod SearchLemmas
 pub mod SettleLemmas
