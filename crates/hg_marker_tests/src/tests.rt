@@ -4,6 +4,7 @@ use hg_marker::{
     Marker, MarkerError, MarkerFault, Metadata, Parents, ReadError, decode, encode, skip_marker,
 };
 use std::alloc::{AllocError, Global};
+use std::fmt::Display;
 use std::process::Abort;
 
 const OLD: Node = Node([0x11; 20]);
@@ -147,84 +148,108 @@ fn skips_a_marker(rt: HostRuntime) {
     assert_eq!(rt; skip_marker(&bytes).expect(&rt, "memory"), [7].as_slice());
 }
 
-// A marker without successors, with metadata of NULs alone, one more than the limit or as many.
+// A marker of the null id without successors, with NULs alone as metadata, of this length; and a byte more than the limit
+// takes.
+fn nuls(rt: &impl Abort, alloc: Global, len: &[u8; 4]) -> Vec<u8> {
+    let mut bytes = vec![in alloc; 0u8; 26 + 1_048_577].expect(rt, "memory");
+    bytes[1..5].copy_from_slice(len);
+    bytes
+}
+
 #[test]
-fn limits_metadata(rt: HostRuntime) {
-    let alloc = rt.alloc();
-    let mut bytes = vec![in alloc; 0u8; 26 + 1_048_577].expect(&rt, "memory");
-    bytes[1..5].copy_from_slice(&[0, 0x10, 0, 1]);
-    assert_eq!(rt;
-        fault_of(decode(alloc, &bytes)),
-        Some(MarkerFault::BadMetadata)
-    );
-    bytes[1..5].copy_from_slice(&[0, 0x10, 0, 0]);
-    let (marker, used) = decode(alloc, &bytes).expect(&rt, "memory");
+fn refuses_metadata_beyond_the_limit(rt: HostRuntime) {
+    let bytes = nuls(&rt, rt.alloc(), &[0, 0x10, 0, 1]);
+    let fault = fault_of(decode(rt.alloc(), &bytes));
+    assert_eq!(rt; fault, Some(MarkerFault::BadMetadata));
+}
+
+#[test]
+fn reads_metadata_of_the_limit(rt: HostRuntime) {
+    let bytes = nuls(&rt, rt.alloc(), &[0, 0x10, 0, 0]);
+    let (marker, used) = decode(rt.alloc(), &bytes).expect(&rt, "memory");
     assert_eq!(rt; used, 26 + 1_048_576);
-    assert_eq!(rt; marker.predecessor(), Node::NULL);
-    assert_eq!(rt;
-        encode(&marker).expect(&rt, "memory").as_slice(),
-        [0u8; 26].as_slice()
-    );
+    assert!(rt; marker.predecessor() == Node::NULL);
+    let written = encode(&marker).expect(&rt, "memory");
+    assert!(rt; written.as_slice() == [0u8; 26].as_slice());
+}
+
+// A prune of a changeset without parents.
+fn prune_of(alloc: Global, pruned: Node) -> Option<Marker> {
+    let texts: [(&[u8], &[u8]); 4] = [
+        (b"user", b"fleet"),
+        (b"p1", b"0000000000000000000000000000000000000000"),
+        (b"operation", b"prune"),
+        (b"date", b"0 0"),
+    ];
+    let metadata = metadata_of(alloc, &texts).ok()?;
+    Marker::new(pruned, Vec::new(alloc), 0, metadata).ok()
 }
 
 #[test]
 fn writes_a_prune(rt: HostRuntime) {
     let alloc = rt.alloc();
     let pruned = Node::from_hex(b"b80de5d138758541c5f05265ad144ab9fa86d1db").expect(&rt, "memory");
-    let metadata = metadata_of(
-        alloc,
-        &[
-            (b"user", b"fleet"),
-            (b"p1", &[b'0'; 40]),
-            (b"operation", b"prune"),
-            (b"date", b"0 0"),
-        ],
-    )
-    .expect(&rt, "memory");
-    let marker = Marker::new(pruned, Vec::new(alloc), 0, metadata).expect(&rt, "memory");
+    let marker = prune_of(alloc, pruned).expect(&rt, "memory");
     assert_eq!(rt; marker.parents(), Parents::One(Node::NULL));
     let mut want = Vec::from_slice(alloc, &[0, 0, 0, 0, 0x4f, 0]).expect(&rt, "memory");
     want.extend_from_slice(&pruned.0).expect(&rt, "memory");
-    want.extend_from_slice(b"date:0 0\0operation:prune\0p1:")
-        .expect(&rt, "memory");
-    want.extend_from_slice(&[b'0'; 40]).expect(&rt, "memory");
-    want.extend_from_slice(b"\0user:fleet")
-        .expect(&rt, "memory");
+    want.extend_from_slice(
+        b"date:0 0\0operation:prune\0p1:0000000000000000000000000000000000000000\0user:fleet",
+    ).expect(&rt, "memory");
     assert_eq!(rt; want.len(), 105);
-    assert_eq!(rt;
-        encode(&marker).expect(&rt, "memory").as_slice(),
-        want.as_slice()
-    );
+    let written = encode(&marker).expect(&rt, "memory");
+    assert!(rt; written.as_slice() == want.as_slice());
+}
+
+// The parents that a marker with this metadata records.
+fn recorded(alloc: Global, text: &[u8]) -> Option<Parents> {
+    let bytes = bytes_with(alloc, NEW, text).ok()?;
+    let (marker, _) = decode(alloc, &bytes).ok()?;
+    Some(marker.parents())
 }
 
 #[test]
 fn records_parents(rt: HostRuntime) {
-    let alloc = rt.alloc();
-    let first = b"2222222222222222222222222222222222222222".as_slice();
-    let bad = b"222222222222222222222222222222222222222g".as_slice();
     let other = Node::from_hex(OTHER).expect(&rt, "memory");
-    for (texts, parents) in [
+    for (text, parents) in [
         (
-            [(b"p1".as_slice(), first), (b"p2", OTHER)],
+            b"p1:2222222222222222222222222222222222222222\0p2:abcdefABCDEF0123456789abcdefABCDEF012345".as_slice(),
             Parents::Two(NEW, other),
         ),
-        ([(b"p0", first), (b"p1", OTHER)], Parents::One(other)),
-        ([(b"p0", b""), (b"p1", bad)], Parents::Unrecorded),
-        ([(b"p0", b""), (b"p2", first)], Parents::Unrecorded),
-        ([(b"p1", bad), (b"p2", first)], Parents::Unrecorded),
-        ([(b"p1", first), (b"p2", bad)], Parents::Unrecorded),
-        ([(b"p1", b"2"), (b"p2", bad)], Parents::Unrecorded),
-        ([(b"p0", bad), (b"user", b"bob")], Parents::Empty),
-        ([(b"p3", first), (b"P1", first)], Parents::Unrecorded),
+        (
+            b"p0:2222222222222222222222222222222222222222\0p1:abcdefABCDEF0123456789abcdefABCDEF012345",
+            Parents::One(other),
+        ),
+        (
+            b"p0:\0p1:222222222222222222222222222222222222222g",
+            Parents::Unrecorded,
+        ),
+        (
+            b"p0:\0p2:2222222222222222222222222222222222222222",
+            Parents::Unrecorded,
+        ),
+        (
+            b"p1:222222222222222222222222222222222222222g\0p2:2222222222222222222222222222222222222222",
+            Parents::Unrecorded,
+        ),
+        (
+            b"p1:2222222222222222222222222222222222222222\0p2:222222222222222222222222222222222222222g",
+            Parents::Unrecorded,
+        ),
+        (
+            b"p1:2\0p2:222222222222222222222222222222222222222g",
+            Parents::Unrecorded,
+        ),
+        (
+            b"p0:222222222222222222222222222222222222222g\0user:bob",
+            Parents::Empty,
+        ),
+        (
+            b"p3:2222222222222222222222222222222222222222\0P1:2222222222222222222222222222222222222222",
+            Parents::Unrecorded,
+        ),
     ] {
-        let marker = Marker::new(
-            OLD,
-            Vec::new(alloc),
-            0,
-            metadata_of(alloc, &texts).expect(&rt, "memory"),
-        )
-        .expect(&rt, "memory");
-        assert_eq!(rt; marker.parents(), parents);
+        assert_eq!(rt; recorded(rt.alloc(), text), Some(parents));
     }
 }
 
@@ -279,9 +304,13 @@ fn refuses_fields(rt: HostRuntime) {
     }
 }
 
+// What a user reads of it.
+fn text_of(rt: &impl Abort, alloc: Global, error: &impl Display) -> String {
+    format!(in alloc; "{error}").expect(rt, "memory")
+}
+
 #[test]
-fn numbers_and_names(rt: HostRuntime) {
-    let alloc = rt.alloc();
+fn numbers_and_names_of_refusals(rt: HostRuntime) {
     for (error, number, name) in [
         (MarkerError::SelfSuccessor, 1, "SelfSuccessor"),
         (MarkerError::NullSuccessor, 2, "NullSuccessor"),
@@ -291,34 +320,30 @@ fn numbers_and_names(rt: HostRuntime) {
         (MarkerError::MetaTooLong, 6, "MetaTooLong"),
     ] {
         assert_eq!(rt; error.number(), number);
-        assert_eq!(rt;
-            format!(in alloc; "{error}").expect(&rt, "memory").as_str(),
-            name
-        );
+        assert_eq!(rt; text_of(&rt, rt.alloc(), &error).as_str(), name);
     }
+}
+
+#[test]
+fn numbers_and_names_of_faults(rt: HostRuntime) {
     for (fault, number, name) in [
         (MarkerFault::Truncated, 1, "Truncated"),
         (MarkerFault::NullSuccessor, 2, "NullSuccessor"),
         (MarkerFault::BadMetadata, 3, "BadMetadata"),
     ] {
         assert_eq!(rt; fault.number(), number);
-        assert_eq!(rt;
-            format!(in alloc; "{fault}").expect(&rt, "memory").as_str(),
-            name
-        );
+        assert_eq!(rt; text_of(&rt, rt.alloc(), &fault).as_str(), name);
         let error = ReadError::Fault(fault);
         assert_eq!(rt; error.fault(), Some(fault));
-        assert_eq!(rt;
-            format!(in alloc; "{error}").expect(&rt, "memory").as_str(),
-            name
-        );
+        assert_eq!(rt; text_of(&rt, rt.alloc(), &error).as_str(), name);
     }
+}
+
+#[test]
+fn want_of_memory_is_no_fault(rt: HostRuntime) {
     let error: ReadError<MarkerFault> = AllocError.into();
     assert_eq!(rt; error.fault(), None);
-    assert_eq!(rt;
-        format!(in alloc; "{error}").expect(&rt, "memory").as_str(),
-        "NoMemory"
-    );
+    assert_eq!(rt; text_of(&rt, rt.alloc(), &error).as_str(), "NoMemory");
 }
 
 // Where a growth is refused, the value is as it was, and the same call with memory answers as ever.

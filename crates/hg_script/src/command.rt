@@ -2,7 +2,7 @@
 use crate::operation::Operation;
 
 /// A line's command.
-#[derive(Clone, Copy, Debug)]
+#[derive(Clone, Copy)]
 pub enum Command<'a> {
     /// A new empty replica of this name.
     Node(&'a [u8]),

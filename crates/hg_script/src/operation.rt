@@ -13,7 +13,7 @@ use std::collections::BTreeMap;
 const USER: &[u8] = b"fleet";
 
 /// The labels of at most two parents.
-#[derive(Clone, Copy, Debug)]
+#[derive(Clone, Copy)]
 pub enum Parents<'a> {
     NoParent,
     One(&'a [u8]),
@@ -21,7 +21,7 @@ pub enum Parents<'a> {
 }
 
 /// An operation, by the labels of its line.
-#[derive(Clone, Copy, Debug)]
+#[derive(Clone, Copy)]
 pub enum Operation<'a> {
     Commit {
         new: &'a [u8],
