@@ -1,0 +1,9 @@
+//! Tests of `hg_message`, as a caller from outside sees it.
+#![tactic(auto)]
+
+#[cfg(test)]
+mod reading;
+#[cfg(test)]
+mod rows;
+#[cfg(test)]
+mod writing;

@@ -1,0 +1,201 @@
+//! Bytes that are read, and the first fault of those that aren't.
+use crate::rows::{CHILD, NOTHING, ROOT, all_kinds, one_changeset};
+use hg_message::{MarkerFault, Message, MessageError, MessageFault, Node, ReadError, StoreFault};
+use std::alloc::Global;
+use std::process::Abort;
+use std::test::Fail;
+
+// The fault of the bytes, where they have one.
+fn fault_of(rt: &impl Abort, alloc: Global, bytes: &[u8]) -> Option<MessageFault> {
+    match Message::from_bytes(alloc, bytes) {
+        Ok(_) => None,
+        Err(ReadError::Fault(fault)) => Some(fault),
+        Err(ReadError::NoMemory) => panic!(rt; "memory"),
+    }
+}
+
+// The last of the places that isn't past this one.
+fn last_up_to(places: &[usize], place: usize) -> usize {
+    let mut last = 0;
+    for start in places {
+        if *start <= place {
+            last = *start;
+        }
+    }
+    last
+}
+
+#[test]
+fn one_changeset_cut_anywhere_is_truncated(rt: HostRuntime) {
+    let alloc = rt.alloc();
+    let fields = [0, 4, 5, 9, 29, 49, 69, 73, 77, 81, 101, 105];
+    let bytes = one_changeset(alloc).expect(&rt, "memory");
+    assert!(rt; bytes.len() == 106);
+    for len in 0..106 {
+        let fault = fault_of(&rt, alloc, &bytes[..len]);
+        let place = last_up_to(&fields, len);
+        assert!(rt; fault == Some(MessageFault::Truncated(place)), "at {len}");
+    }
+}
+
+#[test]
+fn all_kinds_cut_anywhere_are_truncated(rt: HostRuntime) {
+    let alloc = rt.alloc();
+    let fields = [
+        0, 4, 5, 9, 29, 49, 69, 73, 74, 94, 114, 134, 138, 144, 148, 152, 172, 176, 196, 200,
+    ];
+    let bytes = all_kinds(alloc, Node::NULL, ROOT).expect(&rt, "memory");
+    assert!(rt; bytes.len() == 309);
+    for len in 0..309 {
+        let fault = fault_of(&rt, alloc, &bytes[..len]);
+        let place = last_up_to(&fields, len);
+        assert!(rt; fault == Some(MessageFault::Truncated(place)), "at {len}");
+    }
+}
+
+// Turns the highest bit of the byte at this place.
+fn turn(bytes: &mut [u8], place: usize) {
+    if let Some(byte) = bytes.get_mut(place) {
+        *byte ^= 0x80;
+    }
+}
+
+// What is told of one changeset's message, the highest bit of whose byte at this place is turned.
+fn one_changeset_turned(place: usize) -> Option<MessageFault> {
+    match place {
+        0..=3 => Some(MessageFault::BadMagic),
+        4 => Some(MessageFault::BadVersion),
+        // A second record would begin at 73, and its second parent at 113.
+        5..=8 => Some(MessageFault::Truncated(93)),
+        9..=68 => Some(MessageFault::HashMismatch(0)),
+        69..=70 => Some(MessageFault::TextTooLong(0)),
+        71..=72 => Some(MessageFault::Truncated(73)),
+        // The length of the store is taken for a phase, and the node after it isn't whole.
+        73..=76 => Some(MessageFault::Truncated(105)),
+        77..=80 => Some(MessageFault::BadPhase),
+        101..=104 => Some(MessageFault::Truncated(105)),
+        105 => Some(MessageFault::BadMarker(105, StoreFault::BadVersion(128))),
+        _ => None,
+    }
+}
+
+#[test]
+fn one_changeset_with_a_byte_turned(rt: HostRuntime) {
+    let alloc = rt.alloc();
+    let mut bytes = one_changeset(alloc).expect(&rt, "memory");
+    assert!(rt; bytes.len() == 106);
+    for place in 0..106 {
+        turn(&mut bytes, place);
+        let fault = fault_of(&rt, alloc, &bytes);
+        assert!(rt; fault == one_changeset_turned(place), "at {place}");
+        turn(&mut bytes, place);
+    }
+}
+
+// What is told of the message with all kinds of records, with a byte turned so.
+fn all_kinds_turned(place: usize) -> Option<MessageFault> {
+    match place {
+        // A third record would begin at 144, with a text of 524,305 bytes from 208 on.
+        5..=8 => Some(MessageFault::Truncated(208)),
+        // The first text would have 32,769 bytes, and then 129, which are there.
+        71 => Some(MessageFault::Truncated(73)),
+        72..=73 => Some(MessageFault::HashMismatch(0)),
+        74..=133 => Some(MessageFault::HashMismatch(1)),
+        134..=135 => Some(MessageFault::TextTooLong(1)),
+        136 => Some(MessageFault::Truncated(138)),
+        137..=143 => Some(MessageFault::HashMismatch(1)),
+        // The length of the store is taken for a third bound's phase, and then a bound's own phase is turned.
+        144..=151 => Some(MessageFault::BadPhase),
+        172..=175 => Some(MessageFault::BadPhase),
+        196..=199 => Some(MessageFault::Truncated(200)),
+        200 => Some(MessageFault::BadMarker(200, StoreFault::BadVersion(128))),
+        201..=254 => marker_turned(1, place - 201),
+        255..=308 => marker_turned(55, place - 255),
+        0..=70 => one_changeset_turned(place),
+        _ => None,
+    }
+}
+
+// What is told of the marker at this place of the store, with the byte at this place of the marker turned: its count of
+// successors, the length of its metadata, or the colon of the metadata.
+fn marker_turned(start: usize, place: usize) -> Option<MessageFault> {
+    let cause = match place {
+        0..=4 => MarkerFault::Truncated,
+        50 => MarkerFault::BadMetadata,
+        _ => return None,
+    };
+    let in_message = 200usize.saturating_add(start);
+    Some(MessageFault::BadMarker(in_message, StoreFault::Bad(start, cause)))
+}
+
+#[test]
+fn all_kinds_with_a_byte_turned(rt: HostRuntime) {
+    let alloc = rt.alloc();
+    let mut bytes = all_kinds(alloc, Node::NULL, ROOT).expect(&rt, "memory");
+    assert!(rt; bytes.len() == 309);
+    for place in 0..309 {
+        turn(&mut bytes, place);
+        let fault = fault_of(&rt, alloc, &bytes);
+        assert!(rt; fault == all_kinds_turned(place), "at {place}");
+        turn(&mut bytes, place);
+    }
+}
+
+#[test]
+fn equal_parents_are_told_before_the_hash(rt: HostRuntime) {
+    let alloc = rt.alloc();
+    let bytes = all_kinds(alloc, ROOT, ROOT).expect(&rt, "memory");
+    assert!(rt; fault_of(&rt, alloc, &bytes) == Some(MessageFault::BadParents(1)));
+    let bytes = all_kinds(alloc, CHILD, ROOT).expect(&rt, "memory");
+    assert!(rt; fault_of(&rt, alloc, &bytes) == Some(MessageFault::HashMismatch(1)));
+}
+
+#[test]
+fn nothing_may_follow(rt: HostRuntime) {
+    let alloc = rt.alloc();
+    let mut bytes = one_changeset(alloc).expect(&rt, "memory");
+    bytes.push(0).expect(&rt, "memory");
+    assert!(rt; fault_of(&rt, alloc, &bytes) == Some(MessageFault::Trailing));
+}
+
+// Four bytes claim as many records, or bounds, as they can.
+#[test]
+fn a_count_reserves_nothing(rt: HostRuntime) {
+    let alloc = rt.alloc();
+    let records = b"HGFX\x01\xff\xff\xff\xff";
+    assert!(rt; fault_of(&rt, alloc, records) == Some(MessageFault::Truncated(9)));
+    let bounds = b"HGFX\x01\0\0\0\0\xff\xff\xff\xff";
+    assert!(rt; fault_of(&rt, alloc, bounds) == Some(MessageFault::Truncated(13)));
+}
+
+#[test]
+fn no_bytes_are_a_store(rt: HostRuntime) {
+    let alloc = rt.alloc();
+    let bytes = b"HGFX\x01\0\0\0\0\0\0\0\0\0\0\0\0";
+    let message = Message::from_bytes(alloc, bytes).expect(&rt, "a message");
+    let written = message.to_bytes().expect(&rt, "memory");
+    assert!(rt; written.as_slice() == NOTHING);
+}
+
+#[test]
+fn numbers_and_texts(rt: HostRuntime) -> Result<(), Fail> {
+    let alloc = rt.alloc();
+    let marker = StoreFault::Bad(1, MarkerFault::Truncated);
+    for (fault, number, text) in [
+        (MessageFault::Truncated(9), 1, "Truncated at 9"),
+        (MessageFault::HashMismatch(0), 4, "HashMismatch in record 0"),
+        (
+            MessageFault::BadMarker(201, marker),
+            7,
+            "BadMarker at 201: Bad at 1: Truncated",
+        ),
+        (MessageFault::TextTooLong(1), 9, "TextTooLong in record 1"),
+    ] {
+        assert_eq!(rt; fault.number(), number);
+        assert_eq!(rt; format!(in alloc; "{fault}")?.as_str(), text);
+    }
+    let large = MessageError::TooLarge;
+    assert_eq!(rt; large.number(), 1);
+    assert_eq!(rt; format!(in alloc; "{large}")?.as_str(), "TooLarge");
+    Ok(())
+}

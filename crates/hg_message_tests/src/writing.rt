@@ -1,0 +1,113 @@
+//! Messages that are written, copied and taken apart, and growths that are refused.
+use crate::rows::{CHILD, EMPTY, NOTHING, ROOT, all_kinds, one_changeset};
+use hg_message::{Changeset, Message, Node, Phase};
+use std::alloc::{AllocError, Global};
+use std::process::Abort;
+
+// The message of the changeset EMPTY, with a draft bound.
+fn message_of_one(alloc: Global) -> Option<Message> {
+    let empty = Changeset::new(Node::NULL, Node::NULL, Vec::new(alloc)).ok()?;
+    let mut changesets = Vec::new(alloc);
+    changesets.push(empty).ok()?;
+    let bounds = Vec::from_slice(alloc, &[(EMPTY, Phase::Draft)]).ok()?;
+    Message::new(changesets, bounds, Vec::new(alloc)).ok()
+}
+
+// The bytes that are written, where one growth may be refused.
+fn written(rt: &impl Abort, message: &Message) -> Vec<u8> {
+    match message.to_bytes() {
+        Ok(bytes) => bytes,
+        Err(AllocError) => message.to_bytes().expect(rt, "memory"),
+    }
+}
+
+// The message that the bytes spell, where one growth may be refused.
+fn read(rt: &impl Abort, alloc: Global, bytes: &[u8]) -> Message {
+    match Message::from_bytes(alloc, bytes) {
+        Ok(message) => message,
+        Err(_) => Message::from_bytes(alloc, bytes).expect(rt, "a message"),
+    }
+}
+
+#[test]
+fn nothing_is_written_in_18_bytes(rt: HostRuntime) {
+    let alloc = rt.alloc();
+    let nothing = Message::new(Vec::new(alloc), Vec::new(alloc), Vec::new(alloc));
+    let nothing = nothing.expect(&rt, "a message");
+    let bytes = written(&rt, &nothing);
+    assert!(rt; bytes.len() == 18 && bytes.as_slice() == NOTHING);
+}
+
+#[test]
+fn one_changeset_is_written_and_read(rt: HostRuntime) {
+    let alloc = rt.alloc();
+    let message = message_of_one(alloc).expect(&rt, "memory");
+    let bytes = one_changeset(alloc).expect(&rt, "memory");
+    assert!(rt; written(&rt, &message) == bytes);
+    assert!(rt; read(&rt, alloc, &bytes) == message);
+    assert!(rt; message.copy().expect(&rt, "memory") == message);
+}
+
+// Repeats stand, and parents in either order are read as the same.
+#[test]
+fn parents_are_written_in_normal_form(rt: HostRuntime) {
+    let alloc = rt.alloc();
+    let swapped = all_kinds(alloc, Node::NULL, ROOT).expect(&rt, "memory");
+    let normal = all_kinds(alloc, ROOT, Node::NULL).expect(&rt, "memory");
+    let message = read(&rt, alloc, &swapped);
+    assert!(rt; message.changesets().len() == 2 && message.markers().len() == 2);
+    assert!(rt; message.bounds() == [(ROOT, Phase::Public), (CHILD, Phase::Secret)].as_slice());
+    assert!(rt; written(&rt, &message) == normal);
+}
+
+// A record that comes twice is kept twice.
+#[test]
+fn repeated_records_are_kept(rt: HostRuntime) {
+    let alloc = rt.alloc();
+    let one = one_changeset(alloc).expect(&rt, "memory");
+    assert!(rt; one.len() == 106);
+    let mut bytes = Vec::from_slice(alloc, b"HGFX\x01\0\0\0\x02").expect(&rt, "memory");
+    bytes.extend_from_slice(&one[9..73]).expect(&rt, "memory");
+    bytes.extend_from_slice(&one[9..]).expect(&rt, "memory");
+    let message = read(&rt, alloc, &bytes);
+    assert!(rt; message.changesets().len() == 2 && written(&rt, &message) == bytes);
+}
+
+#[test]
+fn the_part_bounds_what_it_adds(rt: HostRuntime) {
+    let alloc = rt.alloc();
+    let bytes = all_kinds(alloc, ROOT, Node::NULL).expect(&rt, "memory");
+    let part = read(&rt, alloc, &bytes).part().expect(&rt, "memory");
+    let bounds = [
+        (ROOT, Phase::Public),
+        (CHILD, Phase::Secret),
+        (ROOT, Phase::Draft),
+        (CHILD, Phase::Draft),
+    ];
+    assert!(rt; part.bounds.as_slice() == bounds.as_slice());
+    assert!(rt; part.changesets.len() == 2 && part.markers.len() == 2);
+}
+
+// One allocation is refused, wherever it falls: the same call with memory answers as ever.
+#[test]
+fn refused_growth_reads_and_writes_nothing(rt: HostRuntime) {
+    let alloc = rt.alloc();
+    let Some(bytes) = all_kinds(alloc, ROOT, Node::NULL) else {
+        return;
+    };
+    let message = read(&rt, alloc, &bytes);
+    assert!(rt; written(&rt, &message) == bytes);
+}
+
+#[test]
+fn refused_growth_leaves_the_message(rt: HostRuntime) {
+    let alloc = rt.alloc();
+    let Some(message) = message_of_one(alloc) else {
+        return;
+    };
+    let part = match message.part() {
+        Ok(part) => part,
+        Err(AllocError) => message.part().expect(&rt, "memory"),
+    };
+    assert!(rt; part.bounds[..] == [(EMPTY, Phase::Draft), (EMPTY, Phase::Draft)]);
+}
