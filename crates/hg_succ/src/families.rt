@@ -2,21 +2,19 @@
 //!
 //! Families stand in a list, and each node that is done has the place of its own. A node with one marker with one successor
 //! has the same picks as that one, and shares its family; so a chain copies nothing.
-ghost use Rattle.std.specs.Prelude.{◌≡◌, ◌↔◌, ◌⊎◌, ◌<◌, ◌≤◌, ◌∷◌, ◌++◌, [], ℕ, List, max, sum, map, length, Contains, Option, Some, None, IsTrue, IfOk, IfSome, IfNone, OnOk, false};
+ghost use Rattle.std.specs.Prelude.{◌≡◌, ◌↔◌, ◌<◌, ℕ, length, Contains, None, IsTrue, IfOk, IfSome, IfNone, OnOk, false};
 ghost use Rattle.std.specs.List.{flat_map};
-ghost use Rattle.std.specs.declared.vec.Vec.{Vec};
-ghost use Rattle.std.specs.declared.alloc.Global.{Global};
 ghost use Rattle.hg_changeset.specs.declared.node.Node.{Node};
 ghost use Rattle.hg_replica.specs.Content.{content_of};
 ghost use Rattle.hg_replica.specs.Evolution.{IsPredecessor};
 ghost use Rattle.hg_succ.specs.declared.search.Settled.{Settled};
 ghost use Rattle.hg_succ.specs.Rows.{At, rows_of, IsOrder};
-ghost use Rattle.hg_succ.specs.Successors.{IsRewrittenTo, IsOnCycle, HasSeveral};
+ghost use Rattle.hg_succ.specs.Successors.{IsRewrittenTo, IsOnCycle};
 ghost use Rattle.hg_succ.specs.Answer.{AreSets, sets_of};
 ghost use Rattle.hg_succ.specs.Numbered.{successors_at, AreRows, IsRow};
 ghost use Rattle.hg_succ.specs.Cover.Known.{are_sets};
 ghost use Rattle.hg_succ.specs.Cover.{IsTable, IsSolved, IsSeveral, HasEntry, PutsLast, Solves, AddsAnswer, answer, answer_at, entry, families, known_by, sets_at};
-ghost use Rattle.hg_succ.specs.Unions.{with_sets, choices, counts};
+ghost use Rattle.hg_succ.specs.Unions.{with_sets, choices};
 ghost use Rattle.hg_succ.specs.Factors.{factor_in, HasManyWays, FewWays, many_at, few_at, IsFew, IsOnlySuccessor, IsShared};
 
 use crate::numbered::{Numbered, number, successors_at};
