@@ -11,3 +11,4 @@ pub mod SetLemmas
 pub mod FactorLemmas
 pub mod SolveLemmas
 pub mod PathLemmas
+pub mod SingleLemmas

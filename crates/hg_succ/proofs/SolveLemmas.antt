@@ -358,13 +358,18 @@ free_not_several s n free (inr two) = two.4 (only_set two.0 two.2 ∙ sym (only_
         by (Some h) e = sym (Contains-one (n ∷ []) set (((family_from_cover s n ((n ∷ []) ∷ []) (solved_held s n free (h, e)).0).exact set).1 is))
         by None e = absurd (Contains-none set (((family_from_cover s n [] (solved_unheld s n free (λ held. none-some held.0 (sym e ∙ held.1))).0).exact set).1 is))
 
--- what a table knows of a node tells whether it has several sets
+-- what a table knows of a node that is done tells whether it has several sets
+pub entry_several : (s : Content) (t : Table) → IsTable s t → (n : Node) → HasEntry t n → IsSeveral (entry t n) ↔ HasSeveral s n
+entry_several s t so n has =
+    subst (λ (o : Option Solved). IsSeveral (option_map (known_by t.families.items) o) ↔ HasSeveral s n) (sym has.1) (known_several s n (known_by t.families.items has.0) (so.right n has.0 has.1).1)
+
+-- what a table of all predecessors knows of a node tells the same
 pub told_several : (s : Content) (t : Table) → IsTable s t → HasPredecessors s t → (n : Node) → IsSeveral (entry t n) ↔ HasSeveral s n
 told_several s t so has n = by (answer t n) refl
   where
     by : (o : Option Solved) → answer t n ≡ o → IsSeveral (option_map (known_by t.families.items) o) ↔ HasSeveral s n
     by None e = (λ h. absurd h, λ several. absurd (free_not_several s n (λ is. none-some (has n is).0 (sym e ∙ (has n is).1)) several))
-    by (Some solved) e = known_several s n (known_by t.families.items solved) (so.right n solved e).1
+    by (Some solved) e = subst (λ (o : Option Solved). IsSeveral (option_map (known_by t.families.items) o) ↔ HasSeveral s n) e (entry_several s t so n (solved, e))
 
 -- the sets that are told
 pub told_family : (s : Content) (n : Node) (family sets : List (List Node)) → IsSolved s n (are_sets family) → sets ≡ family → IsFamily s n sets × ¬ (IsOverfull s n)

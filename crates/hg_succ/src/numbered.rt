@@ -33,6 +33,17 @@ pub(crate) fn predecessors(alloc: Global, replica: &Replica) -> Result<IndexSet<
     Ok(nodes)
 }
 
+/// The nodes, each once.
+pub(crate) fn set_of(alloc: Global, nodes: &[Node]) -> Result<IndexSet<Node>, AllocError>
+    ensures { IfOk result (λ set. (n : Node) → Contains nodes.now n → Contains set.keys n) }
+{
+    let mut set = IndexSet::new(alloc);
+    for node in nodes {
+        set.insert(*node)?;
+    }
+    Ok(set)
+}
+
 /// Numbers the roots and all that they lead to.
 pub(crate) fn number(
     alloc: Global,
