@@ -18,7 +18,7 @@ loop-node-preserved c =
     let x = get_or nodes i first in
     let at : x ≡ get_or nodes i x = sym (get_or_default nodes i x first c.loop-node-test.true) in
     let told = entry_several f c.in_ok-table.table c.in_ok-table.ensures.table x
-        (c.in_ok-table.ensures.done x (c.in_ok-set_of.ensures x (Contains-get_or nodes i first c.loop-node-test.true))) in
+    (c.in_ok-table.ensures.done x (c.in_ok-set_of.ensures x (Contains-get_or nodes i first c.loop-node-test.true))) in
     elim c.if-has_several.branch [
       | then-has_several+in_ok-insert w ↦
           subst (AreAmong (take (i + 1) nodes) (HasSeveral f)) (sym (ap (λ v. v.keys) w.found-is ∙ w.in_ok-insert.ensures.keys))
