@@ -6,14 +6,28 @@
 
 mod chain;
 mod markers;
+mod messages;
 mod rewrites;
 mod states;
+mod successors;
 
 use markers::{Shape, add_markers, list_markers, read_markers, write_markers};
+use messages::{make_offer, read_offer, take_offer, write_offer};
 use rewrites::{amend_bottom, tell_instabilities};
 use states::{absorb_at_once, absorb_one_by_one, ask_below, join_into_empty, join_into_equal};
 use std::time::{CpuClock, Duration};
 use std::{env, io};
+use successors::{Chains, tell_divergent, tell_sets};
+
+const MANY: Chains = Chains {
+    length: 1000,
+    are_paired: false,
+};
+
+const PAIRS: Chains = Chains {
+    length: 1000,
+    are_paired: true,
+};
 
 fn main(rt: HostRuntime) -> io::Result<()> {
     let words: Vec<String> = env::args(&rt)?.collect(rt.alloc())?;
@@ -46,6 +60,35 @@ fn spent(rt: &(impl CpuClock + AllocGlobal), case: &str, size: usize) -> io::Res
         "list" => list_markers(rt, size),
         "amend-bottom" => amend_bottom(rt, size),
         "instabilities" => tell_instabilities(rt, size),
+        _ => spent_on_exchange(rt, case, size),
+    }
+}
+
+// What a case of this size took, where it is one of successors sets or messages.
+fn spent_on_exchange(
+    rt: &(impl CpuClock + AllocGlobal),
+    case: &str,
+    size: usize,
+) -> io::Result<Duration> {
+    match case {
+        "sets-of-chains" => tell_sets(rt, size, MANY),
+        "sets-of-pairs" => tell_sets(rt, size, PAIRS),
+        "sets-of-one-chain" => tell_sets(rt, size, one_chain(size)),
+        "divergence-of-chains" => tell_divergent(rt, size, MANY),
+        "divergence-of-pairs" => tell_divergent(rt, size, PAIRS),
+        "divergence-of-one-chain" => tell_divergent(rt, size, one_chain(size)),
+        "offer" => make_offer(rt, size),
+        "write-offer" => write_offer(rt, size),
+        "read-offer" => read_offer(rt, size),
+        "take-offer" => take_offer(rt, size),
         _ => Ok(Duration::ZERO),
+    }
+}
+
+// All markers in one chain.
+fn one_chain(size: usize) -> Chains {
+    Chains {
+        length: size,
+        are_paired: false,
     }
 }

@@ -106,7 +106,8 @@ fn markers(alloc: Global, size: usize, shape: Shape) -> Result<Vec<Marker>, Allo
     Ok(markers)
 }
 
-fn marker(alloc: Global, old: Node, new: Node) -> Option<Marker> {
+/// A marker of 200 bytes.
+pub fn marker(alloc: Global, old: Node, new: Node) -> Option<Marker> {
     let successors = Vec::from_slice(alloc, &[new]).ok()?;
     let metadata = metadata(alloc).ok()?;
     Marker::new(old, successors, 0, metadata).ok()
@@ -121,8 +122,8 @@ fn metadata(alloc: Global) -> Result<Metadata, AllocError> {
     Ok(metadata)
 }
 
-// The id whose first bytes are the number.
-fn node(number: usize) -> Node {
+/// The id whose first bytes are the number.
+pub fn node(number: usize) -> Node {
     let mut bytes = [0; 20];
     BigEndian::write_u64(&mut bytes[..8], number as u64);
     Node(bytes)

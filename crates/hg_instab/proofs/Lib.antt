@@ -2,5 +2,7 @@ pub mod AmongLemmas
 pub mod QueryLemmas
 pub mod LawLemmas
 pub mod WalkLemmas
+pub mod PrecedeLemmas
+pub mod ForkLemmas
 pub mod OrphanLemmas
 pub mod SetLemmas

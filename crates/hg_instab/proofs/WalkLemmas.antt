@@ -13,12 +13,10 @@ use Rattle.hg_graph.proofs.GraphLemmas.{Contains-from_place, place_from_Contains
 use Rattle.hg_changeset.proofs.ListLemmas.{Contains-cons_cases}
 use Rattle.hg_marker.specs.Fields.{Fields}
 use Rattle.hg_obsstore.specs.Markers.{ArePlaces}
-use Rattle.hg_replica.specs.State.{ReplicaState}
-use Rattle.hg_replica.specs.Content.{Content, content_of}
-use Rattle.hg_replica.specs.Evolution.{IsPredecessor, Precedes, IsCurrent}
-use Rattle.hg_replica.specs.Evolution.Precedes.{step, further}
-use Rattle.hg_replica.proofs.MarkerLemmas.{holds-from, in_from_holds}
-use Rattle.hg_instab.specs.Walk.{IsReached, IsNext, Adds}
+use Rattle.hg_instab.specs.declared.walk.Way.{Way}
+use Rattle.hg_instab.specs.declared.walk.Way.TheVariants.{ToSuccessors, ToPredecessors}
+use Rattle.hg_instab.specs.Walk.{IsReached, IsNext, IsBefore, IsStep, Leads, Adds}
+use Rattle.hg_instab.specs.Walk.Leads.{one, further}
 use Rattle.hg_instab.proofs.AmongLemmas.{none_in, pushed, taken}
 use Rattle.indexmap.specs.IndexSet.{insert_key}
 
@@ -106,6 +104,36 @@ next-all Kind ms places p n are = (
       (h.2, Contains-from_place ms h.0 h.2 h.3, ap (λ x. x.predecessor) (sym same) ∙ m.2, h.4, h.5),
 )
 
+-- ---- one step back
+
+-- a marker at one of the places has n as its predecessor
+abbrev pub IsBeforeAt : List Fields → List ℕ → Node → Type 0
+IsBeforeAt ms places n = (k : ℕ) × Contains places k × (m : Fields) × (slice_get ms k ≡ Some m) × (m.predecessor ≡ n)
+
+pub before-more : (ms : List Fields) (places : List ℕ) (i k : ℕ) (m : Fields) → i < length places → get_or places i k ≡ k → slice_get ms k ≡ Some m → (n : Node)
+    → IsBeforeAt ms (take (i + 1) places) n ↔ (IsBeforeAt ms (take i places) n ⊎ (m.predecessor ≡ n))
+before-more ms places i k m l is at n = (
+  λ h. elim ((taken places i k h.0 l is).0 h.1) [
+    | inl old ↦ inl (h.0, old, h.2, h.3, h.4)
+    | inr e ↦
+        let same : h.2 ≡ m = same_Some h.2 m (sym h.3 ∙ ap (slice_get ms) (sym e) ∙ at) in
+        inr (subst (λ x. x.predecessor ≡ n) same h.4)
+  ],
+  λ h. elim h [
+    | inl old ↦ (old.0, (taken places i k old.0 l is).1 (inl old.1), old.2, old.3, old.4)
+    | inr new ↦ (k, (taken places i k k l is).1 (inr refl), m, at, new)
+  ],
+)
+
+pub before-all : (ms : List Fields) (places : List ℕ) (p n : Node) → ArePlaces (λ m. Contains m.successors p) ms places → IsBefore ms p n ↔ IsBeforeAt ms places n
+before-all ms places p n are = (
+  λ h. let k = place_from_Contains ms h.0 h.1 in (k.0, (are.exact k.0).1 (h.0, k.1, h.2), h.0, k.1, h.3),
+  λ h.
+      let m = (are.exact h.0).0 h.1 in
+      let same : m.0 ≡ h.2 = same_Some m.0 h.2 (sym m.1 ∙ h.3) in
+      (h.2, Contains-from_place ms h.0 h.2 h.3, subst (λ x. Contains x.successors p) same m.2, h.4),
+)
+
 -- ---- the walk
 
 -- the ids that markers name
@@ -120,14 +148,22 @@ named (x ∷ ms) m n at h = elim (Contains-cons_cases x ms m at) [
   | inr more ↦ Contains-append_right (x.predecessor ∷ x.successors) (ids ms) n (named ms m n more h)
 ]
 
--- how far the walk has come: from the first i of those that were seen, all that a step leads to was seen
-pub record IsWalked (s : ReplicaState) (Kind : Fields → Type 0) (starts seen : List Node) (i : ℕ) : Type 0 where
-  pub sound : (n : Node) → Contains seen n → IsReached (content_of s) Kind starts n
-  pub begun : (n : Node) → Contains starts n → Contains seen n
-  pub closed : (p n : Node) → Contains (take i seen) p → IsNext Kind s.markers p n → Contains seen n
+-- a step leads to what a marker names
+step-named : (way : Way) (ms : List Fields) (p n : Node) → IsStep way ms p n → Contains (ids ms) n
+step-named (ToSuccessors followed) ms p n h = named ms h.0 n h.1 (Contains-append_right (h.0.predecessor ∷ []) h.0.successors n h.4)
+step-named ToPredecessors ms p n h = named ms h.0 n h.1 (Contains-append_left (h.0.predecessor ∷ []) h.0.successors n (subst (Contains (h.0.predecessor ∷ [])) h.3 (0, omega arith, refl)))
 
-module _ (s : ReplicaState) (Kind : Fields → Type 0) (starts : List Node) where
-  pub walk-start : IsWalked s Kind starts starts 0
+-- how far the walk has come: from the first i of those that were seen, all that a step leads to was seen
+pub record IsWalked (Step : Node → Node → Type 0) (starts seen : List Node) (i : ℕ) : Type 0 where
+  pub sound : (n : Node) → Contains seen n → IsReached Step starts n
+  pub begun : (n : Node) → Contains starts n → Contains seen n
+  pub closed : (p n : Node) → Contains (take i seen) p → Step p n → Contains seen n
+
+module _ (way : Way) (ms : List Fields) (starts : List Node) where
+  abbrev Step : Node → Node → Type 0
+  Step = IsStep way ms
+
+  pub walk-start : IsWalked (IsStep way ms) starts starts 0
   walk-start = record {
     sound = λ n h. inl h;
     begun = λ n h. h;
@@ -135,12 +171,11 @@ module _ (s : ReplicaState) (Kind : Fields → Type 0) (starts : List Node) wher
   }
 
   -- what a step leads to from what is reached is reached
-  reached-next : (p n : Node) → IsReached (content_of s) Kind starts p → IsNext Kind s.markers p n → IsReached (content_of s) Kind starts n
-  reached-next p n (inl first) next = inr (p, first, step (holds-from s.markers next.0 next.1) next.3 next.4 next.2)
-  reached-next p n (inr far) next =
-      inr (far.0, far.1, further (holds-from s.markers next.0 next.1) next.3 next.4 (subst (Precedes (content_of s) Kind far.0) (sym next.2) far.2))
+  reached-next : (p n : Node) → IsReached Step starts p → Step p n → IsReached Step starts n
+  reached-next p n (inl first) next = inr (p, first, one next)
+  reached-next p n (inr far) next = inr (far.0, far.1, further far.2 next)
 
-  pub walk-step : (seen new : List Node) (i : ℕ) (x : Node) → i < length seen → get_or seen i x ≡ x → IsWalked s Kind starts seen i → Adds (IsNext Kind s.markers x) seen new → IsWalked s Kind starts new (i + 1)
+  pub walk-step : (seen new : List Node) (i : ℕ) (x : Node) → i < length seen → get_or seen i x ≡ x → IsWalked (IsStep way ms) starts seen i → Adds (IsStep way ms x) seen new → IsWalked (IsStep way ms) starts new (i + 1)
   walk-step seen new i x l at w a = record {
     sound = λ n h. elim ((a.members n).0 h) [
       | inl old ↦ w.sound n old
@@ -151,48 +186,32 @@ module _ (s : ReplicaState) (Kind : Fields → Type 0) (starts : List Node) wher
         let before : Contains (take (i + 1) seen) p = subst (λ zs. Contains zs p) (front-kept seen new (i + 1) a.kept (omega (arith, l))) h in
         (a.members n).1 (elim ((taken seen i x p l at).0 before) [
           | inl old ↦ inl (w.closed p n old next)
-          | inr e ↦ inr (subst (λ y. IsNext Kind s.markers y n) (sym e) next)
+          | inr e ↦ inr (subst (λ y. Step y n) (sym e) next)
         ]);
   }
 
   -- all that was seen is a start, or named by a marker, so the walk ends
-  pub walk-within : (seen : List Node) (i : ℕ) → IsWalked s Kind starts seen i → IsDistinct node_eq seen → length seen ≤ length (starts ++ ids s.markers)
-  walk-within seen i w distinct = length-le_from_is_member node_eq_laws seen (starts ++ ids s.markers) distinct (λ q e. list_any-from_Contains node_eq_laws q (starts ++ ids s.markers) (reached-named q (w.sound q (Contains-from_any same_node q seen e))))
+  pub walk-within : (seen : List Node) (i : ℕ) → IsWalked (IsStep way ms) starts seen i → IsDistinct node_eq seen → length seen ≤ length (starts ++ ids ms)
+  walk-within seen i w distinct = length-le_from_is_member node_eq_laws seen (starts ++ ids ms) distinct (λ q e. list_any-from_Contains node_eq_laws q (starts ++ ids ms) (reached-named q (w.sound q (Contains-from_any same_node q seen e))))
     where
-      precedes-named : (p n : Node) → Precedes (content_of s) Kind p n → Contains (ids s.markers) n
-      precedes-named p n (step {m = m} held kind at is) = named s.markers m n (in_from_holds s.markers m held) (Contains-append_right (m.predecessor ∷ []) m.successors n at)
-      precedes-named p n (further {m = m} held kind at r) = named s.markers m n (in_from_holds s.markers m held) (Contains-append_right (m.predecessor ∷ []) m.successors n at)
+      leads-named : (p n : Node) → Leads Step p n → Contains (ids ms) n
+      leads-named p n (one next) = step-named way ms p n next
+      leads-named p n (further {q = q} far next) = step-named way ms q n next
 
-      reached-named : (n : Node) → IsReached (content_of s) Kind starts n → Contains (starts ++ ids s.markers) n
-      reached-named n (inl first) = Contains-append_left starts (ids s.markers) n first
-      reached-named n (inr far) = Contains-append_right starts (ids s.markers) n (precedes-named far.0 n far.2)
+      reached-named : (n : Node) → IsReached Step starts n → Contains (starts ++ ids ms) n
+      reached-named n (inl first) = Contains-append_left starts (ids ms) n first
+      reached-named n (inr far) = Contains-append_right starts (ids ms) n (leads-named far.0 n far.2)
 
-  module _ (seen : List Node) (i : ℕ) (w : IsWalked s Kind starts seen i) (ended : length seen ≤ i) where
-    closed-all : (p n : Node) → Contains seen p → IsNext Kind s.markers p n → Contains seen n
+  module _ (seen : List Node) (i : ℕ) (w : IsWalked (IsStep way ms) starts seen i) (ended : length seen ≤ i) where
+    closed-all : (p n : Node) → Contains seen p → Step p n → Contains seen n
     closed-all p n h next = w.closed p n (subst (λ zs. Contains zs p) (sym (take_all i seen ended)) h) next
 
-    complete : (p n : Node) → Contains starts p → Precedes (content_of s) Kind p n → Contains seen n
-    complete p n first (step {m = m} held kind at is) = closed-all p n (w.begun p first) (m, in_from_holds s.markers m held, is, kind, at)
-    complete p n first (further {m = m} held kind at r) = closed-all m.predecessor n (complete p m.predecessor first r) (m, in_from_holds s.markers m held, refl, kind, at)
+    complete : (p n : Node) → Contains starts p → Leads Step p n → Contains seen n
+    complete p n first (one next) = closed-all p n (w.begun p first) next
+    complete p n first (further {q = q} far next) = closed-all q n (complete p q first far) next
 
-    pub walk-end : (n : Node) → Contains seen n ↔ IsReached (content_of s) Kind starts n
+    pub walk-end : (n : Node) → Contains seen n ↔ IsReached (IsStep way ms) starts n
     walk-end n = (
       λ h. w.sound n h,
       λ h. elim h [ inl first ↦ w.begun n first | inr far ↦ complete far.0 n far.1 far.2 ],
     )
-
--- what precedes something is the predecessor of a marker
-precedes-predecessor : (f : Content) (Kind : Fields → Type 0) (p n : Node) → Precedes f Kind p n → IsPredecessor f p
-precedes-predecessor f Kind p n (step {m = m} held kind at is) = (m, held, is)
-precedes-predecessor f Kind p n (further {m = m} held kind at r) = precedes-predecessor f Kind p m.predecessor r
-
--- of what was reached from predecessors that are so the current ones are those that such a one precedes: no predecessor is current
-pub reached-current : (f : Content) (Kind : Fields → Type 0) (P : Node → Type 0) (starts : List Node) (n : Node) → ((p : Node) → Contains starts p ↔ (IsPredecessor f p × P p))
-    → (IsReached f Kind starts n × IsCurrent f n) ↔ (IsCurrent f n × ((p : Node) × P p × Precedes f Kind p n))
-reached-current f Kind P starts n are = (
-  λ h. elim h.0 [
-    | inl first ↦ absurd (h.1.1 (h.1.0, ((are n).0 first).0))
-    | inr far ↦ (h.1, (far.0, ((are far.0).0 far.1).1, far.2))
-  ],
-  λ h. (inr (h.1.0, (are h.1.0).1 (precedes-predecessor f Kind h.1.0 n h.1.2, h.1.1), h.1.2), h.0),
-)

@@ -2,7 +2,12 @@
 use Rattle.std.specs.Prelude.{◌↔◌, List, Contains}
 use Rattle.hg_changeset.specs.declared.node.Node.{Node}
 use Rattle.hg_replica.specs.Content.{Content}
-use Rattle.hg_replica.specs.Evolution.{IsObsolete, IsOrphan, IsSuspended, IsExtinct, IsPhaseDivergent}
+use Rattle.hg_replica.specs.Evolution.{IsObsolete, IsCurrent, IsOrphan, IsSuspended, IsExtinct, IsPhaseDivergent, Precedes}
+use Rattle.hg_succ.specs.Successors.{IsAny, HasSeveral}
+
+-- neither public nor obsolete, though what precedes it, over any markers, has several successors sets or is overfull
+abbrev pub IsContentDivergent : Content → Node → Type 0
+IsContentDivergent f n = IsCurrent f n × ((p : Node) × HasSeveral f p × Precedes f IsAny p n)
 
 -- the set of each kind, as it is kept
 pub record InstabilitySets : Type 0 where
@@ -11,6 +16,7 @@ pub record InstabilitySets : Type 0 where
   pub suspended : List Node
   pub extinct : List Node
   pub phase_divergent : List Node
+  pub content_divergent : List Node
 
 -- each set has exactly the changesets of its kind
 pub record AreInstabilities (f : Content) (sets : InstabilitySets) : Type 0 where
@@ -19,3 +25,4 @@ pub record AreInstabilities (f : Content) (sets : InstabilitySets) : Type 0 wher
   pub suspended : (n : Node) → Contains sets.suspended n ↔ IsSuspended f n
   pub extinct : (n : Node) → Contains sets.extinct n ↔ IsExtinct f n
   pub phase_divergent : (n : Node) → Contains sets.phase_divergent n ↔ IsPhaseDivergent f n
+  pub content_divergent : (n : Node) → Contains sets.content_divergent n ↔ IsContentDivergent f n

@@ -6,13 +6,18 @@ ghost use Rattle.hg_changeset.specs.declared.node.Node.{Node};
 ghost use Rattle.hg_phases.specs.declared.phase.Phase.TheVariants.{Public as public_phase};
 ghost use Rattle.hg_replica.specs.Content.{content_of};
 ghost use Rattle.hg_replica.specs.Evolution.{HasPhase, IsPredecessor, IsPhaseDivergent};
+ghost use Rattle.hg_succ.specs.Successors.{HasSeveral};
+ghost use Rattle.hg_instab.specs.Instabilities.{IsContentDivergent};
+ghost use Rattle.hg_instab.specs.Walk.{IsFork};
 
 use crate::among::current_among;
 use crate::query::has_phase;
-use crate::walk::{Followed, reached};
+use crate::walk::{Followed, Way, reached};
 use hg_changeset::Node;
+use hg_obsstore::Store;
 use hg_phases::Phase;
 use hg_replica::Replica;
+use hg_succ::several_among;
 use indexmap::IndexSet;
 use std::alloc::{AllocError, Global};
 
@@ -24,7 +29,11 @@ pub(crate) fn phase_divergent_nodes(
     ensures { IfOk result (λ found. (n : Node) → Contains found.items n ↔ IsPhaseDivergent (content_of replica.now) n) }
 {
     let starts = public_predecessors(alloc, replica)?;
-    let reached = reached(replica, Followed::NotBumpedFix, starts)?;
+    let reached = reached(
+        replica.store(),
+        Way::ToSuccessors(Followed::NotBumpedFix),
+        starts,
+    )?;
     current_among(alloc, replica, reached.as_slice())
 }
 
@@ -40,4 +49,40 @@ fn public_predecessors(alloc: Global, replica: &Replica) -> Result<IndexSet<Node
         }
     }
     Ok(seen)
+}
+
+// The content-divergent changesets.
+pub(crate) fn content_divergent_nodes(
+    alloc: Global,
+    replica: &Replica,
+) -> Result<Vec<Node>, AllocError>
+    ensures { IfOk result (λ found. (n : Node) → Contains found.items n ↔ IsContentDivergent (content_of replica.now) n) }
+{
+    let starts = divided_predecessors(alloc, replica)?;
+    let led_to = reached(replica.store(), Way::ToSuccessors(Followed::Every), starts)?;
+    current_among(alloc, replica, led_to.as_slice())
+}
+
+// The predecessors of markers that became different changesets with the markers that are followed. Nothing is asked of ids
+// that don't lead to one with two markers.
+fn divided_predecessors(alloc: Global, replica: &Replica) -> Result<IndexSet<Node>, AllocError>
+    ensures { IfOk result (λ divided. (n : Node) → Contains divided.keys n ↔ (IsPredecessor (content_of replica.now) n × HasSeveral (content_of replica.now) n)) }
+{
+    let forks = forks(alloc, replica.store())?;
+    let asked = reached(replica.store(), Way::ToPredecessors, forks)?;
+    several_among(alloc, replica, asked.as_slice())
+}
+
+// The ids with two markers or more.
+fn forks(alloc: Global, store: &Store) -> Result<IndexSet<Node>, AllocError>
+    ensures { IfOk result (λ forks. (n : Node) → Contains forks.keys n ↔ IsFork store.now n) }
+{
+    let mut forks = IndexSet::new(alloc);
+    for marker in store.markers() {
+        let node = marker.predecessor();
+        if store.with_predecessor(node).len() > 1 {
+            forks.insert(node)?;
+        }
+    }
+    Ok(forks)
 }

@@ -4,7 +4,7 @@ ghost use Rattle.hg_replica.specs.Content.{content_of};
 ghost use Rattle.hg_instab.specs.Instabilities.{AreInstabilities};
 
 use crate::among::{obsolete_nodes, outside, set_of};
-use crate::divergence::phase_divergent_nodes;
+use crate::divergence::{content_divergent_nodes, phase_divergent_nodes};
 use crate::orphans::{orphan_nodes, suspended_nodes};
 use hg_changeset::Node;
 use hg_replica::Replica;
@@ -12,13 +12,14 @@ use std::alloc::{AllocError, Global};
 use std::collections::BTreeSet;
 use std::marker::Model;
 
-/// The instabilities of a replica: for each kind the changesets that are so. Contracts see the five sets.
+/// The instabilities of a replica: for each kind the changesets that are so. Contracts see the six sets.
 pub struct Instabilities {
     obsolete: BTreeSet<Node>,
     orphan: BTreeSet<Node>,
     suspended: BTreeSet<Node>,
     extinct: BTreeSet<Node>,
     phase_divergent: BTreeSet<Node>,
+    content_divergent: BTreeSet<Node>,
 }
 
 // Whoever owns them calls this once, and is proved without a look at each set.
@@ -30,6 +31,7 @@ impl Drop for Instabilities {
             suspended: _,
             extinct: _,
             phase_divergent: _,
+            content_divergent: _,
         } = self;
     }
 }
@@ -45,12 +47,13 @@ impl Model for Instabilities {
       suspended = i.suspended.keys;
       extinct = i.extinct.keys;
       phase_divergent = i.phase_divergent.keys;
+      content_divergent = i.content_divergent.keys;
     } };
 }
 
 impl Instabilities {
-    /// The instabilities of what a replica holds now. It looks at each marker once, and then at
-    /// the descendants of obsolete changesets and the ancestors of orphans.
+    /// The instabilities of what a replica holds now. It looks at each marker a few times, and at the descendants of
+    /// obsolete changesets and the ancestors of orphans.
     pub fn from_scratch(alloc: Global, replica: &Replica) -> Result<Instabilities, AllocError>
         ensures { IfOk result (AreInstabilities (content_of replica.now)) }
     {
@@ -59,12 +62,14 @@ impl Instabilities {
         let suspended = set_of(alloc, suspended_nodes(alloc, replica, &orphan)?)?;
         let extinct = outside(alloc, &obsolete, &suspended)?;
         let phase_divergent = phase_divergent_nodes(alloc, replica)?;
+        let content_divergent = content_divergent_nodes(alloc, replica)?;
         Ok(Instabilities {
             obsolete: set_of(alloc, obsolete)?,
             orphan: set_of(alloc, orphan)?,
             suspended,
             extinct: set_of(alloc, extinct)?,
             phase_divergent: set_of(alloc, phase_divergent)?,
+            content_divergent: set_of(alloc, content_divergent)?,
         })
     }
 
@@ -78,6 +83,7 @@ impl Instabilities {
             suspended: self.suspended.clone()?,
             extinct: self.extinct.clone()?,
             phase_divergent: self.phase_divergent.clone()?,
+            content_divergent: self.content_divergent.clone()?,
         })
     }
 
@@ -115,5 +121,13 @@ impl Instabilities {
         ensures { result.now.keys ≡ self.now.phase_divergent }
     {
         &self.phase_divergent
+    }
+
+    /// Neither public nor obsolete, though steps over markers lead back to something that became different changesets with
+    /// the markers that are followed: Mercurial's `contentdivergent`.
+    pub fn content_divergent(&self) -> &BTreeSet<Node>
+        ensures { result.now.keys ≡ self.now.content_divergent }
+    {
+        &self.content_divergent
     }
 }

@@ -1,17 +1,15 @@
-//! Steps over markers, from some ids to what they were rewritten to.
+//! Steps over markers, from some ids to what they were rewritten to, or back to what was rewritten to them.
 //!
 //! The ids that steps lead to need not be held. They are numbered in a set that is its own queue: each is looked at once,
 //! and so is each marker.
 ghost use Rattle.std.specs.Prelude.{◌≡◌, ◌↔◌, Contains, IfOk, OnOk, IsTrue};
 ghost use Rattle.hg_changeset.specs.declared.node.Node.{Node};
-ghost use Rattle.hg_replica.specs.Content.{content_of};
 ghost use Rattle.hg_replica.specs.Evolution.{IsBumpedFix};
-ghost use Rattle.hg_instab.specs.Walk.{IsFollowed, IsReached, IsNext, Adds};
+ghost use Rattle.hg_instab.specs.Walk.{IsFollowed, IsReached, IsNext, IsBefore, IsStep, Adds};
 
 use hg_changeset::Node;
 use hg_marker::Marker;
 use hg_obsstore::Store;
-use hg_replica::Replica;
 use indexmap::IndexSet;
 use std::alloc::AllocError;
 
@@ -19,32 +17,69 @@ use std::alloc::AllocError;
 // bumpedfix.
 const BUMPED_FIX: u8 = 1;
 
-// The markers that a walk follows.
+// The markers that a walk to successors follows.
 #[derive(Clone, Copy)]
 pub(crate) enum Followed {
     Every,
     NotBumpedFix,
 }
 
+// Which way a walk takes.
+#[derive(Clone, Copy)]
+pub(crate) enum Way {
+    ToSuccessors(Followed),
+    ToPredecessors,
+}
+
 // The starts, and all that steps lead to from them.
 pub(crate) fn reached(
-    replica: &Replica,
-    followed: Followed,
+    store: &Store,
+    way: Way,
     starts: IndexSet<Node>,
 ) -> Result<IndexSet<Node>, AllocError>
-    ensures { IfOk result (λ seen. (n : Node) → Contains seen.keys n ↔ IsReached (content_of replica.now) (IsFollowed followed) starts.keys n) }
+    ensures { IfOk result (λ seen. (n : Node) → Contains seen.keys n ↔ IsReached (IsStep way store.now) starts.keys n) }
 {
     let mut seen = starts;
     let mut next = 0;
     while next < seen.len() {
         let node = seen.as_slice()[next];
-        add_successors(replica.store(), followed, node, &mut seen)?;
+        add_next(store, way, node, &mut seen)?;
         next += 1;
     }
     Ok(seen)
 }
 
 // Adds what one step from the node leads to.
+fn add_next(
+    store: &Store,
+    way: Way,
+    node: Node,
+    seen: &mut IndexSet<Node>,
+) -> Result<(), AllocError>
+    ensures { OnOk result (Adds (IsStep way store.now node) seen.old.keys seen.new.keys) }
+{
+    match way {
+        Way::ToSuccessors(followed) => add_successors(store, followed, node, seen),
+        Way::ToPredecessors => add_predecessors(store, node, seen),
+    }
+}
+
+// Adds the predecessors of the markers that have the node as a successor.
+fn add_predecessors(store: &Store, node: Node, seen: &mut IndexSet<Node>) -> Result<(), AllocError>
+    ensures { OnOk result (Adds (IsBefore store.now node) seen.old.keys seen.new.keys) }
+{
+    for place in store.with_successor(node) {
+        match store.get(*place) {
+            Some(marker) => {
+                seen.insert(marker.predecessor())?;
+            }
+            None => {}
+        }
+    }
+    Ok(())
+}
+
+// Adds the successors of those markers of the node that are followed.
 fn add_successors(
     store: &Store,
     followed: Followed,

@@ -1,5 +1,5 @@
 //! Small histories, and the instabilities that each has.
-use crate::scene::{ELSEWHERE, Kinds, commit, expect_kinds, lower, rewrite};
+use crate::scene::{ELSEWHERE, Kinds, NOWHERE, commit, expect_kinds, lower, rewrite};
 use hg_changeset::Node;
 use hg_instab::{Instabilities, has_phase, is_obsolete};
 use hg_phases::Phase;
@@ -28,6 +28,7 @@ fn a_child_of_what_was_amended_is_an_orphan_until_it_is_pruned(rt: HostRuntime) 
         suspended: &[b],
         extinct: &[],
         phase_divergent: &[],
+        content_divergent: &[],
     };
     expect_kinds(&rt, alloc, &replica, &one_orphan);
     rewrite(alloc, &mut replica, c, &[], 0).expect(&rt, "memory");
@@ -37,6 +38,7 @@ fn a_child_of_what_was_amended_is_an_orphan_until_it_is_pruned(rt: HostRuntime) 
         suspended: &[],
         extinct: &[b, c],
         phase_divergent: &[],
+        content_divergent: &[],
     };
     expect_kinds(&rt, alloc, &replica, &none_left);
     assert!(rt; is_obsolete(&replica, c) && !is_obsolete(&replica, a));
@@ -84,6 +86,7 @@ fn steps_lead_over_what_is_not_held_and_only_from_public_changesets(rt: HostRunt
         suspended: &[],
         extinct: &[old],
         phase_divergent: &[],
+        content_divergent: &[],
     };
     expect_kinds(&rt, alloc, &replica, &secret);
     lower(alloc, &mut replica, old, Phase::Draft).expect(&rt, "memory");
@@ -95,6 +98,7 @@ fn steps_lead_over_what_is_not_held_and_only_from_public_changesets(rt: HostRunt
         suspended: &[],
         extinct: &[],
         phase_divergent: &[new],
+        content_divergent: &[],
     };
     expect_kinds(&rt, alloc, &replica, &public);
 }
@@ -115,6 +119,7 @@ fn expect_extinct(rt: &impl Abort, alloc: Global, replica: &Replica, nodes: &[No
         suspended: &[],
         extinct: nodes,
         phase_divergent: &[],
+        content_divergent: &[],
     };
     expect_kinds(rt, alloc, replica, &kinds);
 }
@@ -136,10 +141,83 @@ fn what_was_rewritten_to_itself_is_extinct(rt: HostRuntime) {
     expect_extinct(&rt, alloc, &replica, &[x]);
 }
 
+// A draft root.
+fn root(alloc: Global, replica: &mut Replica, text: &[u8]) -> Option<Node> {
+    commit(alloc, replica, Node::NULL, text, Phase::Draft)
+}
+
+fn expect_divergent(
+    rt: &impl Abort,
+    alloc: Global,
+    replica: &Replica,
+    gone: &[Node],
+    left: &[Node],
+) {
+    let kinds = Kinds {
+        obsolete: gone,
+        orphan: &[],
+        suspended: &[],
+        extinct: gone,
+        phase_divergent: &[],
+        content_divergent: left,
+    };
+    expect_kinds(rt, alloc, replica, &kinds);
+}
+
+// A draft root that was rewritten to two others.
+fn rewritten_twice(alloc: Global, replica: &mut Replica) -> Option<(Node, Node, Node)> {
+    let old = root(alloc, replica, b"old")?;
+    let x = root(alloc, replica, b"x")?;
+    let y = root(alloc, replica, b"y")?;
+    rewrite(alloc, replica, old, &[x], 0)?;
+    rewrite(alloc, replica, old, &[y], 0)?;
+    Some((old, x, y))
+}
+
+#[test]
+fn two_rewritings_of_one_changeset_diverge_until_one_is_given_up(rt: HostRuntime) {
+    let alloc = rt.alloc();
+    let mut replica = Replica::new(alloc);
+    let (old, x, y) = rewritten_twice(alloc, &mut replica).expect(&rt, "memory");
+    expect_divergent(&rt, alloc, &replica, &[old], &[x, y]);
+    rewrite(alloc, &mut replica, x, &[], 0).expect(&rt, "memory");
+    expect_divergent(&rt, alloc, &replica, &[old, x], &[]);
+}
+
+#[test]
+fn what_a_divergent_changeset_was_rewritten_to_diverges_in_its_place(rt: HostRuntime) {
+    let alloc = rt.alloc();
+    let mut replica = Replica::new(alloc);
+    let (old, x, y) = rewritten_twice(alloc, &mut replica).expect(&rt, "memory");
+    let z = root(alloc, &mut replica, b"z").expect(&rt, "memory");
+    rewrite(alloc, &mut replica, y, &[z], 1).expect(&rt, "memory");
+    expect_divergent(&rt, alloc, &replica, &[old, y], &[x, z]);
+}
+
+// Two ids that aren't held: the one was split into the other and a draft root, and the other was rewritten to two more.
+fn split_and_rewritten_twice(alloc: Global, replica: &mut Replica) -> Option<[Node; 3]> {
+    let rest = root(alloc, replica, b"rest")?;
+    let x = root(alloc, replica, b"x")?;
+    let y = root(alloc, replica, b"y")?;
+    rewrite(alloc, replica, ELSEWHERE, &[NOWHERE, rest], 0)?;
+    rewrite(alloc, replica, NOWHERE, &[x], 0)?;
+    rewrite(alloc, replica, NOWHERE, &[y], 0)?;
+    Some([rest, x, y])
+}
+
+#[test]
+fn what_a_split_gave_diverges_with_what_the_other_half_became(rt: HostRuntime) {
+    let alloc = rt.alloc();
+    let mut replica = Replica::new(alloc);
+    let left = split_and_rewritten_twice(alloc, &mut replica).expect(&rt, "memory");
+    expect_divergent(&rt, alloc, &replica, &[], &left);
+}
+
 // Whether the instabilities are told where growth was refused before, at most once.
 fn told_again(alloc: Global, replica: &mut Replica) -> Option<bool> {
-    let (_, b, _, amended) = chain(alloc, replica)?;
+    let (_, b, c, amended) = chain(alloc, replica)?;
     rewrite(alloc, replica, b, &[amended], 0)?;
+    rewrite(alloc, replica, b, &[c], 0)?;
     if Instabilities::from_scratch(alloc, replica).is_ok() {
         return Some(true);
     }

@@ -71,6 +71,36 @@ fn is_phase_divergent(history: &History, one: usize) -> bool {
     old < history.public && new == one && is_current(history, one)
 }
 
+// Whether one or more steps lead from the one to the other: each marker is taken once at most.
+fn leads(history: &History, one: usize, other: usize) -> bool {
+    for number in 0..2usize {
+        let (old, new) = history.markers[number];
+        if old == one && (new == other || history.markers[1 - number] == (new, other)) {
+            return true;
+        }
+    }
+    false
+}
+
+// Whether the other, alone, is what the one became: no marker goes on from it.
+fn becomes(history: &History, one: usize, other: usize) -> bool {
+    leads(history, one, other) && !is_rewritten(history, other) && !leads(history, one, one)
+}
+
+// Markers have one successor at most, so successors sets have one member, and are several where two changesets are.
+fn is_content_divergent(history: &History, one: usize) -> bool {
+    for predecessor in 0..4 {
+        for other in 0..4 {
+            let are_two = becomes(history, predecessor, one)
+                && becomes(history, predecessor, other);
+            if are_two && one != other {
+                return is_current(history, one);
+            }
+        }
+    }
+    false
+}
+
 fn is_in_view(history: &History, one: usize) -> bool {
     for descendant in 0..4 {
         if !is_obsolete(history, descendant) && is_under(history, one, descendant) {
@@ -137,7 +167,8 @@ fn kinds_agree(
             && told.orphan().contains(node) == is_orphan(history, one)
             && told.suspended().contains(node) == is_suspended(history, one);
         let agree_too = told.extinct().contains(node) == is_extinct(history, one)
-            && told.phase_divergent().contains(node) == is_phase_divergent(history, one);
+            && told.phase_divergent().contains(node) == is_phase_divergent(history, one)
+            && told.content_divergent().contains(node) == is_content_divergent(history, one);
         if !agree || !agree_too {
             return Some(false);
         }

@@ -8,8 +8,10 @@ use std::alloc::Global;
 use std::collections::BTreeSet;
 use std::process::Abort;
 
-/// An id under which nothing is held.
+/// Ids under which nothing is held.
 pub const ELSEWHERE: Node = Node([0x11; 20]);
+
+pub const NOWHERE: Node = Node([0x22; 20]);
 
 /// What an expectation says of each kind of instability.
 #[derive(Clone, Copy)]
@@ -19,6 +21,7 @@ pub struct Kinds<'a> {
     pub suspended: &'a [Node],
     pub extinct: &'a [Node],
     pub phase_divergent: &'a [Node],
+    pub content_divergent: &'a [Node],
 }
 
 fn empty(alloc: Global) -> Part {
@@ -108,4 +111,5 @@ fn expect_sets(rt: &impl Abort, told: &Instabilities, kinds: &Kinds) {
     assert!(rt; has_exactly(told.suspended(), kinds.suspended));
     assert!(rt; has_exactly(told.extinct(), kinds.extinct));
     assert!(rt; has_exactly(told.phase_divergent(), kinds.phase_divergent));
+    assert!(rt; has_exactly(told.content_divergent(), kinds.content_divergent));
 }

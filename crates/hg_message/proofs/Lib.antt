@@ -7,3 +7,8 @@ pub mod LayoutLemmas
 pub mod MessageLemmas
 pub mod WritingLemmas
 pub mod SpellingLemmas
+pub mod ThoseLemmas
+pub mod OfferLemmas
+pub mod OfferLawLemmas
+pub mod AdmittedLemmas
+pub mod ExistLemmas

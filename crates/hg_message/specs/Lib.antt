@@ -10,3 +10,6 @@ pub mod Message
 pub mod Layout
 pub mod Spelling
 pub mod Part
+pub mod Those
+pub mod Offer
+pub mod OfferRefusals

@@ -28,11 +28,15 @@ pub(crate) const VERSION: u8 = 1;
 /// looked at yet.
 #[derive(Clone, Copy)]
 pub(crate) struct Layout<'a> {
+    // How many bytes the message has.
     total: usize,
+    // How many records, and the bytes from the first on.
     count: u32,
     records: &'a [u8],
+    // How many bounds, and the bytes from the first on.
     entries: u32,
     bounds: &'a [u8],
+    // The place of the store, its bytes, and those behind it.
     start: usize,
     store: &'a [u8],
     rest: &'a [u8],

@@ -12,8 +12,11 @@ mod error;
 mod laws;
 mod layout;
 mod message;
+mod offer_laws;
+mod offers;
 mod place;
 mod record;
+mod refusal;
 mod writing;
 
 pub use error::{MessageError, MessageFault};
@@ -24,3 +27,9 @@ pub use hg_phases::Phase;
 pub use hg_replica::Part;
 pub use laws::spelling_laws;
 pub use message::Message;
+pub use offer_laws::{
+    an_offer_is_one, offers_are_admitted, offers_are_covered, offers_hold_what_is_served,
+    states_of_one_content_offer_the_same,
+};
+pub use offers::offer;
+pub use refusal::OfferRefusal;

@@ -2,6 +2,8 @@
 #![tactic(auto)]
 
 #[cfg(test)]
+mod offers;
+#[cfg(test)]
 mod reading;
 #[cfg(test)]
 mod rows;

@@ -1,6 +1,6 @@
 //! Bytes that are read, and the first fault of those that aren't.
 use crate::rows::{CHILD, NOTHING, ROOT, all_kinds, one_changeset};
-use hg_message::{MarkerFault, Message, MessageFault, Node, ReadError, StoreFault};
+use hg_message::{MarkerFault, Message, MessageError, MessageFault, Node, ReadError, StoreFault};
 use std::alloc::Global;
 use std::process::Abort;
 use std::test::Fail;
@@ -194,5 +194,8 @@ fn numbers_and_texts(rt: HostRuntime) -> Result<(), Fail> {
         assert_eq!(rt; fault.number(), number);
         assert_eq!(rt; format!(in alloc; "{fault}")?.as_str(), text);
     }
+    let large = MessageError::TooLarge;
+    assert_eq!(rt; large.number(), 1);
+    assert_eq!(rt; format!(in alloc; "{large}")?.as_str(), "TooLarge");
     Ok(())
 }

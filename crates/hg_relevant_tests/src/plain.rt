@@ -20,7 +20,11 @@ struct Plain {
 // the next one, or split into the other two.
 fn numbered(number: usize) -> Plain {
     let predecessor = number % 4;
-    let beside = [(predecessor + 1) % 4, (predecessor + 2) % 4, (predecessor + 3) % 4];
+    let beside = [
+        (predecessor + 1) % 4,
+        (predecessor + 2) % 4,
+        (predecessor + 3) % 4,
+    ];
     let (successors, parent) = match number / 4 % 5 {
         0 => ([NONE, NONE], NONE),
         1 => ([NONE, NONE], beside[0]),

@@ -6,7 +6,7 @@ use Rattle.hg_phases.specs.declared.phase.Phase.{Phase}
 use Rattle.hg_phases.specs.declared.phase.Phase.TheVariants.{Public, Draft, Secret}
 use Rattle.hg_script.specs.Words.{is_name}
 use Rattle.hg_script.specs.declared.command.Command.{Command}
-use Rattle.hg_script.specs.declared.command.Command.TheVariants.{Node, Operation as operation, Report, Agree}
+use Rattle.hg_script.specs.declared.command.Command.TheVariants.{Node, Operation as operation, Offer, Take, Pull, Report, Agree}
 use Rattle.hg_script.specs.declared.operation.Operation.{Operation}
 use Rattle.hg_script.specs.declared.operation.Operation.TheVariants.{Commit, Amend, Split, Fold, Prune, Relocate, Advance}
 use Rattle.hg_script.specs.declared.operation.Parents.{Parents}
@@ -52,6 +52,9 @@ operation_words at (Advance label phase) = codes "phase" ∷ at ∷ label.now �
 abbrev pub words_of_command : Command → List Text
 words_of_command (Node at) = codes "node" ∷ at.now ∷ []
 words_of_command (operation at op) = operation_words at.now op
+words_of_command (Offer at message labels) = codes "offer" ∷ at.now ∷ message.now ∷ texts labels.now
+words_of_command (Take at message) = codes "take" ∷ at.now ∷ message.now ∷ []
+words_of_command (Pull to from) = codes "pull" ∷ to.now ∷ from.now ∷ []
 words_of_command (Report at) = codes "report" ∷ at.now ∷ []
 words_of_command (Agree one other) = codes "agree" ∷ one.now ∷ other.now ∷ []
 
@@ -91,6 +94,15 @@ relocate_form = names_alone (codes "relocate") 3 (Some 5)
 
 abbrev pub advance_form : Form
 advance_form = record { word = codes "phase"; least = 3; most = Some 3; phase_at = Some 2; phases = codes "public" ∷ codes "draft" ∷ codes "secret" ∷ [] }
+
+abbrev pub offer_form : Form
+offer_form = names_alone (codes "offer") 2 None
+
+abbrev pub take_form : Form
+take_form = names_alone (codes "take") 2 (Some 2)
+
+abbrev pub pull_form : Form
+pull_form = names_alone (codes "pull") 2 (Some 2)
 
 abbrev pub report_form : Form
 report_form = names_alone (codes "report") 1 (Some 1)
@@ -138,26 +150,39 @@ FormAnswer form words (Err BadName) = Fits form words × ¬ (AreNames form words
 FormAnswer form words (Err BadPhase) = Fits form words × AreNames form words × ¬ (HasPhase form words)
 FormAnswer form words (Err _) = ⊥
 
--- no command begins with this word
-abbrev pub IsNoCommand : Text → Type 0
-IsNoCommand word =
-    (word ≢ codes "node") × (word ≢ codes "commit") × (word ≢ codes "amend") × (word ≢ codes "split") × (word ≢ codes "fold")
-    × (word ≢ codes "prune") × (word ≢ codes "relocate") × (word ≢ codes "phase") × (word ≢ codes "report") × (word ≢ codes "agree")
+-- no operation begins with this word
+abbrev pub IsNoOperation : Text → Type 0
+IsNoOperation word =
+    (word ≢ codes "commit") × (word ≢ codes "amend") × (word ≢ codes "split") × (word ≢ codes "fold")
+    × (word ≢ codes "prune") × (word ≢ codes "relocate") × (word ≢ codes "phase")
 
--- what is answered to a line with this first word and these after it, by the command that the first word names
-abbrev pub LineAnswer : Text → List Word → Result Command LineFault → Type 0
-LineAnswer word words result =
-    (word ≡ codes "node" → FormAnswer node_form words result)
-    × (word ≡ codes "commit" → FormAnswer commit_form words result)
+-- what is answered to a line with this first word, by the operation that it names, if there is one
+abbrev pub OperationAnswer : Text → List Word → Result Command LineFault → Type 0
+OperationAnswer word words result =
+    (word ≡ codes "commit" → FormAnswer commit_form words result)
     × (word ≡ codes "amend" → FormAnswer amend_form words result)
     × (word ≡ codes "split" → FormAnswer split_form words result)
     × (word ≡ codes "fold" → FormAnswer fold_form words result)
     × (word ≡ codes "prune" → FormAnswer prune_form words result)
     × (word ≡ codes "relocate" → FormAnswer relocate_form words result)
     × (word ≡ codes "phase" → FormAnswer advance_form words result)
+    × (IsNoOperation word → result ≡ Err UnknownCommand)
+
+-- no command but an operation begins with this word
+abbrev pub IsOther : Text → Type 0
+IsOther word =
+    (word ≢ codes "node") × (word ≢ codes "offer") × (word ≢ codes "take") × (word ≢ codes "pull") × (word ≢ codes "report") × (word ≢ codes "agree")
+
+-- what is answered to a line with this first word and these after it, by the command that the first word names
+abbrev pub LineAnswer : Text → List Word → Result Command LineFault → Type 0
+LineAnswer word words result =
+    (word ≡ codes "node" → FormAnswer node_form words result)
+    × (word ≡ codes "offer" → FormAnswer offer_form words result)
+    × (word ≡ codes "take" → FormAnswer take_form words result)
+    × (word ≡ codes "pull" → FormAnswer pull_form words result)
     × (word ≡ codes "report" → FormAnswer report_form words result)
     × (word ≡ codes "agree" → FormAnswer agree_form words result)
-    × (IsNoCommand word → result ≡ Err UnknownCommand)
+    × (IsOther word → OperationAnswer word words result)
 
 -- a line without words says nothing; any other says the command whose words they are, or is at fault
 abbrev pub CommandAnswer : List Word → Result (Option Command) LineFault → Type 0

@@ -8,6 +8,13 @@ pub enum Command<'a> {
     Node(&'a [u8]),
     /// An operation at the replica of this name.
     Operation(&'a [u8], Operation<'a>),
+    /// What a replica offers above the changesets of these labels, kept as the message of this name: replica, message,
+    /// labels.
+    Offer(&'a [u8], &'a [u8], &'a [&'a [u8]]),
+    /// A replica takes in a message: replica, message.
+    Take(&'a [u8], &'a [u8]),
+    /// The first replica takes in what the second offers.
+    Pull(&'a [u8], &'a [u8]),
     /// The report of the replica of this name.
     Report(&'a [u8]),
     /// Whether two replicas agree.

@@ -143,7 +143,8 @@ impl Names<'_> {
         })
     }
 
-    fn nodes(&self, labels: &[&[u8]]) -> Result<Vec<Node>, RunFault> {
+    /// The ids that labels name.
+    pub fn nodes(&self, labels: &[&[u8]]) -> Result<Vec<Node>, RunFault> {
         let mut nodes = Vec::new(self.alloc);
         for label in labels {
             nodes.push(self.node(*label)?)?;

@@ -5,7 +5,7 @@
 ghost use Rattle.std.specs.Prelude.{◌≡◌, ◌↔◌, ◌∷◌, ◌++◌, [], List, ℕ, Contains, Some, length, ◌<◌, IsTrue, OnOk, IfErr, IfOk, MatchResult, codes};
 ghost use Rattle.std.specs.List.{list_all};
 ghost use Rattle.hg_script.specs.Words.{is_name, is_name_byte};
-ghost use Rattle.hg_script.specs.Commands.{AllNames, AreNamesBut, CommandAnswer, LineAnswer, FormAnswer, phase_word, asked_word, parent_words, texts, node_form, commit_form, amend_form, split_form, fold_form, prune_form, relocate_form, advance_form, report_form, agree_form};
+ghost use Rattle.hg_script.specs.Commands.{AllNames, AreNamesBut, CommandAnswer, LineAnswer, OperationAnswer, FormAnswer, phase_word, asked_word, parent_words, texts, node_form, commit_form, amend_form, split_form, fold_form, prune_form, relocate_form, advance_form, offer_form, take_form, pull_form, report_form, agree_form};
 ghost use Rattle.hg_script.specs.declared.fault.LineFault.TheVariants.{BadName, BadPhase, WordCount};
 
 use crate::command::Command;
@@ -34,6 +34,28 @@ fn read_line<'a>(word: &[u8], words: &'a [&'a [u8]]) -> Result<Command<'a>, Line
     if word == b"node".as_slice() {
         return read_node(words);
     }
+    if word == b"offer".as_slice() {
+        return read_offer(words);
+    }
+    if word == b"take".as_slice() {
+        return read_take(words);
+    }
+    if word == b"pull".as_slice() {
+        return read_pull(words);
+    }
+    if word == b"report".as_slice() {
+        return read_report(words);
+    }
+    if word == b"agree".as_slice() {
+        return read_agree(words);
+    }
+    read_operation(word, words)
+}
+
+// The operation of this name, of the words after it.
+fn read_operation<'a>(word: &[u8], words: &'a [&'a [u8]]) -> Result<Command<'a>, LineFault>
+    ensures { OperationAnswer word.now words.now result }
+{
     if word == b"commit".as_slice() {
         return read_commit(words);
     }
@@ -54,12 +76,6 @@ fn read_line<'a>(word: &[u8], words: &'a [&'a [u8]]) -> Result<Command<'a>, Line
     }
     if word == b"phase".as_slice() {
         return read_advance(words);
-    }
-    if word == b"report".as_slice() {
-        return read_report(words);
-    }
-    if word == b"agree".as_slice() {
-        return read_agree(words);
     }
     Err(LineFault::UnknownCommand)
 }
@@ -171,6 +187,42 @@ fn read_advance<'a>(words: &'a [&'a [u8]]) -> Result<Command<'a>, LineFault>
                 phase,
             };
             Ok(Command::Operation(*at, advance))
+        }
+        _ => Err(LineFault::WordCount),
+    }
+}
+
+fn read_offer<'a>(words: &'a [&'a [u8]]) -> Result<Command<'a>, LineFault>
+    ensures { FormAnswer offer_form words.now result }
+{
+    match words {
+        [at, message, labels @ ..] => {
+            check_names(words)?;
+            Ok(Command::Offer(*at, *message, labels))
+        }
+        _ => Err(LineFault::WordCount),
+    }
+}
+
+fn read_take<'a>(words: &'a [&'a [u8]]) -> Result<Command<'a>, LineFault>
+    ensures { FormAnswer take_form words.now result }
+{
+    match words {
+        [at, message] => {
+            check_names(words)?;
+            Ok(Command::Take(*at, *message))
+        }
+        _ => Err(LineFault::WordCount),
+    }
+}
+
+fn read_pull<'a>(words: &'a [&'a [u8]]) -> Result<Command<'a>, LineFault>
+    ensures { FormAnswer pull_form words.now result }
+{
+    match words {
+        [to, from] => {
+            check_names(words)?;
+            Ok(Command::Pull(*to, *from))
         }
         _ => Err(LineFault::WordCount),
     }

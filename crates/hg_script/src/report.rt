@@ -46,6 +46,11 @@ impl Standing {
             sets.phase_divergent().contains(node),
             b" phase-divergent",
         )?;
+        push_where(
+            line,
+            sets.content_divergent().contains(node),
+            b" content-divergent",
+        )?;
         push_where(line, !self.visible.contains(node), b" hidden")
     }
 }

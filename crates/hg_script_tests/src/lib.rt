@@ -2,6 +2,8 @@
 #![tactic(auto)]
 
 #[cfg(test)]
+mod exchange;
+#[cfg(test)]
 mod streams;
 #[cfg(test)]
 mod tests;

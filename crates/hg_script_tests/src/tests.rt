@@ -4,8 +4,8 @@ use hg_script::{RunFault, run_counted};
 use std::alloc::Global;
 use std::process::Abort;
 
-// Runs the script, and compares what it prints and how it ends.
-fn expect(rt: &impl Abort, alloc: Global, script: &[u8], output: &[u8], ending: &str) {
+/// Runs the script, and compares what it prints and how it ends.
+pub fn expect(rt: &impl Abort, alloc: Global, script: &[u8], output: &[u8], ending: &str) {
     let mut writer = Vec::new(alloc);
     let done = run_counted(alloc, script, &mut writer);
     assert_eq!(rt; writer.as_slice(), output);

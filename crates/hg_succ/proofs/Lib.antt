@@ -1,6 +1,7 @@
 pub mod ListLemmas
 pub mod SortedLemmas
 pub mod MarkerLists
+pub mod LookupLemmas
 pub mod TableLemmas
 pub mod SearchLemmas
 pub mod SettleLemmas
@@ -10,3 +11,4 @@ pub mod SetLemmas
 pub mod FactorLemmas
 pub mod SolveLemmas
 pub mod PathLemmas
+pub mod SingleLemmas

@@ -7,7 +7,9 @@ use Rattle.std.proofs.lemmas.List.Elements.{Contains-append_left, Contains-push,
 use Rattle.std.proofs.lemmas.Option.{slice_get_within, none-some}
 use Rattle.hg_changeset.specs.declared.node.Node.{Node}
 use Rattle.hg_changeset.specs.Node.{node_eq}
+use Rattle.hg_changeset.proofs.NodeLemmas.{same_node}
 use Rattle.indexmap.specs.IndexSet.{insert_key}
+use Rattle.indexmap.proofs.CallerLemmas.{Contains-insert_key}
 use Rattle.hg_marker.specs.Fields.{Fields}
 use Rattle.hg_obsstore.specs.Markers.{ArePlaces}
 use Rattle.hg_replica.specs.State.{ReplicaState}
@@ -81,6 +83,14 @@ insert_keeps keys k n h = by (list_any (node_eq k) keys)
     by : (b : Bool) → Contains (if b then keys else keys ++ k ∷ []) n
     by true = h
     by false = Contains-append_left keys (k ∷ []) n h
+
+-- and adds one at most
+insert_cases : (keys : List Node) (k n : Node) → Contains (insert_key node_eq keys k) n → Contains keys n ⊎ (k ≡ n)
+insert_cases keys k n h = by (list_any (node_eq k) keys) h
+  where
+    by : (b : Bool) → Contains (if b then keys else keys ++ k ∷ []) n → Contains keys n ⊎ (k ≡ n)
+    by true h = inl h
+    by false h = Contains-push_cases keys k n h
 
 -- one more of a list
 pub more_of : {X : Type 0} (xs : List X) (i : ℕ) (x : X) → i < length xs → x ≡ get_or xs i x → (y : X) → Contains (take (i + 1) xs) y ↔ (Contains (take i xs) y ⊎ (x ≡ y))
@@ -159,3 +169,26 @@ once nodes d i j x at_i at_j = sym (same_place nodes x i j d at_i at_j)
 
 pub no_rows : (f : Content) (nodes : List Node) (rows : List (Vec ℕ Global)) → rows ≡ [] → AreRows f nodes (rows_of rows)
 no_rows f nodes rows e i x row node_at row_at = absurd (none-some row (subst (λ (rs : List (Vec ℕ Global)). slice_get (rows_of rs) i ≡ Some row) e row_at))
+
+-- those of some nodes of which something holds
+abbrev pub AreAmong : List Node → (Node → Type 0) → List Node → Type 0
+AreAmong nodes P found = (n : Node) → Contains found n ↔ (Contains nodes n × P n)
+
+module _ (nodes : List Node) (P : Node → Type 0) (found : List Node) (i : ℕ) (x : Node) (within : i < length nodes) (is : x ≡ get_or nodes i x) (those : AreAmong (take i nodes) P found) where
+  pub among_found : P x → AreAmong (take (i + 1) nodes) P (insert_key node_eq found x)
+  among_found p n = (
+    λ h. elim (insert_cases found x n h) [
+      | inl old ↦ let y = (those n).0 old in ((more_of nodes i x within is n).1 (inl y.0), y.1)
+      | inr e ↦ ((more_of nodes i x within is n).1 (inr e), subst P e p)
+    ],
+    λ h. elim ((more_of nodes i x within is n).0 h.0) [
+      | inl old ↦ insert_keeps found x n ((those n).1 (old, h.1))
+      | inr e ↦ subst (Contains (insert_key node_eq found x)) e (Contains-insert_key node_eq same_node found x)
+    ],
+  )
+
+  pub among_other : ¬ (P x) → AreAmong (take (i + 1) nodes) P found
+  among_other not n = (
+    λ h. let y = (those n).0 h in ((more_of nodes i x within is n).1 (inl y.0), y.1),
+    λ h. elim ((more_of nodes i x within is n).0 h.0) [ inl old ↦ (those n).1 (old, h.1) | inr e ↦ absurd (not (subst P (sym e) h.1)) ],
+  )

@@ -1,8 +1,9 @@
 -- The sets of a node from those of its successors.
-use Rattle.std.proofs.Common.{◌≡◌, ℕ, ◌<◌, ◌≤◌, List, [], ◌∷◌, ◌++◌, length, map, sum, Contains, ◌⊎◌, ◌↔◌, inl, inr, refl, sym, ap, subst, ◌∙◌, arith, Option, Some, None}
+use Rattle.std.proofs.Common.{max, zero-add, ◌*◌, ◌≡◌, ℕ, ◌<◌, ◌≤◌, List, [], ◌∷◌, ◌++◌, length, map, sum, Contains, ◌⊎◌, ◌↔◌, inl, inr, refl, sym, ap, subst, ◌∙◌, arith, Option, Some, None}
 use Rattle.std.specs.List.{AllZip, flat_map}
 use Rattle.std.specs.List.Sorted.{IsStrictlySortedBy}
 use Rattle.std.specs.Cmp.Lexicographic.{lists_total}
+use Rattle.std.proofs.Math.Nat.{mul-one}
 use Rattle.std.proofs.lemmas.List.{append-nil}
 use Rattle.std.proofs.lemmas.List.Kept.{AllPairs-from_increasing}
 use Rattle.std.proofs.lemmas.Option.{none-some, same_Some}
@@ -27,14 +28,15 @@ use Rattle.hg_succ.specs.Successors.{IsRewrittenTo, IsOnCycle, IsPick, IsPickOfE
 use Rattle.hg_succ.specs.Successors.IsPick.{on_cycle, itself, unknown, rewritten}
 use Rattle.hg_succ.specs.Successors.IsPickOfEach.{no_places, next_place}
 use Rattle.hg_succ.specs.Successors.IsOverfull.{passed_on, too_many}
-use Rattle.hg_succ.specs.Numbered.{successors_at}
-use Rattle.hg_succ.specs.Cover.{Known, IsCover, IsSolved, IsTable, IsSeveral, HasEntry, HasPredecessors, known_by, answer, entry, families, family_in, NoneOverfull, SomeOverfull}
+use Rattle.hg_succ.specs.Numbered.{successors_at, IsRow}
+use Rattle.hg_succ.specs.Cover.{Known, IsCover, IsSolved, IsTable, IsSeveral, HasEntry, HasPredecessors, known_by, answer, answer_at, entry, families, family_in, NoneOverfull, SomeOverfull}
 use Rattle.hg_succ.specs.Cover.Known.{are_sets, overfull}
 use Rattle.hg_succ.specs.Unions.{choices, counts, AreLargest, IsChoice}
-use Rattle.hg_succ.specs.Factors.{many_at, few_at, ways_at, IsOnlySuccessor}
+use Rattle.hg_succ.specs.Factors.{many_at, few_at, ways_at, IsFew, IsOnlySuccessor}
 use Rattle.hg_succ.proofs.NumberLemmas.{successors_there, rewritten_places}
 use Rattle.hg_succ.proofs.SortedLemmas.{same_members}
 use Rattle.hg_succ.proofs.MarkerLists.{there, place_of_one, one_at_place, different_there, sum_among}
+use Rattle.hg_succ.proofs.LookupLemmas.{look_at}
 use Rattle.hg_succ.proofs.TableLemmas.{entry_solved, entry_known, known_several}
 use Rattle.hg_succ.proofs.SetLemmas.{flat_contains, contains_flat, choices_have}
 use Rattle.hg_succ.proofs.FamilyLemmas.{family_from_cover, pick_on_cycle, not_overfull, pick_free_held, pick_free_unknown, AreUnions, cover_from_unions}
@@ -258,12 +260,37 @@ module _ (s : ReplicaState) (t : Table) (so : IsTable (content_of s) t) (n : Nod
       covers = λ p pick. c.covers p (pick_down p pick);
     }
 
+    few_only : (family : List (List Node)) → entry t x ≡ Some (are_sets family) → length family ≤ 4096 → few_at t s.markers places
+    few_only family is le =
+        let counted : ways_at t s.markers places ≡ (max (length family) 1 * 1) ∷ [] =
+        ap (ways_at t s.markers) only.1
+        ∙ ap (λ (ns : List Node). ways (counts t ns) ∷ []) only.2
+        ∙ ap (λ (o : Option Known). (max (length (family_in o)) 1 * 1) ∷ []) is in
+        let one : sum ((max (length family) 1 * 1) ∷ []) ≡ max (length family) 1 = zero-add (max (length family) 1 * 1) ∙ mul-one (max (length family) 1) in (
+          λ p h y g over.
+              let here : only.0 ≡ p = Contains-one only.0 p (subst (λ (ps : List ℕ). Contains ps p) only.1 h) in
+              let same : x ≡ y = Contains-one x y (subst (λ (ns : List Node). Contains ns y) (ap (successors_at s.markers) (sym here) ∙ only.2) g) in
+              let bad : are_sets family ≡ overfull = same_Some (are_sets family) overfull (sym is ∙ ap (entry t) same ∙ over) in
+              cc,
+          (let e = ap sum counted in omega (arith, e, one, le)),
+        )
+
     -- what is known of the successor is so of the node
-    pub solved_shared : few_at t s.markers places → (k : Known) → IsSolved (content_of s) x k → IsSolved (content_of s) n k
-    solved_shared few (are_sets family) so' = (shared_cover family so'.0, not_over few.0 few.1)
-    solved_shared few overfull so' =
+    pub solved_shared : (k : Known) → entry t x ≡ Some k → IsFew k → IsSolved (content_of s) n k
+    solved_shared (are_sets family) is le =
+        let few = few_only family is le in
+        (shared_cover family (entry_solved (content_of s) t so x (are_sets family) is).0, not_over few.0 few.1)
+    solved_shared overfull is le =
         let m = only_marker in
-        passed_on off (m.0, m.1, m.2, subst (λ (ns : List Node). Contains ns x) (sym (one_successor m.0 m.1 m.2)) (Contains-first x [])) so'
+        passed_on off (m.0, m.1, m.2, subst (λ (ns : List Node). Contains ns x) (sym (one_successor m.0 m.1 m.2)) (Contains-first x [])) (entry_solved (content_of s) t so x overfull is)
+
+    -- the number in the row is that of the successor
+    pub shared_answer : (row : List ℕ) (number : ℕ) (solved : Solved) → IsRow (content_of s) t.nodes.keys n row → Contains row number → answer_at t.answers.items number ≡ Some solved → answer t x ≡ Some solved
+    shared_answer row number solved is at told =
+        let y = is.listed number at in
+        let m = y.1 in
+        let same : x ≡ y.0 = Contains-one x y.0 (subst (λ (ns : List Node). Contains ns y.0) (one_successor m.0 m.1 m.2) m.3) in
+        look_at t.nodes.keys t.answers.items number x so.once (subst (At t.nodes.keys number) (sym same) y.2) ∙ told
 
 -- a node on a cycle has none
 pub solved_cycle : (s : Content) (n : Node) → IsOnCycle s n → IsCover s n [] × (¬ (IsOverfull s n))
@@ -331,13 +358,18 @@ free_not_several s n free (inr two) = two.4 (only_set two.0 two.2 ∙ sym (only_
         by (Some h) e = sym (Contains-one (n ∷ []) set (((family_from_cover s n ((n ∷ []) ∷ []) (solved_held s n free (h, e)).0).exact set).1 is))
         by None e = absurd (Contains-none set (((family_from_cover s n [] (solved_unheld s n free (λ held. none-some held.0 (sym e ∙ held.1))).0).exact set).1 is))
 
--- what a table knows of a node tells whether it has several sets
+-- what a table knows of a node that is done tells whether it has several sets
+pub entry_several : (s : Content) (t : Table) → IsTable s t → (n : Node) → HasEntry t n → IsSeveral (entry t n) ↔ HasSeveral s n
+entry_several s t so n has =
+    subst (λ (o : Option Solved). IsSeveral (option_map (known_by t.families.items) o) ↔ HasSeveral s n) (sym has.1) (known_several s n (known_by t.families.items has.0) (so.right n has.0 has.1).1)
+
+-- what a table of all predecessors knows of a node tells the same
 pub told_several : (s : Content) (t : Table) → IsTable s t → HasPredecessors s t → (n : Node) → IsSeveral (entry t n) ↔ HasSeveral s n
 told_several s t so has n = by (answer t n) refl
   where
     by : (o : Option Solved) → answer t n ≡ o → IsSeveral (option_map (known_by t.families.items) o) ↔ HasSeveral s n
     by None e = (λ h. absurd h, λ several. absurd (free_not_several s n (λ is. none-some (has n is).0 (sym e ∙ (has n is).1)) several))
-    by (Some solved) e = known_several s n (known_by t.families.items solved) (so n solved e).1
+    by (Some solved) e = subst (λ (o : Option Solved). IsSeveral (option_map (known_by t.families.items) o) ↔ HasSeveral s n) e (entry_several s t so n (solved, e))
 
 -- the sets that are told
 pub told_family : (s : Content) (n : Node) (family sets : List (List Node)) → IsSolved s n (are_sets family) → sets ≡ family → IsFamily s n sets × ¬ (IsOverfull s n)

@@ -1,5 +1,5 @@
 -- What a table knows, and what it goes on to know.
-use Rattle.std.proofs.Common.{◌≡◌, ◌≢◌, ℕ, ◌<◌, List, [], ◌∷◌, ◌++◌, length, slice_get, Contains, Option, Some, None, ◌↔◌, inl, inr, refl, sym, ap, subst, ◌∙◌, arith, Vec, Global, length-append}
+use Rattle.std.proofs.Common.{◌≡◌, ◌≢◌, ℕ, ◌<◌, List, [], ◌∷◌, ◌++◌, length, slice_get, Contains, Option, Some, None, ◌↔◌, ◌⊎◌, set, length-set, inl, inr, refl, sym, ap, subst, ◌∙◌, arith, Vec, Global, length-append}
 use Rattle.std.specs.Option.{option_map, option_map_or}
 use Rattle.std.specs.List.Sorted.{IsStrictlySortedBy}
 use Rattle.std.specs.Cmp.Lexicographic.{slice_cmp, lists_total}
@@ -15,8 +15,12 @@ use Rattle.hg_succ.specs.declared.families.Solved.TheVariants.{Family, Overfull}
 use Rattle.hg_succ.specs.declared.families.Table.{Table}
 use Rattle.hg_succ.specs.Successors.{IsFamily, IsOverfull, HasSeveral}
 use Rattle.hg_succ.specs.Answer.{sets_of}
-use Rattle.hg_succ.specs.Cover.{Known, IsSolved, IsRight, IsPlaced, IsTable, IsSeveral, HasEntry, Keeps, PutsLast, Solves, known_by, sets_at, answer, entry}
+use Rattle.hg_succ.specs.Cover.{Known, IsSolved, IsRight, IsPlaced, IsTable, IsSeveral, HasEntry, Keeps, PutsLast, Solves, AddsAnswer, known_by, sets_at, answer, entry}
 use Rattle.hg_succ.specs.Cover.Known.{are_sets, overfull}
+use Rattle.hg_succ.specs.Rows.{At}
+use Rattle.hg_succ.specs.Numbered.{AreOnce}
+use Rattle.hg_succ.proofs.ListLemmas.{get_one}
+use Rattle.hg_succ.proofs.LookupLemmas.{look, look_after, look_written}
 use Rattle.hg_succ.proofs.SortedLemmas.{below_rest, not_below_itself}
 use Rattle.hg_succ.proofs.FamilyLemmas.{family_from_cover}
 
@@ -28,7 +32,7 @@ known_solved f n families None k right is = absurd (none-some k is)
 known_solved f n families (Some e) k right is = subst (IsSolved f n) (same_Some (known_by families e) k is) (right e refl).1
 
 pub entry_solved : (f : Content) (t : Table) → IsTable f t → (n : Node) (k : Known) → entry t n ≡ Some k → IsSolved f n k
-entry_solved f t so n k is = known_solved f n t.families.items (answer t n) k (so n) is
+entry_solved f t so n k is = known_solved f n t.families.items (answer t n) k (so.right n) is
 
 pub entry_known : (t : Table) (n : Node) → HasEntry t n → (k : Known) × (entry t n ≡ Some k)
 entry_known t n h = (known_by t.families.items h.0, ap (option_map (known_by t.families.items)) h.1)
@@ -52,7 +56,7 @@ right-append f n families more e right = (placed-append families more e right.0,
 
 -- a table whose answers stay, and whose families are put last, stays right
 pub kept_right : (f : Content) (old new : Table) → Keeps old new → IsTable f old → (n : Node) (e : Solved) → answer old n ≡ Some e → IsRight f n new.families.items e
-kept_right f old new keeps so n e is = subst (λ (fs : Families). IsRight f n fs e) (sym keeps.families.1) (right-append f n old.families.items keeps.families.0 e (so n e is))
+kept_right f old new keeps so n e is = subst (λ (fs : Families). IsRight f n fs e) (sym keeps.families.1) (right-append f n old.families.items keeps.families.0 e (so.right n e is))
 
 -- a family that is put last is found there
 pub right_last : (f : Content) (n : Node) (old new : Families) (family : Vec (Vec Node Global) Global) → new ≡ old ++ family ∷ [] → IsSolved f n (are_sets (sets_of family.items)) → IsRight f n new (Family (length old))
@@ -65,13 +69,65 @@ right_last f n old new family is solved =
 
 -- an answer that needs no new family
 pub solves_same : (f : Content) (n : Node) (t : Table) (e : Solved) → IsRight f n t.families.items e → Solves f n t t e
-solves_same f n t e right = record { right = right; keeps = record { answers = refl; families = ([], sym (append-nil t.families.items)) } }
+solves_same f n t e right = record { right = right; keeps = record { nodes = refl; answers = refl; families = ([], sym (append-nil t.families.items)) } }
 
 pub solves_last : (f : Content) (n : Node) (old new : Table) (family : Vec (Vec Node Global) Global) (e : Solved) → IsSolved f n (are_sets (sets_of family.items)) → PutsLast family old new e → Solves f n old new e
 solves_last f n old new family e solved put = record {
   right = subst (IsRight f n new.families.items) (sym put.place) (right_last f n old.families.items new.families.items family put.families solved);
-  keeps = record { answers = put.answers; families = (family ∷ [], put.families) };
+  keeps = record { nodes = put.nodes; answers = put.answers; families = (family ∷ [], put.families) };
 }
+
+-- what was answered stays answered, where nodes and answers do
+answer_same : (old new : Table) → new.nodes.keys ≡ old.nodes.keys → new.answers.items ≡ old.answers.items → (n : Node) → answer new n ≡ answer old n
+answer_same old new nodes answers n = λ i. look (nodes i) (answers i) n
+
+-- ---- one node more
+
+module _ (f : Content) (old mid new : Table) (number : ℕ) (node : Node) (solved : Solved) (so : IsTable f old) (at : At old.nodes.keys number node) (solves : Solves f node old mid solved) (nodes : new.nodes.keys ≡ mid.nodes.keys)
+    (answers : new.answers.items ≡ set mid.answers.items number (Some solved)) (families : new.families.items ≡ mid.families.items) where
+  now : new.nodes.keys ≡ old.nodes.keys
+  now = nodes ∙ solves.keeps.nodes
+
+  all_answers : new.answers.items ≡ set old.answers.items number (Some solved)
+  all_answers = answers ∙ ap (λ (os : List (Option Solved)). set os number (Some solved)) solves.keeps.answers
+
+  answer_now : (n : Node) → answer new n ≡ look old.nodes.keys (set old.answers.items number (Some solved)) n
+  answer_now n = λ i. look (now i) (all_answers i) n
+
+  -- each answer is the new one, or an old one
+  either : (n : Node) → (node ≡ n) ⊎ (answer new n ≡ answer old n)
+  either n = elim (look_after old.nodes.keys so.once old.answers.items so.long number node at (Some solved) n) [ inl same ↦ inl same | inr other ↦ inr (answer_now n ∙ other) ]
+
+  here : answer new node ≡ Some solved
+  here = answer_now node ∙ look_written old.nodes.keys so.once old.answers.items so.long number node at (Some solved)
+
+  now_right : (n : Node) (e : Solved) → answer new n ≡ Some e → IsRight f n new.families.items e
+  now_right n e is = subst (λ (fs : Families). IsRight f n fs e) (sym families) (elim (either n) [
+    | inl same ↦
+        let told : solved ≡ e = same_Some solved e (sym here ∙ ap (answer new) same ∙ is) in
+        subst (λ m. IsRight f m mid.families.items e) same (subst (IsRight f node mid.families.items) told solves.right)
+    | inr other ↦ kept_right f old mid solves.keeps so n e (sym other ∙ is)
+  ])
+
+  now_kept : (n : Node) → HasEntry old n → HasEntry new n
+  now_kept n h = elim (either n) [
+    | inl same ↦ (solved, ap (answer new) (sym same) ∙ here)
+    | inr other ↦ (h.0, other ∙ h.1)
+  ]
+
+  pub adds_answer : AddsAnswer f number old new
+  adds_answer = record {
+    table = record {
+      once = subst AreOnce (sym now) so.once;
+      long = ap length all_answers ∙ length-set {A = Option Solved} old.answers.items number (Some solved) ∙ so.long ∙ ap length (sym now);
+      right = now_right;
+    };
+    nodes = now;
+    done = λ n n_at.
+        let same : node ≡ n = get_one old.nodes.keys number node n at (subst (λ (ns : List Node). At ns number n) now n_at) in
+        (solved, ap (answer new) (sym same) ∙ here);
+    kept = now_kept;
+  }
 
 -- ---- several sets
 

@@ -1,11 +1,11 @@
 -- What is known of a node whose sets are found.
 use Rattle.std.specs.Prelude.{◌≡◌, ◌≢◌, ◌⊎◌, ◌<◌, ◌++◌, ◌∷◌, ℕ, List, [], Contains, length, slice_get, Option, Some, None}
-use Rattle.std.specs.Option.{option_map, option_map_or}
+use Rattle.std.specs.Option.{option_map, option_map_or, option_and_then}
+use Rattle.std.specs.List.{position}
 use Rattle.std.specs.List.Sorted.{IsStrictlySortedBy}
 use Rattle.std.specs.Cmp.Lexicographic.{slice_cmp}
 use Rattle.std.specs.declared.vec.Vec.{Vec}
 use Rattle.std.specs.declared.alloc.Global.{Global}
-use Rattle.indexmap.specs.IndexMap.{get}
 use Rattle.hg_changeset.specs.declared.node.Node.{Node}
 use Rattle.hg_changeset.specs.Node.{node_cmp, node_eq}
 use Rattle.hg_replica.specs.Content.{Content}
@@ -15,6 +15,8 @@ use Rattle.hg_succ.specs.declared.families.Solved.TheVariants.{Family, Overfull}
 use Rattle.hg_succ.specs.declared.families.Table.{Table}
 use Rattle.hg_succ.specs.Successors.{IsPick, AreWithin, IsOverfull}
 use Rattle.hg_succ.specs.Answer.{sets_of}
+use Rattle.hg_succ.specs.Rows.{At}
+use Rattle.hg_succ.specs.Numbered.{AreOnce}
 
 -- The sets are picks, not empty, ascending, none within another, and each pick is within one of them or empty.
 pub record IsCover (f : Content) (n : Node) (family : List (List Node)) : Type 0 where
@@ -53,9 +55,13 @@ IsPlaced families Overfull = Unit {0}
 abbrev pub IsRight : Content → Node → List (Vec (Vec Node Global) Global) → Solved → Type 0
 IsRight f n families solved = IsPlaced families solved × IsSolved f n (known_by families solved)
 
--- what a table answers for a node
+-- the answer at a place, where there is one
+abbrev pub answer_at : List (Option Solved) → ℕ → Option Solved
+answer_at answers place = option_and_then (λ solved. solved) (slice_get answers place)
+
+-- what a table answers for a node: what stands at the place that the node has among its nodes
 abbrev pub answer : Table → Node → Option Solved
-answer table n = get node_eq table.answers n
+answer table n = option_and_then (answer_at table.answers.items) (position (node_eq n) table.nodes.keys)
 
 -- what a table knows of a node
 abbrev pub entry : Table → Node → Option Known
@@ -64,9 +70,11 @@ entry table n = option_map (known_by table.families.items) (answer table n)
 abbrev pub HasEntry : Table → Node → Type 0
 HasEntry table n = (solved : Solved) × (answer table n ≡ Some solved)
 
--- the table's answers are right
-abbrev pub IsTable : Content → Table → Type 0
-IsTable f table = (n : Node) (solved : Solved) → answer table n ≡ Some solved → IsRight f n table.families.items solved
+-- no node stands twice, each has a place for its answer, and the answers are right
+pub record IsTable (f : Content) (table : Table) : Type 0 where
+  pub once : AreOnce table.nodes.keys
+  pub long : length table.answers.items ≡ length table.nodes.keys
+  pub right : (n : Node) (solved : Solved) → answer table n ≡ Some solved → IsRight f n table.families.items solved
 
 -- each predecessor of a marker has its answer
 abbrev pub HasPredecessors : Content → Table → Type 0
@@ -99,14 +107,23 @@ IsSeveral None = ⊥
 pub record PutsLast (family : Vec (Vec Node Global) Global) (old new : Table) (solved : Solved) : Type 0 where
   pub place : solved ≡ Family (length old.families.items)
   pub families : new.families.items ≡ old.families.items ++ family ∷ []
-  pub answers : new.answers ≡ old.answers
+  pub answers : new.answers.items ≡ old.answers.items
+  pub nodes : new.nodes.keys ≡ old.nodes.keys
 
--- the answers are as they were, and families are put last
+-- the nodes and answers are as they were, and families are put last
 pub record Keeps (old new : Table) : Type 0 where
-  pub answers : new.answers ≡ old.answers
+  pub nodes : new.nodes.keys ≡ old.nodes.keys
+  pub answers : new.answers.items ≡ old.answers.items
   pub families : (more : List (Vec (Vec Node Global) Global)) × (new.families.items ≡ old.families.items ++ more)
 
 -- the answer is right for n, by the families that the table has now
 pub record Solves (f : Content) (n : Node) (old new : Table) (solved : Solved) : Type 0 where
   pub right : IsRight f n new.families.items solved
   pub keeps : Keeps old new
+
+-- the node with this number is done, and the others as far as they were
+pub record AddsAnswer (f : Content) (number : ℕ) (old new : Table) : Type 0 where
+  pub table : IsTable f new
+  pub nodes : new.nodes.keys ≡ old.nodes.keys
+  pub done : (n : Node) → At new.nodes.keys number n → HasEntry new n
+  pub kept : (n : Node) → HasEntry old n → HasEntry new n

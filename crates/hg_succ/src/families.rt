@@ -2,22 +2,20 @@
 //!
 //! Families stand in a list, and each node that is done has the place of its own. A node with one marker with one successor
 //! has the same picks as that one, and shares its family; so a chain copies nothing.
-ghost use Rattle.std.specs.Prelude.{◌≡◌, ◌↔◌, ◌⊎◌, ◌<◌, ◌≤◌, ◌∷◌, ◌++◌, [], ℕ, List, max, sum, map, length, Contains, Option, Some, None, IsTrue, IfOk, IfSome, IfNone, OnOk, false};
+ghost use Rattle.std.specs.Prelude.{◌≡◌, ◌↔◌, ◌<◌, ℕ, length, Contains, None, IsTrue, IfOk, IfSome, IfNone, OnOk, false};
 ghost use Rattle.std.specs.List.{flat_map};
-ghost use Rattle.std.specs.declared.vec.Vec.{Vec};
-ghost use Rattle.std.specs.declared.alloc.Global.{Global};
 ghost use Rattle.hg_changeset.specs.declared.node.Node.{Node};
 ghost use Rattle.hg_replica.specs.Content.{content_of};
 ghost use Rattle.hg_replica.specs.Evolution.{IsPredecessor};
 ghost use Rattle.hg_succ.specs.declared.search.Settled.{Settled};
 ghost use Rattle.hg_succ.specs.Rows.{At, rows_of, IsOrder};
-ghost use Rattle.hg_succ.specs.Successors.{IsRewrittenTo, IsOnCycle, HasSeveral};
+ghost use Rattle.hg_succ.specs.Successors.{IsRewrittenTo, IsOnCycle};
 ghost use Rattle.hg_succ.specs.Answer.{AreSets, sets_of};
-ghost use Rattle.hg_succ.specs.Numbered.{successors_at, AreOnce, AreRows};
+ghost use Rattle.hg_succ.specs.Numbered.{successors_at, AreRows, IsRow};
 ghost use Rattle.hg_succ.specs.Cover.Known.{are_sets};
-ghost use Rattle.hg_succ.specs.Cover.{IsTable, IsSolved, IsSeveral, HasEntry, PutsLast, Solves, answer, entry, families, sets_at};
-ghost use Rattle.hg_succ.specs.Unions.{with_sets, choices, counts};
-ghost use Rattle.hg_succ.specs.Factors.{factor_in, HasManyWays, FewWays, many_at, few_at, IsOnlySuccessor};
+ghost use Rattle.hg_succ.specs.Cover.{IsTable, IsSolved, IsSeveral, HasEntry, PutsLast, Solves, AddsAnswer, answer, answer_at, entry, families, known_by, sets_at};
+ghost use Rattle.hg_succ.specs.Unions.{with_sets, choices};
+ghost use Rattle.hg_succ.specs.Factors.{factor_in, HasManyWays, FewWays, many_at, few_at, IsFew, IsOnlySuccessor, IsShared};
 
 use crate::numbered::{Numbered, number, successors_at};
 use crate::search::{Settled, order};
@@ -26,7 +24,7 @@ use crate::unions::{copy_of, largest, products};
 use hg_changeset::Node;
 use hg_marker::Marker;
 use hg_replica::Replica;
-use indexmap::{IndexMap, IndexSet};
+use indexmap::IndexSet;
 use std::alloc::{AllocError, Global};
 
 /// What is known of a node that is done.
@@ -40,7 +38,9 @@ pub(crate) enum Solved {
 /// The successors sets of the nodes that are done.
 pub(crate) struct Table {
     alloc: Global,
-    answers: IndexMap<Node, Solved>,
+    nodes: IndexSet<Node>,
+    /// For each of the nodes, by its number, what is known of it, once it is done.
+    answers: Vec<Option<Solved>>,
     families: Vec<Vec<Vec<Node>>>,
 }
 
@@ -49,6 +49,7 @@ impl Drop for Table {
     fn drop(self) {
         let Table {
             alloc: _,
+            nodes: _,
             answers: _,
             families: _,
         } = self;
@@ -64,23 +65,27 @@ pub(crate) fn table_of(
     ensures table { IfOk result (IsTable (content_of replica.now)) }
     ensures done { IfOk result (λ table. (n : Node) → Contains roots.keys n → HasEntry table n) }
 {
-    let numbered = number(alloc, replica, roots)?;
-    let order = order(alloc, &numbered.rows)?;
-    let mut table = Table::new(alloc);
-    table.add_all(replica, &numbered, &order)?;
+    let Numbered { nodes, rows } = number(alloc, replica, roots)?;
+    let order = order(alloc, &rows)?;
+    let mut table = Table::new(alloc, nodes)?;
+    table.add_all(replica, &rows, &order)?;
     Ok(table)
 }
 
 impl Table {
-    // No node is done.
-    fn new(alloc: Global) -> Table
-        ensures { (n : Node) → answer result n ≡ None }
+    // None of the nodes is done.
+    fn new(alloc: Global, nodes: IndexSet<Node>) -> Result<Table, AllocError>
+        ensures nodes { IfOk result (λ table. table.nodes.keys ≡ nodes.keys) }
+        ensures long { IfOk result (λ table. length table.answers.items ≡ length table.nodes.keys) }
+        ensures none { IfOk result (λ table. (n : Node) → answer table n ≡ None) }
     {
-        Table {
+        let answers = vec![in alloc; None; nodes.len()]?;
+        Ok(Table {
             alloc,
-            answers: IndexMap::new(alloc),
+            nodes,
+            answers,
             families: Vec::new(alloc),
-        }
+        })
     }
 
     /// The sets of a node. It is done, unless no marker rewrote it.
@@ -89,9 +94,9 @@ impl Table {
         requires done { IsPredecessor (content_of replica.now) node → HasEntry self.now node }
         ensures { IfOk result (AreSets (content_of replica.now) node) }
     {
-        match self.answers.get(&node) {
+        match self.answer(node) {
             Some(Solved::Family(place)) => {
-                let family = copy_of(self.alloc, self.family_at(*place))?;
+                let family = copy_of(self.alloc, self.family_at(place))?;
                 Ok(Sets::Family(family))
             }
             Some(Solved::Overfull) => Ok(Sets::Overfull),
@@ -106,8 +111,8 @@ impl Table {
     pub(crate) fn has_several(&self, node: Node) -> bool
         ensures { IsTrue result ↔ IsSeveral (entry self.now node) }
     {
-        match self.answers.get(&node) {
-            Some(Solved::Family(place)) => self.family_at(*place).len() > 1,
+        match self.answer(node) {
+            Some(Solved::Family(place)) => self.family_at(place).len() > 1,
             Some(Solved::Overfull) => true,
             None => false,
         }
@@ -117,41 +122,54 @@ impl Table {
     fn add_all(
         &mut self,
         replica: &Replica,
-        numbered: &Numbered,
+        rows: &[Vec<usize>],
         order: &[Settled],
     ) -> Result<(), AllocError>
         requires table { IsTable (content_of replica.now) self.old }
-        requires once { AreOnce numbered.now.nodes.keys }
-        requires all { length numbered.now.rows.items ≡ length numbered.now.nodes.keys }
-        requires rows { AreRows (content_of replica.now) numbered.now.nodes.keys (rows_of numbered.now.rows.items) }
-        requires order { IsOrder (rows_of numbered.now.rows.items) order.now }
+        requires all { length rows.now ≡ length self.old.nodes.keys }
+        requires rows { AreRows (content_of replica.now) self.old.nodes.keys (rows_of rows.now) }
+        requires order { IsOrder (rows_of rows.now) order.now }
         ensures table { OnOk result (IsTable (content_of replica.now) self.new) }
-        ensures done { OnOk result ((k : ℕ) (e : Settled) (x : Node) → At order.now k e → At numbered.now.nodes.keys e.node x → HasEntry self.new x) }
+        ensures done { OnOk result ((k : ℕ) (e : Settled) (x : Node) → At order.now k e → At self.old.nodes.keys e.node x → HasEntry self.new x) }
     {
         for settled in order {
-            let node = numbered.nodes.as_slice()[settled.node];
-            self.add(replica, node, settled.cyclic)?;
+            let number = settled.node;
+            self.add(replica, number, &rows[number], settled.cyclic)?;
         }
         Ok(())
     }
 
-    // Does a node. Each successor of its markers is done, unless it is on a cycle.
-    fn add(&mut self, replica: &Replica, node: Node, cyclic: bool) -> Result<(), AllocError>
+    // Does a node, whose number and row are given. Each successor of its markers is done, unless it is on a cycle.
+    fn add(
+        &mut self,
+        replica: &Replica,
+        number: usize,
+        row: &[usize],
+        cyclic: bool,
+    ) -> Result<(), AllocError>
         requires table { IsTable (content_of replica.now) self.old }
-        requires cyclic { IsTrue cyclic ↔ IsOnCycle (content_of replica.now) node }
-        requires below { cyclic ≡ false → (y : Node) → IsRewrittenTo (content_of replica.now) node y → HasEntry self.old y }
-        ensures table { OnOk result (IsTable (content_of replica.now) self.new) }
-        ensures done { OnOk result (HasEntry self.new node) }
-        ensures kept { OnOk result ((x : Node) → HasEntry self.old x → HasEntry self.new x) }
+        requires number { number < length self.old.nodes.keys }
+        requires row { (n : Node) → At self.old.nodes.keys number n → IsRow (content_of replica.now) self.old.nodes.keys n row.now }
+        requires cyclic { (n : Node) → At self.old.nodes.keys number n → IsTrue cyclic ↔ IsOnCycle (content_of replica.now) n }
+        requires below { cyclic ≡ false → (n y : Node) → At self.old.nodes.keys number n → IsRewrittenTo (content_of replica.now) n y → HasEntry self.old y }
+        ensures { OnOk result (AddsAnswer (content_of replica.now) number self.old self.new) }
     {
-        let solved = self.solve(replica, node, cyclic)?;
-        self.answers.insert(node, solved)?;
+        let node = self.nodes.as_slice()[number];
+        let solved = self.solve(replica, node, row, cyclic)?;
+        self.answers[number] = Some(solved);
         Ok(())
     }
 
     // Its successors sets, by the first case that applies.
-    fn solve(&mut self, replica: &Replica, node: Node, cyclic: bool) -> Result<Solved, AllocError>
+    fn solve(
+        &mut self,
+        replica: &Replica,
+        node: Node,
+        row: &[usize],
+        cyclic: bool,
+    ) -> Result<Solved, AllocError>
         requires table { IsTable (content_of replica.now) self.old }
+        requires row { IsRow (content_of replica.now) self.old.nodes.keys node row.now }
         requires cyclic { IsTrue cyclic ↔ IsOnCycle (content_of replica.now) node }
         requires below { cyclic ≡ false → (y : Node) → IsRewrittenTo (content_of replica.now) node y → HasEntry self.old y }
         ensures { IfOk result (Solves (content_of replica.now) node self.old self.new) }
@@ -166,12 +184,12 @@ impl Table {
             let own = self.own_set(replica, node)?;
             return self.keep(own);
         }
-        if self.is_overfull(markers, places) {
-            return Ok(Solved::Overfull);
-        }
-        match self.shared(markers, places) {
+        match self.shared(markers, places, row) {
             Some(solved) => return Ok(solved),
             None => {}
+        }
+        if self.is_overfull(markers, places) {
+            return Ok(Solved::Overfull);
         }
         let found = self.unions(markers, places)?;
         let family = largest(self.alloc, found)?;
@@ -203,17 +221,27 @@ impl Table {
     }
 
     // What is known of the only successor of the only marker, if there is one of each.
-    fn shared(&self, markers: &[Marker], places: &[usize]) -> Option<Solved>
-        ensures { IfSome result (λ solved. (x : Node) × IsOnlySuccessor markers.now places.now x × (answer self.now x ≡ Some solved)) }
+    fn shared(&self, markers: &[Marker], places: &[usize], row: &[usize]) -> Option<Solved>
+        ensures { IfSome result (IsShared self.now markers.now places.now row.now) }
     {
-        if places.len() != 1 {
+        if !has_one_successor(markers, places) {
             return None;
         }
-        let successors = successors_at(markers, places[0]);
-        if successors.len() != 1 {
+        let solved = self.answer_at(*row.first()?)?;
+        if self.has_many(solved) {
             return None;
         }
-        self.answers.get(&successors[0]).copied()
+        Some(solved)
+    }
+
+    // Whether a node of which this is known has more sets than ways are allowed.
+    fn has_many(&self, solved: Solved) -> bool
+        ensures { result ≡ false → IsFew (known_by self.now.families.items solved) }
+    {
+        match solved {
+            Solved::Family(place) => self.family_at(place).len() > UNION_LIMIT,
+            Solved::Overfull => false,
+        }
     }
 
     // Whether a successor of the markers is overfull, or over 4,096 unions are to be formed.
@@ -254,8 +282,8 @@ impl Table {
     fn factor(&self, node: Node) -> Option<usize>
         ensures { result ≡ factor_in (entry self.now node) }
     {
-        match self.answers.get(&node) {
-            Some(Solved::Family(place)) => Some(self.family_at(*place).len().max(1)),
+        match self.answer(node) {
+            Some(Solved::Family(place)) => Some(self.family_at(place).len().max(1)),
             Some(Solved::Overfull) => None,
             None => Some(1),
         }
@@ -300,8 +328,8 @@ impl Table {
     fn family(&self, node: Node) -> &[Vec<Node>]
         ensures { sets_of result.now ≡ families self.now node }
     {
-        match self.answers.get(&node) {
-            Some(Solved::Family(place)) => self.family_at(*place),
+        match self.answer(node) {
+            Some(Solved::Family(place)) => self.family_at(place),
             Some(Solved::Overfull) => &[],
             None => &[],
         }
@@ -316,4 +344,31 @@ impl Table {
             None => &[],
         }
     }
+
+    // What is known of a node that is done.
+    fn answer(&self, node: Node) -> Option<Solved>
+        ensures { result ≡ answer self.now node }
+    {
+        self.answer_at(self.nodes.get_index_of(&node)?)
+    }
+
+    // What is known of the node with this number, once it is done.
+    fn answer_at(&self, number: usize) -> Option<Solved>
+        ensures { result ≡ answer_at self.now.answers.items number }
+    {
+        match self.answers.get(number) {
+            Some(solved) => *solved,
+            None => None,
+        }
+    }
+}
+
+// Whether one place is given, and the marker there has one successor.
+fn has_one_successor(markers: &[Marker], places: &[usize]) -> bool
+    ensures { IsTrue result → (x : Node) × IsOnlySuccessor markers.now places.now x }
+{
+    if places.len() != 1 {
+        return false;
+    }
+    successors_at(markers, places[0]).len() == 1
 }

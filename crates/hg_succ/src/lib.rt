@@ -17,4 +17,4 @@ mod unions;
 
 pub use laws::states_of_one_content_have_the_same_successors_sets;
 pub use sets::{Sets, UNION_LIMIT};
-pub use successors::{SuccessorsTable, successors_sets};
+pub use successors::{SuccessorsTable, several_among, successors_sets};

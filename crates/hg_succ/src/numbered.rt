@@ -2,7 +2,7 @@
 //!
 //! A node has the number of its place among them. The rows follow in the order of the numbers, and writing a row puts
 //! the nodes last that had no number yet.
-ghost use Rattle.std.specs.Prelude.{◌≡◌, ◌++◌, ◌<◌, ℕ, List, length, slice_get, Contains, Some, IfOk, OnOk, []};
+ghost use Rattle.std.specs.Prelude.{◌≡◌, ◌++◌, List, Contains, IfOk, OnOk};
 ghost use Rattle.hg_changeset.specs.declared.node.Node.{Node};
 ghost use Rattle.hg_replica.specs.Content.{content_of};
 ghost use Rattle.hg_replica.specs.Evolution.{IsPredecessor};
@@ -31,6 +31,17 @@ pub(crate) fn predecessors(alloc: Global, replica: &Replica) -> Result<IndexSet<
         nodes.insert(marker.predecessor())?;
     }
     Ok(nodes)
+}
+
+/// The nodes, each once.
+pub(crate) fn set_of(alloc: Global, nodes: &[Node]) -> Result<IndexSet<Node>, AllocError>
+    ensures { IfOk result (λ set. (n : Node) → Contains nodes.now n → Contains set.keys n) }
+{
+    let mut set = IndexSet::new(alloc);
+    for node in nodes {
+        set.insert(*node)?;
+    }
+    Ok(set)
 }
 
 /// Numbers the roots and all that they lead to.

@@ -1,11 +1,12 @@
 //! The successors sets of a node, and those of all nodes at once.
-ghost use Rattle.std.specs.Prelude.{◌≡◌, ◌↔◌, IsTrue, IfOk};
+ghost use Rattle.std.specs.Prelude.{◌≡◌, ◌↔◌, Contains, IsTrue, IfOk};
+ghost use Rattle.hg_changeset.specs.declared.node.Node.{Node};
 ghost use Rattle.hg_replica.specs.Content.{content_of};
 ghost use Rattle.hg_succ.specs.Successors.{HasSeveral};
 ghost use Rattle.hg_succ.specs.Answer.{AreSets};
 
 use crate::families::{Table, table_of};
-use crate::numbered::predecessors;
+use crate::numbered::{predecessors, set_of};
 use crate::sets::Sets;
 use hg_changeset::Node;
 use hg_replica::Replica;
@@ -22,6 +23,24 @@ pub fn successors_sets(alloc: Global, replica: &Replica, node: Node) -> Result<S
     roots.insert(node)?;
     let table = table_of(alloc, replica, roots)?;
     table.sets(replica, node)
+}
+
+/// Those of the nodes that have more than one successors set or are overfull. It costs what the nodes lead to by markers.
+pub fn several_among(
+    alloc: Global,
+    replica: &Replica,
+    nodes: &[Node],
+) -> Result<IndexSet<Node>, AllocError>
+    ensures { IfOk result (λ found. (n : Node) → Contains found.keys n ↔ (Contains nodes.now n × HasSeveral (content_of replica.now) n)) }
+{
+    let table = table_of(alloc, replica, set_of(alloc, nodes)?)?;
+    let mut found = IndexSet::new(alloc);
+    for node in nodes {
+        if table.has_several(*node) {
+            found.insert(*node)?;
+        }
+    }
+    Ok(found)
 }
 
 /// The successors sets of every node, found by one pass over the markers of a replica. Contracts see the replica.

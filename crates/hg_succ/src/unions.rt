@@ -2,7 +2,7 @@
 //!
 //! Unions are formed as lists in any order. The largest of them are made sets, sorted and once each; then what is within
 //! a larger one is dropped. Only a set that is smaller than the largest can be, and only it is compared with the others.
-ghost use Rattle.std.specs.Prelude.{◌≡◌, ◌↔◌, ◌≤◌, ◌++◌, ◌∷◌, [], ℕ, List, filter, length, map, Contains, IfOk, OnOk, not};
+ghost use Rattle.std.specs.Prelude.{◌≡◌, ◌≤◌, ◌++◌, List, filter, length, map, Contains, IfOk, OnOk, not};
 ghost use Rattle.std.specs.List.{list_any};
 ghost use Rattle.std.specs.List.Sorted.{IsStrictlySortedBy};
 ghost use Rattle.hg_changeset.specs.declared.node.Node.{Node};

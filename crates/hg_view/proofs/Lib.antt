@@ -1,3 +1,3 @@
-mod LawLemmas
+pub mod LawLemmas
 mod ViewLemmas
 mod ShownLemmas

@@ -1,4 +1,4 @@
--- The node at a place, and what absorbing a part there leaves.
+-- What is at a place, and what absorbing a part there leaves.
 use Rattle.std.proofs.Common.{◌≡◌, ◌⊎◌, ℕ, zero, suc, ◌<◌, Some, List, [], ◌∷◌, ◌++◌, length, vec_len, get_or, Result, Ok, Err, IfOk, IfErr, OnOk, OnErr, MatchResult, slice_get, slice_set, refl, sym, ap, ◌∙◌, arith}
 use Rattle.std.proofs.lemmas.List.{set-get_or, length-map, map-append}
 use Rattle.std.proofs.lemmas.Option.{slice_get_read, get_or_from_slice_get, slice_get-map}

@@ -36,6 +36,7 @@ module _ {S O A R P C F : Type 0} (J : StateWords S P C F) (W : ActorWords S O A
       × ((number : ℕ) (bytes others : List ℕ) (p q : P) → slice_get v.messages number ≡ Some bytes → slice_get w.messages number ≡ Some others → W.Spells bytes p → W.Spells others q →
       SaySame J.IsValid J.Covers (J.part_content p) (J.part_content q))
 
+  -- the worlds can't be told apart by what their nodes and messages say
   abbrev pub AreAlike : Snapshot S → Snapshot S → Type 0
   AreAlike v w = HaveSameContents v w × HaveSameMessages v w
 

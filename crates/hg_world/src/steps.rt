@@ -116,8 +116,8 @@ pub fn run_all<S: Actor>(
     requires { AllValid S.JoinState (snapshot nodes.old messages.old.items) }
     ensures ran { IfOk result (λ answers. (parts : List (Option S.Part)) × Runs S.JoinState S.Actor.own (snapshot nodes.old messages.old.items) events.now answers.items parts (snapshot nodes.new messages.new.items)) }
     ensures count { IfOk result (λ answers. vec_len answers ≡ length events.now) }
-    ensures err { OnErr result (snapshot nodes.new messages.new.items ≡ snapshot nodes.old messages.old.items) }
-    ensures wants { OnErr result (0 < length events.now) }
+    ensures unchanged { OnErr result (snapshot nodes.new messages.new.items ≡ snapshot nodes.old messages.old.items) }
+    ensures memory { OnErr result (0 < length events.now) }
 {
     let mut answers = Vec::with_capacity(alloc, events.len())?;
     messages.reserve(events.len())?;

@@ -46,7 +46,7 @@ impl<S: Actor> World<S> {
         ensures nodes { IfOk result (λ world. length world.nodes ≡ count) }
         ensures empty { IfOk result (λ world. AllEmpty S.JoinState world) }
         ensures messages { IfOk result (λ world. world.messages ≡ []) }
-        ensures wants { OnErr result (0 < count) }
+        ensures memory { OnErr result (0 < count) }
     {
         let mut nodes = Vec::with_capacity(alloc, count)?;
         for _ in 0..count {
@@ -70,8 +70,8 @@ impl<S: Actor> World<S> {
     ) -> Result<Vec<Answer<S::Change, S::Refusal, S::Fault>>, NoMemory>
         ensures ran { IfOk result (λ answers. (parts : List (Option S.Part)) × Runs S.JoinState S.Actor.own self.old events.now answers.items parts self.new × AllLeast S.JoinState self.old events.now parts self.new) }
         ensures count { IfOk result (λ answers. vec_len answers ≡ length events.now) }
-        ensures err { OnErr result (self.new ≡ self.old) }
-        ensures wants { OnErr result (0 < length events.now) }
+        ensures unchanged { OnErr result (self.new ≡ self.old) }
+        ensures memory { OnErr result (0 < length events.now) }
 
         // Each node's state is valid, as the laws of runs ask.
         ensures valid { AllValid S.JoinState self.old }

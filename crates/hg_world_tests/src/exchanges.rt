@@ -1,12 +1,9 @@
 //! Short lists of events, and what each is answered; each growth refused in turn.
+use crate::words::{PriceAnswer, PriceEvent};
 use hg_join::NoMemory;
 use hg_join_tests::{PriceRefusal, Prices};
 use hg_world::{Answer, Event, EventRefusal, World};
 use std::alloc::Global;
-
-type PriceAnswer = Answer<(), PriceRefusal, NoMemory>;
-
-type PriceEvent = Event<(u8, u8), Vec<u8>>;
 
 #[test]
 fn what_is_missing_is_told_and_an_own_message_changes_nothing(rt: HostRuntime) {

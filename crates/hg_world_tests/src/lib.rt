@@ -5,3 +5,5 @@
 mod exchanges;
 #[cfg(test)]
 mod schedules;
+#[cfg(test)]
+mod words;

@@ -1,14 +1,10 @@
 //! A long list of events in any order, beside plain lists of what each node accepted.
 ghost use Rattle.std.specs.Prelude.{◌<◌};
 
-use hg_join::NoMemory;
+use crate::words::{PriceAnswer, PriceEvent};
 use hg_join_tests::{PriceRefusal, Prices};
 use hg_world::{Answer, Event, EventRefusal, World};
 use std::alloc::Global;
-
-type PriceAnswer = Answer<(), PriceRefusal, NoMemory>;
-
-type PriceEvent = Event<(u8, u8), Vec<u8>>;
 
 /// Items are the numbers below this.
 const ITEMS: u8 = 8;

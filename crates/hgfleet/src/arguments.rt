@@ -94,6 +94,9 @@ A script has a command on each line; the words are divided by spaces:
   prune A b           nothing in place of b
   relocate A b c d    another changeset, c, in place of b, on the parent d; a second may follow
   phase A b public    b and its ancestors go to this phase, where theirs is higher
+  offer A m b         keeps what A gives to whoever has b and its ancestors as the message m; any number of labels
+  take B m            B takes the message m in
+  pull B A            B takes in what A offers
   report A            prints the changesets of A with their phases and instabilities, and counts them and the markers
   agree A B           prints whether A and B hold the same in the same phases
 Empty lines and lines that begin with # are skipped.

@@ -1,5 +1,6 @@
 use Rattle.hg_replica.specs.Content.{Content}
 use Rattle.hg_replica.specs.Evolution.{IsObsolete, IsOrphan, IsSuspended, IsExtinct, IsPhaseDivergent}
+use Rattle.hg_instab.specs.Instabilities.{IsContentDivergent}
 use Rattle.hg_instab.proofs.LawLemmas.{alike}
 use Rattle.hg_instab.proofs.laws.states_of_one_content_have_the_same_instabilities.Goals as goal
 
@@ -17,3 +18,6 @@ returns-clause-extinct c s t n = alike (λ (f : Content). IsExtinct f n) s t
 
 pub returns-clause-phase_divergent : goal.returns-clause-phase_divergent
 returns-clause-phase_divergent c s t n = alike (λ (f : Content). IsPhaseDivergent f n) s t
+
+pub returns-clause-content_divergent : goal.returns-clause-content_divergent
+returns-clause-content_divergent c s t n = alike (λ (f : Content). IsContentDivergent f n) s t

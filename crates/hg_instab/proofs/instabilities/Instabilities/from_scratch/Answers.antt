@@ -25,4 +25,5 @@ returns c =
         λ h. (outside n).1 ((c.in_ok-obsolete.ensures n).1 h.0, λ at. h.1 ((suspended n).0 at)),
       );
       phase_divergent = λ n. along (c.in_ok-set_of-4.ensures n) (c.in_ok-phase_divergent.ensures n);
+      content_divergent = λ n. along (c.in_ok-set_of-5.ensures n) (c.in_ok-content_divergent.ensures n);
     }

@@ -1,34 +1,32 @@
-use Rattle.std.proofs.Common.{◌≡◌, cond, Some, sym, ap, subst, ◌∙◌, inl, inr}
-use Rattle.std.proofs.lemmas.Option.{same_Some}
-use Rattle.hg_changeset.specs.Node.{node_eq}
-use Rattle.hg_changeset.proofs.NodeLemmas.{same_node}
+use Rattle.std.proofs.Common.{◌≡◌, ◌<◌, ℕ, [], List, length, get_or, refl, ap, subst, arith}
+use Rattle.std.proofs.lemmas.Option.{slice_get-get_or}
+use Rattle.hg_changeset.specs.declared.node.Node.{Node}
 use Rattle.hg_replica.specs.Content.{content_of}
-use Rattle.indexmap.specs.IndexMap.{get}
-use Rattle.hg_succ.specs.Cover.{IsRight, answer}
-use Rattle.std.proofs.lemmas.Bool.{cases_Bool}
-use Rattle.hg_succ.proofs.TableLemmas.{kept_right}
+use Rattle.hg_succ.specs.Rows.{At}
+use Rattle.hg_succ.proofs.TableLemmas.{adds_answer}
 use Rattle.hg_succ.proofs.families.Table.add.Goals as goal
 
-pub returns-clause-table : goal.returns-clause-table
-returns-clause-table c n e h =
-    let f = content_of c.args.replica.now in
-    let old = c.args.self.now in
-    let mid = c.solve.new.self in
-    let updates = c.in_ok-insert.ensures.updates in
-    let keeps = c.in_ok-solved.ensures.keeps in
-    elim (cases_Bool (node_eq c.args.node n)) [
-      | inl same ↦
-          let is : Some c.in_ok-solved.solved ≡ Some e = sym (updates.0 n ∙ ap (λ b. cond b (Some c.in_ok-solved.solved) (answer mid n)) same) ∙ h in
-          subst (λ m. IsRight f m mid.families.items e) (same_node c.args.node n same) (subst (IsRight f c.args.node mid.families.items) (same_Some c.in_ok-solved.solved e is) c.in_ok-solved.ensures.right)
-      | inr other ↦ kept_right f old mid keeps c.requires.table n e (ap (λ m. get node_eq m n) (sym keeps.answers) ∙ sym (updates.2 n other) ∙ h)
-    ]
+-- the node that was read stands at its number
+read_at : (nodes read : List Node) (number : ℕ) → read ≡ nodes → number < length nodes → At nodes number (get_or read number (record { 0 = [] }))
+read_at nodes read number same l = subst (λ (ns : List Node). At ns number (get_or read number (record { 0 = [] }))) same (slice_get-get_or read number (record { 0 = [] }) (omega (arith, l, ap length same)))
 
-pub returns-clause-kept : goal.returns-clause-kept
-returns-clause-kept c x h =
-    let mid = c.solve.new.self in
-    let updates = c.in_ok-insert.ensures.updates in
-    let keeps = c.in_ok-solved.ensures.keeps in
-    elim (cases_Bool (node_eq c.args.node x)) [
-      | inl same ↦ (c.in_ok-solved.solved, updates.0 x ∙ ap (λ b. cond b (Some c.in_ok-solved.solved) (answer mid x)) same)
-      | inr other ↦ (h.0, updates.2 x other ∙ ap (λ m. get node_eq m x) keeps.answers ∙ h.1)
-    ]
+pub solve-requires-clause-row : goal.solve-requires-clause-row
+solve-requires-clause-row c =
+    let node : Node = get_or c.as_slice.result.now c.args.number (record { 0 = [] }) in
+    c.requires.row node (read_at c.args.self.now.nodes.keys c.as_slice.result.now c.args.number c.as_slice.ensures.keys c.requires.number)
+
+pub solve-requires-clause-cyclic : goal.solve-requires-clause-cyclic
+solve-requires-clause-cyclic c =
+    let node : Node = get_or c.as_slice.result.now c.args.number (record { 0 = [] }) in
+    c.requires.cyclic node (read_at c.args.self.now.nodes.keys c.as_slice.result.now c.args.number c.as_slice.ensures.keys c.requires.number)
+
+pub solve-requires-clause-below : goal.solve-requires-clause-below
+solve-requires-clause-below c off y to =
+    let node : Node = get_or c.as_slice.result.now c.args.number (record { 0 = [] }) in
+    c.requires.below off node y (read_at c.args.self.now.nodes.keys c.as_slice.result.now c.args.number c.as_slice.ensures.keys c.requires.number) to
+
+pub returns : goal.returns
+returns c =
+    let node : Node = get_or c.as_slice.result.now c.args.number (record { 0 = [] }) in
+    let at = read_at c.args.self.now.nodes.keys c.as_slice.result.now c.args.number c.as_slice.ensures.keys c.requires.number in
+    adds_answer (content_of c.args.replica.now) c.args.self.now c.solve.new.self _ c.args.number node c.in_ok-solved.solved c.requires.table at c.in_ok-solved.ensures refl refl refl

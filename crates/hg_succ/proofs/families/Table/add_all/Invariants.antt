@@ -1,7 +1,7 @@
-use Rattle.std.proofs.Common.{◌<◌, ℕ}
+use Rattle.std.proofs.Common.{◌≡◌, ◌<◌, ℕ}
 use Rattle.hg_changeset.specs.declared.node.Node.{Node}
-use Rattle.hg_succ.specs.declared.search.Settled.{Settled}
 use Rattle.hg_replica.specs.Content.{content_of}
+use Rattle.hg_succ.specs.declared.search.Settled.{Settled}
 use Rattle.hg_succ.specs.Rows.{At}
 use Rattle.hg_succ.specs.Cover.{IsTable, HasEntry}
 use Rattle.hg_succ.proofs.families.Table.add_all.Given as goal
@@ -9,5 +9,6 @@ use Rattle.hg_succ.proofs.families.Table.add_all.Given as goal
 abbrev pub invariant-loop-settled : goal.invariant-loop-settled
 invariant-loop-settled l = record {
   table : IsTable (content_of l.replica) l.self;
-  done : (k : ℕ) (e : Settled) (x : Node) → k < l.settled-index → At l.order k e → At l.numbered.nodes.keys e.node x → HasEntry l.self x;
+  nodes : l.self.nodes.keys ≡ l.initial.self.nodes.keys;
+  done : (k : ℕ) (e : Settled) (x : Node) → k < l.settled-index → At l.order k e → At l.initial.self.nodes.keys e.node x → HasEntry l.self x;
 }

@@ -1,5 +1,6 @@
-use Rattle.std.proofs.Common.{◌≡◌, List, length, sym, ap, subst, ◌∙◌, true≢false, Vec, Global}
+use Rattle.std.proofs.Common.{◌≡◌, List, length, sym, ap, subst, ◌∙◌, true≢false, Vec, Global, Some}
 use Rattle.std.specs.List.{flat_map}
+use Rattle.std.specs.Option.{option_map}
 use Rattle.std.specs.Cmp.{unsigned_Decides}
 use Rattle.std.proofs.lemmas.Result.{IfOk-weaker}
 use Rattle.hg_changeset.specs.declared.node.Node.{Node}
@@ -11,10 +12,10 @@ use Rattle.hg_succ.specs.Answer.{sets_of}
 use Rattle.hg_succ.specs.Successors.{IsOnCycle}
 use Rattle.hg_succ.specs.Numbered.{successors_at}
 use Rattle.hg_succ.specs.Factors.{few_at, many_at, IsOnlySuccessor}
-use Rattle.hg_succ.specs.Cover.{IsSolved, PutsLast, Solves, known_by}
+use Rattle.hg_succ.specs.Cover.{answer, IsSolved, PutsLast, Solves, known_by}
 use Rattle.hg_succ.specs.Cover.Known.{are_sets}
 use Rattle.hg_succ.specs.Unions.{choices, AreLargest}
-use Rattle.hg_succ.proofs.SolveLemmas.{solved_cycle, solved_over, solved_few, solved_shared, rewritten_somewhere, rewritten_nowhere}
+use Rattle.hg_succ.proofs.SolveLemmas.{shared_answer, solved_cycle, solved_over, solved_few, solved_shared, rewritten_somewhere, rewritten_nowhere}
 use Rattle.hg_succ.proofs.TableLemmas.{solves_same, solves_last}
 use Rattle.hg_succ.proofs.families.Table.solve.Goals as goal
 
@@ -61,12 +62,14 @@ returns-in-Some c =
     let are : ArePlaces (λ m. m.predecessor ≡ n) s.markers places = subst (λ (ms : List Fields). ArePlaces (λ m. m.predecessor ≡ n) ms places) c.store-store.ensures c.with_predecessor-places.ensures in
     let different : AreDifferent s.markers = subst AreDifferent c.store-store.ensures c.markers-markers.ensures.different in
     let off = λ (on : IsOnCycle (content_of s) n). true≢false (sym (c.requires.cyclic.1 on) ∙ c.if-cyclic.false) in
-    let few : few_at t s.markers places = subst (λ (ks : List Fields). few_at t ks places) ms (c.is_overfull.ensures.few c.if-is_overfull.false) in
-    let x = c.in-Some.ensures.0 in
-    let only : IsOnlySuccessor s.markers places x = subst (λ (ks : List Fields). IsOnlySuccessor ks places x) ms c.in-Some.ensures.1 in
-    let right = c.requires.table x c.in-Some.solved c.in-Some.ensures.2 in
+    let told = c.in-Some.ensures in
+    let x = told.only.0 in
+    let only : IsOnlySuccessor s.markers places x = subst (λ (ks : List Fields). IsOnlySuccessor ks places x) ms told.only.1 in
+    let below = c.requires.below c.if-cyclic.false in
+    let is : answer t x ≡ Some c.in-Some.solved = shared_answer s t c.requires.table n off below different places are x only c.args.row.now told.answer.0 c.in-Some.solved c.requires.row told.answer.1 told.answer.2 in
+    let right = c.requires.table.right x c.in-Some.solved is in
     solves_same (content_of s) n t c.in-Some.solved
-    (right.0, solved_shared s t c.requires.table n off (c.requires.below c.if-cyclic.false) different places are x only few (known_by t.families.items c.in-Some.solved) right.1)
+    (right.0, solved_shared s t c.requires.table n off below different places are x only (known_by t.families.items c.in-Some.solved) (ap (option_map (known_by t.families.items)) is) told.few)
 
 pub returns : goal.returns
 returns c =

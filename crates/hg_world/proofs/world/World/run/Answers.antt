@@ -13,7 +13,7 @@ invariant_of-self g c =
     let new : Snapshot g.row.S.Denot = snapshot c.run_all.new.nodes c.run_all.new.messages.items in
     let before : AllValid J old = rw c.as_mut_slice.ensures.value c.self.invariant in
     let now : AllValid J new =
-    either_way c.run_all.result (AllValid J new) (λ answers ran. run_is_valid J g.S.Actor laws.ordered laws.stays_covered laws.absorbed old new c.args.events.now answers.items ran.0 before ran.1) (λ same. subst (AllValid J) (sym same) before) c.run_all.ensures.ran c.run_all.ensures.err in
+    either_way c.run_all.result (AllValid J new) (λ answers ran. run_is_valid J g.S.Actor laws.ordered laws.stays_covered laws.absorbed old new c.args.events.now answers.items ran.0 before ran.1) (λ same. subst (AllValid J) (sym same) before) c.run_all.ensures.ran c.run_all.ensures.unchanged in
     rw whole now
 
 pub returns-clause-ran : goal.returns-clause-ran

@@ -1,0 +1,80 @@
+//! Cases of messages: what offering, writing, reading and taking in cost. Half of what is offered are changesets, and half
+//! are markers, each of a changeset.
+use crate::chain::{chain_on, replica_of};
+use crate::markers::{marker, node};
+use hg_changeset::Node;
+use hg_message::{Message, offer};
+use hg_replica::{Part, Replica};
+use std::alloc::{AllocError, Global};
+use std::io;
+use std::time::{CpuClock, Duration};
+
+/// The offer of a replica of so many changesets and as many markers.
+pub fn make_offer(rt: &(impl CpuClock + AllocGlobal), size: usize) -> io::Result<Duration> {
+    let alloc = rt.alloc();
+    let replica = marked(alloc, size)?;
+    let before = rt.thread_cpu_time()?;
+    let _offered = offer(alloc, &replica, &[]);
+    Ok(rt.thread_cpu_time()?.saturating_sub(before))
+}
+
+/// An offer, written.
+pub fn write_offer(rt: &(impl CpuClock + AllocGlobal), size: usize) -> io::Result<Duration> {
+    let alloc = rt.alloc();
+    match offer(alloc, &marked(alloc, size)?, &[]) {
+        Ok(message) => time_writing(rt, &message),
+        Err(_) => Ok(Duration::ZERO),
+    }
+}
+
+fn time_writing(rt: &impl CpuClock, message: &Message) -> io::Result<Duration> {
+    let before = rt.thread_cpu_time()?;
+    let _written = message.to_bytes();
+    Ok(rt.thread_cpu_time()?.saturating_sub(before))
+}
+
+/// An offer, read from its bytes.
+pub fn read_offer(rt: &(impl CpuClock + AllocGlobal), size: usize) -> io::Result<Duration> {
+    let alloc = rt.alloc();
+    let bytes = offered(alloc, size)?;
+    let before = rt.thread_cpu_time()?;
+    let _read = Message::from_bytes(alloc, &bytes);
+    Ok(rt.thread_cpu_time()?.saturating_sub(before))
+}
+
+/// An offer, taken in by an empty replica.
+pub fn take_offer(rt: &(impl CpuClock + AllocGlobal), size: usize) -> io::Result<Duration> {
+    let alloc = rt.alloc();
+    let bytes = offered(alloc, size)?;
+    match Message::from_bytes(alloc, &bytes) {
+        Ok(message) => time_taking(rt, &message.into_part()?, &mut Replica::new(alloc)),
+        Err(_) => Ok(Duration::ZERO),
+    }
+}
+
+fn time_taking(rt: &impl CpuClock, part: &Part, replica: &mut Replica) -> io::Result<Duration> {
+    let before = rt.thread_cpu_time()?;
+    let _absorbed = replica.absorb(part);
+    Ok(rt.thread_cpu_time()?.saturating_sub(before))
+}
+
+fn offered(alloc: Global, size: usize) -> Result<Vec<u8>, AllocError> {
+    match offer(alloc, &marked(alloc, size)?, &[]) {
+        Ok(message) => message.to_bytes(),
+        Err(_) => Err(AllocError),
+    }
+}
+
+// A replica with a chain of changesets, each of which is what an id that isn't held was rewritten to.
+fn marked(alloc: Global, size: usize) -> Result<Replica, AllocError> {
+    let mut part = chain_on(alloc, Node::NULL, size)?;
+    for number in 0..size {
+        if let Some(changeset) = part.changesets.get(number) {
+            let new = changeset.node();
+            if let Some(marker) = marker(alloc, node(number), new) {
+                part.markers.push(marker)?;
+            }
+        }
+    }
+    Ok(replica_of(alloc, &part))
+}

@@ -1,0 +1,102 @@
+//! Cases of successors sets: markers in chains, each chain from an id that isn't held to a draft root.
+use crate::markers::{marker, node};
+use hg_changeset::{Changeset, Node};
+use hg_instab::Instabilities;
+use hg_phases::Phase;
+use hg_replica::{Part, Replica};
+use hg_succ::SuccessorsTable;
+use std::alloc::{AllocError, Global};
+use std::io;
+use std::time::{CpuClock, Duration};
+
+/// How the markers are laid out.
+#[derive(Clone, Copy)]
+pub struct Chains {
+    /// The markers of a chain.
+    pub length: usize,
+
+    /// Whether chains begin in pairs, so that all of their ends diverge.
+    pub are_paired: bool,
+}
+
+/// The successors sets of all predecessors.
+pub fn tell_sets(
+    rt: &(impl CpuClock + AllocGlobal),
+    size: usize,
+    chains: Chains,
+) -> io::Result<Duration> {
+    let alloc = rt.alloc();
+    let replica = replica_of(alloc, size, chains)?;
+    let before = rt.thread_cpu_time()?;
+    let _table = SuccessorsTable::new(alloc, &replica)?;
+    Ok(rt.thread_cpu_time()?.saturating_sub(before))
+}
+
+/// All instabilities.
+pub fn tell_divergent(
+    rt: &(impl CpuClock + AllocGlobal),
+    size: usize,
+    chains: Chains,
+) -> io::Result<Duration> {
+    let alloc = rt.alloc();
+    let replica = replica_of(alloc, size, chains)?;
+    let before = rt.thread_cpu_time()?;
+    let _sets = Instabilities::from_scratch(alloc, &replica)?;
+    Ok(rt.thread_cpu_time()?.saturating_sub(before))
+}
+
+// A replica with so many markers.
+fn replica_of(alloc: Global, size: usize, chains: Chains) -> Result<Replica, AllocError> {
+    let mut replica = Replica::new(alloc);
+    let length = chains.length.max(1);
+    for chain in 0..size / length {
+        let part = part_of(alloc, chain, length, chains.are_paired)?;
+        let _absorbed = replica.absorb(&part);
+    }
+    Ok(replica)
+}
+
+// The markers of a chain, and the root that they lead to.
+fn part_of(
+    alloc: Global,
+    chain: usize,
+    length: usize,
+    are_paired: bool,
+) -> Result<Part, AllocError> {
+    let mut part = Part {
+        changesets: Vec::new(alloc),
+        bounds: Vec::new(alloc),
+        markers: Vec::new(alloc),
+    };
+    let end = add_root(alloc, &mut part, chain)?;
+    let first = chain.wrapping_mul(length);
+    for step in 0..length {
+        let old = match step {
+            0 if are_paired => node((chain & !1).wrapping_mul(length)),
+            _ => node(first.wrapping_add(step)),
+        };
+        let next = step.wrapping_add(1);
+        let new = if next < length {
+            node(first.wrapping_add(next))
+        } else {
+            end
+        };
+        if let Some(marker) = marker(alloc, old, new) {
+            part.markers.push(marker)?;
+        }
+    }
+    Ok(part)
+}
+
+// A draft root with the number as its text.
+fn add_root(alloc: Global, part: &mut Part, number: usize) -> Result<Node, AllocError> {
+    let text = format!(in alloc; "{number}")?;
+    let changeset = match Changeset::new(Node::NULL, Node::NULL, text.into_bytes()) {
+        Ok(changeset) => changeset,
+        Err(_) => return Err(AllocError),
+    };
+    let end = changeset.node();
+    part.changesets.push(changeset)?;
+    part.bounds.push((end, Phase::Draft))?;
+    Ok(end)
+}

@@ -1,0 +1,36 @@
+use Rattle.std.proofs.Common.{◌+◌, ◌≡◌, ℕ, List, take, get_or, slice_get, Some, Contains, sym, subst, ap, ◌∙◌}
+use Rattle.std.specs.Option.{option_copied}
+use Rattle.std.proofs.lemmas.List.{get_or_default, take_all}
+use Rattle.std.proofs.lemmas.List.Elements.{Contains-get_or}
+use Rattle.std.proofs.lemmas.Option.{none-some}
+use Rattle.hg_changeset.specs.declared.node.Node.{Node}
+use Rattle.hg_instab.specs.Walk.{Adds, IsBefore}
+use Rattle.hg_instab.proofs.WalkLemmas.{IsBeforeAt, adds-then, adds-same, adds-one, before-more, before-all}
+use Rattle.hg_instab.proofs.walk.add_predecessors.Goals as goal
+use Rattle.hg_instab.proofs.walk.add_predecessors.Goals.{in-Some+in_ok-insert-in-Some, in-None}
+
+pub loop-place-preserved : goal.loop-place-preserved
+loop-place-preserved c =
+    let ms = c.args.store.now in
+    let places = c.with_successor-place-items.result.now in
+    let i = c.loop-place.place-index in
+    let k = get_or places i 0 in
+    elim c.match-get.branch [
+      | in-Some+in_ok-insert-in-Some w ↦
+          let m = w.in-Some.marker.now in
+          let at : slice_get ms k ≡ Some m = sym c.get.ensures ∙ ap option_copied w.in-Some.is in
+          adds-then (IsBeforeAt ms (take i places)) (λ n. m.predecessor ≡ n) (IsBeforeAt ms (take (i + 1) places)) c.args.seen.now.keys c.loop-place.seen.keys _
+          (before-more ms places i k m c.loop-place-test.true (get_or_default places i k 0 c.loop-place-test.true) at) c.loop-place.invariant
+          (subst (λ (x : Node). Adds (λ n. x ≡ n) c.loop-place.seen.keys c.match-get.seen.keys) w.predecessor.ensures.predecessor (adds-one c.loop-place.seen.keys _ w.predecessor.result (ap (λ v. v.keys) w.seen-is ∙ w.in_ok-insert-in-Some.ensures.keys)))
+      | in-None w ↦
+          let there = (c.with_successor-place-items.ensures.exact k).0 (Contains-get_or places i 0 c.loop-place-test.true) in
+          absurd (none-some there.0 (sym (ap option_copied w.in-None.is) ∙ c.get.ensures ∙ there.1))
+    ]
+
+pub returns : goal.returns
+returns c =
+    let ms = c.args.store.now in
+    let places = c.with_successor-place-items.result.now in
+    let all = take_all c.loop-place.place-index places c.loop-place-test.false in
+    adds-same (IsBeforeAt ms places) (IsBefore ms c.args.node) c.args.seen.now.keys c.loop-place.seen.keys (λ n. before-all ms places c.args.node n c.with_successor-place-items.ensures)
+    (subst (λ (ps : List ℕ). Adds (IsBeforeAt ms ps) c.args.seen.now.keys c.loop-place.seen.keys) all c.loop-place.invariant)

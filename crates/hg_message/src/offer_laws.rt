@@ -1,0 +1,50 @@
+//! What holds of every offer.
+ghost use Rattle.std.specs.Prelude.{◌≡◌, ◌↔◌, List, [], Contains, Some};
+ghost use Rattle.hg_changeset.specs.declared.node.Node.{Node};
+ghost use Rattle.hg_changeset.specs.Contents.{Contents};
+ghost use Rattle.hg_changeset.specs.Changeset.{node_of};
+ghost use Rattle.hg_phases.specs.declared.phase.Phase.{Phase};
+ghost use Rattle.hg_phases.specs.declared.phase.Phase.TheVariants.{Secret as secret_phase};
+ghost use Rattle.hg_phases.specs.State.{Held, state_of};
+ghost use Rattle.hg_history.specs.Content.{IsHeld};
+ghost use Rattle.hg_replica.specs.State.{ReplicaState, IsValid, IsSameState};
+ghost use Rattle.hg_replica.specs.Content.{Content, content_of, IsValidContent, ContentCovers, ContentAdmits};
+ghost use Rattle.hg_replica.specs.Evolution.{HasPhase, IsHidden, IsServed};
+ghost use Rattle.hg_message.specs.Value.{MessageValue};
+ghost use Rattle.hg_message.specs.Part.{part_of};
+ghost use Rattle.hg_message.specs.Offer.{IsCommon, IsOffer, SaysOffer, SayTheSame};
+
+/// No changeset that is secret or hidden stands in an offer, neither as a record nor as a bound: all of them are served.
+pub fn offers_hold_what_is_served()
+    ensures changesets { (f : Content) (common : List Node) (m : MessageValue) → SaysOffer f common m → (c : Contents) → Contains m.changesets c → IsServed f (node_of c) }
+    ensures bounds { (f : Content) (common : List Node) (m : MessageValue) → SaysOffer f common m → (b : Node × Phase) → Contains m.bounds b → IsServed f b.0 }
+    ensures secret { (f : Content) (n : Node) → HasPhase f n secret_phase → ¬ (IsServed f n) }
+    ensures hidden { (f : Content) (n : Node) → IsHidden f n → ¬ (IsServed f n) }
+{}
+
+/// An offer says no more than the replica that makes it: the replica covers its part already.
+pub fn offers_are_covered()
+    ensures { (f : Content) (common : List Node) (m : MessageValue) → IsValidContent f → SaysOffer f common m → ContentCovers f (part_of m) }
+{}
+
+/// States that are below each other offer the same, in whatever order each keeps what it holds: what covers the part of one
+/// offer covers that of the other.
+pub fn states_of_one_content_offer_the_same()
+    ensures same { (s t : ReplicaState) (common : List Node) (m n : MessageValue) → IsValid s → IsValid t → IsSameState s t → IsOffer s common m → IsOffer t common n → SayTheSame m n }
+    ensures covered { (m n : MessageValue) → SayTheSame m n → (f : Content) → ContentCovers f (part_of m) ↔ ContentCovers f (part_of n) }
+{}
+
+/// A state has one offer above some common nodes.
+pub fn an_offer_is_one()
+    ensures once { (s : ReplicaState) (common : List Node) (m n : MessageValue) → IsOffer s common m → IsOffer s common n → m ≡ n }
+    ensures exists { (s : ReplicaState) (common : List Node) → IsValid s → ((m : MessageValue) → IsOffer s common m → ⊥) → ⊥ }
+{}
+
+/// An offer's part is admitted wherever the common nodes and their ancestors are held, and no id stands for another
+/// changeset: so at an empty replica where there are no common nodes.
+pub fn offers_are_admitted()
+    ensures above { (s : ReplicaState) (common : List Node) (m : MessageValue) (g : Content) → IsValid s → IsOffer s common m
+        → ((n : Node) → IsCommon (content_of s) common n → IsHeld g.0 n)
+        → ((n : Node) (h k : Held) → (content_of s).0 n ≡ Some h → g.0 n ≡ Some k → h.changeset ≡ k.changeset) → ContentAdmits g (part_of m) }
+    ensures empty { (s : ReplicaState) (m : MessageValue) → IsValid s → IsOffer s [] m → ContentAdmits (content_of (record { history = state_of [] []; markers = [] })) (part_of m) }
+{}

@@ -1,0 +1,175 @@
+//! Offers of a few changesets: what is in them, in which order, and why there is none.
+use hg_changeset::{Changeset, Node};
+use hg_marker::{Marker, Metadata};
+use hg_message::{Message, OfferRefusal, offer};
+use hg_phases::Phase;
+use hg_replica::{Part, Replica};
+use std::alloc::Global;
+
+fn empty(alloc: Global) -> Part {
+    Part {
+        changesets: Vec::new(alloc),
+        bounds: Vec::new(alloc),
+        markers: Vec::new(alloc),
+    }
+}
+
+// Takes in a changeset of this parent and text, in this phase.
+fn commit(
+    alloc: Global,
+    replica: &mut Replica,
+    parent: Node,
+    text: &[u8],
+    phase: Phase,
+) -> Option<Node> {
+    let text = Vec::from_slice(alloc, text).ok()?;
+    let changeset = Changeset::new(parent, Node::NULL, text).ok()?;
+    let node = changeset.node();
+    let mut part = empty(alloc);
+    part.changesets.push(changeset).ok()?;
+    part.bounds.push((node, phase)).ok()?;
+    replica.absorb(&part).ok()?;
+    Some(node)
+}
+
+// Takes in the marker that a node was rewritten to others, or pruned; it records this parent.
+fn rewrite(
+    alloc: Global,
+    replica: &mut Replica,
+    old: Node,
+    new: &[Node],
+    parent: Node,
+) -> Option<()> {
+    let mut metadata = Metadata::new(alloc);
+    let key = Vec::from_slice(alloc, b"p1").ok()?;
+    let value = Vec::from_slice(alloc, &parent.to_hex()).ok()?;
+    metadata.insert(key, value).ok()?;
+    let new = Vec::from_slice(alloc, new).ok()?;
+    let marker = Marker::new(old, new, 0, metadata).ok()?;
+    let mut part = empty(alloc);
+    part.markers.push(marker).ok()?;
+    replica.absorb(&part).ok()?;
+    Some(())
+}
+
+// A public a, draft b and c on it, a draft d on b that was pruned, a secret e on b, and a marker from elsewhere to a.
+#[derive(Clone, Copy)]
+struct Nodes {
+    a: Node,
+    b: Node,
+    c: Node,
+}
+
+fn scene(alloc: Global, replica: &mut Replica) -> Option<Nodes> {
+    let a = commit(alloc, replica, Node::NULL, b"a", Phase::Public)?;
+    let b = commit(alloc, replica, a, b"b", Phase::Draft)?;
+    let c = commit(alloc, replica, a, b"c", Phase::Draft)?;
+    let d = commit(alloc, replica, b, b"d", Phase::Draft)?;
+    let e = commit(alloc, replica, b, b"e", Phase::Secret)?;
+    rewrite(alloc, replica, d, &[], b)?;
+    rewrite(alloc, replica, Node([0x11; 20]), &[e], b)?;
+    rewrite(alloc, replica, Node([0x22; 20]), &[a], Node::NULL)?;
+    Some(Nodes { a, b, c })
+}
+
+// The two, the lesser first.
+fn ascending(one: Node, other: Node) -> [Node; 2] {
+    if one.0 < other.0 {
+        [one, other]
+    } else {
+        [other, one]
+    }
+}
+
+// Whether the changesets are these, in this order.
+fn are(message: &Message, nodes: &[Node]) -> bool {
+    if message.changesets().len() != nodes.len() {
+        return false;
+    }
+    for (changeset, node) in message.changesets().iter().zip(nodes) {
+        if changeset.node() != *node {
+            return false;
+        }
+    }
+    true
+}
+
+#[test]
+fn offers_what_is_served(rt: HostRuntime) {
+    let alloc = rt.alloc();
+    let mut replica = Replica::new(alloc);
+    let nodes = scene(alloc, &mut replica).expect(&rt, "memory");
+    let message = offer(alloc, &replica, &[]).expect(&rt, "an offer");
+    assert!(rt; are(&message, &[nodes.a, nodes.b, nodes.c]));
+    let [first, second] = ascending(nodes.b, nodes.c);
+    let bounds = [
+        (nodes.a, Phase::Public),
+        (first, Phase::Draft),
+        (second, Phase::Draft),
+    ];
+    assert!(rt; message.bounds() == bounds.as_slice());
+    let markers = replica.store().markers();
+    assert!(rt; message.markers().len() == 2);
+    assert!(rt; message.markers().first() == markers.first());
+    assert!(rt; message.markers().last() == markers.last());
+}
+
+#[test]
+fn leaves_out_common_changesets_and_tells_their_phases(rt: HostRuntime) {
+    let alloc = rt.alloc();
+    let mut replica = Replica::new(alloc);
+    let nodes = scene(alloc, &mut replica).expect(&rt, "memory");
+    let message = offer(alloc, &replica, &[nodes.b]).expect(&rt, "an offer");
+    assert!(rt; are(&message, &[nodes.c]));
+    assert!(rt; message.bounds().len() == 3 && message.markers().len() == 2);
+}
+
+#[test]
+fn refuses_the_first_common_node_that_is_not_held(rt: HostRuntime) {
+    let alloc = rt.alloc();
+    let mut replica = Replica::new(alloc);
+    let nodes = scene(alloc, &mut replica).expect(&rt, "memory");
+    let unknown = Node([0x33; 20]);
+    let refused = offer(alloc, &replica, &[nodes.a, unknown, Node::NULL]);
+    assert!(rt; refused == Err(OfferRefusal::UnknownCommon(unknown)));
+}
+
+// A replica without changesets takes in all that another offers, and the marker that leads to nothing that it has.
+#[test]
+fn an_offer_is_taken_in_by_an_empty_replica(rt: HostRuntime) {
+    let alloc = rt.alloc();
+    let mut replica = Replica::new(alloc);
+    scene(alloc, &mut replica).expect(&rt, "memory");
+    let mut other = Replica::new(alloc);
+    let message = offer(alloc, &replica, &[]).expect(&rt, "an offer");
+    let part = message.into_part().expect(&rt, "memory");
+    let change = other.absorb(&part).expect(&rt, "a part that is admitted");
+    assert!(rt; change.added.len() == 3 && change.markers.len() == 2);
+}
+
+#[test]
+fn numbers_and_names_of_refusals(rt: HostRuntime) {
+    let alloc = rt.alloc();
+    let unknown = OfferRefusal::UnknownCommon(Node::NULL);
+    assert!(rt; unknown.number() == Some(1) && OfferRefusal::TooLarge.number() == Some(2));
+    assert!(rt; OfferRefusal::NoMemory.number().is_none());
+    let name = format!(in alloc; "{unknown}").expect(&rt, "memory");
+    assert!(rt; name.as_str() == "UnknownCommon");
+}
+
+#[test]
+fn refused_growth_offers_nothing(rt: HostRuntime) {
+    let alloc = rt.alloc();
+    let mut replica = Replica::new(alloc);
+    if scene(alloc, &mut replica).is_none() {
+        return;
+    }
+    let message = match offer(alloc, &replica, &[]) {
+        Ok(message) => message,
+        Err(refusal) => {
+            assert!(rt; refusal == OfferRefusal::NoMemory);
+            offer(alloc, &replica, &[]).expect(&rt, "memory")
+        }
+    };
+    assert!(rt; message.changesets().len() == 3 && message.markers().len() == 2);
+}
