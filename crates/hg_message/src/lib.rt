@@ -4,6 +4,9 @@
 //! whichever way it is spelled: the parents of a record may stand in either order, the metadata of a marker may be
 //! spelled in further ways, and no bytes at all are a store without markers. What a replica takes in of it is its
 //! [part](Message::part).
+//!
+//! What a replica tells one that has some common nodes is its [`offer`]: what it serves above them, and nothing that is
+//! secret or hidden.
 #![tactic(auto)]
 
 mod bound;

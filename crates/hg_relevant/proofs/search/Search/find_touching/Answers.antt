@@ -1,6 +1,5 @@
 use Rattle.std.proofs.Common.{◌≡◌, List, Contains, subst}
 use Rattle.hg_marker.specs.Fields.{Fields}
-use Rattle.hg_marker.specs.Parents.{recorded_parents}
 use Rattle.hg_obsstore.specs.Markers.{IsAt}
 use Rattle.hg_relevant.specs.Relevant.{IsPrune}
 use Rattle.hg_relevant.specs.Search.{Finds}
