@@ -3,10 +3,8 @@ use Rattle.std.proofs.Common.{◌≡◌, Bool, true, false, true≢false, not, I
 use Rattle.std.proofs.lemmas.List.{take_more, take_all}
 use Rattle.std.proofs.lemmas.List.Elements.{Contains-append_left, Contains-push, Contains-push_cases}
 use Rattle.hg_changeset.specs.declared.node.Node.{Node}
+use Rattle.hg_changeset.proofs.ListLemmas.{Contains-none}
 use Rattle.hg_marker.specs.Fields.{Fields}
-
-pub none_in : {X : Type 0} (y : X) → Contains [] y → ⊥
-none_in y h = omega (arith, h.1)
 
 -- one element more
 pub pushed : {X : Type 0} (xs : List X) (x y : X) → Contains (xs ++ x ∷ []) y ↔ (Contains xs y ⊎ (x ≡ y))
@@ -31,7 +29,7 @@ abbrev pub IsAlso : Node → (Node → Type 0) → (Node → Type 0) → Type 0
 IsAlso m Old New = (n : Node) → New n ↔ (Old n ⊎ (m ≡ n))
 
 pub those-none : (Seen P : Node → Type 0) (found : List Node) → found ≡ [] → ((n : Node) → ¬ (Seen n)) → AreThose Seen P found
-those-none Seen P found is never n = (λ h. absurd (none_in n (subst (λ ns. Contains ns n) is h)), λ h. absurd (never n h.0))
+those-none Seen P found is never n = (λ h. absurd (Contains-none n (subst (λ ns. Contains ns n) is h)), λ h. absurd (never n h.0))
 
 module _ (Seen More P : Node → Type 0) (found : List Node) (m : Node) (those : AreThose Seen P found) (more : IsAlso m Seen More) where
   pub those-found : P m → (new : List Node) → IsAlso m (Contains found) (Contains new) → AreThose More P new
@@ -60,7 +58,7 @@ abbrev pub AreDivided : (Node → Type 0) → (Node → Type 0) → (Node → Ty
 AreDivided Seen Pass Fail found = (n : Node) → (Contains found n → Seen n × Pass n) × (Seen n → Contains found n ⊎ Fail n)
 
 pub divided-none : (Seen Pass Fail : Node → Type 0) (found : List Node) → found ≡ [] → ((n : Node) → ¬ (Seen n)) → AreDivided Seen Pass Fail found
-divided-none Seen Pass Fail found is never n = (λ h. absurd (none_in n (subst (λ ns. Contains ns n) is h)), λ h. absurd (never n h))
+divided-none Seen Pass Fail found is never n = (λ h. absurd (Contains-none n (subst (λ ns. Contains ns n) is h)), λ h. absurd (never n h))
 
 module _ (Seen More Pass Fail : Node → Type 0) (found : List Node) (m : Node) (divided : AreDivided Seen Pass Fail found) (more : IsAlso m Seen More) where
   pub divided-pushed : Pass m → (new : List Node) → new ≡ found ++ m ∷ [] → AreDivided More Pass Fail new

@@ -5,12 +5,11 @@ use Rattle.hg_changeset.specs.Contents.{Contents}
 use Rattle.hg_graph.specs.Graph.{nodes, Holds, IsAncestorOfOne, IsDescendantOfOne, Selects}
 use Rattle.hg_graph.proofs.PlaceLemmas.{Holds-reaching, Holds-reached}
 use Rattle.hg_phases.specs.State.{changesets}
-use Rattle.hg_changeset.proofs.ListLemmas.{Contains-first, Contains-cons_cases, Contains-later}
+use Rattle.hg_changeset.proofs.ListLemmas.{Contains-none, Contains-first, Contains-cons_cases, Contains-later}
 use Rattle.hg_history.proofs.ContentLemmas.{content-node, node_in_content, leads_from_reach, reach_from_leads}
 use Rattle.hg_replica.specs.State.{ReplicaState, IsValid}
 use Rattle.hg_replica.specs.Content.{content_of}
 use Rattle.hg_replica.specs.Evolution.{IsObsolete, IsOrphan, IsSuspended, IsCurrent}
-use Rattle.hg_instab.proofs.AmongLemmas.{none_in}
 
 -- what a filter keeps
 passed_by : (test : Node → Bool) (x : Node) (xs : List Node) (y : Node) → (Contains (filter test xs) y ↔ (Contains xs y × IsTrue (test y))) → (b : Bool) → test x ≡ b → Contains (filter test (x ∷ xs)) y ↔ (Contains (x ∷ xs) y × IsTrue (test y))
@@ -33,7 +32,7 @@ passed_by test x xs y rest false e = rw e (
 )
 
 passed : (test : Node → Bool) (xs : List Node) (y : Node) → Contains (filter test xs) y ↔ (Contains xs y × IsTrue (test y))
-passed test [] y = (λ h. absurd (none_in y h), λ h. absurd (none_in y h.0))
+passed test [] y = (λ h. absurd (Contains-none y h), λ h. absurd (Contains-none y h.0))
 passed test (x ∷ xs) y = passed_by test x xs y (passed test xs y) (test x) refl
 
 -- the selected nodes are those that are so

@@ -4,6 +4,7 @@ use Rattle.std.specs.Bool.{◌==◌}
 use Rattle.std.proofs.lemmas.Bool.Decides.{nat_tests}
 use Rattle.std.proofs.lemmas.Option.{same_Some}
 use Rattle.hg_changeset.specs.declared.node.Node.{Node}
+use Rattle.hg_changeset.proofs.ListLemmas.{Contains-none}
 use Rattle.hg_graph.proofs.GraphLemmas.{Contains-from_place, place_from_Contains}
 use Rattle.hg_phases.specs.declared.phase.Phase.{Phase}
 use Rattle.hg_phases.specs.declared.phase.Phase.TheVariants.{Public}
@@ -17,7 +18,6 @@ use Rattle.hg_replica.specs.State.{ReplicaState, IsValid}
 use Rattle.hg_replica.specs.Content.{Content, content_of}
 use Rattle.hg_replica.specs.Evolution.{HasPhase, IsMutable, IsPredecessor}
 use Rattle.hg_replica.proofs.MarkerLemmas.{holds-from, in_from_holds}
-use Rattle.hg_instab.proofs.AmongLemmas.{none_in}
 
 -- the phase that was told
 pub told_phase : (s : ReplicaState) → IsValid s → (n : Node) (o : Option Phase) → MatchOption o (¬ (Holds s.history n)) (IsPhaseOf s.history n) → MatchOption o (¬ (IsHeld (content_of s).0 n)) (HasPhase (content_of s) n)
@@ -49,7 +49,7 @@ not_true false h e = true≢false (sym e)
 pub told_predecessor : (s : ReplicaState) (n : Node) (ms : List Fields) (places : List ℕ) (b : Bool) → ms ≡ s.markers → ArePlaces (λ m. m.predecessor ≡ n) ms places → b ≡ (length places == 0) → IsTrue (not b) ↔ IsPredecessor (content_of s) n
 told_predecessor s n ms [] b is are e = (
   (λ t. absurd (not_true b t e)),
-  (λ h. let p = place_from_Contains ms h.0 (subst (λ xs. Contains xs h.0) (sym is) (in_from_holds s.markers h.0 h.1)) in absurd (none_in p.0 ((are.exact p.0).1 (h.0, p.1, h.2)))),
+  (λ h. let p = place_from_Contains ms h.0 (subst (λ xs. Contains xs h.0) (sym is) (in_from_holds s.markers h.0 h.1)) in absurd (Contains-none p.0 ((are.exact p.0).1 (h.0, p.1, h.2)))),
 )
 told_predecessor s n ms (x ∷ xs) b is are e = (
   (λ t. let m = (are.exact x).0 (0, omega arith, refl) in (m.0, holds-from s.markers m.0 (subst (λ ys. Contains ys m.0) is (Contains-from_place ms x m.0 m.1)), m.2)),

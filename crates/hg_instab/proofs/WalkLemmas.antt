@@ -10,14 +10,14 @@ use Rattle.hg_changeset.specs.declared.node.Node.{Node}
 use Rattle.hg_changeset.specs.Node.{node_eq}
 use Rattle.hg_changeset.proofs.NodeLemmas.{same_node, node_eq_laws}
 use Rattle.hg_graph.proofs.GraphLemmas.{Contains-from_place, place_from_Contains}
-use Rattle.hg_changeset.proofs.ListLemmas.{Contains-cons_cases}
+use Rattle.hg_changeset.proofs.ListLemmas.{Contains-none, Contains-cons_cases}
 use Rattle.hg_marker.specs.Fields.{Fields}
 use Rattle.hg_obsstore.specs.Markers.{ArePlaces}
 use Rattle.hg_instab.specs.declared.walk.Way.{Way}
 use Rattle.hg_instab.specs.declared.walk.Way.TheVariants.{ToSuccessors, ToPredecessors}
 use Rattle.hg_instab.specs.Walk.{IsReached, IsNext, IsBefore, IsStep, Leads, Adds}
 use Rattle.hg_instab.specs.Walk.Leads.{one, further}
-use Rattle.hg_instab.proofs.AmongLemmas.{none_in, pushed, taken}
+use Rattle.hg_instab.proofs.AmongLemmas.{pushed, taken}
 use Rattle.indexmap.specs.IndexSet.{insert_key}
 
 -- ---- what is added
@@ -142,7 +142,7 @@ ids [] = []
 ids (m ∷ ms) = (m.predecessor ∷ m.successors) ++ ids ms
 
 named : (ms : List Fields) (m : Fields) (n : Node) → Contains ms m → Contains (m.predecessor ∷ m.successors) n → Contains (ids ms) n
-named [] m n at h = absurd (none_in m at)
+named [] m n at h = absurd (Contains-none m at)
 named (x ∷ ms) m n at h = elim (Contains-cons_cases x ms m at) [
   | inl e ↦ Contains-append_left (x.predecessor ∷ x.successors) (ids ms) n (subst (λ y. Contains (y.predecessor ∷ y.successors) n) (sym e) h)
   | inr more ↦ Contains-append_right (x.predecessor ∷ x.successors) (ids ms) n (named ms m n more h)
@@ -167,7 +167,7 @@ module _ (way : Way) (ms : List Fields) (starts : List Node) where
   walk-start = record {
     sound = λ n h. inl h;
     begun = λ n h. h;
-    closed = λ p n h next. absurd (none_in p h);
+    closed = λ p n h next. absurd (Contains-none p h);
   }
 
   -- what a step leads to from what is reached is reached

@@ -259,19 +259,7 @@ module _ {X Y F : Type 0} (view : X → Y) (P : Y → Type 0) (Q : F → Type 0)
       same_fault : ◌≡◌ {A = Result X (ReadError F)} (Err (Fault other)) (Err (Fault f)) → other ≡ f
       same_fault e = cc
 
--- where nothing was read for a fault, something was read for none
--- where there is a fault it is told, since memory can be wanting only for what is read
-pub told_first : {X Y F : Type 0} (view : X → Y) (r : Result X (ReadError F)) (read : Result Y F) (f : F) → Gives view r read → read ≡ Err f → IsErrOf r (Fault f)
-told_first {Y = Y} {F = F} view (Ok x) read f given h = absurd (no_ok (sym given ∙ h))
-  where
-    no_ok : ◌≡◌ {A = Result Y F} (Ok (view x)) (Err f) → ⊥
-    no_ok e = cc
-told_first {Y = Y} {F = F} view (Err NoMemory) read f given h = absurd (subst (λ (r : Result Y F). IsRead r) h given)
-told_first {Y = Y} {F = F} view (Err (Fault g)) read f given h = ap (λ (k : F). Err (Fault k)) (same_one (sym given ∙ h))
-  where
-    same_one : ◌≡◌ {A = Result Y F} (Err g) (Err f) → g ≡ f
-    same_one e = cc
-
+-- where there is no fault something was read
 pub is_read : {Y F : Type 0} (read : Result Y F) (y : Y) → read ≡ Ok y → IsRead read
 is_read {Y} {F} read y e = subst (λ (r : Result Y F). IsRead r) (sym e) tt
 

@@ -7,6 +7,7 @@ use Rattle.std.proofs.lemmas.Map.Made.{length-le_from_is_member}
 use Rattle.std.proofs.lemmas.Map.Views.{Contains-from_any, list_any-from_Contains}
 use Rattle.std.proofs.lemmas.Option.{same_Some}
 use Rattle.hg_changeset.specs.declared.node.Node.{Node}
+use Rattle.hg_changeset.proofs.ListLemmas.{Contains-none}
 use Rattle.hg_changeset.specs.Node.{node_eq}
 use Rattle.hg_changeset.specs.Contents.{Contents}
 use Rattle.hg_changeset.specs.Changeset.{node_of}
@@ -24,7 +25,7 @@ use Rattle.hg_replica.specs.State.{ReplicaState, IsValid}
 use Rattle.hg_replica.specs.Content.{content_of}
 use Rattle.hg_replica.specs.Evolution.{IsObsolete, IsVisible}
 use Rattle.hg_instab.specs.Walk.{Adds}
-use Rattle.hg_instab.proofs.AmongLemmas.{none_in, taken}
+use Rattle.hg_instab.proofs.AmongLemmas.{taken}
 use Rattle.hg_instab.proofs.WalkLemmas.{front-kept}
 use Rattle.hg_view.specs.Shown.{IsChild, IsAtOne}
 
@@ -81,10 +82,10 @@ module _ (s : ReplicaState) (valid : IsValid s) (start : Node) where
   search-start met o a =
       let held = node_in_content s.history valid.graph start (o.0.0, o.0.1) in
       record {
-        sound = λ n h. elim ((a.members n).0 h) [ inl none ↦ absurd (none_in n none) | inr e ↦ subst (Reaches (changesets s.history) start) e (itself held) ];
+        sound = λ n h. elim ((a.members n).0 h) [ inl none ↦ absurd (Contains-none n none) | inr e ↦ subst (Reaches (changesets s.history) start) e (itself held) ];
         begun = (a.members start).1 (inr refl);
-        closed = λ p n h child. absurd (none_in p h);
-        obsolete = λ p h. absurd (none_in p h);
+        closed = λ p n h child. absurd (Contains-none p h);
+        obsolete = λ p h. absurd (Contains-none p h);
       }
 
   pub search-step : (met new : List Node) (i : ℕ) (x : Node) → i < length met → get_or met i x ≡ x → IsSearched s start met i → IsObsolete (content_of s) x → Adds (IsChild (changesets s.history) x) met new → IsSearched s start new (i + 1)

@@ -1,12 +1,13 @@
 use Rattle.std.proofs.Common.{take, ◌+◌, [], get_or, Bool, Contains, true, false, sym, ap, subst, ◌∙◌}
 use Rattle.std.proofs.lemmas.List.{take_all}
 use Rattle.hg_changeset.specs.declared.node.Node.{Node}
-use Rattle.hg_instab.proofs.AmongLemmas.{AreDivided, divided-none, divided-pushed, divided-other, none_in, also-taken}
+use Rattle.hg_changeset.proofs.ListLemmas.{Contains-none}
+use Rattle.hg_instab.proofs.AmongLemmas.{AreDivided, divided-none, divided-pushed, divided-other, also-taken}
 use Rattle.hg_instab.proofs.among.among.Goals as goal
 use Rattle.hg_instab.proofs.among.among.Goals.{then-test+in_ok-push, else-test}
 
 pub loop-node-init : goal.loop-node-init
-loop-node-init g c = divided-none (Contains []) (λ n. goal.F-post g c.args.test n true) (λ n. goal.F-post g c.args.test n false) _ c.new-found.ensures.items none_in
+loop-node-init g c = divided-none (Contains []) (λ n. goal.F-post g c.args.test n true) (λ n. goal.F-post g c.args.test n false) _ c.new-found.ensures.items Contains-none
 
 pub loop-node-preserved : goal.loop-node-preserved
 loop-node-preserved g c =

@@ -2,7 +2,8 @@ use Rattle.std.proofs.Common.{arith, subst}
 use Rattle.hg_marker.specs.Reading.{Gives}
 use Rattle.hg_obsstore.specs.Faults.{IsStoreFault}
 use Rattle.hg_obsstore.specs.Spelling.{IsStoreSpelling}
-use Rattle.hg_obsstore.proofs.FormatLemmas.{store_told, store_read, store_refused, found, fault, told_first}
+use Rattle.hg_marker.proofs.FaultLemmas.{told_first}
+use Rattle.hg_obsstore.proofs.FormatLemmas.{store_told, store_read, store_refused, found, fault}
 use Rattle.hg_obsstore.proofs.format.read_markers.Goals as goal
 
 pub returns-clause-only : goal.returns-clause-only
