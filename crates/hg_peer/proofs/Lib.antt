@@ -1,0 +1,5 @@
+pub mod PeerLemmas
+pub mod AgreeLemmas
+pub mod SecretLemmas
+pub mod SmallestLemmas
+pub mod FormulaLemmas

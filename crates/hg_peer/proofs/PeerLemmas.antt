@@ -1,0 +1,91 @@
+-- What the calls of a peer tell.
+use Rattle.std.proofs.Common.{◌≡◌, true, true≢false, ℕ, Option, Some, None, List, [], Result, Ok, Err, Contains, refl, sym, subst, ◌∙◌, inl, inr, ◌⊎◌}
+use Rattle.std.specs.Prelude.{length, IfOk}
+use Rattle.std.specs.declared.vec.Vec.{Vec}
+use Rattle.std.specs.declared.alloc.Global.{Global}
+use Rattle.std.proofs.lemmas.Bool.{le-ltb}
+use Rattle.hg_join.specs.Order.{IsLeastOfAll, IsDue}
+use Rattle.hg_changeset.specs.declared.node.Node.{Node}
+use Rattle.hg_changeset.specs.Contents.{Contents}
+use Rattle.hg_changeset.specs.Changeset.{IsChangeset}
+use Rattle.hg_phases.specs.State.{state_of}
+use Rattle.hg_history.specs.Content.IsGrounded.{grounded}
+use Rattle.hg_history.proofs.ContentLemmas.{content-admits}
+use Rattle.hg_replica.specs.State.{ReplicaState, IsValid}
+use Rattle.hg_replica.specs.Least.{PartValue}
+use Rattle.hg_replica.specs.Content.{content_of, IsValidContent, ContentBelow, ContentAdmits}
+use Rattle.hg_rewrite.specs.declared.op.Op.{Op}
+use Rattle.hg_rewrite.specs.Answer.{DecideAnswer}
+use Rattle.hg_obsstore.specs.Spelling.{store_spelling}
+use Rattle.hg_message.specs.declared.refusal.OfferRefusal.{OfferRefusal}
+use Rattle.hg_message.specs.declared.refusal.OfferRefusal.TheVariants as offer
+use Rattle.hg_message.specs.Value.{MessageValue, IsMessage, count_limit, is_too_large}
+use Rattle.hg_message.specs.Message.{message_at}
+use Rattle.hg_message.specs.Spelling.{IsMessageSpelling, message_spelling}
+use Rattle.hg_message.specs.Offer.{AreHeld, OfferAnswer}
+use Rattle.hg_message.proofs.SpellingLemmas.{spelling_is_read}
+use Rattle.hg_message.proofs.ExistLemmas.{offer-exists}
+use Rattle.hg_peer.specs.declared.refusal.PeerRefusal.{PeerRefusal}
+use Rattle.hg_peer.specs.declared.refusal.PeerRefusal.TheVariants.{Offer}
+use Rattle.hg_peer.specs.Refusals.{offer_refusal}
+use Rattle.hg_peer.specs.Peers.{CanBeWritten, Offers, IsAgainstOffer, IsMemory}
+
+-- ---- a replica that holds nothing says nothing
+
+none_is_some : {X : Type 0} (o : Option X) (x : X) → o ≡ None → o ≡ Some x → ⊥
+none_is_some o x e f = cc
+
+pub empty_is_least : (s : ReplicaState) → s ≡ record { history = state_of [] []; markers = [] } → IsLeastOfAll IsValidContent ContentBelow (content_of s)
+empty_is_least s e = rw e (record {
+  valid = record {
+    named = λ n h x. absurd (none_is_some None h refl x);
+    parents = λ n h p x is. absurd (none_is_some None h refl x);
+    grounded = λ n. grounded (λ h p x is. absurd (none_is_some None h refl x));
+  };
+  least = λ other v. ((λ n h x. absurd (none_is_some None h refl x)), (λ m x. absurd cc));
+})
+
+-- ---- operations
+
+pub decided-admitted : (s : ReplicaState) (op : Op) (part : PartValue) → IsValid s → ((c : Contents) → Contains part.history.changesets c → IsChangeset c) → DecideAnswer s op (Ok part) → ContentAdmits (content_of s) part
+decided-admitted s op part v all h = content-admits s.history part.history v.graph all h.2
+
+-- ---- offers
+
+pub offered : (s : ReplicaState) (common : Vec Node Global) (lent : List Node) (m : MessageValue) {E : Type 0} (r : Result (Vec ℕ Global) E) → lent ≡ common.items → IsValid s → OfferAnswer s lent (Ok m) → IfOk r (λ bytes. CanBeWritten m × (bytes.items ≡ message_spelling m)) →
+    IfOk r (λ bytes. Offers s common bytes.items)
+offered s common lent m (Ok bytes) e v h w =
+    let moved : OfferAnswer s common.items (Ok m) = subst (λ (ns : List Node). OfferAnswer s ns (Ok m)) e h in
+    record { valid = v; held = moved.0; message = m; offered = moved.1; writable = w.0; written = w.1 }
+offered s common lent m (Err x) e v h w = tt
+
+-- some offer can be written or none can
+offer-due : (s : ReplicaState) (common : Vec Node Global) → IsValid s → AreHeld (content_of s) common.items → IsDue (Offers s common) (IsAgainstOffer s common)
+offer-due s common v held f g =
+    offer-exists s common.items v (λ m o. g (Offer offer.TooLarge) (held, (m, o, λ w. f (message_spelling m) (record { valid = v; held = held; message = m; offered = o; writable = w; written = refl }))))
+
+one-due : (s : ReplicaState) (common : Vec Node Global) (r : Result MessageValue OfferRefusal) → IsValid s → OfferAnswer s common.items r → IsDue (Offers s common) (IsAgainstOffer s common)
+one-due s common (Ok m) v h = offer-due s common v h.0
+one-due s common (Err (offer.UnknownCommon node)) v h = λ f g. g (Offer (offer.UnknownCommon node)) h
+one-due s common (Err offer.TooLarge) v h = offer-due s common v h.0
+one-due s common (Err offer.NoMemory) v h = offer-due s common v h
+
+pub answered-due : (s : ReplicaState) (common : Vec Node Global) (lent : List Node) (r : Result MessageValue OfferRefusal) → lent ≡ common.items → IsValid s → OfferAnswer s lent r → IsDue (Offers s common) (IsAgainstOffer s common)
+answered-due s common lent r e v h = one-due s common r v (subst (λ (ns : List Node). OfferAnswer s ns r) e h)
+
+-- a message isn't too large
+fits : (m : MessageValue) → IsMessage m → is_too_large m ≡ true → ⊥
+fits m h e = true≢false (sym e ∙ rw (le-ltb count_limit (length m.changesets) h.changesets, le-ltb count_limit (length m.bounds) h.bounds, le-ltb count_limit (length (store_spelling m.markers)) h.store) refl)
+
+one-refused : (s : ReplicaState) (common : Vec Node Global) (r : OfferRefusal) → OfferAnswer s common.items (Err r) → IsAgainstOffer s common (offer_refusal r) ⊎ IsMemory (offer_refusal r)
+one-refused s common (offer.UnknownCommon node) h = inl h
+one-refused s common offer.TooLarge h = inl (h.0, (h.1.0, h.1.1, λ w. fits h.1.0 w.0 h.1.2))
+one-refused s common offer.NoMemory h = inr refl
+
+pub refused-offer : (s : ReplicaState) (common : Vec Node Global) (lent : List Node) (r : OfferRefusal) (told : PeerRefusal) → lent ≡ common.items → told ≡ offer_refusal r → OfferAnswer s lent (Err r) → IsAgainstOffer s common told ⊎ IsMemory told
+refused-offer s common lent r told e is h =
+    subst (λ (x : PeerRefusal). IsAgainstOffer s common x ⊎ IsMemory x) (sym is) (one-refused s common r (subst (λ (ns : List Node). OfferAnswer s ns (Err r)) e h))
+
+-- what is written says the message
+pub written-well : (m : MessageValue) (bytes : List ℕ) → IsMessage m → bytes ≡ message_spelling m → IsMessageSpelling m bytes → CanBeWritten m × (bytes ≡ message_spelling m)
+written-well m bytes small e spells = ((small, subst (λ (b : List ℕ). message_at b ≡ Ok m) e (spelling_is_read m bytes spells)), e)

@@ -1,0 +1,23 @@
+-- What replicas agree on that have one content.
+use Rattle.std.specs.Prelude.{◌↔◌}
+use Rattle.hg_changeset.specs.declared.node.Node.{Node}
+use Rattle.hg_changeset.specs.Contents.{Contents}
+use Rattle.hg_phases.specs.declared.phase.Phase.{Phase}
+use Rattle.hg_marker.specs.Fields.{Fields}
+use Rattle.hg_history.specs.Content.{IsHeldAs}
+use Rattle.hg_replica.specs.Content.{Content}
+use Rattle.hg_replica.specs.Evolution.{HasPhase, IsMarker, IsObsolete, IsOrphan, IsSuspended, IsExtinct, IsPhaseDivergent, IsVisible}
+use Rattle.hg_instab.specs.Instabilities.{IsContentDivergent}
+
+-- the same changesets, phases, markers and instabilities, and the same visible set
+pub record Agree (f g : Content) : Type 0 where
+  pub changesets : (n : Node) (c : Contents) → IsHeldAs f.0 n c ↔ IsHeldAs g.0 n c
+  pub phases : (n : Node) (k : Phase) → HasPhase f n k ↔ HasPhase g n k
+  pub markers : (m : Fields) → IsMarker f m ↔ IsMarker g m
+  pub obsolete : (n : Node) → IsObsolete f n ↔ IsObsolete g n
+  pub orphan : (n : Node) → IsOrphan f n ↔ IsOrphan g n
+  pub suspended : (n : Node) → IsSuspended f n ↔ IsSuspended g n
+  pub extinct : (n : Node) → IsExtinct f n ↔ IsExtinct g n
+  pub phase_divergent : (n : Node) → IsPhaseDivergent f n ↔ IsPhaseDivergent g n
+  pub content_divergent : (n : Node) → IsContentDivergent f n ↔ IsContentDivergent g n
+  pub visible : (n : Node) → IsVisible f n ↔ IsVisible g n

@@ -1,0 +1,74 @@
+-- What a peer decides, offers and reads.
+use Rattle.std.specs.Prelude.{◌≡◌, ℕ, List, Ok, Err}
+use Rattle.std.specs.declared.vec.Vec.{Vec}
+use Rattle.std.specs.declared.alloc.Global.{Global}
+use Rattle.hg_changeset.specs.declared.node.Node.{Node}
+use Rattle.hg_replica.specs.State.{ReplicaState, IsValid}
+use Rattle.hg_replica.specs.Least.{PartValue}
+use Rattle.hg_replica.specs.Content.{content_of}
+use Rattle.hg_rewrite.specs.declared.op.Op.{Op}
+use Rattle.hg_rewrite.specs.Parts.{part_of as operation_part}
+use Rattle.hg_rewrite.specs.Refusals.{NoneApplies, IsFirstRefusal, refusals}
+use Rattle.hg_message.specs.declared.refusal.OfferRefusal.TheVariants.{UnknownCommon, TooLarge}
+use Rattle.hg_message.specs.declared.refusal.OfferRefusal.TheVariants as offer
+use Rattle.hg_message.specs.Value.{MessageValue, IsMessage}
+use Rattle.hg_message.specs.Message.{message_at}
+use Rattle.hg_message.specs.Spelling.{message_spelling}
+use Rattle.hg_message.specs.Part.{part_of as message_part}
+use Rattle.hg_message.specs.Offer.{AreHeld, IsFirstUnknown, IsOffer}
+use Rattle.hg_peer.specs.declared.refusal.PeerRefusal.{PeerRefusal}
+use Rattle.hg_peer.specs.declared.refusal.PeerRefusal.TheVariants.{Rewrite, Offer, Message, NoMemory}
+
+-- the refusal says no more than that memory ran out
+abbrev pub IsMemory : PeerRefusal → Type 0
+IsMemory refusal = refusal ≡ NoMemory
+
+-- ---- operations
+
+-- the state is valid, no refusal applies, and the part is that of the table of operations
+abbrev pub Decides : ReplicaState → Op → PartValue → Type 0
+Decides s op part = IsValid s × NoneApplies (refusals s op) × (part ≡ operation_part s op)
+
+-- the first refusal that applies
+abbrev pub IsAgainstOperation : ReplicaState → Op → PeerRefusal → Type 0
+IsAgainstOperation s op (Rewrite refusal) = IsFirstRefusal (refusals s op) refusal
+IsAgainstOperation s op (Offer refusal) = ⊥
+IsAgainstOperation s op (Message fault) = ⊥
+IsAgainstOperation s op NoMemory = ⊥
+
+-- ---- offers
+
+-- the message isn't too large, and what is written of it is read as it. The latter is so of all that a replica holds
+abbrev pub CanBeWritten : MessageValue → Type 0
+CanBeWritten m = IsMessage m × (message_at (message_spelling m) ≡ Ok m)
+
+-- the state is valid and holds the common nodes, and the bytes are what is written of its offer above them
+pub record Offers (s : ReplicaState) (common : Vec Node Global) (bytes : List ℕ) : Type 0 where
+  pub valid : IsValid s
+  pub held : AreHeld (content_of s) common.items
+  pub message : MessageValue
+  pub offered : IsOffer s common.items message
+  pub writable : CanBeWritten message
+  pub written : bytes ≡ message_spelling message
+
+-- the first of the common nodes that isn't held; or the offer above them can't be written
+abbrev pub IsAgainstOffer : ReplicaState → Vec Node Global → PeerRefusal → Type 0
+IsAgainstOffer s common (Rewrite refusal) = ⊥
+IsAgainstOffer s common (Offer (UnknownCommon node)) = IsFirstUnknown (content_of s) common.items node
+IsAgainstOffer s common (Offer TooLarge) = AreHeld (content_of s) common.items × ((m : MessageValue) × IsOffer s common.items m × ¬ (CanBeWritten m))
+IsAgainstOffer s common (Offer offer.NoMemory) = ⊥
+IsAgainstOffer s common (Message fault) = ⊥
+IsAgainstOffer s common NoMemory = ⊥
+
+-- ---- bytes
+
+-- the part of the message that the bytes say
+abbrev pub SpellsPart : List ℕ → PartValue → Type 0
+SpellsPart bytes part = (m : MessageValue) × (message_at bytes ≡ Ok m) × (part ≡ message_part m)
+
+-- the first fault of the bytes
+abbrev pub IsAgainstBytes : List ℕ → PeerRefusal → Type 0
+IsAgainstBytes bytes (Rewrite refusal) = ⊥
+IsAgainstBytes bytes (Offer refusal) = ⊥
+IsAgainstBytes bytes (Message fault) = message_at bytes ≡ Err fault
+IsAgainstBytes bytes NoMemory = ⊥

@@ -1,0 +1,52 @@
+-- Why a peer refuses: the numbers and texts, and which refusal of a peer tells which of its crates.
+use Rattle.std.specs.Prelude.{ℕ, List, Option, Some, None, codes}
+use Rattle.hg_marker.specs.declared.error.ReadError.{ReadError}
+use Rattle.hg_marker.specs.declared.error.ReadError.TheVariants as reading
+use Rattle.hg_rewrite.specs.declared.refusal.Refusal.{Refusal}
+use Rattle.hg_rewrite.specs.declared.refusal.Refusal.TheVariants as operation
+use Rattle.hg_rewrite.specs.Names.{refusal_number, refusal_name}
+use Rattle.hg_message.specs.declared.refusal.OfferRefusal.{OfferRefusal}
+use Rattle.hg_message.specs.declared.refusal.OfferRefusal.TheVariants as offer
+use Rattle.hg_message.specs.declared.error.MessageFault.{MessageFault}
+use Rattle.hg_message.specs.OfferRefusals.{offer_refusal_number, offer_refusal_name}
+use Rattle.hg_message.specs.Refusals.{message_fault_number, message_fault_text}
+use Rattle.hg_peer.specs.declared.refusal.PeerRefusal.{PeerRefusal}
+use Rattle.hg_peer.specs.declared.refusal.PeerRefusal.TheVariants.{Rewrite, Offer, Message, NoMemory}
+
+-- the number that a user reads, which is that of the operation's refusal, of the offer's or of the message's fault; want of memory has none
+abbrev pub peer_refusal_number : PeerRefusal → Option ℕ
+peer_refusal_number (Rewrite refusal) = refusal_number refusal
+peer_refusal_number (Offer refusal) = offer_refusal_number refusal
+peer_refusal_number (Message fault) = Some (message_fault_number fault)
+peer_refusal_number NoMemory = None
+
+-- its text
+abbrev pub peer_refusal_text : PeerRefusal → List ℕ
+peer_refusal_text (Rewrite refusal) = refusal_name refusal
+peer_refusal_text (Offer refusal) = offer_refusal_name refusal
+peer_refusal_text (Message fault) = message_fault_text fault
+peer_refusal_text NoMemory = codes "NoMemory"
+
+-- how a peer tells that an operation is refused
+abbrev pub rewrite_refusal : Refusal → PeerRefusal
+rewrite_refusal (operation.Unknown node) = Rewrite (operation.Unknown node)
+rewrite_refusal (operation.Hidden node) = Rewrite (operation.Hidden node)
+rewrite_refusal (operation.Public node) = Rewrite (operation.Public node)
+rewrite_refusal (operation.AlreadyObsolete node) = Rewrite (operation.AlreadyObsolete node)
+rewrite_refusal operation.NotLinear = Rewrite operation.NotLinear
+rewrite_refusal operation.Count = Rewrite operation.Count
+rewrite_refusal operation.Raise = Rewrite operation.Raise
+rewrite_refusal (operation.Fault cause) = Rewrite (operation.Fault cause)
+rewrite_refusal (operation.Exists node) = Rewrite (operation.Exists node)
+rewrite_refusal operation.NoMemory = NoMemory
+
+-- how a peer tells that nothing is offered
+abbrev pub offer_refusal : OfferRefusal → PeerRefusal
+offer_refusal (offer.UnknownCommon node) = Offer (offer.UnknownCommon node)
+offer_refusal offer.TooLarge = Offer offer.TooLarge
+offer_refusal offer.NoMemory = NoMemory
+
+-- how a peer tells that bytes are no message
+abbrev pub message_refusal : ReadError MessageFault → PeerRefusal
+message_refusal (reading.Fault fault) = Message fault
+message_refusal reading.NoMemory = NoMemory

@@ -1,0 +1,46 @@
+//! Replicas that exchange messages, and what holds of them whatever happens to the messages.
+//!
+//! A [`Peer`] is a [`Replica`](hg_replica::Replica) as a state that acts: it decides an operation
+//! ([`Op`](hg_rewrite::Op)), offers what it serves above some common nodes, as the bytes of a message
+//! ([`Message`](hg_message::Message)), and reads such bytes. So a [`World`](hg_world::World) runs lists of events over
+//! peers: operations of their own, offers, and messages that they take.
+//!
+//! # What holds
+//!
+//! **For every list of local operations, offers, losses, repeats and late or reordered deliveries among any number of
+//! peers, each peer's state is the least valid state covering every operation and message it accepted; so peers that cover
+//! each other's contributions agree on changesets, phases, markers, every instability and the visible set; and no message
+//! holds a changeset that was secret at its maker.**
+//!
+//! | In the sentence | What it means | Where it is said |
+//! |---|---|---|
+//! | every list | any list of [`Event`](hg_world::Event)s, in one call or in several | [`World::run`](hg_world::World::run), [`runs_compose`](hg_world::runs_compose) |
+//! | losses, repeats, late or reordered deliveries | a message that nobody takes is lost; any peer may take any message of the pool at any time, and again | [`World::run`](hg_world::World::run) |
+//! | is the least valid state covering | it is valid, covers each accepted part, and is below each valid state that does so | [`states_are_least`](hg_world::states_are_least) |
+//! | | by the formula: the changesets and markers of the parts, and for each changeset the lowest phase that a bound gives it | [`peers_are_least`] |
+//! | every operation and message it accepted | those that were answered [`Accepted`](hg_world::Answer::Accepted); the part of an operation is that of the table of operations, at the state in which it was decided | [`World::run`](hg_world::World::run), `specs/Peers.antt` |
+//! | cover each other's contributions | the state of each covers each part that the other accepted | [`covering_peers_agree`] |
+//! | agree on changesets, phases, markers, every instability and the visible set | the sets of obsolete, orphan, suspended, extinct, phase-divergent and content-divergent changesets are among them | [`covering_peers_agree`], `specs/Agreement.antt` |
+//! | no message holds | neither as a record nor as a bound; a marker may name any id | [`no_message_holds_a_secret`] |
+//! | secret at its maker | in the state that the Offer read | [`no_message_holds_a_secret`], `specs/Secrets.antt` |
+//!
+//! The laws speak of runs by the definition `Runs`, and the contract of [`World::run`](hg_world::World::run) says that what
+//! happened is one.
+//!
+//! # The premises
+//!
+//! - The world began new, where a law says so: each of its peers was empty, and its pool too.
+//! - Nothing raises a phase, and nothing is taken away: no operation does either.
+//! - Two changesets under one id never stand in one state: the part that would bring the second is refused by the id, as
+//!   [`Fault::Collision`](hg_history::Fault::Collision).
+//! - Where memory is wanting, nothing changes.
+//! - Nothing is said of arrival: no message need ever be taken, and peers need not come to cover each other.
+#![tactic(auto)]
+
+mod laws;
+mod peer;
+mod refusal;
+
+pub use laws::{covering_peers_agree, no_message_holds_a_secret, peers_are_least};
+pub use peer::Peer;
+pub use refusal::PeerRefusal;

@@ -1,0 +1,45 @@
+//! Single calls of a peer: the bytes that it offers and reads, and how its refusals read.
+use hg_changeset::Node;
+use hg_join::Actor;
+use hg_message::{MessageFault, OfferRefusal};
+use hg_peer::{Peer, PeerRefusal};
+use hg_replica::Replica;
+use hg_rewrite::Refusal;
+
+/// A message of nothing: the magic, version 1, no records, no bounds, and a store of 1 byte, which is its version 0.
+const NOTHING: &[u8] = b"HGFX\x01\0\0\0\0\0\0\0\0\0\0\0\x01\0";
+
+#[test]
+fn a_peer_of_nothing_offers_a_message_of_nothing(rt: HostRuntime) {
+    let alloc = rt.alloc();
+    let peer = Peer::new(Replica::new(alloc));
+    let bytes = peer.offer(alloc, &Vec::new(alloc)).expect(&rt, "an offer");
+    assert!(rt; bytes.as_slice() == NOTHING);
+    let part = Peer::read(alloc, NOTHING).expect(&rt, "a part");
+    assert!(rt; part.changesets.is_empty() && part.bounds.is_empty() && part.markers.is_empty());
+}
+
+#[test]
+fn what_cannot_be_offered_or_read_is_told(rt: HostRuntime) {
+    let alloc = rt.alloc();
+    let peer = Peer::new(Replica::new(alloc));
+    let common = [Node::NULL].to_vec(alloc).expect(&rt, "memory");
+    let unknown = PeerRefusal::Offer(OfferRefusal::UnknownCommon(Node::NULL));
+    assert_eq!(rt; peer.offer(alloc, &common).err(), Some(unknown));
+    let short = PeerRefusal::Message(MessageFault::Truncated(0));
+    assert_eq!(rt; Peer::read(alloc, b"HGF").err(), Some(short));
+}
+
+#[test]
+fn refusals_show_their_numbers_and_names(rt: HostRuntime) {
+    let operation = PeerRefusal::Rewrite(Refusal::Count);
+    let offer = PeerRefusal::Offer(OfferRefusal::TooLarge);
+    let message = PeerRefusal::Message(MessageFault::Trailing);
+    let memory = PeerRefusal::NoMemory;
+    assert_eq!(rt; [operation.number(), offer.number()], [Some(6), Some(2)]);
+    assert_eq!(rt; [message.number(), memory.number()], [Some(8), None]);
+    let text = format!(in rt.alloc(); "{operation} {offer} {message} {memory}").expect(
+        &rt, "memory",
+    );
+    assert_eq!(rt; text.as_str(), "Count TooLarge Trailing NoMemory");
+}

@@ -1,0 +1,7 @@
+//! Tests of `hg_peer`, as a caller from outside sees it: worlds of peers, and single calls.
+#![tactic(auto)]
+
+#[cfg(test)]
+mod calls;
+#[cfg(test)]
+mod exchanges;
