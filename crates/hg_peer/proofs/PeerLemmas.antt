@@ -1,6 +1,6 @@
 -- What the calls of a peer tell.
-use Rattle.std.proofs.Common.{◌≡◌, true, true≢false, ℕ, Option, Some, None, List, [], Result, Ok, Err, Contains, refl, sym, subst, ◌∙◌, inl, inr, ◌⊎◌}
-use Rattle.std.specs.Prelude.{length, IfOk}
+use Rattle.std.proofs.Common.{◌≡◌, true, true≢false, ℕ, Option, Some, None, List, [], Result, Ok, Err, Contains, refl, sym, ap, subst, ◌∙◌, inl, inr, ◌⊎◌}
+use Rattle.std.specs.Prelude.{length, IfOk, IfErr, IsErrOf}
 use Rattle.std.specs.declared.vec.Vec.{Vec}
 use Rattle.std.specs.declared.alloc.Global.{Global}
 use Rattle.std.proofs.lemmas.Bool.{le-ltb}
@@ -15,7 +15,14 @@ use Rattle.hg_replica.specs.State.{ReplicaState, IsValid}
 use Rattle.hg_replica.specs.Least.{PartValue}
 use Rattle.hg_replica.specs.Content.{content_of, IsValidContent, ContentBelow, ContentAdmits}
 use Rattle.hg_rewrite.specs.declared.op.Op.{Op}
+use Rattle.hg_rewrite.specs.declared.refusal.Refusal.{Refusal}
+use Rattle.hg_rewrite.specs.declared.refusal.Refusal.TheVariants as operation
 use Rattle.hg_rewrite.specs.Answer.{DecideAnswer}
+use Rattle.hg_rewrite.specs.Memory.{MayWantMemory}
+use Rattle.hg_marker.specs.declared.error.ReadError.{ReadError}
+use Rattle.hg_marker.specs.declared.error.ReadError.TheVariants as reading
+use Rattle.hg_marker.specs.Reading.{Fails}
+use Rattle.hg_message.specs.declared.error.MessageFault.{MessageFault}
 use Rattle.hg_obsstore.specs.Spelling.{store_spelling}
 use Rattle.hg_message.specs.declared.refusal.OfferRefusal.{OfferRefusal}
 use Rattle.hg_message.specs.declared.refusal.OfferRefusal.TheVariants as offer
@@ -26,9 +33,9 @@ use Rattle.hg_message.specs.Offer.{AreHeld, OfferAnswer}
 use Rattle.hg_message.proofs.SpellingLemmas.{spelling_is_read}
 use Rattle.hg_message.proofs.ExistLemmas.{offer-exists}
 use Rattle.hg_peer.specs.declared.refusal.PeerRefusal.{PeerRefusal}
-use Rattle.hg_peer.specs.declared.refusal.PeerRefusal.TheVariants.{Offer}
-use Rattle.hg_peer.specs.Refusals.{offer_refusal}
-use Rattle.hg_peer.specs.Peers.{CanBeWritten, Offers, IsAgainstOffer, IsMemory}
+use Rattle.hg_peer.specs.declared.refusal.PeerRefusal.TheVariants.{Offer, Message, NoMemory}
+use Rattle.hg_peer.specs.Refusals.{rewrite_refusal, offer_refusal, message_refusal}
+use Rattle.hg_peer.specs.Peers.{CanBeWritten, Offers, IsAgainstOffer, IsToldOfOffer, IsMemory}
 
 -- ---- a replica that holds nothing says nothing
 
@@ -49,6 +56,32 @@ empty_is_least s e = rw e (record {
 
 pub decided-admitted : (s : ReplicaState) (op : Op) (part : PartValue) → IsValid s → ((c : Contents) → Contains part.history.changesets c → IsChangeset c) → DecideAnswer s op (Ok part) → ContentAdmits (content_of s) part
 decided-admitted s op part v all h = content-admits s.history part.history v.graph all h.2
+
+-- want of memory is told where deciding tells it
+rewrite-memory : (r : Refusal) → rewrite_refusal r ≡ NoMemory → r ≡ operation.NoMemory
+rewrite-memory (operation.Unknown node) e = absurd cc
+rewrite-memory (operation.Hidden node) e = absurd cc
+rewrite-memory (operation.Public node) e = absurd cc
+rewrite-memory (operation.AlreadyObsolete node) e = absurd cc
+rewrite-memory operation.NotLinear e = absurd cc
+rewrite-memory operation.Count e = absurd cc
+rewrite-memory operation.Raise e = absurd cc
+rewrite-memory (operation.Fault cause) e = absurd cc
+rewrite-memory (operation.Exists node) e = absurd cc
+rewrite-memory operation.NoMemory e = refl
+
+same_error : {X : Type 0} (told other : PeerRefusal) → ◌≡◌ {A = Result X PeerRefusal} (Err told) (Err other) → told ≡ other
+same_error told other e = cc
+
+pub decide-memory : (s : ReplicaState) (op : Op) (r : Refusal) (told : PeerRefusal) → told ≡ rewrite_refusal r → (IsErrOf {T = PartValue} (Err r) operation.NoMemory → MayWantMemory s op) → IsErrOf {T = PartValue} (Err told) NoMemory → MayWantMemory s op
+decide-memory s op r told is may e = may (ap Err (rewrite-memory r (sym is ∙ same_error told NoMemory e)))
+
+-- ---- bytes
+
+pub read-memory : (r : Result MessageValue MessageFault) (error : ReadError MessageFault) (told : PeerRefusal) → told ≡ message_refusal error → Fails error r → IsErrOf {T = PartValue} (Err told) NoMemory → (m : MessageValue) × (r ≡ Ok m)
+read-memory (Ok m) error told is fails e = (m, refl)
+read-memory (Err fault) reading.NoMemory told is fails e = absurd fails
+read-memory (Err fault) (reading.Fault other) told is fails e = let same : Message other ≡ NoMemory = sym is ∙ same_error told NoMemory e in absurd cc
 
 -- ---- offers
 
@@ -85,6 +118,19 @@ one-refused s common offer.NoMemory h = inr refl
 pub refused-offer : (s : ReplicaState) (common : Vec Node Global) (lent : List Node) (r : OfferRefusal) (told : PeerRefusal) → lent ≡ common.items → told ≡ offer_refusal r → OfferAnswer s lent (Err r) → IsAgainstOffer s common told ⊎ IsMemory told
 refused-offer s common lent r told e is h =
     subst (λ (x : PeerRefusal). IsAgainstOffer s common x ⊎ IsMemory x) (sym is) (one-refused s common r (subst (λ (ns : List Node). OfferAnswer s ns (Err r)) e h))
+
+-- what is told of an offer
+one-told : (s : ReplicaState) (common : Vec Node Global) (r : OfferRefusal) → OfferAnswer s common.items (Err r) → IsToldOfOffer s common (offer_refusal r)
+one-told s common (offer.UnknownCommon node) h = h
+one-told s common offer.TooLarge h = h
+one-told s common offer.NoMemory h = h
+
+pub refused-told : (s : ReplicaState) (common : Vec Node Global) (lent : List Node) (r : OfferRefusal) (told : PeerRefusal) → lent ≡ common.items → told ≡ offer_refusal r → OfferAnswer s lent (Err r) → IsToldOfOffer s common told
+refused-told s common lent r told e is h = subst (IsToldOfOffer s common) (sym is) (one-told s common r (subst (λ (ns : List Node). OfferAnswer s ns (Err r)) e h))
+
+pub written-told : (s : ReplicaState) (common : Vec Node Global) (lent : List Node) (m : MessageValue) (r : Result (Vec ℕ Global) PeerRefusal) → lent ≡ common.items → OfferAnswer s lent (Ok m) → IfErr r (λ x. x ≡ NoMemory) → IfErr r (IsToldOfOffer s common)
+written-told s common lent m (Ok bytes) e h k = tt
+written-told s common lent m (Err x) e h k = subst (IsToldOfOffer s common) (sym k) (subst (AreHeld (content_of s)) e h.0)
 
 -- what is written says the message
 pub written-well : (m : MessageValue) (bytes : List ℕ) → IsMessage m → bytes ≡ message_spelling m → IsMessageSpelling m bytes → CanBeWritten m × (bytes ≡ message_spelling m)

@@ -1,5 +1,5 @@
 -- What a peer decides, offers and reads.
-use Rattle.std.specs.Prelude.{◌≡◌, ℕ, List, Ok, Err}
+use Rattle.std.specs.Prelude.{◌≡◌, ℕ, List, true, Ok, Err}
 use Rattle.std.specs.declared.vec.Vec.{Vec}
 use Rattle.std.specs.declared.alloc.Global.{Global}
 use Rattle.hg_changeset.specs.declared.node.Node.{Node}
@@ -11,7 +11,7 @@ use Rattle.hg_rewrite.specs.Parts.{part_of as operation_part}
 use Rattle.hg_rewrite.specs.Refusals.{NoneApplies, IsFirstRefusal, refusals}
 use Rattle.hg_message.specs.declared.refusal.OfferRefusal.TheVariants.{UnknownCommon, TooLarge}
 use Rattle.hg_message.specs.declared.refusal.OfferRefusal.TheVariants as offer
-use Rattle.hg_message.specs.Value.{MessageValue, IsMessage}
+use Rattle.hg_message.specs.Value.{MessageValue, IsMessage, is_too_large}
 use Rattle.hg_message.specs.Message.{message_at}
 use Rattle.hg_message.specs.Spelling.{message_spelling}
 use Rattle.hg_message.specs.Part.{part_of as message_part}
@@ -59,6 +59,15 @@ IsAgainstOffer s common (Offer TooLarge) = AreHeld (content_of s) common.items �
 IsAgainstOffer s common (Offer offer.NoMemory) = ⊥
 IsAgainstOffer s common (Message fault) = ⊥
 IsAgainstOffer s common NoMemory = ⊥
+
+-- the same, by the numbers that make an offer too large; and memory is wanting only where each common node is held
+abbrev pub IsToldOfOffer : ReplicaState → Vec Node Global → PeerRefusal → Type 0
+IsToldOfOffer s common (Rewrite refusal) = ⊥
+IsToldOfOffer s common (Offer (UnknownCommon node)) = IsFirstUnknown (content_of s) common.items node
+IsToldOfOffer s common (Offer TooLarge) = AreHeld (content_of s) common.items × ((m : MessageValue) × IsOffer s common.items m × (is_too_large m ≡ true))
+IsToldOfOffer s common (Offer offer.NoMemory) = ⊥
+IsToldOfOffer s common (Message fault) = ⊥
+IsToldOfOffer s common NoMemory = AreHeld (content_of s) common.items
 
 -- ---- bytes
 

@@ -1,15 +1,19 @@
 //! A replica that decides, offers and reads.
-ghost use Rattle.std.specs.Prelude.{◌≡◌, IfOk, IfErr};
+ghost use Rattle.std.specs.Prelude.{◌≡◌, ◌⊎◌, Ok, IfOk, IfErr, IsErrOf};
 ghost use Rattle.hg_history.specs.ContentLaws.{contents_stay_covered, contents_again, contents_swap, covered_admitted, admitted_faultless, memory_faultless};
 ghost use Rattle.hg_history.specs.JoinedLaws.{joins_commute, joins_itself, joined_apart, collided_for_good, memory_apart};
 ghost use Rattle.hg_obsstore.specs.Sets.{stays_within, union_commutes, union_idempotent, union_again, union_swap};
 ghost use Rattle.hg_obsstore.specs.Growth.{holds};
 ghost use Rattle.hg_replica.specs.ContentLaws.{replicas_ordered, replicas_absorbed, replicas_associate, replicas_least};
-ghost use Rattle.hg_message.specs.Value.{IsMessage};
+ghost use Rattle.hg_join.specs.Order.{IsDue};
+ghost use Rattle.hg_replica.specs.Content.{content_of, ContentAdmits};
+ghost use Rattle.hg_rewrite.specs.Memory.{MayWantMemory};
+ghost use Rattle.hg_message.specs.Value.{MessageValue};
+ghost use Rattle.hg_message.specs.Message.{message_at};
 ghost use Rattle.hg_message.specs.Part.{part_of as message_part};
 ghost use Rattle.hg_message.specs.Spelling.{message_spelling};
 ghost use Rattle.hg_peer.specs.declared.refusal.PeerRefusal.TheVariants.{NoMemory as OutOfMemory};
-ghost use Rattle.hg_peer.specs.Peers.{Decides as DecidesPart, IsAgainstOperation, Offers as OffersBytes, IsAgainstOffer, SpellsPart, IsAgainstBytes as AgainstBytes, IsMemory, CanBeWritten};
+ghost use Rattle.hg_peer.specs.Peers.{Decides as DecidesPart, IsAgainstOperation, Offers as OffersBytes, IsAgainstOffer, SpellsPart, IsAgainstBytes as AgainstBytes, IsMemory, CanBeWritten, IsToldOfOffer};
 ghost use Rattle.hg_peer.specs.DecisionLaws.{decided_once, decided_not_refused, memory_not_against_operation};
 ghost use Rattle.hg_peer.specs.OfferLaws.{offered_once, offered_not_refused, offered_spelled, offered_covered, offered_alike, memory_not_against_offer};
 ghost use Rattle.hg_peer.specs.BytesLaws.{spelled_once, spelled_not_refused, memory_not_against_bytes};
@@ -197,14 +201,30 @@ impl Actor for Peer {
         })
     }
 
-    fn decide(&self, alloc: Global, op: &Op) -> Result<Part, PeerRefusal> {
+    fn decide(&self, alloc: Global, op: &Op) -> Result<Part, PeerRefusal>
+        ensures ok { IfOk result (DecidesPart self.now op.now) }
+        ensures admitted { IfOk result (λ part. ContentAdmits (content_of self.now) part) }
+        ensures err { IfErr result (λ refusal. IsAgainstOperation self.now op.now refusal ⊎ IsMemory refusal) }
+        ensures due { IsDue (DecidesPart self.now op.now) (IsAgainstOperation self.now op.now) }
+
+        // Want of memory is told only where none of the rows applies that are tried before the first growth.
+        ensures memory { IsErrOf result OutOfMemory → MayWantMemory self.now op.now }
+    {
         match decide(alloc, &self.replica, op) {
             Ok(part) => Ok(part),
             Err(refusal) => Err(refusal.into()),
         }
     }
 
-    fn offer(&self, alloc: Global, common: &Vec<Node>) -> Result<Vec<u8>, PeerRefusal> {
+    fn offer(&self, alloc: Global, common: &Vec<Node>) -> Result<Vec<u8>, PeerRefusal>
+        ensures ok { IfOk result (λ bytes. OffersBytes self.now common.now bytes.items) }
+        ensures err { IfErr result (λ refusal. IsAgainstOffer self.now common.now refusal ⊎ IsMemory refusal) }
+        ensures due { IsDue (OffersBytes self.now common.now) (IsAgainstOffer self.now common.now) }
+
+        // A common node that isn't held is told whatever memory there is, and no offer is too large but by its numbers.
+        ensures exact { IfErr result (IsToldOfOffer self.now common.now) }
+    {
+        // It says that the replica is in a valid state.
         let _graph = self.replica.graph();
         match offer(alloc, &self.replica, common) {
             Ok(message) => written(&message),
@@ -212,7 +232,14 @@ impl Actor for Peer {
         }
     }
 
-    fn read(alloc: Global, bytes: &[u8]) -> Result<Part, PeerRefusal> {
+    fn read(alloc: Global, bytes: &[u8]) -> Result<Part, PeerRefusal>
+        ensures ok { IfOk result (SpellsPart bytes.now) }
+        ensures err { IfErr result (λ refusal. AgainstBytes bytes.now refusal ⊎ IsMemory refusal) }
+        ensures due { IsDue (SpellsPart bytes.now) (AgainstBytes bytes.now) }
+
+        // Want of memory is told only of bytes without fault.
+        ensures memory { IsErrOf result OutOfMemory → ((m : MessageValue) × (message_at bytes.now ≡ Ok m)) }
+    {
         match Message::from_bytes(alloc, bytes) {
             Ok(message) => part_of(message),
             Err(error) => Err(error.into()),
@@ -223,9 +250,9 @@ impl Actor for Peer {
 /// The bytes of a message.
 fn written(message: &Message) -> Result<Vec<u8>, PeerRefusal>
     ensures ok { IfOk result (λ bytes. CanBeWritten message.now × (bytes.items ≡ message_spelling message.now)) }
-    ensures message { IsMessage message.now }
     ensures err { IfErr result (λ refusal. refusal ≡ OutOfMemory) }
 {
+    // It says that the message isn't too large.
     let _changesets = message.changesets();
     match message.to_bytes() {
         Ok(bytes) => Ok(bytes),

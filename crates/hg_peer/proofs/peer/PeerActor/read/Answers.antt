@@ -1,3 +1,5 @@
+use Rattle.hg_message.specs.Message.{message_at}
+use Rattle.hg_peer.proofs.PeerLemmas.{read-memory}
 use Rattle.hg_peer.specs.BytesLaws.{bytes_due}
 use Rattle.hg_peer.proofs.peer.PeerActor.read.Goals as goal
 
@@ -6,3 +8,9 @@ returns-in-Ok-clause-due c = bytes_due c.args.bytes.now
 
 pub returns-in-Err-clause-due : goal.returns-in-Err-clause-due
 returns-in-Err-clause-due c = bytes_due c.args.bytes.now
+
+pub returns-in-Ok-clause-memory : goal.returns-in-Ok-clause-memory
+returns-in-Ok-clause-memory c e = (c.in-Ok.message, c.in-Ok.ensures.exact)
+
+pub returns-in-Err-clause-memory : goal.returns-in-Err-clause-memory
+returns-in-Err-clause-memory c = read-memory (message_at c.args.bytes.now) c.in-Err.error c.into.result c.into.ensures c.in-Err.ensures.exact
