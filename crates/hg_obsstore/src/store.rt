@@ -5,6 +5,7 @@
 //! is refused half way is taken back by cutting off what it added.
 ghost use Rattle.std.specs.Prelude.{◌≡◌, ◌≢◌, ◌+◌, ◌<◌, ◌≤◌, ◌↔◌, [], length, take, All, IsTrue, IfOk, OnOk, OnErr, Contains, slice_get};
 ghost use Rattle.std.specs.Option.{option_copied};
+ghost use Rattle.hg_marker.specs.Grammar.{IsMarker};
 ghost use Rattle.hg_marker.specs.Parents.{recorded_parents};
 ghost use Rattle.hg_obsstore.specs.Places.{ListsAll};
 ghost use Rattle.hg_obsstore.specs.Markers.{AreDifferent, ArePlaces};
@@ -53,9 +54,10 @@ impl Drop for Store {
 }
 
 impl Model for Store {
-    ghost use Rattle.std.specs.Prelude.{List};
+    ghost use Rattle.std.specs.Prelude.{List, All};
     ghost use Rattle.std.specs.Coded.{coded_list};
     ghost use Rattle.hg_marker.specs.Fields.{Fields, fields_code};
+    ghost use Rattle.hg_marker.specs.Grammar.{IsMarker};
     ghost use Rattle.hg_obsstore.specs.Places.{ListsAll};
     ghost use Rattle.hg_obsstore.specs.Markers.{AreApart};
     ghost use Rattle.hg_obsstore.specs.Indexes.{AreIndexed};
@@ -66,7 +68,7 @@ impl Model for Store {
 
     ghost view = { λ s. s.markers.keys };
 
-    ghost invariant = { λ s. AreApart s.markers.keys × AreIndexed s.markers.keys s.indexes };
+    ghost invariant = { λ s. AreApart s.markers.keys × AreIndexed s.markers.keys s.indexes × All IsMarker s.markers.keys };
 }
 
 impl PartialEq for Store {
@@ -126,6 +128,9 @@ impl Store {
 
         // No two of them are equal.
         ensures different { AreDifferent self.now }
+
+        // Each of them is one that the format can spell.
+        ensures each { All IsMarker self.now }
     {
         self.markers.as_slice()
     }

@@ -1,6 +1,8 @@
-use Rattle.std.proofs.Common.{rules, ◌≡◌, ◌∙◌, ◌++◌, ◌∷◌, [], sym, subst, true, false, List, length, Contains}
+use Rattle.std.proofs.Common.{rules, ◌≡◌, ◌∙◌, ◌++◌, ◌∷◌, [], sym, subst, true, false, List, length, Contains, All}
 use Rattle.std.specs.List.{list_any}
+use Rattle.std.proofs.lemmas.List.Elements.{All-push}
 use Rattle.hg_marker.specs.Fields.{Fields}
+use Rattle.hg_marker.specs.Grammar.{IsMarker}
 use Rattle.hg_marker.specs.Same.{same_fields}
 use Rattle.hg_obsstore.specs.Indexes.{HaveBelow, AreIndexed, AddMarker}
 use Rattle.hg_obsstore.proofs.StoreLemmas.{held, told_known, told_new, inserted_known, inserted_new, read_last, cut_back, all_below, all_push, all_same}
@@ -26,6 +28,7 @@ invariant_of-self-in-Err c =
     let back : c.truncate.new.self.keys ≡ ms = cut_back ms c.insert.new.self.keys c.truncate.new.self.keys c.args.marker c.len-place.result keys c.len-place.ensures.len c.truncate.ensures.keys in (
       c.truncate.ensures.unique,
       subst (λ (xs : List Fields). AreIndexed xs c.add.new.self) (sym back) (all_same ms c.self.inside.indexes c.add.new.self c.in-Err.ensures.err c.self.invariant.1),
+      subst (All IsMarker) (sym back) c.self.invariant.2,
     )
 
 pub invariant_of-self-in_default : goal.invariant_of-self-in_default
@@ -39,4 +42,5 @@ invariant_of-self-in_default c =
     (subst (λ m. AddMarker m c.len-place.result c.self.inside.indexes c.add.new.self) same c.in_default.ensures.ok) in (
       c.in_ok-is_new.ensures.unique,
       subst (λ (xs : List Fields). AreIndexed xs c.add.new.self) (sym keys) (all_push ms c.args.marker c.self.inside.indexes c.add.new.self c.self.invariant.1 added),
+      subst (All IsMarker) (sym keys) (All-push IsMarker ms c.args.marker c.self.invariant.2 (subst IsMarker same c.add.ensures.marker)),
     )
