@@ -5,3 +5,7 @@
 mod calls;
 #[cfg(test)]
 mod exchanges;
+#[cfg(test)]
+mod heard;
+#[cfg(test)]
+mod schedules;

@@ -1,39 +1,22 @@
 //! A long list of events in any order, beside plain lists of what each node accepted.
-ghost use Rattle.std.specs.Prelude.{◌<◌};
-
 use crate::words::{PriceAnswer, PriceEvent};
-use hg_join_tests::{PriceRefusal, Prices};
+use hg_join_tests::{Dice, PriceRefusal, Prices};
 use hg_world::{Answer, Event, EventRefusal, World};
 use std::alloc::Global;
 
 /// Items are the numbers below this.
 const ITEMS: u8 = 8;
 
-/// Numbers that look as if they came by chance, the same at each run.
-#[derive(Drop)]
-struct Dice {
-    state: u64,
-}
-
-impl Dice {
-    /// A number below `sides`.
-    fn roll(&mut self, sides: u8) -> u8
-        requires { 0 < sides }
-    {
-        self.state = self
-            .state
-            .wrapping_mul(6364136223846793005)
-            .wrapping_add(1442695040888963407);
-        ((self.state >> 33) % sides as u64) as u8
-    }
+fn some_item(dice: &mut Dice) -> u8 {
+    dice.roll(ITEMS as usize) as u8
 }
 
 /// An event at one of five nodes, or at a sixth that isn't there; messages are taken that aren't there yet.
 fn some_event(alloc: Global, dice: &mut Dice) -> Option<PriceEvent> {
-    let at = dice.roll(6) as usize;
-    let message = dice.roll(80) as usize;
-    let op = (dice.roll(ITEMS), dice.roll(250));
-    let ask = [dice.roll(ITEMS), dice.roll(ITEMS)].to_vec(alloc).ok()?;
+    let at = dice.roll(6);
+    let message = dice.roll(80);
+    let op = (some_item(dice), dice.roll(250) as u8);
+    let ask = [some_item(dice), some_item(dice)].to_vec(alloc).ok()?;
     Some(match dice.roll(4) {
         0 => Event::Offer { at, ask },
         1 => Event::Take { at, message },
@@ -123,7 +106,7 @@ fn schedule(
     heard: &mut Heard,
     count: usize,
 ) -> Option<(Vec<PriceEvent>, Vec<PriceAnswer>)> {
-    let mut dice = Dice { state: 25 };
+    let mut dice = Dice::new(25);
     let mut events = Vec::new(alloc);
     let mut answers = Vec::new(alloc);
     for _ in 0..count {

@@ -1,0 +1,292 @@
+//! Long lists of events over five peers, in any order, beside plain lists of the parts that each accepted.
+use crate::heard::Heard;
+use hg_changeset::{Entry, Node};
+use hg_graph::Graph;
+use hg_history::Fault;
+use hg_join::{Actor, JoinState};
+use hg_join_tests::Dice;
+use hg_peer::{Peer, PeerRefusal};
+use hg_phases::Phase;
+use hg_replica::{Change, Part};
+use hg_rewrite::Op;
+use hg_world::{Answer, Event, World};
+use std::alloc::Global;
+use std::collections::BTreeMap;
+
+type PeerEvent = Event<Op, Vec<Node>>;
+
+type PeerAnswer = Answer<Change, PeerRefusal, Fault>;
+
+const PEERS: usize = 5;
+
+/// A world of five peers, the bytes of its messages, and what each peer accepted.
+struct Schedule {
+    alloc: Global,
+    world: World<Peer>,
+    messages: Vec<Vec<u8>>,
+    heard: Vec<Heard>,
+    dice: Dice,
+}
+
+impl Drop for Schedule {
+    fn drop(self) {
+        let Schedule {
+            alloc: _,
+            world: _,
+            messages: _,
+            heard: _,
+            dice: _,
+        } = self;
+    }
+}
+
+impl Schedule {
+    fn new(alloc: Global, seed: u64) -> Option<Schedule> {
+        let mut heard = Vec::new(alloc);
+        for _ in 0..PEERS {
+            heard.push(Heard::new(alloc)).ok()?;
+        }
+        Some(Schedule {
+            alloc,
+            world: World::new(alloc, PEERS).ok()?,
+            messages: Vec::new(alloc),
+            heard,
+            dice: Dice::new(seed),
+        })
+    }
+
+    /// Runs one event. An accepted one is heard, an offered message is kept; `None` where an answer is none of those that
+    /// the states before allow, or memory ran out.
+    fn run(&mut self, event: PeerEvent) -> Option<()> {
+        let part = self.part_of(&event);
+        let bytes = self.bytes_of(&event);
+        let at = event.place();
+        let answers = self.world.run(&[event]).ok()?;
+        match answers.first()? {
+            Answer::Accepted(_) => self.heard.get_mut(at)?.hear(&part?),
+            Answer::Offered(number) if *number == self.messages.len() => {
+                self.messages.push(bytes?).ok()
+            }
+            Answer::Offered(_) => None,
+            Answer::Refused(_) => Some(()),
+        }
+    }
+
+    /// The part that an event brings, if it brings one.
+    fn part_of(&self, event: &PeerEvent) -> Option<Part> {
+        match event {
+            Event::Local { at, op } => self.world.state(*at)?.decide(self.alloc, op).ok(),
+            Event::Offer { at: _, ask: _ } => None,
+            Event::Take { at: _, message } => {
+                Peer::read(self.alloc, self.messages.get(*message)?.as_slice()).ok()
+            }
+        }
+    }
+
+    /// The bytes that an event makes, if it makes any.
+    fn bytes_of(&self, event: &PeerEvent) -> Option<Vec<u8>> {
+        match event {
+            Event::Offer { at, ask } => self.world.state(*at)?.offer(self.alloc, ask).ok(),
+            _ => None,
+        }
+    }
+
+    fn graph(&self, at: usize) -> Option<&Graph> {
+        Some(self.world.state(at)?.replica().graph())
+    }
+
+    /// One of the last 40 changesets of a peer, or at times none.
+    fn some_node(&mut self, at: usize) -> Option<Node> {
+        let dice = self.dice.roll(40);
+        let graph = self.graph(at)?;
+        let place = graph.len().checked_sub(dice);
+        Some(
+            place
+                .and_then(|place| graph.node_at(place))
+                .unwrap_or(Node::NULL),
+        )
+    }
+
+    /// The first parent of a changeset of a peer.
+    fn parent_of(&self, at: usize, node: Node) -> Option<Node> {
+        let changeset = self.graph(at)?.changeset(node);
+        Some(changeset.map_or(Node::NULL, |changeset| changeset.parents().0))
+    }
+
+    /// A commit, or another operation that leaves successors.
+    fn some_rewrite(&mut self, at: usize, number: usize) -> Option<Op> {
+        let alloc = self.alloc;
+        let node = self.some_node(at)?;
+        let entry = entry_of(alloc, number)?;
+        Some(match self.dice.roll(10) {
+            0 | 1 => Op::Amend { node, entry },
+            2 => {
+                let mut entries = Vec::new(alloc);
+                entries.push(entry).ok()?;
+                entries
+                    .push(entry_of(alloc, number.checked_add(10_000)?)?)
+                    .ok()?;
+                Op::Split { node, entries }
+            }
+            3 => {
+                let nodes = [self.parent_of(at, node)?, node].to_vec(alloc).ok()?;
+                Op::Fold { nodes, entry }
+            }
+            4 => Op::Relocate {
+                node,
+                p: self.some_node(at)?,
+                q: Node::NULL,
+                entry,
+            },
+            _ => Op::Commit {
+                p: node,
+                q: Node::NULL,
+                entry,
+                secret: false,
+            },
+        })
+    }
+
+    /// Any operation.
+    fn some_operation(&mut self, at: usize, number: usize) -> Option<Op> {
+        let node = self.some_node(at)?;
+        Some(match self.dice.roll(12) {
+            0 => Op::Prune {
+                node,
+                user: Vec::from_slice(self.alloc, b"fleet").ok()?,
+                secs: 0,
+                offset: 0,
+            },
+            1 => Op::Advance {
+                node,
+                phase: Phase::Draft,
+            },
+            2 => Op::Advance {
+                node: self.parent_of(at, node)?,
+                phase: Phase::Public,
+            },
+            3 => Op::Commit {
+                p: node,
+                q: self.some_node(at)?,
+                entry: entry_of(self.alloc, number)?,
+                secret: true,
+            },
+            _ => self.some_rewrite(at, number)?,
+        })
+    }
+
+    /// Any event, at one of the peers or at a sixth that isn't there, above any node or none; messages are taken that
+    /// aren't there yet.
+    fn some_event(&mut self, number: usize) -> Option<PeerEvent> {
+        let at = self.dice.roll(PEERS + 1);
+        Some(match self.dice.roll(5) {
+            0 => Event::Offer {
+                at,
+                ask: self.some_common(at % PEERS)?,
+            },
+            1 | 2 => Event::Take {
+                at,
+                message: self.dice.roll(500),
+            },
+            _ => Event::Local {
+                at,
+                op: self.some_operation(at % PEERS, number)?,
+            },
+        })
+    }
+
+    fn some_common(&mut self, at: usize) -> Option<Vec<Node>> {
+        let mut common = Vec::new(self.alloc);
+        if self.dice.roll(2) == 0 {
+            common.push(self.some_node(at)?).ok()?;
+        }
+        Some(common)
+    }
+
+    /// So many events of any kind.
+    fn run_any(&mut self, count: usize) -> Option<()> {
+        for number in 0..count {
+            let event = self.some_event(number)?;
+            self.run(event)?;
+        }
+        Some(())
+    }
+
+    /// So many times an operation of one peer, its offer of all that it serves, and any message at any peer.
+    fn run_told(&mut self, count: usize) -> Option<()> {
+        for number in 0..count {
+            let at = self.dice.roll(PEERS);
+            let op = self.some_rewrite(at, number)?;
+            self.run(Event::Local { at, op })?;
+            let ask = Vec::new(self.alloc);
+            self.run(Event::Offer { at, ask })?;
+            let taker = self.dice.roll(PEERS);
+            let message = self.dice.roll(self.messages.len() + 1);
+            self.run(Event::Take { at: taker, message })?;
+        }
+        Some(())
+    }
+
+    /// A peer takes every message, the last one first.
+    fn take_all(&mut self, at: usize) -> Option<()> {
+        for message in (0..self.messages.len()).rev() {
+            self.run(Event::Take { at, message })?;
+        }
+        Some(())
+    }
+
+    /// Whether each peer's state is what the parts say that it accepted.
+    fn is_as_heard(&self) -> Option<bool> {
+        for (at, heard) in self.heard.iter().enumerate() {
+            if !heard.is_all_of(self.world.state(at)?.replica())? {
+                return Some(false);
+            }
+        }
+        Some(true)
+    }
+
+    /// Whether two peers are in one state.
+    fn agree(&self, one: usize, other: usize) -> Option<bool> {
+        let first = self.world.state(one)?;
+        let second = self.world.state(other)?;
+        Some(first.below(second).ok()? && second.below(first).ok()?)
+    }
+}
+
+/// An entry with a description of its own.
+fn entry_of(alloc: Global, number: usize) -> Option<Entry> {
+    let text = format!(in alloc; "{number}").ok()?;
+    Some(Entry {
+        user: Vec::from_slice(alloc, b"fleet").ok()?,
+        secs: 0,
+        offset: 0,
+        extra: BTreeMap::new(alloc),
+        desc: Vec::from_slice(alloc, text.as_bytes()).ok()?,
+    })
+}
+
+#[test]
+fn each_peer_has_what_a_plain_list_of_parts_gives(rt: HostRuntime) {
+    let mut schedule = Schedule::new(rt.alloc(), 14).expect(&rt, "memory");
+    schedule
+        .run_any(2_000)
+        .expect(&rt, "answers that the states allow");
+    assert_eq!(rt; schedule.is_as_heard(), Some(true));
+}
+
+#[test]
+fn peers_that_took_everything_agree(rt: HostRuntime) {
+    let mut schedule = Schedule::new(rt.alloc(), 41).expect(&rt, "memory");
+    schedule
+        .run_told(200)
+        .expect(&rt, "answers that the states allow");
+    for at in 0..PEERS {
+        schedule
+            .take_all(at)
+            .expect(&rt, "answers that the states allow");
+    }
+    assert_eq!(rt; schedule.is_as_heard(), Some(true));
+    for at in 1..PEERS {
+        assert_eq!(rt; schedule.agree(0, at), Some(true));
+    }
+}
