@@ -177,7 +177,7 @@ module _ (cs : List Contents) (ns : List Node) (i : ℕ) (d : Node) (l : i < len
       let only : IsOnlyAt cs n place = subst (λ r. MatchOption r (¬ (Holds cs n)) (IsOnlyAt cs n)) e told in
       (n, Contains-get_or ns i d l, Contains-from_place (nodes cs) place n ((only place).1 refl))
 
-less_from_cmp : (x y : ℕ) → nat_cmp x y ≡ Less → x < y
+pub less_from_cmp : (x y : ℕ) → nat_cmp x y ≡ Less → x < y
 less_from_cmp x y h = elim (cases_order x y) [
   | inl e ↦ absurd (let f = nat_cmp_is x y Equal e in cc)
   | inr o ↦ elim o [ inl l ↦ l | inr g ↦ absurd (let f = nat_cmp_is x y Greater g in cc) ]

@@ -1,10 +1,10 @@
 //! Ancestors, by one sweep from the last place to the first.
 //!
 //! Each place has a mark. Since a parent's place is before its child's, a walk down the places that marks the parents of each marked changeset has marked, when it comes to a changeset, all that reach it. Where only the changesets from a place on are asked for, the marks begin there, and so does the walk end there: whatever lies on the way to a changeset stands after it.
-ghost use Rattle.std.specs.Prelude.{◌≡◌, ◌↔◌, ℕ, ◌+◌, ◌<◌, ◌≤◌, Some, length, Contains, IsTrue, IfOk, OnErr};
+ghost use Rattle.std.specs.Prelude.{◌≡◌, ◌↔◌, ℕ, ◌+◌, ◌<◌, ◌≤◌, Some, length, Contains, IfOk};
 ghost use Rattle.hg_changeset.specs.declared.node.Node.{Node};
-ghost use Rattle.hg_graph.specs.Graph.{IsGraph, IsAncestorOfOne, Reaches, Selects};
-ghost use Rattle.hg_graph.specs.Places.{IsAt, IsParentPlace, IsAncestorPlace};
+ghost use Rattle.hg_graph.specs.Graph.{IsGraph, IsAncestorOfOne, Selects};
+ghost use Rattle.hg_graph.specs.Places.{IsAt, IsParentPlace};
 ghost use Rattle.hg_graph.specs.Marks.{IsMarked, IsMarkedNode, MarksAlso, MarksAncestors};
 
 use crate::graph::Graph;
@@ -12,40 +12,6 @@ use hg_changeset::Node;
 use std::alloc::AllocError;
 
 impl Graph {
-    /// Whether zero or more parent steps lead from `node` to `ancestor`. False where either isn't held.
-    pub fn is_ancestor(&self, ancestor: Node, node: Node) -> Result<bool, AllocError>
-        ensures answer { IfOk result (λ answer. IsTrue answer ↔ Reaches self.now ancestor node) }
-
-        // Memory is taken only where the ancestor stands before the node.
-        ensures memory { OnErr result ((low : ℕ) × (high : ℕ) × IsAt self.now ancestor low × IsAt self.now node high × low < high) }
-    {
-        match self.place(ancestor) {
-            None => Ok(false),
-            Some(low) => match self.place(node) {
-                None => Ok(false),
-                Some(high) => self.is_ancestor_place(low, high),
-            },
-        }
-    }
-
-    // Whether the changeset at `low` is the one at `high`, or an ancestor of it. Walks only between the two.
-    fn is_ancestor_place(&self, low: usize, high: usize) -> Result<bool, AllocError>
-        requires graph { IsGraph self.now }
-        requires low { low < length self.now }
-        requires high { high < length self.now }
-        ensures answer { IfOk result (λ answer. IsTrue answer ↔ IsAncestorPlace self.now low high) }
-        ensures memory { OnErr result (low < high) }
-    {
-        if high <= low {
-            return Ok(low == high);
-        }
-        let mut window = vec![in self.alloc(); false; high - low]?;
-        let marks = window.as_mut_slice();
-        self.mark_parents(high, low, marks);
-        self.sweep(low, high, marks);
-        Ok(marks[0])
-    }
-
     /// The nodes that are held and their ancestors, in the graph's order. Doubles, and ids that aren't held, change nothing.
     pub fn ancestors(&self, nodes: &[Node]) -> Result<Vec<Node>, AllocError>
         ensures { IfOk result (λ found. Selects self.now (IsAncestorOfOne self.now nodes.now) found.items) }

@@ -72,6 +72,17 @@ fn ancestry_in_a_chain(rt: HostRuntime) {
 }
 
 #[test]
+fn ancestry_through_a_merge(rt: HostRuntime) {
+    let alloc = rt.alloc();
+    let mut graph = Graph::new(alloc);
+    let [root, left, right, merge] = add_merge(&rt, &mut graph, alloc);
+    assert!(rt; graph.is_ancestor(root, merge) == Ok(true));
+    assert!(rt; graph.is_ancestor(left, merge) == Ok(true));
+    assert!(rt; graph.is_ancestor(right, merge) == Ok(true));
+    assert!(rt; graph.is_ancestor(left, right) == Ok(false));
+}
+
+#[test]
 fn descendants_of_the_middle_of_a_chain(rt: HostRuntime) {
     let alloc = rt.alloc();
     let mut graph = Graph::new(alloc);
