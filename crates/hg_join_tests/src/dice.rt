@@ -15,6 +15,7 @@ impl Dice {
     /// A number below `sides`.
     pub fn roll(&mut self, sides: usize) -> usize
         requires { 0 < sides }
+        ensures { result < sides }
     {
         self.state = self
             .state

@@ -1,0 +1,287 @@
+"""The scripts that are measured: each case gives the lines of a script of a size, and how many lines it prints."""
+import random
+
+NAME_BYTES = "ABCDEFGHIJKLMNOPQRSTUVWXYZabcdefghijklmnopqrstuvwxyz0123456789_.-"
+SCRIPT_BYTES = 1_048_576
+REFUSALS = 1_000
+
+
+def label(number):
+    """A label of three characters, one for each number."""
+    base = len(NAME_BYTES)
+    return NAME_BYTES[number // base // base] + NAME_BYTES[number // base % base] + NAME_BYTES[number % base]
+
+
+# ---- operations
+
+
+def chain(size):
+    """One node and a chain of commits, each on the one before."""
+    yield "node A"
+    yield f"commit A {label(0)} draft"
+    for number in range(1, size):
+        yield f"commit A {label(number)} draft {label(number - 1)}"
+
+
+def roots(size):
+    """One node and commits without parents."""
+    yield "node A"
+    for number in range(size):
+        yield f"commit A {label(number)} draft"
+
+
+def secret_roots(size):
+    """One node and secret commits without parents."""
+    yield "node A"
+    for number in range(size):
+        yield f"commit A {label(number)} secret"
+
+
+def merges(size):
+    """One node and merges, each of the two changesets before it."""
+    yield "node A"
+    yield f"commit A {label(0)} draft"
+    yield f"commit A {label(1)} draft"
+    for number in range(2, size):
+        yield f"commit A {label(number)} draft {label(number - 2)} {label(number - 1)}"
+
+
+def amends(size):
+    """One node and one commit, amended again and again: each amend is of the one before."""
+    yield "node A"
+    yield f"commit A {label(0)} draft"
+    for number in range(1, size + 1):
+        yield f"amend A {label(number - 1)} {label(number)}"
+
+
+def amends_below_a_stack(size):
+    """One node and a stack of commits, whose bottom is amended again and again."""
+    yield from chain(size)
+    yield f"amend A {label(0)} {label(size)}"
+    for number in range(size + 1, 2 * size):
+        yield f"amend A {label(number - 1)} {label(number)}"
+
+
+def splits(size):
+    """One node and commits without parents, each split into two."""
+    yield from roots(size)
+    for number in range(size):
+        yield f"split A {label(number)} {label(size + 2 * number)} {label(size + 2 * number + 1)}"
+
+
+def folds(size):
+    """One node and pairs of commits, each pair folded into one."""
+    yield "node A"
+    for number in range(0, size, 2):
+        yield f"commit A {label(number)} draft"
+        yield f"commit A {label(number + 1)} draft {label(number)}"
+        yield f"fold A {label(size + number)} {label(number)} {label(number + 1)}"
+
+
+def prunes(size):
+    """One node and a chain of commits, pruned from the tip on."""
+    yield from chain(size)
+    for number in reversed(range(size)):
+        yield f"prune A {label(number)}"
+
+
+def relocations(size):
+    """One node and commits without parents, each relocated onto the newest changeset."""
+    yield from roots(size)
+    for number in range(size - 1):
+        yield f"relocate A {label(number)} {label(size + number)} {label(size + number - 1)}"
+
+
+def evolved_stack(size):
+    """One node and a stack whose bottom is amended; each changeset is relocated onto the successor of its parent."""
+    yield from chain(size)
+    yield f"amend A {label(0)} {label(size)}"
+    for number in range(1, size):
+        yield f"relocate A {label(number)} {label(size + number)} {label(size + number - 1)}"
+
+
+def published(size):
+    """One node and a chain of commits, made public one by one from the bottom."""
+    yield from chain(size)
+    for number in range(size):
+        yield f"phase A {label(number)} public"
+
+
+def commits_on_an_obsolete_parent(size):
+    """One node and commits on a parent that was amended, but is visible for what stands on it."""
+    yield "node A"
+    yield f"commit A {label(0)} draft"
+    yield f"commit A {label(1)} draft {label(0)}"
+    yield f"amend A {label(0)} {label(2)}"
+    for number in range(3, size + 3):
+        yield f"commit A {label(number)} draft {label(0)}"
+
+
+# ---- reports
+
+
+def chain_with_report(size):
+    yield from chain(size)
+    yield "report A"
+
+
+def orphans_with_report(size):
+    """One node, a stack whose bottom is amended, and a report."""
+    yield from chain(size)
+    yield f"amend A {label(0)} {label(size)}"
+    yield "report A"
+
+
+# ---- refusals: so many of one kind, at a replica of the size
+
+
+def refused(size, before, line):
+    """One node with commits without parents, some lines that prepare, and one line again and again."""
+    yield from roots(size)
+    yield from before
+    for _ in range(REFUSALS):
+        yield line
+
+
+FIRST, SECOND, OTHER, NEW = label(0), label(1), label(200_000), label(200_001)
+
+REFUSED = {
+    "an unknown node": (["node B", f"commit B {OTHER} draft"], f"amend A {OTHER} {NEW}"),
+    "a hidden parent": ([f"amend A {FIRST} {OTHER}"], f"commit A {NEW} draft {FIRST}"),
+    "a public node": ([f"phase A {FIRST} public"], f"amend A {FIRST} {NEW}"),
+    "an obsolete node": ([f"amend A {FIRST} {OTHER}"], f"amend A {FIRST} {NEW}"),
+    "a fold of what is no line": ([], f"fold A {NEW} {FIRST} {SECOND}"),
+    "a fold of one": ([], f"fold A {NEW} {FIRST}"),
+    "a phase that is raised": ([], f"phase A {FIRST} secret"),
+    "a parent named twice": ([], f"commit A {NEW} draft {FIRST} {FIRST}"),
+    "an id that is held": ([], f"commit A {FIRST} draft"),
+}
+
+
+def refused_below_a_hidden_stack(size):
+    """One node with a stack that is pruned from its tip on, and commits on its bottom: each is refused."""
+    yield from prunes(size)
+    for _ in range(REFUSALS):
+        yield f"commit A {label(size)} draft {label(0)}"
+
+
+# ---- exchange
+
+
+def pull_into_an_empty_node(size):
+    yield from chain(size)
+    yield "node B"
+    yield "pull B A"
+
+
+def pulls_of_a_hundred(size):
+    """Two nodes with a chain in common, and a hundred pulls of a commit more."""
+    yield from pull_into_an_empty_node(size)
+    for number in range(100):
+        yield f"commit A {label(size + number)} draft {label(size + number - 1)}"
+    yield "pull B A"
+    yield "agree A B"
+
+
+def pulls_of_nothing(size):
+    """Two nodes in one state, and ten pulls."""
+    yield from pull_into_an_empty_node(size)
+    for _ in range(10):
+        yield "pull B A"
+
+
+def amends_pulled(size):
+    """A chain whose tip is amended on one side and pulled by the other, a hundred times."""
+    yield from pull_into_an_empty_node(size)
+    yield f"amend A {label(size - 1)} {label(size)}"
+    for number in range(100):
+        yield "pull B A"
+        yield f"amend A {label(size + number)} {label(size + number + 1)}"
+
+
+def agreements(size):
+    """Two nodes in one state, asked ten times whether they agree."""
+    yield from pull_into_an_empty_node(size)
+    for _ in range(10):
+        yield "agree A B"
+
+
+def mixed(size):
+    """Three nodes that commit, amend, split, fold, prune, relocate, publish and pull, the same at each run."""
+    dice = random.Random(15)
+    nodes = "ABC"
+    for node in nodes:
+        yield f"node {node}"
+    made = {node: [] for node in nodes}
+    fresh = 0
+    for number in range(size):
+        node = dice.choice(nodes)
+        mine = made[node]
+        kind = dice.random()
+        new = [label(fresh), label(fresh + 1)]
+        fresh += 2
+        if kind < 0.5 or len(mine) < 3:
+            parent = f" {dice.choice(mine[-50:])}" if mine and dice.random() < 0.9 else ""
+            yield f"commit {node} {new[0]} draft{parent}"
+            mine.append(new[0])
+        elif kind < 0.7:
+            yield f"amend {node} {mine.pop(dice.randrange(len(mine) // 2, len(mine)))} {new[0]}"
+            mine.append(new[0])
+        elif kind < 0.76:
+            yield f"split {node} {mine.pop()} {new[0]} {new[1]}"
+            mine.extend(new)
+        elif kind < 0.82:
+            yield f"fold {node} {new[0]} {mine.pop(-2)} {mine.pop()}"
+            mine.append(new[0])
+        elif kind < 0.88:
+            yield f"prune {node} {mine.pop()}"
+        elif kind < 0.97:
+            old = mine.pop(dice.randrange(len(mine)))
+            yield f"relocate {node} {old} {new[0]} {mine[-1]}"
+            mine.append(new[0])
+        else:
+            yield f"phase {node} {mine[len(mine) // 4]} public"
+        if number % 2_000 == 1_999:
+            yield f"pull {dice.choice(nodes)} {node}"
+    for node in nodes:
+        yield f"report {node}"
+
+
+SIZES = (10_000, 20_000, 40_000)
+SMALL = (5_000, 10_000, 20_000)
+
+# Of each case the name, the lines, the sizes, and how many lines it prints: a refused line prints one, and so does each
+# changeset of a report. None where that isn't known beforehand.
+CASES = [
+    ("commits in a chain", chain, SIZES, lambda size: 0),
+    ("commits without parents", roots, SIZES, lambda size: 0),
+    ("secret commits", secret_roots, SIZES, lambda size: 0),
+    ("merges of the last two", merges, SMALL, lambda size: 0),
+    ("amends of one tip", amends, SIZES, lambda size: 0),
+    ("amends of the bottom of a stack", amends_below_a_stack, SMALL, lambda size: 0),
+    ("splits", splits, SMALL, lambda size: 0),
+    ("folds", folds, SMALL, lambda size: 0),
+    ("prunes from the tip on", prunes, SMALL, lambda size: 0),
+    ("old roots relocated onto the newest", relocations, SMALL, lambda size: 0),
+    ("a stack evolved", evolved_stack, (2_500, 5_000, 10_000), lambda size: 0),
+    ("a chain published one by one", published, SMALL, lambda size: 0),
+    ("commits on an obsolete parent", commits_on_an_obsolete_parent, SIZES, lambda size: 0),
+    ("commits in a chain, and a report", chain_with_report, SIZES, lambda size: size + 2),
+    ("a stack on an amended changeset, and a report", orphans_with_report, SIZES, lambda size: size + 3),
+]
+for _kind, (_before, _line) in REFUSED.items():
+    CASES.append((
+        f"1,000 refusals of {_kind}",
+        lambda size, before=_before, line=_line: refused(size, before, line),
+        SIZES,
+        lambda size: REFUSALS,
+    ))
+CASES += [
+    ("1,000 refusals of a hidden parent below a hidden stack", refused_below_a_hidden_stack, SMALL, lambda size: REFUSALS),
+    ("a chain pulled into an empty node", pull_into_an_empty_node, SIZES, lambda size: 0),
+    ("that, and 100 new ones pulled above it", pulls_of_a_hundred, SIZES, lambda size: 1),
+    ("that, and 10 pulls of nothing", pulls_of_nothing, SIZES, lambda size: 0),
+    ("that, and 100 pulls of an amended tip", amends_pulled, SMALL, lambda size: 0),
+    ("that, and 10 times whether the nodes agree", agreements, SIZES, lambda size: 10),
+    ("a mixed script", mixed, (12_000, 24_000, 48_000), None),
+]
