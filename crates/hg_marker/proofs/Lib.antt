@@ -8,3 +8,5 @@ pub mod Formats
 pub mod MarkerLemmas
 pub mod FaultLemmas
 pub mod NodesLemmas
+pub mod FormLemmas
+pub mod AscentLemmas

@@ -8,6 +8,9 @@ pub mod Reading
 pub mod Metadata
 pub mod Grammar
 pub mod Making
+pub mod Written
+pub mod Forms
+pub mod Listing
 pub mod Faults
 pub mod Laid
 pub mod ReadErrors

@@ -3,10 +3,12 @@
 //! A marker is a head of six bytes, the ids of its predecessor and successors, and its metadata. Written it has one
 //! spelling. Metadata may be spelled in further ways, which are read, so that equal markers may come from different
 //! bytes.
-ghost use Rattle.std.specs.Prelude.{◌≡◌, ◌≤◌, ◌++◌, ◌*◌, List, ℕ, length, take, IfOk, OnOk, IsErrOf, Ok};
+ghost use Rattle.std.specs.Prelude.{◌≡◌, ◌≤◌, ◌++◌, ◌*◌, List, ℕ, length, take, IfOk, OnOk, IsErrOf, Ok, true};
 ghost use Rattle.hg_marker.specs.declared.error.MarkerFault.{MarkerFault};
 ghost use Rattle.hg_marker.specs.declared.error.ReadError.TheVariants.{Fault};
+ghost use Rattle.std.specs.List.{list_all};
 ghost use Rattle.hg_marker.specs.Fields.{Fields};
+ghost use Rattle.hg_marker.specs.Metadata.{pieces, has_colon};
 ghost use Rattle.hg_marker.specs.Reading.{Gives, IsReading};
 ghost use Rattle.hg_marker.specs.Laid.{fields_of};
 ghost use Rattle.hg_marker.specs.Grammar.{IsSpelling, IsMarker, spelling, ids};
@@ -14,7 +16,8 @@ ghost use Rattle.hg_marker.specs.Faults.{marker_at, after_marker, marker_and_len
 
 use crate::error::{MarkerFault, ReadError};
 use crate::marker::{METADATA_LIMIT, Marker};
-use crate::pieces::{have_colons, read_metadata};
+use crate::metadata::Metadata;
+use crate::pieces::have_colons;
 use crate::reading::{
     copy_ids, holds_null, read_byte, read_field, read_ids, read_node, read_number, write_number,
 };
@@ -69,11 +72,12 @@ impl<'a> FieldBytes<'a> {
     // The marker of the fields.
     fn to_marker(&self, alloc: Global) -> Result<Marker, AllocError>
         requires ids { 20 * self.now.count ≤ length self.now.ids.now }
+        requires colons { list_all has_colon (pieces self.now.metadata.now) ≡ true }
         requires marker { IsMarker (fields_of self.now) }
         ensures { IfOk result (λ marker. marker ≡ fields_of self.now) }
     {
         let successors = copy_ids(alloc, self.ids, self.count)?;
-        let metadata = read_metadata(alloc, self.metadata)?;
+        let metadata = Metadata::read(alloc, self.metadata)?;
         Ok(Marker::of_fields(self.predecessor, successors, self.flags, metadata))
     }
 }
@@ -83,6 +87,7 @@ impl<'a> FieldBytes<'a> {
 fn split_marker(bytes: &[u8]) -> Result<(FieldBytes<'_>, &[u8]), MarkerFault>
     ensures exact { IsReading (λ x. (fields_of x.0, x.1.now)) result (marker_at bytes.now) }
     ensures ids { IfOk result (λ x. 20 * x.0.count ≤ length x.0.ids.now) }
+    ensures colons { IfOk result (λ x. list_all has_colon (pieces x.0.metadata.now) ≡ true) }
     ensures marker { IfOk result (λ x. IsMarker (fields_of x.0)) }
 {
     let (count, rest) = read_byte(bytes, MarkerFault::Truncated)?;

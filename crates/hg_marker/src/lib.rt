@@ -4,6 +4,7 @@
 //! writes a marker in one way, and [`decode`] reads the marker at the front of bytes, in whichever way it is spelled.
 #![tactic(auto)]
 
+mod entries;
 mod error;
 mod format;
 mod marker;
@@ -11,7 +12,10 @@ mod metadata;
 mod parents;
 mod pieces;
 mod reading;
+mod text_map;
+mod written;
 
+pub use entries::Entries;
 pub use error::{MarkerError, MarkerFault, ReadError};
 pub use format::{decode, encode, read_marker, skip_marker, spelling_laws, write_marker};
 pub use hg_changeset::Node;

@@ -1,41 +1,51 @@
 //! The metadata of a marker.
 //!
-//! Metadata is a map from keys to values, both byte strings. It is kept in ascending order of the keys, which is also
-//! the order in which it is written: `key:value` pieces, joined by NUL. Any byte string may be a key or a value here;
-//! which of them a marker can have is asked when the marker is made.
-ghost use Rattle.std.specs.Prelude.{◌≡◌, ◌++◌, ◌^◌, ◌-◌, OnOk, OnErr, IfOk, option_copied, length, min, fold};
+//! Metadata is a map from keys to values, both byte strings. Any byte string may be a key or a value here; which of them
+//! a marker can have is asked when the marker is made. What can be written is kept as it is written, in one piece; only
+//! what no marker can have is kept as a map.
+ghost use Rattle.std.specs.Prelude.{◌≡◌, ◌++◌, ◌^◌, ◌-◌, OnOk, OnErr, IfOk, option_copied, length, min, true};
 ghost use Rattle.std.specs.FinMap as finite;
-ghost use Rattle.std.specs.List.{list_any};
-ghost use Rattle.hg_marker.specs.Texts.{entry_bytes};
-ghost use Rattle.hg_changeset.specs.Same.{same_pairs};
-ghost use Rattle.hg_marker.specs.Fed.{entries_fed};
-ghost use Rattle.hg_marker.specs.Metadata.{written, piece, is_nul};
-ghost use Rattle.hg_marker.specs.Making.{has_bad_key, has_bad_value, ends_key};
+ghost use Rattle.hg_marker.specs.Metadata.{written, texts, pieces, has_colon};
+ghost use Rattle.hg_marker.specs.Making.{has_bad_key, has_bad_value, is_writable};
+ghost use Rattle.std.specs.List.{list_all};
 
+use crate::entries::Entries;
+use crate::pieces::{is_written, read_texts};
+use crate::text_map::{TextMap, ends_key, has_nul};
+use crate::written::WrittenTexts;
 use std::alloc::{AllocError, Global};
-use std::collections::BTreeMap;
 use std::hash::{Hash, Hasher};
 use std::marker::Model;
 
 /// Values by key.
 #[derive(Drop, Debug)]
 pub struct Metadata {
-    texts: BTreeMap<Vec<u8>, Vec<u8>>,
+    form: Form,
+}
+
+// How metadata is kept.
+#[derive(Drop, Debug)]
+enum Form {
+    // Texts that can be written, as they are written.
+    Written(WrittenTexts),
+    // Texts of which one can't be written.
+    Unwritable(TextMap),
 }
 
 impl Model for Metadata {
-    ghost use Rattle.std.specs.Prelude.{List, ℕ, IsTrue};
+    ghost use Rattle.std.specs.Prelude.{List, ℕ};
     ghost use Rattle.std.specs.Coded.{coded_list, coded_ℕ};
     ghost use Rattle.std.specs.FinMap as map;
-    ghost use Rattle.hg_marker.specs.Texts.{Texts, bytes_cmp, entry_bytes};
+    ghost use Rattle.hg_marker.specs.Texts.{Texts};
+    ghost use Rattle.hg_marker.specs.Forms.{form_texts, IsForm};
 
     ghost Value = { Texts };
 
     ghost coded = { map.code (coded_list coded_ℕ) (coded_list coded_ℕ) };
 
-    ghost view = { λ a. map.from_sorted (entry_bytes a.texts.entries) };
+    ghost view = { λ a. form_texts a.form };
 
-    ghost invariant = { λ a. IsTrue (map.is_sorted bytes_cmp (entry_bytes a.texts.entries)) };
+    ghost invariant = { λ a. IsForm a.form };
 }
 
 impl PartialEq for Metadata {
@@ -47,7 +57,11 @@ impl PartialEq for Metadata {
     ghost laws = { partial_equiv_from_equiv texts_equivalence };
 
     fn eq(&self, other: &Metadata) -> bool {
-        are_same(&self.texts, &other.texts)
+        match (&self.form, &other.form) {
+            (Form::Written(texts), Form::Written(others)) => texts == others,
+            (Form::Unwritable(texts), Form::Unwritable(others)) => texts == others,
+            _ => false,
+        }
     }
 }
 
@@ -64,8 +78,12 @@ impl Hash for Metadata {
 
     ghost respects_eq = { texts_alike };
 
+    #[tactic(auto, unfolding(crate::specs::Fed::texts_fed))]
     fn hash<H: Hasher>(&self, state: &mut H) {
-        feed(&self.texts, state);
+        match &self.form {
+            Form::Written(texts) => state.write(texts.as_bytes()),
+            Form::Unwritable(texts) => texts.hash(state),
+        }
     }
 }
 
@@ -75,7 +93,7 @@ impl Metadata {
         ensures { result ≡ finite.empty }
     {
         Metadata {
-            texts: BTreeMap::new(alloc),
+            form: Form::Written(WrittenTexts::new(alloc)),
         }
     }
 
@@ -83,9 +101,19 @@ impl Metadata {
     pub fn get(&self, key: &[u8]) -> Option<&[u8]>
         ensures { option_copied result ≡ finite.get self.now key.now }
     {
-        match self.texts.get(key) {
-            Some(value) => Some(value.as_slice()),
-            None => None,
+        match &self.form {
+            Form::Written(texts) => texts.get(key),
+            Form::Unwritable(texts) => texts.get(key),
+        }
+    }
+
+    /// The keys and their values, ascending by key.
+    pub fn iter(&self) -> Entries<'_>
+        ensures { result ≡ finite.entries self.now }
+    {
+        match &self.form {
+            Form::Written(texts) => Entries::written(texts.entries()),
+            Form::Unwritable(texts) => Entries::mapped(texts.iter()),
         }
     }
 
@@ -94,108 +122,110 @@ impl Metadata {
         ensures ok { OnOk result (self.new ≡ finite.insert self.old key.items value.items) }
         ensures err { OnErr result (self.new ≡ self.old) }
     {
-        self.texts.insert(key, value)?;
+        *self = self.with(key, value)?;
         Ok(())
+    }
+
+    // The same, but for this value of this key.
+    fn with(&self, key: Vec<u8>, value: Vec<u8>) -> Result<Metadata, AllocError>
+        ensures { IfOk result (λ all. all ≡ finite.insert self.now key.items value.items) }
+    {
+        if let Form::Written(texts) = &self.form {
+            if !ends_key(&key) && !has_nul(&value) && texts.ends_before(&key) {
+                let form = Form::Written(texts.with_last(&key, &value)?);
+                return Ok(Metadata { form });
+            }
+        }
+        let alloc = *key.allocator();
+        let mut texts = self.to_map()?;
+        texts.insert(key, value)?;
+        Metadata::of_map(alloc, texts)
+    }
+
+    // The metadata as a map.
+    fn to_map(&self) -> Result<TextMap, AllocError>
+        ensures { IfOk result (λ texts. texts ≡ self.now) }
+    {
+        match &self.form {
+            Form::Written(texts) => texts.to_map(),
+            Form::Unwritable(texts) => texts.copy(),
+        }
+    }
+
+    // The metadata of these texts.
+    fn of_map(alloc: Global, texts: TextMap) -> Result<Metadata, AllocError>
+        ensures { IfOk result (λ all. all ≡ texts) }
+    {
+        let form = if texts.has_bad_key() || texts.has_bad_value() {
+            Form::Unwritable(texts)
+        } else {
+            Form::Written(WrittenTexts::of_map(alloc, &texts)?)
+        };
+        Ok(Metadata { form })
+    }
+
+    // The metadata that bytes spell.
+    pub(crate) fn read(alloc: Global, bytes: &[u8]) -> Result<Metadata, AllocError>
+        requires colons { list_all has_colon (pieces bytes.now) ≡ true }
+        ensures { IfOk result (λ all. all ≡ texts (pieces bytes.now)) }
+    {
+        if !is_written(bytes) {
+            return Metadata::of_map(alloc, read_texts(alloc, bytes)?);
+        }
+        let texts = WrittenTexts::of_bytes(alloc, bytes)?;
+        Ok(Metadata {
+            form: Form::Written(texts),
+        })
     }
 
     /// Equal metadata.
     pub fn copy(&self) -> Result<Metadata, AllocError>
         ensures { IfOk result (λ copy. copy ≡ self.now) }
     {
-        let texts = self.texts.clone()?;
-        Ok(Metadata { texts })
+        let form = match &self.form {
+            Form::Written(texts) => Form::Written(texts.copy()?),
+            Form::Unwritable(texts) => Form::Unwritable(texts.copy()?),
+        };
+        Ok(Metadata { form })
     }
 
     // Whether a key holds a colon or a NUL.
     pub(crate) fn has_bad_key(&self) -> bool
         ensures { result ≡ has_bad_key (finite.entries self.now) }
     {
-        for (key, _) in &self.texts {
-            if ends_key(key) {
-                return true;
-            }
+        match &self.form {
+            Form::Written(_) => false,
+            Form::Unwritable(texts) => texts.has_bad_key(),
         }
-        false
     }
 
     // Whether a value holds a NUL.
     pub(crate) fn has_bad_value(&self) -> bool
         ensures { result ≡ has_bad_value (finite.entries self.now) }
     {
-        for (_, value) in &self.texts {
-            if has_nul(value) {
-                return true;
-            }
+        match &self.form {
+            Form::Written(_) => false,
+            Form::Unwritable(texts) => texts.has_bad_value(),
         }
-        false
     }
 
     // How many bytes the metadata takes as written.
     pub(crate) fn written_len(&self) -> usize
         ensures { result ≡ min (length (written self.now)) (2 ^ 64 - 2) }
     {
-        let mut len: usize = 0;
-        for (key, text) in &self.texts {
-            len = len
-                .saturating_add(key.len())
-                .saturating_add(text.len())
-                .saturating_add(2);
+        match &self.form {
+            Form::Written(texts) => texts.as_bytes().len(),
+            Form::Unwritable(texts) => texts.written_len(),
         }
-        len.saturating_sub(1)
     }
 
     // Appends the metadata as it is written: the pieces, ascending by key, joined by NUL.
     pub(crate) fn write_onto(&self, out: &mut Vec<u8>) -> Result<(), AllocError>
         ensures { OnOk result (out.new.items ≡ out.old.items ++ written self.now) }
     {
-        let mut first = true;
-        for (key, value) in &self.texts {
-            if !first {
-                out.push(0)?;
-            }
-            first = false;
-            write_piece(out, key, value)?;
+        match &self.form {
+            Form::Written(texts) => out.extend_from_slice(texts.as_bytes()),
+            Form::Unwritable(texts) => texts.write_onto(out),
         }
-        Ok(())
     }
-}
-
-// Whether the same values stand at the same keys.
-fn are_same(a: &BTreeMap<Vec<u8>, Vec<u8>>, b: &BTreeMap<Vec<u8>, Vec<u8>>) -> bool
-    ensures { result ≡ same_pairs (entry_bytes a.now.entries) (entry_bytes b.now.entries) }
-{
-    a == b
-}
-
-// Each key and its value go into the hasher.
-fn feed<H: Hasher>(texts: &BTreeMap<Vec<u8>, Vec<u8>>, state: &mut H)
-    ensures { state.new ≡ fold H.write state.old (entries_fed (entry_bytes texts.now.entries)) }
-{
-    for (key, value) in texts {
-        state.write(key);
-        state.write(value);
-    }
-}
-
-// Appends a key and its value, with a colon between them.
-fn write_piece(out: &mut Vec<u8>, key: &[u8], value: &[u8]) -> Result<(), AllocError>
-    ensures { OnOk result (out.new.items ≡ out.old.items ++ piece (key.now, value.now)) }
-{
-    out.extend_from_slice(key)?;
-    out.push(b':')?;
-    out.extend_from_slice(value)
-}
-
-// Whether the bytes hold a colon or a NUL.
-fn ends_key(bytes: &[u8]) -> bool
-    ensures { result ≡ list_any ends_key bytes.now }
-{
-    bytes.iter().any(|byte| *byte == 0 || *byte == b':')
-}
-
-// Whether the bytes hold a NUL.
-fn has_nul(bytes: &[u8]) -> bool
-    ensures { result ≡ list_any is_nul bytes.now }
-{
-    bytes.iter().any(|byte| *byte == 0)
 }

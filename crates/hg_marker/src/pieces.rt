@@ -3,12 +3,74 @@
 //! Metadata is spelled as pieces between NULs, each a key, a colon and its value. A piece is split at its first colon, so
 //! a value may hold further ones; an empty piece says nothing; and of equal keys the later one wins. The bytes are walked
 //! piece by piece, so that no list of pieces is kept: metadata of NULs alone takes no memory.
-ghost use Rattle.std.specs.Prelude.{◌≡◌, ◌==◌, ◌++◌, ◌<◌, [], ◌∷◌, length, position, IfOk};
+ghost use Rattle.std.specs.Prelude.{◌≡◌, ◌==◌, ◌++◌, ◌<◌, [], ◌∷◌, length, position, map, option_copied, IfOk, IfSome, IfNone, true};
 ghost use Rattle.std.specs.List.{list_all};
 ghost use Rattle.hg_marker.specs.Metadata.{pieces, nonempty, has_colon, entry, texts};
+ghost use Rattle.hg_marker.specs.Written.{IsWritten, is_behind};
 
-use crate::metadata::Metadata;
+use crate::text_map::TextMap;
 use std::alloc::{AllocError, Global};
+use std::marker::Model;
+
+// The entries that the pieces of bytes say, from the front.
+#[derive(Drop)]
+pub(crate) struct Pieces<'a> {
+    rest: &'a [u8],
+}
+
+impl<'a> Model for Pieces<'a> {
+    ghost use Rattle.std.specs.Prelude.{ℕ, List, map};
+    ghost use Rattle.hg_marker.specs.Metadata.{pieces, entry};
+
+    ghost Value = { List (List ℕ × List ℕ) };
+
+    ghost view = { λ it. map entry (pieces it.rest.now) };
+}
+
+impl<'a> Pieces<'a> {
+    pub(crate) fn new(bytes: &'a [u8]) -> Pieces<'a>
+        ensures { result ≡ map entry (pieces bytes.now) }
+    {
+        Pieces { rest: bytes }
+    }
+}
+
+impl<'a> Iterator for Pieces<'a> {
+    ghost use Rattle.std.specs.Iterator.{YieldsFirstBy, item_count};
+    ghost use Rattle.hg_marker.specs.Texts.{entry_seen};
+
+    type Item = (&'a [u8], &'a [u8]);
+
+    ghost next_gives = { YieldsFirstBy entry_seen (λ rest. rest) };
+
+    ghost remaining = { item_count (λ rest. rest) };
+
+    fn next(&mut self) -> Option<(&'a [u8], &'a [u8])> {
+        match first_piece(self.rest) {
+            Some((piece, rest)) => {
+                self.rest = rest;
+                Some(split_piece(piece))
+            }
+            None => None,
+        }
+    }
+}
+
+// The first piece that isn't empty, and what stands behind it.
+fn first_piece(bytes: &[u8]) -> Option<(&[u8], &[u8])>
+    ensures some { IfSome result (λ x. pieces bytes.now ≡ x.0.now ∷ pieces x.1.now) }
+    ensures none { IfNone result (pieces bytes.now ≡ []) }
+{
+    let mut rest = bytes;
+    while !rest.is_empty() {
+        let (piece, after) = next_piece(rest);
+        if !piece.is_empty() {
+            return Some((piece, after));
+        }
+        rest = after;
+    }
+    None
+}
 
 // Whether each piece has a colon, so that the bytes spell metadata.
 pub(crate) fn have_colons(bytes: &[u8]) -> bool
@@ -35,11 +97,38 @@ fn is_well_formed(piece: &[u8]) -> bool
     }
 }
 
-// The metadata that the pieces say.
-pub(crate) fn read_metadata(alloc: Global, bytes: &[u8]) -> Result<Metadata, AllocError>
+// Whether bytes that spell metadata are its one written spelling: the keys ascend, and nothing stands beside the pieces.
+pub(crate) fn is_written(bytes: &[u8]) -> bool
+    requires colons { list_all has_colon (pieces bytes.now) ≡ true }
+    ensures { result ≡ true → IsWritten bytes.now }
+{
+    let mut len: usize = 0;
+    let mut last: Option<&[u8]> = None;
+    for (key, value) in Pieces::new(bytes) {
+        if !is_behind(key, last) {
+            return false;
+        }
+        last = Some(key);
+        len += key.len() + value.len() + 2;
+    }
+    len == bytes.len() + 1 || bytes.is_empty()
+}
+
+// Whether the key stands behind the last one.
+fn is_behind(key: &[u8], last: Option<&[u8]>) -> bool
+    ensures { result ≡ is_behind (option_copied last.entry) key.now }
+{
+    match last {
+        Some(last) => last.cmp(key).is_lt(),
+        None => true,
+    }
+}
+
+// The texts that the pieces say.
+pub(crate) fn read_texts(alloc: Global, bytes: &[u8]) -> Result<TextMap, AllocError>
     ensures { IfOk result (λ m. m ≡ texts (pieces bytes.now)) }
 {
-    let mut metadata = Metadata::new(alloc);
+    let mut texts = TextMap::new(alloc);
     let mut rest = bytes;
     while !rest.is_empty() {
         let (piece, after) = next_piece(rest);
@@ -47,11 +136,11 @@ pub(crate) fn read_metadata(alloc: Global, bytes: &[u8]) -> Result<Metadata, All
             let (key, value) = split_piece(piece);
             let key = Vec::from_slice(alloc, key)?;
             let value = Vec::from_slice(alloc, value)?;
-            metadata.insert(key, value)?;
+            texts.insert(key, value)?;
         }
         rest = after;
     }
-    Ok(metadata)
+    Ok(texts)
 }
 
 // What stands before the first colon, and what stands behind it.

@@ -1,12 +1,14 @@
-use Rattle.std.proofs.Common.{◌≡◌, sym, ap, ◌∙◌}
-use Rattle.std.specs.FinMap.{entries}
-use Rattle.hg_marker.specs.Texts.{entry_bytes}
-use Rattle.hg_changeset.specs.Same.{same_pairs}
-use Rattle.hg_marker.proofs.TextsLemmas.{entries_of}
+use Rattle.std.proofs.Common.{sym, ◌∙◌}
+use Rattle.hg_marker.specs.Same.{same_texts}
+use Rattle.hg_marker.proofs.FormLemmas.{forms_apart, forms_apart_too}
 use Rattle.hg_marker.proofs.metadata.MetadataPartialEq.eq.Goals as goal
 
-pub returns : goal.returns
-returns c =
-    let mine : entry_bytes c.self.inside.texts.entries ≡ entries c.args.self.now = sym (entries_of c.self.inside.texts.entries c.self.invariant) ∙ ap entries c.self.view_is in
-    let theirs : entry_bytes c.other.inside.texts.entries ≡ entries c.args.other.now = sym (entries_of c.other.inside.texts.entries c.other.invariant) ∙ ap entries c.other.view_is in
-    c.are_same.ensures ∙ (λ i. same_pairs (mine i) (theirs i))
+pub returns-in_default : goal.returns-in_default
+returns-in_default c =
+    sym (forms_apart c.self.inside.form c.other.inside.form c.in_default.field-0-0 c.in_default.field-0-1 c.in_default.is-0 c.in_default.is-1 c.self.invariant c.other.invariant)
+    ∙ (λ i. same_texts (c.self.view_is i) (c.other.view_is i))
+
+pub returns-in_default-2 : goal.returns-in_default-2
+returns-in_default-2 c =
+    sym (forms_apart_too c.self.inside.form c.other.inside.form c.in_default.field-0-0 c.in_default.field-0-1 c.in_default.is-0 c.in_default.is-1 c.self.invariant c.other.invariant)
+    ∙ (λ i. same_texts (c.self.view_is i) (c.other.view_is i))

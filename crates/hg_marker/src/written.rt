@@ -1,0 +1,182 @@
+//! Texts as they are written.
+//!
+//! Texts that can be written are kept as their one written spelling: pieces `key:value`, ascending by key, joined by
+//! NUL. So equal texts have equal bytes, and a value is found by a walk over the pieces.
+ghost use Rattle.std.specs.Prelude.{◌≡◌, ℕ, List, IfOk, OnOk, OnErr, option_copied, true, false};
+ghost use Rattle.std.specs.FinMap as finite;
+ghost use Rattle.std.specs.FinMap.{find};
+ghost use Rattle.hg_marker.specs.Texts.{bytes_cmp};
+ghost use Rattle.std.specs.List.{list_any, list_all};
+ghost use Rattle.hg_marker.specs.Metadata.{written, texts, pieces, is_nul};
+ghost use Rattle.hg_marker.specs.Making.{is_writable, ends_key};
+ghost use Rattle.hg_marker.specs.Written.{IsWritten, all_before, with_piece};
+
+use crate::pieces::{Pieces, read_texts};
+use crate::text_map::{TextMap, write_piece};
+use std::alloc::{AllocError, Global};
+use std::marker::Model;
+
+// Texts that can be written, as they are written.
+#[derive(Drop, Debug)]
+pub(crate) struct WrittenTexts {
+    bytes: Vec<u8>,
+}
+
+impl Model for WrittenTexts {
+    ghost use Rattle.std.specs.Prelude.{List, ℕ};
+    ghost use Rattle.std.specs.Coded.{coded_list, coded_ℕ};
+    ghost use Rattle.std.specs.FinMap as map;
+    ghost use Rattle.hg_marker.specs.Texts.{Texts};
+    ghost use Rattle.hg_marker.specs.Metadata.{texts, pieces};
+    ghost use Rattle.hg_marker.specs.Written.{IsWritten};
+
+    ghost Value = { Texts };
+
+    ghost coded = { map.code (coded_list coded_ℕ) (coded_list coded_ℕ) };
+
+    ghost view = { λ a. texts (pieces a.bytes.items) };
+
+    ghost invariant = { λ a. IsWritten a.bytes.items };
+}
+
+impl PartialEq for WrittenTexts {
+    ghost use Rattle.std.specs.Cmp.{partial_equiv_from_equiv};
+    ghost use Rattle.hg_marker.specs.Same.{same_texts, texts_equivalence};
+
+    ghost eq = { same_texts };
+
+    ghost laws = { partial_equiv_from_equiv texts_equivalence };
+
+    fn eq(&self, other: &WrittenTexts) -> bool {
+        self.bytes == other.bytes
+    }
+}
+
+impl WrittenTexts {
+    // No keys.
+    pub(crate) fn new(alloc: Global) -> WrittenTexts
+        ensures none { result ≡ finite.empty }
+        ensures writable { is_writable result ≡ true }
+    {
+        WrittenTexts {
+            bytes: Vec::new(alloc),
+        }
+    }
+
+    // The texts that are written so.
+    pub(crate) fn of_bytes(alloc: Global, bytes: &[u8]) -> Result<WrittenTexts, AllocError>
+        requires { IsWritten bytes.now }
+        ensures texts { IfOk result (λ all. all ≡ texts (pieces bytes.now)) }
+        ensures writable { is_writable (texts (pieces bytes.now)) ≡ true }
+    {
+        let bytes = Vec::from_slice(alloc, bytes)?;
+        Ok(WrittenTexts { bytes })
+    }
+
+    // The texts of a map.
+    pub(crate) fn of_map(alloc: Global, texts: &TextMap) -> Result<WrittenTexts, AllocError>
+        requires { is_writable texts.now ≡ true }
+        ensures { IfOk result (λ all. all ≡ texts.now) }
+    {
+        let mut bytes = Vec::with_capacity(alloc, texts.written_len())?;
+        texts.write_onto(&mut bytes)?;
+        Ok(WrittenTexts { bytes })
+    }
+
+    // The texts as a map.
+    pub(crate) fn to_map(&self) -> Result<TextMap, AllocError>
+        ensures { IfOk result (λ map. map ≡ self.now) }
+    {
+        read_texts(*self.bytes.allocator(), &self.bytes)
+    }
+
+    // How the texts are written.
+    pub(crate) fn as_bytes(&self) -> &[u8]
+        ensures written { result.now ≡ written self.now }
+        ensures writable { is_writable self.now ≡ true }
+    {
+        &self.bytes
+    }
+
+    // The keys and their values, ascending by key.
+    pub(crate) fn entries(&self) -> Pieces<'_>
+        ensures { result ≡ finite.entries self.now }
+    {
+        Pieces::new(&self.bytes)
+    }
+
+    // The value of a key.
+    pub(crate) fn get(&self, key: &[u8]) -> Option<&[u8]>
+        ensures { option_copied result ≡ finite.get self.now key.now }
+    {
+        value_in(self.entries(), key)
+    }
+
+    // Equal texts.
+    pub(crate) fn copy(&self) -> Result<WrittenTexts, AllocError>
+        ensures { IfOk result (λ copy. copy ≡ self.now) }
+    {
+        let bytes = self.bytes.clone()?;
+        Ok(WrittenTexts { bytes })
+    }
+
+    // Whether the key stands behind all that are there.
+    pub(crate) fn ends_before(&self, key: &[u8]) -> bool
+        ensures { result ≡ all_before key.now (finite.entries self.now) }
+    {
+        are_before(self.entries(), key)
+    }
+
+    // The texts with a further one behind them.
+    pub(crate) fn with_last(&self, key: &[u8], value: &[u8]) -> Result<WrittenTexts, AllocError>
+        requires behind { all_before key.now (finite.entries self.now) ≡ true }
+        requires key { list_any ends_key key.now ≡ false }
+        requires value { list_any is_nul value.now ≡ false }
+        ensures texts { IfOk result (λ all. all ≡ finite.insert self.now key.now value.now) }
+        ensures writable { IfOk result (λ all. is_writable all ≡ true) }
+    {
+        let bytes = with_piece(*self.bytes.allocator(), &self.bytes, key, value)?;
+        Ok(WrittenTexts { bytes })
+    }
+}
+
+// The value of a key among these entries.
+fn value_in<'a>(entries: Pieces<'a>, key: &[u8]) -> Option<&'a [u8]>
+    ensures { option_copied result ≡ find bytes_cmp key.now entries.entry }
+{
+    for (found, value) in entries {
+        if found == key {
+            return Some(value);
+        }
+    }
+    None
+}
+
+// Whether each of the keys stands before this one.
+fn are_before(entries: Pieces<'_>, key: &[u8]) -> bool
+    ensures { result ≡ all_before key.now entries.entry }
+{
+    for (found, _) in entries {
+        if !found.cmp(key).is_lt() {
+            return false;
+        }
+    }
+    true
+}
+
+// The bytes with a further piece behind them.
+fn with_piece(alloc: Global, bytes: &[u8], key: &[u8], value: &[u8]) -> Result<Vec<u8>, AllocError>
+    ensures { IfOk result (λ all. all.items ≡ with_piece bytes.now (key.now, value.now)) }
+{
+    let room = bytes
+        .len()
+        .saturating_add(key.len())
+        .saturating_add(value.len());
+    let mut all = Vec::with_capacity(alloc, room.saturating_add(2))?;
+    all.extend_from_slice(bytes)?;
+    if !bytes.is_empty() {
+        all.push(0)?;
+    }
+    write_piece(&mut all, key, value)?;
+    Ok(all)
+}
