@@ -1,0 +1,11 @@
+pub mod UnderLemmas
+pub mod SpreadLemmas
+pub mod DecidedLemmas
+pub mod ToldLemmas
+pub mod DrawLemmas
+pub mod RoundLemmas
+pub mod StartLemmas
+pub mod SortLemmas
+pub mod CountLemmas
+pub mod KnownLemmas
+pub mod ServedLemmas

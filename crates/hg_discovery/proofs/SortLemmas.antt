@@ -1,0 +1,67 @@
+-- Spots in the order of their ids.
+use Rattle.std.proofs.Common.{◌≡◌, ◌↔◌, ℕ, Bool, true, false, List, [], ◌∷◌, get_or, Contains, refl, sym, ap, subst, ◌∙◌, arith, ◌&&◌, true≢false, eqb-true}
+use lib.Dec.{eqb}
+use Rattle.std.specs.List.{AllPairs}
+use Rattle.std.specs.List.Sorted.{IsStrictlySortedBy}
+use Rattle.std.specs.Ordering.{nat_cmp, ordering_then, ordering_reverse}
+use Rattle.std.specs.declared.cmp.Ordering.{Ordering}
+use Rattle.std.specs.declared.cmp.Ordering.TheVariants.{Less, Equal, Greater}
+use Rattle.std.proofs.lemmas.Cmp.{nat_cmp_total}
+use Rattle.std.proofs.lemmas.List.Elements.{All-from_recursion, Contains-get_or}
+use Rattle.std.proofs.lemmas.List.Kept.{AllPairs-cons}
+use Rattle.hg_changeset.specs.Node.{node_cmp, node_eq}
+use Rattle.hg_changeset.proofs.NodeLemmas.{node_cmp_exact, same_node}
+use Rattle.hg_graph.specs.Graph.{IsGraph, nodes}
+use Rattle.hg_graph.specs.Places.{IsAt}
+use Rattle.hg_graph.proofs.PlaceLemmas.{same_place}
+use Rattle.hg_phases.specs.State.{State, changesets}
+use Rattle.hg_discovery.specs.declared.status.Spot.{Spot}
+use Rattle.hg_discovery.specs.Search.{IsAscending}
+use Rattle.hg_discovery.specs.Start.{IsShared}
+use Rattle.hg_discovery.proofs.StartLemmas.{one_spot}
+
+-- by id, and then by place
+abbrev pub spot_cmp : Spot → Spot → Ordering
+spot_cmp x y = ordering_then (node_cmp x.node y.node) (nat_cmp x.place y.place)
+
+pub pairs : (xs : List Spot) → IsStrictlySortedBy spot_cmp xs → AllPairs (λ x y. spot_cmp x y ≡ Less) xs
+unfolding IsStrictlySortedBy
+pairs [] h = λ i j d lt within. absurd (omega (arith, within))
+pairs (x ∷ xs) h = AllPairs-cons (λ y z. spot_cmp y z ≡ Less) x xs (All-from_recursion (λ y. spot_cmp x y ≡ Less) xs h.0) (pairs xs h.1)
+
+not_below_itself : (p q : ℕ) → q ≡ p → nat_cmp p q ≡ Less → ⊥
+not_below_itself p q e l =
+    let itself : nat_cmp p p ≡ Less = subst (λ z. nat_cmp p z ≡ Less) e l in
+    let other : nat_cmp p p ≡ ordering_reverse Less = nat_cmp_total.antisymm p p ∙ ap ordering_reverse itself in
+    cc (sym itself ∙ other)
+
+by_node : (o : Ordering) (x y : Spot) → node_cmp x.node y.node ≡ o → (x.node ≡ y.node → y.place ≡ x.place) → ordering_then o (nat_cmp x.place y.place) ≡ Less → o ≡ Less
+by_node Less x y e same h = refl
+by_node Equal x y e same h = absurd (not_below_itself x.place y.place (same (node_cmp_exact x.node y.node e)) h)
+by_node Greater x y e same h = h
+
+-- no two spots of a graph have one id
+pub ascending_spots : (s : State) → IsGraph (changesets s) → (xs : List Spot) → ((x : Spot) → Contains xs x ↔ IsShared s x) → IsStrictlySortedBy spot_cmp xs → IsAscending xs
+ascending_spots s graph xs shared sorted i j d lt within =
+    let x = get_or xs i d in
+    let y = get_or xs j d in
+    let at_x = ((shared x).0 (Contains-get_or xs i d (omega (arith, lt, within)))).0 in
+    let at_y = ((shared y).0 (Contains-get_or xs j d within)).0 in
+    let less = pairs xs sorted i j d lt within in
+    let place = λ (e : x.node ≡ y.node). same_place (nodes (changesets s)) x.node x.place y.place graph.distinct at_x (subst (λ n. IsAt (changesets s) n y.place) (sym e) at_y) in
+    by_node (node_cmp x.node y.node) x y refl place less
+
+-- the derived test
+abbrev pub spot_eq : Spot → Spot → Bool
+spot_eq x y = node_eq x.node y.node && eqb x.place y.place
+
+both_true : (a b : Bool) → (a && b) ≡ true → (a ≡ true) × (b ≡ true)
+both_true true true h = (refl, refl)
+both_true true false h = absurd (true≢false (sym h))
+both_true false true h = absurd (true≢false (sym h))
+both_true false false h = absurd (true≢false (sym h))
+
+pub same_spot : (x y : Spot) → spot_eq x y ≡ true → x ≡ y
+same_spot x y h =
+    let parts = both_true (node_eq x.node y.node) (eqb x.place y.place) h in
+    one_spot x y (same_node x.node y.node parts.0) (eqb-true x.place y.place parts.1)

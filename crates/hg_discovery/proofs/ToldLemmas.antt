@@ -1,0 +1,108 @@
+-- What answers leave as it was, and what they settle.
+use Rattle.std.proofs.Common.{◌≡◌, ◌⊎◌, ℕ, zero, suc, inl, inr, Bool, true, false, List, [], ◌∷◌, ◌++◌, length, slice_get, Some, refl, sym, ap, subst, ◌∙◌, arith}
+use Rattle.std.proofs.lemmas.Option.{slice_get_within, none-some, same_Some}
+use Rattle.hg_graph.specs.declared.graph.ParentPlaces.{ParentPlaces}
+use Rattle.hg_discovery.specs.declared.status.Status.{Status}
+use Rattle.hg_discovery.specs.declared.status.Status.TheVariants.{Undecided, Common, Missing}
+use Rattle.hg_discovery.specs.declared.status.Spot.{Spot}
+use Rattle.hg_discovery.specs.Under.{IsUnder, IsInOrder, itself}
+use Rattle.hg_discovery.specs.Search.{Is, IsClosed, AreSpots}
+use Rattle.hg_discovery.specs.Answers.{IsTold, AreTold}
+use Rattle.hg_discovery.proofs.UnderLemmas.{not_both_uc, not_both_um, not_both_cm, three}
+use Rattle.hg_discovery.proofs.SpreadLemmas.{decided_closed}
+
+module _ (ps : List ParentPlaces) where
+  told_len : (k : ℕ) (said : Bool) (old new : List Status) → IsTold ps k said old new → length new ≡ length old
+  told_len k said old new (inl d) = d.1.len
+  told_len k said old new (inr e) = ap length e.1
+
+  told_closed : (k : ℕ) (said : Bool) (old new : List Status) → length old ≡ length ps → IsInOrder ps → IsClosed ps old → IsTold ps k said old new → IsClosed ps new
+  told_closed k said old new len order closed (inl d) = decided_closed ps k said old new len order closed d.1
+  told_closed k said old new len order closed (inr e) = subst (IsClosed ps) (sym e.1) closed
+
+  -- what is undecided was so before
+  pub told_before : (k : ℕ) (said : Bool) (old new : List Status) → IsTold ps k said old new → (j : ℕ) → Is new Undecided j → Is old Undecided j
+  told_before k said old new (inr e) j h = subst (λ ds. Is ds Undecided j) e.1 h
+  told_before k said old new (inl d) j h = elim (three old j (omega (arith, d.1.len, slice_get_within new j Undecided h))) [
+    | inl u ↦ u
+    | inr e ↦ elim e [
+      | inl c ↦ absurd (not_both_uc new j h ((d.1.common j).1 (inl c)))
+      | inr m ↦ absurd (not_both_um new j h ((d.1.missing j).1 (inl m)))
+    ]
+  ]
+
+  -- what was asked about is decided
+  pub told_settles : (k : ℕ) (said : Bool) (old new : List Status) → IsTold ps k said old new → Is new Undecided k → ⊥
+  told_settles k true old new (inl d) h = not_both_uc new k h ((d.1.common k).1 (inr (refl, d.0, itself)))
+  told_settles k false old new (inl d) h = not_both_um new k h ((d.1.missing k).1 (inr (refl, d.0, itself)))
+  told_settles k said old new (inr e) h = e.0 (subst (λ ds. Is ds Undecided k) e.1 h)
+
+  -- what is so of the common ones, and of all below a yes, stays so
+  pub told_common : (P : ℕ → Type 0) → ((k j : ℕ) → IsUnder ps k j → P j → P k) → (k : ℕ) (said : Bool) (old new : List Status) → IsTold ps k said old new → (said ≡ true → P k) → ((j : ℕ) → Is old Common j → P j) → (j : ℕ) → Is new Common j → P j
+  told_common P down k said old new (inr e) at was j h = was j (subst (λ ds. Is ds Common j) e.1 h)
+  told_common P down k said old new (inl d) at was j h = elim ((d.1.common j).0 h) [ inl o ↦ was j o | inr u ↦ down j k u.2 (at u.0) ]
+
+  pub told_missing : (Q : ℕ → Type 0) → ((k j : ℕ) → IsUnder ps k j → Q k → Q j) → (k : ℕ) (said : Bool) (old new : List Status) → IsTold ps k said old new → (said ≡ false → Q k) → ((j : ℕ) → Is old Missing j → Q j) → (j : ℕ) → Is new Missing j → Q j
+  told_missing Q up k said old new (inr e) at was j h = was j (subst (λ ds. Is ds Missing j) e.1 h)
+  told_missing Q up k said old new (inl d) at was j h = elim ((d.1.missing j).0 h) [ inl o ↦ was j o | inr u ↦ up k j u.2 (at u.0) ]
+
+-- ---- one answer more
+
+pub AreTold-more : (ps : List ParentPlaces) (xs : List Spot) (answers : List Bool) (x : Spot) (said : Bool) (old mid new : List Status) → AreTold ps xs answers old mid → IsTold ps x.place said mid new → AreTold ps (xs ++ x ∷ []) (answers ++ said ∷ []) old new
+AreTold-more ps [] [] x said old mid new so next = (new, subst (λ ds. IsTold ps x.place said ds new) so next, refl)
+AreTold-more ps (y ∷ xs) (b ∷ answers) x said old mid new so next = (so.0, so.1, AreTold-more ps xs answers x said so.0 mid new so.2 next)
+AreTold-more ps [] (b ∷ answers) x said old mid new so next = absurd so
+AreTold-more ps (y ∷ xs) [] x said old mid new so next = absurd so
+
+pub told_length : (ps : List ParentPlaces) (xs : List Spot) (answers : List Bool) (old new : List Status) → AreTold ps xs answers old new → length new ≡ length old
+told_length ps [] [] old new e = ap length e
+told_length ps (x ∷ xs) (b ∷ answers) old new t = told_length ps xs answers t.0 new t.2 ∙ told_len ps x.place b old t.0 t.1
+told_length ps [] (b ∷ answers) old new t = absurd t
+told_length ps (x ∷ xs) [] old new t = absurd t
+
+-- what is missing stays so
+told_kept : (ps : List ParentPlaces) (k : ℕ) (said : Bool) (old new : List Status) → IsTold ps k said old new → (j : ℕ) → Is old Missing j → Is new Missing j
+told_kept ps k said old new (inl d) j h = (d.1.missing j).1 (inl h)
+told_kept ps k said old new (inr e) j h = subst (λ ds. Is ds Missing j) (sym e.1) h
+
+all_kept : (ps : List ParentPlaces) (xs : List Spot) (answers : List Bool) (old new : List Status) → AreTold ps xs answers old new → (j : ℕ) → Is old Missing j → Is new Missing j
+all_kept ps [] [] old new e j h = subst (λ ds. Is ds Missing j) (sym e) h
+all_kept ps (x ∷ xs) (b ∷ answers) old new t j h = all_kept ps xs answers t.0 new t.2 j (told_kept ps x.place b old t.0 t.1 j h)
+all_kept ps [] (b ∷ answers) old new t j h = absurd t
+all_kept ps (x ∷ xs) [] old new t j h = absurd t
+
+-- the spots stay
+pub spots_after : (ps : List ParentPlaces) (asked : List Spot) (answers : List Bool) (old new : List Status) (xs : List Spot) → AreTold ps asked answers old new → AreSpots old xs → AreSpots new xs
+spots_after ps asked answers old new xs told spots = record {
+  ascending = spots.ascending;
+  apart = spots.apart;
+  within = λ x h. let l = spots.within x h in omega (arith, l, len);
+  found = λ k h. spots.found k (elim h [ inl u ↦ before k Undecided u (λ m. not_both_um new k u m) | inr c ↦ before k Common c (λ m. not_both_cm new k c m) ]);
+}
+  where
+    len : length new ≡ length old
+    len = told_length ps asked answers old new told
+
+    before : (k : ℕ) (d : Status) → Is new d k → (Is new Missing k → ⊥) → Is old Undecided k ⊎ Is old Common k
+    before k d h never = elim (three old k (omega (arith, len, slice_get_within new k d h))) [
+      | inl u ↦ inl u
+      | inr e ↦ elim e [ inl c ↦ inr c | inr m ↦ absurd (never (all_kept ps asked answers old new told k m)) ]
+    ]
+
+-- all who were asked about are decided
+all_before : (ps : List ParentPlaces) (xs : List Spot) (answers : List Bool) (old new : List Status) → AreTold ps xs answers old new → (j : ℕ) → Is new Undecided j → Is old Undecided j
+all_before ps [] [] old new e j h = subst (λ ds. Is ds Undecided j) e h
+all_before ps (x ∷ xs) (b ∷ answers) old new t j h = told_before ps x.place b old t.0 t.1 j (all_before ps xs answers t.0 new t.2 j h)
+all_before ps [] (b ∷ answers) old new t j h = absurd t
+all_before ps (x ∷ xs) [] old new t j h = absurd t
+
+pub undecided_before : (ps : List ParentPlaces) (xs : List Spot) (answers : List Bool) (old new : List Status) → AreTold ps xs answers old new → (j : ℕ) → Is new Undecided j → Is old Undecided j
+undecided_before = all_before
+
+pub all_settled : (ps : List ParentPlaces) (xs : List Spot) (answers : List Bool) (old new : List Status) → AreTold ps xs answers old new → (i : ℕ) (x : Spot) → slice_get xs i ≡ Some x → Is new Undecided x.place → ⊥
+all_settled ps [] [] old new e i x at h = none-some x at
+all_settled ps (y ∷ xs) (b ∷ answers) old new t zero x at h =
+    told_settles ps y.place b old t.0 t.1 (subst (λ (z : Spot). Is t.0 Undecided z.place) (sym (same_Some y x at)) (all_before ps xs answers t.0 new t.2 x.place h))
+all_settled ps (y ∷ xs) (b ∷ answers) old new t (suc i) x at h = all_settled ps xs answers t.0 new t.2 i x at h
+all_settled ps [] (b ∷ answers) old new t i x at h = absurd t
+all_settled ps (x ∷ xs) [] old new t i y at h = absurd t

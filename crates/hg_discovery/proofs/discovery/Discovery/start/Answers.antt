@@ -1,0 +1,78 @@
+use Rattle.std.proofs.Common.{◌≡◌, ◌↔◌, ℕ, arith, length, Contains, subst}
+use Rattle.hg_phases.specs.State.{changesets}
+use Rattle.hg_discovery.specs.declared.status.Status.TheVariants.{Undecided}
+use Rattle.hg_discovery.specs.declared.status.Spot.{Spot}
+use Rattle.hg_discovery.specs.Under.{IsShapeOf, IsInOrder}
+use Rattle.hg_discovery.specs.Search.{Is}
+use Rattle.hg_discovery.proofs.StartLemmas.{in_order, shared_within, closed_start, spots_start}
+use Rattle.hg_discovery.proofs.discovery.Discovery.start.Goals as goal
+
+pub undecided-requires : goal.undecided-requires
+undecided-requires c x h =
+    let s = c.args.replica.now.history in
+    let ps = c.in_ok-parents.parents.items in
+    let shape : IsShapeOf (changesets s) ps = subst (λ cs. IsShapeOf cs ps) c.graph.ensures.graph c.in_ok-parents.ensures in
+    let within = shared_within s c.graph.ensures.valid ps shape c.in_ok-spots.spots.items c.in_ok-spots.ensures.shared x (subst (λ xs. Contains xs x) c.deref.ensures.value h) in
+    omega (arith, within, c.len.ensures, c.in_ok-parents.parents.ok.0)
+
+pub sample-requires-clause-in_order : goal.sample-requires-clause-in_order
+sample-requires-clause-in_order c =
+    let s = c.args.replica.now.history in
+    let ps = c.in_ok-parents.parents.items in
+    let shape : IsShapeOf (changesets s) ps = subst (λ cs. IsShapeOf cs ps) c.graph.ensures.graph c.in_ok-parents.ensures in
+    let order : IsInOrder ps = in_order s c.graph.ensures.valid ps shape c.in_ok-spots.spots.items c.in_ok-spots.ensures.shared in
+    rw c.deref-2.ensures.value order
+
+pub sample-requires-clause-closed : goal.sample-requires-clause-closed
+sample-requires-clause-closed c =
+    let s = c.args.replica.now.history in
+    let ps = c.in_ok-parents.parents.items in
+    let xs = c.in_ok-spots.spots.items in
+    let ds = c.in_ok-decided.decided.items in
+    let shape : IsShapeOf (changesets s) ps = subst (λ cs. IsShapeOf cs ps) c.graph.ensures.graph c.in_ok-parents.ensures in
+    let len : length ds ≡ length ps = omega (arith, c.in_ok-decided.ensures.len, c.len.ensures, c.in_ok-parents.parents.ok.0) in
+    let undecided : (k : ℕ) → Is ds Undecided k ↔ ((x : Spot) × Contains xs x × (x.place ≡ k)) = subst (λ ys. (k : ℕ) → Is ds Undecided k ↔ ((x : Spot) × Contains ys x × (x.place ≡ k))) c.deref.ensures.value c.in_ok-decided.ensures.undecided in
+    rw c.deref-2.ensures.value (rw c.deref-4.ensures.value (closed_start s c.graph.ensures.valid ps shape xs c.in_ok-spots.ensures.shared ds len undecided c.in_ok-decided.ensures.nothing_common))
+
+pub sample-requires-clause-spots : goal.sample-requires-clause-spots
+sample-requires-clause-spots c =
+    let s = c.args.replica.now.history in
+    let ps = c.in_ok-parents.parents.items in
+    let xs = c.in_ok-spots.spots.items in
+    let ds = c.in_ok-decided.decided.items in
+    let shape : IsShapeOf (changesets s) ps = subst (λ cs. IsShapeOf cs ps) c.graph.ensures.graph c.in_ok-parents.ensures in
+    let len : length ds ≡ length ps = omega (arith, c.in_ok-decided.ensures.len, c.len.ensures, c.in_ok-parents.parents.ok.0) in
+    let undecided : (k : ℕ) → Is ds Undecided k ↔ ((x : Spot) × Contains xs x × (x.place ≡ k)) = subst (λ ys. (k : ℕ) → Is ds Undecided k ↔ ((x : Spot) × Contains ys x × (x.place ≡ k))) c.deref.ensures.value c.in_ok-decided.ensures.undecided in
+    rw c.deref-3.ensures.value (rw c.deref-4.ensures.value (spots_start s c.graph.ensures.valid ps shape xs c.in_ok-spots.ensures.shared ds len undecided c.in_ok-decided.ensures.nothing_common c.in_ok-spots.ensures.ascending))
+
+pub invariant_of-result : goal.invariant_of-result
+invariant_of-result c =
+    let s = c.args.replica.now.history in
+    let ps = c.in_ok-parents.parents.items in
+    let xs = c.in_ok-spots.spots.items in
+    let ds = c.in_ok-decided.decided.items in
+    let shape : IsShapeOf (changesets s) ps = subst (λ cs. IsShapeOf cs ps) c.graph.ensures.graph c.in_ok-parents.ensures in
+    let len : length ds ≡ length ps = omega (arith, c.in_ok-decided.ensures.len, c.len.ensures, c.in_ok-parents.parents.ok.0) in
+    let undecided : (k : ℕ) → Is ds Undecided k ↔ ((x : Spot) × Contains xs x × (x.place ≡ k)) = subst (λ ys. (k : ℕ) → Is ds Undecided k ↔ ((x : Spot) × Contains ys x × (x.place ≡ k))) c.deref.ensures.value c.in_ok-decided.ensures.undecided in
+    record {
+      len = len;
+      in_order = in_order s c.graph.ensures.valid ps shape xs c.in_ok-spots.ensures.shared;
+      spots = spots_start s c.graph.ensures.valid ps shape xs c.in_ok-spots.ensures.shared ds len undecided c.in_ok-decided.ensures.nothing_common c.in_ok-spots.ensures.ascending;
+      closed = closed_start s c.graph.ensures.valid ps shape xs c.in_ok-spots.ensures.shared ds len undecided c.in_ok-decided.ensures.nothing_common;
+      sample = rw c.deref-2.ensures.value at (rw c.deref-3.ensures.value at (rw c.deref-4.ensures.value at c.in_ok-asked.ensures));
+    }
+
+pub returns : goal.returns
+returns c =
+    let s = c.args.replica.now.history in
+    let ps = c.in_ok-parents.parents.items in
+    let xs = c.in_ok-spots.spots.items in
+    let ds = c.in_ok-decided.decided.items in
+    let undecided : (k : ℕ) → Is ds Undecided k ↔ ((x : Spot) × Contains xs x × (x.place ≡ k)) = subst (λ ys. (k : ℕ) → Is ds Undecided k ↔ ((x : Spot) × Contains ys x × (x.place ≡ k))) c.deref.ensures.value c.in_ok-decided.ensures.undecided in
+    record {
+      shape = subst (λ cs. IsShapeOf cs ps) c.graph.ensures.graph c.in_ok-parents.ensures;
+      spots = c.in_ok-spots.ensures.shared;
+      undecided = undecided;
+      nothing_common = c.in_ok-decided.ensures.nothing_common;
+      search = invariant_of-result c;
+    }

@@ -1,0 +1,29 @@
+use Rattle.std.proofs.Common.{◌≡◌, ◌+◌, ◌++◌, ◌∷◌, ◌∙◌, [], arith, take, get_or, false}
+use Rattle.std.proofs.lemmas.List.{take_more, take_all}
+use Rattle.hg_discovery.proofs.ToldLemmas.{AreTold-more}
+use Rattle.hg_discovery.proofs.settle.tell_all.Goals as goal
+
+pub loop-i-preserved : goal.loop-i-preserved
+loop-i-preserved c =
+    let ps = c.args.parents.now in
+    let xs = c.args.asked.now in
+    let bs = c.args.answers.now in
+    let i = c.loop-i.i in
+    let x = get_or xs i (record { node = record { 0 = [] }; place = 0 }) in
+    let b = get_or bs i false in
+    let more_xs : take (i + 1) xs ≡ take i xs ++ x ∷ [] = take_more xs i _ c.loop-i-test.true in
+    let more_bs : take (i + 1) bs ≡ take i bs ++ b ∷ [] = take_more bs i false (omega (arith, c.requires.answers, c.loop-i-test.true)) in
+    record {
+      told = rw more_xs (rw more_bs (AreTold-more ps (take i xs) (take i bs) x b c.args.decided.now c.loop-i.decided c.tell.new.decided c.loop-i.invariant.told c.tell.ensures.told));
+      closed = c.tell.ensures.closed;
+      len = c.tell.ensures.len ∙ c.loop-i.invariant.len;
+    }
+
+pub returns-clause-told : goal.returns-clause-told
+returns-clause-told c =
+    let xs = c.args.asked.now in
+    let bs = c.args.answers.now in
+    let i = c.loop-i.i in
+    let all_xs : take i xs ≡ xs = take_all i xs (omega arith) in
+    let all_bs : take i bs ≡ bs = take_all i bs (omega (arith, c.requires.answers)) in
+    rw all_bs at (rw all_xs at c.loop-i.invariant.told)

@@ -1,0 +1,26 @@
+-- Where a discovery begins, and how it ends.
+use Rattle.std.specs.Prelude.{◌≡◌, ℕ, List, ◌↔◌, Contains}
+use Rattle.hg_changeset.specs.declared.node.Node.{Node}
+use Rattle.hg_graph.specs.Places.{IsAt}
+use Rattle.hg_phases.specs.declared.phase.Phase.TheVariants.{Secret}
+use Rattle.hg_phases.specs.State.{State, changesets, IsPhaseOf}
+use Rattle.hg_discovery.specs.declared.status.Status.TheVariants.{Undecided, Common}
+use Rattle.hg_discovery.specs.declared.status.Spot.{Spot}
+use Rattle.hg_discovery.specs.Under.{IsShapeOf}
+use Rattle.hg_discovery.specs.Search.{Search, Is, IsSearch, IsHead, Lists, nodes_of}
+
+-- a changeset that isn't secret, and its place
+abbrev pub IsShared : State → Spot → Type 0
+IsShared s x = IsAt (changesets s) x.node x.place × (IsPhaseOf s x.node Secret → ⊥)
+
+-- the changesets that aren't secret are undecided, and nothing is common
+pub record IsStart (s : State) (t : Search) : Type 0 where
+  pub shape : IsShapeOf (changesets s) t.parents
+  pub spots : (x : Spot) → Contains t.spots x ↔ IsShared s x
+  pub undecided : (k : ℕ) → Is t.decided Undecided k ↔ ((x : Spot) × Contains t.spots x × (x.place ≡ k))
+  pub nothing_common : (k : ℕ) → Is t.decided Common k → ⊥
+  pub search : IsSearch t
+
+-- the heads of what is common, each once, ascending
+abbrev pub AreCommonHeads : Search → List Node → Type 0
+AreCommonHeads t ns = (xs : List Spot) × Lists (IsHead t Common) xs × (ns ≡ nodes_of xs)

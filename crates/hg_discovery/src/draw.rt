@@ -1,0 +1,139 @@
+//! The next sample.
+ghost use Rattle.std.specs.Prelude.{◌≡◌, ℕ, ◌≤◌, ◌<◌, ◌++◌, Some, length, take, filter, vec_len, All, OnOk, IfOk, Contains};
+ghost use Rattle.hg_discovery.specs.declared.status.Status.TheVariants.{Undecided, Common, Missing};
+ghost use Rattle.hg_discovery.specs.Under.{IsInOrder, IsOneOf};
+ghost use Rattle.hg_discovery.specs.Search.{Is, IsClosed, AreSpots, IsSample, IsHead, Lists};
+ghost use Rattle.hg_discovery.specs.Spread.{AreCovered, IsMarked, MarksPlace};
+ghost use Rattle.hg_discovery.specs.Picking.{is_picked};
+
+use crate::status::{Spot, Status};
+use hg_graph::ParentPlaces;
+use std::alloc::{AllocError, Global};
+
+// How many changesets a round asks about.
+const SAMPLE: usize = 200;
+
+// The first of the undecided changesets: the heads among them, and then the others.
+pub(crate) fn sample(
+    alloc: Global,
+    parents: &[ParentPlaces],
+    spots: &[Spot],
+    decided: &[Status],
+) -> Result<Vec<Spot>, AllocError>
+    requires len { length decided.now ≡ length parents.now }
+    requires in_order { IsInOrder parents.now }
+    requires closed { IsClosed parents.now decided.now }
+    requires spots { AreSpots decided.now spots.now }
+    ensures { IfOk result (λ xs. IsSample (record { parents = parents.now; spots = spots.now; decided = decided.now; asked = xs.items }) xs.items) }
+{
+    let covered = covered(alloc, parents, decided, Status::Undecided)?;
+    let mut found = Vec::new(alloc);
+    pick(
+        spots,
+        decided,
+        &covered,
+        Status::Undecided,
+        false,
+        SAMPLE,
+        &mut found,
+    )?;
+    pick(
+        spots,
+        decided,
+        &covered,
+        Status::Undecided,
+        true,
+        SAMPLE,
+        &mut found,
+    )?;
+    Ok(found)
+}
+
+// The heads of what is common.
+pub(crate) fn common_heads(
+    alloc: Global,
+    parents: &[ParentPlaces],
+    spots: &[Spot],
+    decided: &[Status],
+) -> Result<Vec<Spot>, AllocError>
+    requires len { length decided.now ≡ length parents.now }
+    requires in_order { IsInOrder parents.now }
+    requires closed { IsClosed parents.now decided.now }
+    requires spots { AreSpots decided.now spots.now }
+    ensures { IfOk result (λ xs. Lists (IsHead (record { parents = parents.now; spots = spots.now; decided = decided.now; asked = xs.items }) Common) xs.items) }
+{
+    let covered = covered(alloc, parents, decided, Status::Common)?;
+    let mut found = Vec::new(alloc);
+    pick(
+        spots,
+        decided,
+        &covered,
+        Status::Common,
+        false,
+        spots.len(),
+        &mut found,
+    )?;
+    Ok(found)
+}
+
+// Marks the changesets that have a child that is decided so.
+fn covered(
+    alloc: Global,
+    parents: &[ParentPlaces],
+    decided: &[Status],
+    so: Status,
+) -> Result<Vec<bool>, AllocError>
+    requires len { length decided.now ≡ length parents.now }
+    requires in_order { IsInOrder parents.now }
+    ensures { IfOk result (λ marks. AreCovered parents.now decided.now so marks.items) }
+{
+    let mut marks = vec![in alloc; false; decided.len()]?;
+    for place in 0..parents.len() {
+        if decided[place] == so {
+            mark_parents(parents[place], &mut marks);
+        }
+    }
+    Ok(marks)
+}
+
+// Marks the parents.
+fn mark_parents(parents: ParentPlaces, marks: &mut [bool])
+    ensures { MarksPlace (IsOneOf parents) marks.old marks.new }
+{
+    mark(parents.first, marks);
+    mark(parents.second, marks);
+}
+
+// Marks a place, where there is one.
+fn mark(place: Option<usize>, marks: &mut [bool])
+    ensures { MarksPlace (λ k. place ≡ Some k) marks.old marks.new }
+{
+    if let Some(place) = place {
+        if place < marks.len() {
+            marks[place] = true;
+        }
+    }
+}
+
+// Adds the spots that are decided so and covered or not, up to a limit.
+fn pick(
+    spots: &[Spot],
+    decided: &[Status],
+    marks: &[bool],
+    so: Status,
+    covered: bool,
+    limit: usize,
+    found: &mut Vec<Spot>,
+) -> Result<(), AllocError>
+    requires len { length marks.now ≡ length decided.now }
+    requires within { All (λ x. x.place < length decided.now) spots.now }
+    requires limit { vec_len found.old ≤ limit }
+    ensures { OnOk result (found.new.items ≡ take limit (found.old.items ++ filter (is_picked decided.now marks.now so covered) spots.now)) }
+{
+    for spot in spots {
+        if found.len() < limit && decided[spot.place] == so && marks[spot.place] == covered {
+            found.push(*spot)?;
+        }
+    }
+    Ok(())
+}

@@ -1,0 +1,23 @@
+//! Discovery: which changesets two replicas have in common, asked in rounds.
+//!
+//! The asker's changesets that aren't secret begin as undecided. Each round asks about a sample of them: their heads, and
+//! then others. A yes makes a changeset and its ancestors common, a no makes it and its descendants missing. So what is
+//! undecided never has a decided changeset between two of its own, and a head is one without undecided children.
+//!
+//! The asker calls [`Discovery`], and the other side answers by [`known`]. Both may go on in the meantime.
+#![tactic(auto)]
+
+mod answers;
+mod discovery;
+mod draw;
+mod error;
+mod laws;
+mod settle;
+mod start;
+mod status;
+
+pub use answers::known;
+pub use discovery::Discovery;
+pub use error::DiscoveryError;
+pub use laws::{rounds_are_few, what_is_common_is_held_by_both, what_is_common_is_what_is_served};
+pub use status::{Spot, Status};

@@ -1,0 +1,83 @@
+//! Where a discovery begins.
+ghost use Rattle.std.specs.Prelude.{◌≡◌, ◌≢◌, ℕ, ◌<◌, ◌↔◌, ◌⊎◌, Some, length, IfOk, IsTrue, Contains};
+ghost use Rattle.hg_discovery.specs.declared.status.Status.TheVariants.{Undecided, Common, Missing};
+ghost use Rattle.hg_phases.specs.State.{changesets, IsPhaseOf, IsValid};
+ghost use Rattle.hg_phases.specs.declared.phase.Phase.TheVariants.{Secret};
+ghost use Rattle.hg_discovery.specs.declared.status.Spot.{Spot};
+ghost use Rattle.hg_discovery.specs.Under.{IsShapeOf};
+ghost use Rattle.hg_discovery.specs.Search.{Is, IsAscending};
+ghost use Rattle.hg_discovery.specs.Start.{IsShared};
+
+use crate::status::{Spot, Status};
+use hg_changeset::Node;
+use hg_graph::{Graph, ParentPlaces};
+use hg_phases::Phase;
+use hg_replica::Replica;
+use std::alloc::{AllocError, Global};
+
+// Where the parents of each changeset stand.
+pub(crate) fn parents_of(alloc: Global, graph: &Graph) -> Result<Vec<ParentPlaces>, AllocError>
+    ensures { IfOk result (λ ps. IsShapeOf graph.now ps.items) }
+{
+    let mut parents = Vec::with_capacity(alloc, graph.len())?;
+    for place in 0..graph.len() {
+        parents.push(graph.parent_places(place))?;
+    }
+    Ok(parents)
+}
+
+// The changesets that aren't secret, ascending.
+pub(crate) fn shared(alloc: Global, replica: &Replica) -> Result<Vec<Spot>, AllocError>
+    ensures ascending { IfOk result (λ xs. IsAscending xs.items) }
+    ensures shared { IfOk result (λ xs. (x : Spot) → Contains xs.items x ↔ IsShared replica.now.history x) }
+{
+    let mut spots = unsorted(alloc, replica)?;
+    spots.sort_unstable();
+    spots.dedup();
+    Ok(spots)
+}
+
+// The changesets that aren't secret, in the graph's order.
+fn unsorted(alloc: Global, replica: &Replica) -> Result<Vec<Spot>, AllocError>
+    ensures valid { IsValid replica.now.history }
+    ensures shared { IfOk result (λ xs. (x : Spot) → Contains xs.items x ↔ IsShared replica.now.history x) }
+{
+    let graph = replica.graph();
+    let mut spots = Vec::new(alloc);
+    for place in 0..graph.len() {
+        if let Some(node) = graph.node_at(place) {
+            if !is_secret(replica, node)? {
+                spots.push(Spot { node, place })?;
+            }
+        }
+    }
+    Ok(spots)
+}
+
+// Whether it is held and secret.
+fn is_secret(replica: &Replica, node: Node) -> Result<bool, AllocError>
+    ensures { IfOk result (λ answer. IsTrue answer ↔ IsPhaseOf replica.now.history node Secret) }
+{
+    match replica.phase_of(node)? {
+        Some(phase) => Ok(phase == Phase::Secret),
+        None => Ok(false),
+    }
+}
+
+// The spots are undecided, and all else is missing.
+pub(crate) fn undecided(
+    alloc: Global,
+    len: usize,
+    spots: &[Spot],
+) -> Result<Vec<Status>, AllocError>
+    requires { (x : Spot) → Contains spots.now x → x.place < len }
+    ensures len { IfOk result (λ ds. length ds.items ≡ len) }
+    ensures undecided { IfOk result (λ ds. (k : ℕ) → Is ds.items Undecided k ↔ ((x : Spot) × Contains spots.now x × (x.place ≡ k))) }
+    ensures nothing_common { IfOk result (λ ds. (k : ℕ) → Is ds.items Common k → ⊥) }
+{
+    let mut decided = vec![in alloc; Status::Missing; len]?;
+    for spot in spots {
+        decided[spot.place] = Status::Undecided;
+    }
+    Ok(decided)
+}
