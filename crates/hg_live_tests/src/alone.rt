@@ -1,0 +1,96 @@
+//! An inbox in one thread, and its refusals.
+use hg_live::{Full, Inbox, InboxRefusal};
+use std::alloc::Global;
+use std::process::Abort;
+use std::test::*;
+
+fn message(rt: &impl Abort, alloc: Global, text: &[u8]) -> Vec<u8> {
+    Vec::from_slice(alloc, text).expect(rt, "memory")
+}
+
+// Whether the put was refused as full, and handed these bytes back.
+fn hands_back(put: Result<(), Full>, text: &[u8]) -> bool {
+    match put {
+        Ok(()) => false,
+        Err(full) => full.message.as_slice() == text,
+    }
+}
+
+// Whether the take gave these bytes.
+fn gives(taken: Option<Vec<u8>>, text: &[u8]) -> bool {
+    match taken {
+        Some(message) => message.as_slice() == text,
+        None => false,
+    }
+}
+
+#[test]
+fn messages_come_out_in_order_at_any_seat(rt: HostRuntime) {
+    let alloc = rt.alloc();
+    let mut inbox = Inbox::new(alloc, 2).expect(&rt, "an inbox");
+    let mut s = inbox.seat().expect(&rt, "a seat");
+    let mut t = inbox.seat().expect(&rt, "a seat");
+
+    assert!(rt; inbox.put(&rt, &mut s, message(&rt, alloc, b"x")).is_ok());
+    assert!(rt; inbox.put(&rt, &mut s, message(&rt, alloc, b"y")).is_ok());
+    assert!(rt; hands_back(inbox.put(&rt, &mut s, message(&rt, alloc, b"z")), b"z"));
+    assert!(rt; gives(inbox.take(&rt, &mut t), b"x"));
+    assert!(rt; gives(inbox.take(&rt, &mut s), b"y"));
+    assert!(rt; inbox.take(&rt, &mut t).is_none());
+}
+
+#[test]
+fn an_inbox_is_closed_by_all_its_seats(rt: HostRuntime) {
+    let alloc = rt.alloc();
+    let mut inbox = Inbox::new(alloc, 2).expect(&rt, "an inbox");
+    let mut s = inbox.seat().expect(&rt, "a seat");
+    let t = inbox.seat().expect(&rt, "a seat");
+    assert!(rt; inbox.put(&rt, &mut s, message(&rt, alloc, b"y")).is_ok());
+    assert!(rt; inbox.put(&rt, &mut s, message(&rt, alloc, b"z")).is_ok());
+    let one = vec![in alloc; s].expect(&rt, "memory");
+
+    let Err(mut unclosed) = inbox.close(&rt, one) else {
+        assert!(rt; false, "a seat is out");
+        return;
+    };
+    assert!(rt; unclosed.refusal == InboxRefusal::SeatsOut);
+    unclosed.seats.push(t).expect(&rt, "memory");
+    let Ok(rest) = unclosed.inbox.close(&rt, unclosed.seats) else {
+        assert!(rt; false, "all seats are back");
+        return;
+    };
+    assert_eq!(rt; rest.len(), 2);
+    assert_eq!(rt; rest[0].as_slice(), b"y".as_slice());
+    assert_eq!(rt; rest[1].as_slice(), b"z".as_slice());
+}
+
+#[test]
+fn an_inbox_for_no_message_is_refused(rt: HostRuntime) {
+    match Inbox::new(rt.alloc(), 0) {
+        Ok(_) => assert!(rt; false, "it holds nothing"),
+        Err(refusal) => assert!(rt; refusal == InboxRefusal::ZeroCapacity),
+    }
+}
+
+#[test]
+fn refusals_have_numbers_and_names(rt: HostRuntime) {
+    for (refusal, number, name) in [
+        (InboxRefusal::ZeroCapacity, Some(1), "ZeroCapacity"),
+        (InboxRefusal::SeatsOut, Some(3), "SeatsOut"),
+        (InboxRefusal::NoSeat, Some(4), "NoSeat"),
+        (InboxRefusal::NoMemory, None, "NoMemory"),
+    ] {
+        assert_eq!(rt; refusal.number(), number);
+        let text = format!(in rt.alloc(); "{refusal}").expect(&rt, "memory");
+        assert_eq!(rt; text.as_str(), name);
+    }
+}
+
+#[test]
+fn what_is_full_has_its_number_and_name(rt: HostRuntime) {
+    let full = Full {
+        message: Vec::new(rt.alloc()),
+    };
+    let text = format!(in rt.alloc(); "{full}").expect(&rt, "memory");
+    assert_eq!(rt; (full.number(), text.as_str()), (2, "Full"));
+}
