@@ -1,24 +1,16 @@
 -- What the last takes give is the rest of what was put, in order.
 use Rattle.std.proofs.Common.{◌≡◌, ℕ, zero, suc, ◌+◌, List, [], ◌∷◌, ◌++◌, length, drop, map, Vec, Global, Some, slice_get, All, refl, ap, sym, ◌∙◌, subst, arith, length-append, append_assoc, drop_of_length-le}
+use Rattle.std.proofs.Math.Seq.{take-append_seam, drop-append_seam}
+use Rattle.std.proofs.lemmas.List.Elements.{All-tail, All-take, All-drop}
 use Rattle.hg_live.specs.declared.rule.Log.{Log}
 use Rattle.hg_live.specs.declared.rule.Numbered.{Numbered}
 use Rattle.hg_live.specs.Rule.{log, numbered, numbered_from, StandsIn, IsWhole}
 
-pub All_tail : {A : Type 0} (P : A → Type 0) (x : A) (xs : List A) → All P (x ∷ xs) → All P xs
-All_tail P x xs a k d below = a (suc k) d (omega arith)
+pub All-front : {A : Type 0} (P : A → Type 0) (xs ys : List A) → All P (xs ++ ys) → All P xs
+All-front P xs ys a = subst (All P) (take-append_seam xs ys) (All-take P (length xs) (xs ++ ys) a)
 
-pub All_cons : {A : Type 0} (P : A → Type 0) (x : A) (xs : List A) → P x → All P xs → All P (x ∷ xs)
-All_cons P x xs p a zero d below = p
-All_cons P x xs p a (suc k) d below = a k d (omega arith)
-
-pub All_right : {A : Type 0} (P : A → Type 0) (xs ys : List A) → All P (xs ++ ys) → All P ys
-All_right P [] ys a = a
-All_right P (x ∷ xs) ys a = All_right P xs ys (All_tail P x (xs ++ ys) a)
-
-pub All_left : {A : Type 0} (P : A → Type 0) (xs ys : List A) → All P (xs ++ ys) → All P xs
-All_left P [] ys a k d below = absurd (omega arith)
-All_left P (x ∷ xs) ys a zero d below = a zero d (omega arith)
-All_left P (x ∷ xs) ys a (suc k) d below = All_left P xs ys (All_tail P x (xs ++ ys) a) k d (omega arith)
+pub All-back : {A : Type 0} (P : A → Type 0) (xs ys : List A) → All P (xs ++ ys) → All P ys
+All-back P xs ys a = subst (All P) (drop-append_seam xs ys) (All-drop P (length xs) (xs ++ ys) a)
 
 drop_here : (q : List (List ℕ)) (n : ℕ) (m : List ℕ) → slice_get q n ≡ Some m → drop n q ≡ m ∷ drop (suc n) q
 drop_here [] n m e = absurd (cc (e))
@@ -34,7 +26,7 @@ rest_is : (q : List (List ℕ)) (n : ℕ) (ms : List (List ℕ)) → StandsIn q 
 rest_is q n [] stands end = sym (drop_of_length-le q (omega arith))
 rest_is q n (m ∷ ms) stands end =
     let here : slice_get q n ≡ Some m = stands zero (numbered n m) (omega arith) in
-    let rest = rest_is q (n + 1) ms (All_tail (λ (p : Numbered). slice_get q p.number ≡ Some p.message) (numbered n m) (numbered_from (n + 1) ms) stands) (omega arith) in
+    let rest = rest_is q (n + 1) ms (All-tail (λ (p : Numbered). slice_get q p.number ≡ Some p.message) (numbered n m) (numbered_from (n + 1) ms) stands) (omega arith) in
     let e : n + 1 ≡ suc n = omega arith in ap (λ (w : List (List ℕ)). m ∷ w) rest ∙ (ap (λ (k : ℕ). m ∷ drop k q) e ∙ sym (drop_here q n m here))
 
 -- the owner of every part took these messages last, and then the inbox held nothing
@@ -42,7 +34,7 @@ pub closes : (v : Log) (taken : List Numbered) (ms : List (List ℕ)) → v.take
 closes v taken ms goes h =
     let r = h.1 in
     rest_is h.0 (length taken) ms
-    (All_right (λ (p : Numbered). slice_get h.0 p.number ≡ Some p.message) taken (numbered_from (length taken) ms)
+    (All-back (λ (p : Numbered). slice_get h.0 p.number ≡ Some p.message) taken (numbered_from (length taken) ms)
     (let P : List Numbered → Type 0 = λ ps. StandsIn h.0 ps in let a : P v.takes = r.takes_in in rw goes at a))
     (let n = r.taken in omega (arith, ap length goes, length-append taken (numbered_from (length taken) ms), length-numbered_from (length taken) ms))
 

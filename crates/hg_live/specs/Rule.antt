@@ -1,5 +1,5 @@
 -- The rule of the inbox: its puts are numbered from 0, and so are its takes.
-use Rattle.std.specs.Prelude.{◌≡◌, ℕ, ◌+◌, ◌^◌, ◌<◌, ◌==◌, nat_lt, if◌then◌else◌, List, [], ◌∷◌, ◌++◌, length, Some, slice_get, All, AllPairs}
+use Rattle.std.specs.Prelude.{◌≡◌, ℕ, ◌+◌, ◌^◌, ◌<◌, ◌==◌, nat_lt, cond, List, [], ◌∷◌, ◌++◌, length, Some, slice_get, All, AllPairs, sum_by, count_by}
 use mathlib.Core.Option.{some}
 use lib.ListN.{get_elem?}
 use Rattle.hg_live.specs.declared.rule.Log.{Log}
@@ -13,17 +13,11 @@ numbered n m = record { number = n; message = m }
 
 -- how often the number stands in the list
 abbrev pub times : ℕ → List Numbered → ℕ
-times k [] = 0
-times k (p ∷ ps) = (if k == p.number then 1 else 0) + times k ps
-
--- a number of every view, added up
-abbrev pub total : (Log → ℕ) → List Log → ℕ
-total f [] = 0
-total f (v ∷ vs) = f v + total f vs
+times k ps = count_by (λ p. k == p.number) ps
 
 -- 1 below n, and 0 from there on
 abbrev pub once_below : ℕ → ℕ → ℕ
-once_below k n = if nat_lt k n then 1 else 0
+once_below k n = cond (nat_lt k n) 1 0
 
 -- each message stands in q at its number
 abbrev pub StandsIn : List (List ℕ) → List Numbered → Type 0
@@ -31,11 +25,11 @@ StandsIn q ps = All (λ p. slice_get q p.number ≡ Some p.message) ps
 
 -- q was put in all, and t taken. Each number of q was put by one seat, and each of t taken by one
 pub record IsOrdered (items : List (List ℕ)) (views : List Log) (t : List (List ℕ)) : Type 0 where
-  pub parts : total (λ v. v.parts) views ≡ 2 ^ 62 + 1
-  pub puts_once : (k : ℕ) → total (λ v. times k v.puts) views ≡ once_below k (length (t ++ items))
-  pub takes_once : (k : ℕ) → total (λ v. times k v.takes) views ≡ once_below k (length t)
-  pub puts_all : total (λ v. length v.puts) views ≡ length (t ++ items)
-  pub takes_all : total (λ v. length v.takes) views ≡ length t
+  pub parts : sum_by (λ v. v.parts) views ≡ 2 ^ 62 + 1
+  pub puts_once : (k : ℕ) → sum_by (λ v. times k v.puts) views ≡ once_below k (length (t ++ items))
+  pub takes_once : (k : ℕ) → sum_by (λ v. times k v.takes) views ≡ once_below k (length t)
+  pub puts_all : sum_by (λ v. length v.puts) views ≡ length (t ++ items)
+  pub takes_all : sum_by (λ v. length v.takes) views ≡ length t
   pub puts_in : (seat : ℕ) (v : Log) → get_elem? views seat ≡ some v → StandsIn (t ++ items) v.puts
   pub takes_in : (seat : ℕ) (v : Log) → get_elem? views seat ≡ some v → StandsIn t v.takes
   pub idle : (seat : ℕ) (v : Log) → get_elem? views seat ≡ some v → v.parts ≡ 0 → (v.puts ≡ []) × (v.takes ≡ [])

@@ -3,7 +3,7 @@ use Rattle.crossbeam_queue.specs.Passes.{view}
 use Rattle.hg_live.specs.declared.rule.Log.{Log}
 use Rattle.hg_live.specs.Views.{SeatLog, all_puts, all_takes, EachAscends}
 use Rattle.hg_live.specs.Rule.{Ascends}
-use Rattle.hg_live.proofs.RestLemmas.{All_tail, All_cons}
+use Rattle.std.proofs.lemmas.List.Elements.{All-tail, All-cons}
 use Rattle.hg_live.proofs.inbox.gather.Goals as goal
 
 pub loop-seat-preserved : goal.loop-seat-preserved
@@ -18,10 +18,10 @@ loop-seat-preserved c =
     let P : SeatLog → Type 0 = λ seat. seat.inbox ≡ c.args.queue.now.table.shared.table_id in
     record {
       same = (same.0 ∙ i.same.0, same.1 ∙ i.same.1, same.2 ∙ i.same.2);
-      seats = All_tail P c.in-Some.seat rest (subst (λ (xs : List SeatLog). All P xs) is i.seats);
+      seats = All-tail P c.in-Some.seat rest (subst (λ (xs : List SeatLog). All P xs) is i.seats);
       parts = (let one = c.seat.invariant.1 in let p = i.parts in omega (arith, ap (λ (h : Log). h.parts) both, ap length is));
       puts = ap (λ (h : Log). h.puts ++ all_puts rest) both ∙ (append_assoc v.puts u.puts (all_puts rest) ∙ (ap (λ (s : SeatLog). v.puts ++ (s.puts ++ all_puts rest)) c.seat.view_is ∙ (ap (λ (xs : List SeatLog). v.puts ++ all_puts xs) (sym is) ∙ i.puts)));
-      numbers = λ others. i.numbers (subst EachAscends (sym is) (All_cons (λ (s : SeatLog). Ascends s.puts × Ascends s.takes) c.in-Some.seat rest (subst (λ (s : SeatLog). Ascends s.puts × Ascends s.takes) c.seat.view_is (c.seat.invariant.2, c.seat.invariant.3)) others));
+      numbers = λ others. i.numbers (subst EachAscends (sym is) (All-cons (λ (s : SeatLog). Ascends s.puts × Ascends s.takes) c.in-Some.seat rest (subst (λ (s : SeatLog). Ascends s.puts × Ascends s.takes) c.seat.view_is (c.seat.invariant.2, c.seat.invariant.3)) others));
       takes = ap (λ (h : Log). h.takes ++ all_takes rest) both ∙ (append_assoc v.takes u.takes (all_takes rest) ∙ (ap (λ (s : SeatLog). v.takes ++ (s.takes ++ all_takes rest)) c.seat.view_is ∙ (ap (λ (xs : List SeatLog). v.takes ++ all_takes xs) (sym is) ∙ i.takes)));
     }
 
