@@ -206,52 +206,64 @@ def agreements(size):
         yield "agree A B"
 
 
+class Line:
+    """A line of changesets that grows and is rewritten at its tip; the first of them are public."""
+
+    def __init__(self, node):
+        self.node, self.labels, self.public = node, [], 0
+
+    def may_lose(self, count):
+        return len(self.labels) - self.public > count
+
+
+def step(dice, line, other, new, next_new):
+    """A command that is accepted at the tip of the line. A relocation goes to the tip of the other."""
+    kind, mine, node = dice.random(), line.labels, line.node
+    if kind < 0.12 and line.may_lose(1):
+        old = mine.pop()
+        mine.extend((new, next_new))
+        return f"split {node} {old} {new} {next_new}"
+    if kind < 0.20 and line.may_lose(2):
+        high, low = mine.pop(), mine.pop()
+        mine.append(new)
+        return f"fold {node} {new} {low} {high}"
+    if kind < 0.27 and line.may_lose(1):
+        return f"prune {node} {mine.pop()}"
+    if kind < 0.36 and line.may_lose(1) and other.labels and other is not line:
+        old, onto = mine.pop(), other.labels[-1]
+        other.labels.append(new)
+        return f"relocate {node} {old} {new} {onto}"
+    if kind < 0.50 and line.may_lose(1):
+        old = mine.pop()
+        mine.append(new)
+        return f"amend {node} {old} {new}"
+    if kind < 0.53 and line.may_lose(3):
+        line.public += 1
+        return f"phase {node} {mine[line.public - 1]} public"
+    parent = f" {mine[-1]}" if mine else ""
+    mine.append(new)
+    return f"commit {node} {new} draft{parent}"
+
+
 def mixed(size):
     """Three nodes that commit, amend, split, fold, prune, relocate, publish and pull, the same at each run."""
     dice = random.Random(15)
     nodes = "ABC"
-    for node in nodes:
-        yield f"node {node}"
-    made = {node: [] for node in nodes}
-    fresh = 0
+    yield from (f"node {node}" for node in nodes)
+    lines = {node: [Line(node) for _ in range(10)] for node in nodes}
     for number in range(size):
-        node = dice.choice(nodes)
-        mine = made[node]
-        kind = dice.random()
-        new = [label(fresh), label(fresh + 1)]
-        fresh += 2
-        if kind < 0.5 or len(mine) < 3:
-            parent = f" {dice.choice(mine[-50:])}" if mine and dice.random() < 0.9 else ""
-            yield f"commit {node} {new[0]} draft{parent}"
-            mine.append(new[0])
-        elif kind < 0.7:
-            yield f"amend {node} {mine.pop(dice.randrange(len(mine) // 2, len(mine)))} {new[0]}"
-            mine.append(new[0])
-        elif kind < 0.76:
-            yield f"split {node} {mine.pop()} {new[0]} {new[1]}"
-            mine.extend(new)
-        elif kind < 0.82:
-            yield f"fold {node} {new[0]} {mine.pop(-2)} {mine.pop()}"
-            mine.append(new[0])
-        elif kind < 0.88:
-            yield f"prune {node} {mine.pop()}"
-        elif kind < 0.97:
-            old = mine.pop(dice.randrange(len(mine)))
-            yield f"relocate {node} {old} {new[0]} {mine[-1]}"
-            mine.append(new[0])
-        else:
-            yield f"phase {node} {mine[len(mine) // 4]} public"
-        if number % 2_000 == 1_999:
-            yield f"pull {dice.choice(nodes)} {node}"
-    for node in nodes:
-        yield f"report {node}"
+        mine = lines[dice.choice(nodes)]
+        yield step(dice, dice.choice(mine), dice.choice(mine), label(2 * number), label(2 * number + 1))
+        if number % (size // 20) == size // 20 - 1:
+            yield f"pull {dice.choice(nodes)} {mine[0].node}"
+    yield from ("agree A B", "agree B C", "agree C A")
 
 
 SIZES = (10_000, 20_000, 40_000)
 SMALL = (5_000, 10_000, 20_000)
 
 # Of each case the name, the lines, the sizes, and how many lines it prints: a refused line prints one, and so does each
-# changeset of a report. None where that isn't known beforehand.
+# changeset of a report.
 CASES = [
     ("commits in a chain", chain, SIZES, lambda size: 0),
     ("commits without parents", roots, SIZES, lambda size: 0),
@@ -283,5 +295,5 @@ CASES += [
     ("that, and 10 pulls of nothing", pulls_of_nothing, SIZES, lambda size: 0),
     ("that, and 100 pulls of an amended tip", amends_pulled, SMALL, lambda size: 0),
     ("that, and 10 times whether the nodes agree", agreements, SIZES, lambda size: 10),
-    ("a mixed script", mixed, (12_000, 24_000, 48_000), None),
+    ("a mixed script with 20 pulls", mixed, (12_000, 24_000, 48_000), lambda size: 3),
 ]
