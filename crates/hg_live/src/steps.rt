@@ -25,6 +25,7 @@ pub(crate) fn put<R: Wait>(
     queue.push_as::<Puts, R>(rt, pass, message)
 }
 
+#[tactic(auto, using(crate::proofs::MoveLemmas::takes, crate::proofs::MoveLemmas::agrees))]
 pub(crate) fn take<R: Wait>(rt: &R, queue: &Queue, pass: &mut Known) -> Option<Message>
     requires { IsPassOf queue.now pass.old × (0 < (view pass.old).parts) }
     ensures same { IsSamePass pass.old pass.new }
