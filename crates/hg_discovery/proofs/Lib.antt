@@ -2,6 +2,8 @@ pub mod UnderLemmas
 pub mod SpreadLemmas
 pub mod DecidedLemmas
 pub mod ToldLemmas
+pub mod ExistLemmas
+pub mod TogetherLemmas
 pub mod DrawLemmas
 pub mod RoundLemmas
 pub mod StartLemmas

@@ -1,5 +1,5 @@
 -- Whole discoveries.
-use Rattle.std.proofs.Common.{◌≡◌, ◌↔◌, ℕ, zero, suc, inl, inr, Bool, true, false, List, [], ◌∷◌, length, slice_get, Some, Contains, refl, sym, ap, subst, ◌∙◌, arith, true≢false}
+use Rattle.std.proofs.Common.{◌≡◌, ◌↔◌, ℕ, inl, inr, Bool, true, false, List, [], ◌∷◌, length, slice_get, Some, Contains, refl, sym, ap, subst, ◌∙◌, arith, true≢false}
 use Rattle.std.proofs.lemmas.Option.{same_Some, slice_get_within, slice_get-map}
 use Rattle.std.specs.Option.{option_map}
 use Rattle.hg_changeset.specs.declared.node.Node.{Node}
@@ -14,7 +14,6 @@ use Rattle.hg_changeset.proofs.ListLemmas.{Contains-first, Contains-later}
 use Rattle.hg_graph.proofs.PlaceLemmas.{IsAt-from, place_from_Holds}
 use Rattle.hg_phases.specs.declared.phase.Phase.TheVariants.{Secret}
 use Rattle.hg_phases.specs.State.{State, changesets, IsPhaseOf}
-use Rattle.hg_discovery.specs.declared.status.Status.{Status}
 use Rattle.hg_discovery.specs.declared.status.Status.TheVariants.{Undecided, Common, Missing}
 use Rattle.hg_discovery.specs.declared.status.Spot.{Spot}
 use Rattle.hg_discovery.specs.Under.{IsUnder, IsShapeOf, itself, below}
@@ -23,26 +22,8 @@ use Rattle.hg_discovery.specs.Answers.{AreTold}
 use Rattle.hg_discovery.specs.Start.{IsStart}
 use Rattle.hg_discovery.specs.Rounds.{Round, AreTrueRounds, AreAnsweredRounds, IsCommon, AreWithin, AreFree}
 use Rattle.hg_discovery.proofs.UnderLemmas.{not_both_um, three, above_missing, under_before}
-use Rattle.hg_discovery.proofs.ToldLemmas.{told_common, told_missing, told_length}
+use Rattle.hg_discovery.proofs.ToldLemmas.{all_common, all_missing, told_length}
 use Rattle.hg_discovery.proofs.DrawLemmas.{sample_member}
-
--- ---- all answers of a round
-
-all_common : (ps : List ParentPlaces) (P : ℕ → Type 0) → ((k j : ℕ) → IsUnder ps k j → P j → P k) → (xs : List Spot) (answers : List Bool) (old new : List Status) → AreTold ps xs answers old new
-    → ((i : ℕ) (x : Spot) → slice_get xs i ≡ Some x → slice_get answers i ≡ Some true → P x.place) → ((j : ℕ) → Is old Common j → P j) → (j : ℕ) → Is new Common j → P j
-all_common ps P down [] [] old new e at was j h = was j (subst (λ ds. Is ds Common j) e h)
-all_common ps P down (x ∷ xs) (b ∷ answers) old new t at was j h =
-    all_common ps P down xs answers t.0 new t.2 (λ i. at (suc i)) (told_common ps P down x.place b old t.0 t.1 (λ e. at zero x refl (ap (λ a. Some a) e)) was) j h
-all_common ps P down [] (b ∷ answers) old new t at was j h = absurd t
-all_common ps P down (x ∷ xs) [] old new t at was j h = absurd t
-
-all_missing : (ps : List ParentPlaces) (Q : ℕ → Type 0) → ((k j : ℕ) → IsUnder ps k j → Q k → Q j) → (xs : List Spot) (answers : List Bool) (old new : List Status) → AreTold ps xs answers old new
-    → ((i : ℕ) (x : Spot) → slice_get xs i ≡ Some x → slice_get answers i ≡ Some false → Q x.place) → ((j : ℕ) → Is old Missing j → Q j) → (j : ℕ) → Is new Missing j → Q j
-all_missing ps Q up [] [] old new e at was j h = was j (subst (λ ds. Is ds Missing j) e h)
-all_missing ps Q up (x ∷ xs) (b ∷ answers) old new t at was j h =
-    all_missing ps Q up xs answers t.0 new t.2 (λ i. at (suc i)) (told_missing ps Q up x.place b old t.0 t.1 (λ e. at zero x refl (ap (λ a. Some a) e)) was) j h
-all_missing ps Q up [] (b ∷ answers) old new t at was j h = absurd t
-all_missing ps Q up (x ∷ xs) [] old new t at was j h = absurd t
 
 node_at : (xs : List Spot) (i : ℕ) (x : Spot) → slice_get xs i ≡ Some x → slice_get (nodes_of xs) i ≡ Some x.node
 node_at xs i x at = slice_get-map (λ (y : Spot). y.node) xs i ∙ ap (option_map (λ (y : Spot). y.node)) at

@@ -12,11 +12,11 @@ use Rattle.hg_discovery.proofs.UnderLemmas.{not_both_uc, not_both_um, not_both_c
 use Rattle.hg_discovery.proofs.SpreadLemmas.{decided_closed}
 
 module _ (ps : List ParentPlaces) where
-  told_len : (k : ℕ) (said : Bool) (old new : List Status) → IsTold ps k said old new → length new ≡ length old
+  pub told_len : (k : ℕ) (said : Bool) (old new : List Status) → IsTold ps k said old new → length new ≡ length old
   told_len k said old new (inl d) = d.1.len
   told_len k said old new (inr e) = ap length e.1
 
-  told_closed : (k : ℕ) (said : Bool) (old new : List Status) → length old ≡ length ps → IsInOrder ps → IsClosed ps old → IsTold ps k said old new → IsClosed ps new
+  pub told_closed : (k : ℕ) (said : Bool) (old new : List Status) → length old ≡ length ps → IsInOrder ps → IsClosed ps old → IsTold ps k said old new → IsClosed ps new
   told_closed k said old new len order closed (inl d) = decided_closed ps k said old new len order closed d.1
   told_closed k said old new len order closed (inr e) = subst (IsClosed ps) (sym e.1) closed
 
@@ -65,11 +65,29 @@ told_kept : (ps : List ParentPlaces) (k : ℕ) (said : Bool) (old new : List Sta
 told_kept ps k said old new (inl d) j h = (d.1.missing j).1 (inl h)
 told_kept ps k said old new (inr e) j h = subst (λ ds. Is ds Missing j) (sym e.1) h
 
-all_kept : (ps : List ParentPlaces) (xs : List Spot) (answers : List Bool) (old new : List Status) → AreTold ps xs answers old new → (j : ℕ) → Is old Missing j → Is new Missing j
-all_kept ps [] [] old new e j h = subst (λ ds. Is ds Missing j) (sym e) h
-all_kept ps (x ∷ xs) (b ∷ answers) old new t j h = all_kept ps xs answers t.0 new t.2 j (told_kept ps x.place b old t.0 t.1 j h)
-all_kept ps [] (b ∷ answers) old new t j h = absurd t
-all_kept ps (x ∷ xs) [] old new t j h = absurd t
+pub all_missing_kept : (ps : List ParentPlaces) (xs : List Spot) (answers : List Bool) (old new : List Status) → AreTold ps xs answers old new → (j : ℕ) → Is old Missing j → Is new Missing j
+all_missing_kept ps [] [] old new e j h = subst (λ ds. Is ds Missing j) (sym e) h
+all_missing_kept ps (x ∷ xs) (b ∷ answers) old new t j h = all_missing_kept ps xs answers t.0 new t.2 j (told_kept ps x.place b old t.0 t.1 j h)
+all_missing_kept ps [] (b ∷ answers) old new t j h = absurd t
+all_missing_kept ps (x ∷ xs) [] old new t j h = absurd t
+
+-- and so is what is common
+told_common_kept : (ps : List ParentPlaces) (k : ℕ) (said : Bool) (old new : List Status) → IsTold ps k said old new → (j : ℕ) → Is old Common j → Is new Common j
+told_common_kept ps k said old new (inl d) j h = (d.1.common j).1 (inl h)
+told_common_kept ps k said old new (inr e) j h = subst (λ ds. Is ds Common j) (sym e.1) h
+
+pub all_common_kept : (ps : List ParentPlaces) (xs : List Spot) (answers : List Bool) (old new : List Status) → AreTold ps xs answers old new → (j : ℕ) → Is old Common j → Is new Common j
+all_common_kept ps [] [] old new e j h = subst (λ ds. Is ds Common j) (sym e) h
+all_common_kept ps (x ∷ xs) (b ∷ answers) old new t j h = all_common_kept ps xs answers t.0 new t.2 j (told_common_kept ps x.place b old t.0 t.1 j h)
+all_common_kept ps [] (b ∷ answers) old new t j h = absurd t
+all_common_kept ps (x ∷ xs) [] old new t j h = absurd t
+
+-- what answers leave is closed
+pub all_closed : (ps : List ParentPlaces) (xs : List Spot) (answers : List Bool) (old new : List Status) → length old ≡ length ps → IsInOrder ps → IsClosed ps old → AreTold ps xs answers old new → IsClosed ps new
+all_closed ps [] [] old new len order closed e = subst (IsClosed ps) (sym e) closed
+all_closed ps (x ∷ xs) (b ∷ answers) old new len order closed t = all_closed ps xs answers t.0 new (told_len ps x.place b old t.0 t.1 ∙ len) order (told_closed ps x.place b old t.0 len order closed t.1) t.2
+all_closed ps [] (b ∷ answers) old new len order closed t = absurd t
+all_closed ps (x ∷ xs) [] old new len order closed t = absurd t
 
 -- the spots stay
 pub spots_after : (ps : List ParentPlaces) (asked : List Spot) (answers : List Bool) (old new : List Status) (xs : List Spot) → AreTold ps asked answers old new → AreSpots old xs → AreSpots new xs
@@ -86,7 +104,7 @@ spots_after ps asked answers old new xs told spots = record {
     before : (k : ℕ) (d : Status) → Is new d k → (Is new Missing k → ⊥) → Is old Undecided k ⊎ Is old Common k
     before k d h never = elim (three old k (omega (arith, len, slice_get_within new k d h))) [
       | inl u ↦ inl u
-      | inr e ↦ elim e [ inl c ↦ inr c | inr m ↦ absurd (never (all_kept ps asked answers old new told k m)) ]
+      | inr e ↦ elim e [ inl c ↦ inr c | inr m ↦ absurd (never (all_missing_kept ps asked answers old new told k m)) ]
     ]
 
 -- all who were asked about are decided
@@ -106,3 +124,21 @@ all_settled ps (y ∷ xs) (b ∷ answers) old new t zero x at h =
 all_settled ps (y ∷ xs) (b ∷ answers) old new t (suc i) x at h = all_settled ps xs answers t.0 new t.2 i x at h
 all_settled ps [] (b ∷ answers) old new t i x at h = absurd t
 all_settled ps (x ∷ xs) [] old new t i y at h = absurd t
+
+-- ---- all answers of a round
+
+pub all_common : (ps : List ParentPlaces) (P : ℕ → Type 0) → ((k j : ℕ) → IsUnder ps k j → P j → P k) → (xs : List Spot) (answers : List Bool) (old new : List Status) → AreTold ps xs answers old new
+    → ((i : ℕ) (x : Spot) → slice_get xs i ≡ Some x → slice_get answers i ≡ Some true → P x.place) → ((j : ℕ) → Is old Common j → P j) → (j : ℕ) → Is new Common j → P j
+all_common ps P down [] [] old new e at was j h = was j (subst (λ ds. Is ds Common j) e h)
+all_common ps P down (x ∷ xs) (b ∷ answers) old new t at was j h =
+    all_common ps P down xs answers t.0 new t.2 (λ i. at (suc i)) (told_common ps P down x.place b old t.0 t.1 (λ e. at zero x refl (ap (λ a. Some a) e)) was) j h
+all_common ps P down [] (b ∷ answers) old new t at was j h = absurd t
+all_common ps P down (x ∷ xs) [] old new t at was j h = absurd t
+
+pub all_missing : (ps : List ParentPlaces) (Q : ℕ → Type 0) → ((k j : ℕ) → IsUnder ps k j → Q k → Q j) → (xs : List Spot) (answers : List Bool) (old new : List Status) → AreTold ps xs answers old new
+    → ((i : ℕ) (x : Spot) → slice_get xs i ≡ Some x → slice_get answers i ≡ Some false → Q x.place) → ((j : ℕ) → Is old Missing j → Q j) → (j : ℕ) → Is new Missing j → Q j
+all_missing ps Q up [] [] old new e at was j h = was j (subst (λ ds. Is ds Missing j) e h)
+all_missing ps Q up (x ∷ xs) (b ∷ answers) old new t at was j h =
+    all_missing ps Q up xs answers t.0 new t.2 (λ i. at (suc i)) (told_missing ps Q up x.place b old t.0 t.1 (λ e. at zero x refl (ap (λ a. Some a) e)) was) j h
+all_missing ps Q up [] (b ∷ answers) old new t at was j h = absurd t
+all_missing ps Q up (x ∷ xs) [] old new t at was j h = absurd t

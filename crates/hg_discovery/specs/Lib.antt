@@ -1,6 +1,7 @@
 pub mod Under
 pub mod Search
 pub mod Spread
+pub mod Together
 pub mod Answers
 pub mod Picking
 pub mod Start

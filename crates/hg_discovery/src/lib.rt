@@ -2,7 +2,8 @@
 //!
 //! The asker's changesets that aren't secret begin as undecided. Each round asks about a sample of them: their heads, and
 //! then others. A yes makes a changeset and its ancestors common, a no makes it and its descendants missing. So what is
-//! undecided never has a decided changeset between two of its own, and a head is one without undecided children.
+//! undecided never has a decided changeset between two of its own, and a head is one without undecided children. The answers
+//! of a round take one sweep down the places and one up, as places put each parent before its children.
 //!
 //! The asker calls [`Discovery`], and the other side answers by [`known`]. Both may go on in the meantime.
 #![tactic(auto)]

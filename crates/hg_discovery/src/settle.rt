@@ -1,10 +1,11 @@
 //! What one round's answers decide.
-ghost use Rattle.std.specs.Prelude.{◌≡◌, ℕ, ◌≤◌, ◌<◌, Some, length, true, false, ◌↔◌, IsTrue, IfOk};
+ghost use Rattle.std.specs.Prelude.{◌≡◌, ℕ, ◌<◌, Some, length, false, ◌↔◌, Contains, IsTrue, IfOk};
 ghost use Rattle.hg_discovery.specs.declared.status.Status.TheVariants.{Undecided, Common, Missing};
 ghost use Rattle.hg_discovery.specs.Under.{IsInOrder, IsOneOf, IsUnder};
 ghost use Rattle.hg_discovery.specs.Search.{Is, IsClosed};
 ghost use Rattle.hg_discovery.specs.Answers.{IsTold, AreTold, IsDecided};
 ghost use Rattle.hg_discovery.specs.Spread.{SetsCommon, SpreadsDown, SpreadsUp};
+ghost use Rattle.hg_discovery.specs.Together.{IsAnswered, AreAgreed, Marks};
 
 use crate::status::{Spot, Status};
 use hg_graph::ParentPlaces;
@@ -22,16 +23,76 @@ pub(crate) fn told(
     requires len { length decided.now ≡ length parents.now }
     requires closed { IsClosed parents.now decided.now }
     requires answers { length answers.now ≡ length asked.now }
+    requires asked { (x : Spot) → Contains asked.now x → Is decided.now Undecided x.place }
     ensures told { IfOk result (λ new. AreTold parents.now asked.now answers.now decided.now new.items) }
     ensures len { IfOk result (λ new. length new.items ≡ length decided.now) }
     ensures closed { IfOk result (λ new. IsClosed parents.now new.items) }
 {
     let mut new = Vec::from_slice(alloc, decided)?;
+    if tell_at_once(parents, asked, answers, &mut new) {
+        return Ok(new);
+    }
+    let mut new = Vec::from_slice(alloc, decided)?;
     tell_all(parents, asked, answers, &mut new);
     Ok(new)
 }
 
-// The answers to a sample, in its order.
+// All answers together, by one sweep down and one up. It gives up where a no is for an ancestor of a yes: then the order of
+// the answers counts. No other side answers so while it stands still.
+fn tell_at_once(
+    parents: &[ParentPlaces],
+    asked: &[Spot],
+    answers: &[bool],
+    decided: &mut [Status],
+) -> bool
+    requires in_order { IsInOrder parents.now }
+    requires len { length decided.old ≡ length parents.now }
+    requires closed { IsClosed parents.now decided.old }
+    requires answers { length answers.now ≡ length asked.now }
+    requires asked { (x : Spot) → Contains asked.now x → Is decided.old Undecided x.place }
+    ensures told { IsTrue result → AreTold parents.now asked.now answers.now decided.old decided.new }
+    ensures len { length decided.new ≡ length decided.old }
+    ensures closed { IsTrue result → IsClosed parents.now decided.new }
+    ensures agree { IsTrue result ↔ AreAgreed parents.now asked.now answers.now }
+{
+    mark(asked, answers, true, Status::Common, decided);
+    spread_down(parents, decided);
+    if is_contradicted(asked, answers, decided) {
+        return false;
+    }
+    mark(asked, answers, false, Status::Missing, decided);
+    spread_up(parents, decided);
+    true
+}
+
+// Gives those that were answered so the status.
+fn mark(asked: &[Spot], answers: &[bool], said: bool, status: Status, decided: &mut [Status])
+    requires answers { length answers.now ≡ length asked.now }
+    requires asked { (k : ℕ) → IsAnswered asked.now answers.now said k → Is decided.old Undecided k }
+    ensures { Marks (IsAnswered asked.now answers.now said) status decided.old decided.new }
+{
+    for i in 0..asked.len() {
+        if answers[i] == said {
+            decided[asked[i].place] = status;
+        }
+    }
+}
+
+// Whether one that was answered with a no is common.
+fn is_contradicted(asked: &[Spot], answers: &[bool], decided: &[Status]) -> bool
+    requires answers { length answers.now ≡ length asked.now }
+    requires within { (x : Spot) → Contains asked.now x → x.place < length decided.now }
+    ensures { IsTrue result ↔ ((k : ℕ) × IsAnswered asked.now answers.now false k × Is decided.now Common k) }
+{
+    for i in 0..asked.len() {
+        if !answers[i] && decided[asked[i].place] == Status::Common {
+            return true;
+        }
+    }
+    false
+}
+
+// The answers to a sample, one by one, in its order.
 fn tell_all(parents: &[ParentPlaces], asked: &[Spot], answers: &[bool], decided: &mut [Status])
     requires in_order { IsInOrder parents.now }
     requires len { length decided.old ≡ length parents.now }

@@ -3,6 +3,7 @@ use Rattle.hg_discovery.specs.Search.{Search}
 use Rattle.hg_discovery.specs.Answers.{IsRound, AreTold}
 use Rattle.hg_discovery.specs.Rounds.{undecided}
 use Rattle.hg_discovery.proofs.CountLemmas.{round_count}
+use Rattle.hg_discovery.proofs.DrawLemmas.{sample_member}
 use Rattle.hg_discovery.proofs.ToldLemmas.{spots_after, told_length}
 use Rattle.hg_discovery.proofs.discovery.Discovery.answer.Goals as goal
 
@@ -11,6 +12,12 @@ told-requires-clause-in_order c = rw c.deref.ensures.value c.self.invariant.in_o
 
 pub told-requires-clause-closed : goal.told-requires-clause-closed
 told-requires-clause-closed c = rw c.deref.ensures.value (rw c.deref-3.ensures.value c.self.invariant.closed)
+
+pub told-requires-clause-asked : goal.told-requires-clause-asked
+told-requires-clause-asked c =
+    let old = c.self.inside in
+    let before : Search = record { parents = old.parents.items; spots = old.spots.items; decided = old.decided.items; asked = old.asked.items } in
+    rw c.deref-2.ensures.value (rw c.deref-3.ensures.value (λ x at. (sample_member before old.asked.items c.self.invariant.sample x at).1))
 
 pub sample-requires-clause-in_order : goal.sample-requires-clause-in_order
 sample-requires-clause-in_order c = rw c.deref-4.ensures.value c.self.invariant.in_order

@@ -1,0 +1,184 @@
+//! Rounds that are worked out by hand.
+use crate::scene::{ascending, chain, commit, prune};
+use hg_changeset::Node;
+use hg_discovery::{Discovery, DiscoveryError, known};
+use hg_message::offer;
+use hg_phases::Phase;
+use hg_replica::Replica;
+use std::alloc::Global;
+
+// Draft roots of different texts.
+fn roots(alloc: Global, replica: &mut Replica, count: u32) -> Option<()> {
+    for number in 0..count {
+        commit(
+            alloc,
+            replica,
+            Node::NULL,
+            &number.to_be_bytes(),
+            Phase::Draft,
+        )?;
+    }
+    Some(())
+}
+
+#[test]
+fn roots_are_asked_200_at_a_time(rt: HostRuntime) {
+    let alloc = rt.alloc();
+    let mut asker = Replica::new(alloc);
+    roots(alloc, &mut asker, 450).expect(&rt, "memory");
+    let other = Replica::new(alloc);
+    let mut discovery = Discovery::start(alloc, &asker).expect(&rt, "memory");
+    for count in [200usize, 200, 50] {
+        assert!(rt; !discovery.done());
+        let sample = discovery.sample().expect(&rt, "memory");
+        assert!(rt; sample.len() == count);
+        let answers = known(alloc, &other, &sample).expect(&rt, "memory");
+        assert!(rt; discovery.answer(&answers) == Ok(()));
+    }
+    assert!(rt; discovery.done());
+    assert!(rt; discovery.common_heads().expect(&rt, "memory").is_empty());
+}
+
+#[test]
+fn a_chain_asks_one_that_holds_all_but_its_head(rt: HostRuntime) {
+    let alloc = rt.alloc();
+    let mut asker = Replica::new(alloc);
+    let [a, b, c] = chain(alloc, &mut asker, b"abc").expect(&rt, "memory");
+    let mut other = Replica::new(alloc);
+    chain(alloc, &mut other, b"ab").expect(&rt, "memory");
+    let mut discovery = Discovery::start(alloc, &asker).expect(&rt, "memory");
+    let sample = discovery.sample().expect(&rt, "memory");
+    let [first, second] = ascending(a, b);
+    assert!(rt; sample.as_slice() == [c, first, second].as_slice());
+    let answers = known(alloc, &other, &sample).expect(&rt, "memory");
+    assert!(rt; answers.as_slice() == [false, true, true].as_slice());
+    assert!(rt; discovery.answer(&[false, true]) == Err(DiscoveryError::WrongCount));
+    assert!(rt; discovery.sample().expect(&rt, "memory") == sample && !discovery.done());
+    assert!(rt; discovery.answer(&answers) == Ok(()));
+    assert!(rt; discovery.done() && discovery.sample().expect(&rt, "memory").is_empty());
+    assert!(rt; discovery.common_heads().expect(&rt, "memory").as_slice() == [b].as_slice());
+}
+
+#[test]
+fn what_is_above_the_common_heads_is_offered(rt: HostRuntime) {
+    let alloc = rt.alloc();
+    let mut asker = Replica::new(alloc);
+    let [a, b, _] = chain(alloc, &mut asker, b"ab").expect(&rt, "memory");
+    let mut other = Replica::new(alloc);
+    let [_, _, c] = chain(alloc, &mut other, b"abc").expect(&rt, "memory");
+    let mut discovery = Discovery::start(alloc, &asker).expect(&rt, "memory");
+    let sample = discovery.sample().expect(&rt, "memory");
+    assert!(rt; sample.as_slice() == [b, a].as_slice());
+    let answers = known(alloc, &other, &sample).expect(&rt, "memory");
+    assert!(rt; answers.as_slice() == [true, true].as_slice());
+    assert!(rt; discovery.answer(&answers) == Ok(()));
+    let heads = discovery.common_heads().expect(&rt, "memory");
+    assert!(rt; heads.as_slice() == [b].as_slice());
+    let message = offer(alloc, &other, &heads).expect(&rt, "an offer");
+    assert!(rt; message.changesets().len() == 1 && message.markers().is_empty());
+    assert!(rt; message.bounds() == [(c, Phase::Draft)].as_slice());
+}
+
+#[test]
+fn an_earlier_answer_of_a_round_counts(rt: HostRuntime) {
+    let alloc = rt.alloc();
+    let mut asker = Replica::new(alloc);
+    let [_, _, c] = chain(alloc, &mut asker, b"abc").expect(&rt, "memory");
+    let mut discovery = Discovery::start(alloc, &asker).expect(&rt, "memory");
+    assert!(rt; discovery.answer(&[true, false, false]) == Ok(()));
+    assert!(rt; discovery.done());
+    assert!(rt; discovery.common_heads().expect(&rt, "memory").as_slice() == [c].as_slice());
+}
+
+// The other side holds a secret changeset, one that was pruned, and a pruned one that something stands on.
+#[test]
+fn what_is_hidden_or_secret_is_not_known(rt: HostRuntime) {
+    let alloc = rt.alloc();
+    let mut other = Replica::new(alloc);
+    let [a, b, _] = chain(alloc, &mut other, b"ab").expect(&rt, "memory");
+    let secret = commit(alloc, &mut other, a, b"secret", Phase::Secret).expect(&rt, "memory");
+    let hidden = commit(alloc, &mut other, a, b"hidden", Phase::Draft).expect(&rt, "memory");
+    prune(alloc, &mut other, hidden).expect(&rt, "memory");
+    prune(alloc, &mut other, a).expect(&rt, "memory");
+    let asked = [secret, a, hidden, Node([0x11; 20]), b];
+    let answers = known(alloc, &other, &asked).expect(&rt, "memory");
+    assert!(rt; answers.as_slice() == [false, true, false, false, true].as_slice());
+}
+
+// A yes that was true when it was given: then the other side prunes what it was for.
+#[test]
+fn what_is_pruned_after_a_yes_stays_common(rt: HostRuntime) {
+    let alloc = rt.alloc();
+    let mut asker = Replica::new(alloc);
+    chain(alloc, &mut asker, b"ab").expect(&rt, "memory");
+    let mut other = Replica::new(alloc);
+    let [_, b, c] = chain(alloc, &mut other, b"abc").expect(&rt, "memory");
+    let mut discovery = Discovery::start(alloc, &asker).expect(&rt, "memory");
+    let sample = discovery.sample().expect(&rt, "memory");
+    let answers = known(alloc, &other, &sample).expect(&rt, "memory");
+    prune(alloc, &mut other, c).expect(&rt, "memory");
+    prune(alloc, &mut other, b).expect(&rt, "memory");
+    assert!(rt; known(alloc, &other, &[b]).expect(&rt, "memory").as_slice() == [false].as_slice());
+    assert!(rt; discovery.answer(&answers) == Ok(()));
+    assert!(rt; discovery.done());
+    assert!(rt; discovery.common_heads().expect(&rt, "memory").as_slice() == [b].as_slice());
+    assert!(rt; asker.graph().contains(b) && other.graph().contains(b));
+}
+
+#[test]
+fn the_number_and_the_name_of_a_refusal(rt: HostRuntime) {
+    let alloc = rt.alloc();
+    assert!(rt; DiscoveryError::WrongCount.number() == Some(1));
+    assert!(rt; DiscoveryError::NoMemory.number().is_none());
+    let name = format!(in alloc; "{}", DiscoveryError::WrongCount).expect(&rt, "memory");
+    assert!(rt; name.as_str() == "WrongCount");
+}
+
+#[test]
+fn refused_growth_starts_nothing_and_knows_nothing(rt: HostRuntime) {
+    let alloc = rt.alloc();
+    let mut replica = Replica::new(alloc);
+    let nodes = match chain(alloc, &mut replica, b"ab") {
+        Some(nodes) => nodes,
+        None => return,
+    };
+    let discovery = match Discovery::start(alloc, &replica) {
+        Ok(discovery) => discovery,
+        Err(_) => Discovery::start(alloc, &replica).expect(&rt, "memory"),
+    };
+    assert!(rt; !discovery.done());
+    let answers = match known(alloc, &replica, &nodes[..2]) {
+        Ok(answers) => answers,
+        Err(_) => known(alloc, &replica, &nodes[..2]).expect(&rt, "memory"),
+    };
+    assert!(rt; answers.as_slice() == [true, true].as_slice());
+}
+
+#[test]
+fn refused_growth_leaves_a_discovery_as_it_was(rt: HostRuntime) {
+    let alloc = rt.alloc();
+    let mut replica = Replica::new(alloc);
+    let [a, b, _] = match chain(alloc, &mut replica, b"ab") {
+        Some(nodes) => nodes,
+        None => return,
+    };
+    let mut discovery = match Discovery::start(alloc, &replica) {
+        Ok(discovery) => discovery,
+        Err(_) => return,
+    };
+    let sample = match discovery.sample() {
+        Ok(sample) => sample,
+        Err(_) => discovery.sample().expect(&rt, "memory"),
+    };
+    assert!(rt; sample.as_slice() == [b, a].as_slice());
+    if let Err(refusal) = discovery.answer(&[false, true]) {
+        assert!(rt; refusal == DiscoveryError::NoMemory && !discovery.done());
+        assert!(rt; discovery.sample().expect(&rt, "memory") == sample);
+        assert!(rt; discovery.answer(&[false, true]) == Ok(()));
+    }
+    let heads = match discovery.common_heads() {
+        Ok(heads) => heads,
+        Err(_) => discovery.common_heads().expect(&rt, "memory"),
+    };
+    assert!(rt; discovery.done() && heads.as_slice() == [a].as_slice());
+}
