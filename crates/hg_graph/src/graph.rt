@@ -101,7 +101,7 @@ impl Graph {
     pub fn contains(&self, node: Node) -> bool
         ensures { IsTrue result ↔ Holds self.now node }
     {
-        self.changesets.contains_key(&node)
+        self.place(node).is_some()
     }
 
     /// The changeset with this id.
@@ -113,12 +113,16 @@ impl Graph {
         self.changesets.get(&node)
     }
 
-    /// Where the changeset with this id stands.
+    /// Where the changeset with this id stands. The null id is answered without a look-up.
     pub fn place(&self, node: Node) -> Option<usize>
         ensures place { MatchOption result (¬ (Holds self.now node)) (IsOnlyAt self.now node) }
         ensures graph { IsGraph self.now }
     {
-        self.changesets.get_index_of(&node)
+        let changesets = &self.changesets;
+        if node.is_null() {
+            return None;
+        }
+        changesets.get_index_of(&node)
     }
 
     /// The id of the changeset at a place.
