@@ -7,6 +7,7 @@ ghost use Rattle.std.specs.Vec.{vec_capacity};
 ghost use Rattle.hg_graph.specs.Links.{IsChildPlace, IsLinkable, lists_of, put_last, drop_last, changed_at};
 
 use crate::graph::ParentPlaces;
+use crate::packed::PackedPlaces;
 use std::alloc::{AllocError, Global};
 use std::marker::Model;
 
@@ -14,7 +15,7 @@ use std::marker::Model;
 #[derive(Drop)]
 pub struct Links {
     alloc: Global,
-    parents: Vec<ParentPlaces>,
+    parents: Vec<PackedPlaces>,
     children: Vec<Vec<usize>>,
 }
 
@@ -58,7 +59,7 @@ impl Links {
         requires { place < length self.now }
         ensures { slice_get self.now place ≡ Some result }
     {
-        self.parents[place]
+        self.parents[place].unpack()
     }
 
     /// Where the children of the changeset at a place stand, ascending.
@@ -80,7 +81,7 @@ impl Links {
         self.parents.reserve(1)?;
         self.children.reserve(1)?;
         add_child(&mut self.children, parents, place)?;
-        self.parents.push(parents)?;
+        self.parents.push(PackedPlaces::pack(parents))?;
         self.children.push(Vec::new(self.alloc))?;
         Ok(())
     }
@@ -90,6 +91,7 @@ impl Links {
         ensures { self.new ≡ take (length self.old - 1) self.old }
     {
         if let Some(parents) = self.parents.pop() {
+            let parents = parents.unpack();
             forget_last(&mut self.children, parents.first);
             forget_last(&mut self.children, parents.second);
             self.children.pop();
