@@ -6,6 +6,7 @@
 
 mod entries;
 mod error;
+mod feeding;
 mod format;
 mod marker;
 mod metadata;

@@ -13,6 +13,7 @@ ghost use Rattle.hg_marker.specs.Making.{marker_of};
 ghost use Rattle.hg_marker.specs.Parents.{parents_of};
 
 use crate::error::MarkerError;
+use crate::feeding::feed_bytes;
 use crate::format::encode;
 use crate::metadata::Metadata;
 use crate::parents::{Parents, parents_of};
@@ -89,7 +90,7 @@ impl Hash for Marker {
 
     #[tactic(auto, unfolding(crate::specs::Fed::fields_fed))]
     fn hash<H: Hasher>(&self, state: &mut H) {
-        state.write(&self.predecessor.0);
+        feed_bytes(&self.predecessor.0, state);
         feed_ids(&self.successors, state);
         self.flags.hash(state);
         self.metadata.hash(state);
@@ -245,7 +246,7 @@ fn feed_ids<H: Hasher>(nodes: &[Node], state: &mut H)
     ensures { state.new ≡ fold H.write state.old (ids_fed nodes.now) }
 {
     for node in nodes {
-        state.write(&node.0);
+        feed_bytes(&node.0, state);
     }
 }
 

@@ -10,6 +10,7 @@ ghost use Rattle.hg_marker.specs.Making.{has_bad_key, has_bad_value, is_writable
 ghost use Rattle.std.specs.List.{list_all};
 
 use crate::entries::Entries;
+use crate::feeding::feed_bytes;
 use crate::pieces::{is_written, read_texts};
 use crate::text_map::{TextMap, ends_key, has_nul};
 use crate::written::WrittenTexts;
@@ -81,7 +82,7 @@ impl Hash for Metadata {
     #[tactic(auto, unfolding(crate::specs::Fed::texts_fed))]
     fn hash<H: Hasher>(&self, state: &mut H) {
         match &self.form {
-            Form::Written(texts) => state.write(texts.as_bytes()),
+            Form::Written(texts) => feed_bytes(texts.as_bytes(), state),
             Form::Unwritable(texts) => texts.hash(state),
         }
     }

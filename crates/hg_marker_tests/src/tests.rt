@@ -5,6 +5,7 @@ use hg_marker::{
 };
 use std::alloc::{AllocError, Global};
 use std::fmt::Display;
+use std::hash::{DefaultHasher, Hash, Hasher};
 use std::process::Abort;
 
 const OLD: Node = Node([0x11; 20]);
@@ -30,7 +31,7 @@ fn fault_of(read: Result<(Marker, usize), ReadError<MarkerFault>>) -> Option<Mar
 fn metadata_of(alloc: Global, texts: &[(&[u8], &[u8])]) -> Result<Metadata, AllocError> {
     let mut metadata = Metadata::new(alloc);
     for (key, value) in texts {
-        metadata.insert(Vec::from_slice(alloc, key)?, Vec::from_slice(alloc, value)?)?;
+        insert(&mut metadata, alloc, key, value)?;
     }
     Ok(metadata)
 }
@@ -201,6 +202,71 @@ fn writes_a_prune(rt: HostRuntime) {
     assert!(rt; written.as_slice() == want.as_slice());
 }
 
+// Whether the entries of metadata are these, in this order.
+fn lists(metadata: &Metadata, wanted: &[(&[u8], &[u8])]) -> bool {
+    let mut left = wanted;
+    for (key, value) in metadata.iter() {
+        match left {
+            [first, rest @ ..] if key == first.0 && value == first.1 => left = rest,
+            _ => return false,
+        }
+    }
+    left.is_empty()
+}
+
+#[test]
+fn lists_entries_by_key(rt: HostRuntime) {
+    let texts: [(&[u8], &[u8]); 3] = [(b"user", b"bob"), (b"date", b"0 0"), (b"note", b"a:b")];
+    let metadata = metadata_of(rt.alloc(), &texts).expect(&rt, "memory");
+    assert!(rt;
+        lists(
+            &metadata,
+            &[(b"date", b"0 0"), (b"note", b"a:b"), (b"user", b"bob")],
+        )
+    );
+    assert!(rt; metadata.get(b"note") == Some(b"a:b".as_slice()));
+    assert!(rt; metadata.get(b"not").is_none());
+}
+
+// A key with a colon and a value with a NUL, which no marker can have, are kept all the same, until they are set anew.
+#[test]
+fn keeps_what_no_marker_can_have(rt: HostRuntime) {
+    let alloc = rt.alloc();
+    let texts: [(&[u8], &[u8]); 3] = [(b"k", b"x"), (b"b", b"\0"), (b"k", b"a:b")];
+    let mut metadata = metadata_of(alloc, &texts).expect(&rt, "memory");
+    assert!(rt; lists(&metadata, &[(b"b", b"\0"), (b"k", b"a:b")]));
+    let clean = metadata_of(alloc, &[(b"b", b""), (b"k", b"a:b")]).expect(&rt, "memory");
+    assert!(rt; metadata != clean);
+    insert(&mut metadata, alloc, b"b", b"").expect(&rt, "memory");
+    assert!(rt; metadata == clean);
+}
+
+fn insert(
+    metadata: &mut Metadata,
+    alloc: Global,
+    key: &[u8],
+    value: &[u8],
+) -> Result<(), AllocError> {
+    metadata.insert(Vec::from_slice(alloc, key)?, Vec::from_slice(alloc, value)?)
+}
+
+// What the standard hasher makes of the marker that bytes spell.
+fn hash_of(rt: &impl Abort, alloc: Global, text: &[u8]) -> u64 {
+    let bytes = bytes_with(alloc, NEW, text).expect(rt, "memory");
+    let (marker, _) = decode(alloc, &bytes).expect(rt, "memory");
+    let mut state = DefaultHasher::default();
+    marker.hash(&mut state);
+    state.finish()
+}
+
+#[test]
+fn hashes_spellings_alike(rt: HostRuntime) {
+    let alloc = rt.alloc();
+    let written = hash_of(&rt, alloc, b"date:0 0\0user:bob");
+    assert_eq!(rt; hash_of(&rt, alloc, b"user:bob\0\0date:0 0\0"), written);
+    assert!(rt; hash_of(&rt, alloc, b"date:0 0\0user:bo") != written);
+}
+
 // The parents that a marker with this metadata records.
 fn recorded(alloc: Global, text: &[u8]) -> Option<Parents> {
     let bytes = bytes_with(alloc, NEW, text).ok()?;
@@ -352,17 +418,10 @@ fn refused_growth_inserts_nothing(rt: HostRuntime) {
     let alloc = rt.alloc();
     let mut metadata = Metadata::new(alloc);
     for value in [b"eve".as_slice(), b"bob"] {
-        if insert_user(&mut metadata, alloc, value).is_err() {
+        if insert(&mut metadata, alloc, b"user", value).is_err() {
             assert!(rt; metadata.get(b"user") != Some(value));
-            assert!(rt; insert_user(&mut metadata, alloc, value).is_ok());
+            assert!(rt; insert(&mut metadata, alloc, b"user", value).is_ok());
         }
         assert!(rt; metadata.get(b"user") == Some(value));
     }
-}
-
-fn insert_user(metadata: &mut Metadata, alloc: Global, value: &[u8]) -> Result<(), AllocError> {
-    metadata.insert(
-        Vec::from_slice(alloc, b"user")?,
-        Vec::from_slice(alloc, value)?,
-    )
 }

@@ -1,0 +1,23 @@
+//! What goes into a hasher.
+//!
+//! Bytes of a marker go in by eights. The standard hash tables mix up to eight bytes into all that came before; of longer
+//! writes there are some, whatever came before, after which they start anew, so that one chosen text or id would put any
+//! number of markers at one place.
+ghost use Rattle.std.specs.Prelude.{◌≡◌, fold};
+ghost use Rattle.hg_marker.specs.Fed.{bytes_fed};
+
+use std::hash::Hasher;
+
+// The bytes go into the hasher, by eights.
+#[tactic(auto, unfolding(crate::specs::Fed::bytes_fed))]
+pub(crate) fn feed_bytes<H: Hasher>(bytes: &[u8], state: &mut H)
+    ensures { state.new ≡ fold H.write state.old (bytes_fed bytes.now) }
+{
+    let mut rest = bytes;
+    for _ in 0..bytes.len() / 8 {
+        let (front, after) = rest.split_at(8);
+        state.write(front);
+        rest = after;
+    }
+    state.write(rest);
+}
