@@ -37,8 +37,8 @@ pub(crate) fn told(
     Ok(new)
 }
 
-// All answers together, by one sweep down and one up. It gives up where a no is for an ancestor of a yes: then the order of
-// the answers counts. No other side answers so while it stands still.
+// All answers together, by one sweep down and one up. It gives up where a no is for an ancestor of a yes, or for the same
+// changeset: then the order of the answers counts. One call of `known` never answers so, collisions aside.
 fn tell_at_once(
     parents: &[ParentPlaces],
     asked: &[Spot],
@@ -153,9 +153,9 @@ fn set_parents(parents: ParentPlaces, decided: &mut [Status])
 fn set_common(place: Option<usize>, decided: &mut [Status])
     ensures { SetsCommon (λ k. place ≡ Some k) decided.old decided.new }
 {
-    if let Some(place) = place {
-        if place < decided.len() && decided[place] == Status::Undecided {
-            decided[place] = Status::Common;
+    if let Some(parent) = place {
+        if parent < decided.len() && decided[parent] == Status::Undecided {
+            decided[parent] = Status::Common;
         }
     }
 }
@@ -167,9 +167,9 @@ fn spread_up(parents: &[ParentPlaces], decided: &mut [Status])
     requires free { (j k : ℕ) → Is decided.old Missing j → IsUnder parents.now j k → Is decided.old Common k → ⊥ }
     ensures { SpreadsUp parents.now decided.old decided.new }
 {
-    for place in 0..parents.len() {
-        if decided[place] == Status::Undecided && misses_parent(parents[place], decided) {
-            decided[place] = Status::Missing;
+    for child in 0..parents.len() {
+        if decided[child] == Status::Undecided && misses_parent(parents[child], decided) {
+            decided[child] = Status::Missing;
         }
     }
 }

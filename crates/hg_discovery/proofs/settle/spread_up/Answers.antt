@@ -6,22 +6,22 @@ use Rattle.hg_discovery.proofs.SpreadLemmas.{IsSweptUp, IsSweptUp-start, IsSwept
 use Rattle.hg_discovery.proofs.settle.spread_up.Goals as goal
 use Rattle.hg_discovery.proofs.settle.spread_up.Goals.{then-eq+then-misses_parent, else-eq, else-eq-via-then-eq+else-misses_parent, else-eq-via-else-eq}
 
-pub loop-place-init : goal.loop-place-init
-loop-place-init c = IsSweptUp-start c.args.parents.now c.args.decided.now c.requires.len c.requires.in_order c.requires.free
+pub loop-child-init : goal.loop-child-init
+loop-child-init c = IsSweptUp-start c.args.parents.now c.args.decided.now c.requires.len c.requires.in_order c.requires.free
 
 pub returns : goal.returns
 returns c =
-    IsSweptUp-end c.args.parents.now c.args.decided.now c.requires.len c.requires.in_order c.requires.free c.loop-place.place c.loop-place.decided (omega arith) c.loop-place.invariant
+    IsSweptUp-end c.args.parents.now c.args.decided.now c.requires.len c.requires.in_order c.requires.free c.loop-child.child c.loop-child.decided (omega arith) c.loop-child.invariant
 
-pub loop-place-preserved : goal.loop-place-preserved
-loop-place-preserved c =
+pub loop-child-preserved : goal.loop-child-preserved
+loop-child-preserved c =
     let ps = c.args.parents.now in
     let old = c.args.decided.now in
-    let mid = c.loop-place.decided in
-    let i = c.loop-place.place in
-    let within : i < length mid = omega (arith, c.loop-place.auto.decided, c.requires.len, c.loop-place-test.true) in
-    let at = slice_get-get_or ps i (record { first = None; second = None }) c.loop-place-test.true in
-    let before = c.loop-place.invariant in
+    let mid = c.loop-child.decided in
+    let i = c.loop-child.child in
+    let within : i < length mid = omega (arith, c.loop-child.auto.decided, c.requires.len, c.loop-child-test.true) in
+    let at = slice_get-get_or ps i (record { first = None; second = None }) c.loop-child-test.true in
+    let before = c.loop-child.invariant in
     elim c.if-eq.branch [
       | then-eq+then-misses_parent w ↦
           let found = w.misses_parent.ensures.0 w.if-misses_parent.true in
