@@ -153,6 +153,7 @@ impl Inbox {
     pub fn close<R: Wait>(self, rt: &R, seats: Vec<Seat>) -> Result<Vec<Vec<u8>>, Unclosed>
         requires { All (λ seat. seat.inbox ≡ self.name) seats.items }
         ensures rest { IfOk result (λ rest. IsRest seats.items (map (λ m. m.items) rest.items)) }
+        ensures bounded { IfOk result (λ rest. length rest.items ≤ self.capacity) }
         ensures numbers { OnOk result (EachAscends seats.items) }
         ensures all { OnOk result (length seats.items ≡ self.seats) }
         ensures back { IfErr result (λ e. (e.inbox ≡ self) × (e.seats.items ≡ seats.items)) }

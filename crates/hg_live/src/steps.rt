@@ -98,7 +98,8 @@ pub(crate) fn take_rest<R: Wait>(
 ) -> Vec<Vec<u8>>
     requires pass { IsPassOf queue.now pass.old × ((view pass.old).parts ≡ 2 ^ 62 + 1) }
     requires room { (rest.items ≡ []) × (ruled_capacity queue.now ≤ vec_capacity rest) }
-    ensures { (view pass.new ≡ log (view pass.old).parts (view pass.old).puts ((view pass.old).takes ++ numbered_from (length (view pass.old).takes) (map (λ m. m.items) result.items))) × IsWhole (view pass.new) [] }
+    ensures bounded { length result.items ≤ ruled_capacity queue.now }
+    ensures rest { (view pass.new ≡ log (view pass.old).parts (view pass.old).puts ((view pass.old).takes ++ numbered_from (length (view pass.old).takes) (map (λ m. m.items) result.items))) × IsWhole (view pass.new) [] }
 {
     let left = count(rt, queue, pass);
     for _ in 0..left {

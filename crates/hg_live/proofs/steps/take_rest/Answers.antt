@@ -29,8 +29,8 @@ loop-preserved g c =
       room = omega arith;
     }
 
-pub returns : goal.returns
-returns g c =
+pub returns-clause-rest : goal.returns-clause-rest
+returns-clause-rest g c =
     let i = c.loop.invariant in
     let same = c.learn.ensures.same.1 in
     let counted = i.counted in

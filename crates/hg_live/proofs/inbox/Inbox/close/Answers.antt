@@ -13,4 +13,4 @@ returns-clause-rest g c =
     rest_of (view c.gather.new.origin) (view c.take_rest.new.pass) c.args.seats.items (bytes c.take_rest.result.items)
     (ap (λ (h : Log). h.puts) all ∙ ap (λ (h : Log). h.puts ++ all_puts c.args.seats.items) first)
     (ap (λ (h : Log). h.takes) all ∙ ap (λ (h : Log). h.takes ++ all_takes c.args.seats.items) first)
-    c.take_rest.ensures.0 c.take_rest.ensures.1
+    c.take_rest.ensures.rest.0 c.take_rest.ensures.rest.1
