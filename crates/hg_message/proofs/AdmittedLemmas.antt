@@ -41,7 +41,7 @@ module _ (s : ReplicaState) (valid : IsValid s) (common : List Node) (m : Messag
       )
 
   -- what is served is held, or comes with the offer
-  known : (n : Node) (h : Held) → (content_of s).0 n ≡ Some h → IsServed (content_of s) n → IsHeld g.0 n ⊎ IsOutgoing (content_of s) common h.changeset
+  pub known : (n : Node) (h : Held) → (content_of s).0 n ≡ Some h → IsServed (content_of s) n → IsHeld g.0 n ⊎ IsOutgoing (content_of s) common h.changeset
   known n h e served = by (g.0 n) refl
     where
       by : (o : Option Held) → g.0 n ≡ o → IsHeld g.0 n ⊎ IsOutgoing (content_of s) common h.changeset

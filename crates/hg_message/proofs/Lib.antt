@@ -11,4 +11,5 @@ pub mod ThoseLemmas
 pub mod OfferLemmas
 pub mod OfferLawLemmas
 pub mod AdmittedLemmas
+pub mod TakenLemmas
 pub mod ExistLemmas

@@ -13,3 +13,4 @@ pub mod Part
 pub mod Those
 pub mod Offer
 pub mod OfferRefusals
+pub mod Taken

@@ -31,8 +31,8 @@ pub use hg_replica::Part;
 pub use laws::spelling_laws;
 pub use message::Message;
 pub use offer_laws::{
-    an_offer_is_one, offers_are_admitted, offers_are_covered, offers_hold_what_is_served,
-    states_of_one_content_offer_the_same,
+    an_offer_is_one, offers_above_what_is_held_are_taken, offers_are_admitted, offers_are_covered,
+    offers_hold_what_is_served, states_of_one_content_offer_the_same,
 };
 pub use offers::offer;
 pub use refusal::OfferRefusal;

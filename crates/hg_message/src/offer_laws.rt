@@ -8,11 +8,12 @@ ghost use Rattle.hg_phases.specs.declared.phase.Phase.TheVariants.{Secret as sec
 ghost use Rattle.hg_phases.specs.State.{Held, state_of};
 ghost use Rattle.hg_history.specs.Content.{IsHeld};
 ghost use Rattle.hg_replica.specs.State.{ReplicaState, IsValid, IsSameState};
-ghost use Rattle.hg_replica.specs.Content.{Content, content_of, IsValidContent, ContentCovers, ContentAdmits};
+ghost use Rattle.hg_replica.specs.Content.{Content, content_of, IsValidContent, ContentBelow, ContentCovers, ContentAdmits, ContentAfter};
 ghost use Rattle.hg_replica.specs.Evolution.{HasPhase, IsHidden, IsServed};
 ghost use Rattle.hg_message.specs.Value.{MessageValue};
 ghost use Rattle.hg_message.specs.Part.{part_of};
-ghost use Rattle.hg_message.specs.Offer.{IsCommon, IsOffer, SaysOffer, SayTheSame};
+ghost use Rattle.hg_message.specs.Offer.{AreHeld, IsCommon, IsOffer, SaysOffer, SayTheSame};
+ghost use Rattle.hg_message.specs.Taken.{DontCollide, HoldsServed};
 
 /// No changeset that is secret or hidden stands in an offer, neither as a record nor as a bound: all of them are served.
 pub fn offers_hold_what_is_served()
@@ -47,4 +48,14 @@ pub fn offers_are_admitted()
         → ((n : Node) → IsCommon (content_of s) common n → IsHeld g.0 n)
         → ((n : Node) (h k : Held) → (content_of s).0 n ≡ Some h → g.0 n ≡ Some k → h.changeset ≡ k.changeset) → ContentAdmits g (part_of m) }
     ensures empty { (s : ReplicaState) (m : MessageValue) → IsValid s → IsOffer s [] m → ContentAdmits (content_of (record { history = state_of [] []; markers = [] })) (part_of m) }
+{}
+
+/// An offer above common nodes that a replica holds is admitted there, then and at any later time, since what is held stays
+/// held. Once it is taken in, the replica holds all that was served when the offer was made, at phases no higher, with the
+/// markers relevant to it. No id may stand for two changesets.
+pub fn offers_above_what_is_held_are_taken()
+    ensures admitted { (s : ReplicaState) (common : List Node) (m : MessageValue) (g later : Content) → IsValid s → IsOffer s common m
+        → AreHeld g common → ContentBelow g later → IsValidContent later → DontCollide (content_of s) later → ContentAdmits later (part_of m) }
+    ensures taken { (s : ReplicaState) (common : List Node) (m : MessageValue) (g later after : Content) → IsValid s → IsOffer s common m
+        → AreHeld g common → ContentBelow g later → IsValidContent later → DontCollide (content_of s) later → ContentAfter later (part_of m) after → HoldsServed (content_of s) after }
 {}

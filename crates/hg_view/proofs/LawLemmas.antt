@@ -10,7 +10,7 @@ use Rattle.hg_history.specs.ContentLaws.{leads-low}
 use Rattle.hg_replica.specs.Content.{Content, IsValidContent}
 use Rattle.hg_replica.specs.Evolution.{IsVisible, IsServed}
 
-leads-along : (f : HistoryContent) (a n d : Node) → Leads f a n → Leads f n d → Leads f a d
+pub leads-along : (f : HistoryContent) (a n d : Node) → Leads f a n → Leads f n d → Leads f a d
 leads-along f a n d up itself = up
 leads-along f a n d up (below {p = p} r e is) = below (leads-along f a n p up r) e is
 
