@@ -2,16 +2,15 @@
 use Rattle.std.proofs.Common.{◌≡◌, ℕ, suc, ◌+◌, Bool, true, false, cond, eqb, List, [], ◌∷◌, ◌++◌, length, map, Some, refl, sym, ap, subst, ◌∙◌, arith, append_assoc}
 use Rattle.std.specs.Prelude.{nat_eq}
 use Rattle.std.specs.List.{list_any, join_with_byte, AllByRecursion}
-use Rattle.std.specs.Ordering.{is_lt, is_eq, ordering_reverse}
+use Rattle.std.specs.Ordering.{is_eq}
 use Rattle.std.specs.declared.cmp.Ordering.{Ordering}
 use Rattle.std.specs.declared.cmp.Ordering.TheVariants.{Less, Equal, Greater}
 use Rattle.std.specs.FinMap.{put, find, get, insert, entries, empty, from_entries, entries-insert, entries_sorted, get-from_entries, same_entries_map, slice_cmp-IsAntisymmetric, nat_cmp-IsAntisymmetric}
-use Rattle.std.specs.FinMap.Entries.{by_order}
-use Rattle.std.proofs.lemmas.Bool.{and_parts, or_parts, or_from, not-true, not_from_false, false≢true}
+use Rattle.std.proofs.lemmas.Bool.{or_parts, or_from, not-true, not_from_false, false≢true}
 use Rattle.std.proofs.lemmas.Cmp.{nat_list_cmp_total, tied_itself}
 use Rattle.std.specs.Cmp.Lexicographic.{pointwise, bytes_decides}
 use Rattle.std.proofs.lemmas.List.{append-nil, length-append}
-use Rattle.std.proofs.lemmas.List.Folds.{list_any-append, list_any_none}
+use Rattle.std.proofs.lemmas.List.Folds.{list_any_none}
 use Rattle.hg_marker.specs.Texts.{Texts, bytes_cmp}
 use Rattle.hg_marker.specs.Same.{same_texts, texts_decides}
 use Rattle.hg_marker.specs.Making.{ends_key, has_bad_key, has_bad_value, is_writable}
@@ -19,9 +18,9 @@ use Rattle.hg_marker.specs.Metadata.{is_nul, piece, pieces, entry, texts, writte
 use Rattle.hg_marker.specs.declared.metadata.Form.{Form}
 use Rattle.hg_marker.specs.declared.metadata.Form.TheVariants.{Written, Unwritable}
 use Rattle.hg_marker.specs.Forms.{form_texts, IsForm}
-use Rattle.hg_marker.specs.Written.{IsWritten, all_before, with_piece}
+use Rattle.hg_marker.specs.Written.{IsWritten, with_piece, with_pieces}
 use Rattle.hg_marker.proofs.TextsLemmas.{to_true}
-use Rattle.hg_marker.proofs.ReadLemmas.{tested_is_clean, no_entries}
+use Rattle.hg_marker.proofs.ReadLemmas.{tested_is_clean, no_entries, clean-put}
 use Rattle.hg_marker.proofs.WrittenLemmas.{is_written, pieces_joined, entries_again, same_entries}
 use Rattle.hg_marker.proofs.WritingLemmas.{further, joined-cons}
 
@@ -144,24 +143,6 @@ found_later k v q es h = ap (λ b. cond b (Some v) (find bytes_cmp q es)) (sym (
 
 -- ---- a further piece
 
-put_last : (k v : List ℕ) (es : List (List ℕ × List ℕ)) → all_before k es ≡ true → put bytes_cmp k v es ≡ es ++ (k, v) ∷ []
-put_last k v [] h = refl
-put_last k v (e ∷ es) h =
-    let p = and_parts _ _ h in
-    ap (λ r. by_order r ((k, v) ∷ e ∷ es) ((e.0, v) ∷ es) (e ∷ put bytes_cmp k v es)) (greater e.0 k p.0)
-    ∙ ap (λ (r : List (List ℕ × List ℕ)). e ∷ r) (put_last k v es p.1)
-  where
-    less : (r : Ordering) → is_lt r ≡ true → r ≡ Less
-    less Less h = refl
-    less Equal h = absurd cc
-    less Greater h = absurd cc
-
-    greater : (x y : List ℕ) → is_lt (bytes_cmp x y) ≡ true → bytes_cmp y x ≡ Greater
-    greater x y h = nat_list_cmp_total.antisymm y x ∙ ap ordering_reverse (less (bytes_cmp x y) h)
-
-entries_last : (m : Texts) (k v : List ℕ) → all_before k (entries m) ≡ true → entries (insert m k v) ≡ entries m ++ (k, v) ∷ []
-entries_last m k v h = entries-insert nat_list_cmp_total m k v ∙ put_last k v (entries m) h
-
 further-append : (es fs : List (List ℕ × List ℕ)) → further (es ++ fs) ≡ further es ++ further fs
 further-append [] fs = refl
 further-append (e ∷ es) fs = ap (λ (t : List ℕ). 0 ∷ piece e ++ t) (further-append es fs) ∙ ap (λ (t : List ℕ). 0 ∷ t) (sym (append_assoc (piece e) (further es) (further fs)))
@@ -180,14 +161,20 @@ joined_last (e ∷ es) f =
     ∙ sym (ap (λ (b : Bool). cond b (piece f) ((piece e ++ further es) ++ 0 ∷ piece f)) (long_joined e es))
     ∙ ap (λ (t : List ℕ). with_piece t f) (sym (joined-cons e es))
 
-pub written_last : (m : Texts) (k v : List ℕ) → all_before k (entries m) ≡ true → written (insert m k v) ≡ with_piece (written m) (k, v)
-unfolding written
-written_last m k v h = ap (λ (es : List (List ℕ × List ℕ)). join_with_byte 0 (map piece es)) (entries_last m k v h) ∙ joined_last (entries m) (k, v)
+-- pieces that are pushed one after the other are joined
+pushed_joined : (es fs : List (List ℕ × List ℕ)) → with_pieces (join_with_byte 0 (map piece es)) fs ≡ join_with_byte 0 (map piece (es ++ fs))
+pushed_joined es [] = ap (λ (xs : List (List ℕ × List ℕ)). join_with_byte 0 (map piece xs)) (sym (append-nil es))
+pushed_joined es (f ∷ fs) =
+    ap (λ (t : List ℕ). with_pieces t fs) (sym (joined_last es f)) ∙ pushed_joined (es ++ f ∷ []) fs
+    ∙ ap (λ (xs : List (List ℕ × List ℕ)). join_with_byte 0 (map piece xs)) (append_assoc es (f ∷ []) fs)
 
-pub writable_last : (m : Texts) (k v : List ℕ) → is_writable m ≡ true → all_before k (entries m) ≡ true → list_any ends_key k ≡ false → list_any is_nul v ≡ false → is_writable (insert m k v) ≡ true
-writable_last m k v h before key value =
-    let p = writable_parts m h in
-    let es = entries_last m k v before in
-    writable_from (insert m k v)
-    (ap has_bad_key es ∙ list_any-append (λ e. list_any ends_key e.0) (entries m) ((k, v) ∷ []) ∙ or_from _ _ p.0 (or_from _ _ key refl))
-    (ap has_bad_value es ∙ list_any-append (λ e. list_any is_nul e.1) (entries m) ((k, v) ∷ []) ∙ or_from _ _ p.1 (or_from _ _ value refl))
+pub pushed_written : (m : Texts) (k v : List ℕ) → with_pieces [] (put bytes_cmp k v (entries m)) ≡ written (insert m k v)
+unfolding written
+pushed_written m k v =
+    pushed_joined [] (put bytes_cmp k v (entries m))
+    ∙ ap (λ (xs : List (List ℕ × List ℕ)). join_with_byte 0 (map piece xs)) (sym (entries-insert nat_list_cmp_total m k v))
+
+pub writable_with : (m : Texts) (k v : List ℕ) → is_writable m ≡ true → list_any ends_key k ≡ false → list_any is_nul v ≡ false → is_writable (insert m k v) ≡ true
+writable_with m k v h key value =
+    let one = tested_is_clean ((k, v) ∷ []) (or_from _ _ key refl) (or_from _ _ value refl) in
+    clean_is_writable (insert m k v) (subst (AllByRecursion IsClean) (sym (entries-insert nat_list_cmp_total m k v)) (clean-put k v (entries m) one.0 (writable_is_clean m h)))

@@ -1,6 +1,6 @@
 -- The one written spelling, as the form in which texts are kept.
-use Rattle.std.specs.Prelude.{◌≡◌, ℕ, ◌==◌, List, ◌∷◌, ◌++◌, length, Bool, true, if◌then◌else◌, Option, Some, None}
-use Rattle.std.specs.List.{list_all}
+use Rattle.std.specs.Prelude.{◌≡◌, ℕ, ◌==◌, List, [], ◌∷◌, ◌++◌, length, Bool, true, if◌then◌else◌, Option, Some, None}
+use Rattle.std.specs.FinMap.{put}
 use Rattle.std.specs.Ordering.{is_lt}
 use Rattle.hg_marker.specs.Texts.{bytes_cmp}
 use Rattle.hg_marker.specs.Metadata.{piece, pieces, texts, written}
@@ -16,10 +16,15 @@ abbrev pub is_behind : Option (List ℕ) → List ℕ → Bool
 is_behind None key = true
 is_behind (Some last) key = is_lt (bytes_cmp last key)
 
--- each key stands before this one
-abbrev pub all_before : List ℕ → List (List ℕ × List ℕ) → Bool
-all_before key es = list_all (λ e. is_lt (bytes_cmp e.0 key)) es
-
 -- the bytes with a further piece, behind a NUL
 abbrev pub with_piece : List ℕ → List ℕ × List ℕ → List ℕ
 with_piece bytes e = if length bytes == 0 then piece e else bytes ++ 0 ∷ piece e
+
+-- the bytes with these pieces behind them
+abbrev pub with_pieces : List ℕ → List (List ℕ × List ℕ) → List ℕ
+with_pieces bytes [] = bytes
+with_pieces bytes (e ∷ es) = with_pieces (with_piece bytes e) es
+
+-- the entries that are still to be written, the new one among them unless it is placed
+abbrev pub to_come : Bool → List ℕ × List ℕ → List (List ℕ × List ℕ) → List (List ℕ × List ℕ)
+to_come placed new es = if placed then es else put bytes_cmp new.0 new.1 es

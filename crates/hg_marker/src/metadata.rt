@@ -132,8 +132,8 @@ impl Metadata {
         ensures { IfOk result (λ all. all ≡ finite.insert self.now key.items value.items) }
     {
         if let Form::Written(texts) = &self.form {
-            if !ends_key(&key) && !has_nul(&value) && texts.ends_before(&key) {
-                let form = Form::Written(texts.with_last(&key, &value)?);
+            if !ends_key(&key) && !has_nul(&value) {
+                let form = Form::Written(texts.with(&key, &value)?);
                 return Ok(Metadata { form });
             }
         }

@@ -2,18 +2,19 @@
 //!
 //! Texts that can be written are kept as their one written spelling: pieces `key:value`, ascending by key, joined by
 //! NUL. So equal texts have equal bytes, and a value is found by a walk over the pieces.
-ghost use Rattle.std.specs.Prelude.{◌≡◌, ℕ, List, IfOk, OnOk, OnErr, option_copied, true, false};
+ghost use Rattle.std.specs.Prelude.{◌≡◌, ℕ, List, ◌∷◌, IfOk, OnOk, OnErr, option_copied, true, false};
 ghost use Rattle.std.specs.FinMap as finite;
-ghost use Rattle.std.specs.FinMap.{find};
-ghost use Rattle.hg_marker.specs.Texts.{bytes_cmp};
+ghost use Rattle.std.specs.FinMap.{find, put};
+ghost use Rattle.hg_marker.specs.Texts.{bytes_cmp, entry_seen};
 ghost use Rattle.std.specs.List.{list_any, list_all};
 ghost use Rattle.hg_marker.specs.Metadata.{written, texts, pieces, is_nul};
 ghost use Rattle.hg_marker.specs.Making.{is_writable, ends_key};
-ghost use Rattle.hg_marker.specs.Written.{IsWritten, all_before, with_piece};
+ghost use Rattle.hg_marker.specs.Written.{IsWritten, with_piece, with_pieces, to_come};
 
 use crate::pieces::{Pieces, read_texts};
 use crate::text_map::{TextMap, write_piece};
 use std::alloc::{AllocError, Global};
+use std::cmp::Ordering;
 use std::marker::Model;
 
 // Texts that can be written, as they are written.
@@ -120,22 +121,20 @@ impl WrittenTexts {
         Ok(WrittenTexts { bytes })
     }
 
-    // Whether the key stands behind all that are there.
-    pub(crate) fn ends_before(&self, key: &[u8]) -> bool
-        ensures { result ≡ all_before key.now (finite.entries self.now) }
-    {
-        are_before(self.entries(), key)
-    }
-
-    // The texts with a further one behind them.
-    pub(crate) fn with_last(&self, key: &[u8], value: &[u8]) -> Result<WrittenTexts, AllocError>
-        requires behind { all_before key.now (finite.entries self.now) ≡ true }
+    // The same texts, but for this value of this key.
+    pub(crate) fn with(&self, key: &[u8], value: &[u8]) -> Result<WrittenTexts, AllocError>
         requires key { list_any ends_key key.now ≡ false }
         requires value { list_any is_nul value.now ≡ false }
         ensures texts { IfOk result (λ all. all ≡ finite.insert self.now key.now value.now) }
         ensures writable { IfOk result (λ all. is_writable all ≡ true) }
     {
-        let bytes = with_piece(*self.bytes.allocator(), &self.bytes, key, value)?;
+        let room = self
+            .bytes
+            .len()
+            .saturating_add(key.len())
+            .saturating_add(value.len());
+        let out = Vec::with_capacity(*self.bytes.allocator(), room.saturating_add(2))?;
+        let bytes = with_entry(out, self.entries(), key, value)?;
         Ok(WrittenTexts { bytes })
     }
 }
@@ -152,31 +151,66 @@ fn value_in<'a>(entries: Pieces<'a>, key: &[u8]) -> Option<&'a [u8]>
     None
 }
 
-// Whether each of the keys stands before this one.
-fn are_before(entries: Pieces<'_>, key: &[u8]) -> bool
-    ensures { result ≡ all_before key.now entries.entry }
+// The bytes with the entries behind them, among which the new one is put in its place.
+fn with_entry(
+    bytes: Vec<u8>,
+    entries: Pieces<'_>,
+    key: &[u8],
+    value: &[u8],
+) -> Result<Vec<u8>, AllocError>
+    ensures { IfOk result (λ all. all.items ≡ with_pieces bytes.items (put bytes_cmp key.now value.now entries.entry)) }
 {
-    for (found, _) in entries {
-        if !found.cmp(key).is_lt() {
-            return false;
-        }
+    let mut all = bytes;
+    let mut placed = false;
+    for (found, text) in entries {
+        placed = push_next(&mut all, placed, (found, text), (key, value))?;
     }
-    true
+    if !placed {
+        push_entry(&mut all, key, value)?;
+    }
+    Ok(all)
 }
 
-// The bytes with a further piece behind them.
-fn with_piece(alloc: Global, bytes: &[u8], key: &[u8], value: &[u8]) -> Result<Vec<u8>, AllocError>
-    ensures { IfOk result (λ all. all.items ≡ with_piece bytes.now (key.now, value.now)) }
+// Appends the next entry, with the new one in its place, and answers whether the new one is placed now.
+fn push_next(
+    all: &mut Vec<u8>,
+    placed: bool,
+    next: (&[u8], &[u8]),
+    new: (&[u8], &[u8]),
+) -> Result<bool, AllocError>
+    ensures { IfOk result (λ now. (es : List (List ℕ × List ℕ)) →
+        with_pieces all.new.items (to_come now (entry_seen new.entry) es)
+        ≡ with_pieces all.old.items (to_come placed (entry_seen new.entry) (entry_seen next.entry ∷ es))) }
 {
-    let room = bytes
-        .len()
-        .saturating_add(key.len())
-        .saturating_add(value.len());
-    let mut all = Vec::with_capacity(alloc, room.saturating_add(2))?;
-    all.extend_from_slice(bytes)?;
-    if !bytes.is_empty() {
+    let (found, text) = next;
+    let (key, value) = new;
+    if placed {
+        push_entry(all, found, text)?;
+        return Ok(true);
+    }
+    match key.cmp(found) {
+        Ordering::Less => {
+            push_entry(all, key, value)?;
+            push_entry(all, found, text)?;
+            Ok(true)
+        }
+        Ordering::Equal => {
+            push_entry(all, found, value)?;
+            Ok(true)
+        }
+        Ordering::Greater => {
+            push_entry(all, found, text)?;
+            Ok(false)
+        }
+    }
+}
+
+// Appends an entry, behind a NUL where something stands before it.
+fn push_entry(all: &mut Vec<u8>, key: &[u8], value: &[u8]) -> Result<(), AllocError>
+    ensures { OnOk result (all.new.items ≡ with_piece all.old.items (key.now, value.now)) }
+{
+    if !all.is_empty() {
         all.push(0)?;
     }
-    write_piece(&mut all, key, value)?;
-    Ok(all)
+    write_piece(all, key, value)
 }
