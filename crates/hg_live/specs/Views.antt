@@ -1,5 +1,5 @@
 -- What callers see of an inbox and of its seats.
-use Rattle.std.specs.Prelude.{◌≡◌, ℕ, ◌<◌, List, [], ◌∷◌, ◌++◌, All}
+use Rattle.std.specs.Prelude.{◌≡◌, ℕ, ◌<◌, List, [], ◌∷◌, ◌++◌, All, flat_map}
 use Rattle.std.specs.List.Sorted.{IsPermutation}
 use Rattle.atomic_table.specs.Seated.{TableId}
 use Rattle.hg_live.specs.declared.rule.Numbered.{Numbered}
@@ -33,13 +33,11 @@ AddsTake v m w = (n : ℕ) × (w ≡ seat_log v.inbox v.puts (v.takes ++ numbere
 
 -- the puts of all the seats
 abbrev pub all_puts : List SeatLog → List Numbered
-all_puts [] = []
-all_puts (s ∷ ss) = s.puts ++ all_puts ss
+all_puts seats = flat_map (λ s. s.puts) seats
 
 -- the takes of all the seats
 abbrev pub all_takes : List SeatLog → List Numbered
-all_takes [] = []
-all_takes (s ∷ ss) = s.takes ++ all_takes ss
+all_takes seats = flat_map (λ s. s.takes) seats
 
 -- t was taken and the rest is left: numbered from 0, t and then the rest is what the seats put, and t is what they took
 pub record IsRestAfter (t : List (List ℕ)) (seats : List SeatLog) (rest : List (List ℕ)) : Type 0 where

@@ -30,6 +30,8 @@ pub struct Log {
     pub takes: LinkedList<Numbered>,
 }
 
+/// The rule: each number is put once and taken once at most, and what was put is what was taken and then what the queue
+/// holds, in order.
 pub struct InOrder;
 
 impl Protocol<Message, Log> for InOrder {
@@ -41,6 +43,7 @@ impl Protocol<Message, Log> for InOrder {
     ghost first = { log (2 ^ 62 + 1) [] [] };
 }
 
+/// Seats are made and given back.
 pub struct Seats;
 
 /// A seat is made: one part, with nothing put and nothing taken.
@@ -63,6 +66,7 @@ impl Join<Log> for Seats {
     ghost spent = { log 0 [] [] };
 }
 
+/// A put, under a number above those of the pass's other puts.
 pub struct Puts;
 
 impl Outcome<Message, Log> for Puts {
@@ -77,6 +81,7 @@ impl Lesson<Message, Log> for Puts {
     ghost fact = { λ v. Agrees v.puts v.takes };
 }
 
+/// A take, under a number above those of the pass's other takes.
 pub struct Takes;
 
 impl Outcome<Message, Log> for Takes {

@@ -1,4 +1,5 @@
-//! The steps of a pass at the queue: a part is cut off and comes back, and what is left is taken out.
+//! The steps at the queue of an inbox, each of which keeps its rule: a put and a take, a part that is cut off and comes
+//! back, and what is left, which is taken out by the pass that has every part.
 ghost use Rattle.std.specs.Prelude.{◌≡◌, ℕ, List, ◌+◌, ◌-◌, ◌^◌, ◌<◌, ◌≤◌, [], ◌∷◌, ◌++◌, All, MatchResult, MatchOption, length, map, vec_capacity};
 ghost use Rattle.crossbeam_queue.specs.Fifo.{Held};
 ghost use Rattle.crossbeam_queue.specs.Passes.{view, IsPassOf, IsSamePass, ruled_capacity};
@@ -8,10 +9,13 @@ use crate::rule::{Empties, InOrder, Log, Message, Parts, Puts, Seats, Takes};
 use crossbeam_queue::{Pass, RuledArrayQueue};
 use std::sync::Wait;
 
+/// The queue of an inbox, under its rule.
 pub(crate) type Queue = RuledArrayQueue<Message, Log, InOrder>;
 
+/// What one caller knows of the queue. It takes no bytes.
 pub(crate) type Known = Pass<Message, Log>;
 
+/// Puts a message behind all others, or hands it back where the queue was full at one moment.
 pub(crate) fn put<R: Wait>(
     rt: &R,
     queue: &Queue,
@@ -25,6 +29,7 @@ pub(crate) fn put<R: Wait>(
     queue.push_as::<Puts, R>(rt, pass, message)
 }
 
+/// Takes the first message, where the queue wasn't empty at one moment.
 #[tactic(auto, using(crate::proofs::MoveLemmas::takes, crate::proofs::MoveLemmas::agrees))]
 pub(crate) fn take<R: Wait>(rt: &R, queue: &Queue, pass: &mut Known) -> Option<Message>
     requires { IsPassOf queue.now pass.old × (0 < (view pass.old).parts) }
@@ -34,6 +39,7 @@ pub(crate) fn take<R: Wait>(rt: &R, queue: &Queue, pass: &mut Known) -> Option<M
     queue.pop_as::<Takes, R>(rt, pass)
 }
 
+/// Cuts a part off.
 pub(crate) fn cut(queue: &Queue, pass: &mut Known) -> Known
     requires { IsPassOf queue.now pass.old × (1 < (view pass.old).parts) }
     ensures same { IsSamePass pass.old pass.new × IsPassOf queue.now result }
@@ -42,6 +48,7 @@ pub(crate) fn cut(queue: &Queue, pass: &mut Known) -> Known
     queue.another::<Seats>(pass)
 }
 
+/// Takes the parts of another pass in, with what it put and took.
 pub(crate) fn give_back(queue: &Queue, pass: &mut Known, other: Known)
     requires { IsPassOf queue.now pass.old × IsPassOf queue.now other }
     ensures same { IsSamePass pass.old pass.new }

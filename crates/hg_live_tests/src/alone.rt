@@ -37,6 +37,7 @@ fn messages_come_out_in_order_at_any_seat(rt: HostRuntime) {
     assert!(rt; gives(inbox.take(&rt, &mut t), b"x"));
     assert!(rt; gives(inbox.take(&rt, &mut s), b"y"));
     assert!(rt; inbox.take(&rt, &mut t).is_none());
+    assert!(rt; inbox.put(&rt, &mut s, message(&rt, alloc, b"z")).is_ok());
 }
 
 #[test]
