@@ -16,9 +16,29 @@ impl Graph {
     pub fn ancestors(&self, nodes: &[Node]) -> Result<Vec<Node>, AllocError>
         ensures { IfOk result (λ found. Selects self.now (IsAncestorOfOne self.now nodes.now) found.items) }
     {
+        let marks = self.ancestor_marks(nodes)?;
+        self.marked(&marks)
+    }
+
+    /// A mark for each place: whether the changeset there is one of the nodes, or an ancestor of one. Doubles, and ids that aren't held, change nothing.
+    pub fn ancestor_marks(&self, nodes: &[Node]) -> Result<Vec<bool>, AllocError>
+        ensures len { IfOk result (λ marks. length marks.items ≡ length self.now) }
+        ensures marked { IfOk result (λ marks. (a : Node) → IsMarkedNode self.now marks.items a ↔ IsAncestorOfOne self.now nodes.now a) }
+    {
         let mut marks = vec![in self.alloc(); false; self.len()]?;
         self.mark_ancestors(nodes, &mut marks);
-        self.marked(&marks)
+        Ok(marks)
+    }
+
+    /// Marks the ancestors of the changesets that are marked. There is a mark for each place.
+    pub fn add_ancestors(&self, marks: &mut [bool])
+        requires { length marks.old ≡ length self.now }
+        ensures len { length marks.new ≡ length self.now }
+        ensures marked { (a : Node) → IsMarkedNode self.now marks.new a ↔ ((d : Node) × IsMarkedNode self.now marks.old d × Reaches self.now a d) }
+    {
+        // It says that this is a graph.
+        let count = self.len();
+        self.sweep(0, count, marks);
     }
 
     // Marks the nodes that are held, and their ancestors.
@@ -67,8 +87,8 @@ impl Graph {
         mark(parents.second, low, marks);
     }
 
-    // The nodes at the marked places, in order.
-    fn marked(&self, marks: &[bool]) -> Result<Vec<Node>, AllocError>
+    /// The nodes at the marked places, in the graph's order. There is a mark for each place.
+    pub fn marked(&self, marks: &[bool]) -> Result<Vec<Node>, AllocError>
         requires { length marks.now ≡ length self.now }
         ensures { IfOk result (λ found. Selects self.now (IsMarkedNode self.now marks.now) found.items) }
     {

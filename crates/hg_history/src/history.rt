@@ -1,6 +1,6 @@
 //! The history: a graph of changesets, with a phase for each.
-ghost use Rattle.std.specs.Prelude.{IfOk, IsErrOf, IsOkAnd, MatchOption, IsTrue, [], ◌≡◌, ◌↔◌};
-ghost use Rattle.hg_phases.specs.State.{changesets, state_of, Holds, IsPhaseOf, IsValid};
+ghost use Rattle.std.specs.Prelude.{IfOk, IsErrOf, IsOkAnd, MatchOption, IsTrue, Some, [], length, slice_get, ◌≡◌, ◌≤◌, ◌↔◌};
+ghost use Rattle.hg_phases.specs.State.{Held, changesets, state_of, Holds, IsPhaseOf, IsValid};
 ghost use Rattle.hg_phases.specs.Least.{part_of};
 ghost use Rattle.hg_phases.specs.Order.{Below};
 ghost use Rattle.hg_history.specs.Answer.{AbsorbAnswer, IsGrowthBeforeFault};
@@ -103,6 +103,17 @@ impl History {
         ensures valid { IsValid self.now }
     {
         self.phases.phase_of(&self.graph, node)
+    }
+
+    /// The phase of the changeset at a place of the graph, where there is one. It takes no look-up.
+    pub fn phase_at(&self, place: usize) -> Option<Phase>
+        ensures { MatchOption result (length self.now.held ≤ place) (λ phase. (h : Held) × (slice_get self.now.held place ≡ Some h) × (h.phase ≡ phase)) }
+    {
+        if place < self.graph.len() {
+            Some(self.phases.at(&self.graph, place))
+        } else {
+            None
+        }
     }
 
     /// Takes in changesets and bounds on phases: the history goes to the least state above its own that covers them. A

@@ -15,4 +15,4 @@ mod walk;
 
 pub use instabilities::Instabilities;
 pub use laws::states_of_one_content_have_the_same_instabilities;
-pub use query::{has_phase, is_obsolete};
+pub use query::{has_phase, has_phase_at, is_obsolete, is_obsolete_at};

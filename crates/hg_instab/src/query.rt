@@ -1,5 +1,8 @@
 //! What is asked of one changeset. It takes look-ups, and no memory.
 ghost use Rattle.std.specs.Prelude.{◌≡◌, ◌↔◌, IsTrue, MatchOption};
+ghost use Rattle.hg_changeset.specs.declared.node.Node.{Node};
+ghost use Rattle.hg_graph.specs.Places.{IsAt};
+ghost use Rattle.hg_phases.specs.State.{changesets};
 ghost use Rattle.hg_history.specs.Content.{IsHeld};
 ghost use Rattle.hg_replica.specs.Content.{content_of};
 ghost use Rattle.hg_replica.specs.Evolution.{HasPhase, IsMutable, IsPredecessor, IsObsolete, IsCurrent};
@@ -23,6 +26,34 @@ pub fn is_obsolete(replica: &Replica, node: Node) -> bool
     ensures { IsTrue result ↔ IsObsolete (content_of replica.now) node }
 {
     is_mutable(replica, node) && is_predecessor(replica, node)
+}
+
+/// Whether the changeset at a place of the graph has this phase. It takes no look-up.
+pub fn has_phase_at(replica: &Replica, place: usize, phase: Phase) -> bool
+    ensures { (n : Node) → IsAt (changesets replica.now.history) n place → (IsTrue result ↔ HasPhase (content_of replica.now) n phase) }
+{
+    // It says that the replica is in a valid state.
+    let _graph = replica.graph();
+    match replica.phase_at(place) {
+        Some(its) => is_same(its, phase),
+        None => false,
+    }
+}
+
+fn is_same(its: Phase, phase: Phase) -> bool
+    ensures { IsTrue result ↔ (its ≡ phase) }
+{
+    its == phase
+}
+
+/// Whether the changeset at a place of the graph is obsolete. A public one takes no look-up, and any other one.
+pub fn is_obsolete_at(replica: &Replica, place: usize) -> bool
+    ensures { (n : Node) → IsAt (changesets replica.now.history) n place → (IsTrue result ↔ IsObsolete (content_of replica.now) n) }
+{
+    match replica.graph().node_at(place) {
+        Some(node) => !has_phase_at(replica, place, Phase::Public) && is_predecessor(replica, node),
+        None => false,
+    }
 }
 
 // Whether it is neither public nor obsolete.

@@ -2,8 +2,8 @@
 //!
 //! The store comes first in each call that grows both, since what it added is cut off its end again where the history
 //! refuses. So a refusal costs what was taken in, and never a copy.
-ghost use Rattle.std.specs.Prelude.{IfOk, IsErrOf, IsOkAnd, MatchOption, IsTrue, [], ◌≡◌, ◌↔◌};
-ghost use Rattle.hg_phases.specs.State.{changesets, state_of, Holds, IsPhaseOf};
+ghost use Rattle.std.specs.Prelude.{IfOk, IsErrOf, IsOkAnd, MatchOption, IsTrue, Some, [], length, slice_get, ◌≡◌, ◌≤◌, ◌↔◌};
+ghost use Rattle.hg_phases.specs.State.{Held, changesets, state_of, Holds, IsPhaseOf};
 ghost use Rattle.hg_phases.specs.Roots.{AreRoots};
 ghost use Rattle.hg_obsstore.specs.Markers.{AreApart};
 ghost use Rattle.hg_replica.specs.State.{IsValid, Below};
@@ -116,6 +116,13 @@ impl Replica {
         ensures valid { IsValid self.now }
     {
         self.history.phase_of(node)
+    }
+
+    /// The phase of the changeset at a place of the graph, where there is one. It takes no look-up.
+    pub fn phase_at(&self, place: usize) -> Option<Phase>
+        ensures { MatchOption result (length self.now.history.held ≤ place) (λ phase. (h : Held) × (slice_get self.now.history.held place ≡ Some h) × (h.phase ≡ phase)) }
+    {
+        self.history.phase_at(place)
     }
 
     /// Takes in a part: the replica goes to the least state above its own that covers the part. What is new stands

@@ -1,0 +1,24 @@
+use Rattle.std.proofs.Common.{◌≡◌, ◌∙◌, length, Some, slice_get, refl, sym, ap, subst, arith}
+use Rattle.std.proofs.lemmas.List.{length-map}
+use Rattle.hg_changeset.proofs.ListLemmas.{slice_get_some}
+use Rattle.hg_phases.specs.State.{Held, State, held_of}
+use Rattle.hg_phases.proofs.PlaceLemmas.{held-at, changesets-held_of}
+use Rattle.hg_history.proofs.history.History.phase_at.Goals as goal
+
+pub returns-then-place-len : goal.returns-then-place-len
+returns-then-place-len c =
+    let cs = c.self.inside.graph in
+    let ks = c.self.inside.phases in
+    let changeset = slice_get_some cs c.args.place (omega (arith, c.if-place-len.true, c.len.ensures.len)) in (
+      record { changeset = changeset.0; phase = c.at.result },
+      subst (λ (s : State). slice_get s.held c.args.place ≡ Some (record { changeset = changeset.0; phase = c.at.result })) c.self.view_is (held-at cs ks c.args.place changeset.0 c.at.result changeset.1 c.at.ensures),
+      refl,
+    )
+
+pub returns-else-place-len : goal.returns-else-place-len
+returns-else-place-len c =
+    let cs = c.self.inside.graph in
+    let ks = c.self.inside.phases in
+    let held : length (held_of cs ks) ≡ length c.args.self.now.held = ap (λ (s : State). length s.held) c.self.view_is in
+    let all : length (held_of cs ks) ≡ length cs = sym (length-map (held_of cs ks) (λ (h : Held). h.changeset)) ∙ ap length (changesets-held_of cs ks c.self.invariant.0) in
+    omega (arith, c.if-place-len.false, c.len.ensures.len, held, all)
