@@ -23,7 +23,7 @@ use Rattle.hg_message.proofs.OfferLemmas.{is-offer}
 
 -- ---- ascending lists
 
-all_by_members : (P : Node → Type 0) (xs : List Node) → ((n : Node) → Contains xs n → P n) → AllByRecursion P xs
+pub all_by_members : {X : Type 0} (P : X → Type 0) (xs : List X) → ((x : X) → Contains xs x → P x) → AllByRecursion P xs
 all_by_members P [] each = tt
 all_by_members P (x ∷ xs) each = (each x (Contains-first x xs), all_by_members P xs (λ n at. each n (Contains-later x xs n at)))
 

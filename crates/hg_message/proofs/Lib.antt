@@ -13,3 +13,4 @@ pub mod OfferLawLemmas
 pub mod AdmittedLemmas
 pub mod TakenLemmas
 pub mod ExistLemmas
+pub mod WritableLemmas

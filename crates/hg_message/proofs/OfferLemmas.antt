@@ -1,7 +1,7 @@
 -- What the parts of an offer are.
-use Rattle.std.proofs.Common.{◌≡◌, ◌≢◌, ℕ, ◌+◌, ◌-◌, ◌<◌, ◌≤◌, Bool, true, false, true≢false, not, if◌then◌else◌, Result, Ok, Err, List, [], ◌∷◌, ◌++◌, length, take, get_or, slice_get, Some, Contains, ◌↔◌, inl, inr, refl, sym, ap, subst, ◌∙◌, arith}
+use Rattle.std.proofs.Common.{◌≡◌, ◌≢◌, ℕ, ◌+◌, ◌-◌, ◌<◌, ◌≤◌, zero, suc, Bool, true, false, true≢false, ◌||◌, nat_lt, Result, Ok, Err, List, [], ◌∷◌, ◌++◌, length, take, get_or, slice_get, Some, Contains, ◌↔◌, inl, inr, refl, sym, ap, subst, ◌∙◌, arith, length-append}
 use Rattle.std.specs.List.Sorted.{IsStrictlySortedBy}
-use Rattle.std.proofs.lemmas.Bool.{cases_lt, cases_eq}
+use Rattle.std.proofs.lemmas.Bool.{cases_lt, cases_eq, le-ltb, ltb-false}
 use Rattle.std.proofs.lemmas.Map.Keys.{below_from_sorted, sorted_from_strictly_increasing}
 use Rattle.std.proofs.lemmas.List.{get_or_default, take_all}
 use Rattle.std.proofs.lemmas.Option.{same_Some, slice_get_within}
@@ -11,9 +11,10 @@ use Rattle.hg_changeset.specs.Node.{node_cmp}
 use Rattle.hg_changeset.specs.Contents.{Contents}
 use Rattle.hg_changeset.specs.Changeset.{node_of}
 use Rattle.hg_changeset.proofs.ListLemmas.{Contains-map, Contains-map_from}
-use Rattle.hg_graph.specs.Graph.{IsAncestorOfOne, IsHeadOfThem, Selects}
-use Rattle.hg_graph.proofs.PlaceLemmas.{Holds-reaching}
+use Rattle.hg_graph.specs.Graph.{IsAncestorOfOne, IsHeadOfThem}
+use Rattle.hg_graph.specs.Marks.{IsMarkedNode}
 use Rattle.hg_graph.proofs.GraphLemmas.{Contains-from_place}
+use Rattle.hg_graph.proofs.MarkLemmas.{IsAt-from, mark_at}
 use Rattle.hg_phases.specs.declared.phase.Phase.{Phase}
 use Rattle.hg_phases.specs.declared.phase.Phase.TheVariants.{Public, Draft, Secret}
 use Rattle.hg_phases.specs.State.{changesets}
@@ -27,13 +28,16 @@ use Rattle.hg_replica.specs.State.{ReplicaState, IsValid}
 use Rattle.hg_replica.specs.Content.{Content, content_of}
 use Rattle.hg_replica.specs.Evolution.{IsMarker, IsServed}
 use Rattle.hg_replica.proofs.MarkerLemmas.{holds-from, in_from_holds}
-use Rattle.hg_instab.proofs.OrphanLemmas.{selected}
 use Rattle.std.specs.Result.{IfOk}
-use Rattle.hg_message.specs.declared.error.MessageError.{MessageError}
-use Rattle.hg_message.specs.declared.error.MessageError.TheVariants.{TooLarge}
-use Rattle.hg_message.specs.Value.{MessageValue, is_too_large, message_of}
+use Rattle.hg_obsstore.specs.Places.{picked}
+use Rattle.hg_obsstore.specs.Spelling.{store_spelling}
+use Rattle.hg_obsstore.proofs.PlaceLemmas.{picked-some}
+use Rattle.hg_message.specs.declared.refusal.OfferRefusal.{OfferRefusal}
+use Rattle.hg_message.specs.declared.refusal.OfferRefusal.TheVariants.{UnknownCommon, TooLarge, NoMemory}
+use Rattle.hg_message.specs.Value.{MessageValue, IsMessage, count_limit, is_too_large}
+use Rattle.hg_message.specs.Outgoing.{ArePlacesOf, CopyAnswer, FindAnswer}
 use Rattle.hg_message.specs.Those.{AreThose}
-use Rattle.hg_message.specs.Offer.{AreHeld, IsCommon, IsOutgoing, IsServedAs, IsHead, IsOfferedBound, IsOfferedMarker, AreHeads, bounds_in, AreOfferedBounds, IsOffer}
+use Rattle.hg_message.specs.Offer.{AreHeld, IsCommon, IsOutgoing, IsServedAs, IsHead, IsOfferedBound, IsOfferedMarker, AreHeads, bounds_in, AreOfferedBounds, IsOffer, OfferAnswer}
 use Rattle.hg_message.proofs.OfferLawLemmas.{relevant-held}
 use Rattle.hg_message.proofs.ThoseLemmas.{those-member, those-next, those-past}
 
@@ -51,10 +55,10 @@ relevant-offered s served are m = (
 )
 
 -- the places that are told of a store are those of what is offered
-pub places-offered : (s : ReplicaState) (served : List Node) (store : List Fields) (told places : List ℕ) → ((n : Node) → Contains served n ↔ IsServed (content_of s) n) → store ≡ s.markers → places ≡ told
-    → ArePlaces (IsRelevant (Contains store) (Contains served)) store told → ArePlaces (IsOfferedMarker (content_of s)) s.markers places
-places-offered s served store told places are here same all =
-    let listed = subst (λ (ms : List Fields). ArePlaces (IsRelevant (Contains ms) (Contains served)) ms places) here (subst (ArePlaces (IsRelevant (Contains store) (Contains served)) store) (sym same) all) in
+pub places-offered : (s : ReplicaState) (served : List Node) (store : List Fields) (places : List ℕ) → ((n : Node) → Contains served n ↔ IsServed (content_of s) n) → store ≡ s.markers
+    → ArePlaces (IsRelevant (Contains store) (Contains served)) store places → ArePlaces (IsOfferedMarker (content_of s)) s.markers places
+places-offered s served store places are here all =
+    let listed = subst (λ (ms : List Fields). ArePlaces (IsRelevant (Contains ms) (Contains served)) ms places) here all in
     record {
       ascending = listed.ascending;
       exact = λ k. (
@@ -63,22 +67,22 @@ places-offered s served store told places are here same all =
       );
     }
 
--- ---- copies of the markers at ascending places
+-- ---- what stands at ascending places
 
 -- the places so far are below the bound, and the others aren't
-pub record AreCopied (P : Fields → Type 0) (ms : List Fields) (places : List ℕ) (i : ℕ) (copies : List Fields) : Type 0 where
+pub record ArePicked {X : Type 0} (P : X → Type 0) (xs : List X) (places : List ℕ) (i : ℕ) (found : List X) : Type 0 where
   pub bound : ℕ
-  pub within : bound ≤ length ms
+  pub within : bound ≤ length xs
   pub before : (k : ℕ) → k < i → k < length places → get_or places k 0 < bound
   pub after : (k : ℕ) → i ≤ k → k < length places → bound ≤ get_or places k 0
-  pub those : AreThose P (take bound ms) copies
+  pub those : AreThose P (take bound xs) found
 
 strict : (a b : ℕ) → a ≤ b → a ≢ b → a < b
 strict a b le ne = elim (cases_lt a b) [ inl lt ↦ lt | inr ge ↦ let e : a ≡ b = omega (arith, le, ge) in absurd (ne e) ]
 
-module _ (P : Fields → Type 0) (ms : List Fields) (places : List ℕ) (are : ArePlaces P ms places) where
-  pub copied-none : AreCopied P ms places 0 []
-  copied-none = record { bound = 0; within = omega arith; before = λ k l w. absurd (omega (arith, l)); after = λ k l w. omega arith; those = refl }
+module _ {X : Type 0} (P : X → Type 0) (xs : List X) (places : List ℕ) (are : ArePlacesOf P xs places) where
+  picked_none : ArePicked P xs places 0 []
+  picked_none = record { bound = 0; within = omega arith; before = λ k l w. absurd (omega (arith, l)); after = λ k l w. omega arith; those = refl }
 
   rising : (i k : ℕ) → i < k → k < length places → get_or places i 0 < get_or places k 0
   rising i k l w = below_from_sorted places i k 0 (sorted_from_strictly_increasing places are.ascending) l w
@@ -87,7 +91,7 @@ module _ (P : Fields → Type 0) (ms : List Fields) (places : List ℕ) (are : A
   read j h = get_or_default places h.0 0 j h.1 ∙ h.2
 
   -- what stands between the bound and the next place isn't among the places
-  between : (i : ℕ) (copies : List Fields) → i < length places → (c : AreCopied P ms places i copies) → (j : ℕ) (x : Fields) → c.bound ≤ j → j < get_or places i 0 → slice_get ms j ≡ Some x → ¬ (P x)
+  between : (i : ℕ) (copies : List X) → i < length places → (c : ArePicked P xs places i copies) → (j : ℕ) (x : X) → c.bound ≤ j → j < get_or places i 0 → slice_get xs j ≡ Some x → ¬ (P x)
   between i copies l c j x le lt at p =
       let in' = (are.exact j).1 (x, at, p) in
       let q = read j in' in
@@ -100,19 +104,19 @@ module _ (P : Fields → Type 0) (ms : List Fields) (places : List ℕ) (are : A
       ]
 
   -- nor is anything from the bound on, after the last place
-  beyond : (i : ℕ) (copies : List Fields) → length places ≤ i → (c : AreCopied P ms places i copies) → (j : ℕ) (x : Fields) → c.bound ≤ j → slice_get ms j ≡ Some x → ¬ (P x)
+  beyond : (i : ℕ) (copies : List X) → length places ≤ i → (c : ArePicked P xs places i copies) → (j : ℕ) (x : X) → c.bound ≤ j → slice_get xs j ≡ Some x → ¬ (P x)
   beyond i copies ended c j x le at p =
       let in' = (are.exact j).1 (x, at, p) in
       let b = c.before in'.0 (omega (arith, ended, in'.1)) in'.1 in
       omega (arith, b, le, read j in')
 
-  pub copied-more : (i : ℕ) (copies : List Fields) (m : Fields) → i < length places → slice_get ms (get_or places i 0) ≡ Some m → AreCopied P ms places i copies → AreCopied P ms places (i + 1) (copies ++ m ∷ [])
-  copied-more i copies m l at c =
+  picked_more : (i : ℕ) (copies : List X) (m : X) → i < length places → slice_get xs (get_or places i 0) ≡ Some m → ArePicked P xs places i copies → ArePicked P xs places (i + 1) (copies ++ m ∷ [])
+  picked_more i copies m l at c =
       let p = get_or places i 0 in
       let le = c.after i (omega arith) l in
-      let within = slice_get_within ms p m at in
+      let within = slice_get_within xs p m at in
       let up_to : c.bound + (p - c.bound) ≡ p = omega (arith, le) in
-      let past = those-past P ms copies c.bound (p - c.bound) (omega (arith, up_to, within)) (λ j x from to. between i copies l c j x from (omega (arith, to, up_to))) c.those in
+      let past = those-past P xs copies c.bound (p - c.bound) (omega (arith, up_to, within)) (λ j x from to. between i copies l c j x from (omega (arith, to, up_to))) c.those in
       let here = (are.exact p).0 (Contains-get_or places i 0 l) in
       let so : P m = subst P (same_Some here.0 m (sym here.1 ∙ at)) here.2 in
       record {
@@ -123,14 +127,34 @@ module _ (P : Fields → Type 0) (ms : List Fields) (places : List ℕ) (are : A
           | inr late ↦ let e : k ≡ i = omega (arith, lt, late) in let r : get_or places k 0 ≡ get_or places i 0 = ap (λ (n : ℕ). get_or places n 0) e in omega (arith, r)
         ];
         after = λ k from w. let up = rising i k (omega (arith, from)) w in omega (arith, up);
-        those = those-next P ms copies p m at (subst (λ n. AreThose P (take n ms) copies) up_to past) so;
+        those = those-next P xs copies p m at (subst (λ n. AreThose P (take n xs) copies) up_to past) so;
       }
 
-  pub copied-all : (i : ℕ) (copies : List Fields) → length places ≤ i → AreCopied P ms places i copies → AreThose P ms copies
-  copied-all i copies ended c =
-      let up_to : c.bound + (length ms - c.bound) ≡ length ms = omega (arith, c.within) in
-      let past = those-past P ms copies c.bound (length ms - c.bound) (omega (arith, up_to)) (λ j x from to at. beyond i copies ended c j x from at) c.those in
-      subst (λ xs. AreThose P xs copies) (take_all (length ms) ms (omega arith)) (subst (λ n. AreThose P (take n ms) copies) up_to past)
+  picked_all : (i : ℕ) (copies : List X) → length places ≤ i → ArePicked P xs places i copies → AreThose P xs copies
+  picked_all i copies ended c =
+      let up_to : c.bound + (length xs - c.bound) ≡ length xs = omega (arith, c.within) in
+      let past = those-past P xs copies c.bound (length xs - c.bound) (omega (arith, up_to)) (λ j x from to at. beyond i copies ended c j x from at) c.those in
+      subst (λ ys. AreThose P ys copies) (take_all (length xs) xs (omega arith)) (subst (λ n. AreThose P (take n xs) copies) up_to past)
+
+  -- as far as the first places
+  picked_first : (i : ℕ) → i ≤ length places → ArePicked P xs places i (picked xs (take i places)) × (length (picked xs (take i places)) ≡ i)
+  picked_first zero l = (picked_none, refl)
+  picked_first (suc i) l =
+      let lt : i < length places = omega (arith, l) in
+      let next : i + 1 ≡ suc i = omega arith in
+      let here = (are.exact (get_or places i 0)).0 (Contains-get_or places i 0 lt) in
+      let so_far = picked_first i (omega (arith, l)) in
+      let more = picked-some xs places i lt here.0 here.1 in
+      subst (λ (n : ℕ). ArePicked P xs places n (picked xs (take n places)) × (length (picked xs (take n places)) ≡ n)) next (
+        subst (ArePicked P xs places (i + 1)) (sym more) (picked_more i (picked xs (take i places)) here.0 lt here.1 so_far.0),
+        ap length more ∙ omega (arith, length-append (picked xs (take i places)) (here.0 ∷ []), so_far.1),
+      )
+
+  pub picked-those : AreThose P xs (picked xs places)
+  picked-those = subst (λ (ps : List ℕ). AreThose P xs (picked xs ps)) (take_all (length places) places (omega arith)) (picked_all (length places) (picked xs (take (length places) places)) (omega arith) (picked_first (length places) (omega arith)).0)
+
+  pub picked-length : length (picked xs places) ≡ length places
+  picked-length = ap (λ (ps : List ℕ). length (picked xs ps)) (sym (take_all (length places) places (omega arith))) ∙ (picked_first (length places) (omega arith)).1
 
 -- ---- what is said
 
@@ -195,23 +219,34 @@ heads-are s valid P held members heads are exact ascending = record {
 
 -- ---- what is common
 
-pub common-are : (s : ReplicaState) → IsValid s → (common known : List Node) → AreHeld (content_of s) common → Selects (changesets s.history) (IsAncestorOfOne (changesets s.history) common) known → (n : Node) → Contains known n ↔ IsCommon (content_of s) common n
-common-are s valid common known held select n =
-    let cs = changesets s.history in
-    let told = selected cs (IsAncestorOfOne cs common) known select n in (
-      λ h. let k = (told.0 h).1 in (k.0, k.1, leads_from_reach s.history valid.graph n k.0 k.2),
-      λ h.
-          let reach = reach_from_leads s.history valid.graph n h.0 (node_in_content s.history valid.graph h.0 (held h.0 h.1)) h.2 in
-          told.1 (Holds-reaching cs reach, (h.0, h.1, reach)),
-    )
-
--- a changeset of the graph that is among the served and not among the common ones is outgoing
-pub outgoing-at : (s : ReplicaState) → IsValid s → (common served known : List Node) → ((n : Node) → Contains served n ↔ IsServed (content_of s) n) → ((n : Node) → Contains known n ↔ IsCommon (content_of s) common n)
-    → (i : ℕ) (c : Contents) → slice_get (changesets s.history) i ≡ Some c → (Contains served (node_of c) × ¬ (Contains known (node_of c))) ↔ IsOutgoing (content_of s) common c
-outgoing-at s valid common served known is_served is_known i c at = (
-  λ h. (content-changeset s.history valid.graph (node_of c) c (Contains-from_place (changesets s.history) i c at) refl, (is_served (node_of c)).0 h.0, λ k. h.1 ((is_known (node_of c)).1 k)),
-  λ h. ((is_served (node_of c)).1 h.1, λ k. h.2 ((is_known (node_of c)).0 k)),
+pub common-are : (s : ReplicaState) → IsValid s → (common : List Node) → AreHeld (content_of s) common → (n : Node) → IsAncestorOfOne (changesets s.history) common n ↔ IsCommon (content_of s) common n
+common-are s valid common held n = (
+  λ h. (h.0, h.1, leads_from_reach s.history valid.graph n h.0 h.2),
+  λ h. (h.0, h.1, reach_from_leads s.history valid.graph n h.0 (node_in_content s.history valid.graph h.0 (held h.0 h.1)) h.2),
 )
+
+-- a changeset of the graph that is served and isn't common is outgoing
+pub outgoing-at : (s : ReplicaState) → IsValid s → (common : List Node) (i : ℕ) (c : Contents) → slice_get (changesets s.history) i ≡ Some c → (IsServed (content_of s) (node_of c) × ¬ (IsCommon (content_of s) common (node_of c))) ↔ IsOutgoing (content_of s) common c
+outgoing-at s valid common i c at = (
+  λ h. (content-changeset s.history valid.graph (node_of c) c (Contains-from_place (changesets s.history) i c at) refl, h.0, h.1),
+  λ h. (h.1, h.2),
+)
+
+-- what the marks at its place tell
+pub outgoing-marked : (s : ReplicaState) → IsValid s → (common : List Node) → AreHeld (content_of s) common → (served known : List Bool) → ((n : Node) → IsMarkedNode (changesets s.history) served n ↔ IsServed (content_of s) n)
+    → ((n : Node) → IsMarkedNode (changesets s.history) known n ↔ IsAncestorOfOne (changesets s.history) common n) → (i : ℕ) → i < length served → i < length known → (c : Contents) → slice_get (changesets s.history) i ≡ Some c
+    → ((get_or served i false ≡ true) × ¬ (get_or known i false ≡ true)) ↔ IsOutgoing (content_of s) common c
+outgoing-marked s valid common held served known is_served is_known i l k c at =
+    let cs = changesets s.history in
+    let n = node_of c in
+    let here = IsAt-from cs i c n at refl in
+    let one = mark_at cs valid.graph served i n l here in
+    let two = mark_at cs valid.graph known i n k here in
+    let out = outgoing-at s valid common i c at in
+    let same = common-are s valid common held n in (
+      λ h. out.0 ((is_served n).0 (one.0 h.0), λ x. h.1 (two.1 ((is_known n).1 (same.1 x)))),
+      λ h. let x = out.1 h in (one.1 ((is_served n).1 x.0), λ m. x.1 (same.0 ((is_known n).0 (two.0 m)))),
+    )
 
 -- ---- answers
 
@@ -219,21 +254,31 @@ pub if_ok_both : {X E : Type 0} (P Q : X → Type 0) (r : Result X E) → IfOk r
 if_ok_both P Q (Ok x) p q = (p, q)
 if_ok_both P Q (Err e) p q = tt
 
--- what isn't so of a test that tells it
-pub isnt_so : (b : Bool) (A : Type 0) → (b ≡ true) ↔ A → (not b ≡ true) ↔ (¬ A)
-isnt_so true A so = (λ h. absurd (true≢false (sym h)), λ not. absurd (not (so.0 refl)))
-isnt_so false A so = (λ h a. true≢false (sym (so.1 a)), λ not. refl)
+or_false : (a b : Bool) → (a || b) ≡ false → (a ≡ false) × (b ≡ false)
+or_false true b e = absurd cc
+or_false false b e = (refl, e)
 
-pub message-made : (m n : MessageValue) → message_of m ≡ Ok n → n ≡ m
-message-made m n = by (is_too_large m)
-  where
-    by : (b : Bool) → ◌≡◌ {A = Result MessageValue MessageError} (if b then Err TooLarge else Ok m) (Ok n) → n ≡ m
-    by true e = absurd cc
-    by false e = cc
+-- what isn't too large is a message
+pub not-too-large : (m : MessageValue) → is_too_large m ≡ false → IsMessage m
+not-too-large m e =
+    let many = nat_lt count_limit (length m.changesets) in
+    let more = nat_lt count_limit (length m.bounds) in
+    let counts = or_false (many || more) (nat_lt count_limit (length (store_spelling m.markers))) e in
+    let both = or_false many more counts.0 in
+    record { changesets = ltb-false count_limit (length m.changesets) both.0; bounds = ltb-false count_limit (length m.bounds) both.1; store = ltb-false count_limit (length (store_spelling m.markers)) counts.1 }
 
-pub message-refused : (m : MessageValue) (e : MessageError) → message_of m ≡ Err e → is_too_large m ≡ true
-message-refused m e = by (is_too_large m)
-  where
-    by : (b : Bool) → ◌≡◌ {A = Result MessageValue MessageError} (if b then Err TooLarge else Ok m) (Err e) → b ≡ true
-    by true h = refl
-    by false h = absurd cc
+-- no message is too large
+pub small-or-large : (m : MessageValue) → IsMessage m → is_too_large m ≡ true → ⊥
+small-or-large m h e = true≢false (sym e ∙ rw (le-ltb count_limit (length m.changesets) h.changesets, le-ltb count_limit (length m.bounds) h.bounds, le-ltb count_limit (length (store_spelling m.markers)) h.store) refl)
+
+-- to find and to copy is to offer
+pub find-then-copy : (s : ReplicaState) (common : List Node) (found : MessageValue) (r : Result MessageValue OfferRefusal) → FindAnswer s common (Ok found) → CopyAnswer found r → OfferAnswer s common r
+find-then-copy s common found (Ok m) h k = (h.0, subst (IsOffer s common) (sym k.1) h.1)
+find-then-copy s common found (Err (UnknownCommon n)) h k = absurd k
+find-then-copy s common found (Err TooLarge) h k = (h.0, (found, h.1, k))
+find-then-copy s common found (Err NoMemory) h k = h.0
+
+pub find-refused : (s : ReplicaState) (common : List Node) (refusal : OfferRefusal) → FindAnswer s common (Err refusal) → OfferAnswer s common (Err refusal)
+find-refused s common (UnknownCommon n) h = h
+find-refused s common TooLarge h = absurd h
+find-refused s common NoMemory h = h

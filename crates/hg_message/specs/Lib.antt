@@ -12,5 +12,6 @@ pub mod Spelling
 pub mod Part
 pub mod Those
 pub mod Offer
+pub mod Outgoing
 pub mod OfferRefusals
 pub mod Taken

@@ -1,9 +1,12 @@
 //! Copies of what a message holds.
 ghost use Rattle.std.specs.Prelude.{◌≡◌, ◌++◌, IfOk, OnOk};
+ghost use Rattle.hg_obsstore.specs.Places.{picked};
 ghost use Rattle.hg_message.specs.Part.{draft_bounds};
 
 use hg_changeset::{Changeset, Node};
+use hg_graph::Graph;
 use hg_marker::Marker;
+use hg_obsstore::Store;
 use hg_phases::Phase;
 use std::alloc::{AllocError, Global};
 
@@ -28,6 +31,42 @@ pub(crate) fn copy_markers(alloc: Global, markers: &[Marker]) -> Result<Vec<Mark
     let mut copies = Vec::with_capacity(alloc, markers.len())?;
     for marker in markers {
         copies.push(marker.copy()?)?;
+    }
+    Ok(copies)
+}
+
+/// Copies of the changesets at these places.
+pub(crate) fn copy_changesets_at(
+    alloc: Global,
+    graph: &Graph,
+    places: &[usize],
+) -> Result<Vec<Changeset>, AllocError>
+    ensures { IfOk result (λ copies. copies.items ≡ picked graph.now places.now) }
+{
+    let mut copies = Vec::with_capacity(alloc, places.len())?;
+    for place in places {
+        match graph.changeset_at(*place) {
+            Some(changeset) => copies.push(changeset.copy()?)?,
+            None => {}
+        }
+    }
+    Ok(copies)
+}
+
+/// Copies of the markers at these places.
+pub(crate) fn copy_markers_at(
+    alloc: Global,
+    store: &Store,
+    places: &[usize],
+) -> Result<Vec<Marker>, AllocError>
+    ensures { IfOk result (λ copies. copies.items ≡ picked store.now places.now) }
+{
+    let mut copies = Vec::with_capacity(alloc, places.len())?;
+    for place in places {
+        match store.get(*place) {
+            Some(marker) => copies.push(marker.copy()?)?,
+            None => {}
+        }
     }
     Ok(copies)
 }

@@ -12,11 +12,13 @@
 mod bound;
 mod copies;
 mod error;
+mod finding;
 mod laws;
 mod layout;
 mod message;
 mod offer_laws;
 mod offers;
+mod outgoing;
 mod place;
 mod record;
 mod refusal;
@@ -35,4 +37,5 @@ pub use offer_laws::{
     offers_hold_what_is_served, states_of_one_content_offer_the_same,
 };
 pub use offers::offer;
+pub use outgoing::Outgoing;
 pub use refusal::OfferRefusal;

@@ -21,7 +21,7 @@ use std::fmt;
 use std::marker::Model;
 
 /// The most records and bounds of a message, and the most bytes of its store.
-const COUNT_LIMIT: usize = 4_294_967_295;
+pub(crate) const COUNT_LIMIT: usize = 4_294_967_295;
 
 /// What one replica tells another: changesets, bounds on phases, and obsolescence markers, each in their order and as often
 /// as they came.

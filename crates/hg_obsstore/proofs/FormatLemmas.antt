@@ -225,12 +225,15 @@ store_checked (zero ∷ bytes) ms l h read = read
 store_checked (suc version ∷ bytes) ms l h read = let above : 0 < suc version = omega arith in absurd (rw (not_zero (suc version) above) at h)
 
 -- one marker more
+pub length_push : (ms : List Fields) (m : Fields) → length (store_spelling (ms ++ m ∷ [])) ≡ length (store_spelling ms) + length (spelling m)
+length_push ms m =
+    let one : flat_map spelling (m ∷ []) ≡ spelling m = flat_map-cons spelling m [] ∙ append-nil (spelling m) in
+    omega (arith, ap length (flat_map-append spelling ms (m ∷ [])), length-append (flat_map spelling ms) (flat_map spelling (m ∷ [])), ap length one)
+
 pub length_more : (ms : List Fields) (i : ℕ) (m : Fields) → i < length ms → m ≡ get_or ms i m → length (store_spelling (take (i + 1) ms)) ≡ length (store_spelling (take i ms)) + length (spelling m)
 length_more ms i m l is =
     let more : take (i + 1) ms ≡ take i ms ++ m ∷ [] = take_more ms i m l ∙ ap (λ x. take i ms ++ x ∷ []) (sym is) in
-    let each : flat_map spelling (take (i + 1) ms) ≡ flat_map spelling (take i ms) ++ flat_map spelling (m ∷ []) = ap (flat_map spelling) more ∙ flat_map-append spelling (take i ms) (m ∷ []) in
-    let one : flat_map spelling (m ∷ []) ≡ spelling m = flat_map-cons spelling m [] ∙ append-nil (spelling m) in
-    omega (arith, ap length each, length-append (flat_map spelling (take i ms)) (flat_map spelling (m ∷ [])), ap length one)
+    ap (λ xs. length (store_spelling xs)) more ∙ length_push (take i ms) m
 
 pub each_more : (P : Fields → Type 0) (ms : List Fields) (i : ℕ) (m : Fields) → i < length ms → m ≡ get_or ms i m → AllByRecursion P (take i ms) → P m → AllByRecursion P (take (i + 1) ms)
 each_more P ms i m l is each one =

@@ -1,13 +1,14 @@
 -- Lists of places.
-use Rattle.std.proofs.Common.{◌≡◌, ◌<◌, ◌≤◌, ◌+◌, ◌-◌, ◌∷◌, ◌++◌, [], ℕ, List, true, false, ◌==◌, length, Contains, arith, ⊎_elim, subst, sym, slice_get, Option, None, Some, ap, ◌∙◌, refl, length-append, take}
-use Rattle.std.proofs.lemmas.List.{get_or_push}
-use Rattle.std.proofs.lemmas.List.Elements.{Contains-push, Contains-push_cases, Contains-append_left}
+use Rattle.std.proofs.Common.{◌≡◌, ◌<◌, ◌≤◌, ◌+◌, ◌-◌, ◌∷◌, ◌++◌, [], ℕ, List, true, false, ◌==◌, length, Contains, arith, ⊎_elim, subst, sym, slice_get, Option, None, Some, ap, ◌∙◌, refl, length-append, take, get_or}
+use Rattle.std.specs.List.{cons_option}
+use Rattle.std.proofs.lemmas.List.{get_or_push, take_more, append-nil}
+use Rattle.std.proofs.lemmas.List.Elements.{Contains-push, Contains-push_cases, Contains-append_left, filter_map-append}
 use Rattle.std.proofs.lemmas.Option.{slice_get_within, slice_get_read, get_or_from_slice_get}
 use Rattle.std.proofs.lemmas.Bool.{cases_lt, false_from_ne_true}
 use Rattle.std.specs.Cmp.{unsigned_Decides}
 use Rattle.std.proofs.Math.Seq.{take-append_seam}
 use Rattle.hg_changeset.proofs.ListLemmas.{IsStrictlyIncreasing-push}
-use Rattle.hg_obsstore.specs.Places.{ListsAll}
+use Rattle.hg_obsstore.specs.Places.{ListsAll, picked}
 use Rattle.hg_obsstore.specs.Index.{stands_last, with_last, without_last}
 
 module _ (Q : ℕ → Type 0) where
@@ -81,3 +82,15 @@ with_last_none k = refl
 pub without_last_none : (k : ℕ) → without_last [] k ≡ []
 unfolding without_last
 without_last_none k = refl
+
+-- ---- what stands at places, one place after the other
+
+module _ {X : Type 0} (xs : List X) (places : List ℕ) (i : ℕ) (l : i < length places) where
+  next_place : picked xs (take (i + 1) places) ≡ picked xs (take i places) ++ cons_option (slice_get xs (get_or places i 0)) []
+  next_place = ap (picked xs) (take_more places i 0 l) ∙ filter_map-append (slice_get xs) (take i places) (get_or places i 0 ∷ [])
+
+  pub picked-some : (x : X) → slice_get xs (get_or places i 0) ≡ Some x → picked xs (take (i + 1) places) ≡ picked xs (take i places) ++ x ∷ []
+  picked-some x at = next_place ∙ ap (λ o. picked xs (take i places) ++ cons_option o []) at
+
+  pub picked-none : slice_get xs (get_or places i 0) ≡ None → picked xs (take (i + 1) places) ≡ picked xs (take i places)
+  picked-none at = next_place ∙ ap (λ o. picked xs (take i places) ++ cons_option o []) at ∙ append-nil (picked xs (take i places))

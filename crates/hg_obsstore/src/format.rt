@@ -9,6 +9,7 @@ ghost use Rattle.hg_marker.specs.Faults.{marker_at, left};
 ghost use Rattle.hg_marker.specs.Reading.{Gives, IsRead, IsReading};
 ghost use Rattle.hg_obsstore.specs.declared.fault.StoreFault.{StoreFault};
 ghost use Rattle.hg_obsstore.specs.Markers.{AreDifferent};
+ghost use Rattle.hg_obsstore.specs.Places.{picked};
 ghost use Rattle.hg_obsstore.specs.Growth.{new_among};
 ghost use Rattle.hg_obsstore.specs.Spelling.{IsLength, IsStoreSpelling, store_spelling};
 ghost use Rattle.hg_obsstore.specs.Faults.{IsStoreFault, placed_marker, markers_at, store_at};
@@ -62,6 +63,21 @@ pub fn markers_len(markers: &[Marker]) -> Option<usize>
         len = add_len(len, marker.written_len());
     }
     len
+}
+
+/// How many bytes the markers at these places take as they are written, if a `usize` can tell it.
+pub fn markers_len_at(store: &Store, places: &[usize]) -> Option<usize>
+    ensures some { IfSome result (λ n. n ≡ length (store_spelling (picked store.now places.now))) }
+    ensures none { result ≡ None → 2 ^ 64 - 1 < length (store_spelling (picked store.now places.now)) }
+{
+    let mut total = Some(1);
+    for place in places {
+        match store.get(*place) {
+            Some(marker) => total = add_len(total, marker.written_len()),
+            None => {}
+        }
+    }
+    total
 }
 
 // So many bytes more.

@@ -10,7 +10,8 @@ mod store;
 
 pub use fault::StoreFault;
 pub use format::{
-    check_markers, markers_bytes, markers_len, read_markers, read_store, store_bytes, write_markers,
+    check_markers, markers_bytes, markers_len, markers_len_at, read_markers, read_store,
+    store_bytes, write_markers,
 };
 pub use hg_changeset::Node;
 pub use hg_join::NoMemory;

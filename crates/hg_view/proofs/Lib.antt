@@ -1,3 +1,3 @@
 pub mod LawLemmas
-mod ViewLemmas
+pub mod ViewLemmas
 mod ShownLemmas

@@ -12,4 +12,4 @@ pub use laws::{
     states_of_one_content_have_the_same_views, views_hold_the_ancestors_of_their_members,
 };
 pub use shown::is_visible;
-pub use view::{served, served_nodes, visible};
+pub use view::{served, served_marks, visible};

@@ -1,12 +1,14 @@
 //! The views of a replica, by one sweep over its changesets.
-ghost use Rattle.std.specs.Prelude.{◌↔◌, Contains, IfOk};
+ghost use Rattle.std.specs.Prelude.{◌≡◌, ◌↔◌, Contains, IfOk, length};
 ghost use Rattle.hg_changeset.specs.declared.node.Node.{Node};
+ghost use Rattle.hg_graph.specs.Marks.{IsMarkedNode};
+ghost use Rattle.hg_phases.specs.State.{changesets};
 ghost use Rattle.hg_replica.specs.Content.{content_of};
 ghost use Rattle.hg_replica.specs.Evolution.{HasPhase, IsRevealed, IsVisible, IsServed};
 ghost use Rattle.hg_phases.specs.declared.phase.Phase.TheVariants.{Secret as secret_phase};
 
 use hg_changeset::Node;
-use hg_instab::{has_phase, is_obsolete};
+use hg_instab::{has_phase_at, is_obsolete_at};
 use hg_phases::Phase;
 use hg_replica::Replica;
 use std::alloc::{AllocError, Global};
@@ -16,57 +18,69 @@ use std::collections::BTreeSet;
 pub fn visible(alloc: Global, replica: &Replica) -> Result<BTreeSet<Node>, AllocError>
     ensures { IfOk result (λ set. (n : Node) → Contains set.keys n ↔ IsVisible (content_of replica.now) n) }
 {
-    visible_nodes(alloc, replica)?.into_iter().collect(alloc)
+    let marks = visible_marks(alloc, replica)?;
+    set_at(alloc, replica, &marks)
 }
 
 /// The visible changesets that aren't secret: what others are given. Mercurial's view `served`.
 pub fn served(alloc: Global, replica: &Replica) -> Result<BTreeSet<Node>, AllocError>
     ensures { IfOk result (λ set. (n : Node) → Contains set.keys n ↔ IsServed (content_of replica.now) n) }
 {
-    served_nodes(alloc, replica)?.into_iter().collect(alloc)
+    let marks = served_marks(alloc, replica)?;
+    set_at(alloc, replica, &marks)
 }
 
-/// What [`served`] holds, as a list.
-pub fn served_nodes(alloc: Global, replica: &Replica) -> Result<Vec<Node>, AllocError>
-    ensures { IfOk result (λ found. (n : Node) → Contains found.items n ↔ IsServed (content_of replica.now) n) }
+// The changesets at the marked places.
+fn set_at(alloc: Global, replica: &Replica, marks: &[bool]) -> Result<BTreeSet<Node>, AllocError>
+    requires { length marks.now ≡ length (changesets replica.now.history) }
+    ensures { IfOk result (λ set. (n : Node) → Contains set.keys n ↔ IsMarkedNode (changesets replica.now.history) marks.now n) }
 {
-    let visible = visible_nodes(alloc, replica)?;
+    let nodes = replica.graph().marked(marks)?;
+    nodes.into_iter().collect(alloc)
+}
+
+/// A mark for each place of the graph: whether the changeset there is [`served`].
+pub fn served_marks(alloc: Global, replica: &Replica) -> Result<Vec<bool>, AllocError>
+    ensures len { IfOk result (λ marks. length marks.items ≡ length (changesets replica.now.history)) }
+    ensures exact { IfOk result (λ marks. (n : Node) → IsMarkedNode (changesets replica.now.history) marks.items n ↔ IsServed (content_of replica.now) n) }
+{
+    let visible = visible_marks(alloc, replica)?;
     not_secret(alloc, replica, &visible)
 }
 
-// The visible changesets, in the graph's order.
-fn visible_nodes(alloc: Global, replica: &Replica) -> Result<Vec<Node>, AllocError>
-    ensures { IfOk result (λ found. (n : Node) → Contains found.items n ↔ IsVisible (content_of replica.now) n) }
+// A mark for each place: whether the changeset there is visible.
+fn visible_marks(alloc: Global, replica: &Replica) -> Result<Vec<bool>, AllocError>
+    ensures len { IfOk result (λ marks. length marks.items ≡ length (changesets replica.now.history)) }
+    ensures exact { IfOk result (λ marks. (n : Node) → IsMarkedNode (changesets replica.now.history) marks.items n ↔ IsVisible (content_of replica.now) n) }
 {
-    let revealed = revealed_nodes(alloc, replica)?;
-    replica.graph().ancestors(&revealed)
+    let mut marks = revealed_marks(alloc, replica)?;
+    replica.graph().add_ancestors(&mut marks);
+    Ok(marks)
 }
 
-// The changesets that aren't obsolete.
-fn revealed_nodes(alloc: Global, replica: &Replica) -> Result<Vec<Node>, AllocError>
-    ensures { IfOk result (λ found. (n : Node) → Contains found.items n ↔ IsRevealed (content_of replica.now) n) }
+// A mark for each place: whether the changeset there isn't obsolete.
+fn revealed_marks(alloc: Global, replica: &Replica) -> Result<Vec<bool>, AllocError>
+    ensures len { IfOk result (λ marks. length marks.items ≡ length (changesets replica.now.history)) }
+    ensures exact { IfOk result (λ marks. (n : Node) → IsMarkedNode (changesets replica.now.history) marks.items n ↔ IsRevealed (content_of replica.now) n) }
 {
     let graph = replica.graph();
-    let mut found = Vec::new(alloc);
+    let mut marks = Vec::with_capacity(alloc, graph.len())?;
     for place in 0..graph.len() {
-        if let Some(node) = graph.node_at(place) {
-            if !is_obsolete(replica, node) {
-                found.push(node)?;
-            }
-        }
+        marks.push(!is_obsolete_at(replica, place))?;
     }
-    Ok(found)
+    Ok(marks)
 }
 
-// Those of the nodes that aren't secret.
-fn not_secret(alloc: Global, replica: &Replica, nodes: &[Node]) -> Result<Vec<Node>, AllocError>
-    ensures { IfOk result (λ found. (n : Node) → Contains found.items n ↔ (Contains nodes.now n × ¬ (HasPhase (content_of replica.now) n secret_phase))) }
+// The marks of those of the marked changesets that aren't secret.
+fn not_secret(alloc: Global, replica: &Replica, marks: &[bool]) -> Result<Vec<bool>, AllocError>
+    requires { length marks.now ≡ length (changesets replica.now.history) }
+    ensures len { IfOk result (λ found. length found.items ≡ length (changesets replica.now.history)) }
+    ensures exact { IfOk result (λ found. (n : Node) → IsMarkedNode (changesets replica.now.history) found.items n ↔ (IsMarkedNode (changesets replica.now.history) marks.now n × ¬ (HasPhase (content_of replica.now) n secret_phase))) }
 {
-    let mut found = Vec::new(alloc);
-    for node in nodes {
-        if !has_phase(replica, *node, Phase::Secret) {
-            found.push(*node)?;
-        }
+    let graph = replica.graph();
+    let mut found = Vec::with_capacity(alloc, graph.len())?;
+    for place in 0..marks.len() {
+        found.push(marks[place] && !has_phase_at(replica, place, Phase::Secret))?;
     }
     Ok(found)
 }

@@ -10,7 +10,7 @@ use Rattle.hg_history.proofs.ContentLemmas.{content-node, node_in_content}
 use Rattle.hg_instab.proofs.AmongLemmas.{taken}
 use Rattle.hg_replica.specs.Content.{content_of}
 use Rattle.hg_message.specs.Offer.{AreHeld}
-use Rattle.hg_message.proofs.offers.first_unknown.Goals as goal
+use Rattle.hg_message.proofs.finding.first_unknown.Goals as goal
 
 pub loop-node-init : goal.loop-node-init
 loop-node-init c = λ k h. absurd (Contains-none k h)

@@ -1,9 +1,10 @@
-use Rattle.std.proofs.Common.{take, Contains}
+use Rattle.hg_graph.specs.Marks.{IsMarkedNode}
+use Rattle.hg_graph.proofs.MarkLemmas.{TellsFirst}
 use Rattle.hg_phases.specs.declared.phase.Phase.TheVariants.{Secret}
+use Rattle.hg_phases.specs.State.{changesets}
 use Rattle.hg_replica.specs.Content.{content_of}
 use Rattle.hg_replica.specs.Evolution.{HasPhase}
-use Rattle.hg_instab.proofs.AmongLemmas.{AreThose}
 use Rattle.hg_view.proofs.view.not_secret.Given as goal
 
-abbrev pub invariant-loop-node : goal.invariant-loop-node
-invariant-loop-node l = AreThose (Contains (take l.node-index l.nodes)) (λ n. ¬ (HasPhase (content_of l.replica) n Secret)) l.found.items
+abbrev pub invariant-loop-place : goal.invariant-loop-place
+invariant-loop-place l = TellsFirst (changesets l.replica.history) (λ n. IsMarkedNode (changesets l.replica.history) l.fn.marks n × ¬ (HasPhase (content_of l.replica) n Secret)) l.place l.found.items

@@ -1,0 +1,36 @@
+-- What goes out, found by place and not copied yet, and the answers to the calls that find and copy it.
+use Rattle.std.specs.Prelude.{◌≡◌, ◌↔◌, ℕ, true, false, List, Bool, length, slice_get, Some, Result, Ok, Err}
+use Rattle.hg_changeset.specs.declared.node.Node.{Node}
+use Rattle.hg_graph.specs.Marks.{IsMarkedNode}
+use Rattle.hg_phases.specs.State.{changesets}
+use Rattle.hg_obsstore.specs.Places.{ListsAll}
+use Rattle.hg_replica.specs.State.{ReplicaState}
+use Rattle.hg_replica.specs.Content.{content_of}
+use Rattle.hg_replica.specs.Evolution.{IsServed}
+use Rattle.hg_message.specs.declared.refusal.OfferRefusal.{OfferRefusal}
+use Rattle.hg_message.specs.declared.refusal.OfferRefusal.TheVariants.{UnknownCommon, TooLarge, NoMemory}
+use Rattle.hg_message.specs.Value.{MessageValue, is_too_large}
+use Rattle.hg_message.specs.Offer.{AreHeld, IsFirstUnknown, IsOffer}
+
+-- a mark for each place, which tells whether the changeset there is served
+pub record AreServed (s : ReplicaState) (marks : List Bool) : Type 0 where
+  pub len : length marks ≡ length (changesets s.history)
+  pub exact : (n : Node) → IsMarkedNode (changesets s.history) marks n ↔ IsServed (content_of s) n
+
+-- exactly the places of those that are so, each once, ascending
+abbrev pub ArePlacesOf : {X : Type 0} → (X → Type 0) → List X → List ℕ → Type 0
+ArePlacesOf {X = X} P xs places = ListsAll (λ i. (x : X) × (slice_get xs i ≡ Some x) × P x) places
+
+-- the answer to `Outgoing::above`; memory can be wanting only where each common node is held
+abbrev pub FindAnswer : ReplicaState → List Node → Result MessageValue OfferRefusal → Type 0
+FindAnswer s common (Ok found) = AreHeld (content_of s) common × IsOffer s common found
+FindAnswer s common (Err (UnknownCommon n)) = IsFirstUnknown (content_of s) common n
+FindAnswer s common (Err TooLarge) = ⊥
+FindAnswer s common (Err NoMemory) = AreHeld (content_of s) common
+
+-- the answer to `Outgoing::message`: what is too large is told so, and memory can be wanting only for what isn't
+abbrev pub CopyAnswer : MessageValue → Result MessageValue OfferRefusal → Type 0
+CopyAnswer found (Ok m) = (is_too_large found ≡ false) × (m ≡ found)
+CopyAnswer found (Err (UnknownCommon n)) = ⊥
+CopyAnswer found (Err TooLarge) = is_too_large found ≡ true
+CopyAnswer found (Err NoMemory) = is_too_large found ≡ false

@@ -1,0 +1,26 @@
+use Rattle.std.proofs.Common.{◌≡◌, ◌+◌, ◌∷◌, ◌++◌, [], ℕ, List, take, length, get_or, Some, None, slice_get, sym, ap, subst, ◌∙◌}
+use Rattle.std.specs.Option.{option_copied}
+use Rattle.hg_marker.specs.Fields.{Fields}
+use Rattle.hg_marker.specs.Grammar.{spelling}
+use Rattle.hg_obsstore.specs.Places.{picked}
+use Rattle.hg_obsstore.specs.Spelling.{IsLength, store_spelling}
+use Rattle.hg_obsstore.proofs.FormatLemmas.{length_push}
+use Rattle.hg_obsstore.proofs.PlaceLemmas.{picked-some, picked-none}
+use Rattle.hg_obsstore.proofs.format.markers_len_at.Goals as goal
+use Rattle.hg_obsstore.proofs.format.markers_len_at.Goals.{in-Some, in-None}
+
+pub loop-place-preserved : goal.loop-place-preserved
+loop-place-preserved c =
+    let ms = c.args.store.now in
+    let places = c.args.places.now in
+    let i = c.loop-place.place-index in
+    let so_far = picked ms (take i places) in
+    elim c.match-get.branch [
+      | in-Some w ↦
+          let m = w.in-Some.marker.now in
+          let more : picked ms (take (i + 1) places) ≡ so_far ++ m ∷ [] = picked-some ms places i c.loop-place-test.true m (sym c.get.ensures ∙ ap option_copied w.in-Some.is) in
+          rw (w.total-is, more) (subst (IsLength w.add_len-total.result) (ap (λ (n : ℕ). length (store_spelling so_far) + n) w.written_len.ensures.len ∙ sym (length_push so_far m)) (w.add_len-total.ensures (length (store_spelling so_far)) c.loop-place.invariant))
+      | in-None w ↦
+          let same : picked ms (take (i + 1) places) ≡ so_far = picked-none ms places i c.loop-place-test.true (sym c.get.ensures ∙ ap option_copied w.in-None.is) in
+          rw (w.total-is, same) c.loop-place.invariant
+    ]
