@@ -1,9 +1,8 @@
 -- What the calls of a peer tell.
-use Rattle.std.proofs.Common.{◌≡◌, true, true≢false, ℕ, Option, Some, None, List, [], Result, Ok, Err, Contains, refl, sym, ap, subst, ◌∙◌, inl, inr, ◌⊎◌}
-use Rattle.std.specs.Prelude.{length, IfOk, IfErr, IsErrOf}
+use Rattle.std.proofs.Common.{◌≡◌, Bool, true, false, All, ℕ, Option, Some, None, List, [], Result, Ok, Err, Contains, refl, sym, ap, subst, ◌∙◌, inl, inr, ◌⊎◌}
+use Rattle.std.specs.Prelude.{IfOk, IsErrOf}
 use Rattle.std.specs.declared.vec.Vec.{Vec}
 use Rattle.std.specs.declared.alloc.Global.{Global}
-use Rattle.std.proofs.lemmas.Bool.{le-ltb}
 use Rattle.hg_join.specs.Order.{IsLeastOfAll, IsDue}
 use Rattle.hg_changeset.specs.declared.node.Node.{Node}
 use Rattle.hg_changeset.specs.Contents.{Contents}
@@ -23,19 +22,21 @@ use Rattle.hg_marker.specs.declared.error.ReadError.{ReadError}
 use Rattle.hg_marker.specs.declared.error.ReadError.TheVariants as reading
 use Rattle.hg_marker.specs.Reading.{Fails}
 use Rattle.hg_message.specs.declared.error.MessageFault.{MessageFault}
-use Rattle.hg_obsstore.specs.Spelling.{store_spelling}
+use Rattle.hg_marker.specs.Grammar.{IsMarker}
 use Rattle.hg_message.specs.declared.refusal.OfferRefusal.{OfferRefusal}
 use Rattle.hg_message.specs.declared.refusal.OfferRefusal.TheVariants as offer
-use Rattle.hg_message.specs.Value.{MessageValue, IsMessage, count_limit, is_too_large}
+use Rattle.hg_message.specs.Value.{MessageValue, IsMessage, is_too_large}
 use Rattle.hg_message.specs.Message.{message_at}
 use Rattle.hg_message.specs.Spelling.{IsMessageSpelling, message_spelling}
-use Rattle.hg_message.specs.Offer.{AreHeld, OfferAnswer}
+use Rattle.hg_message.specs.Offer.{AreHeld, IsOffer, OfferAnswer}
 use Rattle.hg_message.proofs.SpellingLemmas.{spelling_is_read}
 use Rattle.hg_message.proofs.ExistLemmas.{offer-exists}
+use Rattle.hg_message.proofs.OfferLemmas.{not-too-large}
+use Rattle.hg_message.proofs.WritableLemmas.{offer-read}
 use Rattle.hg_peer.specs.declared.refusal.PeerRefusal.{PeerRefusal}
 use Rattle.hg_peer.specs.declared.refusal.PeerRefusal.TheVariants.{Offer, Message, NoMemory}
 use Rattle.hg_peer.specs.Refusals.{rewrite_refusal, offer_refusal, message_refusal}
-use Rattle.hg_peer.specs.Peers.{CanBeWritten, Offers, IsAgainstOffer, IsToldOfOffer, IsMemory}
+use Rattle.hg_peer.specs.Peers.{CanBeWritten, Offers, IsAgainstOffer, IsMemory}
 
 -- ---- a replica that holds nothing says nothing
 
@@ -92,45 +93,40 @@ offered s common lent m (Ok bytes) e v h w =
     record { valid = v; held = moved.0; message = m; offered = moved.1; writable = w.0; written = w.1 }
 offered s common lent m (Err x) e v h w = tt
 
--- some offer can be written or none can
-offer-due : (s : ReplicaState) (common : Vec Node Global) → IsValid s → AreHeld (content_of s) common.items → IsDue (Offers s common) (IsAgainstOffer s common)
-offer-due s common v held f g =
-    offer-exists s common.items v (λ m o. g (Offer offer.TooLarge) (held, (m, o, λ w. f (message_spelling m) (record { valid = v; held = held; message = m; offered = o; writable = w; written = refl }))))
+-- there is an offer, and it is too large or can be written
+offer-due : (s : ReplicaState) (common : Vec Node Global) → IsValid s → All IsMarker s.markers → AreHeld (content_of s) common.items → IsDue (Offers s common) (IsAgainstOffer s common)
+offer-due s common v markers held f g = offer-exists s common.items v (λ m o. by m o (is_too_large m) refl)
+  where
+    by : (m : MessageValue) → IsOffer s common.items m → (b : Bool) → is_too_large m ≡ b → ⊥
+    by m o true e = g (Offer offer.TooLarge) (held, (m, o, e))
+    by m o false e = f (message_spelling m) (record { valid = v; held = held; message = m; offered = o; writable = (not-too-large m e, offer-read s v markers common.items m o e); written = refl })
 
-one-due : (s : ReplicaState) (common : Vec Node Global) (r : Result MessageValue OfferRefusal) → IsValid s → OfferAnswer s common.items r → IsDue (Offers s common) (IsAgainstOffer s common)
-one-due s common (Ok m) v h = offer-due s common v h.0
-one-due s common (Err (offer.UnknownCommon node)) v h = λ f g. g (Offer (offer.UnknownCommon node)) h
-one-due s common (Err offer.TooLarge) v h = offer-due s common v h.0
-one-due s common (Err offer.NoMemory) v h = offer-due s common v h
+one-due : (s : ReplicaState) (common : Vec Node Global) (r : Result MessageValue OfferRefusal) → IsValid s → All IsMarker s.markers → OfferAnswer s common.items r → IsDue (Offers s common) (IsAgainstOffer s common)
+one-due s common (Ok m) v markers h = offer-due s common v markers h.0
+one-due s common (Err (offer.UnknownCommon node)) v markers h = λ f g. g (Offer (offer.UnknownCommon node)) h
+one-due s common (Err offer.TooLarge) v markers h = offer-due s common v markers h.0
+one-due s common (Err offer.NoMemory) v markers h = offer-due s common v markers h
 
-pub answered-due : (s : ReplicaState) (common : Vec Node Global) (lent : List Node) (r : Result MessageValue OfferRefusal) → lent ≡ common.items → IsValid s → OfferAnswer s lent r → IsDue (Offers s common) (IsAgainstOffer s common)
-answered-due s common lent r e v h = one-due s common r v (subst (λ (ns : List Node). OfferAnswer s ns r) e h)
-
--- a message isn't too large
-fits : (m : MessageValue) → IsMessage m → is_too_large m ≡ true → ⊥
-fits m h e = true≢false (sym e ∙ rw (le-ltb count_limit (length m.changesets) h.changesets, le-ltb count_limit (length m.bounds) h.bounds, le-ltb count_limit (length (store_spelling m.markers)) h.store) refl)
+pub answered-due : (s : ReplicaState) (common : Vec Node Global) (lent : List Node) (r : Result MessageValue OfferRefusal) → lent ≡ common.items → IsValid s → All IsMarker s.markers → OfferAnswer s lent r → IsDue (Offers s common) (IsAgainstOffer s common)
+answered-due s common lent r e v markers h = one-due s common r v markers (subst (λ (ns : List Node). OfferAnswer s ns r) e h)
 
 one-refused : (s : ReplicaState) (common : Vec Node Global) (r : OfferRefusal) → OfferAnswer s common.items (Err r) → IsAgainstOffer s common (offer_refusal r) ⊎ IsMemory (offer_refusal r)
 one-refused s common (offer.UnknownCommon node) h = inl h
-one-refused s common offer.TooLarge h = inl (h.0, (h.1.0, h.1.1, λ w. fits h.1.0 w.0 h.1.2))
+one-refused s common offer.TooLarge h = inl h
 one-refused s common offer.NoMemory h = inr refl
 
 pub refused-offer : (s : ReplicaState) (common : Vec Node Global) (lent : List Node) (r : OfferRefusal) (told : PeerRefusal) → lent ≡ common.items → told ≡ offer_refusal r → OfferAnswer s lent (Err r) → IsAgainstOffer s common told ⊎ IsMemory told
 refused-offer s common lent r told e is h =
     subst (λ (x : PeerRefusal). IsAgainstOffer s common x ⊎ IsMemory x) (sym is) (one-refused s common r (subst (λ (ns : List Node). OfferAnswer s ns (Err r)) e h))
 
--- what is told of an offer
-one-told : (s : ReplicaState) (common : Vec Node Global) (r : OfferRefusal) → OfferAnswer s common.items (Err r) → IsToldOfOffer s common (offer_refusal r)
-one-told s common (offer.UnknownCommon node) h = h
-one-told s common offer.TooLarge h = h
-one-told s common offer.NoMemory h = h
+-- memory is wanting only where each common node is held
+one-wants : (s : ReplicaState) (common : List Node) (r : OfferRefusal) → OfferAnswer s common (Err r) → offer_refusal r ≡ NoMemory → AreHeld (content_of s) common
+one-wants s common (offer.UnknownCommon node) h e = absurd cc
+one-wants s common offer.TooLarge h e = h.0
+one-wants s common offer.NoMemory h e = h
 
-pub refused-told : (s : ReplicaState) (common : Vec Node Global) (lent : List Node) (r : OfferRefusal) (told : PeerRefusal) → lent ≡ common.items → told ≡ offer_refusal r → OfferAnswer s lent (Err r) → IsToldOfOffer s common told
-refused-told s common lent r told e is h = subst (IsToldOfOffer s common) (sym is) (one-told s common r (subst (λ (ns : List Node). OfferAnswer s ns (Err r)) e h))
-
-pub written-told : (s : ReplicaState) (common : Vec Node Global) (lent : List Node) (m : MessageValue) (r : Result (Vec ℕ Global) PeerRefusal) → lent ≡ common.items → OfferAnswer s lent (Ok m) → IfErr r (λ x. x ≡ NoMemory) → IfErr r (IsToldOfOffer s common)
-written-told s common lent m (Ok bytes) e h k = tt
-written-told s common lent m (Err x) e h k = subst (IsToldOfOffer s common) (sym k) (subst (AreHeld (content_of s)) e h.0)
+pub refused-wants : (s : ReplicaState) (common : Vec Node Global) (lent : List Node) (r : OfferRefusal) (told : PeerRefusal) → lent ≡ common.items → told ≡ offer_refusal r → OfferAnswer s lent (Err r) → IsErrOf {T = Vec ℕ Global} (Err told) NoMemory → AreHeld (content_of s) common.items
+refused-wants s common lent r told e is h wants = subst (AreHeld (content_of s)) e (one-wants s lent r h (sym is ∙ same_error told NoMemory wants))
 
 -- what is written says the message
 pub written-well : (m : MessageValue) (bytes : List ℕ) → IsMessage m → bytes ≡ message_spelling m → IsMessageSpelling m bytes → CanBeWritten m × (bytes ≡ message_spelling m)

@@ -16,10 +16,12 @@ use Rattle.hg_message.specs.Spelling.{message_spelling}
 use Rattle.hg_message.specs.Part.{part_of}
 use Rattle.hg_message.specs.Offer.{SaysOffer, SayTheSame}
 use Rattle.hg_message.proofs.SpellingLemmas.{said_once}
+use Rattle.hg_message.specs.Value.{IsMessage}
+use Rattle.hg_message.proofs.OfferLemmas.{small-or-large}
 use Rattle.hg_message.proofs.OfferLawLemmas.{offer-once, offer-covered, offers-say_the_same, same-covered}
 use Rattle.hg_peer.specs.declared.refusal.PeerRefusal.{PeerRefusal}
 use Rattle.hg_peer.specs.declared.refusal.PeerRefusal.TheVariants.{Rewrite, Offer, Message, NoMemory}
-use Rattle.hg_peer.specs.Peers.{CanBeWritten, Offers, IsAgainstOffer, SpellsPart, IsMemory}
+use Rattle.hg_peer.specs.Peers.{Offers, IsAgainstOffer, SpellsPart, IsMemory}
 
 -- ---- one offer, and its bytes say it
 
@@ -56,7 +58,7 @@ offered_alike s t common bytes others p q v e h k x y c w =
 pub offered_not_refused : (s : ReplicaState) (common : Vec Node Global) (bytes : List ℕ) (refusal : PeerRefusal) → IsValidContent (content_of s) → Offers s common bytes → IsAgainstOffer s common refusal → ⊥
 offered_not_refused s common bytes (Rewrite refusal) v h k = k
 offered_not_refused s common bytes (Offer (UnknownCommon node)) v h k = k.2 (h.held node (Contains-from_place common.items k.0 node k.1))
-offered_not_refused s common bytes (Offer TooLarge) v h k = k.1.2 (subst CanBeWritten (offer-once s common.items h.message k.1.0 h.offered k.1.1) h.writable)
+offered_not_refused s common bytes (Offer TooLarge) v h k = small-or-large k.1.0 (subst IsMessage (offer-once s common.items h.message k.1.0 h.offered k.1.1) h.writable.0) k.1.2
 offered_not_refused s common bytes (Offer offer.NoMemory) v h k = k
 offered_not_refused s common bytes (Message fault) v h k = k
 offered_not_refused s common bytes NoMemory v h k = k

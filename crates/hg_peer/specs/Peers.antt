@@ -51,23 +51,14 @@ pub record Offers (s : ReplicaState) (common : Vec Node Global) (bytes : List �
   pub writable : CanBeWritten message
   pub written : bytes ≡ message_spelling message
 
--- the first of the common nodes that isn't held; or the offer above them can't be written
+-- the first of the common nodes that isn't held; or the offer above them is too large, by its numbers
 abbrev pub IsAgainstOffer : ReplicaState → Vec Node Global → PeerRefusal → Type 0
 IsAgainstOffer s common (Rewrite refusal) = ⊥
 IsAgainstOffer s common (Offer (UnknownCommon node)) = IsFirstUnknown (content_of s) common.items node
-IsAgainstOffer s common (Offer TooLarge) = AreHeld (content_of s) common.items × ((m : MessageValue) × IsOffer s common.items m × ¬ (CanBeWritten m))
+IsAgainstOffer s common (Offer TooLarge) = AreHeld (content_of s) common.items × ((m : MessageValue) × IsOffer s common.items m × (is_too_large m ≡ true))
 IsAgainstOffer s common (Offer offer.NoMemory) = ⊥
 IsAgainstOffer s common (Message fault) = ⊥
 IsAgainstOffer s common NoMemory = ⊥
-
--- the same, by the numbers that make an offer too large; and memory is wanting only where each common node is held
-abbrev pub IsToldOfOffer : ReplicaState → Vec Node Global → PeerRefusal → Type 0
-IsToldOfOffer s common (Rewrite refusal) = ⊥
-IsToldOfOffer s common (Offer (UnknownCommon node)) = IsFirstUnknown (content_of s) common.items node
-IsToldOfOffer s common (Offer TooLarge) = AreHeld (content_of s) common.items × ((m : MessageValue) × IsOffer s common.items m × (is_too_large m ≡ true))
-IsToldOfOffer s common (Offer offer.NoMemory) = ⊥
-IsToldOfOffer s common (Message fault) = ⊥
-IsToldOfOffer s common NoMemory = AreHeld (content_of s) common.items
 
 -- ---- bytes
 

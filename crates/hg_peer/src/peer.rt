@@ -10,10 +10,11 @@ ghost use Rattle.hg_replica.specs.Content.{content_of, ContentAdmits};
 ghost use Rattle.hg_rewrite.specs.Memory.{MayWantMemory};
 ghost use Rattle.hg_message.specs.Value.{MessageValue};
 ghost use Rattle.hg_message.specs.Message.{message_at};
+ghost use Rattle.hg_message.specs.Offer.{AreHeld};
 ghost use Rattle.hg_message.specs.Part.{part_of as message_part};
 ghost use Rattle.hg_message.specs.Spelling.{message_spelling};
 ghost use Rattle.hg_peer.specs.declared.refusal.PeerRefusal.TheVariants.{NoMemory as OutOfMemory};
-ghost use Rattle.hg_peer.specs.Peers.{Decides as DecidesPart, IsAgainstOperation, Offers as OffersBytes, IsAgainstOffer, SpellsPart, IsAgainstBytes as AgainstBytes, IsMemory, CanBeWritten, IsToldOfOffer};
+ghost use Rattle.hg_peer.specs.Peers.{Decides as DecidesPart, IsAgainstOperation, Offers as OffersBytes, IsAgainstOffer, SpellsPart, IsAgainstBytes as AgainstBytes, IsMemory, CanBeWritten};
 ghost use Rattle.hg_peer.specs.DecisionLaws.{decided_once, decided_not_refused, memory_not_against_operation};
 ghost use Rattle.hg_peer.specs.OfferLaws.{offered_once, offered_not_refused, offered_spelled, offered_covered, offered_alike, memory_not_against_offer};
 ghost use Rattle.hg_peer.specs.BytesLaws.{spelled_once, spelled_not_refused, memory_not_against_bytes};
@@ -221,11 +222,12 @@ impl Actor for Peer {
         ensures err { IfErr result (λ refusal. IsAgainstOffer self.now common.now refusal ⊎ IsMemory refusal) }
         ensures due { IsDue (OffersBytes self.now common.now) (IsAgainstOffer self.now common.now) }
 
-        // A common node that isn't held is told whatever memory there is, and no offer is too large but by its numbers.
-        ensures exact { IfErr result (IsToldOfOffer self.now common.now) }
+        // Want of memory is told only where each common node is held.
+        ensures memory { IsErrOf result OutOfMemory → AreHeld (content_of self.now) common.now.items }
     {
-        // It says that the replica is in a valid state.
+        // They say that the replica is in a valid state, and that each of its markers can be written.
         let _graph = self.replica.graph();
+        let _markers = self.replica.store().markers();
         match offer(alloc, &self.replica, common) {
             Ok(message) => written(&message),
             Err(refusal) => Err(refusal.into()),
