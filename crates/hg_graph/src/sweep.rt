@@ -3,7 +3,7 @@
 //! Each place has a mark. Since a parent's place is before its child's, a walk down the places that marks the parents of each marked changeset has marked, when it comes to a changeset, all that reach it. Where only the changesets from a place on are asked for, the marks begin there, and so does the walk end there: whatever lies on the way to a changeset stands after it.
 ghost use Rattle.std.specs.Prelude.{◌≡◌, ◌↔◌, ℕ, ◌+◌, ◌<◌, ◌≤◌, Some, length, Contains, IfOk};
 ghost use Rattle.hg_changeset.specs.declared.node.Node.{Node};
-ghost use Rattle.hg_graph.specs.Graph.{IsGraph, IsAncestorOfOne, Selects};
+ghost use Rattle.hg_graph.specs.Graph.{IsGraph, IsAncestorOfOne, Reaches, Selects};
 ghost use Rattle.hg_graph.specs.Places.{IsAt, IsParentPlace};
 ghost use Rattle.hg_graph.specs.Marks.{IsMarked, IsMarkedNode, MarksAlso, MarksAncestors};
 
