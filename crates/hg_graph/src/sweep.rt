@@ -1,7 +1,7 @@
 //! Ancestors, by one sweep from the last place to the first.
 //!
 //! Each place has a mark. Since a parent's place is before its child's, a walk down the places that marks the parents of each marked changeset has marked, when it comes to a changeset, all that reach it. Where only the changesets from a place on are asked for, the marks begin there, and so does the walk end there: whatever lies on the way to a changeset stands after it.
-ghost use Rattle.std.specs.Prelude.{◌≡◌, ◌↔◌, ℕ, ◌+◌, ◌<◌, ◌≤◌, Some, length, Contains, IfOk};
+ghost use Rattle.std.specs.Prelude.{◌≡◌, ◌↔◌, ℕ, ◌+◌, ◌<◌, ◌≤◌, Some, length, Contains, IsTrue, IfOk};
 ghost use Rattle.hg_changeset.specs.declared.node.Node.{Node};
 ghost use Rattle.hg_graph.specs.Graph.{IsGraph, IsAncestorOfOne, Reaches, Selects};
 ghost use Rattle.hg_graph.specs.Places.{IsAt, IsParentPlace};
@@ -85,6 +85,17 @@ impl Graph {
         let parents = self.parent_places(place);
         mark(parents.first, low, marks);
         mark(parents.second, low, marks);
+    }
+
+    /// Whether the changeset with this id is held and marked. There is a mark for each place.
+    pub fn is_marked(&self, marks: &[bool], node: Node) -> bool
+        requires { length marks.now ≡ length self.now }
+        ensures { IsTrue result ↔ IsMarkedNode self.now marks.now node }
+    {
+        match self.place(node) {
+            Some(place) => marks[place],
+            None => false,
+        }
     }
 
     /// The nodes at the marked places, in the graph's order. There is a mark for each place.
