@@ -3,3 +3,4 @@ pub mod AgreeLemmas
 pub mod SecretLemmas
 pub mod SmallestLemmas
 pub mod FormulaLemmas
+pub mod TakenLemmas

@@ -6,3 +6,4 @@ pub mod BytesLaws
 pub mod Words
 pub mod Agreement
 pub mod Secrets
+pub mod Taken

@@ -35,7 +35,7 @@ pub offered_spelled : (s : ReplicaState) (common : Vec Node Global) (bytes : Lis
 offered_spelled s common bytes v h = (part_of h.message, (h.message, bytes_say_offer s common bytes h, refl))
 
 -- the part that is read of an offer's bytes is that of the offer
-part_offered : (s : ReplicaState) (common : Vec Node Global) (bytes : List ℕ) (p : PartValue) (h : Offers s common bytes) → SpellsPart bytes p → part_of h.message ≡ p
+pub part_offered : (s : ReplicaState) (common : Vec Node Global) (bytes : List ℕ) (p : PartValue) (h : Offers s common bytes) → SpellsPart bytes p → part_of h.message ≡ p
 part_offered s common bytes p h k = ap part_of (said_once h.message k.0 bytes (bytes_say_offer s common bytes h) k.1) ∙ sym k.2
 
 -- ---- no more than the state says, and the same for one content

@@ -10,13 +10,17 @@ ghost use Rattle.hg_replica.specs.Least.{PartValue, AreAdmitted, IsLeast};
 ghost use Rattle.hg_replica.specs.Change.{ChangeValue};
 ghost use Rattle.hg_replica.specs.Content.{content_of, ContentCovers};
 ghost use Rattle.hg_rewrite.specs.declared.op.Op.{Op};
-ghost use Rattle.hg_world.specs.Runs.{Snapshot, AllEmpty, AllValid, accepted_at, Runs};
+ghost use Rattle.hg_message.specs.Taken.{HoldsServed};
+ghost use Rattle.hg_world.specs.Runs.{Snapshot, AllEmpty, AllValid, accepted_at, Runs, Accepts, Refuses, IsMemory};
 ghost use Rattle.hg_world.specs.declared.event.Event.{Event};
+ghost use Rattle.hg_world.specs.declared.event.Event.TheVariants.{Take};
+ghost use Rattle.hg_world.specs.declared.event.EventRefusal.{EventRefusal};
 ghost use Rattle.hg_world.specs.declared.event.Answer.{Answer};
 ghost use Rattle.hg_peer.specs.declared.refusal.PeerRefusal.{PeerRefusal};
 ghost use Rattle.hg_peer.specs.Words.{peer_words, peer_state};
 ghost use Rattle.hg_peer.specs.Agreement.{Agree};
 ghost use Rattle.hg_peer.specs.Secrets.{IsMadeWithoutSecrets};
+ghost use Rattle.hg_peer.specs.Taken.{IsAboveHeld};
 
 use crate::peer::Peer;
 use hg_world::{covering_nodes_agree, messages_are_offers, states_are_least};
@@ -46,4 +50,14 @@ pub fn no_message_holds_a_secret()
     ensures pool { (old new : Snapshot ReplicaState) (events : List (Event Op (Vec Node Global))) (answers : List (Answer ChangeValue PeerRefusal Fault)) (parts : List (Option PartValue)) (number : ℕ) (bytes : List ℕ) → old.messages ≡ [] → Runs peer_state peer_words old events answers parts new → slice_get new.messages number ≡ Some bytes → IsMadeWithoutSecrets old events answers parts number bytes }
 {
     messages_are_offers::<Peer>();
+}
+
+/// A message that was offered above common nodes which a peer holds is taken by it then and at any later time, unless memory
+/// is wanting: it is refused for nothing else, collisions aside. Afterwards the peer holds all that was served at the
+/// message's maker when it was offered, at phases no higher, and the markers relevant to it.
+pub fn messages_above_what_is_held_are_taken()
+    ensures refused { (now new : Snapshot ReplicaState) (place number : ℕ) (refusal : EventRefusal PeerRefusal Fault) → IsAboveHeld now place number → Refuses peer_state peer_words now (Take place number) refusal new → IsMemory peer_state peer_words refusal }
+    ensures taken { (now new : Snapshot ReplicaState) (place number : ℕ) (change : ChangeValue) (part : PartValue) → (h : IsAboveHeld now place number) → Accepts peer_state peer_words now (Take place number) change part new → (next : ReplicaState) × (slice_get new.nodes place ≡ Some next) × HoldsServed (content_of h.maker) (content_of next) }
+{
+    states_are_least::<Peer>();
 }

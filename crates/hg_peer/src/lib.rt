@@ -41,6 +41,9 @@ mod laws;
 mod peer;
 mod refusal;
 
-pub use laws::{covering_peers_agree, no_message_holds_a_secret, peers_are_least};
+pub use laws::{
+    covering_peers_agree, messages_above_what_is_held_are_taken, no_message_holds_a_secret,
+    peers_are_least,
+};
 pub use peer::Peer;
 pub use refusal::PeerRefusal;
