@@ -52,6 +52,19 @@ fn ancestors_of_the_last_of_a_chain(rt: HostRuntime) {
 }
 
 #[test]
+fn marks_of_ancestors_in_a_chain(rt: HostRuntime) {
+    let alloc = rt.alloc();
+    let mut graph = Graph::new(alloc);
+    let [a, b, _] = add_chain(&rt, &mut graph, alloc);
+    let marks = graph.ancestor_marks(&[b]).expect(&rt, "memory");
+    assert!(rt; marks.as_slice() == [true, true, false].as_slice());
+    let mut tip = [false, true, false];
+    graph.add_ancestors(&mut tip);
+    let found = graph.marked(&tip).expect(&rt, "memory");
+    assert!(rt; found.as_slice() == [a, b].as_slice());
+}
+
+#[test]
 fn ancestors_through_a_merge(rt: HostRuntime) {
     let alloc = rt.alloc();
     let mut graph = Graph::new(alloc);

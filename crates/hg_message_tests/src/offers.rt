@@ -1,7 +1,7 @@
 //! Offers of a few changesets: what is in them, in which order, and why there is none.
 use hg_changeset::{Changeset, Node};
 use hg_marker::{Marker, Metadata};
-use hg_message::{Message, OfferRefusal, offer};
+use hg_message::{Message, OfferRefusal, Outgoing, offer};
 use hg_phases::Phase;
 use hg_replica::{Part, Replica};
 use std::alloc::Global;
@@ -122,6 +122,17 @@ fn leaves_out_common_changesets_and_tells_their_phases(rt: HostRuntime) {
     let message = offer(alloc, &replica, &[nodes.b]).expect(&rt, "an offer");
     assert!(rt; are(&message, &[nodes.c]));
     assert!(rt; message.bounds().len() == 3 && message.markers().len() == 2);
+}
+
+#[test]
+fn finds_what_goes_out_before_it_is_copied(rt: HostRuntime) {
+    let alloc = rt.alloc();
+    let mut replica = Replica::new(alloc);
+    let nodes = scene(alloc, &mut replica).expect(&rt, "memory");
+    let found = Outgoing::above(alloc, &replica, &[nodes.b]).expect(&rt, "memory");
+    assert!(rt; !found.is_too_large());
+    let message = found.message().expect(&rt, "memory");
+    assert!(rt; are(&message, &[nodes.c]) && message.markers().len() == 2);
 }
 
 #[test]

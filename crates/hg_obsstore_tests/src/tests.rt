@@ -3,8 +3,8 @@ use hg_changeset::Node;
 use hg_join::{JoinState, NoMemory};
 use hg_marker::{Marker, MarkerFault, Metadata, ReadError};
 use hg_obsstore::{
-    Added, Store, StoreFault, check_markers, markers_bytes, markers_len, read_markers, read_store,
-    store_bytes, write_markers,
+    Added, Store, StoreFault, check_markers, markers_bytes, markers_len, markers_len_at,
+    read_markers, read_store, store_bytes, write_markers,
 };
 use std::alloc::{AllocError, Global};
 use std::process::Abort;
@@ -160,6 +160,7 @@ fn lists_two_equal_parents_once(rt: HostRuntime) {
     add(&rt, &mut store, prune(alloc));
     assert!(rt; store.with_child(NEW) == [1usize].as_slice());
     assert!(rt; store.with_predecessor(OLD) == [0usize, 1].as_slice());
+    assert!(rt; markers_len_at(&store, &[0]) == Some(47) && markers_len_at(&store, &[]) == Some(1));
     let pruned = prune(alloc).expect(&rt, "a marker");
     assert!(rt; store.contains(&pruned) && store.get(1) == Some(&pruned));
     store.truncate(1);

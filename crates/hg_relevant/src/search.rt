@@ -120,7 +120,7 @@ impl Search {
 fn set_of(alloc: Global, nodes: &[Node]) -> Result<IndexSet<Node>, AllocError>
     ensures { IfOk result (λ set. (n : Node) → Contains set.keys n ↔ Contains nodes.now n) }
 {
-    let mut set = IndexSet::new(alloc);
+    let mut set = IndexSet::with_capacity(alloc, nodes.len())?;
     for node in nodes {
         set.insert(*node)?;
     }
