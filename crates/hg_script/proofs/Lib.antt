@@ -1,2 +1,5 @@
-mod InputLemmas
-mod WordLemmas
+pub mod InputLemmas
+pub mod LineLemmas
+pub mod NameLemmas
+pub mod ScriptLemmas
+pub mod WordLemmas

@@ -1,20 +1,10 @@
--- A line, its words, and which of them are names.
-use Rattle.std.specs.Prelude.{ℕ, ◌-◌, ◌==◌, List, [], ◌∷◌, length, take, drop, filter, Bool, not, ◌||◌, ◌&&◌, nat_le, if◌then◌else◌, nat_eq, codes}
-use Rattle.std.specs.List.{list_all, slice_split}
+-- The words of a line, and which of them are names.
+use Rattle.std.specs.Prelude.{ℕ, ◌==◌, List, [], ◌∷◌, length, filter, Bool, false, not, ◌||◌, ◌&&◌, nat_le, if◌then◌else◌, Option, codes}
+use Rattle.std.specs.List.{list_all, slice_split, find}
+use Rattle.std.specs.Option.{option_map_or}
+use Rattle.std.specs.Str.{bytes_eq}
 use Rattle.std.specs.Char.{is_ascii_alphanumeric}
 use Rattle.hg_script.specs.Limits.{name_limit}
-use lib.Pointwise.{pointwise}
-
--- the text ends with these bytes
-abbrev pub ends_with : List ℕ → List ℕ → Bool
-ends_with end s = pointwise nat_eq (drop (length s - length end) s) end
-
--- a line without its LF, and without one CR before that
-abbrev pub line_of : List ℕ → List ℕ
-line_of s =
-    if ends_with (codes "\r\n") s then take (length s - 2) s
-    else if ends_with (codes "\n") s then take (length s - 1) s
-    else s
 
 -- what stands between spaces
 abbrev pub spaced : List ℕ → List (List ℕ)
@@ -24,6 +14,14 @@ spaced line = filter (λ word. not (length word == 0)) (slice_split (λ b. b == 
 abbrev pub words_of : List ℕ → List (List ℕ)
 words_of [] = []
 words_of (b ∷ rest) = if b == 35 then [] else spaced (b ∷ rest)
+
+-- the first of what stands between spaces
+abbrev pub first_word : List ℕ → Option (List ℕ)
+first_word line = find (λ word. not (length word == 0)) (slice_split (λ b. b == 32) line)
+
+-- the line's first word is `node`
+abbrev pub has_node : List ℕ → Bool
+has_node line = option_map_or (λ word. bytes_eq word (codes "node")) (first_word line) false
 
 -- letters, digits, low line, full stop and hyphen
 abbrev pub is_name_byte : ℕ → Bool

@@ -1,25 +1,38 @@
-//! The tables of a script: replicas and messages by name, ids by label.
+//! What a script has made so far: a world of peers, and the names of these, of changesets and of messages.
+ghost use Rattle.std.specs.Prelude.{◌≡◌, ◌∷◌, [], ℕ, List, Some, map, IfOk, IfErr, OnOk, slice_get};
+ghost use Rattle.hg_replica.specs.State.{ReplicaState};
+ghost use Rattle.hg_replica.specs.Least.{PartValue};
+ghost use Rattle.hg_peer.specs.Peers.{Decides};
+ghost use Rattle.hg_script.specs.Events.{HasTaken, IsFaultAt, IsLeftBy};
+ghost use Rattle.hg_script.specs.Names.{value_of};
+ghost use Rattle.hg_script.specs.Scripts.{AreLabelled, IsDone, IsKept, IsNewFleet, bound_to, places};
+
 use crate::command::Command;
+use crate::event::{PeerAnswer, run_event};
 use crate::fault::{LineFault, RunFault};
+use crate::names::{bind, bound};
 use crate::operation::{Names, Operation};
-use crate::output::{print_line, print_refusal};
+use crate::output::print_line;
 use crate::report::print_report;
 use hg_changeset::{Changeset, Node};
-use hg_join::JoinState;
-use hg_marker::ReadError;
-use hg_message::{Message, offer};
+use hg_join::{JoinState, NoMemory};
+use hg_peer::Peer;
 use hg_replica::{Part, Replica};
-use hg_rewrite::decide;
-use std::alloc::{AllocError, Global};
+use hg_rewrite::{Op, Refusal, decide};
+use hg_world::{Answer, Event, World};
+use std::alloc::Global;
 use std::collections::BTreeMap;
 use std::io::Write;
 
 /// What a script has made so far.
 pub struct Fleet {
     alloc: Global,
-    replicas: BTreeMap<Vec<u8>, Replica>,
+    world: World<Peer>,
+    // The place of each node in the world.
+    nodes: BTreeMap<Vec<u8>, usize>,
     labels: BTreeMap<Vec<u8>, Node>,
-    messages: BTreeMap<Vec<u8>, Vec<u8>>,
+    // The number of each message in the world's pool.
+    messages: BTreeMap<Vec<u8>, usize>,
 }
 
 // Whoever owns a fleet calls this once, and is proved without a look at each collection in it.
@@ -27,7 +40,8 @@ impl Drop for Fleet {
     fn drop(self) {
         let Fleet {
             alloc: _,
-            replicas: _,
+            world: _,
+            nodes: _,
             labels: _,
             messages: _,
         } = self;
@@ -35,13 +49,31 @@ impl Drop for Fleet {
 }
 
 impl Fleet {
-    pub fn new(alloc: Global) -> Fleet {
-        Fleet {
+    /// A new world with a place for so many nodes, none of which has a name yet.
+    pub fn new(alloc: Global, count: usize) -> Result<Fleet, NoMemory>
+        ensures { IfOk result (IsNewFleet count) }
+    {
+        Ok(Fleet {
             alloc,
-            replicas: BTreeMap::new(alloc),
+            world: World::new(alloc, count)?,
+            nodes: BTreeMap::new(alloc),
             labels: BTreeMap::new(alloc),
             messages: BTreeMap::new(alloc),
-        }
+        })
+    }
+
+    /// The world, as the script leaves it.
+    pub fn into_world(self) -> World<Peer>
+        ensures { result ≡ self.world }
+    {
+        let Fleet {
+            alloc: _,
+            world,
+            nodes: _,
+            labels: _,
+            messages: _,
+        } = self;
+        world
     }
 
     /// Does the command of the line with this number.
@@ -50,9 +82,12 @@ impl Fleet {
         number: usize,
         command: Command<'_>,
         writer: &mut W,
-    ) -> Result<(), RunFault> {
+    ) -> Result<(), RunFault>
+        ensures ok { OnOk result (IsDone self.old command.entry self.new) }
+        ensures err { IfErr result (λ fault. IsLeftBy number self.old.world fault self.new.world) }
+    {
         match command {
-            Command::Node(at) => self.add_replica(number, at),
+            Command::Node(at) => self.add_node(number, at),
             Command::Operation(at, operation) => self.operate(number, at, operation, writer),
             Command::Offer(at, message, labels) => {
                 self.keep_offer(number, at, message, labels, writer)
@@ -64,16 +99,67 @@ impl Fleet {
         }
     }
 
-    fn add_replica(&mut self, number: usize, at: &[u8]) -> Result<(), RunFault> {
-        if self.replicas.contains_key(at) {
+    // A new node has the next place.
+    fn add_node(&mut self, number: usize, at: &[u8]) -> Result<(), RunFault>
+        ensures ok { OnOk result (IsDone self.old (Command.Node at.entry) self.new) }
+        ensures err { IfErr result (λ fault. IsLeftBy number self.old.world fault self.new.world) }
+    {
+        let place = self.nodes.len();
+        if bound(&self.nodes, at).is_some() {
             return Err(RunFault::Line(number, LineFault::NameTaken));
         }
-        let name = Vec::from_slice(self.alloc, at)?;
-        self.replicas.insert(name, Replica::new(self.alloc))?;
+        bind(self.alloc, &mut self.nodes, at, place)?;
         Ok(())
     }
 
-    // Keeps what a replica offers under the name of a message. A refused offer binds no name.
+    // An operation is decided before it is done, so that its new labels are looked at first where it isn't refused. A
+    // refusal is printed, and the script goes on.
+    fn operate<W: Write>(
+        &mut self,
+        number: usize,
+        at: &[u8],
+        operation: Operation<'_>,
+        writer: &mut W,
+    ) -> Result<(), RunFault>
+        ensures ok { OnOk result (IsDone self.old (Command.Operation at.entry operation.entry) self.new) }
+        ensures err { IfErr result (λ fault. IsLeftBy number self.old.world fault self.new.world) }
+    {
+        let names = Names {
+            alloc: self.alloc,
+            number,
+            labels: &self.labels,
+        };
+        let op = operation.resolve(&names)?;
+        let place = self.place(number, at)?;
+        let labels = operation.new_labels(self.alloc)?;
+        let changesets = self.decided(number, place, &op, &labels)?;
+        let event = Event::Local { at: place, op };
+        let answer = run_event(self.alloc, number, &mut self.world, event, writer)?;
+        label(self.alloc, &mut self.labels, &labels, &changesets, &answer)?;
+        Ok(())
+    }
+
+    // The changesets that the operation is to make, which may have these labels; none where it is refused.
+    fn decided(
+        &self,
+        number: usize,
+        place: usize,
+        op: &Op,
+        labels: &[&[u8]],
+    ) -> Result<Vec<Changeset>, RunFault>
+        ensures made { IfOk result (λ changesets. (s : ReplicaState) (part : PartValue) → slice_get self.now.world.nodes place ≡ Some s → Decides s op.now part → changesets.items ≡ part.history.changesets) }
+        ensures err { IfErr result (IsFaultAt number) }
+    {
+        let replica = self.replica(number, place)?;
+        let changesets = made_by(self.alloc, replica, op)?;
+        if !may_bind(&self.labels, labels, &changesets) {
+            return Err(RunFault::Line(number, LineFault::NameTaken));
+        }
+        Ok(changesets)
+    }
+
+    // Keeps what a node offers above the changesets of these labels under the name of a message. A refused offer binds
+    // no name.
     fn keep_offer<W: Write>(
         &mut self,
         number: usize,
@@ -81,21 +167,26 @@ impl Fleet {
         message: &[u8],
         labels: &[&[u8]],
         writer: &mut W,
-    ) -> Result<(), RunFault> {
+    ) -> Result<(), RunFault>
+        ensures ok { OnOk result (IsDone self.old (Command.Offer at.entry message.entry labels.entry) self.new) }
+        ensures err { IfErr result (λ fault. IsLeftBy number self.old.world fault self.new.world) }
+    {
         let names = Names {
             alloc: self.alloc,
             number,
             labels: &self.labels,
         };
         let common = names.nodes(labels)?;
-        let replica = self.replica(number, at)?;
-        if self.messages.contains_key(message) {
+        let place = self.place(number, at)?;
+        if bound(&self.messages, message).is_some() {
             return Err(RunFault::Line(number, LineFault::NameTaken));
         }
-        if let Some(bytes) = offer_of(self.alloc, number, replica, &common, writer)? {
-            let name = Vec::from_slice(self.alloc, message)?;
-            self.messages.insert(name, bytes)?;
-        }
+        let event = Event::Offer {
+            at: place,
+            ask: common,
+        };
+        let answer = run_event(self.alloc, number, &mut self.world, event, writer)?;
+        keep(self.alloc, &mut self.messages, message, &answer)?;
         Ok(())
     }
 
@@ -105,121 +196,41 @@ impl Fleet {
         at: &[u8],
         message: &[u8],
         writer: &mut W,
-    ) -> Result<(), RunFault> {
-        match (self.replicas.get_mut(at), self.messages.get(message)) {
-            (Some(replica), Some(bytes)) => take_in(self.alloc, number, replica, bytes, writer),
-            _ => Err(RunFault::Line(number, LineFault::UnknownName)),
-        }
+    ) -> Result<(), RunFault>
+        ensures ok { OnOk result (IsDone self.old (Command.Take at.entry message.entry) self.new) }
+        ensures err { IfErr result (λ fault. IsLeftBy number self.old.world fault self.new.world) }
+    {
+        let at = self.place(number, at)?;
+        let message = match bound(&self.messages, message) {
+            Some(message) => message,
+            None => return Err(RunFault::Line(number, LineFault::UnknownName)),
+        };
+        let event = Event::Take { at, message };
+        run_event(self.alloc, number, &mut self.world, event, writer)?;
+        Ok(())
     }
 
-    // One replica takes in what the other offers.
+    // One node takes in what the other offers above the changesets that they have in common.
     fn pull<W: Write>(
         &mut self,
         number: usize,
         to: &[u8],
         from: &[u8],
         writer: &mut W,
-    ) -> Result<(), RunFault> {
-        let giver = self.replica(number, from)?;
-        self.replica(number, to)?;
-        let offered = offer_of(self.alloc, number, giver, &[], writer)?;
-        match (self.replicas.get_mut(to), offered) {
-            (Some(replica), Some(bytes)) => take_in(self.alloc, number, replica, &bytes, writer),
-            _ => Ok(()),
-        }
-    }
-
-    // The operation is decided before its new labels are looked at: a refusal is printed, and the script goes on.
-    fn operate<W: Write>(
-        &mut self,
-        number: usize,
-        at: &[u8],
-        operation: Operation<'_>,
-        writer: &mut W,
-    ) -> Result<(), RunFault> {
-        let names = Names {
-            alloc: self.alloc,
-            number,
-            labels: &self.labels,
+    ) -> Result<(), RunFault>
+        ensures ok { OnOk result (IsDone self.old (Command.Pull to.entry from.entry) self.new) }
+        ensures err { IfErr result (λ fault. IsLeftBy number self.old.world fault self.new.world) }
+    {
+        let giver = self.place(number, from)?;
+        let taker = self.place(number, to)?;
+        let common = Vec::new(self.alloc);
+        let offer = Event::Offer {
+            at: giver,
+            ask: common,
         };
-        let asked = operation.resolve(&names)?;
-        let replica = self.replica(number, at)?;
-        match decide(self.alloc, replica, &asked) {
-            Ok(part) => {
-                let labels = operation.new_labels(self.alloc)?;
-                self.accept(number, at, &labels, &part, writer)
-            }
-            Err(refusal) => print_refusal(
-                self.alloc,
-                writer,
-                number,
-                "rewrite",
-                refusal.number(),
-                &refusal,
-            ),
-        }
-    }
-
-    // Takes in the part of an operation, and binds its new labels.
-    fn accept<W: Write>(
-        &mut self,
-        number: usize,
-        at: &[u8],
-        labels: &[&[u8]],
-        part: &Part,
-        writer: &mut W,
-    ) -> Result<(), RunFault> {
-        if !self.may_bind(labels, &part.changesets) {
-            return Err(RunFault::Line(number, LineFault::NameTaken));
-        }
-        let replica = match self.replicas.get_mut(at) {
-            Some(replica) => replica,
-            None => return Err(RunFault::Line(number, LineFault::UnknownName)),
-        };
-        if absorb(self.alloc, number, replica, part, writer)? {
-            self.bind(labels, &part.changesets)?;
-        }
+        let answer = run_event(self.alloc, number, &mut self.world, offer, writer)?;
+        take_offered(self.alloc, number, &mut self.world, taker, &answer, writer)?;
         Ok(())
-    }
-
-    // Whether each label comes once, and names nothing yet or the changeset that it is to name. The changesets of an
-    // operation have ids of their own, so a label that comes twice would name two.
-    fn may_bind(&self, labels: &[&[u8]], changesets: &[Changeset]) -> bool {
-        for (place, changeset) in changesets.iter().enumerate() {
-            match labels.get(place) {
-                Some(label) => {
-                    if labels[..place].contains(label) || !self.may_name(*label, changeset.node()) {
-                        return false;
-                    }
-                }
-                None => return false,
-            }
-        }
-        true
-    }
-
-    // Whether the label names nothing yet, or this node.
-    fn may_name(&self, label: &[u8], node: Node) -> bool {
-        match self.labels.get(label) {
-            Some(bound) => *bound == node,
-            None => true,
-        }
-    }
-
-    // Binds each label to the changeset at its place.
-    fn bind(&mut self, labels: &[&[u8]], changesets: &[Changeset]) -> Result<(), RunFault> {
-        for (label, changeset) in labels.iter().zip(changesets) {
-            let name = Vec::from_slice(self.alloc, *label)?;
-            self.labels.insert(name, changeset.node())?;
-        }
-        Ok(())
-    }
-
-    fn replica(&self, number: usize, at: &[u8]) -> Result<&Replica, RunFault> {
-        match self.replicas.get(at) {
-            Some(replica) => Ok(replica),
-            None => Err(RunFault::Line(number, LineFault::UnknownName)),
-        }
     }
 
     // Whether two replicas are in equal states: each is below the other.
@@ -229,9 +240,11 @@ impl Fleet {
         one: &[u8],
         other: &[u8],
         writer: &mut W,
-    ) -> Result<(), RunFault> {
-        let first = self.replica(number, one)?;
-        let second = self.replica(number, other)?;
+    ) -> Result<(), RunFault>
+        ensures { IfErr result (IsFaultAt number) }
+    {
+        let first = self.replica(number, self.place(number, one)?)?;
+        let second = self.replica(number, self.place(number, other)?)?;
         let answer: &[u8] = if first.below(second)? && second.below(first)? {
             b": yes"
         } else {
@@ -246,63 +259,159 @@ impl Fleet {
         print_line(writer, &mut line)
     }
 
-    fn report<W: Write>(&self, number: usize, at: &[u8], writer: &mut W) -> Result<(), RunFault> {
-        let replica = self.replica(number, at)?;
+    fn report<W: Write>(&self, number: usize, at: &[u8], writer: &mut W) -> Result<(), RunFault>
+        ensures { IfErr result (IsFaultAt number) }
+    {
+        let replica = self.replica(number, self.place(number, at)?)?;
         print_report(self.alloc, at, replica, &self.labels, writer)
     }
-}
 
-// The bytes of what a replica offers above the common nodes. A refusal is printed.
-fn offer_of<W: Write>(
-    alloc: Global,
-    number: usize,
-    replica: &Replica,
-    common: &[Node],
-    writer: &mut W,
-) -> Result<Option<Vec<u8>>, RunFault> {
-    match offer(alloc, replica, common) {
-        Ok(message) => Ok(Some(message.to_bytes()?)),
-        Err(refusal) => {
-            print_refusal(alloc, writer, number, "offer", refusal.number(), &refusal)?;
-            Ok(None)
+    // The place of the node with this name.
+    fn place(&self, number: usize, at: &[u8]) -> Result<usize, RunFault>
+        ensures ok { IfOk result (λ place. places self.now at.now ≡ Some place) }
+        ensures err { IfErr result (IsFaultAt number) }
+    {
+        match bound(&self.nodes, at) {
+            Some(place) => Ok(place),
+            None => Err(RunFault::Line(number, LineFault::UnknownName)),
+        }
+    }
+
+    // The replica of the node at a place.
+    fn replica(&self, number: usize, place: usize) -> Result<&Replica, RunFault>
+        ensures ok { IfOk result (λ replica. slice_get self.now.world.nodes place ≡ Some replica.now) }
+        ensures err { IfErr result (IsFaultAt number) }
+    {
+        match self.world.state(place) {
+            Some(peer) => Ok(peer.replica()),
+            None => Err(RunFault::Line(number, LineFault::UnknownName)),
         }
     }
 }
 
-// A replica takes in what the bytes say. A refusal, of the bytes or of what they say, is printed.
-fn take_in<W: Write>(
-    alloc: Global,
-    number: usize,
-    replica: &mut Replica,
-    bytes: &[u8],
-    writer: &mut W,
-) -> Result<(), RunFault> {
-    let message = match Message::from_bytes(alloc, bytes) {
-        Ok(message) => message,
-        Err(ReadError::Fault(fault)) => {
-            let its = Some(fault.number());
-            return print_refusal(alloc, writer, number, "message", its, &fault);
+// The changesets that the operation makes at the replica; none where it is refused.
+fn made_by(alloc: Global, replica: &Replica, op: &Op) -> Result<Vec<Changeset>, RunFault>
+    ensures made { IfOk result (λ changesets. (part : PartValue) → Decides replica.now op.now part → changesets.items ≡ part.history.changesets) }
+    ensures err { IfErr result (λ fault. fault ≡ RunFault.NoMemory) }
+{
+    match decide(alloc, replica, op) {
+        Ok(part) => Ok(changesets_of(part)),
+        Err(refusal) => match refusal {
+            Refusal::NoMemory => Err(RunFault::NoMemory),
+            _ => Ok(Vec::new(alloc)),
+        },
+    }
+}
+
+fn changesets_of(part: Part) -> Vec<Changeset>
+    ensures { result.items ≡ part.history.changesets }
+{
+    let Part {
+        changesets,
+        bounds: _,
+        markers: _,
+    } = part;
+    changesets
+}
+
+// Whether each label comes once, and names nothing yet or the changeset that it is to name. The changesets of an
+// operation have ids of their own, so a label that comes twice would name two.
+fn may_bind(names: &BTreeMap<Vec<u8>, Node>, labels: &[&[u8]], changesets: &[Changeset]) -> bool {
+    for (place, changeset) in changesets.iter().enumerate() {
+        match labels.get(place) {
+            Some(label) => {
+                if labels[..place].contains(label) || !may_name(names, *label, changeset.node()) {
+                    return false;
+                }
+            }
+            None => return false,
         }
-        Err(ReadError::NoMemory) => return Err(RunFault::NoMemory),
-    };
-    let part = message.into_part()?;
-    absorb(alloc, number, replica, &part, writer)?;
+    }
+    true
+}
+
+// Whether the label names nothing yet, or this node.
+fn may_name(names: &BTreeMap<Vec<u8>, Node>, label: &[u8], node: Node) -> bool {
+    match bound(names, label) {
+        Some(named) => named == node,
+        None => true,
+    }
+}
+
+// Binds each label to the changeset at its place.
+fn bind_labels(
+    alloc: Global,
+    names: &mut BTreeMap<Vec<u8>, Node>,
+    labels: &[&[u8]],
+    changesets: &[Changeset],
+) -> Result<(), RunFault>
+    ensures ok { OnOk result ((name : List ℕ) → value_of names.new name ≡ bound_to (value_of names.old) (map (λ w. w.now) labels.now) changesets.now name) }
+    ensures err { IfErr result (λ fault. fault ≡ RunFault.NoMemory) }
+{
+    for (label, changeset) in labels.iter().zip(changesets) {
+        bind(alloc, names, *label, changeset.node())?;
+    }
     Ok(())
 }
 
-// Whether a replica took the part in. A refusal is printed.
-fn absorb<W: Write>(
+// Binds each label to the changeset at its place where these were accepted.
+fn label(
+    alloc: Global,
+    names: &mut BTreeMap<Vec<u8>, Node>,
+    labels: &[&[u8]],
+    changesets: &[Changeset],
+    answer: &PeerAnswer,
+) -> Result<(), RunFault>
+    ensures ok { OnOk result (AreLabelled names.old (map (λ w. w.now) labels.now) changesets.now answer.now names.new) }
+    ensures err { IfErr result (λ fault. fault ≡ RunFault.NoMemory) }
+{
+    match answer {
+        Answer::Accepted(_) => bind_labels(alloc, names, labels, changesets),
+        Answer::Offered(_) | Answer::Refused(_) => Ok(()),
+    }
+}
+
+// Binds the name to the message that was offered, if one was.
+fn keep(
+    alloc: Global,
+    names: &mut BTreeMap<Vec<u8>, usize>,
+    name: &[u8],
+    answer: &PeerAnswer,
+) -> Result<(), RunFault>
+    ensures ok { OnOk result (IsKept names.old name.now (answer.now ∷ []) names.new) }
+    ensures err { IfErr result (λ fault. fault ≡ RunFault.NoMemory) }
+{
+    match answer {
+        Answer::Offered(number) => {
+            bind(alloc, names, name, *number)?;
+            Ok(())
+        }
+        Answer::Accepted(_) | Answer::Refused(_) => Ok(()),
+    }
+}
+
+// The node at a place takes the message that was offered, if one was.
+fn take_offered<W: Write>(
     alloc: Global,
     number: usize,
-    replica: &mut Replica,
-    part: &Part,
+    world: &mut World<Peer>,
+    at: usize,
+    answer: &PeerAnswer,
     writer: &mut W,
-) -> Result<bool, RunFault> {
-    match replica.absorb(part) {
-        Ok(_) => Ok(true),
-        Err(fault) => {
-            print_refusal(alloc, writer, number, "replica", fault.number(), &fault)?;
-            Ok(false)
+) -> Result<(), RunFault>
+    ensures ok { OnOk result (HasTaken world.old at answer.now world.new) }
+    ensures err { IfErr result (λ fault. IsLeftBy number world.old fault world.new) }
+{
+    match answer {
+        Answer::Offered(message) => {
+            let take = Event::Take {
+                at,
+                message: *message,
+            };
+            run_event(alloc, number, world, take, writer)?;
+            Ok(())
         }
+        Answer::Accepted(_) => Ok(()),
+        Answer::Refused(_) => Ok(()),
     }
 }

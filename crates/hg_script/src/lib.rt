@@ -7,11 +7,13 @@
 
 mod command;
 mod counted;
+mod event;
 mod fault;
 mod fleet;
 mod input;
 mod limits;
 mod lines;
+mod names;
 mod operation;
 mod output;
 mod reading;
@@ -22,4 +24,4 @@ mod steps;
 pub use counted::CountedRead;
 pub use fault::{LineFault, RunFault};
 pub use limits::{LINE_LIMIT, NAME_LIMIT, SCRIPT_LIMIT, limits_are_those_of_the_format};
-pub use script::{run_counted, run_script};
+pub use script::{run_counted, run_fleet, run_script};

@@ -1,8 +1,11 @@
 //! Operations of a script: by labels, and what they ask of a replica once the labels stand for ids.
-ghost use Rattle.std.specs.Prelude.{◌≡◌, IfOk};
-ghost use Rattle.hg_script.specs.Entries.{entry_of, IsPruneOf};
+ghost use Rattle.std.specs.Prelude.{◌≡◌, ◌⊎◌, map, Some, IfOk, IfErr};
+ghost use Rattle.hg_script.specs.Entries.{entry_of};
+ghost use Rattle.hg_script.specs.Events.{AreIds, AreParentIds, IsOperation, IsFaultAt, new_labels};
+ghost use Rattle.hg_script.specs.Names.{value_of};
 
 use crate::fault::{LineFault, RunFault};
+use crate::names::bound;
 use hg_changeset::{Entry, Node};
 use hg_phases::Phase;
 use hg_rewrite::Op;
@@ -56,7 +59,9 @@ pub enum Operation<'a> {
 
 impl<'a> Operation<'a> {
     /// The new labels, in the order in which the operation makes their changesets.
-    pub fn new_labels(self, alloc: Global) -> Result<Vec<&'a [u8]>, AllocError> {
+    pub fn new_labels(self, alloc: Global) -> Result<Vec<&'a [u8]>, AllocError>
+        ensures { IfOk result (λ labels. map (λ w. w.now) labels.items ≡ new_labels self.entry) }
+    {
         match self {
             Operation::Commit { new, .. }
             | Operation::Amend { new, .. }
@@ -68,41 +73,23 @@ impl<'a> Operation<'a> {
     }
 
     /// What the operation asks of a replica. All its labels but the new ones have to be bound.
-    pub fn resolve(self, names: &Names) -> Result<Op, RunFault> {
-        Ok(match self {
+    pub fn resolve(self, names: &Names) -> Result<Op, RunFault>
+        ensures ok { IfOk result (IsOperation (value_of names.now.labels.now) self.entry) }
+        ensures err { IfErr result (IsFaultAt names.now.number) }
+    {
+        match self {
             Operation::Commit {
                 new,
                 is_secret,
                 parents,
-            } => names.commit(new, is_secret, parents)?,
-            Operation::Amend { old, new } => Op::Amend {
-                node: names.node(old)?,
-                entry: names.entry(new)?,
-            },
-            Operation::Split { old, new } => Op::Split {
-                node: names.node(old)?,
-                entries: names.entries(new)?,
-            },
-            Operation::Fold { new, old } => Op::Fold {
-                nodes: names.nodes(old)?,
-                entry: names.entry(new)?,
-            },
-            Operation::Prune { old } => names.prune(names.node(old)?)?,
-            Operation::Relocate { old, new, parents } => {
-                let node = names.node(old)?;
-                let (p, q) = names.parents(parents)?;
-                Op::Relocate {
-                    node,
-                    p,
-                    q,
-                    entry: names.entry(new)?,
-                }
-            }
-            Operation::Advance { label, phase } => Op::Advance {
-                node: names.node(label)?,
-                phase,
-            },
-        })
+            } => names.commit(new, is_secret, parents),
+            Operation::Amend { old, new } => names.amend(old, new),
+            Operation::Split { old, new } => names.split(old, new),
+            Operation::Fold { new, old } => names.fold(new, old),
+            Operation::Prune { old } => names.prune(old),
+            Operation::Relocate { old, new, parents } => names.relocate(old, new, parents),
+            Operation::Advance { label, phase } => names.advance(label, phase),
+        }
     }
 }
 
@@ -117,15 +104,21 @@ pub struct Names<'a> {
 
 impl Names<'_> {
     // The id that a label names.
-    fn node(&self, label: &[u8]) -> Result<Node, RunFault> {
-        match self.labels.get(label) {
-            Some(node) => Ok(*node),
+    fn node(&self, label: &[u8]) -> Result<Node, RunFault>
+        ensures ok { IfOk result (λ node. value_of self.now.labels.now label.now ≡ Some node) }
+        ensures err { IfErr result (IsFaultAt self.now.number) }
+    {
+        match bound(self.labels, label) {
+            Some(node) => Ok(node),
             None => Err(RunFault::Line(self.number, LineFault::UnknownName)),
         }
     }
 
     // The ids that the labels of parents name, and the null id for each that is absent.
-    fn parents(&self, labels: Parents<'_>) -> Result<(Node, Node), RunFault> {
+    fn parents(&self, labels: Parents<'_>) -> Result<(Node, Node), RunFault>
+        ensures ok { IfOk result (λ ps. AreParentIds (value_of self.now.labels.now) labels.entry ps.0 ps.1) }
+        ensures err { IfErr result (IsFaultAt self.now.number) }
+    {
         match labels {
             Parents::NoParent => Ok((Node::NULL, Node::NULL)),
             Parents::One(p) => Ok((self.node(p)?, Node::NULL)),
@@ -133,7 +126,10 @@ impl Names<'_> {
         }
     }
 
-    fn commit(&self, new: &[u8], secret: bool, parents: Parents<'_>) -> Result<Op, RunFault> {
+    fn commit(&self, new: &[u8], secret: bool, parents: Parents<'_>) -> Result<Op, RunFault>
+        ensures ok { IfOk result (IsOperation (value_of self.now.labels.now) (Operation.Commit new.entry secret parents.entry)) }
+        ensures err { IfErr result (IsFaultAt self.now.number) }
+    {
         let (p, q) = self.parents(parents)?;
         Ok(Op::Commit {
             p,
@@ -143,8 +139,78 @@ impl Names<'_> {
         })
     }
 
+    fn amend(&self, old: &[u8], new: &[u8]) -> Result<Op, RunFault>
+        ensures ok { IfOk result (IsOperation (value_of self.now.labels.now) (Operation.Amend old.entry new.entry)) }
+        ensures err { IfErr result (IsFaultAt self.now.number) }
+    {
+        Ok(Op::Amend {
+            node: self.node(old)?,
+            entry: self.entry(new)?,
+        })
+    }
+
+    fn split(&self, old: &[u8], new: &[&[u8]]) -> Result<Op, RunFault>
+        ensures ok { IfOk result (IsOperation (value_of self.now.labels.now) (Operation.Split old.entry new.entry)) }
+        ensures err { IfErr result (IsFaultAt self.now.number) }
+    {
+        Ok(Op::Split {
+            node: self.node(old)?,
+            entries: self.entries(new)?,
+        })
+    }
+
+    fn fold(&self, new: &[u8], old: &[&[u8]]) -> Result<Op, RunFault>
+        ensures ok { IfOk result (IsOperation (value_of self.now.labels.now) (Operation.Fold new.entry old.entry)) }
+        ensures err { IfErr result (IsFaultAt self.now.number) }
+    {
+        Ok(Op::Fold {
+            nodes: self.nodes(old)?,
+            entry: self.entry(new)?,
+        })
+    }
+
+    // The user and the date of a prune are those of an entry.
+    fn prune(&self, old: &[u8]) -> Result<Op, RunFault>
+        ensures ok { IfOk result (IsOperation (value_of self.now.labels.now) (Operation.Prune old.entry)) }
+        ensures err { IfErr result (IsFaultAt self.now.number) }
+    {
+        Ok(Op::Prune {
+            node: self.node(old)?,
+            user: Vec::from_slice(self.alloc, USER)?,
+            secs: 0,
+            offset: 0,
+        })
+    }
+
+    fn relocate(&self, old: &[u8], new: &[u8], parents: Parents<'_>) -> Result<Op, RunFault>
+        ensures ok { IfOk result (IsOperation (value_of self.now.labels.now) (Operation.Relocate old.entry new.entry parents.entry)) }
+        ensures err { IfErr result (IsFaultAt self.now.number) }
+    {
+        let node = self.node(old)?;
+        let (p, q) = self.parents(parents)?;
+        Ok(Op::Relocate {
+            node,
+            p,
+            q,
+            entry: self.entry(new)?,
+        })
+    }
+
+    fn advance(&self, label: &[u8], phase: Phase) -> Result<Op, RunFault>
+        ensures ok { IfOk result (IsOperation (value_of self.now.labels.now) (Operation.Advance label.entry phase)) }
+        ensures err { IfErr result (IsFaultAt self.now.number) }
+    {
+        Ok(Op::Advance {
+            node: self.node(label)?,
+            phase,
+        })
+    }
+
     /// The ids that labels name.
-    pub fn nodes(&self, labels: &[&[u8]]) -> Result<Vec<Node>, RunFault> {
+    pub fn nodes(&self, labels: &[&[u8]]) -> Result<Vec<Node>, RunFault>
+        ensures ok { IfOk result (λ nodes. AreIds (value_of self.now.labels.now) labels.now nodes.items) }
+        ensures err { IfErr result (IsFaultAt self.now.number) }
+    {
         let mut nodes = Vec::new(self.alloc);
         for label in labels {
             nodes.push(self.node(*label)?)?;
@@ -165,23 +231,13 @@ impl Names<'_> {
         })
     }
 
-    fn entries(&self, labels: &[&[u8]]) -> Result<Vec<Entry>, AllocError> {
+    fn entries(&self, labels: &[&[u8]]) -> Result<Vec<Entry>, AllocError>
+        ensures { IfOk result (λ entries. entries.items ≡ map (λ w. entry_of w.now) labels.now) }
+    {
         let mut entries = Vec::new(self.alloc);
         for label in labels {
             entries.push(self.entry(*label)?)?;
         }
         Ok(entries)
-    }
-
-    // A prune of the node, which has the user and the date of an entry.
-    fn prune(&self, node: Node) -> Result<Op, AllocError>
-        ensures { IfOk result (IsPruneOf node) }
-    {
-        Ok(Op::Prune {
-            node,
-            user: Vec::from_slice(self.alloc, USER)?,
-            secs: 0,
-            offset: 0,
-        })
     }
 }

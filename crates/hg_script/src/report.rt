@@ -1,4 +1,6 @@
 //! The report of a replica: its changesets, what each is, and how many there are.
+ghost use Rattle.std.specs.Prelude.{◌≡◌, ◌⊎◌, IfErr};
+
 use crate::fault::RunFault;
 use crate::output::print_line;
 use hg_changeset::Node;
@@ -70,7 +72,9 @@ pub fn print_report<W: Write>(
     replica: &Replica,
     labels: &BTreeMap<Vec<u8>, Node>,
     writer: &mut W,
-) -> Result<(), RunFault> {
+) -> Result<(), RunFault>
+    ensures { IfErr result (λ fault. (fault ≡ RunFault.Write) ⊎ (fault ≡ RunFault.NoMemory)) }
+{
     let standing = Standing::of(alloc, replica)?;
     let mut line = Vec::new(alloc);
     line.extend_from_slice(b"report ")?;

@@ -1,13 +1,20 @@
 //! A script from its first line to its last.
-ghost use Rattle.std.specs.Prelude.{◌≡◌, ◌≤◌, ◌<◌, ◌+◌};
+ghost use Rattle.std.specs.Prelude.{◌≡◌, ◌≤◌, ◌<◌, ◌+◌, IfOk, IfSome, OnOk};
+ghost use Rattle.std.specs.Str.Lines.{lines};
+ghost use Rattle.hg_replica.specs.State.{ReplicaState};
+ghost use Rattle.hg_world.specs.Runs.{Snapshot};
+ghost use Rattle.hg_script.specs.Events.{Trace};
 ghost use Rattle.hg_script.specs.Limits.{script_limit};
+ghost use Rattle.hg_script.specs.Scripts.{DoesLine, DoesLines, IsRunOf};
 
 use crate::counted::{Counted, CountedRead};
 use crate::fault::{LineFault, RunFault};
 use crate::fleet::Fleet;
 use crate::input::read_script;
-use crate::lines::{is_short, line_of, words_of};
+use crate::lines::{count_nodes, cut_line, is_short, words_of};
 use crate::reading::read_command;
+use hg_peer::Peer;
+use hg_world::{World, runs_compose};
 use std::alloc::Global;
 use std::io::{Read, Write};
 use std::marker::Brand;
@@ -22,10 +29,26 @@ pub fn run_script<R: CountedRead, W: Write>(
     reader: &mut R,
     writer: &mut W,
 ) -> Result<(), RunFault>
+    ensures ran { OnOk result (IfSome (R.remaining reader.old) (λ text. (world : Snapshot ReplicaState) × IsRunOf text world)) }
+    ensures reads { R.reads reader.new ≤ R.reads reader.old + (script_limit + 1) }
+{
+    run_fleet(alloc, reader, writer)?;
+    Ok(())
+}
+
+/// [`run_script`], which gives the world as the script leaves it.
+///
+/// It begins as a new world, with a peer for each line whose first word is `node`.
+pub fn run_fleet<R: CountedRead, W: Write>(
+    alloc: Global,
+    reader: &mut R,
+    writer: &mut W,
+) -> Result<World<Peer>, RunFault>
+    ensures ran { IfOk result (λ world. IfSome (R.remaining reader.old) (λ text. IsRunOf text world)) }
     ensures reads { R.reads reader.new ≤ R.reads reader.old + (script_limit + 1) }
 {
     let text = read_script(alloc, reader)?;
-    run_lines(alloc, &text, writer)
+    run_text(alloc, &text, writer)
 }
 
 /// [`run_script`] of a reader that counts nothing, by a count of its own.
@@ -51,12 +74,30 @@ fn count_and_run<R: Read + Drop, W: Write, L: Ledger>(
     run_script(alloc, &mut counted, writer)
 }
 
-fn run_lines<W: Write>(alloc: Global, text: &[u8], writer: &mut W) -> Result<(), RunFault> {
-    let mut fleet = Fleet::new(alloc);
+fn run_text<W: Write>(alloc: Global, text: &[u8], writer: &mut W) -> Result<World<Peer>, RunFault>
+    ensures { IfOk result (IsRunOf text.now) }
+{
+    let mut fleet = Fleet::new(alloc, count_nodes(text))?;
+    runs_compose::<Peer>();
+    run_lines(alloc, &mut fleet, text, writer)?;
+    Ok(fleet.into_world())
+}
+
+fn run_lines<W: Write>(
+    alloc: Global,
+    fleet: &mut Fleet,
+    text: &[u8],
+    writer: &mut W,
+) -> Result<(), RunFault>
+    ensures { OnOk result ((t : Trace) × DoesLines fleet.old (lines text.now) t fleet.new) }
+{
+    let mut rest = text;
     let mut number = 0usize;
-    for piece in text.split_inclusive(|b| *b == b'\n') {
+    while !rest.is_empty() {
+        let (line, after) = cut_line(rest);
         number = number.saturating_add(1);
-        run_line(alloc, &mut fleet, number, line_of(piece), writer)?;
+        run_line(alloc, fleet, number, line, writer)?;
+        rest = after;
     }
     Ok(())
 }
@@ -67,14 +108,18 @@ fn run_line<W: Write>(
     number: usize,
     line: &[u8],
     writer: &mut W,
-) -> Result<(), RunFault> {
+) -> Result<(), RunFault>
+    ensures { OnOk result ((t : Trace) × DoesLine fleet.old line.now t fleet.new) }
+{
     if !is_short(line) {
         return Err(RunFault::Line(number, LineFault::TooLong));
     }
     let words = words_of(alloc, line)?;
-    match read_command(&words) {
-        Ok(Some(command)) => fleet.execute(number, command, writer),
-        Ok(None) => Ok(()),
-        Err(fault) => Err(RunFault::Line(number, fault)),
-    }
+    let command = match read_command(&words) {
+        Ok(Some(command)) => command,
+        Ok(None) => return Ok(()),
+        Err(fault) => return Err(RunFault::Line(number, fault)),
+    };
+    fleet.execute(number, command, writer)?;
+    Ok(())
 }

@@ -1,0 +1,86 @@
+-- Names of a script after one of them is bound, and after several are.
+use Rattle.std.proofs.Common.{◌≡◌, ℕ, List, [], ◌∷◌, Bool, true, false, cond, ◌+◌, ◌<◌, ◌++◌, ◌⊎◌, length, map, take, get_or, Option, Some, None, is_some, refl, sym, ap, subst, ◌∙◌, arith}
+use Rattle.std.specs.declared.vec.Vec.{Vec}
+use Rattle.std.specs.declared.alloc.Global.{Global}
+use Rattle.std.specs.BTreeMap.{BTreeMap, UpdatesBy}
+use Rattle.std.specs.Cmp.Lexicographic.{slice_cmp}
+use Rattle.std.specs.Map.{KeepsOthers, update}
+use Rattle.std.specs.Ordering.{is_eq, nat_cmp, eq_by_cmp}
+use Rattle.std.specs.Str.{bytes_eq}
+use Rattle.std.proofs.lemmas.Bool.{cases_Bool, cond-true, cond-false}
+use Rattle.std.proofs.lemmas.Cmp.{eq_by_cmp_equiv, nat_list_cmp_total}
+use Rattle.std.proofs.lemmas.Map.Text.{is_eq-slice_cmp}
+use Rattle.std.proofs.lemmas.Slice.Eq.{bytes_eq-Decides}
+use Rattle.std.proofs.lemmas.List.{take_more, map-append}
+use denote.Bor.{Bor}
+use mathlib.Core.Logic.{⊎_elim}
+use Rattle.hg_changeset.specs.declared.node.Node.{Node}
+use Rattle.hg_changeset.specs.Changeset.{node_of}
+use Rattle.hg_changeset.specs.Contents.{Contents}
+use Rattle.hg_script.specs.Events.{AreIds}
+use Rattle.hg_script.specs.Names.{value_of, Binds}
+use Rattle.hg_script.specs.Scripts.{bound_to}
+
+-- a name that isn't bs is equal to no key that bs is equal to
+apart : (bs cs ks : List ℕ) → bytes_eq bs cs ≡ false → is_eq (slice_cmp nat_cmp bs ks) ≡ true → is_eq (slice_cmp nat_cmp cs ks) ≡ false
+apart bs cs ks differ same =
+    let at : bs ≡ ks = (bytes_eq-Decides bs ks).0 (sym (is_eq-slice_cmp bs ks) ∙ same) in
+    is_eq-slice_cmp cs ks ∙ subst (λ l. bytes_eq cs l ≡ false) at (symmetric bs cs differ)
+  where
+    by : (r : Bool) (xs ys : List ℕ) → bytes_eq xs ys ≡ false → bytes_eq ys xs ≡ r → bytes_eq ys xs ≡ false
+    by true xs ys d e = e ∙ sym ((bytes_eq-Decides xs ys).1 (sym ((bytes_eq-Decides ys xs).0 e))) ∙ d
+    by false xs ys d e = e
+
+    symmetric : (xs ys : List ℕ) → bytes_eq xs ys ≡ false → bytes_eq ys xs ≡ false
+    symmetric xs ys d = by (bytes_eq ys xs) xs ys d refl
+
+module _ {V : Type 0} where
+  others_stay : (bs : List ℕ) (m n : BTreeMap (Vec ℕ Global) V) → KeepsOthers (eq_by_cmp (λ (x y : Vec ℕ Global). slice_cmp nat_cmp x.items y.items)) (λ k. is_eq (slice_cmp nat_cmp bs k.items)) m.entries n.entries
+      → (cs : List ℕ) → bytes_eq bs cs ≡ false → value_of n cs ≡ value_of m cs
+  unfolding KeepsOthers
+  others_stay bs m n h cs differ =
+      h (λ k. is_eq (slice_cmp nat_cmp cs k.items)) (λ x y. (eq_by_cmp_equiv nat_list_cmp_total).congr cs x.items y.items) (λ k. apart bs cs k.items differ)
+
+  -- what a name stands for after one of them was bound
+  pub value_of-bound : (bs : List ℕ) (m n : BTreeMap (Vec ℕ Global) V) (w : Option V) → UpdatesBy (λ (x y : Vec ℕ Global). slice_cmp nat_cmp x.items y.items) (λ k. slice_cmp nat_cmp bs k.items) m n w
+      → (cs : List ℕ) → value_of n cs ≡ update bytes_eq (value_of m) bs w cs
+  value_of-bound bs m n w h cs =
+      ⊎_elim
+      (λ y. subst (λ l. value_of n l ≡ w) ((bytes_eq-Decides bs cs).0 y) h.1 ∙ sym (cond-true (bytes_eq bs cs) w (value_of m cs) y))
+      (λ d. others_stay bs m n h.3 cs d ∙ sym (cond-false (bytes_eq bs cs) w (value_of m cs) d))
+      (cases_Bool (bytes_eq bs cs))
+
+-- the names that are bound after hang on what each name stands for before alone
+pub bound_to-same : (f g : List ℕ → Option Node) (labels : List (List ℕ)) (cs : List Contents) → ((name : List ℕ) → f name ≡ g name) → (name : List ℕ) → bound_to f labels cs name ≡ bound_to g labels cs name
+bound_to-same f g [] cs h name = h name
+bound_to-same f g (l ∷ labels) [] h name = h name
+bound_to-same f g (l ∷ labels) (c ∷ cs) h name =
+    bound_to-same (update bytes_eq f l (Some (node_of c))) (update bytes_eq g l (Some (node_of c))) labels cs (λ q. ap (λ v. cond (bytes_eq l q) (Some (node_of c)) v) (h q)) name
+
+-- one label more is bound
+pub bound_step : (old new : BTreeMap (Vec ℕ Global) Node) (label : Bor (List ℕ)) (c : Contents) (n : Node) (ls labels : List (Bor (List ℕ))) (cs changesets : List Contents)
+    → Binds old label.now n new → n ≡ node_of c → labels ≡ label ∷ ls → changesets ≡ c ∷ cs
+    → (name : List ℕ) → bound_to (value_of new) (map (λ w. w.now) ls) cs name ≡ bound_to (value_of old) (map (λ w. w.now) labels) changesets name
+bound_step old new label c n ls labels cs changesets b e l k name =
+    bound_to-same (value_of new) (update bytes_eq (value_of old) label.now (Some (node_of c))) (map (λ w. w.now) ls) cs (λ q. b.values q ∙ ap (λ (m : Node). update bytes_eq (value_of old) label.now (Some m) q) e) name
+    ∙ sym (ap (λ (xs : List (Bor (List ℕ))). bound_to (value_of old) (map (λ w. w.now) xs) changesets name) l ∙ ap (λ (ys : List Contents). bound_to (value_of old) (map (λ w. w.now) (label ∷ ls)) ys name) k)
+
+-- no label is left, or nothing that it could name
+pub bound_end : (f : List ℕ → Option Node) (labels : List (Bor (List ℕ))) (cs : List Contents) → (length labels ≡ 0) ⊎ (length cs ≡ 0) → (name : List ℕ) → f name ≡ bound_to f (map (λ w. w.now) labels) cs name
+bound_end f [] cs h name = refl
+bound_end f (l ∷ labels) [] h name = refl
+bound_end f (l ∷ labels) (c ∷ cs) h name = ⊎_elim (λ e. absurd (omega arith)) (λ e. absurd (omega arith)) h
+
+-- one label more stands for its id
+pub ids_more : (ids : List ℕ → Option Node) (labels : List (Bor (List ℕ))) (i : ℕ) (d : Bor (List ℕ)) (nodes new : List Node) (n : Node) → i < length labels
+    → AreIds ids (take i labels) nodes → ids (get_or labels i d).now ≡ Some n → new ≡ nodes ++ n ∷ [] → AreIds ids (take (i + 1) labels) new
+ids_more ids labels i d nodes new n l so_far here e =
+    ap (map (λ w. ids w.now)) (take_more labels i d l)
+    ∙ map-append (λ w. ids w.now) (take i labels) (get_or labels i d ∷ [])
+    ∙ ap (λ (xs : List (Option Node)). xs ++ ids (get_or labels i d).now ∷ []) so_far
+    ∙ ap (λ (o : Option Node). map Some nodes ++ o ∷ []) here
+    ∙ sym (ap (map Some) e ∙ map-append Some nodes (n ∷ []))
+
+pub unbound : {V : Type 0} (o : Option V) → is_some o ≡ false → o ≡ None
+unbound None h = refl
+unbound (Some v) h = cc

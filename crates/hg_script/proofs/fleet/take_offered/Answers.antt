@@ -1,0 +1,13 @@
+use Rattle.std.proofs.Common.{refl}
+use Rattle.hg_script.proofs.ScriptLemmas.{has_taken, takes_nothing}
+use Rattle.hg_script.proofs.fleet.take_offered.Goals as goal
+
+pub returns-in_ok-run_event-in-Offered-clause-ok : goal.returns-in_ok-run_event-in-Offered-clause-ok
+returns-in_ok-run_event-in-Offered-clause-ok g c =
+    has_taken _ _ _ _ _ _ c.in-Offered.is c.in_ok-run_event-in-Offered.ensures.told c.in_ok-run_event-in-Offered.ensures.happens
+
+pub returns-in-Accepted-clause-ok : goal.returns-in-Accepted-clause-ok
+returns-in-Accepted-clause-ok g c = takes_nothing _ _ _ (rw c.in-Accepted.is refl)
+
+pub returns-in-Refused-clause-ok : goal.returns-in-Refused-clause-ok
+returns-in-Refused-clause-ok g c = takes_nothing _ _ _ (rw c.in-Refused.is refl)

@@ -1,0 +1,24 @@
+use Rattle.std.proofs.Common.{ℕ, sym, subst}
+use Rattle.std.specs.Str.Lines.{lines}
+use Rattle.hg_replica.specs.State.{ReplicaState}
+use Rattle.hg_world.specs.Runs.{Snapshot}
+use Rattle.hg_script.specs.Events.{Ran}
+use Rattle.hg_script.specs.Scripts.{IsNewFleet}
+use Rattle.hg_script.proofs.ScriptLemmas.{does_lines_ran}
+use Rattle.hg_script.proofs.script.run_text.Goals as goal
+
+pub returns : goal.returns
+returns g c =
+    let d = c.in_ok-run_lines.ensures in
+    let start = c.in_ok-fleet.fleet in
+    let end = c.run_lines.new.fleet in
+    let ran = does_lines_ran (λ old mid new t u first second. c.runs_compose.ensures old mid new t.events u.events t.answers u.answers t.parts u.parts first second) start (lines c.args.text.now) d.0 end d.1 in
+    record {
+      start = start;
+      is_new = subst (λ (n : ℕ). IsNewFleet n start) c.count_nodes.ensures c.in_ok-fleet.ensures;
+      trace = d.0;
+      end = end;
+      did = d.1;
+      ended = sym c.into_world.ensures;
+      ran = subst (λ (w : Snapshot ReplicaState). Ran start.world d.0 w) (sym c.into_world.ensures) ran;
+    }

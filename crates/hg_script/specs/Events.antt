@@ -1,0 +1,155 @@
+-- What the commands of a script ask of its world.
+use Rattle.std.specs.Prelude.{ℕ, ◌≡◌, List, [], ◌∷◌, ◌++◌, map, Option, Some, IsSome}
+use Rattle.std.specs.declared.vec.Vec.{Vec}
+use Rattle.std.specs.declared.alloc.Global.{Global}
+use Rattle.std.specs.List.{AllByRecursion}
+use Rattle.hg_changeset.specs.declared.node.Node.{Node}
+use Rattle.hg_changeset.specs.EntryValue.{EntryValue}
+use Rattle.hg_changeset.specs.Node.{null_node}
+use Rattle.hg_history.specs.declared.fault.Fault.{Fault}
+use Rattle.hg_history.specs.Fault.{number as fault_number}
+use Rattle.hg_replica.specs.State.{ReplicaState}
+use Rattle.hg_replica.specs.Least.{PartValue}
+use Rattle.hg_replica.specs.Change.{ChangeValue}
+use Rattle.hg_rewrite.specs.declared.op.Op.{Op}
+use Rattle.hg_rewrite.specs.declared.op.Op.TheVariants as asks
+use Rattle.hg_world.specs.Runs.{Snapshot, Runs}
+use Rattle.hg_world.specs.declared.event.Event.{Event}
+use Rattle.hg_world.specs.declared.event.Event.TheVariants as event
+use Rattle.hg_world.specs.declared.event.EventRefusal.{EventRefusal}
+use Rattle.hg_world.specs.declared.event.EventRefusal.TheVariants.{NoNode, NoMessage, ByActor, ByState}
+use Rattle.hg_world.specs.declared.event.Answer.{Answer}
+use Rattle.hg_world.specs.declared.event.Answer.TheVariants.{Accepted, Offered, Refused}
+use Rattle.hg_peer.specs.declared.refusal.PeerRefusal.{PeerRefusal}
+use Rattle.hg_peer.specs.Refusals.{peer_refusal_number}
+use Rattle.hg_peer.specs.Words.{peer_words, peer_state}
+use Rattle.hg_script.specs.declared.fault.RunFault.{RunFault}
+use Rattle.hg_script.specs.declared.fault.RunFault.TheVariants.{Line, ScriptTooLong, Read, Write, NoMemory}
+use Rattle.hg_script.specs.declared.command.Command.{Command}
+use Rattle.hg_script.specs.declared.command.Command.TheVariants.{Node as node, Operation as operation, Offer, Take, Pull, Report, Agree}
+use Rattle.hg_script.specs.declared.operation.Operation.{Operation}
+use Rattle.hg_script.specs.declared.operation.Operation.TheVariants.{Commit, Amend, Split, Fold, Prune, Relocate, Advance}
+use Rattle.hg_script.specs.declared.operation.Parents.{Parents}
+use Rattle.hg_script.specs.declared.operation.Parents.TheVariants.{NoParent, One, Two}
+use Rattle.hg_script.specs.Commands.{Text, Word}
+use Rattle.hg_script.specs.Entries.{entry_of, IsPruneOf}
+
+abbrev pub PeerEvent : Type 0
+PeerEvent = Event Op (Vec Node Global)
+
+abbrev pub PeerAnswer : Type 0
+PeerAnswer = Answer ChangeValue PeerRefusal Fault
+
+-- ---- runs of a world of peers
+
+-- events of a world, what each was answered, and the part that each brought, if it brought one
+pub record Trace : Type 0 where
+  pub events : List PeerEvent
+  pub answers : List PeerAnswer
+  pub parts : List (Option PartValue)
+
+abbrev pub no_trace : Trace
+no_trace = record { events = []; answers = []; parts = [] }
+
+abbrev pub joined : Trace → Trace → Trace
+joined t u = record { events = t.events ++ u.events; answers = t.answers ++ u.answers; parts = t.parts ++ u.parts }
+
+-- the world's events were answered so, with these parts
+abbrev pub Ran : Snapshot ReplicaState → Trace → Snapshot ReplicaState → Type 0
+Ran old t new = Runs peer_state peer_words old t.events t.answers t.parts new
+
+-- the refusal has a number, which is printed. Want of memory has none, and what a script names is there
+abbrev pub HasNumber : EventRefusal PeerRefusal Fault → Type 0
+HasNumber NoNode = ⊥
+HasNumber NoMessage = ⊥
+HasNumber (ByActor refusal) = IsSome (peer_refusal_number refusal)
+HasNumber (ByState fault) = IsSome (fault_number fault)
+
+-- the event was done, or refused for a reason that is printed
+abbrev pub IsTold : PeerAnswer → Type 0
+IsTold (Accepted change) = Unit {0}
+IsTold (Offered number) = Unit {0}
+IsTold (Refused refusal) = HasNumber refusal
+
+abbrev pub AreTold : List PeerAnswer → Type 0
+AreTold answers = AllByRecursion IsTold answers
+
+-- what can end a script at the line with this number
+abbrev pub IsFaultAt : ℕ → RunFault → Type 0
+IsFaultAt number (Line told fault) = told ≡ number
+IsFaultAt number ScriptTooLong = ⊥
+IsFaultAt number Read = ⊥
+IsFaultAt number Write = Unit {0}
+IsFaultAt number NoMemory = Unit {0}
+
+-- the line ended the script by a fault of its own, a write fault or want of memory; what the world did until then is a run
+abbrev pub IsLeftBy : ℕ → Snapshot ReplicaState → RunFault → Snapshot ReplicaState → Type 0
+IsLeftBy number old fault new = IsFaultAt number fault × ((t : Trace) × Ran old t new)
+
+-- ---- operations
+
+-- what names stand for
+abbrev pub Meaning : Type 0 → Type 0
+Meaning V = Text → Option V
+
+-- each of the labels names the id at its place
+abbrev pub AreIds : Meaning Node → List Word → List Node → Type 0
+AreIds ids labels nodes = map (λ w. ids w.now) labels ≡ map Some nodes
+
+-- the ids of the parents, and the null id for each that is absent
+abbrev pub AreParentIds : Meaning Node → Parents → Node → Node → Type 0
+AreParentIds ids NoParent p q = (p ≡ null_node) × (q ≡ null_node)
+AreParentIds ids (One first) p q = (ids first.now ≡ Some p) × (q ≡ null_node)
+AreParentIds ids (Two first second) p q = (ids first.now ≡ Some p) × (ids second.now ≡ Some q)
+
+-- what the operation asks of a replica, where labels stand for these ids
+abbrev pub IsOperation : Meaning Node → Operation → Op → Type 0
+IsOperation ids (Commit new is_secret parents) op =
+    (p : Node) × (q : Node) × AreParentIds ids parents p q × (op ≡ asks.Commit p q (entry_of new.now) is_secret)
+IsOperation ids (Amend old new) op = (n : Node) × (ids old.now ≡ Some n) × (op ≡ asks.Amend n (entry_of new.now))
+IsOperation ids (Split old new) op =
+    (n : Node) × (entries : Vec EntryValue Global) × (ids old.now ≡ Some n) × (entries.items ≡ map (λ w. entry_of w.now) new.now) × (op ≡ asks.Split n entries)
+IsOperation ids (Fold new old) op = (ns : Vec Node Global) × AreIds ids old.now ns.items × (op ≡ asks.Fold ns (entry_of new.now))
+IsOperation ids (Prune old) op = (n : Node) × (ids old.now ≡ Some n) × IsPruneOf n op
+IsOperation ids (Relocate old new parents) op =
+    (n : Node) × (p : Node) × (q : Node) × (ids old.now ≡ Some n) × AreParentIds ids parents p q × (op ≡ asks.Relocate n p q (entry_of new.now))
+IsOperation ids (Advance label phase) op = (n : Node) × (ids label.now ≡ Some n) × (op ≡ asks.Advance n phase)
+
+-- the new labels, in the order in which the operation makes their changesets
+abbrev pub new_labels : Operation → List Text
+new_labels (Commit new is_secret parents) = new.now ∷ []
+new_labels (Amend old new) = new.now ∷ []
+new_labels (Split old new) = map (λ w. w.now) new.now
+new_labels (Fold new old) = new.now ∷ []
+new_labels (Prune old) = []
+new_labels (Relocate old new parents) = new.now ∷ []
+new_labels (Advance label phase) = []
+
+-- ---- commands
+
+-- what the taker of a pull takes: the message that was offered, if one was
+abbrev pub taken : ℕ → List PeerAnswer → List PeerEvent
+taken taker [] = []
+taken taker (Accepted change ∷ answers) = []
+taken taker (Offered number ∷ answers) = event.Take taker number ∷ []
+taken taker (Refused refusal ∷ answers) = []
+
+-- the world ran what the taker takes, and it was done or refused by a printed number
+abbrev pub HasTaken : Snapshot ReplicaState → ℕ → PeerAnswer → Snapshot ReplicaState → Type 0
+HasTaken old taker answer new = (t : Trace) × (t.events ≡ taken taker (answer ∷ [])) × Ran old t new × AreTold t.answers
+
+-- the events of a command, where names stand for these places, ids and numbers: what a pull takes hangs on the answer to
+-- what it offers
+abbrev pub AreEventsOf : Meaning ℕ → Meaning Node → Meaning ℕ → Command → List PeerAnswer → List PeerEvent → Type 0
+AreEventsOf places ids numbers (node at) answers events = events ≡ []
+AreEventsOf places ids numbers (operation at op) answers events =
+    (place : ℕ) × (asked : Op) × (places at.now ≡ Some place) × IsOperation ids op asked × (events ≡ event.Local place asked ∷ [])
+AreEventsOf places ids numbers (Offer at message labels) answers events =
+    (place : ℕ) × (common : Vec Node Global) × (places at.now ≡ Some place) × AreIds ids labels.now common.items × (events ≡ event.Offer place common ∷ [])
+AreEventsOf places ids numbers (Take at message) answers events =
+    (place : ℕ) × (number : ℕ) × (places at.now ≡ Some place) × (numbers message.now ≡ Some number) × (events ≡ event.Take place number ∷ [])
+AreEventsOf places ids numbers (Pull to from) answers events =
+    (giver : ℕ) × (taker : ℕ) × (common : Vec Node Global) × (places from.now ≡ Some giver) × (places to.now ≡ Some taker) × (common.items ≡ [])
+    × (events ≡ event.Offer giver common ∷ taken taker answers)
+AreEventsOf places ids numbers (Report at) answers events = events ≡ []
+AreEventsOf places ids numbers (Agree one other) answers events = events ≡ []

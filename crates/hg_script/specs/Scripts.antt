@@ -1,0 +1,123 @@
+-- What the lines of a script do to a fleet: to its world, and to the names.
+use Rattle.std.specs.Prelude.{ℕ, ◌≡◌, ◌⊎◌, ◌≤◌, List, [], ◌∷◌, length, map, count_by, Option, Some, None, Ok}
+use Rattle.std.specs.declared.vec.Vec.{Vec}
+use Rattle.std.specs.declared.alloc.Global.{Global}
+use Rattle.std.specs.BTreeMap.{BTreeMap, btree_map_len}
+use Rattle.std.specs.Map.{update}
+use Rattle.std.specs.Str.{bytes_eq}
+use Rattle.std.specs.Str.Lines.{lines}
+use Rattle.hg_changeset.specs.declared.node.Node.{Node}
+use Rattle.hg_changeset.specs.Changeset.{node_of}
+use Rattle.hg_changeset.specs.Contents.{Contents}
+use Rattle.hg_replica.specs.State.{ReplicaState}
+use Rattle.hg_replica.specs.Least.{PartValue}
+use Rattle.hg_world.specs.Runs.{Snapshot, AllEmpty}
+use Rattle.hg_world.specs.declared.event.Answer.TheVariants.{Accepted, Offered, Refused}
+use Rattle.hg_peer.specs.Words.{peer_state}
+use Rattle.hg_script.specs.declared.command.Command.{Command}
+use Rattle.hg_script.specs.declared.command.Command.TheVariants.{Node as node, Operation as operation, Offer, Take, Pull, Report, Agree}
+use Rattle.hg_script.specs.declared.fleet.Fleet.{Fleet}
+use Rattle.hg_script.specs.Commands.{Text, Word, CommandAnswer}
+use Rattle.hg_script.specs.Events.{Trace, no_trace, joined, Ran, AreTold, PeerAnswer, Meaning, new_labels, AreEventsOf}
+use Rattle.hg_script.specs.Limits.{line_limit}
+use Rattle.hg_script.specs.Names.{value_of, Binds}
+use Rattle.hg_script.specs.Words.{has_node, words_of}
+
+-- ---- the names of a fleet
+
+abbrev pub places : Fleet → Meaning ℕ
+places f = value_of f.nodes
+
+abbrev pub ids : Fleet → Meaning Node
+ids f = value_of f.labels
+
+abbrev pub numbers : Fleet → Meaning ℕ
+numbers f = value_of f.messages
+
+-- each label names the changeset at its place
+abbrev pub bound_to : Meaning Node → List Text → List Contents → Meaning Node
+bound_to names [] changesets = names
+bound_to names (label ∷ labels) [] = names
+bound_to names (label ∷ labels) (c ∷ changesets) = bound_to (update bytes_eq names label (Some (node_of c))) labels changesets
+
+-- the labels name what an operation made, if it was accepted
+abbrev pub AreLabelled : BTreeMap (Vec ℕ Global) Node → List Text → List Contents → PeerAnswer → BTreeMap (Vec ℕ Global) Node → Type 0
+AreLabelled old labels changesets (Accepted change) new = (name : Text) → value_of new name ≡ bound_to (value_of old) labels changesets name
+AreLabelled old labels changesets (Offered number) new = new ≡ old
+AreLabelled old labels changesets (Refused refusal) new = new ≡ old
+
+-- the same of the part that it brought, if it brought one
+abbrev pub AreLabelledBy : BTreeMap (Vec ℕ Global) Node → List Text → List (Option PartValue) → BTreeMap (Vec ℕ Global) Node → Type 0
+AreLabelledBy old labels [] new = new ≡ old
+AreLabelledBy old labels (None ∷ parts) new = new ≡ old
+AreLabelledBy old labels (Some part ∷ parts) new = (name : Text) → value_of new name ≡ bound_to (value_of old) labels part.history.changesets name
+
+-- the name stands for the message that was offered, if one was
+abbrev pub IsKept : BTreeMap (Vec ℕ Global) ℕ → Text → List PeerAnswer → BTreeMap (Vec ℕ Global) ℕ → Type 0
+IsKept old name [] new = new ≡ old
+IsKept old name (Accepted change ∷ answers) new = new ≡ old
+IsKept old name (Offered number ∷ answers) new = Binds old name number new
+IsKept old name (Refused refusal ∷ answers) new = new ≡ old
+
+-- the names after a command: a node has the next place, the new labels of an operation name its changesets, and a message
+-- that was offered has its number. The names of nodes and messages are new
+abbrev pub AreNamed : Fleet → Command → Trace → Fleet → Type 0
+AreNamed old (node at) t new =
+    (places old at.now ≡ None) × Binds old.nodes at.now (btree_map_len old.nodes) new.nodes × (new.labels ≡ old.labels) × (new.messages ≡ old.messages)
+AreNamed old (operation at op) t new =
+    (new.nodes ≡ old.nodes) × AreLabelledBy old.labels (new_labels op) t.parts new.labels × (new.messages ≡ old.messages)
+AreNamed old (Offer at message labels) t new =
+    (new.nodes ≡ old.nodes) × (new.labels ≡ old.labels) × (numbers old message.now ≡ None) × IsKept old.messages message.now t.answers new.messages
+AreNamed old (Take at message) t new = (new.nodes ≡ old.nodes) × (new.labels ≡ old.labels) × (new.messages ≡ old.messages)
+AreNamed old (Pull to from) t new = (new.nodes ≡ old.nodes) × (new.labels ≡ old.labels) × (new.messages ≡ old.messages)
+AreNamed old (Report at) t new = (new.nodes ≡ old.nodes) × (new.labels ≡ old.labels) × (new.messages ≡ old.messages)
+AreNamed old (Agree one other) t new = (new.nodes ≡ old.nodes) × (new.labels ≡ old.labels) × (new.messages ≡ old.messages)
+
+-- ---- what a command, a line and a script do
+
+-- the world ran the events of the command, each was done or refused by a printed number, and the names are as they are then
+pub record Does (old : Fleet) (command : Command) (t : Trace) (new : Fleet) : Type 0 where
+  pub asked : AreEventsOf (places old) (ids old) (numbers old) command t.answers t.events
+  pub ran : Ran old.world t new.world
+  pub told : AreTold t.answers
+  pub named : AreNamed old command t new
+
+-- the command is done
+abbrev pub IsDone : Fleet → Command → Fleet → Type 0
+IsDone old command new = (t : Trace) × Does old command t new
+
+-- a line of no words does nothing, and any other its command
+abbrev pub DoesWords : Fleet → List Word → Trace → Fleet → Type 0
+DoesWords old words t new =
+    ((words ≡ []) × (t ≡ no_trace) × (new ≡ old)) ⊎ ((command : Command) × CommandAnswer words (Ok (Some command)) × Does old command t new)
+
+-- the line isn't too long, and what its words say is done
+abbrev pub DoesLine : Fleet → Text → Trace → Fleet → Type 0
+DoesLine old line t new = (length line ≤ line_limit) × ((words : List Word) × (map (λ w. w.now) words ≡ words_of line) × DoesWords old words t new)
+
+-- the lines are done one after another
+abbrev pub DoesLines : Fleet → List Text → Trace → Fleet → Type 0
+DoesLines old [] t new = (t ≡ no_trace) × (new ≡ old)
+DoesLines old (line ∷ lines) t new =
+    (mid : Fleet) × (here : Trace) × (later : Trace) × DoesLine old line here mid × DoesLines mid lines later new × (t ≡ joined here later)
+
+-- ---- whole scripts
+
+-- a world of so many peers, all empty, and no message; nothing has a name
+pub record IsNewFleet (count : ℕ) (f : Fleet) : Type 0 where
+  pub nodes : length f.world.nodes ≡ count
+  pub empty : AllEmpty peer_state f.world
+  pub messages : f.world.messages ≡ []
+  pub no_place : (name : Text) → places f name ≡ None
+  pub no_label : (name : Text) → ids f name ≡ None
+  pub no_number : (name : Text) → numbers f name ≡ None
+
+-- the script leaves the world so: its lines were done from a new fleet on, with a peer for each line whose first word is `node`, and all events together are one run of the world
+pub record IsRunOf (text : Text) (world : Snapshot ReplicaState) : Type 0 where
+  pub start : Fleet
+  pub is_new : IsNewFleet (count_by has_node (lines text)) start
+  pub trace : Trace
+  pub end : Fleet
+  pub did : DoesLines start (lines text) trace end
+  pub ended : end.world ≡ world
+  pub ran : Ran start.world trace world

@@ -1,0 +1,53 @@
+//! Events of a script's world, one at a time.
+ghost use Rattle.std.specs.Prelude.{◌≡◌, Option, IfOk, IfErr, OnErr};
+ghost use Rattle.hg_replica.specs.Least.{PartValue};
+ghost use Rattle.hg_world.specs.Runs.{Happens};
+ghost use Rattle.hg_peer.specs.Words.{peer_state, peer_words};
+ghost use Rattle.hg_script.specs.Events.{IsTold, IsLeftBy};
+
+use crate::fault::RunFault;
+use crate::output::print_refused;
+use hg_changeset::Node;
+use hg_history::Fault;
+use hg_join::NoMemory;
+use hg_peer::{Peer, PeerRefusal};
+use hg_replica::Change;
+use hg_rewrite::Op;
+use hg_world::{Answer, Event, World};
+use std::alloc::Global;
+use std::io::Write;
+
+/// What may be asked of a world of peers.
+pub type PeerEvent = Event<Op, Vec<Node>>;
+
+/// What it answers.
+pub type PeerAnswer = Answer<Change, PeerRefusal, Fault>;
+
+/// Runs an event that the line with this number asks for, and gives its answer. Why it was refused is printed.
+pub fn run_event<W: Write>(
+    alloc: Global,
+    number: usize,
+    world: &mut World<Peer>,
+    event: PeerEvent,
+    writer: &mut W,
+) -> Result<PeerAnswer, RunFault>
+    ensures told { IfOk result IsTold }
+    ensures happens { IfOk result (λ answer. (part : Option PartValue) × Happens peer_state peer_words world.old event answer part world.new) }
+    ensures left { IfErr result (λ fault. IsLeftBy number world.old fault world.new) }
+{
+    let answer = run_one(world, event)?;
+    match &answer {
+        Answer::Refused(refusal) => print_refused(alloc, writer, number, refusal)?,
+        Answer::Accepted(_) | Answer::Offered(_) => {}
+    }
+    Ok(answer)
+}
+
+// One event, and its answer.
+fn run_one(world: &mut World<Peer>, event: PeerEvent) -> Result<PeerAnswer, NoMemory>
+    ensures happens { IfOk result (λ answer. (part : Option PartValue) × Happens peer_state peer_words world.old event answer part world.new) }
+    ensures unchanged { OnErr result (world.new ≡ world.old) }
+{
+    let mut answers = world.run(&[event])?;
+    Ok(answers.pop().unwrap())
+}
