@@ -1,25 +1,23 @@
 -- Where a discovery begins.
-use Rattle.std.proofs.Common.{◌≡◌, ◌↔◌, ℕ, zero, suc, ◌<◌, ◌≤◌, ◌+◌, inl, inr, Bool, List, [], ◌∷◌, ◌++◌, length, set, take, get_or, replicate, slice_get, Some, Contains, IsTrue, refl, sym, ap, subst, ◌∙◌, arith, true≢false}
+use Rattle.std.proofs.Common.{◌≡◌, ◌↔◌, ℕ, zero, suc, ◌<◌, ◌≤◌, ◌+◌, inl, inr, List, [], ◌∷◌, ◌++◌, length, set, take, get_or, replicate, slice_get, Some, Contains, refl, sym, ap, subst, ◌∙◌, arith}
 use Rattle.std.proofs.lemmas.Bool.{cases_eq}
 use Rattle.std.proofs.lemmas.List.{length-replicate, length-set, length-map, take_more}
 use Rattle.std.proofs.lemmas.List.Elements.{Contains-push, Contains-push_cases, Contains-append_left}
-use Rattle.std.specs.Option.{option_map}
-use Rattle.std.proofs.lemmas.Option.{none-some, same_Some, slice_get_within, slice_get-map}
-use denote.Enum.Bare.{sameb}
-use Rattle.hg_phases.specs.contracts.phase.Phase.{the_type}
+use Rattle.std.proofs.lemmas.Option.{none-some, same_Some, slice_get_within}
 use Rattle.hg_changeset.specs.declared.node.Node.{Node}
 use Rattle.hg_changeset.specs.Contents.{Contents}
 use Rattle.hg_changeset.specs.Changeset.{node_of}
 use Rattle.hg_graph.specs.Graph.{IsGraph, IsParent, nodes}
 use Rattle.hg_graph.specs.declared.graph.ParentPlaces.{ParentPlaces}
 use Rattle.hg_graph.specs.Places.{IsAt, IsParentPlace}
-use Rattle.hg_graph.proofs.GraphLemmas.{Contains-from_place, place_from_Contains}
+use Rattle.hg_graph.proofs.GraphLemmas.{Contains-from_place}
 use Rattle.hg_graph.proofs.MarkLemmas.{get-set_same, get-set_other}
 use Rattle.hg_graph.proofs.PlaceLemmas.{IsAt-from, parent_first}
 use Rattle.hg_phases.specs.declared.phase.Phase.{Phase}
 use Rattle.hg_phases.specs.declared.phase.Phase.TheVariants.{Public, Draft, Secret}
 use Rattle.hg_phases.specs.State.{State, Held, changesets, rank, IsPhaseOf, IsValid}
-use Rattle.hg_phases.proofs.ContentLemmas.{content-held}
+use Rattle.hg_phases.specs.Content.{content_of}
+use Rattle.hg_phases.proofs.ContentLemmas.{held_in_content, content-held}
 use Rattle.hg_changeset.proofs.ListLemmas.{Contains-map_from, slice_get_some}
 use Rattle.hg_discovery.specs.declared.status.Status.{Status}
 use Rattle.hg_discovery.specs.declared.status.Status.TheVariants.{Undecided, Common, Missing}
@@ -75,13 +73,12 @@ shared_all s i xs le all x = (
   λ h. (all x).1 (h, omega (arith, le, slice_get_within (nodes (changesets s)) x.place x.node h.0, length-map (changesets s) node_of)),
 )
 
--- a changeset has one phase
-pub one_phase : (s : State) → IsValid s → (n : Node) (j k : Phase) → IsPhaseOf s n j → IsPhaseOf s n k → j ≡ k
-one_phase s valid n j k a b =
-    let first = content-held s valid.graph n a.0 a.1 a.2 in
-    let second = content-held s valid.graph n b.0 b.1 b.2 in
-    let same : a.0 ≡ b.0 = same_Some a.0 b.0 (sym first ∙ second) in
-    sym a.3 ∙ ap (λ (h : Held). h.phase) same ∙ b.3
+-- the phase by the content
+pub phase_in_content : (s : State) → IsGraph (changesets s) → (n : Node) (k : Phase) → ((h : Held) × (content_of s n ≡ Some h) × (h.phase ≡ k)) ↔ IsPhaseOf s n k
+phase_in_content s graph n k = (
+  λ h. let at = held_in_content s n h.0 h.1 in (h.0, at.0, at.1, h.2),
+  λ h. (h.0, content-held s graph n h.0 h.1 h.2, h.3),
+)
 
 -- ---- undecided at first
 
@@ -182,17 +179,6 @@ module _ (s : State) (valid : IsValid s) (ps : List ParentPlaces) (shape : IsSha
       within = λ x h. omega (arith, len, shared_within x h);
       found = λ k h. elim h [ inl u ↦ (undecided k).0 u | inr c ↦ absurd (nothing k c) ];
     }
-
-pub phase_holds : (s : State) (n : Node) (k : Phase) → IsPhaseOf s n k → Contains (nodes (changesets s)) n
-phase_holds s n k h =
-    let p = place_from_Contains s.held h.0 h.1 in
-    let at : slice_get (changesets s) p.0 ≡ Some h.0.changeset = slice_get-map (λ (y : Held). y.changeset) s.held p.0 ∙ ap (option_map (λ (y : Held). y.changeset)) p.1 in
-    Contains-from_place (nodes (changesets s)) p.0 n (IsAt-from (changesets s) p.0 h.0.changeset n at h.2)
-
-pub secret_test : (s : State) → IsValid s → (n : Node) (k : Phase) (b : Bool) → IsPhaseOf s n k → b ≡ sameb the_type k Secret → IsTrue b ↔ IsPhaseOf s n Secret
-secret_test s valid n Secret b h e = ((λ t. h), (λ x. e))
-secret_test s valid n Public b h e = ((λ t. absurd (true≢false (sym t ∙ e))), (λ x. let c : Public ≡ Secret = one_phase s valid n Public Secret h x in cc))
-secret_test s valid n Draft b h e = ((λ t. absurd (true≢false (sym t ∙ e))), (λ x. let c : Draft ≡ Secret = one_phase s valid n Draft Secret h x in cc))
 
 pub shape_end : (cs : List Contents) (ps : List ParentPlaces) (i : ℕ) → IsGraph cs → length ps ≡ i → length cs ≡ i → ((j : ℕ) (p : ParentPlaces) → slice_get ps j ≡ Some p → (k : ℕ) → IsOneOf p k ↔ IsParentPlace cs j k) → IsShapeOf cs ps
 shape_end cs ps i graph len all each = record {

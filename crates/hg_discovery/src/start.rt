@@ -11,6 +11,7 @@ ghost use Rattle.hg_discovery.specs.Start.{IsShared};
 use crate::status::{Spot, Status};
 use hg_changeset::Node;
 use hg_graph::{Graph, ParentPlaces};
+use hg_instab::has_phase_at;
 use hg_phases::Phase;
 use hg_replica::Replica;
 use std::alloc::{AllocError, Global};
@@ -37,7 +38,7 @@ pub(crate) fn shared(alloc: Global, replica: &Replica) -> Result<Vec<Spot>, Allo
     Ok(spots)
 }
 
-// The changesets that aren't secret, in the graph's order.
+// The changesets that aren't secret, in the graph's order. It takes no look-up.
 fn unsorted(alloc: Global, replica: &Replica) -> Result<Vec<Spot>, AllocError>
     ensures valid { IsValid replica.now.history }
     ensures shared { IfOk result (λ xs. (x : Spot) → Contains xs.items x ↔ IsShared replica.now.history x) }
@@ -46,22 +47,12 @@ fn unsorted(alloc: Global, replica: &Replica) -> Result<Vec<Spot>, AllocError>
     let mut spots = Vec::new(alloc);
     for place in 0..graph.len() {
         if let Some(node) = graph.node_at(place) {
-            if !is_secret(replica, node)? {
+            if !has_phase_at(replica, place, Phase::Secret) {
                 spots.push(Spot { node, place })?;
             }
         }
     }
     Ok(spots)
-}
-
-// Whether it is held and secret.
-fn is_secret(replica: &Replica, node: Node) -> Result<bool, AllocError>
-    ensures { IfOk result (λ answer. IsTrue answer ↔ IsPhaseOf replica.now.history node Secret) }
-{
-    match replica.phase_of(node)? {
-        Some(phase) => Ok(phase == Phase::Secret),
-        None => Ok(false),
-    }
 }
 
 // The spots are undecided, and all else is missing.

@@ -1,12 +1,13 @@
 use Rattle.std.proofs.Common.{◌≡◌, ◌+◌, ◌∙◌, arith, length, slice_get, Some, ap, sym, subst, true≢false}
 use Rattle.hg_graph.specs.Graph.{nodes}
 use Rattle.hg_graph.specs.Places.{IsAt}
+use Rattle.hg_phases.specs.declared.phase.Phase.TheVariants.{Secret}
 use Rattle.hg_phases.specs.State.{changesets}
 use Rattle.hg_graph.proofs.PlaceLemmas.{IsAt-within}
 use Rattle.std.proofs.lemmas.Option.{none-some}
-use Rattle.hg_discovery.proofs.StartLemmas.{AreSharedTo, shared_push, shared_skip, shared_all}
+use Rattle.hg_discovery.proofs.StartLemmas.{phase_in_content, AreSharedTo, shared_push, shared_skip, shared_all}
 use Rattle.hg_discovery.proofs.start.unsorted.Goals as goal
-use Rattle.hg_discovery.proofs.start.unsorted.Goals.{in-Some+in_ok-is_secret+then-not-branch+in_ok-push, in-Some+in_ok-is_secret+else-not-branch, in_default}
+use Rattle.hg_discovery.proofs.start.unsorted.Goals.{in-Some+then-not-has_phase_at+in_ok-push, in-Some+else-not-has_phase_at, in_default}
 
 pub loop-place-preserved : goal.loop-place-preserved
 loop-place-preserved c =
@@ -14,14 +15,14 @@ loop-place-preserved c =
     let i = c.loop-place.place in
     let before : AreSharedTo s i c.loop-place.spots.items = c.loop-place.invariant in
     elim c.match-node_at.branch [
-      | in-Some+in_ok-is_secret+then-not-branch+in_ok-push w ↦
+      | in-Some+then-not-has_phase_at+in_ok-push w ↦
           let at : IsAt (changesets s) w.in-Some.node i = subst (λ ds. slice_get (nodes ds) i ≡ Some w.in-Some.node) c.graph-graph.ensures.graph (sym c.node_at.ensures ∙ w.in-Some.is) in
           subst (AreSharedTo s (i + 1)) (sym (ap (λ v. v.items) w.spots-is ∙ w.in_ok-push.ensures.items))
-          (shared_push s i w.in-Some.node c.loop-place.spots.items at before (λ h. true≢false (sym (w.in_ok-is_secret.ensures.1 h) ∙ w.if-not-branch.true)))
-      | in-Some+in_ok-is_secret+else-not-branch w ↦
+          (shared_push s i w.in-Some.node c.loop-place.spots.items at before (λ h. true≢false (sym ((w.has_phase_at.ensures w.in-Some.node at).1 ((phase_in_content s c.graph-graph.ensures.valid.graph w.in-Some.node Secret).1 h)) ∙ w.if-not-has_phase_at.true)))
+      | in-Some+else-not-has_phase_at w ↦
           let at : IsAt (changesets s) w.in-Some.node i = subst (λ ds. slice_get (nodes ds) i ≡ Some w.in-Some.node) c.graph-graph.ensures.graph (sym c.node_at.ensures ∙ w.in-Some.is) in
           subst (AreSharedTo s (i + 1)) (sym (ap (λ v. v.items) w.spots-is))
-          (shared_skip s i w.in-Some.node c.loop-place.spots.items at before (w.in_ok-is_secret.ensures.0 w.if-not-branch.false))
+          (shared_skip s i w.in-Some.node c.loop-place.spots.items at before ((phase_in_content s c.graph-graph.ensures.valid.graph w.in-Some.node Secret).0 ((w.has_phase_at.ensures w.in-Some.node at).0 w.if-not-has_phase_at.false)))
       | in_default w ↦
           let there = IsAt-within c.graph-graph.result.now i (omega (arith, c.loop-place-test.true, c.len-place-end.ensures.len)) in
           absurd (none-some there.0 (sym (sym c.node_at.ensures ∙ w.in_default.is) ∙ there.1))
