@@ -15,8 +15,6 @@ use Rattle.std.proofs.lemmas.List.{take_more, map-append}
 use denote.Bor.{Bor}
 use mathlib.Core.Logic.{⊎_elim}
 use Rattle.hg_changeset.specs.declared.node.Node.{Node}
-use Rattle.hg_changeset.specs.Changeset.{node_of}
-use Rattle.hg_changeset.specs.Contents.{Contents}
 use Rattle.hg_script.specs.Events.{AreIds}
 use Rattle.hg_script.specs.Names.{value_of, Binds}
 use Rattle.hg_script.specs.Scripts.{bound_to}
@@ -51,25 +49,25 @@ module _ {V : Type 0} where
       (cases_Bool (bytes_eq bs cs))
 
 -- the names that are bound after hang on what each name stands for before alone
-pub bound_to-same : (f g : List ℕ → Option Node) (labels : List (List ℕ)) (cs : List Contents) → ((name : List ℕ) → f name ≡ g name) → (name : List ℕ) → bound_to f labels cs name ≡ bound_to g labels cs name
-bound_to-same f g [] cs h name = h name
+pub bound_to-same : (f g : List ℕ → Option Node) (labels : List (List ℕ)) (ns : List Node) → ((name : List ℕ) → f name ≡ g name) → (name : List ℕ) → bound_to f labels ns name ≡ bound_to g labels ns name
+bound_to-same f g [] ns h name = h name
 bound_to-same f g (l ∷ labels) [] h name = h name
-bound_to-same f g (l ∷ labels) (c ∷ cs) h name =
-    bound_to-same (update bytes_eq f l (Some (node_of c))) (update bytes_eq g l (Some (node_of c))) labels cs (λ q. ap (λ v. cond (bytes_eq l q) (Some (node_of c)) v) (h q)) name
+bound_to-same f g (l ∷ labels) (n ∷ ns) h name =
+    bound_to-same (update bytes_eq f l (Some n)) (update bytes_eq g l (Some n)) labels ns (λ q. ap (λ (v : Option Node). cond (bytes_eq l q) (Some n) v) (h q)) name
 
 -- one label more is bound
-pub bound_step : (old new : BTreeMap (Vec ℕ Global) Node) (label : Bor (List ℕ)) (c : Contents) (n : Node) (ls labels : List (Bor (List ℕ))) (cs changesets : List Contents)
-    → Binds old label.now n new → n ≡ node_of c → labels ≡ label ∷ ls → changesets ≡ c ∷ cs
-    → (name : List ℕ) → bound_to (value_of new) (map (λ w. w.now) ls) cs name ≡ bound_to (value_of old) (map (λ w. w.now) labels) changesets name
-bound_step old new label c n ls labels cs changesets b e l k name =
-    bound_to-same (value_of new) (update bytes_eq (value_of old) label.now (Some (node_of c))) (map (λ w. w.now) ls) cs (λ q. b.values q ∙ ap (λ (m : Node). update bytes_eq (value_of old) label.now (Some m) q) e) name
-    ∙ sym (ap (λ (xs : List (Bor (List ℕ))). bound_to (value_of old) (map (λ w. w.now) xs) changesets name) l ∙ ap (λ (ys : List Contents). bound_to (value_of old) (map (λ w. w.now) (label ∷ ls)) ys name) k)
+pub bound_step : (old new : BTreeMap (Vec ℕ Global) Node) (label : Bor (List ℕ)) (n : Node) (ls labels : List (Bor (List ℕ))) (ns nodes : List Node)
+    → Binds old label.now n new → labels ≡ label ∷ ls → nodes ≡ n ∷ ns
+    → (name : List ℕ) → bound_to (value_of new) (map (λ w. w.now) ls) ns name ≡ bound_to (value_of old) (map (λ w. w.now) labels) nodes name
+bound_step old new label n ls labels ns nodes b l k name =
+    bound_to-same (value_of new) (update bytes_eq (value_of old) label.now (Some n)) (map (λ w. w.now) ls) ns b.values name
+    ∙ sym (ap (λ (xs : List (Bor (List ℕ))). bound_to (value_of old) (map (λ w. w.now) xs) nodes name) l ∙ ap (λ (ys : List Node). bound_to (value_of old) (map (λ w. w.now) (label ∷ ls)) ys name) k)
 
 -- no label is left, or nothing that it could name
-pub bound_end : (f : List ℕ → Option Node) (labels : List (Bor (List ℕ))) (cs : List Contents) → (length labels ≡ 0) ⊎ (length cs ≡ 0) → (name : List ℕ) → f name ≡ bound_to f (map (λ w. w.now) labels) cs name
-bound_end f [] cs h name = refl
+pub bound_end : (f : List ℕ → Option Node) (labels : List (Bor (List ℕ))) (ns : List Node) → (length labels ≡ 0) ⊎ (length ns ≡ 0) → (name : List ℕ) → f name ≡ bound_to f (map (λ w. w.now) labels) ns name
+bound_end f [] ns h name = refl
 bound_end f (l ∷ labels) [] h name = refl
-bound_end f (l ∷ labels) (c ∷ cs) h name = ⊎_elim (λ e. absurd (omega arith)) (λ e. absurd (omega arith)) h
+bound_end f (l ∷ labels) (n ∷ ns) h name = ⊎_elim (λ e. absurd (omega arith)) (λ e. absurd (omega arith)) h
 
 -- one label more stands for its id
 pub ids_more : (ids : List ℕ → Option Node) (labels : List (Bor (List ℕ))) (i : ℕ) (d : Bor (List ℕ)) (nodes new : List Node) (n : Node) → i < length labels

@@ -2,18 +2,13 @@
 use Rattle.std.proofs.Common.{◌≡◌, ℕ, List, [], ◌∷◌, Option, Some, None, Result, Ok, Err, OnOk, IfErr, IfSome, refl, sym, ap, subst, ◌∙◌}
 use Rattle.std.specs.declared.vec.Vec.{Vec}
 use Rattle.std.specs.declared.alloc.Global.{Global}
-use Rattle.std.specs.BTreeMap.{BTreeMap}
-use Rattle.std.specs.List.{slice_get}
 use mathlib.Core.Logic.{⊎_elim}
 use Rattle.hg_changeset.specs.declared.node.Node.{Node}
-use Rattle.hg_changeset.specs.Contents.{Contents}
-use Rattle.hg_rewrite.specs.declared.op.Op.{Op}
-use Rattle.hg_peer.specs.Peers.{Decides}
 use Rattle.hg_replica.specs.State.{ReplicaState}
 use Rattle.hg_replica.specs.Least.{PartValue}
 use Rattle.hg_history.specs.declared.fault.Fault.{Fault}
 use Rattle.hg_world.specs.Runs.{Snapshot, Happens}
-use Rattle.hg_world.specs.declared.event.Event.TheVariants.{Local, Offer, Take}
+use Rattle.hg_world.specs.declared.event.Event.TheVariants.{Offer, Take}
 use Rattle.hg_world.specs.declared.event.EventRefusal.{EventRefusal}
 use Rattle.hg_world.specs.declared.event.Answer.TheVariants.{Accepted, Offered, Refused}
 use Rattle.hg_peer.specs.declared.refusal.PeerRefusal.{PeerRefusal}
@@ -23,8 +18,7 @@ use Rattle.hg_script.specs.declared.fleet.Fleet.{Fleet}
 use Rattle.hg_script.specs.declared.fault.RunFault.{RunFault}
 use Rattle.hg_script.specs.Commands.{Text, Word}
 use Rattle.hg_script.specs.Events.{Trace, PeerEvent, PeerAnswer, no_trace, joined, Ran, IsTold, IsFaultAt, IsLeftBy, taken, HasTaken}
-use Rattle.hg_script.specs.Names.{value_of}
-use Rattle.hg_script.specs.Scripts.{places, AreLabelled, AreLabelledBy, bound_to, IsDone, IsRunOf, DoesWords, DoesLines}
+use Rattle.hg_script.specs.Scripts.{places, IsDone, IsRunOf, DoesWords, DoesLines}
 
 -- a fault that changed nothing
 pub left_unchanged : (number : ℕ) (old new : Snapshot ReplicaState) (fault : RunFault) → new ≡ old → IsFaultAt number fault → IsLeftBy number old fault new
@@ -67,18 +61,6 @@ refused_stays old event answer refusal new e (part, h) = by part (subst (λ a. H
     by : (part : Option PartValue) → Happens peer_state peer_words old event (Refused refusal) part new → new ≡ old
     by None h = h.1
     by (Some part) h = absurd h
-
--- the labels name what the operation made
-pub operated : (old : Fleet) (place : ℕ) (op : Op) (labels : List Text) (cs : List Contents) (answer : PeerAnswer) (w : Snapshot ReplicaState) (names : BTreeMap (Vec ℕ Global) Node)
-    → ((s : ReplicaState) (part : PartValue) → slice_get old.world.nodes place ≡ Some s → Decides s op part → cs ≡ part.history.changesets)
-    → AreLabelled old.labels labels cs answer names
-    → (part : Option PartValue) → Happens peer_state peer_words old.world (Local place op) answer part w → AreLabelledBy old.labels labels (part ∷ []) names
-operated old place op labels cs (Accepted change) w names made named (Some part) (node, next, there, decides, absorbs, nodes, messages) = λ name. named name ∙ ap (λ (ds : List Contents). bound_to (value_of old.labels) labels ds name) (made node part there decides)
-operated old place op labels cs (Accepted change) w names made named None h = absurd h
-operated old place op labels cs (Offered number) w names made named (Some part) h = absurd h
-operated old place op labels cs (Offered number) w names made named None h = absurd h
-operated old place op labels cs (Refused refusal) w names made named (Some part) h = absurd h
-operated old place op labels cs (Refused refusal) w names made named None h = named
 
 -- what the taker takes is the message that was offered, whatever came after
 taken_first : (taker : ℕ) (answer : PeerAnswer) (answers : List PeerAnswer) → taken taker (answer ∷ []) ≡ taken taker (answer ∷ answers)

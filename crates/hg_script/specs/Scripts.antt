@@ -1,5 +1,5 @@
 -- What the lines of a script do to a fleet: to its world, and to the names.
-use Rattle.std.specs.Prelude.{ℕ, ◌≡◌, ◌⊎◌, ◌≤◌, List, [], ◌∷◌, length, map, count_by, Option, Some, None, Ok}
+use Rattle.std.specs.Prelude.{ℕ, ◌≡◌, ◌⊎◌, ◌≤◌, List, [], ◌∷◌, length, map, count_by, Some, None, Ok}
 use Rattle.std.specs.declared.vec.Vec.{Vec}
 use Rattle.std.specs.declared.alloc.Global.{Global}
 use Rattle.std.specs.BTreeMap.{BTreeMap, btree_map_len}
@@ -7,10 +7,7 @@ use Rattle.std.specs.Map.{update}
 use Rattle.std.specs.Str.{bytes_eq}
 use Rattle.std.specs.Str.Lines.{lines}
 use Rattle.hg_changeset.specs.declared.node.Node.{Node}
-use Rattle.hg_changeset.specs.Changeset.{node_of}
-use Rattle.hg_changeset.specs.Contents.{Contents}
 use Rattle.hg_replica.specs.State.{ReplicaState}
-use Rattle.hg_replica.specs.Least.{PartValue}
 use Rattle.hg_world.specs.Runs.{Snapshot, AllEmpty}
 use Rattle.hg_world.specs.declared.event.Answer.TheVariants.{Accepted, Offered, Refused}
 use Rattle.hg_peer.specs.Words.{peer_state}
@@ -34,23 +31,18 @@ ids f = value_of f.labels
 abbrev pub numbers : Fleet → Meaning ℕ
 numbers f = value_of f.messages
 
--- each label names the changeset at its place
-abbrev pub bound_to : Meaning Node → List Text → List Contents → Meaning Node
-bound_to names [] changesets = names
+-- each label names the id at its place
+abbrev pub bound_to : Meaning Node → List Text → List Node → Meaning Node
+bound_to names [] nodes = names
 bound_to names (label ∷ labels) [] = names
-bound_to names (label ∷ labels) (c ∷ changesets) = bound_to (update bytes_eq names label (Some (node_of c))) labels changesets
+bound_to names (label ∷ labels) (n ∷ nodes) = bound_to (update bytes_eq names label (Some n)) labels nodes
 
--- the labels name what an operation made, if it was accepted
-abbrev pub AreLabelled : BTreeMap (Vec ℕ Global) Node → List Text → List Contents → PeerAnswer → BTreeMap (Vec ℕ Global) Node → Type 0
-AreLabelled old labels changesets (Accepted change) new = (name : Text) → value_of new name ≡ bound_to (value_of old) labels changesets name
-AreLabelled old labels changesets (Offered number) new = new ≡ old
-AreLabelled old labels changesets (Refused refusal) new = new ≡ old
-
--- the same of the part that it brought, if it brought one
-abbrev pub AreLabelledBy : BTreeMap (Vec ℕ Global) Node → List Text → List (Option PartValue) → BTreeMap (Vec ℕ Global) Node → Type 0
-AreLabelledBy old labels [] new = new ≡ old
-AreLabelledBy old labels (None ∷ parts) new = new ≡ old
-AreLabelledBy old labels (Some part ∷ parts) new = (name : Text) → value_of new name ≡ bound_to (value_of old) labels part.history.changesets name
+-- the labels name what the operation added, in order, if it was accepted
+abbrev pub AreLabelled : BTreeMap (Vec ℕ Global) Node → List Text → List PeerAnswer → BTreeMap (Vec ℕ Global) Node → Type 0
+AreLabelled old labels [] new = new ≡ old
+AreLabelled old labels (Accepted change ∷ answers) new = (name : Text) → value_of new name ≡ bound_to (value_of old) labels change.added name
+AreLabelled old labels (Offered number ∷ answers) new = new ≡ old
+AreLabelled old labels (Refused refusal ∷ answers) new = new ≡ old
 
 -- the name stands for the message that was offered, if one was
 abbrev pub IsKept : BTreeMap (Vec ℕ Global) ℕ → Text → List PeerAnswer → BTreeMap (Vec ℕ Global) ℕ → Type 0
@@ -59,13 +51,13 @@ IsKept old name (Accepted change ∷ answers) new = new ≡ old
 IsKept old name (Offered number ∷ answers) new = Binds old name number new
 IsKept old name (Refused refusal ∷ answers) new = new ≡ old
 
--- the names after a command: a node has the next place, the new labels of an operation name its changesets, and a message
+-- the names after a command: a node has the next place, the new labels of an operation name what it added, and a message
 -- that was offered has its number. The names of nodes and messages are new
 abbrev pub AreNamed : Fleet → Command → Trace → Fleet → Type 0
 AreNamed old (node at) t new =
     (places old at.now ≡ None) × Binds old.nodes at.now (btree_map_len old.nodes) new.nodes × (new.labels ≡ old.labels) × (new.messages ≡ old.messages)
 AreNamed old (operation at op) t new =
-    (new.nodes ≡ old.nodes) × AreLabelledBy old.labels (new_labels op) t.parts new.labels × (new.messages ≡ old.messages)
+    (new.nodes ≡ old.nodes) × AreLabelled old.labels (new_labels op) t.answers new.labels × (new.messages ≡ old.messages)
 AreNamed old (Offer at message labels) t new =
     (new.nodes ≡ old.nodes) × (new.labels ≡ old.labels) × (numbers old message.now ≡ None) × IsKept old.messages message.now t.answers new.messages
 AreNamed old (Take at message) t new = (new.nodes ≡ old.nodes) × (new.labels ≡ old.labels) × (new.messages ≡ old.messages)

@@ -1,8 +1,5 @@
 //! What a script has made so far: a world of peers, and the names of these, of changesets and of messages.
 ghost use Rattle.std.specs.Prelude.{◌≡◌, ◌∷◌, [], ℕ, List, Some, map, IfOk, IfErr, OnOk, slice_get};
-ghost use Rattle.hg_replica.specs.State.{ReplicaState};
-ghost use Rattle.hg_replica.specs.Least.{PartValue};
-ghost use Rattle.hg_peer.specs.Peers.{Decides};
 ghost use Rattle.hg_script.specs.Events.{HasTaken, IsFaultAt, IsLeftBy};
 ghost use Rattle.hg_script.specs.Names.{value_of};
 ghost use Rattle.hg_script.specs.Scripts.{AreLabelled, IsDone, IsKept, IsNewFleet, bound_to, places};
@@ -17,7 +14,7 @@ use crate::report::print_report;
 use hg_changeset::{Changeset, Node};
 use hg_join::{JoinState, NoMemory};
 use hg_peer::Peer;
-use hg_replica::{Part, Replica};
+use hg_replica::Replica;
 use hg_rewrite::{Op, Refusal, decide};
 use hg_world::{Answer, Event, World};
 use std::alloc::Global;
@@ -112,8 +109,8 @@ impl Fleet {
         Ok(())
     }
 
-    // An operation is decided before it is done, so that its new labels are looked at first where it isn't refused. A
-    // refusal is printed, and the script goes on.
+    // The new labels are looked at before the operation is done, but only where it isn't refused. A refusal is printed,
+    // and the script goes on.
     fn operate<W: Write>(
         &mut self,
         number: usize,
@@ -132,30 +129,37 @@ impl Fleet {
         let op = operation.resolve(&names)?;
         let place = self.place(number, at)?;
         let labels = operation.new_labels(self.alloc)?;
-        let changesets = self.decided(number, place, &op, &labels)?;
+        if !are_new(&self.labels, &labels) {
+            self.check_labels(number, place, &op, &labels)?;
+        }
         let event = Event::Local { at: place, op };
         let answer = run_event(self.alloc, number, &mut self.world, event, writer)?;
-        label(self.alloc, &mut self.labels, &labels, &changesets, &answer)?;
+        label(self.alloc, &mut self.labels, &labels, &answer)?;
         Ok(())
     }
 
-    // The changesets that the operation is to make, which may have these labels; none where it is refused.
-    fn decided(
+    // Whether the labels may name what the operation is to make, which is decided first. What is refused makes nothing.
+    fn check_labels(
         &self,
         number: usize,
         place: usize,
         op: &Op,
         labels: &[&[u8]],
-    ) -> Result<Vec<Changeset>, RunFault>
-        ensures made { IfOk result (λ changesets. (s : ReplicaState) (part : PartValue) → slice_get self.now.world.nodes place ≡ Some s → Decides s op.now part → changesets.items ≡ part.history.changesets) }
-        ensures err { IfErr result (IsFaultAt number) }
+    ) -> Result<(), RunFault>
+        ensures { IfErr result (IsFaultAt number) }
     {
         let replica = self.replica(number, place)?;
-        let changesets = made_by(self.alloc, replica, op)?;
-        if !may_bind(&self.labels, labels, &changesets) {
-            return Err(RunFault::Line(number, LineFault::NameTaken));
+        match decide(self.alloc, replica, op) {
+            Ok(part) => {
+                if may_bind(&self.labels, labels, &part.changesets) {
+                    Ok(())
+                } else {
+                    Err(RunFault::Line(number, LineFault::NameTaken))
+                }
+            }
+            Err(Refusal::NoMemory) => Err(RunFault::NoMemory),
+            Err(_) => Ok(()),
         }
-        Ok(changesets)
     }
 
     // Keeps what a node offers above the changesets of these labels under the name of a message. A refused offer binds
@@ -289,29 +293,14 @@ impl Fleet {
     }
 }
 
-// The changesets that the operation makes at the replica; none where it is refused.
-fn made_by(alloc: Global, replica: &Replica, op: &Op) -> Result<Vec<Changeset>, RunFault>
-    ensures made { IfOk result (λ changesets. (part : PartValue) → Decides replica.now op.now part → changesets.items ≡ part.history.changesets) }
-    ensures err { IfErr result (λ fault. fault ≡ RunFault.NoMemory) }
-{
-    match decide(alloc, replica, op) {
-        Ok(part) => Ok(changesets_of(part)),
-        Err(refusal) => match refusal {
-            Refusal::NoMemory => Err(RunFault::NoMemory),
-            _ => Ok(Vec::new(alloc)),
-        },
+// Whether each label comes once, and names nothing yet.
+fn are_new(names: &BTreeMap<Vec<u8>, Node>, labels: &[&[u8]]) -> bool {
+    for (place, label) in labels.iter().enumerate() {
+        if labels[..place].contains(label) || bound(names, *label).is_some() {
+            return false;
+        }
     }
-}
-
-fn changesets_of(part: Part) -> Vec<Changeset>
-    ensures { result.items ≡ part.history.changesets }
-{
-    let Part {
-        changesets,
-        bounds: _,
-        markers: _,
-    } = part;
-    changesets
+    true
 }
 
 // Whether each label comes once, and names nothing yet or the changeset that it is to name. The changesets of an
@@ -338,37 +327,40 @@ fn may_name(names: &BTreeMap<Vec<u8>, Node>, label: &[u8], node: Node) -> bool {
     }
 }
 
-// Binds each label to the changeset at its place.
-fn bind_labels(
-    alloc: Global,
-    names: &mut BTreeMap<Vec<u8>, Node>,
-    labels: &[&[u8]],
-    changesets: &[Changeset],
-) -> Result<(), RunFault>
-    ensures ok { OnOk result ((name : List ℕ) → value_of names.new name ≡ bound_to (value_of names.old) (map (λ w. w.now) labels.now) changesets.now name) }
-    ensures err { IfErr result (λ fault. fault ≡ RunFault.NoMemory) }
-{
-    for (label, changeset) in labels.iter().zip(changesets) {
-        bind(alloc, names, *label, changeset.node())?;
-    }
-    Ok(())
-}
-
-// Binds each label to the changeset at its place where these were accepted.
+// Binds each label to what the operation added at its place, if it was accepted.
 fn label(
     alloc: Global,
     names: &mut BTreeMap<Vec<u8>, Node>,
     labels: &[&[u8]],
-    changesets: &[Changeset],
     answer: &PeerAnswer,
 ) -> Result<(), RunFault>
-    ensures ok { OnOk result (AreLabelled names.old (map (λ w. w.now) labels.now) changesets.now answer.now names.new) }
+    ensures ok { OnOk result (AreLabelled names.old (map (λ w. w.now) labels.now) (answer.now ∷ []) names.new) }
     ensures err { IfErr result (λ fault. fault ≡ RunFault.NoMemory) }
 {
     match answer {
-        Answer::Accepted(_) => bind_labels(alloc, names, labels, changesets),
-        Answer::Offered(_) | Answer::Refused(_) => Ok(()),
+        Answer::Accepted(change) => {
+            bind_labels(alloc, names, labels, &change.added)?;
+            Ok(())
+        }
+        Answer::Offered(_) => Ok(()),
+        Answer::Refused(_) => Ok(()),
     }
+}
+
+// Binds each label to the node at its place.
+fn bind_labels(
+    alloc: Global,
+    names: &mut BTreeMap<Vec<u8>, Node>,
+    labels: &[&[u8]],
+    nodes: &[Node],
+) -> Result<(), RunFault>
+    ensures ok { OnOk result ((name : List ℕ) → value_of names.new name ≡ bound_to (value_of names.old) (map (λ w. w.now) labels.now) nodes.now name) }
+    ensures err { IfErr result (λ fault. fault ≡ RunFault.NoMemory) }
+{
+    for (label, node) in labels.iter().zip(nodes) {
+        bind(alloc, names, *label, *node)?;
+    }
+    Ok(())
 }
 
 // Binds the name to the message that was offered, if one was.
