@@ -6,6 +6,7 @@ pub mod ExistLemmas
 pub mod TogetherLemmas
 pub mod DrawLemmas
 pub mod RoundLemmas
+pub mod BetweenLemmas
 pub mod StartLemmas
 pub mod SortLemmas
 pub mod CountLemmas

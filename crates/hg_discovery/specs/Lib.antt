@@ -6,4 +6,5 @@ pub mod Answers
 pub mod Picking
 pub mod Start
 pub mod Rounds
+pub mod Between
 pub mod Refusals

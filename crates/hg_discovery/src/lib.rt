@@ -5,10 +5,12 @@
 //! undecided never has a decided changeset between two of its own, and a head is one without undecided children. The answers
 //! of a round take one sweep down the places and one up, as places put each parent before its children.
 //!
-//! The asker calls [`Discovery`], and the other side answers by [`known`]. Both may go on in the meantime.
+//! The asker calls [`Discovery`], and the other side answers by [`known`]. Both may go on in the meantime. Where both stand in
+//! one process, [`heads_in_common`] does all of it.
 #![tactic(auto)]
 
 mod answers;
+mod between;
 mod discovery;
 mod draw;
 mod error;
@@ -18,6 +20,7 @@ mod start;
 mod status;
 
 pub use answers::known;
+pub use between::heads_in_common;
 pub use discovery::Discovery;
 pub use error::DiscoveryError;
 pub use laws::{rounds_are_few, what_is_common_is_held_by_both, what_is_common_is_what_is_served};

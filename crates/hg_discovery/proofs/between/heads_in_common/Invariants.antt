@@ -1,0 +1,9 @@
+use Rattle.hg_discovery.specs.Rounds.{undecided}
+use Rattle.hg_discovery.proofs.BetweenLemmas.{IsAskedSoFar}
+use Rattle.hg_discovery.proofs.between.heads_in_common.Given as goal
+
+abbrev pub invariant-loop-alloc : goal.invariant-loop-alloc
+invariant-loop-alloc l = IsAskedSoFar l.asker l.other l.discovery
+
+abbrev pub decreases-loop-alloc : goal.decreases-loop-alloc
+decreases-loop-alloc l = undecided l.discovery.decided
