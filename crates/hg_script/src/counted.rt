@@ -36,6 +36,7 @@ impl<R: Read, L: Ledger> Counted<R, L> {
         requires name { blank.name ≡ L.name }
         requires parts { blank.parts ≡ L.parts }
         requires some { 0 < blank.parts }
+        ensures { result.reader ≡ reader }
     {
         Counted {
             reader,

@@ -56,7 +56,9 @@ pub fn run_counted<R: Read + Drop, W: Write>(
     alloc: Global,
     reader: R,
     writer: &mut W,
-) -> Result<(), RunFault> {
+) -> Result<(), RunFault>
+    ensures { OnOk result (IfSome (R.remaining reader) (λ text. (world : Snapshot ReplicaState) × IsRunOf text world)) }
+{
     count_and_run::<R, W, Brand>(alloc, reader, writer, Blank::new(1))
 }
 
@@ -69,6 +71,7 @@ fn count_and_run<R: Read + Drop, W: Write, L: Ledger>(
     requires name { blank.name ≡ L.name }
     requires parts { blank.parts ≡ L.parts }
     requires some { 0 < blank.parts }
+    ensures { OnOk result (IfSome (R.remaining reader) (λ text. (world : Snapshot ReplicaState) × IsRunOf text world)) }
 {
     let mut counted = Counted::<R, L>::new(reader, blank);
     run_script(alloc, &mut counted, writer)
