@@ -17,7 +17,7 @@ use Rattle.hg_script.specs.declared.command.Command.TheVariants.{Pull}
 use Rattle.hg_script.specs.declared.fleet.Fleet.{Fleet}
 use Rattle.hg_script.specs.declared.fault.RunFault.{RunFault}
 use Rattle.hg_script.specs.Commands.{Text, Word}
-use Rattle.hg_script.specs.Events.{Trace, PeerEvent, PeerAnswer, no_trace, joined, Ran, IsTold, IsFaultAt, IsLeftBy, taken, HasTaken}
+use Rattle.hg_script.specs.Events.{Trace, PeerEvent, PeerAnswer, no_trace, joined, Ran, IsTold, IsFaultAt, IsLeftBy, AreCommonAt, taken, HasTaken}
 use Rattle.hg_script.specs.Scripts.{places, IsDone, IsRunOf, DoesWords, DoesLines}
 
 -- a fault that changed nothing
@@ -82,13 +82,13 @@ before event answer part t = record { events = event ∷ t.events; answers = ans
 
 -- an offer, and then what the taker takes of it
 pub pulled : (old : Fleet) (to from : Word) (giver taker : ℕ) (common : Vec Node Global) (answer : PeerAnswer) (mid : Snapshot ReplicaState) (new : Fleet)
-    → places old from.now ≡ Some giver → places old to.now ≡ Some taker → common.items ≡ [] → IsTold answer
+    → places old from.now ≡ Some giver → places old to.now ≡ Some taker → AreCommonAt old.world taker giver common.items → IsTold answer
     → (part : Option PartValue) × Happens peer_state peer_words old.world (Offer giver common) answer part mid
     → HasTaken mid taker answer new.world → new.nodes ≡ old.nodes → new.labels ≡ old.labels → new.messages ≡ old.messages → IsDone old (Pull to from) new
-pulled old to from giver taker common answer mid new at_from at_to none told (part, h) (t, events, ran, others) nodes labels messages = (
+pulled old to from giver taker common answer mid new at_from at_to heads told (part, h) (t, events, ran, others) nodes labels messages = (
   before (Offer giver common) answer part t,
   record {
-    asked = (giver, taker, common, at_from, at_to, none, ap (λ (es : List PeerEvent). Offer giver common ∷ es) (events ∙ taken_first taker answer t.answers));
+    asked = (giver, taker, common, at_from, at_to, heads, ap (λ (es : List PeerEvent). Offer giver common ∷ es) (events ∙ taken_first taker answer t.answers));
     ran = (mid, h, ran);
     told = (told, others);
     named = (nodes, labels, messages);

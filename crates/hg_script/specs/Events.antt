@@ -1,5 +1,5 @@
 -- What the commands of a script ask of its world.
-use Rattle.std.specs.Prelude.{ℕ, ◌≡◌, List, [], ◌∷◌, ◌++◌, map, Option, Some, IsSome}
+use Rattle.std.specs.Prelude.{ℕ, ◌≡◌, List, [], ◌∷◌, ◌++◌, map, slice_get, Option, Some, IsSome}
 use Rattle.std.specs.declared.vec.Vec.{Vec}
 use Rattle.std.specs.declared.alloc.Global.{Global}
 use Rattle.std.specs.List.{AllByRecursion}
@@ -23,6 +23,7 @@ use Rattle.hg_world.specs.declared.event.Answer.TheVariants.{Accepted, Offered, 
 use Rattle.hg_peer.specs.declared.refusal.PeerRefusal.{PeerRefusal}
 use Rattle.hg_peer.specs.Refusals.{peer_refusal_number}
 use Rattle.hg_peer.specs.Words.{peer_words, peer_state}
+use Rattle.hg_discovery.specs.Between.{AreHeadsInCommon}
 use Rattle.hg_script.specs.declared.fault.RunFault.{RunFault}
 use Rattle.hg_script.specs.declared.fault.RunFault.TheVariants.{Line, ScriptTooLong, Read, Write, NoMemory}
 use Rattle.hg_script.specs.declared.command.Command.{Command}
@@ -138,18 +139,23 @@ taken taker (Refused refusal ∷ answers) = []
 abbrev pub HasTaken : Snapshot ReplicaState → ℕ → PeerAnswer → Snapshot ReplicaState → Type 0
 HasTaken old taker answer new = (t : Trace) × (t.events ≡ taken taker (answer ∷ [])) × Ran old t new × AreTold t.answers
 
--- the events of a command, where names stand for these places, ids and numbers: what a pull takes hangs on the answer to
--- what it offers
-abbrev pub AreEventsOf : Meaning ℕ → Meaning Node → Meaning ℕ → Command → List PeerAnswer → List PeerEvent → Type 0
-AreEventsOf places ids numbers (node at) answers events = events ≡ []
-AreEventsOf places ids numbers (operation at op) answers events =
+-- the heads of what the peer at one place has in common with the peer at another
+abbrev pub AreCommonAt : Snapshot ReplicaState → ℕ → ℕ → List Node → Type 0
+AreCommonAt world taker giver heads =
+    (ours : ReplicaState) × (theirs : ReplicaState) × (slice_get world.nodes taker ≡ Some ours) × (slice_get world.nodes giver ≡ Some theirs) × AreHeadsInCommon ours theirs heads
+
+-- the events of a command in a world, where names stand for these places, ids and numbers: a pull asks for what is offered
+-- above what both have in common, and what it takes hangs on the answer
+abbrev pub AreEventsOf : Snapshot ReplicaState → Meaning ℕ → Meaning Node → Meaning ℕ → Command → List PeerAnswer → List PeerEvent → Type 0
+AreEventsOf world places ids numbers (node at) answers events = events ≡ []
+AreEventsOf world places ids numbers (operation at op) answers events =
     (place : ℕ) × (asked : Op) × (places at.now ≡ Some place) × IsOperation ids op asked × (events ≡ event.Local place asked ∷ [])
-AreEventsOf places ids numbers (Offer at message labels) answers events =
+AreEventsOf world places ids numbers (Offer at message labels) answers events =
     (place : ℕ) × (common : Vec Node Global) × (places at.now ≡ Some place) × AreIds ids labels.now common.items × (events ≡ event.Offer place common ∷ [])
-AreEventsOf places ids numbers (Take at message) answers events =
+AreEventsOf world places ids numbers (Take at message) answers events =
     (place : ℕ) × (number : ℕ) × (places at.now ≡ Some place) × (numbers message.now ≡ Some number) × (events ≡ event.Take place number ∷ [])
-AreEventsOf places ids numbers (Pull to from) answers events =
-    (giver : ℕ) × (taker : ℕ) × (common : Vec Node Global) × (places from.now ≡ Some giver) × (places to.now ≡ Some taker) × (common.items ≡ [])
-    × (events ≡ event.Offer giver common ∷ taken taker answers)
-AreEventsOf places ids numbers (Report at) answers events = events ≡ []
-AreEventsOf places ids numbers (Agree one other) answers events = events ≡ []
+AreEventsOf world places ids numbers (Pull to from) answers events =
+    (giver : ℕ) × (taker : ℕ) × (common : Vec Node Global) × (places from.now ≡ Some giver) × (places to.now ≡ Some taker)
+    × AreCommonAt world taker giver common.items × (events ≡ event.Offer giver common ∷ taken taker answers)
+AreEventsOf world places ids numbers (Report at) answers events = events ≡ []
+AreEventsOf world places ids numbers (Agree one other) answers events = events ≡ []

@@ -69,7 +69,7 @@ AreNamed old (Agree one other) t new = (new.nodes ≡ old.nodes) × (new.labels 
 
 -- the world ran the events of the command, each was done or refused by a printed number, and the names are as they are then
 pub record Does (old : Fleet) (command : Command) (t : Trace) (new : Fleet) : Type 0 where
-  pub asked : AreEventsOf (places old) (ids old) (numbers old) command t.answers t.events
+  pub asked : AreEventsOf old.world (places old) (ids old) (numbers old) command t.answers t.events
   pub ran : Ran old.world t new.world
   pub told : AreTold t.answers
   pub named : AreNamed old command t new

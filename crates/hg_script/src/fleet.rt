@@ -1,6 +1,6 @@
 //! What a script has made so far: a world of peers, and the names of these, of changesets and of messages.
 ghost use Rattle.std.specs.Prelude.{◌≡◌, ◌∷◌, [], ℕ, List, Some, map, IfOk, IfErr, OnOk, slice_get};
-ghost use Rattle.hg_script.specs.Events.{HasTaken, IsFaultAt, IsLeftBy};
+ghost use Rattle.hg_script.specs.Events.{AreCommonAt, HasTaken, IsFaultAt, IsLeftBy};
 ghost use Rattle.hg_script.specs.Names.{value_of};
 ghost use Rattle.hg_script.specs.Scripts.{AreLabelled, IsDone, IsKept, IsNewFleet, bound_to, places};
 
@@ -12,6 +12,7 @@ use crate::operation::{Names, Operation};
 use crate::output::print_line;
 use crate::report::print_report;
 use hg_changeset::{Changeset, Node};
+use hg_discovery::heads_in_common;
 use hg_join::{JoinState, NoMemory};
 use hg_peer::Peer;
 use hg_replica::Replica;
@@ -227,7 +228,7 @@ impl Fleet {
     {
         let giver = self.place(number, from)?;
         let taker = self.place(number, to)?;
-        let common = Vec::new(self.alloc);
+        let common = self.common(number, taker, giver)?;
         let offer = Event::Offer {
             at: giver,
             ask: common,
@@ -235,6 +236,19 @@ impl Fleet {
         let answer = run_event(self.alloc, number, &mut self.world, offer, writer)?;
         take_offered(self.alloc, number, &mut self.world, taker, &answer, writer)?;
         Ok(())
+    }
+
+    // The heads of what the taker has in common with the giver.
+    fn common(&self, number: usize, taker: usize, giver: usize) -> Result<Vec<Node>, RunFault>
+        ensures ok { IfOk result (λ heads. AreCommonAt self.now.world taker giver heads.items) }
+        ensures err { IfErr result (IsFaultAt number) }
+    {
+        let asker = self.replica(number, taker)?;
+        let other = self.replica(number, giver)?;
+        match heads_in_common(self.alloc, asker, other) {
+            Ok(heads) => Ok(heads),
+            Err(_) => Err(RunFault::NoMemory),
+        }
     }
 
     // Whether two replicas are in equal states: each is below the other.
