@@ -1,5 +1,5 @@
 //! What a script has made so far: a world of peers, and the names of these, of changesets and of messages.
-ghost use Rattle.std.specs.Prelude.{◌≡◌, ◌∷◌, [], ℕ, List, Some, map, IfOk, IfErr, OnOk, slice_get};
+ghost use Rattle.std.specs.Prelude.{◌≡◌, ◌<◌, ◌∷◌, [], ℕ, List, Some, map, IfOk, IfErr, OnOk, OnErr, slice_get};
 ghost use Rattle.hg_script.specs.Events.{AreCommonAt, HasTaken, IsFaultAt, IsLeftBy};
 ghost use Rattle.hg_script.specs.Names.{value_of};
 ghost use Rattle.hg_script.specs.Scripts.{AreLabelled, IsDone, IsKept, IsNewFleet, bound_to, places};
@@ -49,7 +49,8 @@ impl Drop for Fleet {
 impl Fleet {
     /// A new world with a place for so many nodes, none of which has a name yet.
     pub fn new(alloc: Global, count: usize) -> Result<Fleet, NoMemory>
-        ensures { IfOk result (IsNewFleet count) }
+        ensures new { IfOk result (IsNewFleet count) }
+        ensures memory { OnErr result (0 < count) }
     {
         Ok(Fleet {
             alloc,

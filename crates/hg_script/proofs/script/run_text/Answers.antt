@@ -15,7 +15,7 @@ returns g c =
     let ran = does_lines_ran (λ old mid new t u first second. c.runs_compose.ensures old mid new t.events u.events t.answers u.answers t.parts u.parts first second) start (lines c.args.text.now) d.0 end d.1 in
     record {
       start = start;
-      is_new = subst (λ (n : ℕ). IsNewFleet n start) c.count_nodes.ensures c.in_ok-fleet.ensures;
+      is_new = subst (λ (n : ℕ). IsNewFleet n start) c.count_nodes.ensures c.in_ok-fleet.ensures.new;
       trace = d.0;
       end = end;
       did = d.1;
