@@ -190,6 +190,14 @@ def pulls_of_nothing(size):
         yield "pull B A"
 
 
+def plain_offers(size):
+    """Two nodes in one state, and ten offers of all that is served, each taken."""
+    yield from pull_into_an_empty_node(size)
+    for number in range(10):
+        yield f"offer A {number}"
+        yield f"take B {number}"
+
+
 def amends_pulled(size):
     """A chain whose tip is amended on one side and pulled by the other, a hundred times."""
     yield from pull_into_an_empty_node(size)
@@ -293,6 +301,7 @@ CASES += [
     ("a chain pulled into an empty node", pull_into_an_empty_node, SIZES, lambda size: 0),
     ("that, and 100 new ones pulled above it", pulls_of_a_hundred, SIZES, lambda size: 1),
     ("that, and 10 pulls of nothing", pulls_of_nothing, SIZES, lambda size: 0),
+    ("that, and 10 offers of everything taken", plain_offers, SIZES, lambda size: 0),
     ("that, and 100 pulls of an amended tip", amends_pulled, SMALL, lambda size: 0),
     ("that, and 10 times whether the nodes agree", agreements, SIZES, lambda size: 10),
     ("a mixed script with 20 pulls", mixed, (12_000, 24_000, 48_000), lambda size: 3),

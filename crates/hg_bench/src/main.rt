@@ -5,12 +5,14 @@
 #![tactic(auto)]
 
 mod chain;
+mod discoveries;
 mod markers;
 mod messages;
 mod rewrites;
 mod states;
 mod successors;
 
+use discoveries::discover;
 use markers::{Shape, add_markers, list_markers, read_markers, write_markers};
 use messages::{make_offer, read_offer, take_offer, write_offer};
 use rewrites::{amend_bottom, tell_instabilities};
@@ -64,7 +66,7 @@ fn spent(rt: &(impl CpuClock + AllocGlobal), case: &str, size: usize) -> io::Res
     }
 }
 
-// What a case of this size took, where it is one of successors sets or messages.
+// What a case of this size took, where it is one of successors sets, messages or discovery.
 fn spent_on_exchange(
     rt: &(impl CpuClock + AllocGlobal),
     case: &str,
@@ -81,6 +83,7 @@ fn spent_on_exchange(
         "write-offer" => write_offer(rt, size),
         "read-offer" => read_offer(rt, size),
         "take-offer" => take_offer(rt, size),
+        "discover" => discover(rt, size),
         _ => Ok(Duration::ZERO),
     }
 }

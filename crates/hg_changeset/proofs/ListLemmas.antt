@@ -1,12 +1,12 @@
 -- Places in lists and members of lists, beside the toolchain's lemmas, for this crate and those above it.
-use Rattle.std.proofs.Common.{◌≡◌, ℕ, zero, suc, ◌+◌, ◌-◌, ◌<◌, ◌≤◌, Bool, true, false, cond, List, [], ◌∷◌, ◌++◌, length, map, take, drop, get_or, slice_get, Some, None, Contains, Result, Ok, Err, OnErr, ◌⊎◌, inl, inr, refl, sym, ap, subst, arith, length-append}
+use Rattle.std.proofs.Common.{◌≡◌, ℕ, zero, suc, ◌+◌, ◌-◌, ◌<◌, ◌≤◌, Bool, true, false, cond, List, [], ◌∷◌, ◌++◌, length, map, take, drop, get_or, slice_get, Some, None, Contains, Result, Ok, Err, OnErr, ◌↔◌, ◌⊎◌, inl, inr, refl, sym, ap, subst, ◌∙◌, arith, length-append}
 use Rattle.std.specs.Prelude.{position}
 use Rattle.std.specs.List.{position_or_len}
 use Rattle.std.specs.List.Sorted.{IsStrictlyIncreasing}
 use Rattle.std.proofs.lemmas.Bool.{cases_lt, ltb-true, ltb-false}
-use Rattle.std.proofs.lemmas.List.{get_or_append_left, get_or_push, take_all, length-drop}
-use Rattle.std.proofs.lemmas.List.Elements.{Contains-append_left, Contains-append_right, Contains-append_cases, Contains-get_or}
-use Rattle.std.proofs.lemmas.Option.{cond_some, none-some, same_Some}
+use Rattle.std.proofs.lemmas.List.{get_or_append_left, get_or_push, take_all, take_more, length-drop}
+use Rattle.std.proofs.lemmas.List.Elements.{Contains-append_left, Contains-append_right, Contains-append_cases, Contains-get_or, Contains-push, Contains-push_cases}
+use Rattle.std.proofs.lemmas.Option.{cond_some, none-some, same_Some, slice_get_within, slice_get-get_or, get_or_from_slice_get}
 
 -- ---- places
 
@@ -102,3 +102,25 @@ Contains-append_swap xs ys x h = elim (Contains-append_cases xs ys x h) [ inl e 
 pub on_err_anyway : {T E : Type 0} (r : Result T E) (P : Type 0) → P → OnErr r P
 on_err_anyway (Ok x) P p = tt
 on_err_anyway (Err e) P p = p
+
+-- ---- members by their places, and one member more
+
+pub Contains-from_place : {X : Type 0} (xs : List X) (i : ℕ) (x : X) → slice_get xs i ≡ Some x → Contains xs x
+Contains-from_place xs i x p = (i, slice_get_within xs i x p, get_or_from_slice_get xs i x x p)
+
+pub place_from_Contains : {X : Type 0} (xs : List X) (x : X) → Contains xs x → (i : ℕ) × (slice_get xs i ≡ Some x)
+place_from_Contains xs x h = (h.0, slice_get-get_or xs h.0 x h.1 ∙ ap (λ y. Some y) h.2)
+
+pub Contains-pushed : {X : Type 0} (xs : List X) (x y : X) → Contains (xs ++ x ∷ []) y ↔ (Contains xs y ⊎ (x ≡ y))
+Contains-pushed xs x y = (
+  λ h. Contains-push_cases xs x y h,
+  λ h. elim h [ inl old ↦ Contains-append_left xs (x ∷ []) y old | inr e ↦ subst (Contains (xs ++ x ∷ [])) e (Contains-push xs x) ],
+)
+
+-- the elements up to one more
+pub Contains-taken : {X : Type 0} (xs : List X) (i : ℕ) (x y : X) → i < length xs → get_or xs i x ≡ x → Contains (take (i + 1) xs) y ↔ (Contains (take i xs) y ⊎ (x ≡ y))
+Contains-taken xs i x y l is =
+    let more : take (i + 1) xs ≡ take i xs ++ x ∷ [] = take_more xs i x l ∙ ap (λ z. take i xs ++ z ∷ []) is in (
+      λ h. (Contains-pushed (take i xs) x y).0 (subst (λ zs. Contains zs y) more h),
+      λ h. subst (λ zs. Contains zs y) (sym more) ((Contains-pushed (take i xs) x y).1 h),
+    )

@@ -3,22 +3,8 @@ use Rattle.std.proofs.Common.{◌≡◌, Bool, true, false, true≢false, not, I
 use Rattle.std.proofs.lemmas.List.{take_more, take_all}
 use Rattle.std.proofs.lemmas.List.Elements.{Contains-append_left, Contains-push, Contains-push_cases}
 use Rattle.hg_changeset.specs.declared.node.Node.{Node}
-use Rattle.hg_changeset.proofs.ListLemmas.{Contains-none}
+use Rattle.hg_changeset.proofs.ListLemmas.{Contains-none, Contains-pushed, Contains-taken}
 use Rattle.hg_marker.specs.Fields.{Fields}
-
--- one element more
-pub pushed : {X : Type 0} (xs : List X) (x y : X) → Contains (xs ++ x ∷ []) y ↔ (Contains xs y ⊎ (x ≡ y))
-pushed xs x y = (
-  λ h. Contains-push_cases xs x y h,
-  λ h. elim h [ inl old ↦ Contains-append_left xs (x ∷ []) y old | inr e ↦ subst (Contains (xs ++ x ∷ [])) e (Contains-push xs x) ],
-)
-
-pub taken : {X : Type 0} (xs : List X) (i : ℕ) (x y : X) → i < length xs → get_or xs i x ≡ x → Contains (take (i + 1) xs) y ↔ (Contains (take i xs) y ⊎ (x ≡ y))
-taken xs i x y l is =
-    let more : take (i + 1) xs ≡ take i xs ++ x ∷ [] = take_more xs i x l ∙ ap (λ z. take i xs ++ z ∷ []) is in (
-      λ h. (pushed (take i xs) x y).0 (subst (λ zs. Contains zs y) more h),
-      λ h. subst (λ zs. Contains zs y) (sym more) ((pushed (take i xs) x y).1 h),
-    )
 
 -- of what was seen, the found ones are those that are so
 abbrev pub AreThose : (Node → Type 0) → (Node → Type 0) → List Node → Type 0
@@ -43,8 +29,8 @@ module _ (Seen More P : Node → Type 0) (found : List Node) (m : Node) (those :
 
   pub those-pushed : P m → (new : List Node) → new ≡ found ++ m ∷ [] → AreThose More P new
   those-pushed p new is = those-found p new (λ n. (
-    λ h. (pushed found m n).0 (subst (λ ns. Contains ns n) is h),
-    λ h. subst (λ ns. Contains ns n) (sym is) ((pushed found m n).1 h),
+    λ h. (Contains-pushed found m n).0 (subst (λ ns. Contains ns n) is h),
+    λ h. subst (λ ns. Contains ns n) (sym is) ((Contains-pushed found m n).1 h),
   ))
 
   pub those-other : ¬ (P m) → AreThose More P found
@@ -63,13 +49,13 @@ divided-none Seen Pass Fail found is never n = (λ h. absurd (Contains-none n (s
 module _ (Seen More Pass Fail : Node → Type 0) (found : List Node) (m : Node) (divided : AreDivided Seen Pass Fail found) (more : IsAlso m Seen More) where
   pub divided-pushed : Pass m → (new : List Node) → new ≡ found ++ m ∷ [] → AreDivided More Pass Fail new
   divided-pushed p new is n = (
-    λ h. elim ((pushed found m n).0 (subst (λ ns. Contains ns n) is h)) [
+    λ h. elim ((Contains-pushed found m n).0 (subst (λ ns. Contains ns n) is h)) [
       | inl old ↦ let x = (divided n).0 old in ((more n).1 (inl x.0), x.1)
       | inr e ↦ ((more n).1 (inr e), subst Pass e p)
     ],
     λ h. elim ((more n).0 h) [
-      | inl old ↦ elim ((divided n).1 old) [ inl f ↦ inl (subst (λ ns. Contains ns n) (sym is) ((pushed found m n).1 (inl f))) | inr f ↦ inr f ]
-      | inr e ↦ inl (subst (λ ns. Contains ns n) (sym is) ((pushed found m n).1 (inr e)))
+      | inl old ↦ elim ((divided n).1 old) [ inl f ↦ inl (subst (λ ns. Contains ns n) (sym is) ((Contains-pushed found m n).1 (inl f))) | inr f ↦ inr f ]
+      | inr e ↦ inl (subst (λ ns. Contains ns n) (sym is) ((Contains-pushed found m n).1 (inr e)))
     ],
   )
 
@@ -101,8 +87,8 @@ those-all Seen P xs i found le those = subst (λ zs. AreThose (Seen zs) P found)
 pub also-taken : (xs : List Node) (i : ℕ) (d : Node) → i < length xs → IsAlso (get_or xs i d) (Contains (take i xs)) (Contains (take (i + 1) xs))
 also-taken xs i d l n =
     let more : take (i + 1) xs ≡ take i xs ++ get_or xs i d ∷ [] = take_more xs i d l in (
-      λ h. (pushed (take i xs) (get_or xs i d) n).0 (subst (λ zs. Contains zs n) more h),
-      λ h. subst (λ zs. Contains zs n) (sym more) ((pushed (take i xs) (get_or xs i d) n).1 h),
+      λ h. (Contains-pushed (take i xs) (get_or xs i d) n).0 (subst (λ zs. Contains zs n) more h),
+      λ h. subst (λ zs. Contains zs n) (sym more) ((Contains-pushed (take i xs) (get_or xs i d) n).1 h),
     )
 
 -- the predecessors of markers
@@ -111,6 +97,6 @@ HavePredecessor ms n = (m : Fields) × Contains ms m × (m.predecessor ≡ n)
 
 pub also-predecessor : (ms : List Fields) (i : ℕ) (m : Fields) → i < length ms → get_or ms i m ≡ m → IsAlso m.predecessor (HavePredecessor (take i ms)) (HavePredecessor (take (i + 1) ms))
 also-predecessor ms i m l is n = (
-  λ h. elim ((taken ms i m h.0 l is).0 h.1) [ inl old ↦ inl (h.0, old, h.2) | inr e ↦ inr (ap (λ x. x.predecessor) e ∙ h.2) ],
-  λ h. elim h [ inl old ↦ (old.0, (taken ms i m old.0 l is).1 (inl old.1), old.2) | inr e ↦ (m, (taken ms i m m l is).1 (inr refl), e) ],
+  λ h. elim ((Contains-taken ms i m h.0 l is).0 h.1) [ inl old ↦ inl (h.0, old, h.2) | inr e ↦ inr (ap (λ x. x.predecessor) e ∙ h.2) ],
+  λ h. elim h [ inl old ↦ (old.0, (Contains-taken ms i m old.0 l is).1 (inl old.1), old.2) | inr e ↦ (m, (Contains-taken ms i m m l is).1 (inr refl), e) ],
 )

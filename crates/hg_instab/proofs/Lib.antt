@@ -1,6 +1,5 @@
 pub mod AmongLemmas
 pub mod QueryLemmas
-pub mod LawLemmas
 pub mod WalkLemmas
 pub mod PrecedeLemmas
 pub mod ForkLemmas

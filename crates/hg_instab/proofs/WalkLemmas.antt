@@ -17,7 +17,7 @@ use Rattle.hg_instab.specs.declared.walk.Way.{Way}
 use Rattle.hg_instab.specs.declared.walk.Way.TheVariants.{ToSuccessors, ToPredecessors}
 use Rattle.hg_instab.specs.Walk.{IsReached, IsNext, IsBefore, IsStep, Leads, Adds}
 use Rattle.hg_instab.specs.Walk.Leads.{one, further}
-use Rattle.hg_instab.proofs.AmongLemmas.{pushed, taken}
+use Rattle.hg_changeset.proofs.ListLemmas.{Contains-pushed, Contains-taken}
 use Rattle.indexmap.specs.IndexSet.{insert_key}
 
 -- ---- what is added
@@ -59,11 +59,11 @@ adds-one xs ys x is = by (list_any (node_eq x) xs) refl
         subst (Adds (λ n. x ≡ n) xs) (sym same) (adds-nothing (λ n. x ≡ n) xs (λ n at. subst (Contains xs) at (Contains-from_any same_node x xs e)))
     by false e =
         let same : ys ≡ xs ++ x ∷ [] = is ∙ rw e refl in
-        record { kept = (x ∷ [], same); members = λ n. (λ h. (pushed xs x n).0 (subst (λ zs. Contains zs n) same h), λ h. subst (λ zs. Contains zs n) (sym same) ((pushed xs x n).1 h)) }
+        record { kept = (x ∷ [], same); members = λ n. (λ h. (Contains-pushed xs x n).0 (subst (λ zs. Contains zs n) same h), λ h. subst (λ zs. Contains zs n) (sym same) ((Contains-pushed xs x n).1 h)) }
 
 -- the nodes up to one more
 pub adds-more : (nodes : List Node) (i : ℕ) (x : Node) (xs ys zs : List Node) → i < length nodes → get_or nodes i x ≡ x → Adds (Contains (take i nodes)) xs ys → zs ≡ insert_key node_eq ys x → Adds (Contains (take (i + 1) nodes)) xs zs
-adds-more nodes i x xs ys zs l at before is = adds-then (Contains (take i nodes)) (λ n. x ≡ n) (Contains (take (i + 1) nodes)) xs ys zs (λ n. taken nodes i x n l at) before (adds-one ys zs x is)
+adds-more nodes i x xs ys zs l at before is = adds-then (Contains (take i nodes)) (λ n. x ≡ n) (Contains (take (i + 1) nodes)) xs ys zs (λ n. Contains-taken nodes i x n l at) before (adds-one ys zs x is)
 
 -- what stood first still does
 take-front : (k : ℕ) (xs more : List Node) → k ≤ length xs → take k (xs ++ more) ≡ take k xs
@@ -83,15 +83,15 @@ IsNextAt Kind ms places n = (k : ℕ) × Contains places k × (m : Fields) × (s
 pub next-more : (Kind : Fields → Type 0) (ms : List Fields) (places : List ℕ) (i k : ℕ) (m : Fields) → i < length places → get_or places i k ≡ k → slice_get ms k ≡ Some m → (n : Node)
     → IsNextAt Kind ms (take (i + 1) places) n ↔ (IsNextAt Kind ms (take i places) n ⊎ (Kind m × Contains m.successors n))
 next-more Kind ms places i k m l is at n = (
-  λ h. elim ((taken places i k h.0 l is).0 h.1) [
+  λ h. elim ((Contains-taken places i k h.0 l is).0 h.1) [
     | inl old ↦ inl (h.0, old, h.2, h.3, h.4, h.5)
     | inr e ↦
         let same : h.2 ≡ m = same_Some h.2 m (sym h.3 ∙ ap (slice_get ms) (sym e) ∙ at) in
         inr (subst (λ x. Kind x × Contains x.successors n) same (h.4, h.5))
   ],
   λ h. elim h [
-    | inl old ↦ (old.0, (taken places i k old.0 l is).1 (inl old.1), old.2, old.3, old.4, old.5)
-    | inr new ↦ (k, (taken places i k k l is).1 (inr refl), m, at, new.0, new.1)
+    | inl old ↦ (old.0, (Contains-taken places i k old.0 l is).1 (inl old.1), old.2, old.3, old.4, old.5)
+    | inr new ↦ (k, (Contains-taken places i k k l is).1 (inr refl), m, at, new.0, new.1)
   ],
 )
 
@@ -113,15 +113,15 @@ IsBeforeAt ms places n = (k : ℕ) × Contains places k × (m : Fields) × (slic
 pub before-more : (ms : List Fields) (places : List ℕ) (i k : ℕ) (m : Fields) → i < length places → get_or places i k ≡ k → slice_get ms k ≡ Some m → (n : Node)
     → IsBeforeAt ms (take (i + 1) places) n ↔ (IsBeforeAt ms (take i places) n ⊎ (m.predecessor ≡ n))
 before-more ms places i k m l is at n = (
-  λ h. elim ((taken places i k h.0 l is).0 h.1) [
+  λ h. elim ((Contains-taken places i k h.0 l is).0 h.1) [
     | inl old ↦ inl (h.0, old, h.2, h.3, h.4)
     | inr e ↦
         let same : h.2 ≡ m = same_Some h.2 m (sym h.3 ∙ ap (slice_get ms) (sym e) ∙ at) in
         inr (subst (λ x. x.predecessor ≡ n) same h.4)
   ],
   λ h. elim h [
-    | inl old ↦ (old.0, (taken places i k old.0 l is).1 (inl old.1), old.2, old.3, old.4)
-    | inr new ↦ (k, (taken places i k k l is).1 (inr refl), m, at, new)
+    | inl old ↦ (old.0, (Contains-taken places i k old.0 l is).1 (inl old.1), old.2, old.3, old.4)
+    | inr new ↦ (k, (Contains-taken places i k k l is).1 (inr refl), m, at, new)
   ],
 )
 
@@ -184,7 +184,7 @@ module _ (way : Way) (ms : List Fields) (starts : List Node) where
     begun = λ n h. (a.members n).1 (inl (w.begun n h));
     closed = λ p n h next.
         let before : Contains (take (i + 1) seen) p = subst (λ zs. Contains zs p) (front-kept seen new (i + 1) a.kept (omega (arith, l))) h in
-        (a.members n).1 (elim ((taken seen i x p l at).0 before) [
+        (a.members n).1 (elim ((Contains-taken seen i x p l at).0 before) [
           | inl old ↦ inl (w.closed p n old next)
           | inr e ↦ inr (subst (λ y. Step y n) (sym e) next)
         ]);

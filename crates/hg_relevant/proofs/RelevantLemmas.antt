@@ -10,7 +10,7 @@ use Rattle.std.proofs.lemmas.Option.{slice_get_within, slice_get-get_or, get_or_
 use Rattle.hg_changeset.specs.declared.node.Node.{Node}
 use Rattle.hg_changeset.specs.Node.{node_eq}
 use Rattle.hg_changeset.proofs.NodeLemmas.{same_node, node_eq_laws}
-use Rattle.hg_changeset.proofs.ListLemmas.{slice_get_some, slice_get-append, Contains-map}
+use Rattle.hg_changeset.proofs.ListLemmas.{Contains-from_place, place_from_Contains, slice_get_some, slice_get-append, Contains-map}
 use Rattle.hg_marker.specs.Fields.{Fields}
 use Rattle.hg_obsstore.specs.Markers.{IsAt, ArePlaces}
 use Rattle.hg_obsstore.specs.Places.{ListsAll}
@@ -19,13 +19,6 @@ use Rattle.hg_relevant.specs.Relevant.{IsRelevant, Touches}
 use Rattle.hg_relevant.specs.Relevant.IsRelevant.{direct, further}
 use Rattle.hg_relevant.specs.Search.{IsMarked, IsFound, Wants, Finds}
 use Rattle.hg_relevant.proofs.SearchLemmas.{no_marks, both_at}
-
--- what is at a place is in the list
-at_place : {X : Type 0} (xs : List X) (i : ℕ) (x : X) → slice_get xs i ≡ Some x → Contains xs x
-at_place xs i x h = (i, slice_get_within xs i x h, get_or_from_slice_get xs i x x h)
-
-place_of : {X : Type 0} (xs : List X) (x : X) → Contains xs x → (i : ℕ) × (slice_get xs i ≡ Some x)
-place_of xs x h = (h.0, slice_get-get_or xs h.0 x h.1 ∙ ap Some h.2)
 
 before_or_at : (j i : ℕ) → j < i + 1 → (j < i) ⊎ (j ≡ i)
 before_or_at j i l = elim (cases_lt j i) [ inl lt ↦ inl lt | inr ge ↦ inr (omega (arith, ge, l)) ]
@@ -57,7 +50,7 @@ module _ (ms : List Fields) (nodes : List Node) where
 
   module _ (s t : Search) (i : ℕ) (n : Node) (at : slice_get s.wanted.keys i ≡ Some n) (w : IsSearched s i) (v : Finds ms (IsAt (Touches n) ms) s t) where
     relevant-touching : (m : Fields) → Contains ms m → Touches n m → IsFor m
-    relevant-touching m held touches = elim (w.wanted n (at_place s.wanted.keys i n at)) [
+    relevant-touching m held touches = elim (w.wanted n (Contains-from_place s.wanted.keys i n at)) [
       | inl one ↦ direct one held touches
       | inr far ↦ further far.1.2.0 held (subst (λ (x : Node). Touches x m) (sym far.1.2.1) touches)
     ]
@@ -65,7 +58,7 @@ module _ (ms : List Fields) (nodes : List Node) where
     sound-more : (k : ℕ) → IsFound t k → IsAt IsFor ms k
     sound-more k h = elim ((v.found k).0 h) [
       | inl old ↦ w.sound k old
-      | inr new ↦ (new.0, new.1, relevant-touching new.0 (at_place ms k new.0 new.1) new.2)
+      | inr new ↦ (new.0, new.1, relevant-touching new.0 (Contains-from_place ms k new.0 new.1) new.2)
     ]
 
     closed-more : (j k : ℕ) (x : Node) → j < i + 1 → slice_get t.wanted.keys j ≡ Some x → IsAt (Touches x) ms k → IsFound t k
@@ -101,7 +94,7 @@ module _ (ms : List Fields) (nodes : List Node) where
       let all : List Node = nodes ++ map (λ m. m.predecessor) ms in
       let among : (n : Node) → Contains s.wanted.keys n → Contains all n = λ n h. (elim (w.wanted n h) [
         | inl one ↦ Contains-append_left nodes (map (λ m. m.predecessor) ms) n one
-        | inr far ↦ Contains-append_right nodes (map (λ m. m.predecessor) ms) n (subst (Contains (map (λ m. m.predecessor) ms)) far.1.2.1 (Contains-map (λ m. m.predecessor) ms far.1.0 (at_place ms far.0 far.1.0 far.1.1)))
+        | inr far ↦ Contains-append_right nodes (map (λ m. m.predecessor) ms) n (subst (Contains (map (λ m. m.predecessor) ms)) far.1.2.1 (Contains-map (λ m. m.predecessor) ms far.1.0 (Contains-from_place ms far.0 far.1.0 far.1.1)))
       ]) in
       let few = length-le_from_is_member node_eq_laws s.wanted.keys all distinct (λ q e. list_any-from_Contains node_eq_laws q all (among q (Contains-from_any same_node q s.wanted.keys e))) in
       omega (arith, few, length-append nodes (map (λ m. m.predecessor) ms), length-map ms (λ (m : Fields). m.predecessor))
@@ -113,13 +106,13 @@ module _ (ms : List Fields) (nodes : List Node) where
   module _ (s : Search) (i : ℕ) (w : IsSearched s i) (ended : length s.wanted.keys ≤ i) where
     found-touching : (n : Node) → Contains s.wanted.keys n → (k : ℕ) → IsAt (Touches n) ms k → IsFound s k
     found-touching n in' k touches =
-        let at = place_of s.wanted.keys n in' in
+        let at = place_from_Contains s.wanted.keys n in' in
         w.closed at.0 k n (omega (arith, ended, slice_get_within s.wanted.keys at.0 n at.1)) at.1 touches
 
     complete : (m : Fields) → IsFor m → (k : ℕ) → slice_get ms k ≡ Some m → IsFound s k
     complete m (direct {n = n} one h touches) k at = found-touching n (w.named n one) k (m, at, touches)
     complete m (further {before = b} r h touches) k at =
-        let place = place_of ms b (held b r) in
+        let place = place_from_Contains ms b (held b r) in
         found-touching b.predecessor (w.wants place.0 (complete b r place.0 place.1) b place.1) k (m, at, touches)
 
     pub searched-end : (places : List ℕ) → ListsAll (IsMarked s.found.items) places → ArePlaces IsFor ms places

@@ -10,7 +10,7 @@ use Rattle.indexmap.specs.IndexSet.{insert_key}
 use Rattle.hg_changeset.specs.declared.node.Node.{Node}
 use Rattle.hg_changeset.specs.Node.{node_eq}
 use Rattle.hg_changeset.proofs.NodeLemmas.{same_node}
-use Rattle.hg_changeset.proofs.ListLemmas.{Contains-none}
+use Rattle.hg_changeset.proofs.ListLemmas.{Contains-none, Contains-pushed, Contains-taken}
 use Rattle.hg_marker.specs.Fields.{Fields}
 use Rattle.hg_marker.specs.Parents.{recorded_parents}
 use Rattle.hg_obsstore.specs.Markers.{IsAt, ArePlaces}
@@ -19,20 +19,6 @@ use Rattle.hg_relevant.specs.Relevant.{IsPrune, Touches}
 use Rattle.hg_relevant.specs.Search.{IsFound, Wants, Finds}
 
 -- ---- lists
-
-pub pushed : {X : Type 0} (xs : List X) (x y : X) → Contains (xs ++ x ∷ []) y ↔ (Contains xs y ⊎ (x ≡ y))
-pushed xs x y = (
-  λ h. Contains-push_cases xs x y h,
-  λ h. elim h [ inl old ↦ Contains-append_left xs (x ∷ []) y old | inr e ↦ subst (Contains (xs ++ x ∷ [])) e (Contains-push xs x) ],
-)
-
--- the elements up to one more
-pub taken : {X : Type 0} (xs : List X) (i : ℕ) (x y : X) → i < length xs → get_or xs i x ≡ x → Contains (take (i + 1) xs) y ↔ (Contains (take i xs) y ⊎ (x ≡ y))
-taken xs i x y l is =
-    let more : take (i + 1) xs ≡ take i xs ++ x ∷ [] = take_more xs i x l ∙ ap (λ z. take i xs ++ z ∷ []) is in (
-      λ h. (pushed (take i xs) x y).0 (subst (λ zs. Contains zs y) more h),
-      λ h. subst (λ zs. Contains zs y) (sym more) ((pushed (take i xs) x y).1 h),
-    )
 
 pub marks-set : (marks : List Bool) (k i : ℕ) → k < length marks → (get_or (set marks k true) i false ≡ true) ↔ ((get_or marks i false ≡ true) ⊎ (k ≡ i))
 marks-set marks k i l = elim (cases_eq i k) [
@@ -58,7 +44,7 @@ inserted xs x = by (list_any (node_eq x) xs) refl
   where
     by : (b : Bool) → list_any (node_eq x) xs ≡ b → Inserts xs x (insert_key node_eq xs x)
     by true e = rw e (record { kept = ([], sym (append-nil xs)); members = λ n. (λ h. inl h, λ h. elim h [ inl old ↦ old | inr is ↦ subst (Contains xs) is (Contains-from_any same_node x xs e) ]) })
-    by false e = rw e (record { kept = (x ∷ [], refl); members = λ n. pushed xs x n })
+    by false e = rw e (record { kept = (x ∷ [], refl); members = λ n. Contains-pushed xs x n })
 
 -- ---- several markers
 
@@ -131,8 +117,8 @@ module _ (ms : List Fields) where
       → Finds ms (λ k. Contains (take i places) k × R k) s t → Finds ms (λ k. (p ≡ k) × R k) t u → Finds ms (λ k. Contains (take (i + 1) places) k × R k) s u
   finds-more places i p R s t u l is v w = finds-then (λ k. Contains (take i places) k × R k) (λ k. (p ≡ k) × R k) (λ k. Contains (take (i + 1) places) k × R k) s t u
       (λ k. (
-        λ h. elim ((taken places i p k l is).0 h.0) [ inl old ↦ inl (old, h.1) | inr e ↦ inr (e, h.1) ],
-        λ h. elim h [ inl old ↦ ((taken places i p k l is).1 (inl old.0), old.1) | inr new ↦ ((taken places i p k l is).1 (inr new.0), new.1) ],
+        λ h. elim ((Contains-taken places i p k l is).0 h.0) [ inl old ↦ inl (old, h.1) | inr e ↦ inr (e, h.1) ],
+        λ h. elim h [ inl old ↦ ((Contains-taken places i p k l is).1 (inl old.0), old.1) | inr new ↦ ((Contains-taken places i p k l is).1 (inr new.0), new.1) ],
       )) v w
 
   pub place-within : (P : Fields → Type 0) (places : List ℕ) → ArePlaces P ms places → (i : ℕ) → Contains places i → i < length ms
@@ -201,6 +187,6 @@ pub set-more : (nodes : List Node) (i : ℕ) (x : Node) (ks ls : List Node) → 
     → ((n : Node) → Contains ks n ↔ Contains (take i nodes) n) → (n : Node) → Contains ls n ↔ Contains (take (i + 1) nodes) n
 set-more nodes i x ks ls l is keys so_far n =
     let put : Inserts ks x ls = subst (Inserts ks x) (sym keys) (inserted ks x) in (
-      λ h. (taken nodes i x n l is).1 (elim ((put.members n).0 h) [ inl old ↦ inl ((so_far n).0 old) | inr e ↦ inr e ]),
-      λ h. (put.members n).1 (elim ((taken nodes i x n l is).0 h) [ inl old ↦ inl ((so_far n).1 old) | inr e ↦ inr e ]),
+      λ h. (Contains-taken nodes i x n l is).1 (elim ((put.members n).0 h) [ inl old ↦ inl ((so_far n).0 old) | inr e ↦ inr e ]),
+      λ h. (put.members n).1 (elim ((Contains-taken nodes i x n l is).0 h) [ inl old ↦ inl ((so_far n).1 old) | inr e ↦ inr e ]),
     )

@@ -1,5 +1,5 @@
 -- Contents say what states say.
-use Rattle.std.proofs.Common.{◌≡◌, [], ◌∷◌, Contains, Result, Ok, Err, OnOk, OnErr, IfOk, IfErr, ◌↔◌, ◌⊎◌, inl, inr, refl, sym, ap, ◌∙◌}
+use Rattle.std.proofs.Common.{◌≡◌, [], ◌∷◌, Contains, Result, Ok, Err, OnOk, OnErr, IfOk, IfErr, ◌↔◌, ◌⊎◌, inl, inr, refl, sym, ap, subst, ◌∙◌}
 use Rattle.hg_marker.specs.Fields.{Fields}
 use Rattle.hg_phases.specs.State.{changesets}
 use Rattle.hg_phases.proofs.ContentLemmas.{content-same as history-same, same_from_content as history_from_same}
@@ -15,7 +15,7 @@ use Rattle.hg_replica.specs.State.{ReplicaState, IsValid, Below, IsSameState}
 use Rattle.hg_replica.specs.Least.{PartValue, Covers, IsAdmitted, IsMarkerOfOne, IsLeast}
 use Rattle.hg_replica.specs.Change.{ChangeValue, TellsChange}
 use Rattle.hg_replica.specs.Answer.{AbsorbAnswer, IsJoin, JoinAnswer}
-use Rattle.hg_replica.specs.Content.{content_of, IsValidContent, ContentBelow, ContentCovers, ContentAfter, ContentsJoined, ContentsCollide, IsContentFault}
+use Rattle.hg_replica.specs.Content.{Content, content_of, IsValidContent, ContentBelow, ContentCovers, ContentAfter, ContentsJoined, ContentsCollide, IsContentFault}
 use Rattle.hg_replica.proofs.MarkerLemmas.{within-sets, union-sets, same-sets}
 use Rattle.hg_replica.proofs.LeastLemmas.{marker_of_one, least-valid}
 
@@ -36,6 +36,10 @@ content-same s t v w same i = (
   history-same s.history t.history v.graph w.graph (same.0.history, same.1.history) i,
   same-sets s.markers t.markers same.0.markers same.1.markers i,
 )
+
+-- what is said of contents is said of each state that has the content
+pub content-alike : (Q : Content → Type 0) (s t : ReplicaState) → IsValid s → IsValid t → IsSameState s t → Q (content_of s) ↔ Q (content_of t)
+content-alike Q s t v w same = (subst Q (content-same s t v w same), subst Q (sym (content-same s t v w same)))
 
 pub same_from_content : (s t : ReplicaState) → IsValid s → IsValid t → content_of s ≡ content_of t → IsSameState s t
 same_from_content s t v w e =

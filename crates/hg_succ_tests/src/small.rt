@@ -1,5 +1,6 @@
 //! Small histories of markers, and the successors sets of their nodes.
-use crate::scene::{rewritten, tells};
+use crate::scene::{ids, rewritten, tells};
+use hg_succ::several_among;
 
 #[test]
 fn what_was_amended_twice_has_two_sets(rt: HostRuntime) {
@@ -8,6 +9,18 @@ fn what_was_amended_twice_has_two_sets(rt: HostRuntime) {
     let replica = rewritten(alloc, b"bxy", &markers).expect(&rt, "memory");
     assert!(rt; tells(alloc, &replica, b'b', &[b"x", b"y"]) == Some(true));
     assert!(rt; tells(alloc, &replica, b'x', &[b"x"]) == Some(true));
+}
+
+#[test]
+fn those_of_several_sets_are_found_among_others(rt: HostRuntime) {
+    let alloc = rt.alloc();
+    let markers: [(u8, &[u8]); 3] = [(b'a', b"b"), (b'b', b"x"), (b'b', b"y")];
+    let replica = rewritten(alloc, b"xy", &markers).expect(&rt, "memory");
+    let nodes = ids(alloc, b"xbya").expect(&rt, "memory");
+    let found = several_among(alloc, &replica, &nodes).expect(&rt, "memory");
+    for (place, node) in nodes.iter().enumerate() {
+        assert_eq!(rt; found.contains(node), place % 2 == 1);
+    }
 }
 
 // The split node is held or not, which says nothing of its sets.

@@ -25,22 +25,22 @@ use Rattle.hg_replica.specs.State.{ReplicaState, IsValid}
 use Rattle.hg_replica.specs.Content.{content_of}
 use Rattle.hg_replica.specs.Evolution.{IsObsolete, IsVisible}
 use Rattle.hg_instab.specs.Walk.{Adds}
-use Rattle.hg_instab.proofs.AmongLemmas.{taken}
+use Rattle.hg_changeset.proofs.ListLemmas.{Contains-taken}
 use Rattle.hg_instab.proofs.WalkLemmas.{front-kept}
 use Rattle.hg_view.specs.Shown.{IsChild, IsAtOne}
 
 -- one place more
 pub at-more : (cs : List Contents) (places : List ℕ) (i k : ℕ) (x : Node) → i < length places → get_or places i k ≡ k → IsAt cs x k → (n : Node) → IsAtOne cs (take (i + 1) places) n ↔ (IsAtOne cs (take i places) n ⊎ (x ≡ n))
 at-more cs places i k x l is at n = (
-  λ h. elim ((taken places i k h.0 l is).0 h.1) [ inl old ↦ inl (h.0, old, h.2) | inr e ↦ inr (same_Some x n (sym at ∙ ap (slice_get (nodes cs)) e ∙ h.2)) ],
-  λ h. elim h [ inl old ↦ (old.0, (taken places i k old.0 l is).1 (inl old.1), old.2) | inr e ↦ (k, (taken places i k k l is).1 (inr refl), subst (λ m. IsAt cs m k) e at) ],
+  λ h. elim ((Contains-taken places i k h.0 l is).0 h.1) [ inl old ↦ inl (h.0, old, h.2) | inr e ↦ inr (same_Some x n (sym at ∙ ap (slice_get (nodes cs)) e ∙ h.2)) ],
+  λ h. elim h [ inl old ↦ (old.0, (Contains-taken places i k old.0 l is).1 (inl old.1), old.2) | inr e ↦ (k, (Contains-taken places i k k l is).1 (inr refl), subst (λ m. IsAt cs m k) e at) ],
 )
 
 -- nothing stands at a place beyond the graph
 pub at-nothing : (cs : List Contents) (places : List ℕ) (i k : ℕ) → i < length places → get_or places i k ≡ k → ((x : Node) → IsAt cs x k → ⊥) → (n : Node) → IsAtOne cs (take (i + 1) places) n ↔ IsAtOne cs (take i places) n
 at-nothing cs places i k l is none n = (
-  λ h. elim ((taken places i k h.0 l is).0 h.1) [ inl old ↦ (h.0, old, h.2) | inr e ↦ absurd (none n (ap (slice_get (nodes cs)) e ∙ h.2)) ],
-  λ h. (h.0, (taken places i k h.0 l is).1 (inl h.1), h.2),
+  λ h. elim ((Contains-taken places i k h.0 l is).0 h.1) [ inl old ↦ (h.0, old, h.2) | inr e ↦ absurd (none n (ap (slice_get (nodes cs)) e ∙ h.2)) ],
+  λ h. (h.0, (Contains-taken places i k h.0 l is).1 (inl h.1), h.2),
 )
 
 -- the children stand at the places of children
@@ -95,11 +95,11 @@ module _ (s : ReplicaState) (valid : IsValid s) (start : Node) where
       | inr child ↦ below (w.sound x (subst (Contains met) at (Contains-get_or met i x l))) child.3 child.1 child.2
     ];
     begun = (a.members start).1 (inl w.begun);
-    closed = λ p n h child. (a.members n).1 (elim ((taken met i x p l at).0 (before p h)) [
+    closed = λ p n h child. (a.members n).1 (elim ((Contains-taken met i x p l at).0 (before p h)) [
       | inl old ↦ inl (w.closed p n old child)
       | inr e ↦ inr (subst (λ y. IsChild (changesets s.history) y n) (sym e) child)
     ]);
-    obsolete = λ p h. elim ((taken met i x p l at).0 (before p h)) [ inl old ↦ w.obsolete p old | inr e ↦ subst (IsObsolete (content_of s)) e o ];
+    obsolete = λ p h. elim ((Contains-taken met i x p l at).0 (before p h)) [ inl old ↦ w.obsolete p old | inr e ↦ subst (IsObsolete (content_of s)) e o ];
   }
     where
       before : (p : Node) → Contains (take (i + 1) new) p → Contains (take (i + 1) met) p

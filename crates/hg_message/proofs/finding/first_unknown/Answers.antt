@@ -7,7 +7,7 @@ use Rattle.hg_changeset.proofs.ListLemmas.{Contains-none}
 use Rattle.hg_graph.specs.Graph.{Holds}
 use Rattle.hg_history.specs.Content.{IsHeld}
 use Rattle.hg_history.proofs.ContentLemmas.{content-node, node_in_content}
-use Rattle.hg_instab.proofs.AmongLemmas.{taken}
+use Rattle.hg_changeset.proofs.ListLemmas.{Contains-taken}
 use Rattle.hg_replica.specs.Content.{content_of}
 use Rattle.hg_message.specs.Offer.{AreHeld}
 use Rattle.hg_message.proofs.finding.first_unknown.Goals as goal
@@ -23,7 +23,7 @@ loop-node-preserved c = λ k h.
     let first : Node = record { 0 = [] } in
     let n = get_or nodes i first in
     let here : Holds c.graph-graph.result.now n = c.contains.ensures.0 c.if-not-contains.false in
-    elim ((taken nodes i n k c.loop-node-test.true (get_or_default nodes i n first c.loop-node-test.true)).0 h) [
+    elim ((Contains-taken nodes i n k c.loop-node-test.true (get_or_default nodes i n first c.loop-node-test.true)).0 h) [
       | inl old ↦ c.loop-node.invariant k old
       | inr e ↦ subst (IsHeld (content_of s).0) e (content-node s.history c.graph-graph.ensures.valid.graph n (subst (λ (cs : List Contents). Holds cs n) c.graph-graph.ensures.graph here))
     ]
