@@ -1,7 +1,6 @@
 -- Those of some nodes of which something holds.
-use Rattle.std.proofs.Common.{◌≡◌, Bool, true, false, true≢false, not, IsTrue, ℕ, ◌+◌, ◌<◌, ◌≤◌, List, [], ◌∷◌, ◌++◌, length, take, get_or, Contains, ◌↔◌, ◌⊎◌, inl, inr, refl, sym, ap, subst, ◌∙◌, arith}
+use Rattle.std.proofs.Common.{◌≡◌, Bool, true, false, true≢false, not, IsTrue, ℕ, ◌+◌, ◌<◌, ◌≤◌, List, [], ◌∷◌, ◌++◌, length, take, get_or, Contains, ◌↔◌, ◌⊎◌, inl, inr, refl, sym, ap, subst, ◌∙◌}
 use Rattle.std.proofs.lemmas.List.{take_more, take_all}
-use Rattle.std.proofs.lemmas.List.Elements.{Contains-append_left, Contains-push, Contains-push_cases}
 use Rattle.hg_changeset.specs.declared.node.Node.{Node}
 use Rattle.hg_changeset.proofs.ListLemmas.{Contains-none, Contains-pushed, Contains-taken}
 use Rattle.hg_marker.specs.Fields.{Fields}

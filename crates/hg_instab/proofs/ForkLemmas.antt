@@ -9,14 +9,14 @@ use Rattle.hg_changeset.proofs.NodeLemmas.{same_node, node_eq_laws}
 use Rattle.hg_changeset.proofs.ListLemmas.{Contains-first, Contains-later, Contains-none, Contains-one}
 use Rattle.hg_graph.proofs.GraphLemmas.{Contains-from_place, place_from_Contains}
 use Rattle.hg_marker.specs.Fields.{Fields}
-use Rattle.hg_obsstore.specs.Markers.{IsAt, ArePlaces}
+use Rattle.hg_obsstore.specs.Markers.{ArePlaces}
 use Rattle.hg_replica.specs.State.{ReplicaState}
-use Rattle.hg_replica.specs.Content.{Content, content_of}
-use Rattle.hg_replica.specs.Evolution.{IsMarker, IsPredecessor, Precedes}
+use Rattle.hg_replica.specs.Content.{content_of}
+use Rattle.hg_replica.specs.Evolution.{IsPredecessor, Precedes}
 use Rattle.hg_replica.specs.Evolution.Precedes.{step, further as precedes_further}
 use Rattle.hg_replica.proofs.MarkerLemmas.{holds-from, in_from_holds}
 use Rattle.hg_succ.specs.Successors.{IsAny, HasSeveral}
-use Rattle.hg_succ.proofs.SingleLemmas.{IsSingle, AllSingle, single_not_several}
+use Rattle.hg_succ.proofs.SingleLemmas.{IsSingle, single_not_several}
 use Rattle.hg_instab.specs.Walk.{IsReached, IsBefore, IsFork, Leads}
 use Rattle.hg_instab.specs.Walk.Leads.{one, further}
 

@@ -1,5 +1,5 @@
 -- Walks over markers, in the words of contents.
-use Rattle.std.proofs.Common.{◌≡◌, List, Contains, ◌↔◌, ◌⊎◌, inl, inr, refl, sym, subst}
+use Rattle.std.proofs.Common.{List, Contains, ◌↔◌, inl, inr, refl, sym, subst}
 use Rattle.hg_changeset.specs.declared.node.Node.{Node}
 use Rattle.hg_marker.specs.Fields.{Fields}
 use Rattle.hg_replica.specs.State.{ReplicaState}
@@ -7,7 +7,7 @@ use Rattle.hg_replica.specs.Content.{Content, content_of}
 use Rattle.hg_replica.specs.Evolution.{IsPredecessor, Precedes, IsCurrent}
 use Rattle.hg_replica.specs.Evolution.Precedes.{step, further as precedes_further}
 use Rattle.hg_replica.proofs.MarkerLemmas.{holds-from, in_from_holds}
-use Rattle.hg_instab.specs.Walk.{IsReached, IsNext, IsBefore, Leads}
+use Rattle.hg_instab.specs.Walk.{IsReached, IsNext, Leads}
 use Rattle.hg_instab.specs.Walk.Leads.{one, further}
 
 module _ (s : ReplicaState) (Kind : Fields → Type 0) where

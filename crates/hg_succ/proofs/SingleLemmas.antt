@@ -1,7 +1,6 @@
 -- Where each node that is led to has one marker at most, there is one pick, and so one successors set at most.
-use Rattle.std.proofs.Common.{◌≡◌, ◌≢◌, ◌<◌, ◌≤◌, ◌+◌, ◌*◌, ◌⊎◌, ◌∷◌, ◌++◌, [], ℕ, List, length, Contains, map, sum, max, arith, inl, inr, subst, sym, ap, ◌∙◌, refl, zero, suc}
+use Rattle.std.proofs.Common.{◌≡◌, ◌≤◌, ◌*◌, ◌⊎◌, ◌∷◌, ◌++◌, [], ℕ, List, length, Contains, map, sum, max, arith, inl, inr, subst, sym, ap, ◌∙◌, refl, zero, suc}
 use Rattle.std.specs.List.{AllZip}
-use Rattle.std.specs.List.Sorted.{IsStrictlySortedBy}
 use Rattle.std.specs.Cmp.Lexicographic.{slice_cmp, lists_total}
 use Rattle.std.specs.declared.cmp.Ordering.TheVariants.{Less}
 use Rattle.hg_changeset.specs.declared.node.Node.{Node}
@@ -9,11 +8,10 @@ use Rattle.hg_changeset.specs.Node.{node_cmp}
 use Rattle.hg_changeset.proofs.NodeLemmas.{node_cmp_total}
 use Rattle.hg_changeset.proofs.ListLemmas.{Contains-first, Contains-later}
 use Rattle.hg_marker.specs.Fields.{Fields}
-use Rattle.hg_obsstore.specs.Markers.{AreDifferent}
 use Rattle.hg_replica.specs.Content.{Content}
-use Rattle.hg_replica.specs.Evolution.{IsMarker, IsPredecessor, Precedes}
+use Rattle.hg_replica.specs.Evolution.{IsMarker, Precedes}
 use Rattle.hg_replica.specs.Evolution.Precedes.{step, further}
-use Rattle.hg_succ.specs.Successors.{IsAny, IsOnCycle, IsRewrittenTo, IsPick, IsPickOfEach, AreWithin, IsSuccessorsSet, IsFamily, HasCount, HasCounts, ways, AreMarkersOf, IsOverfull, HasSeveral}
+use Rattle.hg_succ.specs.Successors.{IsAny, IsRewrittenTo, IsPick, IsPickOfEach, IsSuccessorsSet, IsFamily, HasCount, HasCounts, ways, AreMarkersOf, IsOverfull, HasSeveral}
 use Rattle.hg_succ.specs.Successors.IsPick.{on_cycle, itself, unknown, rewritten}
 use Rattle.hg_succ.specs.Successors.IsPickOfEach.{no_places, next_place}
 use Rattle.hg_succ.specs.Successors.IsOverfull.{passed_on, too_many}

@@ -1,5 +1,5 @@
 -- What is in view, and what was looked at so far.
-use Rattle.std.proofs.Common.{◌≡◌, Bool, List, Contains, ◌↔◌}
+use Rattle.std.proofs.Common.{Bool, List, Contains, ◌↔◌}
 use Rattle.hg_changeset.specs.declared.node.Node.{Node}
 use Rattle.hg_changeset.specs.Contents.{Contents}
 use Rattle.hg_graph.specs.Graph.{nodes, Reaches, Selects}

@@ -1,4 +1,4 @@
-use Rattle.std.proofs.Common.{◌≡◌, ◌↔◌, ◌+◌, [], arith, get_or, take, Contains, IsTrue, sym, subst}
+use Rattle.std.proofs.Common.{◌≡◌, ◌+◌, [], arith, get_or, take, sym, subst}
 use Rattle.std.proofs.lemmas.List.{take_all}
 use Rattle.hg_replica.specs.Content.{content_of}
 use Rattle.hg_replica.specs.Evolution.{IsServed}

@@ -1,4 +1,4 @@
-use Rattle.std.proofs.Common.{take, ◌+◌, ◌<◌, List, ◌≡◌, Contains, length, true≢false, sym, ap, subst, ◌∙◌, arith}
+use Rattle.std.proofs.Common.{take, ◌+◌, List, ◌≡◌, sym, ap, subst, ◌∙◌, arith}
 use Rattle.hg_changeset.specs.declared.node.Node.{Node}
 use Rattle.hg_marker.specs.Fields.{Fields}
 use Rattle.hg_instab.specs.Walk.{IsFork}

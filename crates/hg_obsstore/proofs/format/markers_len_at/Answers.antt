@@ -1,7 +1,5 @@
-use Rattle.std.proofs.Common.{◌≡◌, ◌+◌, ◌∷◌, ◌++◌, [], ℕ, List, take, length, get_or, Some, None, slice_get, sym, ap, subst, ◌∙◌}
+use Rattle.std.proofs.Common.{◌≡◌, ◌+◌, ◌∷◌, ◌++◌, [], ℕ, take, length, sym, ap, subst, ◌∙◌}
 use Rattle.std.specs.Option.{option_copied}
-use Rattle.hg_marker.specs.Fields.{Fields}
-use Rattle.hg_marker.specs.Grammar.{spelling}
 use Rattle.hg_obsstore.specs.Places.{picked}
 use Rattle.hg_obsstore.specs.Spelling.{IsLength, store_spelling}
 use Rattle.hg_obsstore.proofs.FormatLemmas.{length_push}

@@ -1,6 +1,4 @@
-use Rattle.std.proofs.Common.{◌↔◌, sym, subst}
-use Rattle.hg_replica.specs.State.{ReplicaState, IsValid, IsSameState}
-use Rattle.hg_replica.specs.Content.{Content, content_of}
+use Rattle.hg_replica.specs.Content.{Content}
 use Rattle.hg_replica.proofs.ContentLemmas.{content-alike}
 use Rattle.hg_succ.specs.Successors.{IsSuccessorsSet, IsOverfull, HasSeveral}
 use Rattle.hg_succ.proofs.laws.states_of_one_content_have_the_same_successors_sets.Goals as goal

@@ -1,6 +1,5 @@
-use Rattle.std.proofs.Common.{◌≡◌, ◌≤◌, ◌<◌, ◌+◌, ◌↔◌, List, Bool, not, true, false, true≢false, get_or, length, sym, subst, arith, ap, ◌∙◌}
+use Rattle.std.proofs.Common.{◌≡◌, ◌+◌, ◌↔◌, true, true≢false, sym, subst, arith, ◌∙◌}
 use Rattle.hg_changeset.specs.declared.node.Node.{Node}
-use Rattle.hg_changeset.specs.Contents.{Contents}
 use Rattle.hg_graph.specs.Graph.{IsGraph, nodes}
 use Rattle.hg_graph.specs.Marks.{IsMarkedNode}
 use Rattle.hg_graph.specs.Places.{IsAt}

@@ -1,4 +1,4 @@
-use Rattle.std.proofs.Common.{◌≡◌, ◌≤◌, ◌++◌, ◌∷◌, [], ◌+◌, List, Bool, not, length, sym, subst, arith, ap, ◌∙◌}
+use Rattle.std.proofs.Common.{◌≤◌, ◌+◌, not, length, sym, subst, arith, ap}
 use Rattle.hg_graph.proofs.MarkLemmas.{TellsFirst, tells_none, tells_more, tells_all}
 use Rattle.hg_phases.specs.State.{changesets}
 use Rattle.hg_replica.specs.Content.{content_of}

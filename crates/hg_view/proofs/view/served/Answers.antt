@@ -1,6 +1,5 @@
 use Rattle.std.proofs.Common.{List, Bool, Contains, ◌↔◌, subst}
 use Rattle.std.proofs.lemmas.Result.{IfOk-weaker}
-use Rattle.hg_changeset.specs.declared.node.Node.{Node}
 use Rattle.hg_graph.specs.Marks.{IsMarkedNode}
 use Rattle.hg_phases.specs.State.{changesets}
 use Rattle.hg_instab.proofs.SetLemmas.{along}

@@ -2,10 +2,9 @@ use Rattle.std.proofs.Common.{List, Bool, sym, subst, ◌↔◌}
 use Rattle.std.proofs.lemmas.Result.{IfOk-weaker}
 use Rattle.hg_changeset.specs.declared.node.Node.{Node}
 use Rattle.hg_graph.specs.Marks.{IsMarkedNode}
-use Rattle.hg_phases.specs.declared.phase.Phase.TheVariants.{Secret}
 use Rattle.hg_phases.specs.State.{changesets}
 use Rattle.hg_replica.specs.Content.{content_of}
-use Rattle.hg_replica.specs.Evolution.{HasPhase, IsVisible}
+use Rattle.hg_replica.specs.Evolution.{IsVisible}
 use Rattle.hg_view.proofs.view.served_marks.Goals as goal
 
 pub returns-clause-exact : goal.returns-clause-exact
