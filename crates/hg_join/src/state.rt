@@ -76,6 +76,18 @@ pub trait JoinState: Drop {
         ensures fault { IfErr result (λ fault. IsFirstFault (content self.old) (part_content part.now) fault ⊎ IsWantOfMemory fault) }
         ensures err { OnErr result (self.new ≡ self.old) };
 
+    /// Takes in a part that isn't needed any more: what [`absorb`](JoinState::absorb) does, and tells. A state that keeps
+    /// what its parts hold can move it in rather than copy it; by default it is absorbed and then dropped.
+    fn absorb_owned(&mut self, part: Self::Part) -> Result<Self::Change, Self::Fault>
+        ensures after { OnOk result (After (content self.old) (part_content part) (content self.new)) }
+        ensures change { IfOk result (λ change. Tells self.old change self.new) }
+        ensures valid { OnOk result (IsValid (content self.old)) }
+        ensures fault { IfErr result (λ fault. IsFirstFault (content self.old) (part_content part) fault ⊎ IsWantOfMemory fault) }
+        ensures err { OnErr result (self.new ≡ self.old) }
+    {
+        self.absorb(&part)
+    }
+
     /// Takes in all that the other state says. A state that collides is refused, and any may be refused for want of
     /// memory; this state is then unchanged.
     fn join(&mut self, other: &Self) -> Result<(), Self::Fault>
