@@ -7,12 +7,12 @@ use crate::event::{Answer, Event, EventRefusal};
 use hg_join::{Actor, JoinState, NoMemory};
 use std::alloc::Global;
 
-/// The node at a place absorbs a part.
-fn absorb_at<S: Actor>(nodes: &mut [S], at: usize, part: &S::Part) -> Result<S::Change, S::Fault>
+/// The node at a place absorbs a part, which is moved into it.
+fn absorb_at<S: Actor>(nodes: &mut [S], at: usize, part: S::Part) -> Result<S::Change, S::Fault>
     requires { at < length nodes.old }
-    ensures { (node : S) × (slice_get nodes.old at ≡ Some node) × MatchResult result (λ change. (next : S) × Absorbs S.JoinState node part.now change next × (nodes.new ≡ slice_set nodes.old at next)) (λ fault. (S.IsFirstFault (S.content node) (S.part_content part.now) fault ⊎ S.IsWantOfMemory fault) × (nodes.new ≡ nodes.old)) }
+    ensures { (node : S) × (slice_get nodes.old at ≡ Some node) × MatchResult result (λ change. (next : S) × Absorbs S.JoinState node part change next × (nodes.new ≡ slice_set nodes.old at next)) (λ fault. (S.IsFirstFault (S.content node) (S.part_content part) fault ⊎ S.IsWantOfMemory fault) × (nodes.new ≡ nodes.old)) }
 {
-    nodes[at].absorb(part)
+    nodes[at].absorb_owned(part)
 }
 
 /// The node at a place decides an operation and absorbs its part. Whatever the messages are, they stay.
@@ -27,7 +27,7 @@ fn decide_at<S: Actor>(
     ensures { (messages : List (List ℕ)) → (part : Option S.Part) × Happens S.JoinState S.Actor.own (record { nodes = nodes.old; messages = messages }) (Event.Local at op.now) result part (record { nodes = nodes.new; messages = messages }) }
 {
     match nodes[at].decide(alloc, op) {
-        Ok(decided) => match absorb_at(nodes, at, &decided) {
+        Ok(decided) => match absorb_at(nodes, at, decided) {
             Ok(change) => Answer::Accepted(change),
             Err(fault) => Answer::Refused(EventRefusal::ByState(fault)),
         },
@@ -51,7 +51,7 @@ fn take_at<S: Actor>(
     }
     let bytes = messages[message].as_slice();
     match S::read(alloc, bytes) {
-        Ok(spelled) => match absorb_at(nodes, at, &spelled) {
+        Ok(spelled) => match absorb_at(nodes, at, spelled) {
             Ok(change) => Answer::Accepted(change),
             Err(fault) => Answer::Refused(EventRefusal::ByState(fault)),
         },

@@ -11,8 +11,8 @@ returns-in-Ok-absorb_at g c =
     let same = one_at c.args.nodes.now c.args.at (get_or c.args.nodes.now c.args.at c.index-nodes-at.result) h.0 there h.1 in
     λ messages. (Some c.in-Ok.decided, (h.0, h.2.0, h.1, subst (λ (s : g.row.S.Denot). g.S.Actor.Decides s c.args.op.now c.in-Ok.decided) same c.in-Ok.ensures.ok, h.2.1, h.2.2, refl))
 
-pub returns-in-Ok : goal.returns-in-Ok
-returns-in-Ok g c =
+pub returns-in-Err-absorb_at : goal.returns-in-Err-absorb_at
+returns-in-Err-absorb_at g c =
     let J = g.S.JoinState in
     let laws = g.met.S.JoinState in
     let h = c.in-Err-absorb_at.ensures in
@@ -27,7 +27,7 @@ returns-in-Ok g c =
     ] in
     λ messages. (None, (inr (h.0, h.1, (c.in-Ok.decided, decided, memory)), ap (λ (ns : List g.row.S.Denot). let w : Snapshot g.row.S.Denot = record { nodes = ns; messages = messages } in w) h.2.1))
 
-pub returns : goal.returns
-returns g c =
+pub returns-in-Err : goal.returns-in-Err
+returns-in-Err g c =
     let there = slice_get-get_or c.args.nodes.now c.args.at c.index-nodes-at.result c.requires.within in
     λ messages. (None, (inr (get_or c.args.nodes.now c.args.at c.index-nodes-at.result, there, c.in-Err.ensures.err), refl))
