@@ -30,6 +30,8 @@
 //!    `again_by_least` and `swap_by_least` of `specs/Order.antt` give `again` and `swap`.
 //! 7. **The code.** Do what can be refused first, or keep what undoes it: `LowMap` notes in a log what each key had,
 //!    and puts it back, the last first, where memory runs out half way. So a call costs about what it is given.
+//!    `absorb_owned` takes a part that nobody needs any more. Write it where a state keeps what its parts hold, and so
+//!    can move that in; by default the part is absorbed and dropped.
 //!
 //! # What the laws can't say
 //!

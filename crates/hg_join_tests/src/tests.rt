@@ -185,6 +185,15 @@ fn a_map_keeps_the_lowest(rt: HostRuntime) {
 }
 
 #[test]
+fn a_part_is_handed_over(rt: HostRuntime) {
+    let alloc = rt.alloc();
+    let mut map = map_of(alloc, &[(1, 5), (2, 3)]).expect(&rt, "memory");
+    let part = [(1, 4), (3, 9)].to_vec(alloc).expect(&rt, "memory");
+    map.absorb_owned(part).expect(&rt, "memory");
+    assert_eq!(rt; numbers(&map), [Some(4), Some(3), Some(9)]);
+}
+
+#[test]
 fn both_halves_grow(rt: HostRuntime) {
     let alloc = rt.alloc();
     let mut pair = Both::new(
