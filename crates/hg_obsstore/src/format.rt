@@ -239,8 +239,6 @@ fn store_of(alloc: Global, markers: Vec<Marker>) -> Result<Store, NoMemory>
     ensures err { OnErr result (0 < length markers.items) }
 {
     let mut store = Store::new(alloc);
-    for marker in markers {
-        store.add(marker)?;
-    }
+    store.add_owned(markers)?;
     Ok(store)
 }

@@ -167,6 +167,9 @@ impl Store {
     pub fn add(&mut self, marker: Marker) -> Result<Added, NoMemory>
         ensures ok { IfOk result (λ added. AddAnswer self.old marker added self.new) }
         ensures err { OnErr result (self.new ≡ self.old) }
+
+        // Where an equal marker is held no memory is taken.
+        ensures memory { OnErr result (¬ Contains self.old marker) }
     {
         let place = self.markers.len();
         let is_new = self.markers.insert(marker)?;
@@ -230,6 +233,22 @@ impl Store {
         self.settle(before, added)
     }
 
+    /// Moves in the markers that aren't held, each once, in their order, and tells their places, ascending. The others
+    /// are dropped.
+    pub fn absorb_owned(&mut self, part: Vec<Marker>) -> Result<Vec<usize>, NoMemory>
+        ensures ok { OnOk result (self.new ≡ united self.old part.items) }
+        ensures places { IfOk result (λ places. AreNewPlaces self.old self.new places.items) }
+        ensures union { OnOk result (IsUnion (holds self.old) (holds part.items) (holds self.new)) }
+        ensures err { OnErr result (self.new ≡ self.old) }
+
+        // Where nothing is new no memory is taken.
+        ensures memory { OnErr result (new_among self.old part.items ≢ []) }
+    {
+        let before = self.len();
+        let added = self.add_owned_and_tell(part);
+        self.settle(before, added)
+    }
+
     /// Adds copies of the other's markers that aren't held, in their order.
     pub fn join(&mut self, other: &Store) -> Result<(), NoMemory>
         ensures ok { OnOk result (self.new ≡ united self.old other.now) }
@@ -282,8 +301,41 @@ impl Store {
     {
         let before = self.len();
         self.add_copies(part)?;
-        let places = places_between(self.alloc, before, self.len())?;
+        let places = self.places_from(before)?;
         Ok(places)
+    }
+
+    // Moves in the markers that aren't held, and tells their places. After an error some of them stay.
+    fn add_owned_and_tell(&mut self, part: Vec<Marker>) -> Result<Vec<usize>, NoMemory>
+        ensures ok { OnOk result (self.new ≡ united self.old part.items) }
+        ensures places { IfOk result (λ places. AreNewPlaces self.old self.new places.items) }
+        ensures kept { StartsWith self.old self.new }
+        ensures memory { OnErr result (new_among self.old part.items ≢ []) }
+    {
+        let before = self.len();
+        self.add_owned(part)?;
+        let places = self.places_from(before)?;
+        Ok(places)
+    }
+
+    // The places from one on. No memory is taken where there is none.
+    fn places_from(&self, start: usize) -> Result<Vec<usize>, AllocError>
+        ensures places { IfOk result (λ places. ListsAll (λ i. (start ≤ i) × (i < length self.now)) places.items) }
+        ensures memory { OnErr result (start < length self.now) }
+    {
+        places_between(self.alloc, start, self.len())
+    }
+
+    // Moves in the markers that aren't held. After an error some of them stay.
+    pub(crate) fn add_owned(&mut self, markers: Vec<Marker>) -> Result<(), NoMemory>
+        ensures ok { OnOk result (self.new ≡ united self.old markers.items) }
+        ensures kept { StartsWith self.old self.new }
+        ensures memory { OnErr result (new_among self.old markers.items ≢ []) }
+    {
+        for marker in markers {
+            self.add(marker)?;
+        }
+        Ok(())
     }
 
     // Adds copies of the markers that aren't held. After an error some of them stay.

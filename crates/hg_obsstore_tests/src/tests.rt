@@ -190,6 +190,17 @@ fn tells_the_places_of_what_is_new(rt: HostRuntime) {
     assert!(rt; places.is_empty() && store.len() == 3);
 }
 
+#[test]
+fn moves_in_what_is_new(rt: HostRuntime) {
+    let alloc = rt.alloc();
+    let part = prunes(alloc).expect(&rt, "memory");
+    let mut store = Store::new(alloc);
+    add(&rt, &mut store, marker(alloc, NEW, &[]));
+    let places = store.absorb_owned(part).expect(&rt, "memory");
+    assert!(rt; places[..] == [1usize]);
+    assert!(rt; store.len() == 2 && store.with_predecessor(OLD) == [1usize].as_slice());
+}
+
 // A copy of the state that has absorbed the part and joined the other, where it is above the other.
 fn grown<S: JoinState>(one: &S, part: &S::Part, other: &S) -> Option<S> {
     let mut copy = one.copy().ok()?;
@@ -248,6 +259,20 @@ fn refused_growth_takes_nothing_in(rt: HostRuntime) {
         Err(NoMemory) => store.copy().expect(&rt, "memory"),
     };
     assert!(rt; copy.len() == 2 && copy.with_predecessor(OLD) == [0usize].as_slice());
+}
+
+#[test]
+fn refused_growth_moves_nothing_in(rt: HostRuntime) {
+    let alloc = rt.alloc();
+    let (Some(part), Some(same)) = (prunes(alloc), prunes(alloc)) else {
+        return;
+    };
+    let mut store = Store::new(alloc);
+    if let Err(NoMemory) = store.absorb_owned(part) {
+        assert!(rt; store.len() == 0 && store.with_predecessor(OLD).is_empty());
+        assert!(rt; store.absorb_owned(same).is_ok());
+    }
+    assert!(rt; store.len() == 2 && store.with_predecessor(OLD) == [0usize].as_slice());
 }
 
 #[test]

@@ -1,11 +1,13 @@
 use Rattle.std.proofs.Common.{rules, ◌≡◌, ◌∙◌, ◌++◌, ◌∷◌, [], sym, subst, true, false, List, length, Contains, All}
 use Rattle.std.specs.List.{list_any}
+use Rattle.std.proofs.lemmas.Bool.{false≢true}
 use Rattle.std.proofs.lemmas.List.Elements.{All-push}
+use Rattle.hg_changeset.proofs.ListLemmas.{on_err_anyway}
 use Rattle.hg_marker.specs.Fields.{Fields}
 use Rattle.hg_marker.specs.Grammar.{IsMarker}
 use Rattle.hg_marker.specs.Same.{same_fields}
 use Rattle.hg_obsstore.specs.Indexes.{HaveBelow, AreIndexed, AddMarker}
-use Rattle.hg_obsstore.proofs.StoreLemmas.{held, told_known, told_new, inserted_known, inserted_new, read_last, cut_back, all_below, all_push, all_same}
+use Rattle.hg_obsstore.proofs.StoreLemmas.{held, held_back, told_known, told_new, inserted_known, inserted_new, read_last, cut_back, all_below, all_push, all_same}
 use Rattle.hg_obsstore.proofs.store.Store.add.Goals as goal
 
 pub returns-then-not-is_new-clause-ok : goal.returns-then-not-is_new-clause-ok
@@ -16,6 +18,11 @@ returns-then-not-is_new-clause-ok c =
       subst (λ (xs : List Fields). Contains xs c.args.marker) c.self.view_is (held ms c.args.marker known),
       c.in_ok-is_new.ensures.keys ∙ inserted_known ms c.args.marker known ∙ c.self.view_is,
     )
+
+pub returns-in_err-is_new-clause-memory : goal.returns-in_err-is_new-clause-memory
+returns-in_err-is_new-clause-memory c =
+    let ms = c.self.inside.markers.keys in
+    on_err_anyway c.from_residual.result _ (λ h. false≢true (sym c.in_err-is_new.ensures.absent ∙ held_back ms c.args.marker (subst (λ (xs : List Fields). Contains xs c.args.marker) (sym c.self.view_is) h)))
 
 pub add-requires : goal.add-requires
 add-requires c = subst (HaveBelow c.self.inside.indexes) (sym c.len-place.ensures.len) (all_below c.self.inside.markers.keys c.self.inside.indexes c.self.invariant.1)
