@@ -93,6 +93,10 @@ impl JoinState for Store {
         Store::absorb(self, part)
     }
 
+    fn absorb_owned(&mut self, part: Vec<Marker>) -> Result<Vec<usize>, NoMemory> {
+        Store::absorb_owned(self, part)
+    }
+
     fn join(&mut self, other: &Store) -> Result<(), NoMemory> {
         Store::join(self, other)
     }
