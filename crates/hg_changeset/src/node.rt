@@ -9,13 +9,27 @@ ghost use Rattle.hex.specs.Hex.{encode_lower, is_hex_digit, IsBytes};
 ghost use Rattle.hg_changeset.specs.Node.{null_node, IsNode, id_value, node_of_hex};
 ghost use Rattle.hg_changeset.specs.Refusals.{node_error_number, node_error_name};
 
+use crate::feeding::feed_bytes;
 use hex::{FromHex, encode_to_slice};
 use std::error::Error;
 use std::fmt;
+use std::hash::{Hash, Hasher};
 
 /// A node id.
-#[derive(Clone, Copy, PartialEq, Eq, PartialOrd, Ord, Hash, Debug)]
+#[derive(Clone, Copy, PartialEq, Eq, PartialOrd, Ord, Debug)]
 pub struct Node(pub [u8; 20]);
+
+impl Hash for Node {
+    ghost use Rattle.hg_changeset.specs.Fed.{node_fed, node_alike};
+
+    ghost hash_input = { node_fed };
+
+    ghost respects_eq = { node_alike };
+
+    fn hash<H: Hasher>(&self, state: &mut H) {
+        feed_bytes(&self.0, state);
+    }
+}
 
 /// Why a text is no node id.
 #[derive(Clone, Copy, PartialEq, Eq, Debug)]

@@ -1,27 +1,19 @@
 -- What of a marker is hashed.
-use Rattle.std.specs.Prelude.{◌≡◌, ℕ, zero, suc, ◌/◌, List, length, take, drop, [], ◌∷◌, ◌++◌, true, if◌then◌else◌}
+use Rattle.std.specs.Prelude.{◌≡◌, ℕ, List, [], ◌∷◌, ◌++◌, true, if◌then◌else◌}
 use Rattle.std.proofs.Common.{ap}
 use Rattle.std.specs.List.{flat_map}
 use Rattle.std.specs.FinMap as finite
 use Rattle.hg_changeset.specs.declared.node.Node.{Node}
+use Rattle.hg_changeset.specs.Fed.{bytes_fed, node_fed}
 use Rattle.hg_marker.specs.Texts.{Texts}
 use Rattle.hg_marker.specs.Fields.{Fields}
 use Rattle.hg_marker.specs.Metadata.{written}
 use Rattle.hg_marker.specs.Making.{is_writable}
 use Rattle.hg_marker.specs.Same.{same_fields, fields_decides, same_texts, texts_decides}
 
--- so many times eight bytes, and then the others
-abbrev pub by_eights : ℕ → List ℕ → List (List ℕ)
-by_eights zero bytes = bytes ∷ []
-by_eights (suc n) bytes = take 8 bytes ∷ by_eights n (drop 8 bytes)
-
--- bytes go in by eights: a hasher that takes more of them at once may forget what came before
-unfoldable pub bytes_fed : List ℕ → List (List ℕ)
-bytes_fed bytes = by_eights (length bytes / 8) bytes
-
 -- each id
 abbrev pub ids_fed : List Node → List (List ℕ)
-ids_fed ns = flat_map (λ n. bytes_fed n.0) ns
+ids_fed ns = flat_map node_fed ns
 
 -- each key and its value
 abbrev pub entries_fed : List (List ℕ × List ℕ) → List (List ℕ)
@@ -37,7 +29,7 @@ texts_fed texts = if is_writable texts then bytes_fed (written texts) else map_f
 
 -- the ids, the flags and the metadata
 unfoldable pub fields_fed : Fields → List (List ℕ)
-fields_fed m = bytes_fed m.predecessor.0 ++ (ids_fed m.successors ++ ((m.flags ∷ []) ∷ [] ++ texts_fed m.metadata))
+fields_fed m = node_fed m.predecessor ++ (ids_fed m.successors ++ ((m.flags ∷ []) ∷ [] ++ texts_fed m.metadata))
 
 -- equal markers are hashed alike
 pub fields_alike : (m n : Fields) → same_fields m n ≡ true → fields_fed m ≡ fields_fed n

@@ -6,7 +6,6 @@
 
 mod entries;
 mod error;
-mod feeding;
 mod format;
 mod marker;
 mod metadata;

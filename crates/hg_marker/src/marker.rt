@@ -2,18 +2,16 @@
 //!
 //! A marker says that its predecessor was rewritten to its successors, in their order. Two markers are equal where
 //! their fields are, the metadata as a map, whatever bytes they were read from.
-ghost use Rattle.std.specs.Prelude.{◌≡◌, ◌++◌, IfOk, OnOk, OnErr, false, fold, length, nat_eq};
+ghost use Rattle.std.specs.Prelude.{◌≡◌, ◌++◌, IfOk, OnOk, OnErr, false, length, nat_eq};
 ghost use Rattle.std.specs.List.{list_any, AllByRecursion};
 ghost use Rattle.hex.specs.Hex.{IsBytes};
 ghost use lib.Pointwise.{pointwise};
 ghost use Rattle.hg_changeset.specs.Node.{IsNode, null_node, node_eq};
 ghost use Rattle.hg_marker.specs.Grammar.{IsMarker, spelling};
-ghost use Rattle.hg_marker.specs.Fed.{ids_fed};
 ghost use Rattle.hg_marker.specs.Making.{marker_of};
 ghost use Rattle.hg_marker.specs.Parents.{parents_of};
 
 use crate::error::MarkerError;
-use crate::feeding::feed_bytes;
 use crate::format::encode;
 use crate::metadata::Metadata;
 use crate::parents::{Parents, parents_of};
@@ -90,8 +88,8 @@ impl Hash for Marker {
 
     #[tactic(auto, unfolding(crate::specs::Fed::fields_fed))]
     fn hash<H: Hasher>(&self, state: &mut H) {
-        feed_bytes(&self.predecessor.0, state);
-        feed_ids(&self.successors, state);
+        self.predecessor.hash(state);
+        Node::hash_slice(&self.successors, state);
         self.flags.hash(state);
         self.metadata.hash(state);
     }
@@ -238,15 +236,6 @@ impl Marker {
     // Where the marker's memory comes from.
     pub(crate) fn allocator(&self) -> Global {
         *self.successors.allocator()
-    }
-}
-
-// Each id goes into the hasher.
-fn feed_ids<H: Hasher>(nodes: &[Node], state: &mut H)
-    ensures { state.new ≡ fold H.write state.old (ids_fed nodes.now) }
-{
-    for node in nodes {
-        feed_bytes(&node.0, state);
     }
 }
 

@@ -10,10 +10,10 @@ ghost use Rattle.hg_marker.specs.Making.{has_bad_key, has_bad_value, is_writable
 ghost use Rattle.std.specs.List.{list_all};
 
 use crate::entries::Entries;
-use crate::feeding::feed_bytes;
 use crate::pieces::{is_written, read_texts};
 use crate::text_map::{TextMap, ends_key, has_nul};
 use crate::written::WrittenTexts;
+use hg_changeset::feed_bytes;
 use std::alloc::{AllocError, Global};
 use std::hash::{Hash, Hasher};
 use std::marker::Model;

@@ -1,6 +1,6 @@
 use Rattle.std.proofs.Common.{◌≡◌, ◌≤◌, ◌*◌, ◌-◌, ◌/◌, length, fold}
-use Rattle.hg_marker.specs.Fed.{by_eights}
-use Rattle.hg_marker.proofs.feeding.feed_bytes.Given as goal
+use Rattle.hg_changeset.specs.Fed.{by_eights}
+use Rattle.hg_changeset.proofs.feeding.feed_bytes.Given as goal
 
 abbrev pub invariant-loop : goal.invariant-loop
 invariant-loop g l =

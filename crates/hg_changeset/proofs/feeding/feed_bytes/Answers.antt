@@ -1,7 +1,7 @@
 use Rattle.std.proofs.Common.{◌≡◌, ℕ, suc, ◌+◌, ◌-◌, ◌/◌, ◌<◌, List, length, take, drop, fold, arith, sym, ap, ◌∙◌}
 use Rattle.std.proofs.lemmas.List.{length-drop}
-use Rattle.hg_marker.specs.Fed.{by_eights}
-use Rattle.hg_marker.proofs.feeding.feed_bytes.Goals as goal
+use Rattle.hg_changeset.specs.Fed.{by_eights}
+use Rattle.hg_changeset.proofs.feeding.feed_bytes.Goals as goal
 
 goes_on : {S : Type 0} (write : S → List ℕ → S) (s : S) (n k : ℕ) (rest : List ℕ) → k < n → fold write (write s (take 8 rest)) (by_eights (n - (k + 1)) (drop 8 rest)) ≡ fold write s (by_eights (n - k) rest)
 goes_on write s n k rest lt = let left : n - k ≡ suc (n - (k + 1)) = omega (arith, lt) in sym (ap (λ (m : ℕ). fold write s (by_eights m rest)) left)
