@@ -1,5 +1,5 @@
 -- Where the changesets of a graph stand: places count from 0, in the graph's order.
-use Rattle.std.specs.Prelude.{◌≡◌, ℕ, List, length, slice_get, ◌↔◌, Option, Some, MatchOption, Contains}
+use Rattle.std.specs.Prelude.{◌≡◌, ◌≤◌, ℕ, List, length, slice_get, ◌↔◌, Option, Some, MatchOption, Contains}
 use Rattle.hg_changeset.specs.declared.node.Node.{Node}
 use Rattle.hg_changeset.specs.Node.{null_node}
 use Rattle.hg_changeset.specs.Contents.{Contents}
@@ -26,9 +26,13 @@ IsAncestorPlace cs j i = (a : Node) × (n : Node) × IsAt cs a j × IsAt cs n i 
 abbrev pub IsPlaceOfOne : List Contents → List Node → ℕ → Type 0
 IsPlaceOfOne cs ns k = (n : Node) × Contains ns n × IsAt cs n k
 
--- the place is one of these, and none of the others is a descendant's
-abbrev pub IsHeadPlace : List Contents → List ℕ → ℕ → Type 0
-IsHeadPlace cs places k = Contains places k × ((j : ℕ) → Contains places j → IsAncestorPlace cs k j → j ≡ k)
+-- P holds of the place, and of no other that is a descendant's
+abbrev pub IsHeadPlace : List Contents → (ℕ → Type 0) → ℕ → Type 0
+IsHeadPlace cs P k = P k × ((j : ℕ) → P j → IsAncestorPlace cs k j → j ≡ k)
+
+-- both places are among those of the nodes, and all of these are from the first up to the second
+abbrev pub IsSpan : List Contents → List Node → ℕ × ℕ → Type 0
+IsSpan cs ns span = IsPlaceOfOne cs ns span.0 × IsPlaceOfOne cs ns span.1 × ((k : ℕ) → IsPlaceOfOne cs ns k → (span.0 ≤ k) × (k ≤ span.1))
 
 -- where a parent stands: nowhere if it is absent
 abbrev pub IsPlaceOf : List Contents → Node → Option ℕ → Type 0

@@ -1,13 +1,13 @@
 //! Heads, by one sweep between the first place and the last.
 //!
-//! Parents of the nodes are marked, and then all that reach them: what has a mark is an ancestor of another one of the nodes, and no head.
-ghost use Rattle.std.specs.Prelude.{◌≡◌, ◌↔◌, ℕ, ◌<◌, ◌≤◌, length, Contains, IsTrue, IfOk, OnErr};
+//! Parents of what is marked get a second mark, and then all that reach them: what has both marks is an ancestor of another marked changeset, and no head.
+ghost use Rattle.std.specs.Prelude.{◌≡◌, ◌↔◌, ℕ, ◌+◌, ◌≤◌, min, max, length, Contains, MatchOption, IfOk, OnErr};
 ghost use Rattle.std.specs.List.Sorted.{IsStrictlySortedBy};
 ghost use Rattle.hg_changeset.specs.declared.node.Node.{Node};
 ghost use Rattle.hg_changeset.specs.Node.{node_cmp};
-ghost use Rattle.hg_graph.specs.Graph.{Holds, IsGraph, IsHeadOfThem};
-ghost use Rattle.hg_graph.specs.Places.{IsAt, IsParentPlace, IsHeadPlace};
-ghost use Rattle.hg_graph.specs.Marks.{IsMarked, MarksAlso};
+ghost use Rattle.hg_graph.specs.Graph.{Holds, IsGraph, IsHeadAmong, IsHeadOfThem};
+ghost use Rattle.hg_graph.specs.Places.{IsAt, IsParentPlace, IsPlaceOfOne, IsHeadPlace, IsSpan};
+ghost use Rattle.hg_graph.specs.Marks.{IsMarked, IsMarkedNode, MarksAlso};
 
 use crate::graph::Graph;
 use hg_changeset::Node;
@@ -24,60 +24,95 @@ impl Graph {
         ensures memory { OnErr result ((n : Node) × Contains nodes.now n × Holds self.now n) }
     {
         let alloc = self.alloc();
-        let places = self.places_of(nodes)?;
-        match (places.first(), places.last()) {
-            (Some(first), Some(last)) => {
-                let heads = self.heads_between(&places, *first, *last)?;
-                listed(alloc, heads)
+
+        // It bounds the places.
+        let _count = self.len();
+        match self.span_of(nodes) {
+            Some((first, last)) => {
+                let mut window = vec![in alloc; false; last - first + 1]?;
+                let marks = window.as_mut_slice();
+                self.mark_nodes(nodes, first, marks);
+                self.heads_between(first, last + 1, marks)
             }
-            _ => Ok(Vec::new(alloc)),
+            None => Ok(Vec::new(alloc)),
         }
     }
 
-    // The nodes at those of the places from which no other one of them is reached. They stand from `low` to `high`.
+    /// The marked changesets that have no other marked one as a descendant, ascending by id. There is a mark for each place.
+    pub fn marked_heads(&self, marks: &[bool]) -> Result<Vec<Node>, AllocError>
+        requires { length marks.now ≡ length self.now }
+        ensures exact { IfOk result (λ heads. (n : Node) → Contains heads.items n ↔ IsHeadAmong self.now (IsMarkedNode self.now marks.now) n) }
+        ensures ascending { IfOk result (λ heads. IsStrictlySortedBy node_cmp heads.items) }
+    {
+        // It says that this is a graph.
+        let count = self.len();
+        self.heads_between(0, count, marks)
+    }
+
+    // The first and the last of the places at which one of the nodes stands.
+    fn span_of(&self, nodes: &[Node]) -> Option<(usize, usize)>
+        ensures { MatchOption result ((k : ℕ) → ¬ (IsPlaceOfOne self.now nodes.now k)) (IsSpan self.now nodes.now) }
+    {
+        let mut span = None;
+        for node in nodes {
+            if let Some(place) = self.place(*node) {
+                span = Some(widened(span, place));
+            }
+        }
+        span
+    }
+
+    // The nodes at those of the marked places from which no other one of them is reached, ascending by id. The marks are for the places from `low` up to `high`.
     fn heads_between(
         &self,
-        places: &BTreeSet<usize>,
         low: usize,
         high: usize,
-    ) -> Result<BTreeSet<Node>, AllocError>
-        requires graph { IsGraph self.now }
-        requires low { (k : ℕ) → Contains places.now.keys k → low ≤ k }
-        requires high { (k : ℕ) → Contains places.now.keys k → k ≤ high }
-        requires order { low ≤ high }
-        requires within { high < length self.now }
-        ensures { IfOk result (λ heads. (n : Node) → Contains heads.keys n ↔ ((k : ℕ) × IsAt self.now n k × IsHeadPlace self.now places.now.keys k)) }
+        marks: &[bool],
+    ) -> Result<Vec<Node>, AllocError>
+        requires window { low + length marks.now ≡ high }
+        requires within { high ≤ length self.now }
+        ensures exact { IfOk result (λ heads. (n : Node) → Contains heads.items n ↔ ((k : ℕ) × IsAt self.now n k × IsHeadPlace self.now (IsMarked low marks.now) k)) }
+        ensures ascending { IfOk result (λ heads. IsStrictlySortedBy node_cmp heads.items) }
     {
-        let mut window = vec![in self.alloc(); false; high - low]?;
-        let marks = window.as_mut_slice();
-        self.mark_parents_of(places, low, marks);
-        self.sweep(low, high, marks);
-        self.unmarked(places, low, marks)
+        let alloc = self.alloc();
+        let mut window = vec![in alloc; false; high - low]?;
+        let above = window.as_mut_slice();
+        self.mark_parents_of(low, high, marks, above);
+        self.sweep(low, high, above);
+        let heads = self.unmarked(low, high, marks, above)?;
+        listed(alloc, heads)
     }
 
-    // Marks the parents of the changesets at the places.
-    fn mark_parents_of(&self, places: &BTreeSet<usize>, low: usize, marks: &mut [bool])
-        requires { (k : ℕ) → Contains places.now.keys k → k < length self.now }
-        ensures { MarksAlso low (λ k. (j : ℕ) × Contains places.now.keys j × IsParentPlace self.now j k) marks.old marks.new }
+    // Marks, in `above`, the parents of the marked changesets.
+    fn mark_parents_of(&self, low: usize, high: usize, marks: &[bool], above: &mut [bool])
+        requires window { low + length marks.now ≡ high }
+        requires within { high ≤ length self.now }
+        ensures { MarksAlso low (λ k. (j : ℕ) × IsMarked low marks.now j × IsParentPlace self.now j k) above.old above.new }
     {
-        for place in places {
-            self.mark_parents(*place, low, marks);
+        for place in low..high {
+            if marks[place - low] {
+                self.mark_parents(place, low, above);
+            }
         }
     }
 
-    // The nodes at the places without a mark.
+    // The nodes at the marked places that have no mark in `above`.
     fn unmarked(
         &self,
-        places: &BTreeSet<usize>,
         low: usize,
+        high: usize,
         marks: &[bool],
+        above: &[bool],
     ) -> Result<BTreeSet<Node>, AllocError>
-        ensures { IfOk result (λ heads. (n : Node) → Contains heads.keys n ↔ ((k : ℕ) × IsAt self.now n k × Contains places.now.keys k × ¬ (IsMarked low marks.now k))) }
+        requires window { low + length marks.now ≡ high }
+        requires same_window { low + length above.now ≡ high }
+        requires within { high ≤ length self.now }
+        ensures { IfOk result (λ heads. (n : Node) → Contains heads.keys n ↔ ((k : ℕ) × IsAt self.now n k × IsMarked low marks.now k × ¬ (IsMarked low above.now k))) }
     {
         let mut found = BTreeSet::new(self.alloc());
-        for place in places {
-            if !is_marked(*place, low, marks) {
-                if let Some(node) = self.node_at(*place) {
+        for place in low..high {
+            if marks[place - low] && !above[place - low] {
+                if let Some(node) = self.node_at(place) {
                     found.insert(node)?;
                 }
             }
@@ -94,9 +129,12 @@ fn listed(alloc: Global, nodes: BTreeSet<Node>) -> Result<Vec<Node>, AllocError>
     nodes.into_iter().collect(alloc)
 }
 
-// Whether there is a mark for the place, and it is set.
-fn is_marked(place: usize, low: usize, marks: &[bool]) -> bool
-    ensures { IsTrue result ↔ IsMarked low marks.now place }
+// From the first to the last of the places between and of one more.
+fn widened(span: Option<(usize, usize)>, place: usize) -> (usize, usize)
+    ensures { MatchOption span (result ≡ (place, place)) (λ s. result ≡ (min s.0 place, max s.1 place)) }
 {
-    low <= place && place - low < marks.len() && marks[place - low]
+    match span {
+        Some((first, last)) => (first.min(place), last.max(place)),
+        None => (place, place),
+    }
 }

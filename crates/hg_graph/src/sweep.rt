@@ -4,7 +4,7 @@
 ghost use Rattle.std.specs.Prelude.{◌≡◌, ◌↔◌, ℕ, ◌+◌, ◌<◌, ◌≤◌, Some, length, Contains, IsTrue, IfOk};
 ghost use Rattle.hg_changeset.specs.declared.node.Node.{Node};
 ghost use Rattle.hg_graph.specs.Graph.{IsGraph, IsAncestorOfOne, Reaches, Selects};
-ghost use Rattle.hg_graph.specs.Places.{IsAt, IsParentPlace};
+ghost use Rattle.hg_graph.specs.Places.{IsParentPlace, IsPlaceOfOne};
 ghost use Rattle.hg_graph.specs.Marks.{IsMarked, IsMarkedNode, MarksAlso, MarksAncestors};
 
 use crate::graph::Graph;
@@ -49,17 +49,16 @@ impl Graph {
         ensures len { length marks.new ≡ length self.now }
         ensures marked { (a : Node) → IsMarkedNode self.now marks.new a ↔ IsAncestorOfOne self.now nodes.now a }
     {
-        self.mark_nodes(nodes, marks);
+        self.mark_nodes(nodes, 0, marks);
         self.sweep(0, marks.len(), marks);
     }
 
-    // Marks the nodes that are held.
-    fn mark_nodes(&self, nodes: &[Node], marks: &mut [bool])
-        requires { length marks.old ≡ length self.now }
-        ensures { MarksAlso 0 (λ k. (n : Node) × Contains nodes.now n × IsAt self.now n k) marks.old marks.new }
+    // Marks the nodes that are held, from the place `low` on.
+    pub(crate) fn mark_nodes(&self, nodes: &[Node], low: usize, marks: &mut [bool])
+        ensures { MarksAlso low (IsPlaceOfOne self.now nodes.now) marks.old marks.new }
     {
         for node in nodes {
-            mark(self.place(*node), 0, marks);
+            mark(self.place(*node), low, marks);
         }
     }
 

@@ -1,22 +1,22 @@
-use Rattle.std.proofs.Common.{◌≡◌, ◌-◌, ℕ, Contains, false, replicate, arith, subst, ◌∙◌}
+use Rattle.std.proofs.Common.{◌≡◌, ◌-◌, ℕ, Contains, false, length, replicate, arith, subst, sym, ap, ◌∙◌, ◌↔◌}
 use Rattle.std.proofs.lemmas.Result.{IfOk-weaker}
-use Rattle.hg_graph.specs.Places.{IsParentPlace}
-use Rattle.hg_graph.specs.Marks.{MarksAlso}
+use Rattle.hg_changeset.specs.declared.node.Node.{Node}
+use Rattle.hg_graph.specs.Places.{IsAt, IsHeadPlace, IsParentPlace}
+use Rattle.hg_graph.specs.Marks.{IsMarked, MarksAlso}
 use Rattle.hg_graph.proofs.HeadLemmas.{head_unmarked, unmarked_heads}
 use Rattle.hg_graph.proofs.graph.Graph.heads_between.Goals as goal
 
-pub mark_parents_of-requires : goal.mark_parents_of-requires
-mark_parents_of-requires c k h = let upto = c.requires.high k h in omega (arith, upto, c.requires.within)
-
-pub returns : goal.returns
-returns c =
+pub returns-clause-exact : goal.returns-clause-exact
+returns-clause-exact c =
     let cs = c.args.self.now in
-    let places = c.args.places.now.keys in
     let low = c.args.low in
-    let n = c.args.high - low in
-    let old = c.mark_parents_of.new.marks in
-    let clear : c.as_mut_slice-marks.result.now ≡ replicate n false = c.as_mut_slice-marks.ensures.value ∙ c.in_ok-window.ensures.items_if_clones_equal (λ y e. e) in
-    let parents : MarksAlso low (λ k. (j : ℕ) × Contains places j × IsParentPlace cs j k) (replicate n false) old =
-    subst (λ none. MarksAlso low (λ k. (j : ℕ) × Contains places j × IsParentPlace cs j k) none old) clear c.mark_parents_of.ensures in
-    let same = head_unmarked cs c.requires.graph places low c.args.high n c.requires.low c.requires.high (omega (arith, c.requires.order)) old c.sweep.new.marks parents c.sweep.ensures in
-    IfOk-weaker c.unmarked.result _ _ (λ heads are. unmarked_heads cs places low c.sweep.new.marks same heads.keys are) c.unmarked.ensures
+    let marks = c.args.marks.now in
+    let old = c.mark_parents_of.new.above in
+    let new = c.sweep.new.marks in
+    let count : c.args.high - low ≡ length marks = omega arith in
+    let clear : c.as_mut_slice-above.result.now ≡ replicate (length marks) false = c.as_mut_slice-above.ensures.value ∙ c.in_ok-window.ensures.items_if_clones_equal (λ y e. e) ∙ ap (λ n. replicate n false) count in
+    let parents : MarksAlso low (λ k. (j : ℕ) × IsMarked low marks j × IsParentPlace cs j k) (replicate (length marks) false) old =
+    subst (λ none. MarksAlso low (λ k. (j : ℕ) × IsMarked low marks j × IsParentPlace cs j k) none old) clear c.mark_parents_of.ensures in
+    let same = head_unmarked cs c.alloc-alloc.ensures low marks old new parents c.sweep.ensures in
+    let heads = unmarked_heads cs (IsMarked low marks) low new same c.in_ok-heads.heads.keys c.in_ok-heads.ensures in
+    IfOk-weaker c.listed.result _ _ (λ list items. subst (λ ns. (n : Node) → Contains ns n ↔ ((k : ℕ) × IsAt cs n k × IsHeadPlace cs (IsMarked low marks) k)) (sym items) heads) c.listed.ensures.all

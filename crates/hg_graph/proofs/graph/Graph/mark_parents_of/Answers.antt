@@ -1,28 +1,36 @@
-use Rattle.std.proofs.Common.{◌++◌, ◌∷◌, [], ℕ, Contains, sym, subst, arith}
+use Rattle.std.proofs.Common.{◌+◌, ◌-◌, ◌<◌, ℕ, length, sym, subst, arith}
 use Rattle.hg_graph.specs.Places.{IsParentPlace}
-use Rattle.hg_graph.specs.Marks.{MarksAlso}
+use Rattle.hg_graph.specs.Marks.{IsMarked, MarksAlso}
 use Rattle.hg_graph.proofs.MarkLemmas.{MarksAlso-none}
-use Rattle.hg_graph.proofs.HeadLemmas.{one_done, one_of_them, all_done, parents_more}
+use Rattle.hg_graph.proofs.HeadLemmas.{IsMarkedBefore, before_none, before_all, before_more, before_same, parents_more, parents_same}
 use Rattle.hg_graph.proofs.graph.Graph.mark_parents_of.Goals as goal
+use Rattle.hg_graph.proofs.graph.Graph.mark_parents_of.Goals.{then-marks-place, else-marks-place}
 
 pub loop-place-init : goal.loop-place-init
-loop-place-init c = ([], sym c.into_iter-place-iterator.ensures.into_iter_gives.0, MarksAlso-none c.args.low _ c.args.marks.now (λ j le l h. omega (arith, h.1.1)))
-
-pub mark_parents-requires : goal.mark_parents-requires
-mark_parents-requires c =
-    let done = c.loop-place.invariant in
-    c.requires c.in-Some.place.now (one_of_them c.args.places.now.keys done.0 c.loop-place.place-iterator c.next.new.self c.in-Some.place.now done.1 c.in-Some.ensures.steps)
+loop-place-init c = MarksAlso-none c.args.low _ c.args.above.now (λ j le l h. before_none c.args.low c.args.marks.now h.0 h.1)
 
 pub loop-place-preserved : goal.loop-place-preserved
 loop-place-preserved c =
-    let done = c.loop-place.invariant in (
-      done.0 ++ c.in-Some.place.now ∷ [],
-      one_done c.args.places.now.keys done.0 c.loop-place.place-iterator c.next.new.self c.in-Some.place.now done.1 c.in-Some.ensures.steps,
-      parents_more c.args.self.now c.args.low done.0 c.in-Some.place.now c.args.marks.now c.loop-place.marks c.mark_parents.new.marks done.2 c.mark_parents.ensures,
-    )
+    let cs = c.args.self.now in
+    let low = c.args.low in
+    let marks = c.args.marks.now in
+    let place = c.loop-place.place in
+    let first = c.args.above.now in
+    let within : place - low < length marks = omega arith in
+    elim c.if-marks-place.branch [
+      | then-marks-place w ↦
+          let more = before_more low marks place c.loop-place.auto.place within w.if-marks-place.true in
+          let also = parents_more cs low (IsMarkedBefore low marks place) (IsMarkedBefore low marks (place + 1)) place first c.loop-place.above w.mark_parents.new.marks more c.loop-place.invariant w.mark_parents.ensures in
+          subst (MarksAlso low (λ k. (j : ℕ) × IsMarkedBefore low marks (place + 1) j × IsParentPlace cs j k) first) (sym w.above-is) also
+      | else-marks-place w ↦
+          let same = before_same low marks place c.loop-place.auto.place within w.if-marks-place.false in
+          let also = parents_same cs low (IsMarkedBefore low marks place) (IsMarkedBefore low marks (place + 1)) first c.loop-place.above same c.loop-place.invariant in
+          subst (MarksAlso low (λ k. (j : ℕ) × IsMarkedBefore low marks (place + 1) j × IsParentPlace cs j k) first) (sym w.above-is) also
+    ]
 
 pub returns : goal.returns
 returns c =
-    let done = c.loop-place.invariant in
-    let all = all_done c.args.places.now.keys done.0 c.loop-place.place-iterator done.1 c.in-None.ensures.steps.0 in
-    subst (λ ks. MarksAlso c.args.low (λ k. (j : ℕ) × Contains ks j × IsParentPlace c.args.self.now j k) c.args.marks.now c.loop-place.marks) all done.2
+    let low = c.args.low in
+    let marks = c.args.marks.now in
+    let place = c.loop-place.place in
+    parents_same c.args.self.now low (IsMarkedBefore low marks place) (IsMarked low marks) c.args.above.now c.loop-place.above (before_all low marks place (omega arith)) c.loop-place.invariant

@@ -1,47 +1,46 @@
-use Rattle.std.proofs.Common.{◌++◌, ◌∷◌, [], sym, subst, arith, ◌∙◌, true≢false}
+use Rattle.std.proofs.Common.{◌+◌, ◌-◌, ◌<◌, length, sym, subst, arith, ◌∙◌}
 use Rattle.std.proofs.lemmas.Option.{none-some}
 use Rattle.hg_graph.specs.Marks.{IsMarked}
-use Rattle.hg_graph.proofs.WalkLemmas.{contains_none}
-use Rattle.hg_graph.proofs.HeadLemmas.{AreUnmarked, one_done, all_done, unmarked_skip, unmarked_push}
+use Rattle.hg_graph.proofs.PlaceLemmas.{IsAt-within}
+use Rattle.hg_graph.proofs.HeadLemmas.{IsMarkedBefore, AreUnmarked, before_all, before_more, before_same, before_other, marked_here, clear_here, unmarked_same, unmarked_push}
 use Rattle.hg_graph.proofs.graph.Graph.unmarked.Goals as goal
-
-pub loop-place-init : goal.loop-place-init
-loop-place-init c = (
-  [],
-  sym c.into_iter-place-iterator.ensures.into_iter_gives.0,
-  λ n. (λ h. absurd (contains_none c.new-found.result.keys n c.new-found.ensures.empty h), λ h. absurd (omega (arith, h.2.1))),
-)
+use Rattle.hg_graph.proofs.graph.Graph.unmarked.Goals.{then-marks-place+then-not-above-place+in-Some+in_ok-insert, then-marks-place+then-not-above-place+in_default, else-marks-place, else-marks-place-via-then-marks-place+else-not-above-place, else-marks-place-via-else-marks-place}
 
 pub loop-place-preserved : goal.loop-place-preserved
 loop-place-preserved c =
-    let done = c.loop-place.invariant in
-    let place = c.in-Some.place.now in (
-      done.0 ++ place ∷ [],
-      one_done c.args.places.now.keys done.0 c.loop-place.place-iterator c.next.new.self place done.1 c.in-Some.ensures.steps,
-      unmarked_skip c.args.self.now c.args.low c.args.marks.now done.0 place c.loop-place.found.keys done.2 (λ n at clear. clear (c.is_marked.ensures.0 c.if-not-is_marked.false)),
-    )
-
-pub loop-place-preserved-in_ok-insert : goal.loop-place-preserved-in_ok-insert
-loop-place-preserved-in_ok-insert c =
-    let done = c.loop-place.invariant in
-    let place = c.in-Some.place.now in
-    let clear : ¬ (IsMarked c.args.low c.args.marks.now place) = λ m. true≢false (sym (c.is_marked.ensures.1 m) ∙ c.if-not-is_marked.true) in (
-      done.0 ++ place ∷ [],
-      one_done c.args.places.now.keys done.0 c.loop-place.place-iterator c.next.new.self place done.1 c.in-Some.ensures.steps,
-      unmarked_push c.args.self.now c.args.low c.args.marks.now done.0 place c.loop-place.found c.insert.new.self c.in-Some-node_at.node (sym c.node_at.ensures ∙ c.in-Some-node_at.is) clear c.in_ok-insert.ensures.updates done.2,
-    )
-
-pub loop-place-preserved-in_default : goal.loop-place-preserved-in_default
-loop-place-preserved-in_default c =
-    let done = c.loop-place.invariant in
-    let place = c.in-Some.place.now in (
-      done.0 ++ place ∷ [],
-      one_done c.args.places.now.keys done.0 c.loop-place.place-iterator c.next.new.self place done.1 c.in-Some.ensures.steps,
-      unmarked_skip c.args.self.now c.args.low c.args.marks.now done.0 place c.loop-place.found.keys done.2 (λ n at clear. none-some n (sym c.in_default.is ∙ c.node_at.ensures ∙ at)),
-    )
+    let cs = c.args.self.now in
+    let low = c.args.low in
+    let marks = c.args.marks.now in
+    let above = c.args.above.now in
+    let place = c.loop-place.place in
+    let from = c.loop-place.auto.place in
+    let in_marks : place - low < length marks = omega arith in
+    let in_above : place - low < length above = omega arith in
+    elim c.if-marks-place.branch [
+      | then-marks-place+then-not-above-place+in-Some+in_ok-insert w ↦
+          let at = sym w.node_at.ensures ∙ w.in-Some.is in
+          let clear = clear_here low above place from in_above w.if-not-above-place.true in
+          let more = before_more low marks place from in_marks w.if-marks-place.true in
+          let pushed = unmarked_push cs low above (IsMarkedBefore low marks place) (IsMarkedBefore low marks (place + 1)) place c.loop-place.found w.insert.new.self w.in-Some.node at clear w.in_ok-insert.ensures.updates more c.loop-place.invariant in
+          subst (λ f. AreUnmarked cs low above (IsMarkedBefore low marks (place + 1)) f.keys) (sym w.found-is) pushed
+      | then-marks-place+then-not-above-place+in_default w ↦
+          let n = IsAt-within cs place (omega arith) in
+          absurd (none-some n.0 (sym w.in_default.is ∙ w.node_at.ensures ∙ n.1))
+      | else-marks-place w ↦ elim w.else-marks-place.branch [
+        | else-marks-place-via-then-marks-place+else-not-above-place w' ↦
+            let marked = marked_here low above place from in_above w'.if-not-above-place.false in
+            subst (λ f. AreUnmarked cs low above (IsMarkedBefore low marks (place + 1)) f.keys) (sym w.found-is)
+            (unmarked_same cs low above (IsMarkedBefore low marks place) (IsMarkedBefore low marks (place + 1)) c.loop-place.found.keys (λ k clear. before_other low marks place k (λ e. clear (subst (IsMarked low above) (sym e) marked))) c.loop-place.invariant)
+        | else-marks-place-via-else-marks-place w' ↦
+            let same = before_same low marks place from in_marks w'.if-marks-place.false in
+            subst (λ f. AreUnmarked cs low above (IsMarkedBefore low marks (place + 1)) f.keys) (sym w.found-is) (unmarked_same cs low above (IsMarkedBefore low marks place) (IsMarkedBefore low marks (place + 1)) c.loop-place.found.keys (λ k _. same k) c.loop-place.invariant)
+      ]
+    ]
 
 pub returns : goal.returns
 returns c =
-    let done = c.loop-place.invariant in
-    let all = all_done c.args.places.now.keys done.0 c.loop-place.place-iterator done.1 c.in-None.ensures.steps.0 in
-    subst (λ ks. AreUnmarked c.args.self.now c.args.low c.args.marks.now ks c.loop-place.found.keys) all done.2
+    let cs = c.args.self.now in
+    let low = c.args.low in
+    let marks = c.args.marks.now in
+    let all = before_all low marks c.loop-place.place (omega arith) in
+    unmarked_same cs low c.args.above.now (IsMarkedBefore low marks c.loop-place.place) (IsMarked low marks) c.loop-place.found.keys (λ k _. all k) c.loop-place.invariant

@@ -1,0 +1,11 @@
+use Rattle.std.proofs.lemmas.Result.{IfOk-weaker}
+use Rattle.hg_graph.specs.Marks.{IsMarked, IsMarkedNode}
+use Rattle.hg_graph.proofs.HeadLemmas.{heads_are, marked_given}
+use Rattle.hg_graph.proofs.graph.Graph.marked_heads.Goals as goal
+
+pub returns-clause-exact : goal.returns-clause-exact
+returns-clause-exact c =
+    let cs = c.args.self.now in
+    let marks = c.args.marks.now in
+    let graph = c.len-count.ensures.graph in
+    IfOk-weaker c.heads_between.result _ _ (λ heads are. heads_are cs graph (IsMarkedNode cs marks) (IsMarked 0 marks) (marked_given cs graph marks c.requires) heads.items are) c.heads_between.ensures.exact
