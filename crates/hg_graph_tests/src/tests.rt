@@ -136,18 +136,32 @@ fn the_head_of_two_in_a_chain(rt: HostRuntime) {
     assert!(rt; found.as_slice() == [b].as_slice());
 }
 
+// The lesser id, and then the other.
+fn ascending(left: Node, right: Node) -> [Node; 2] {
+    if left < right {
+        [left, right]
+    } else {
+        [right, left]
+    }
+}
+
 #[test]
 fn the_heads_of_a_fork_ascend_by_id(rt: HostRuntime) {
     let alloc = rt.alloc();
     let mut graph = Graph::new(alloc);
     let [root, left, right, _] = add_merge(&rt, &mut graph, alloc);
-    let (lesser, greater) = if left < right {
-        (left, right)
-    } else {
-        (right, left)
-    };
     let found = graph.heads_of(&[root, left, right]).expect(&rt, "memory");
-    assert!(rt; found.as_slice() == [lesser, greater].as_slice());
+    assert!(rt; found.as_slice() == ascending(left, right).as_slice());
+}
+
+#[test]
+fn the_marked_heads_of_a_fork_ascend_by_id(rt: HostRuntime) {
+    let alloc = rt.alloc();
+    let mut graph = Graph::new(alloc);
+    let [_, left, right, _] = add_merge(&rt, &mut graph, alloc);
+    let marks = graph.ancestor_marks(&[left, right]).expect(&rt, "memory");
+    let found = graph.marked_heads(&marks).expect(&rt, "memory");
+    assert!(rt; found.as_slice() == ascending(left, right).as_slice());
 }
 
 #[test]
@@ -299,6 +313,19 @@ fn a_refused_growth_of_heads(rt: HostRuntime) {
     if let Some(root) = offer_star(&rt, &mut graph, alloc) {
         if let Ok(found) = graph.heads_of(&[root]) {
             assert!(rt; found.as_slice() == [root].as_slice());
+        }
+    }
+}
+
+#[test]
+fn a_refused_growth_of_marked_heads(rt: HostRuntime) {
+    let alloc = rt.alloc();
+    let mut graph = Graph::new(alloc);
+    if let Some(root) = offer_star(&rt, &mut graph, alloc) {
+        if let Ok(marks) = graph.ancestor_marks(&[root]) {
+            if let Ok(found) = graph.marked_heads(&marks) {
+                assert!(rt; found.as_slice() == [root].as_slice());
+            }
         }
     }
 }
