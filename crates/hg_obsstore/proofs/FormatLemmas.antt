@@ -1,6 +1,6 @@
 -- Reading a store marker by marker, against its grammar.
 use Rattle.std.proofs.Common.{◌≡◌, ◌<◌, ◌≤◌, ℕ, zero, suc, ◌+◌, ◌-◌, ◌==◌, false, List, [], ◌∷◌, ◌++◌, length, drop, take, get_or, Result, Ok, Err, refl, sym, ap, subst, ◌∙◌, append_assoc, length-append, arith}
-use Rattle.std.proofs.lemmas.List.{append-nil, take_more}
+use Rattle.std.proofs.lemmas.List.{append-nil, flat_map_more, take_more}
 use Rattle.std.proofs.lemmas.List.Concat.{flat_map-append, flat_map-cons}
 use Rattle.std.proofs.lemmas.Bool.{false_from_ne_true}
 use Rattle.std.specs.Cmp.{unsigned_Decides}
@@ -229,6 +229,9 @@ pub length_push : (ms : List Fields) (m : Fields) → length (store_spelling (ms
 length_push ms m =
     let one : flat_map spelling (m ∷ []) ≡ spelling m = flat_map-cons spelling m [] ∙ append-nil (spelling m) in
     omega (arith, ap length (flat_map-append spelling ms (m ∷ [])), length-append (flat_map spelling ms) (flat_map spelling (m ∷ [])), ap length one)
+
+pub written_on : (before : List ℕ) (ms : List Fields) (m : Fields) → (before ++ store_spelling ms) ++ spelling m ≡ before ++ store_spelling (ms ++ m ∷ [])
+written_on before ms m = append_assoc before (store_spelling ms) (spelling m) ∙ ap (λ (bytes : List ℕ). before ++ 0 ∷ bytes) (flat_map_more spelling [] ms m)
 
 pub length_more : (ms : List Fields) (i : ℕ) (m : Fields) → i < length ms → m ≡ get_or ms i m → length (store_spelling (take (i + 1) ms)) ≡ length (store_spelling (take i ms)) + length (spelling m)
 length_more ms i m l is =

@@ -50,6 +50,25 @@ pub fn write_markers(out: &mut Vec<u8>, markers: &[Marker]) -> Result<(), AllocE
     Ok(())
 }
 
+/// Appends the bytes of the markers at these places, as [`write_markers`] does. After an error a front of them may stand
+/// there.
+pub fn write_markers_at(
+    out: &mut Vec<u8>,
+    store: &Store,
+    places: &[usize],
+) -> Result<(), AllocError>
+    ensures { OnOk result (out.new.items ≡ out.old.items ++ store_spelling (picked store.now places.now)) }
+{
+    out.push(0)?;
+    for place in places {
+        match store.get(*place) {
+            Some(marker) => write_marker(out, marker)?,
+            None => {}
+        }
+    }
+    Ok(())
+}
+
 /// How many bytes the markers take as they are written, if a `usize` can tell it.
 pub fn markers_len(markers: &[Marker]) -> Option<usize>
     ensures some { IfSome result (λ n. n ≡ length (store_spelling markers.now)) }
@@ -69,6 +88,9 @@ pub fn markers_len(markers: &[Marker]) -> Option<usize>
 pub fn markers_len_at(store: &Store, places: &[usize]) -> Option<usize>
     ensures some { IfSome result (λ n. n ≡ length (store_spelling (picked store.now places.now))) }
     ensures none { result ≡ None → 2 ^ 64 - 1 < length (store_spelling (picked store.now places.now)) }
+
+    // Any markers can be spelled.
+    ensures spells { IsStoreSpelling (picked store.now places.now) (store_spelling (picked store.now places.now)) }
 {
     let mut total = Some(1);
     for place in places {

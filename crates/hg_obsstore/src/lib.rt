@@ -11,7 +11,7 @@ mod store;
 pub use fault::StoreFault;
 pub use format::{
     check_markers, markers_bytes, markers_len, markers_len_at, read_markers, read_store,
-    store_bytes, write_markers,
+    store_bytes, write_markers, write_markers_at,
 };
 pub use hg_changeset::Node;
 pub use hg_join::NoMemory;

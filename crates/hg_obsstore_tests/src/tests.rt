@@ -4,7 +4,7 @@ use hg_join::{JoinState, NoMemory};
 use hg_marker::{Marker, MarkerFault, Metadata, ReadError};
 use hg_obsstore::{
     Added, Store, StoreFault, check_markers, markers_bytes, markers_len, markers_len_at,
-    read_markers, read_store, store_bytes, write_markers,
+    read_markers, read_store, store_bytes, write_markers, write_markers_at,
 };
 use std::alloc::{AllocError, Global};
 use std::process::Abort;
@@ -83,6 +83,19 @@ fn appends_markers_and_tells_their_length(rt: HostRuntime) {
     let mut out = Vec::from_slice(alloc, &[7]).expect(&rt, "memory");
     write_markers(&mut out, &markers).expect(&rt, "memory");
     assert!(rt; out.len() == 110 && out.first() == Some(&7) && out.ends_with(&bytes));
+}
+
+// Of two markers the second alone, behind whatever stands there: a version byte and 26 + 20 bytes.
+#[test]
+fn appends_the_markers_at_places(rt: HostRuntime) {
+    let alloc = rt.alloc();
+    let mut store = Store::new(alloc);
+    add(&rt, &mut store, marker(alloc, OLD, &[NEW]));
+    add(&rt, &mut store, marker(alloc, NEW, &[OLD]));
+    let mut out = Vec::from_slice(alloc, &[7]).expect(&rt, "memory");
+    write_markers_at(&mut out, &store, &[1]).expect(&rt, "memory");
+    assert!(rt; out.len() == 48 && out.starts_with(&[7, 0, 1, 0, 0, 0, 0, 0]));
+    assert!(rt; out[..28].ends_with(&NEW.0) && out.ends_with(&OLD.0));
 }
 
 fn fault_of(alloc: Global, bytes: &[u8]) -> Option<StoreFault> {
