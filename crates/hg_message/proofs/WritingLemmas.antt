@@ -1,5 +1,5 @@
 -- What is written of a message spells it.
-use Rattle.std.proofs.Common.{◌≡◌, ℕ, ◌+◌, ◌<◌, List, [], ◌∷◌, ◌++◌, length, take, get_or, All, refl, sym, ap, ◌∙◌, inl, inr}
+use Rattle.std.proofs.Common.{◌≡◌, ℕ, ◌+◌, ◌<◌, List, [], ◌∷◌, ◌++◌, length, take, get_or, refl, sym, ap, ◌∙◌, inl, inr}
 use Rattle.std.proofs.lemmas.List.{take_more, flat_map_more}
 use Rattle.std.proofs.lemmas.List.Elements.{All-push, All-from_recursion, recursion_from_All}
 use Rattle.std.specs.List.{flat_map, AllByRecursion}
@@ -71,7 +71,8 @@ pub writes_on : {A : Type 0} (f : A → List ℕ) (xs : List A) (i : ℕ) (d : A
 writes_on f xs i d before out next lt so_far e =
     e ∙ ap (λ (bytes : List ℕ). bytes ++ f (get_or xs i d)) so_far ∙ flat_map_more f before (take i xs) (get_or xs i d) ∙ ap (λ (ys : List _). before ++ flat_map f ys) (sym (take_more xs i d lt))
 
+pub AllByRecursion-push : {A : Type 0} (P : A → Type 0) (xs : List A) (x : A) → AllByRecursion P xs → P x → AllByRecursion P (xs ++ x ∷ [])
+AllByRecursion-push P xs x each one = recursion_from_All P (xs ++ x ∷ []) (All-push P xs x (All-from_recursion P xs each) one)
+
 pub each_goes_on : {A : Type 0} (P : A → Type 0) (xs : List A) (i : ℕ) (d : A) → i < length xs → AllByRecursion P (take i xs) → P (get_or xs i d) → AllByRecursion P (take (i + 1) xs)
-each_goes_on P xs i d lt so_far one =
-    let all : All P (take i xs ++ get_or xs i d ∷ []) = All-push P (take i xs) (get_or xs i d) (All-from_recursion P (take i xs) so_far) one in
-    rw (take_more xs i d lt) (recursion_from_All P (take i xs ++ get_or xs i d ∷ []) all)
+each_goes_on P xs i d lt so_far one = rw (take_more xs i d lt) (AllByRecursion-push P (take i xs) (get_or xs i d) so_far one)

@@ -1,4 +1,4 @@
--- What goes out, found by place and not copied yet, and the answers to the calls that find and copy it.
+-- What goes out, found by place and not copied yet, and the answers to the calls that find, copy and write it.
 use Rattle.std.specs.Prelude.{◌≡◌, ◌↔◌, ℕ, true, false, List, Bool, length, slice_get, Some, Result, Ok, Err}
 use Rattle.hg_changeset.specs.declared.node.Node.{Node}
 use Rattle.hg_graph.specs.Marks.{IsMarkedNode}
@@ -10,6 +10,7 @@ use Rattle.hg_replica.specs.Evolution.{IsServed}
 use Rattle.hg_message.specs.declared.refusal.OfferRefusal.{OfferRefusal}
 use Rattle.hg_message.specs.declared.refusal.OfferRefusal.TheVariants.{UnknownCommon, TooLarge, NoMemory}
 use Rattle.hg_message.specs.Value.{MessageValue, is_too_large}
+use Rattle.hg_message.specs.Spelling.{message_spelling}
 use Rattle.hg_message.specs.Offer.{AreHeld, IsFirstUnknown, IsOffer}
 
 -- a mark for each place, which tells whether the changeset there is served
@@ -28,9 +29,17 @@ FindAnswer s common (Err (UnknownCommon n)) = IsFirstUnknown (content_of s) comm
 FindAnswer s common (Err TooLarge) = ⊥
 FindAnswer s common (Err NoMemory) = AreHeld (content_of s) common
 
--- the answer to `Outgoing::message`: what is too large is told so, and memory can be wanting only for what isn't
+-- the answer to a call that makes something of what was found: what is too large is told so, and memory can be wanting only for what isn't
+abbrev pub MakeAnswer : {A : Type 0} → MessageValue → (A → Type 0) → Result A OfferRefusal → Type 0
+MakeAnswer found P (Ok x) = (is_too_large found ≡ false) × P x
+MakeAnswer found P (Err (UnknownCommon n)) = ⊥
+MakeAnswer found P (Err TooLarge) = is_too_large found ≡ true
+MakeAnswer found P (Err NoMemory) = is_too_large found ≡ false
+
+-- the answer to `Outgoing::message`: an equal message is made
 abbrev pub CopyAnswer : MessageValue → Result MessageValue OfferRefusal → Type 0
-CopyAnswer found (Ok m) = (is_too_large found ≡ false) × (m ≡ found)
-CopyAnswer found (Err (UnknownCommon n)) = ⊥
-CopyAnswer found (Err TooLarge) = is_too_large found ≡ true
-CopyAnswer found (Err NoMemory) = is_too_large found ≡ false
+CopyAnswer found = MakeAnswer found (λ m. m ≡ found)
+
+-- the answer to `Outgoing::to_bytes`: what is written of the message is made
+abbrev pub WriteAnswer : {A : Type 0} → (A → List ℕ) → MessageValue → Result A OfferRefusal → Type 0
+WriteAnswer bytes found = MakeAnswer found (λ x. bytes x ≡ message_spelling found)

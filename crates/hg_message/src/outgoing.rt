@@ -1,28 +1,30 @@
-//! What goes out to another replica: found first, and copied then.
+//! What goes out to another replica: found first, and copied or written then.
 //!
 //! To find it takes memory, for marks and for a queue. Whether it is too large shows as soon as it is found, without memory
-//! and before anything is copied: from there on want of memory never stands for what is too large.
-ghost use Rattle.std.specs.Prelude.{◌≡◌, IfOk, false, length, not, nat_lt};
+//! and before anything is copied or written: from there on want of memory never stands for what is too large.
+ghost use Rattle.std.specs.Prelude.{◌≡◌, ◌<◌, ◌≤◌, IfOk, MatchOption, true, false, length};
 ghost use Rattle.hg_obsstore.specs.Places.{picked};
-ghost use Rattle.hg_obsstore.specs.Spelling.{store_spelling};
+ghost use Rattle.hg_obsstore.specs.Spelling.{IsStoreSpelling, store_spelling};
 ghost use Rattle.hg_replica.specs.Content.{content_of};
 ghost use Rattle.hg_message.specs.Value.{count_limit, is_too_large};
 ghost use Rattle.hg_message.specs.Offer.{AreHeld, IsOffer};
-ghost use Rattle.hg_message.specs.Outgoing.{CopyAnswer, FindAnswer};
+ghost use Rattle.hg_message.specs.Outgoing.{CopyAnswer, FindAnswer, WriteAnswer};
+ghost use Rattle.hg_message.specs.Spelling.{IsMessageSpelling, message_spelling};
 
 use crate::copies::{copy_changesets_at, copy_markers_at};
 use crate::finding::{first_unknown, head_bounds, outgoing_places, relevant_places};
 use crate::message::{COUNT_LIMIT, Message};
 use crate::refusal::OfferRefusal;
+use crate::writing::{begin, records_len_at, write_bounds_and_len, write_records_at};
 use hg_changeset::Node;
-use hg_obsstore::{Store, markers_len_at};
+use hg_obsstore::{Store, markers_len_at, write_markers_at};
 use hg_phases::Phase;
 use hg_replica::Replica;
 use hg_view::served_marks;
 use std::alloc::{AllocError, Global};
 use std::marker::Model;
 
-/// What a replica [`offer`](crate::offer)s, found and not copied yet: which of its changesets and markers, and which bounds.
+/// What a replica [`offer`](crate::offer)s, found and neither copied nor written yet: which of its changesets and markers, and which bounds.
 /// Contracts see the message that it says.
 pub struct Outgoing<'a> {
     replica: &'a Replica,
@@ -86,9 +88,7 @@ impl<'a> Outgoing<'a> {
     pub fn is_too_large(&self) -> bool
         ensures { result ≡ is_too_large self.now }
     {
-        self.changesets.len() > COUNT_LIMIT
-            || self.bounds.len() > COUNT_LIMIT
-            || !fit_at(self.replica.store(), &self.markers)
+        self.store_len().is_none()
     }
 
     /// The message, with copies of the changesets and markers.
@@ -101,6 +101,51 @@ impl<'a> Outgoing<'a> {
             return Err(OfferRefusal::TooLarge);
         }
         Ok(self.copied()?)
+    }
+
+    /// The bytes of the message, written straight from the replica: no changeset and no marker is copied. They are written
+    /// once, into room that is taken at once.
+    ///
+    /// Refuses [`OfferRefusal::TooLarge`] alone, before it takes any memory: want of memory never stands for it.
+    pub fn to_bytes(&self) -> Result<Vec<u8>, OfferRefusal>
+        ensures written { WriteAnswer (λ bytes. bytes.items) self.now result }
+        ensures spells { IfOk result (λ bytes. IsMessageSpelling self.now bytes.items) }
+    {
+        match self.store_len() {
+            Some(store_len) => Ok(self.written(store_len)?),
+            None => Err(OfferRefusal::TooLarge),
+        }
+    }
+
+    // How many bytes its markers take as they are written, where it isn't too large.
+    fn store_len(&self) -> Option<usize>
+        ensures len { MatchOption result (is_too_large self.now ≡ true) (λ len. (is_too_large self.now ≡ false) × (len ≡ length (store_spelling self.now.markers))) }
+        ensures spells { IsStoreSpelling self.now.markers (store_spelling self.now.markers) }
+    {
+        let fitting = fitting_len(self.replica.store(), &self.markers);
+        if self.changesets.len() > COUNT_LIMIT || self.bounds.len() > COUNT_LIMIT {
+            return None;
+        }
+        fitting
+    }
+
+    // The bytes, where it isn't too large, and its markers take so many of them.
+    fn written(&self, store_len: usize) -> Result<Vec<u8>, AllocError>
+        requires small { is_too_large self.now ≡ false }
+        requires len { store_len ≡ length (store_spelling self.now.markers) }
+        requires markers { IsStoreSpelling self.now.markers (store_spelling self.now.markers) }
+        ensures written { IfOk result (λ bytes. bytes.items ≡ message_spelling self.now) }
+        ensures spells { IfOk result (λ bytes. IsMessageSpelling self.now bytes.items) }
+    {
+        let alloc = *self.changesets.allocator();
+        let graph = self.replica.graph();
+        let count = self.changesets.len();
+        let records_len = records_len_at(graph, &self.changesets);
+        let mut out = begin(alloc, count, records_len, self.bounds.len(), store_len)?;
+        write_records_at(&mut out, graph, &self.changesets)?;
+        write_bounds_and_len(&mut out, &self.bounds, store_len)?;
+        write_markers_at(&mut out, self.replica.store(), &self.markers)?;
+        Ok(out)
     }
 
     // The message, where it isn't too large.
@@ -137,12 +182,13 @@ fn find<'a>(
     })
 }
 
-// Whether the length of the markers at the places, as they are written, can be told in four bytes.
-fn fit_at(store: &Store, places: &[usize]) -> bool
-    ensures { result ≡ not (nat_lt count_limit (length (store_spelling (picked store.now places.now)))) }
+// How many bytes the markers at the places take as they are written, where four bytes can tell it.
+fn fitting_len(store: &Store, places: &[usize]) -> Option<usize>
+    ensures len { MatchOption result (count_limit < length (store_spelling (picked store.now places.now))) (λ len. (len ≤ count_limit) × (len ≡ length (store_spelling (picked store.now places.now)))) }
+    ensures spells { IsStoreSpelling (picked store.now places.now) (store_spelling (picked store.now places.now)) }
 {
     match markers_len_at(store, places) {
-        Some(len) => len <= COUNT_LIMIT,
-        None => false,
+        Some(len) if len <= COUNT_LIMIT => Some(len),
+        _ => None,
     }
 }

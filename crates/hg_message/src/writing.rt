@@ -1,14 +1,17 @@
 //! How a message is written.
-ghost use Rattle.std.specs.Prelude.{◌≡◌, ◌+◌, ◌*◌, ◌++◌, ◌≤◌, IfOk, OnOk, length, sum_by};
+ghost use Rattle.std.specs.Prelude.{◌≡◌, ◌+◌, ◌*◌, ◌∷◌, ◌++◌, ◌≤◌, IfOk, OnOk, length, sum_by};
 ghost use Rattle.std.specs.List.{flat_map, AllByRecursion};
 ghost use Rattle.hex.specs.Hex.{IsBytes};
 ghost use Rattle.hg_changeset.specs.Changeset.{IsChangeset};
+ghost use Rattle.hg_obsstore.specs.Places.{picked};
 ghost use Rattle.hg_message.specs.Value.{IsMessage, count_limit};
-ghost use Rattle.hg_message.specs.Spelling.{IsMessageSpelling, message_spelling, record_spelling, bound_layout, HasNode};
+ghost use Rattle.hg_message.specs.Message.{magic_number};
+ghost use Rattle.hg_message.specs.Spelling.{IsMessageSpelling, number, message_spelling, record_spelling, bound_layout, HasNode};
 
 use crate::bound::phase_number;
 use crate::layout::{MAGIC, VERSION};
 use hg_changeset::{Changeset, Node};
+use hg_graph::Graph;
 use hg_marker::{Marker, write_number};
 use hg_obsstore::{markers_len, write_markers};
 use hg_phases::Phase;
@@ -35,17 +38,52 @@ pub(crate) fn write_message(
     ensures spells { IfOk result (λ bytes. IsMessageSpelling (record { changesets = changesets.now; bounds = bounds.now; markers = markers.now }) bytes.items) }
 {
     let store_len = markers_len(markers).unwrap();
-    let room = HEAD_LEN + records_len(changesets) + BOUND_LEN * bounds.len() + store_len;
+    let count = changesets.len();
+    let records_len = records_len(changesets);
+    let mut out = begin(alloc, count, records_len, bounds.len(), store_len)?;
+    write_records(&mut out, changesets)?;
+    write_bounds_and_len(&mut out, bounds, store_len)?;
+    write_markers(&mut out, markers)?;
+    Ok(out)
+}
+
+/// What stands before the records of a message of so many changesets, in room for all of it: for records and a store of
+/// these lengths, and for so many bounds.
+pub(crate) fn begin(
+    alloc: Global,
+    changesets: usize,
+    records_len: usize,
+    bounds: usize,
+    store_len: usize,
+) -> Result<Vec<u8>, AllocError>
+    requires changesets { changesets ≤ count_limit }
+    requires records { records_len ≤ 1048640 * changesets }
+    requires bounds { bounds ≤ count_limit }
+    requires store { store_len ≤ count_limit }
+    ensures { IfOk result (λ out. out.items ≡ number magic_number ++ (1 ∷ number changesets)) }
+{
+    let room = HEAD_LEN + records_len + BOUND_LEN * bounds + store_len;
     let mut out = Vec::with_capacity(alloc, room)?;
     write_number(&mut out, MAGIC)?;
     out.push(VERSION)?;
-    write_number(&mut out, changesets.len() as u32)?;
-    write_records(&mut out, changesets)?;
-    write_number(&mut out, bounds.len() as u32)?;
-    write_bounds(&mut out, bounds)?;
-    write_number(&mut out, store_len as u32)?;
-    write_markers(&mut out, markers)?;
+    write_number(&mut out, changesets as u32)?;
     Ok(out)
+}
+
+/// Appends what stands between the records and a store of this length: the bounds behind their count, and the length.
+pub(crate) fn write_bounds_and_len(
+    out: &mut Vec<u8>,
+    bounds: &[(Node, Phase)],
+    store_len: usize,
+) -> Result<(), AllocError>
+    requires bounds { length bounds.now ≤ count_limit }
+    requires store { store_len ≤ count_limit }
+    ensures written { OnOk result (out.new.items ≡ out.old.items ++ (number (length bounds.now) ++ (flat_map bound_layout bounds.now ++ number store_len))) }
+    ensures nodes { OnOk result (AllByRecursion HasNode bounds.now) }
+{
+    write_number(out, bounds.len() as u32)?;
+    write_bounds(out, bounds)?;
+    write_number(out, store_len as u32)
 }
 
 // How many bytes the records take.
@@ -68,6 +106,40 @@ fn write_records(out: &mut Vec<u8>, changesets: &[Changeset]) -> Result<(), Allo
 {
     for changeset in changesets {
         write_record(out, changeset)?;
+    }
+    Ok(())
+}
+
+/// How many bytes the records of the changesets at these places take.
+pub(crate) fn records_len_at(graph: &Graph, places: &[usize]) -> usize
+    requires { length places.now ≤ count_limit }
+    ensures len { result ≡ sum_by (λ c. 64 + length c.text) (picked graph.now places.now) }
+    ensures bounded { result ≤ 1048640 * length places.now }
+{
+    let mut len = 0;
+    for place in places {
+        match graph.changeset_at(*place) {
+            Some(changeset) => len += RECORD_HEAD_LEN + changeset.text().len(),
+            None => {}
+        }
+    }
+    len
+}
+
+/// Appends the records of the changesets at these places, one after the other.
+pub(crate) fn write_records_at(
+    out: &mut Vec<u8>,
+    graph: &Graph,
+    places: &[usize],
+) -> Result<(), AllocError>
+    ensures written { OnOk result (out.new.items ≡ out.old.items ++ flat_map record_spelling (picked graph.now places.now)) }
+    ensures changesets { OnOk result (AllByRecursion IsChangeset (picked graph.now places.now)) }
+{
+    for place in places {
+        match graph.changeset_at(*place) {
+            Some(changeset) => write_record(out, changeset)?,
+            None => {}
+        }
     }
     Ok(())
 }

@@ -1,4 +1,5 @@
 //! Offers of a few changesets: what is in them, in which order, and why there is none.
+use crate::rows::{ROOT, child_above_root};
 use hg_changeset::{Changeset, Node};
 use hg_marker::{Marker, Metadata};
 use hg_message::{Message, OfferRefusal, Outgoing, offer};
@@ -135,6 +136,25 @@ fn finds_what_goes_out_before_it_is_copied(rt: HostRuntime) {
     assert!(rt; are(&message, &[nodes.c]) && message.markers().len() == 2);
 }
 
+// A replica of ROOT, and of what the bytes bring it.
+fn with_child(alloc: Global, bytes: &[u8]) -> Option<Replica> {
+    let mut replica = Replica::new(alloc);
+    commit(alloc, &mut replica, Node::NULL, b"a", Phase::Public)?;
+    let part = Message::from_bytes(alloc, bytes).ok()?.into_part().ok()?;
+    replica.absorb(&part).ok()?;
+    Some(replica)
+}
+
+// What a replica took in goes out of it in the same bytes.
+#[test]
+fn writes_what_goes_out(rt: HostRuntime) {
+    let alloc = rt.alloc();
+    let bytes = child_above_root(alloc).expect(&rt, "memory");
+    let replica = with_child(alloc, &bytes).expect(&rt, "a message");
+    let found = Outgoing::above(alloc, &replica, &[ROOT]).expect(&rt, "memory");
+    assert!(rt; found.to_bytes().expect(&rt, "memory") == bytes);
+}
+
 #[test]
 fn refuses_the_first_common_node_that_is_not_held(rt: HostRuntime) {
     let alloc = rt.alloc();
@@ -183,4 +203,26 @@ fn refused_growth_offers_nothing(rt: HostRuntime) {
         }
     };
     assert!(rt; message.changesets().len() == 3 && message.markers().len() == 2);
+}
+
+#[test]
+fn refused_growth_writes_nothing_that_goes_out(rt: HostRuntime) {
+    let alloc = rt.alloc();
+    let Some(bytes) = child_above_root(alloc) else {
+        return;
+    };
+    let Some(replica) = with_child(alloc, &bytes) else {
+        return;
+    };
+    let Ok(found) = Outgoing::above(alloc, &replica, &[ROOT]) else {
+        return;
+    };
+    let written = match found.to_bytes() {
+        Ok(written) => written,
+        Err(refusal) => {
+            assert!(rt; refusal == OfferRefusal::NoMemory);
+            found.to_bytes().expect(&rt, "memory")
+        }
+    };
+    assert!(rt; written == bytes);
 }

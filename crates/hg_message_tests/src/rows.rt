@@ -52,8 +52,22 @@ pub fn all_kinds(alloc: Global, p: Node, q: Node) -> Option<Vec<u8>> {
     bytes.extend_from_slice(b"\0\0\0\x02").ok()?;
     bytes.extend_from_slice(&CHILD.0).ok()?;
     bytes.extend_from_slice(&[0, 0, 0, 109, 0]).ok()?;
-    push_marker(&mut bytes)?;
-    push_marker(&mut bytes)?;
+    push_marker(&mut bytes, Node([0x22; 20]))?;
+    push_marker(&mut bytes, Node([0x22; 20]))?;
+    Some(bytes)
+}
+
+/// What is offered above ROOT, which is public, where CHILD stands on it and is draft, and a marker leads to CHILD: the
+/// message of CHILD, of the bounds (ROOT, public) and (CHILD, draft), and of the marker.
+pub fn child_above_root(alloc: Global) -> Option<Vec<u8>> {
+    let mut bytes = Vec::from_slice(alloc, b"HGFX\x01\0\0\0\x01").ok()?;
+    push_record(&mut bytes, CHILD, ROOT, Node::NULL, b"\0\0\0\x06second")?;
+    bytes.extend_from_slice(b"\0\0\0\x02\0\0\0\0").ok()?;
+    bytes.extend_from_slice(&ROOT.0).ok()?;
+    bytes.extend_from_slice(b"\0\0\0\x01").ok()?;
+    bytes.extend_from_slice(&CHILD.0).ok()?;
+    bytes.extend_from_slice(&[0, 0, 0, 55, 0]).ok()?;
+    push_marker(&mut bytes, CHILD)?;
     Some(bytes)
 }
 
@@ -65,10 +79,10 @@ fn push_record(bytes: &mut Vec<u8>, node: Node, p: Node, q: Node, text: &[u8]) -
     bytes.extend_from_slice(text).ok()
 }
 
-// The 54 bytes of a marker from 20 times 11 to 20 times 22 by the user `bob`.
-fn push_marker(bytes: &mut Vec<u8>) -> Option<()> {
+// The 54 bytes of a marker from 20 times 11 to this node by the user `bob`.
+fn push_marker(bytes: &mut Vec<u8>, new: Node) -> Option<()> {
     bytes.extend_from_slice(&[1, 0, 0, 0, 8, 0]).ok()?;
     bytes.extend_from_slice(&[0x11; 20]).ok()?;
-    bytes.extend_from_slice(&[0x22; 20]).ok()?;
+    bytes.extend_from_slice(&new.0).ok()?;
     bytes.extend_from_slice(b"user:bob").ok()
 }
