@@ -3,7 +3,7 @@
 //! A marker is a head of six bytes, the ids of its predecessor and successors, and its metadata. Written it has one
 //! spelling. Metadata may be spelled in further ways, which are read, so that equal markers may come from different
 //! bytes.
-ghost use Rattle.std.specs.Prelude.{◌≡◌, ◌≤◌, ◌++◌, ◌*◌, List, ℕ, length, take, IfOk, OnOk, IsErrOf, Ok, true};
+ghost use Rattle.std.specs.Prelude.{◌≡◌, ◌≤◌, ◌+◌, ◌++◌, ◌*◌, List, ℕ, length, take, IfOk, OnOk, OnErr, IsErrOf, Ok, true, vec_len, vec_capacity};
 ghost use Rattle.hg_marker.specs.declared.error.MarkerFault.{MarkerFault};
 ghost use Rattle.hg_marker.specs.declared.error.ReadError.TheVariants.{Fault};
 ghost use Rattle.std.specs.List.{list_all};
@@ -29,33 +29,47 @@ pub fn encode(marker: &Marker) -> Result<Vec<u8>, AllocError>
     ensures written { IfOk result (λ v. v.items ≡ spelling marker.now) }
     ensures spells { IfOk result (λ v. IsSpelling marker.now v.items) }
 {
-    let mut out = Vec::new(marker.allocator());
-    write_marker(&mut out, marker)?;
+    let mut out = Vec::with_capacity(marker.allocator(), marker.written_len())?;
+    push_marker(&mut out, marker);
     Ok(out)
 }
 
-/// Appends the bytes of a marker: its one written spelling. After an error a front of it may stand there.
+/// Appends the bytes of a marker: its one written spelling. Room for all of them is made first, so that without memory
+/// nothing is appended.
 pub fn write_marker(out: &mut Vec<u8>, marker: &Marker) -> Result<(), AllocError>
     ensures written { OnOk result (out.new.items ≡ out.old.items ++ spelling marker.now) }
+    ensures unchanged { OnErr result (out.new.items ≡ out.old.items) }
+    ensures marker { IsMarker marker.now }
+{
+    out.reserve(marker.written_len())?;
+    push_marker(out, marker);
+    Ok(())
+}
+
+// Appends the bytes of a marker, for which there is room.
+fn push_marker(out: &mut Vec<u8>, marker: &Marker)
+    requires room { vec_len out.old + length (spelling marker.now) ≤ vec_capacity out.old }
+    ensures written { out.new.items ≡ out.old.items ++ spelling marker.now }
     ensures marker { IsMarker marker.now }
 {
     let predecessor = marker.predecessor();
-    out.push(marker.successors().len() as u8)?;
-    write_number(out, marker.meta().written_len() as u32)?;
-    out.push(marker.flags())?;
-    out.extend_from_slice(&predecessor.0)?;
-    write_ids(out, marker.successors())?;
-    marker.meta().write_onto(out)
+    out.push(marker.successors().len() as u8).unwrap();
+    write_number(out, marker.meta().written_len() as u32).unwrap();
+    out.push(marker.flags()).unwrap();
+    out.extend_from_slice(&predecessor.0).unwrap();
+    push_ids(out, marker.successors());
+    marker.meta().write_onto(out).unwrap();
 }
 
-// Appends the ids, one after the other.
-fn write_ids(out: &mut Vec<u8>, nodes: &[Node]) -> Result<(), AllocError>
-    ensures { OnOk result (out.new.items ≡ out.old.items ++ ids nodes.now) }
+// Appends the ids, for which there is room, one after the other.
+fn push_ids(out: &mut Vec<u8>, nodes: &[Node])
+    requires room { vec_len out.old + length (ids nodes.now) ≤ vec_capacity out.old }
+    ensures written { out.new.items ≡ out.old.items ++ ids nodes.now }
+    ensures capacity { vec_capacity out.old ≤ vec_capacity out.new }
 {
     for node in nodes {
-        out.extend_from_slice(&node.0)?;
+        out.extend_from_slice(&node.0).unwrap();
     }
-    Ok(())
 }
 
 /// The fields of a marker where they stand in bytes, whole and without fault. Nothing is copied yet.

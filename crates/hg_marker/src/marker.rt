@@ -12,7 +12,7 @@ ghost use Rattle.hg_marker.specs.Making.{marker_of};
 ghost use Rattle.hg_marker.specs.Parents.{parents_of};
 
 use crate::error::MarkerError;
-use crate::format::encode;
+use crate::format::write_marker;
 use crate::metadata::Metadata;
 use crate::parents::{Parents, parents_of};
 use hg_changeset::Node;
@@ -229,8 +229,7 @@ impl Marker {
         ensures ok { OnOk result (out.new.items ≡ out.old.items ++ spelling self.now) }
         ensures err { OnErr result (out.new.items ≡ out.old.items) }
     {
-        let bytes = encode(self)?;
-        out.extend_from_slice(&bytes)
+        write_marker(out, self)
     }
 
     // Where the marker's memory comes from.

@@ -5,7 +5,7 @@
 //! Readers take no memory.
 ghost use Rattle.hg_marker.specs.Reading.{IsReading, field, number, byte, node, nodes, ids_in};
 ghost use Rattle.hg_changeset.specs.Node.{null_node, node_eq};
-ghost use Rattle.std.specs.Prelude.{◌≡◌, ◌++◌, ◌*◌, ◌≤◌, length, take, drop, IfOk, OnOk, OnErr};
+ghost use Rattle.std.specs.Prelude.{◌≡◌, ◌+◌, ◌++◌, ◌*◌, ◌≤◌, length, take, drop, IfOk, IsOk, OnOk, OnErr, vec_len, vec_capacity};
 ghost use Rattle.std.specs.List.{list_any};
 ghost use Rattle.std.specs.Int.{w32, to_be_bytes};
 
@@ -111,6 +111,10 @@ pub(crate) fn copy_ids(alloc: Global, ids: &[u8], count: u8) -> Result<Vec<Node>
 pub fn write_number(out: &mut Vec<u8>, number: u32) -> Result<(), AllocError>
     ensures ok { OnOk result (out.new.items ≡ out.old.items ++ to_be_bytes w32 number) }
     ensures err { OnErr result (out.new.items ≡ out.old.items) }
+
+    // Room for four bytes is all that it takes.
+    ensures capacity { vec_capacity out.old ≤ vec_capacity out.new }
+    ensures succeeds { vec_len out.old + 4 ≤ vec_capacity out.old → IsOk result }
 {
     let mut bytes = [0; 4];
     BigEndian::write_u32(&mut bytes, number);

@@ -5,5 +5,6 @@ use Rattle.hg_marker.proofs.format.encode.Goals as goal
 
 pub returns-clause-spells : goal.returns-clause-spells
 returns-clause-spells c =
-    let written = c.in_ok-write_marker.ensures.written ∙ ap (λ (t : List ℕ). t ++ spelling c.args.marker.now) c.new-out.ensures.items in
-    subst (IsSpelling c.args.marker.now) (sym written) (is_spelling c.args.marker.now c.write_marker.ensures.marker)
+    let m = c.args.marker.now in
+    let written = c.push_marker.ensures.written ∙ ap (λ (t : List ℕ). t ++ spelling m) c.in_ok-out.ensures.items in
+    subst (IsSpelling m) (sym written) (is_spelling m c.push_marker.ensures.marker)
