@@ -7,7 +7,7 @@ ghost use Rattle.hg_script.specs.Scripts.{AreLabelled, IsDone, IsKept, IsNewFlee
 use crate::command::Command;
 use crate::event::{PeerAnswer, run_event};
 use crate::fault::{LineFault, RunFault};
-use crate::names::{bind, bound};
+use crate::names::{are_distinct, bind, bound};
 use crate::operation::{Names, Operation};
 use crate::output::print_line;
 use crate::report::print_report;
@@ -131,16 +131,15 @@ impl Fleet {
         let op = operation.resolve(&names)?;
         let place = self.place(number, at)?;
         let labels = operation.new_labels(self.alloc)?;
-        if !are_new(&self.labels, &labels) {
-            self.check_labels(number, place, &op, &labels)?;
-        }
+        self.check_labels(number, place, &op, &labels)?;
         let event = Event::Local { at: place, op };
         let answer = run_event(self.alloc, number, &mut self.world, event, writer)?;
         label(self.alloc, &mut self.labels, &labels, &answer)?;
         Ok(())
     }
 
-    // Whether the labels may name what the operation is to make, which is decided first. What is refused makes nothing.
+    // Whether the labels may name what the operation is to make. Where they are new, whatever it makes; otherwise it is
+    // decided first, and what is refused makes nothing.
     fn check_labels(
         &self,
         number: usize,
@@ -150,10 +149,14 @@ impl Fleet {
     ) -> Result<(), RunFault>
         ensures { IfErr result (IsFaultAt number) }
     {
+        let are_distinct = are_distinct(self.alloc, labels)?;
+        if are_distinct && are_unbound(&self.labels, labels) {
+            return Ok(());
+        }
         let replica = self.replica(number, place)?;
         match decide(self.alloc, replica, op) {
             Ok(part) => {
-                if may_bind(&self.labels, labels, &part.changesets) {
+                if are_distinct && may_bind(&self.labels, labels, &part.changesets) {
                     Ok(())
                 } else {
                     Err(RunFault::Line(number, LineFault::NameTaken))
@@ -282,7 +285,7 @@ impl Fleet {
         ensures { IfErr result (IsFaultAt number) }
     {
         let replica = self.replica(number, self.place(number, at)?)?;
-        print_report(self.alloc, at, replica, &self.labels, writer)
+        print_report(self.alloc, at, replica, writer)
     }
 
     // The place of the node with this name.
@@ -308,23 +311,23 @@ impl Fleet {
     }
 }
 
-// Whether each label comes once, and names nothing yet.
-fn are_new(names: &BTreeMap<Vec<u8>, Node>, labels: &[&[u8]]) -> bool {
-    for (place, label) in labels.iter().enumerate() {
-        if labels[..place].contains(label) || bound(names, *label).is_some() {
+// Whether each label names nothing yet.
+fn are_unbound(names: &BTreeMap<Vec<u8>, Node>, labels: &[&[u8]]) -> bool {
+    for label in labels {
+        if bound(names, *label).is_some() {
             return false;
         }
     }
     true
 }
 
-// Whether each label comes once, and names nothing yet or the changeset that it is to name. The changesets of an
-// operation have ids of their own, so a label that comes twice would name two.
+// Whether each label names nothing yet or the changeset that it is to name. The changesets of an operation have ids of
+// their own, so a label that comes twice would name two.
 fn may_bind(names: &BTreeMap<Vec<u8>, Node>, labels: &[&[u8]], changesets: &[Changeset]) -> bool {
     for (place, changeset) in changesets.iter().enumerate() {
         match labels.get(place) {
             Some(label) => {
-                if labels[..place].contains(label) || !may_name(names, *label, changeset.node()) {
+                if !may_name(names, *label, changeset.node()) {
                     return false;
                 }
             }

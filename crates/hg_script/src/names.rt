@@ -3,7 +3,7 @@ ghost use Rattle.std.specs.Prelude.{◌≡◌, OnOk};
 ghost use Rattle.hg_script.specs.Names.{value_of, Binds};
 
 use std::alloc::{AllocError, Global};
-use std::collections::BTreeMap;
+use std::collections::{BTreeMap, BTreeSet};
 
 /// What the name stands for, if it is bound.
 pub fn bound<V: Copy>(names: &BTreeMap<Vec<u8>, V>, name: &[u8]) -> Option<V>
@@ -24,4 +24,13 @@ pub fn bind<V: Drop>(
     let name = Vec::from_slice(alloc, name)?;
     names.insert(name, value)?;
     Ok(())
+}
+
+/// Whether no name comes twice. One name or none takes no memory.
+pub fn are_distinct(alloc: Global, names: &[&[u8]]) -> Result<bool, AllocError> {
+    if names.len() < 2 {
+        return Ok(true);
+    }
+    let set: BTreeSet<&[u8]> = names.iter().copied().collect(alloc)?;
+    Ok(set.len() == names.len())
 }
