@@ -10,6 +10,7 @@ pub mod Grammar
 pub mod Making
 pub mod Written
 pub mod Forms
+pub mod Kept
 pub mod Listing
 pub mod Faults
 pub mod Laid

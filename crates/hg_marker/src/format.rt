@@ -19,8 +19,9 @@ use crate::marker::{METADATA_LIMIT, Marker};
 use crate::metadata::Metadata;
 use crate::pieces::have_colons;
 use crate::reading::{
-    copy_ids, holds_null, read_byte, read_field, read_ids, read_node, read_number, write_number,
+    holds_null, read_byte, read_field, read_ids, read_node, read_number, write_number,
 };
+use crate::successors::Successors;
 use hg_changeset::Node;
 use std::alloc::{AllocError, Global};
 
@@ -90,7 +91,7 @@ impl<'a> FieldBytes<'a> {
         requires marker { IsMarker (fields_of self.now) }
         ensures { IfOk result (λ marker. marker ≡ fields_of self.now) }
     {
-        let successors = copy_ids(alloc, self.ids, self.count)?;
+        let successors = Successors::read(alloc, self.ids, self.count)?;
         let metadata = Metadata::read(alloc, self.metadata)?;
         Ok(Marker::of_fields(self.predecessor, successors, self.flags, metadata))
     }

@@ -12,6 +12,7 @@ mod metadata;
 mod parents;
 mod pieces;
 mod reading;
+mod successors;
 mod text_map;
 mod written;
 

@@ -8,6 +8,7 @@ ghost use Rattle.hex.specs.Hex.{IsBytes};
 ghost use lib.Pointwise.{pointwise};
 ghost use Rattle.hg_changeset.specs.Node.{IsNode, null_node, node_eq};
 ghost use Rattle.hg_marker.specs.Grammar.{IsMarker, spelling};
+ghost use Rattle.hg_marker.specs.Kept.{kept_nodes};
 ghost use Rattle.hg_marker.specs.Making.{marker_of};
 ghost use Rattle.hg_marker.specs.Parents.{parents_of};
 
@@ -15,6 +16,7 @@ use crate::error::MarkerError;
 use crate::format::write_marker;
 use crate::metadata::Metadata;
 use crate::parents::{Parents, parents_of};
+use crate::successors::Successors;
 use hg_changeset::Node;
 use std::alloc::{AllocError, Global};
 use std::hash::{Hash, Hasher};
@@ -24,16 +26,29 @@ use std::marker::Model;
 pub const METADATA_LIMIT: u32 = 1_048_576;
 
 /// A marker: its predecessor was rewritten to its successors.
-#[derive(Drop, Debug)]
+#[derive(Debug)]
 pub struct Marker {
     predecessor: Node,
-    successors: Vec<Node>,
+    successors: Successors,
     flags: u8,
     metadata: Metadata,
 }
 
+// Whoever owns a marker calls this once, and is proved without a look at what is kept in it.
+impl Drop for Marker {
+    fn drop(self) {
+        let Marker {
+            predecessor: _,
+            successors: _,
+            flags: _,
+            metadata: _,
+        } = self;
+    }
+}
+
 impl Model for Marker {
     ghost use Rattle.hg_marker.specs.Fields.{Fields, fields_code};
+    ghost use Rattle.hg_marker.specs.Kept.{kept_nodes};
 
     ghost Value = { Fields };
 
@@ -41,7 +56,7 @@ impl Model for Marker {
 
     ghost view = { λ m. record {
       predecessor = m.predecessor;
-      successors = m.successors.items;
+      successors = kept_nodes m.successors;
       flags = m.flags;
       metadata = m.metadata;
     } };
@@ -50,7 +65,7 @@ impl Model for Marker {
 
     ghost invariant = { λ m. IsMarker (record {
       predecessor = m.predecessor;
-      successors = m.successors.items;
+      successors = kept_nodes m.successors;
       flags = m.flags;
       metadata = m.metadata;
     }) };
@@ -68,7 +83,7 @@ impl PartialEq for Marker {
     fn eq(&self, other: &Marker) -> bool {
         self.predecessor == other.predecessor
             && self.flags == other.flags
-            && self.successors == other.successors
+            && self.successors.as_slice() == other.successors.as_slice()
             && self.metadata == other.metadata
     }
 }
@@ -89,7 +104,7 @@ impl Hash for Marker {
     #[tactic(auto, unfolding(crate::specs::Fed::fields_fed))]
     fn hash<H: Hasher>(&self, state: &mut H) {
         self.predecessor.hash(state);
-        Node::hash_slice(&self.successors, state);
+        Node::hash_slice(self.successors.as_slice(), state);
         self.flags.hash(state);
         self.metadata.hash(state);
     }
@@ -132,7 +147,7 @@ impl Marker {
         }
         Ok(Marker {
             predecessor,
-            successors,
+            successors: Successors::of(successors),
             flags,
             metadata,
         })
@@ -141,19 +156,19 @@ impl Marker {
     // The marker of fields that were read.
     pub(crate) fn of_fields(
         predecessor: Node,
-        successors: Vec<Node>,
+        successors: Successors,
         flags: u8,
         metadata: Metadata,
     ) -> Marker
         requires { IsMarker (record {
           predecessor = predecessor;
-          successors = successors.items;
+          successors = kept_nodes successors;
           flags = flags;
           metadata = metadata;
         }) }
         ensures { result ≡ record {
           predecessor = predecessor;
-          successors = successors.items;
+          successors = kept_nodes successors;
           flags = flags;
           metadata = metadata;
         } }
@@ -178,7 +193,7 @@ impl Marker {
     pub fn successors(&self) -> &[Node]
         ensures { result.now ≡ self.now.successors }
     {
-        &self.successors
+        self.successors.as_slice()
     }
 
     /// The flags: 1 is bumpedfix, and the other bits have no meaning.
@@ -206,7 +221,7 @@ impl Marker {
     pub fn copy(&self) -> Result<Marker, AllocError>
         ensures { IfOk result (λ copy. copy ≡ self.now) }
     {
-        let successors = self.successors.clone()?;
+        let successors = self.successors.copy()?;
         let metadata = self.metadata.copy()?;
         Ok(Marker {
             predecessor: self.predecessor,
@@ -221,7 +236,7 @@ impl Marker {
         ensures len { result ≡ length (spelling self.now) }
         ensures marker { IsMarker self.now }
     {
-        26 + 20 * self.successors.len() + self.metadata.written_len()
+        26 + 20 * self.successors.as_slice().len() + self.metadata.written_len()
     }
 
     /// Appends the marker's one written spelling. Without memory nothing is appended.
@@ -234,7 +249,7 @@ impl Marker {
 
     // Where the marker's memory comes from.
     pub(crate) fn allocator(&self) -> Global {
-        *self.successors.allocator()
+        self.metadata.allocator()
     }
 }
 

@@ -231,4 +231,12 @@ impl Metadata {
             Form::Unwritable(texts) => texts.write_onto(out),
         }
     }
+
+    // Where the memory comes from.
+    pub(crate) fn allocator(&self) -> Global {
+        match &self.form {
+            Form::Written(texts) => texts.allocator(),
+            Form::Unwritable(texts) => texts.allocator(),
+        }
+    }
 }

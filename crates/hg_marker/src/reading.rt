@@ -64,8 +64,8 @@ pub(crate) fn read_ids<F: Copy>(bytes: &[u8], count: u8, short: F) -> Result<(&[
     read_field(bytes, ID_LEN * count as usize, short)
 }
 
-// The id at the front, and the bytes after it.
-fn split_id(bytes: &[u8]) -> (Node, &[u8])
+/// The id at the front, and the bytes after it.
+pub(crate) fn split_id(bytes: &[u8]) -> (Node, &[u8])
     requires { 20 ≤ length bytes.now }
     ensures id { result.0 ≡ record { 0 = take 20 bytes.now } }
     ensures rest { result.1.now ≡ drop 20 bytes.now }

@@ -16,6 +16,7 @@ use std::marker::Model;
 // Values by key, both byte strings.
 #[derive(Drop, Debug)]
 pub(crate) struct TextMap {
+    alloc: Global,
     texts: BTreeMap<Vec<u8>, Vec<u8>>,
 }
 
@@ -71,6 +72,7 @@ impl TextMap {
         ensures { result ≡ finite.empty }
     {
         TextMap {
+            alloc,
             texts: BTreeMap::new(alloc),
         }
     }
@@ -99,7 +101,15 @@ impl TextMap {
         ensures { IfOk result (λ copy. copy ≡ self.now) }
     {
         let texts = self.texts.clone()?;
-        Ok(TextMap { texts })
+        Ok(TextMap {
+            alloc: self.alloc,
+            texts,
+        })
+    }
+
+    // Where the memory comes from.
+    pub(crate) fn allocator(&self) -> Global {
+        self.alloc
     }
 
     // The keys and their values, ascending by key.

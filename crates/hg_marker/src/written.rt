@@ -84,11 +84,16 @@ impl WrittenTexts {
         Ok(WrittenTexts { bytes })
     }
 
+    // Where the memory comes from.
+    pub(crate) fn allocator(&self) -> Global {
+        *self.bytes.allocator()
+    }
+
     // The texts as a map.
     pub(crate) fn to_map(&self) -> Result<TextMap, AllocError>
         ensures { IfOk result (λ map. map ≡ self.now) }
     {
-        read_texts(*self.bytes.allocator(), &self.bytes)
+        read_texts(self.allocator(), &self.bytes)
     }
 
     // How the texts are written.
@@ -133,7 +138,7 @@ impl WrittenTexts {
             .len()
             .saturating_add(key.len())
             .saturating_add(value.len());
-        let out = Vec::with_capacity(*self.bytes.allocator(), room.saturating_add(2))?;
+        let out = Vec::with_capacity(self.allocator(), room.saturating_add(2))?;
         let bytes = with_entry(out, self.entries(), key, value)?;
         Ok(WrittenTexts { bytes })
     }

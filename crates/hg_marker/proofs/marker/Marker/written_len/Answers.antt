@@ -1,12 +1,13 @@
-use Rattle.std.proofs.Common.{◌≡◌, ◌+◌, ◌*◌, length, subst, arith}
+use Rattle.std.proofs.Common.{◌≡◌, ◌+◌, ◌*◌, length, ap, subst}
 use Rattle.hg_marker.specs.Fields.{Fields}
 use Rattle.hg_marker.specs.Grammar.{spelling}
+use Rattle.hg_marker.specs.Kept.{kept_nodes}
 use Rattle.hg_marker.proofs.WritingLemmas.{spelling_length}
 use Rattle.hg_marker.proofs.marker.Marker.written_len.Goals as goal
 
 pub returns-clause-len : goal.returns-clause-len
 returns-clause-len c =
     let inside = c.self.inside in
-    let m : Fields = record { predecessor = inside.predecessor; successors = inside.successors.items; flags = inside.flags; metadata = inside.metadata } in
-    subst (λ (x : Fields). 26 + 20 * c.len.result + c.written_len.result ≡ length (spelling x)) c.self.view_is
-    (spelling_length m c.len.result c.written_len.result c.self.invariant (omega (arith, c.len.ensures, inside.successors.ok)) c.written_len.ensures)
+    let m : Fields = record { predecessor = inside.predecessor; successors = kept_nodes inside.successors; flags = inside.flags; metadata = inside.metadata } in
+    subst (λ (x : Fields). 26 + 20 * length c.as_slice.result.now + c.written_len.result ≡ length (spelling x)) c.self.view_is
+    (spelling_length m (length c.as_slice.result.now) c.written_len.result c.self.invariant (ap length c.as_slice.ensures) c.written_len.ensures)
