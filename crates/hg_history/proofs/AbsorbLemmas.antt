@@ -1,7 +1,7 @@
 -- The steps of `absorb` together.
-use Rattle.std.proofs.Common.{◌≡◌, ℕ, List, [], ◌∷◌, ◌++◌, length, take, drop, Contains, ◌⊎◌, inl, inr, refl, sym, ap, subst, ◌∙◌, arith}
+use Rattle.std.proofs.Common.{◌≡◌, ℕ, List, [], ◌∷◌, ◌++◌, length, take, drop, Contains, Result, Ok, Err, ◌≤◌, ◌⊎◌, inl, inr, refl, sym, ap, subst, ◌∙◌, arith}
 use Rattle.std.proofs.Math.Seq.{drop-append_seam}
-use Rattle.std.proofs.lemmas.List.{take_all, map-append, length-map}
+use Rattle.std.proofs.lemmas.List.{take_all, map-append, length-append, length-map}
 use Rattle.std.proofs.lemmas.Option.{slice_get_within}
 use Rattle.hg_changeset.specs.declared.node.Node.{Node}
 use Rattle.hg_changeset.specs.Contents.{Contents}
@@ -20,8 +20,8 @@ use Rattle.hg_history.specs.declared.fault.Fault.{Fault}
 use Rattle.hg_history.specs.declared.fault.Fault.TheVariants.{UnknownParent, Collision, UnknownBound, NullBound, NoMemory}
 use Rattle.hg_history.specs.Change.{unheld}
 use Rattle.hg_history.specs.Answer.{IsFineUpTo, AreHeldUpTo, IsRefusal, IsFirstUnheld}
-use Rattle.hg_history.specs.Steps.{CanTakeBack, IsAdded, IsBoundFault, IsLoweredTo}
-use Rattle.hg_history.proofs.AddLemmas.{Holds-same, front_kept, phases_kept, least-added}
+use Rattle.hg_history.specs.Steps.{AddAllAnswer, IsBegun, CanTakeBack, IsAdded, IsBoundFault, IsLoweredTo}
+use Rattle.hg_history.proofs.AddLemmas.{Holds-same, some_added, front_kept, phases_kept, least-added}
 use Rattle.hg_history.proofs.FirstFaultLemmas.{fine-admitted}
 use Rattle.hg_history.proofs.BoundLemmas.{least-secrets}
 
@@ -40,6 +40,37 @@ back_lowered held had part i cs ks new phase log len a new_len logged undoes = r
 pub back_added : (held : List Contents) (had : List Phase) (part : List Contents) (i : ℕ) (cs : List Contents) (ks : List Phase) (log : List LoweredPlace) → length had ≡ length held
     → IsAdded held had part i cs ks → log ≡ [] → CanTakeBack held had cs ks log
 back_added held had part i cs ks log len a fresh = back_lowered held had part i cs ks ks Public log len a refl (fresh_log Public ks log fresh) (ap (restored ks) fresh)
+
+-- what was begun
+module _ (held : List Contents) (had : List Phase) (part : List Contents) (before : ℕ) (added : Result Unit Fault) (cs : List Contents) (ks : List Phase) (begun : IsBegun held had part before added cs ks) where
+  pub begun_all : (u : Unit) → added ≡ Ok u → IsAdded held had part (length part) cs ks
+  begun_all u is = subst (λ r. AddAllAnswer held had part r cs ks) is begun.done
+
+  pub begun_fault : (f : Fault) → added ≡ Err f → AddAllAnswer held had part (Err f) cs ks
+  begun_fault f is = subst (λ r. AddAllAnswer held had part r cs ks) is begun.done
+
+  pub begun_front : take before cs ≡ held
+  begun_front =
+      let a = some_added held had part added cs ks begun.done in
+      ap (λ n. take n cs) begun.first ∙ front_kept held had part a.0 cs ks a.1
+
+  pub begun_phases : take before ks ≡ had
+  begun_phases =
+      let a = some_added held had part added cs ks begun.done in
+      ap (λ n. take n ks) begun.first ∙ phases_kept held had part a.0 cs ks a.1 begun.len
+
+-- what a call that adds leaves can be gone on with
+module _ (held : List Contents) (had : List Phase) (part : List Contents) (added : Result Unit Fault) (cs : List Contents) (ks : List Phase) (answer : AddAllAnswer held had part added cs ks) where
+  pub added_len : length ks ≡ length cs
+  added_len = (some_added held had part added cs ks answer).1.len
+
+  pub added_valid : IsValid (state_of cs ks)
+  added_valid = (some_added held had part added cs ks answer).1.valid
+
+  pub added_within : length held ≤ length cs
+  added_within =
+      let a = some_added held had part added cs ks answer in
+      omega (arith, ap length a.1.appended, length-append held (unheld held (take a.0 part)))
 
 module _ (held : List Contents) (had : List Phase) (part : List Contents) (bounds : List (Node × Phase)) (cs : List Contents) (ks : List Phase) (a : IsAdded held had part (length part) cs ks) where
   whole : take (length part) part ≡ part

@@ -1,5 +1,5 @@
 -- Adding the changesets of a part, one after the other.
-use Rattle.std.proofs.Common.{◌≡◌, ℕ, zero, suc, ◌<◌, ◌≤◌, ◌+◌, List, [], ◌∷◌, ◌++◌, append_assoc, length, map, take, slice_get, Some, Contains, Ok, Err, ◌⊎◌, ◌↔◌, inl, inr, refl, sym, ap, subst, ◌∙◌, arith}
+use Rattle.std.proofs.Common.{◌≡◌, ℕ, zero, suc, ◌<◌, ◌≤◌, ◌+◌, ◌-◌, List, [], ◌∷◌, ◌++◌, append_assoc, length, map, take, slice_get, Some, Contains, Ok, Err, ◌⊎◌, ◌↔◌, inl, inr, refl, sym, ap, subst, ◌∙◌, arith, Result}
 use Rattle.std.proofs.Math.Seq.{take-append_seam}
 use Rattle.std.proofs.lemmas.Bool.{cases_eq}
 use Rattle.std.proofs.lemmas.List.{append-nil, take_more, take_all, map-append, length-append}
@@ -8,9 +8,11 @@ use Rattle.std.proofs.lemmas.Option.{none-some, same_Some, slice_get_within, get
 use Rattle.hg_changeset.specs.declared.node.Node.{Node}
 use Rattle.hg_changeset.specs.Contents.{Contents}
 use Rattle.hg_changeset.specs.Changeset.{node_of}
-use Rattle.hg_changeset.proofs.ListLemmas.{slice_get-append, Contains-one}
+use Rattle.hg_changeset.proofs.ListLemmas.{slice_get-append, slice_get-append_seam, Contains-one}
 use Rattle.hg_graph.specs.Graph.{IsGraph, Holds, HoldsParents, nodes}
-use Rattle.hg_graph.specs.Answers.{Collides}
+use Rattle.hg_graph.specs.Answers.{AddAnswer, Collides}
+use Rattle.hg_graph.specs.Places.{IsAt}
+use Rattle.hg_graph.specs.declared.error.GraphError.{GraphError}
 use Rattle.hg_graph.specs.declared.graph.Added.{Added}
 use Rattle.hg_graph.specs.declared.graph.Added.TheVariants.{New, Known}
 use Rattle.hg_graph.proofs.GraphLemmas.{Contains-from_place, place_from_Contains, Holds-from, Holds-changeset, IsGraph-push}
@@ -37,6 +39,14 @@ Holds-same cs ds to n h = let c = Holds-changeset cs n h in subst (Contains (nod
 pub before-pushed : (cs : List Contents) (c : Contents) → before_last (cs ++ c ∷ []) ≡ cs
 before-pushed cs c = ap (λ n. take n (cs ++ c ∷ [])) (omega (arith, length-append cs (c ∷ []))) ∙ take-append_seam cs (c ∷ [])
 
+-- a changeset that was just added stands last
+pub added_last : (cs : List Contents) (c : Contents) (answer : Result Added GraphError) (ds : List Contents) (n : Node) → n ≡ node_of c → AddAnswer cs c answer ds → answer ≡ Ok New → IsAt ds n (length ds - 1)
+added_last cs c answer ds n id told is =
+    let pushed = subst (λ r. AddAnswer cs c r ds) is told in
+    let last : length cs ≡ length ds - 1 = omega (arith, ap length pushed.2, length-append cs (c ∷ [])) in
+    let at = IsAt-from (cs ++ c ∷ []) (length cs) c n (slice_get-append_seam cs c []) (sym id) in
+    subst (λ k. IsAt ds n k) last (subst (λ xs. IsAt xs n (length cs)) (sym pushed.2) at)
+
 pub IsAdded-start : (held : List Contents) (had : List Phase) (part : List Contents) → length had ≡ length held → IsValid (state_of held had) → IsAdded held had part 0 held had
 IsAdded-start held had part len valid = record {
   valid = valid;
@@ -46,6 +56,11 @@ IsAdded-start held had part len valid = record {
   same = λ c. (λ at. Contains-append_left held [] c at, λ at. subst (λ ds. Contains ds c) (append-nil held) at);
   fine = λ j c l. absurd (omega arith);
 }
+
+-- some of the part's changesets were added
+pub some_added : (held : List Contents) (had : List Phase) (part : List Contents) (r : Result Unit Fault) (cs : List Contents) (ks : List Phase) → AddAllAnswer held had part r cs ks → (i : ℕ) × IsAdded held had part i cs ks
+some_added held had part (Ok u) cs ks a = (length part, a)
+some_added held had part (Err f) cs ks h = (h.0, h.3)
 
 -- where the same changesets are held, the fault is the same
 IsAddFault-same : (cs ds : List Contents) (c : Contents) (f : Fault) → ((d : Contents) → Contains cs d ↔ Contains ds d) → IsAddFault cs c f → IsAddFault ds c f

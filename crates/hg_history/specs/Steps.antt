@@ -1,11 +1,13 @@
 -- The steps of `absorb`.
-use Rattle.std.specs.Prelude.{◌≡◌, ◌≢◌, ℕ, List, [], ◌∷◌, ◌++◌, length, map, take, slice_get, Some, Contains, Result, Ok, Err, ◌↔◌, ◌⊎◌}
+use Rattle.std.specs.Prelude.{◌≡◌, ◌≢◌, ℕ, List, [], ◌∷◌, ◌++◌, length, map, take, slice_get, Some, Contains, Result, Ok, Err, IsErrOf, ◌↔◌, ◌⊎◌}
 use Rattle.hg_changeset.specs.declared.node.Node.{Node}
 use Rattle.hg_changeset.specs.Node.{null_node}
 use Rattle.hg_changeset.specs.Contents.{Contents}
 use Rattle.hg_changeset.specs.Changeset.{node_of, IsChangeset}
 use Rattle.hg_graph.specs.Graph.{Holds, HoldsParents}
-use Rattle.hg_graph.specs.Answers.{IsFirstMissing, Collides, IsNew}
+use Rattle.hg_graph.specs.Answers.{AddAnswer, IsFirstMissing, Collides, IsNew}
+use Rattle.hg_graph.specs.declared.error.GraphError.{GraphError}
+use Rattle.hg_graph.specs.declared.error.GraphError.TheVariants.{NoMemory as GraphNoMemory}
 use Rattle.hg_graph.specs.declared.graph.Added.{Added}
 use Rattle.hg_graph.specs.declared.graph.Added.TheVariants.{New, Known}
 use Rattle.hg_phases.specs.declared.phase.Phase.{Phase}
@@ -50,6 +52,19 @@ pub record IsAdded (held : List Contents) (had : List Phase) (part : List Conten
 abbrev pub AddAllAnswer : List Contents → List Phase → List Contents → Result Unit Fault → List Contents → List Phase → Type 0
 AddAllAnswer held had part (Ok _) ds ls = IsAdded held had part (length part) ds ls
 AddAllAnswer held had part (Err fault) ds ls = (i : ℕ) × (c : Contents) × (slice_get part i ≡ Some c) × IsAdded held had part i ds ls × IsAddFault (held ++ take i part) c fault
+
+-- an absorption began where these changesets and phases were held, as many as `before` says: it added changesets of the part, all or those before the first one at fault
+pub record IsBegun (held : List Contents) (had : List Phase) (part : List Contents) (before : ℕ) (added : Result Unit Fault) (cs : List Contents) (ks : List Phase) : Type 0 where
+  pub len : length had ≡ length held
+  pub valid : IsValid (state_of held had)
+  pub first : before ≡ length held
+  pub done : AddAllAnswer held had part added cs ks
+
+-- the graph answered this to a changeset that was to be added, and is as it is since
+pub record IsAnswered (cs : List Contents) (c : Contents) (answer : Result Added GraphError) (ds : List Contents) : Type 0 where
+  pub changeset : IsChangeset c
+  pub told : AddAnswer cs c answer ds
+  pub memory : IsErrOf answer GraphNoMemory → IsNew cs c
 
 -- what was done since can be taken back: the first changesets are the old ones, and the log gives their phases back
 pub record CanTakeBack (cs : List Contents) (ks : List Phase) (ds : List Contents) (kept : List Phase) (log : List LoweredPlace) : Type 0 where

@@ -1,11 +1,12 @@
 //! Absorbing changesets and bounds, which together are a part.
 //!
-//! Everything is looked up before any phase goes down: the changesets are added one by one, as secret, then each bound's
+//! Everything is looked up before any phase goes down: the changesets are added one by one, copied or moved, as secret, then each bound's
 //! node is found, then the public bounds are lowered to, and then the draft ones, so that each place goes down once.
 //! Secret bounds say nothing more. A refusal takes back what was done: the log of what was lowered restores the phases,
 //! and what was added stands last, so it is cut off. Nothing costs more than the part and what it lowers.
-ghost use Rattle.std.specs.Prelude.{OnOk, OnErr, IfOk, IfErr, IsErrOf, MatchResult, length, take, drop, [], ◌∷◌, ◌++◌, ◌+◌, ◌-◌, ◌≤◌, ◌<◌, ◌⊎◌, List, ◌≡◌};
+ghost use Rattle.std.specs.Prelude.{Ok, OnOk, OnErr, IfOk, IfErr, IsErrOf, MatchResult, length, take, drop, [], ◌∷◌, ◌++◌, ◌+◌, ◌-◌, ◌≤◌, ◌<◌, ◌⊎◌, List, ◌≡◌};
 ghost use Rattle.hg_changeset.specs.declared.node.Node.{Node};
+ghost use Rattle.hg_changeset.specs.Contents.{Contents};
 ghost use Rattle.hg_graph.specs.Graph.{Holds, nodes};
 ghost use Rattle.hg_graph.specs.Places.{IsAt};
 ghost use Rattle.hg_phases.specs.declared.phase.Phase.{Phase};
@@ -14,7 +15,7 @@ ghost use Rattle.hg_phases.specs.Kept.{phases_at, kept_state, before_last, phase
 ghost use Rattle.hg_phases.specs.Log.{IsLog};
 ghost use Rattle.hg_phases.specs.Lowered.{IsAbove};
 ghost use Rattle.hg_history.specs.Answer.{AbsorbAnswer, AreHeldUpTo, IsAbsorbed, IsGrowthBeforeFault, HasHigher, IsRefusal};
-ghost use Rattle.hg_history.specs.Steps.{AddAllAnswer, CanTakeBack, OneAdded, IsBoundFault, IsBoundAt, OneLowered, IsLoweredTo};
+ghost use Rattle.hg_history.specs.Steps.{AddAllAnswer, IsAnswered, IsBegun, CanTakeBack, OneAdded, IsBoundFault, IsBoundAt, OneLowered, IsLoweredTo};
 
 use crate::change::Change;
 use crate::fault::Fault;
@@ -38,8 +39,48 @@ pub(crate) fn absorb_or_undo(
     ensures memory { IsErrOf result Fault.NoMemory → IsGrowthBeforeFault (kept_state graph.old phases.old) (record { changesets = changesets.now; bounds = bounds.now }) }
 {
     let before = graph.len();
+    let added = add_changesets(graph, phases, changesets);
+    settle_or_undo(graph, phases, alloc, before, added, bounds)
+}
+
+/// Takes the part in, whose changesets are moved, or leaves everything as it was.
+pub(crate) fn absorb_owned_or_undo(
+    graph: &mut Graph,
+    phases: &mut PhaseMap,
+    alloc: Global,
+    changesets: Vec<Changeset>,
+    bounds: &[(Node, Phase)],
+) -> Result<Change, Fault>
+    requires len { length (phases_at graph.old phases.old) ≡ length graph.old }
+    requires valid { IsValid (kept_state graph.old phases.old) }
+    ensures inside { (length (phases_at graph.new phases.new) ≡ length graph.new) × IsValid (kept_state graph.new phases.new) }
+    ensures answer { AbsorbAnswer (kept_state graph.old phases.old) (record { changesets = changesets.items; bounds = bounds.now }) result (kept_state graph.new phases.new) }
+    ensures memory { IsErrOf result Fault.NoMemory → IsGrowthBeforeFault (kept_state graph.old phases.old) (record { changesets = changesets.items; bounds = bounds.now }) }
+{
+    let before = graph.len();
+    let added = add_owned_changesets(graph, phases, changesets);
+    settle_or_undo(graph, phases, alloc, before, added, bounds)
+}
+
+// Takes the bounds in, where all changesets were added, or takes back what was done. Before them there were `before`
+// changesets.
+fn settle_or_undo(
+    graph: &mut Graph,
+    phases: &mut PhaseMap,
+    alloc: Global,
+    before: usize,
+    added: Result<(), Fault>,
+    bounds: &[(Node, Phase)],
+) -> Result<Change, Fault>
+    requires len { length (phases_at graph.old phases.old) ≡ length graph.old }
+    requires valid { IsValid (kept_state graph.old phases.old) }
+    requires within { before ≤ length graph.old }
+    ensures inside { (held : List Contents) (had : List Phase) (part : List Contents) → IsBegun held had part before added graph.old (phases_at graph.old phases.old) → (length (phases_at graph.new phases.new) ≡ length graph.new) × IsValid (kept_state graph.new phases.new) }
+    ensures answer { (held : List Contents) (had : List Phase) (part : List Contents) → IsBegun held had part before added graph.old (phases_at graph.old phases.old) → AbsorbAnswer (state_of held had) (record { changesets = part; bounds = bounds.now }) result (kept_state graph.new phases.new) }
+    ensures memory { (held : List Contents) (had : List Phase) (part : List Contents) → IsBegun held had part before added graph.old (phases_at graph.old phases.old) → IsErrOf result Fault.NoMemory → IsGrowthBeforeFault (state_of held had) (record { changesets = part; bounds = bounds.now }) }
+{
     let mut log = LoweringLog::new(alloc);
-    match absorb_logged(graph, phases, &mut log, alloc, changesets, bounds) {
+    match settle_logged(graph, phases, &mut log, alloc, before, added, bounds) {
         Ok(change) => Ok(change),
         Err(fault) => {
             take_back(graph, phases, &mut log, before);
@@ -65,25 +106,27 @@ pub(crate) fn take_back(
     graph.truncate(before);
 }
 
-// Absorbs the part, and logs what goes down. After a fault what was done can be taken back.
-fn absorb_logged(
-    graph: &mut Graph,
+// Takes the bounds in, where all changesets were added, and logs what goes down. After a fault what was done can be taken
+// back.
+fn settle_logged(
+    graph: &Graph,
     phases: &mut PhaseMap,
     log: &mut LoweringLog,
     alloc: Global,
-    changesets: &[Changeset],
+    before: usize,
+    added: Result<(), Fault>,
     bounds: &[(Node, Phase)],
 ) -> Result<Change, Fault>
-    requires len { length (phases_at graph.old phases.old) ≡ length graph.old }
-    requires valid { IsValid (kept_state graph.old phases.old) }
+    requires len { length (phases_at graph.now phases.old) ≡ length graph.now }
+    requires valid { IsValid (kept_state graph.now phases.old) }
+    requires within { before ≤ length graph.now }
     requires fresh { log.old ≡ [] }
-    ensures back { CanTakeBack graph.old (phases_at graph.old phases.old) graph.new phases.new log.new }
-    ensures absorbed { IfOk result (λ change. IsAbsorbed (kept_state graph.old phases.old) (record { changesets = changesets.now; bounds = bounds.now }) change (kept_state graph.new phases.new)) }
-    ensures refusal { MatchResult result (λ _. Unit {0}) (IsRefusal graph.old (record { changesets = changesets.now; bounds = bounds.now })) }
-    ensures memory { IsErrOf result Fault.NoMemory → IsGrowthBeforeFault (kept_state graph.old phases.old) (record { changesets = changesets.now; bounds = bounds.now }) }
+    ensures back { CanTakeBack graph.now (phases_at graph.now phases.old) graph.now phases.new log.new }
+    ensures absorbed { (held : List Contents) (had : List Phase) (part : List Contents) → IsBegun held had part before added graph.now (phases_at graph.now phases.old) → IfOk result (λ change. IsAbsorbed (state_of held had) (record { changesets = part; bounds = bounds.now }) change (kept_state graph.now phases.new)) }
+    ensures refusal { (held : List Contents) (had : List Phase) (part : List Contents) → IsBegun held had part before added graph.now (phases_at graph.now phases.old) → MatchResult result (λ _. Unit {0}) (IsRefusal held (record { changesets = part; bounds = bounds.now })) }
+    ensures memory { (held : List Contents) (had : List Phase) (part : List Contents) → IsBegun held had part before added graph.now (phases_at graph.now phases.old) → IsErrOf result Fault.NoMemory → IsGrowthBeforeFault (state_of held had) (record { changesets = part; bounds = bounds.now }) }
 {
-    let before = graph.len();
-    match add_changesets(graph, phases, changesets) {
+    match added {
         Ok(()) => {}
         Err(fault) => return Err(fault),
     }
@@ -117,6 +160,25 @@ fn add_changesets(
     Ok(())
 }
 
+// Moves in the changesets that aren't held. After a fault those before the one at fault were added.
+fn add_owned_changesets(
+    graph: &mut Graph,
+    phases: &mut PhaseMap,
+    changesets: Vec<Changeset>,
+) -> Result<(), Fault>
+    requires len { length (phases_at graph.old phases.old) ≡ length graph.old }
+    requires valid { IsValid (kept_state graph.old phases.old) }
+    ensures { AddAllAnswer graph.old (phases_at graph.old phases.old) changesets.items result graph.new (phases_at graph.new phases.new) }
+{
+    for changeset in changesets {
+        match add_owned(graph, phases, changeset) {
+            Ok(_) => {}
+            Err(fault) => return Err(fault),
+        }
+    }
+    Ok(())
+}
+
 /// Adds a copy of the changeset, as secret, unless it is held.
 pub(crate) fn add_one(
     graph: &mut Graph,
@@ -126,9 +188,35 @@ pub(crate) fn add_one(
     requires { length (phases_at graph.old phases.old) ≡ length graph.old }
     ensures { OneAdded graph.old (phases_at graph.old phases.old) changeset.now result graph.new (phases_at graph.new phases.new) }
 {
-    match graph.add_copy(changeset) {
+    let node = changeset.node();
+    let answer = graph.add_copy(changeset);
+    admit_added(graph, phases, node, answer)
+}
+
+// Moves the changeset in, as secret, unless it is held.
+fn add_owned(graph: &mut Graph, phases: &mut PhaseMap, changeset: Changeset) -> Result<Added, Fault>
+    requires { length (phases_at graph.old phases.old) ≡ length graph.old }
+    ensures { OneAdded graph.old (phases_at graph.old phases.old) changeset result graph.new (phases_at graph.new phases.new) }
+{
+    let node = changeset.node();
+    let answer = graph.add(changeset);
+    admit_added(graph, phases, node, answer)
+}
+
+// Makes the changeset secret that the graph has just added, and tells what it answered.
+fn admit_added(
+    graph: &mut Graph,
+    phases: &mut PhaseMap,
+    node: Node,
+    answer: Result<Added, GraphError>,
+) -> Result<Added, Fault>
+    requires len { answer ≡ Ok Added.New → length graph.old ≡ length (phases_at (before_last graph.old) phases.old) + 1 }
+    requires added { answer ≡ Ok Added.New → IsAt graph.old node (length graph.old - 1) }
+    ensures { (cs : List Contents) (c : Contents) → IsAnswered cs c answer graph.old → OneAdded cs (phases_at cs phases.old) c result graph.new (phases_at graph.new phases.new) }
+{
+    match answer {
         Ok(Added::New) => {
-            admit_or_remove(graph, phases, changeset.node())?;
+            admit_or_remove(graph, phases, node)?;
             Ok(Added::New)
         }
         Ok(Added::Known) => Ok(Added::Known),

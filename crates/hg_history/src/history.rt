@@ -8,7 +8,7 @@ ghost use Rattle.hg_phases.specs.Roots.{AreRoots};
 ghost use Rattle.hg_history.specs.Join.{JoinAnswer};
 ghost use Rattle.hg_history.specs.Open.{OpenAnswer};
 
-use crate::absorb::absorb_or_undo;
+use crate::absorb::{absorb_or_undo, absorb_owned_or_undo};
 use crate::change::Change;
 use crate::fault::Fault;
 use crate::join::{is_below, join_or_undo};
@@ -132,6 +132,27 @@ impl History {
         ensures memory { IsErrOf result Fault.NoMemory → IsGrowthBeforeFault self.old (record { changesets = changesets.now; bounds = bounds.now }) }
     {
         absorb_or_undo(
+            &mut self.graph,
+            &mut self.phases,
+            self.alloc,
+            changesets,
+            bounds,
+        )
+    }
+
+    /// Takes in changesets and bounds on phases as [`absorb`](History::absorb) does, but moves the changesets that aren't held
+    /// in place of copying them. The others are dropped, and after a refusal all are.
+    pub fn absorb_owned(
+        &mut self,
+        changesets: Vec<Changeset>,
+        bounds: &[(Node, Phase)],
+    ) -> Result<Change, Fault>
+        ensures answer { AbsorbAnswer self.old (record { changesets = changesets.items; bounds = bounds.now }) result self.new }
+        ensures valid { IsValid self.old }
+        ensures still_valid { IsValid self.new }
+        ensures memory { IsErrOf result Fault.NoMemory → IsGrowthBeforeFault self.old (record { changesets = changesets.items; bounds = bounds.now }) }
+    {
+        absorb_owned_or_undo(
             &mut self.graph,
             &mut self.phases,
             self.alloc,
