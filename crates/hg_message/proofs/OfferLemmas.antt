@@ -11,7 +11,7 @@ use Rattle.hg_changeset.specs.Node.{node_cmp}
 use Rattle.hg_changeset.specs.Contents.{Contents}
 use Rattle.hg_changeset.specs.Changeset.{node_of}
 use Rattle.hg_changeset.proofs.ListLemmas.{Contains-map, Contains-map_from}
-use Rattle.hg_graph.specs.Graph.{IsAncestorOfOne, IsHeadOfThem}
+use Rattle.hg_graph.specs.Graph.{IsAncestorOfOne, IsHeadAmong}
 use Rattle.hg_graph.specs.Marks.{IsMarkedNode}
 use Rattle.hg_graph.proofs.GraphLemmas.{Contains-from_place}
 use Rattle.hg_graph.proofs.MarkLemmas.{IsAt-from, mark_at}
@@ -204,9 +204,10 @@ is-offer s valid common cs bounds ms out heads rel = record {
 
 -- ---- heads
 
-pub heads-are : (s : ReplicaState) → IsValid s → (P : Node → Type 0) → ((n : Node) → P n → IsHeld (content_of s).0 n) → (members heads : List Node) → ((n : Node) → Contains members n ↔ P n)
-    → ((n : Node) → Contains heads n ↔ IsHeadOfThem (changesets s.history) members n) → IsStrictlySortedBy node_cmp heads → AreHeads (content_of s) P heads
-heads-are s valid P held members heads are exact ascending = record {
+-- heads among what is so at places, Q, which is what P says of ids
+pub heads-are : (s : ReplicaState) → IsValid s → (P Q : Node → Type 0) → ((n : Node) → P n → IsHeld (content_of s).0 n) → (heads : List Node) → ((n : Node) → Q n ↔ P n)
+    → ((n : Node) → Contains heads n ↔ IsHeadAmong (changesets s.history) Q n) → IsStrictlySortedBy node_cmp heads → AreHeads (content_of s) P heads
+heads-are s valid P Q held heads are exact ascending = record {
   exact = λ n. (
     λ h. let x = (exact n).0 h in (
       (are n).0 x.0,

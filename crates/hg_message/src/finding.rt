@@ -94,8 +94,7 @@ fn heads_in(
     ensures { IfOk result (λ heads. AreHeads (content_of replica.now) (IsServedAs (content_of replica.now) phase) heads.items) }
 {
     let marks = marks_in(alloc, replica, served, phase)?;
-    let members = replica.graph().marked(&marks)?;
-    replica.graph().heads_of(&members)
+    replica.graph().marked_heads(&marks)
 }
 
 // The marks of those of the marked changesets that have this phase.
