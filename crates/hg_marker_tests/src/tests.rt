@@ -94,6 +94,31 @@ fn refused_growth_appends_nothing(rt: HostRuntime) {
     assert!(rt; marker.written_len() == 46);
 }
 
+#[test]
+fn refused_growth_keeps_two_successors(rt: HostRuntime) {
+    let alloc = rt.alloc();
+    let Ok(successors) = Vec::from_slice(alloc, &[NEW, Node([0x33; 20])]) else {
+        return;
+    };
+    let marker = Marker::new(OLD, successors, 1, Metadata::new(alloc)).expect(&rt, "a marker");
+    let bytes = written(&rt, &copied(&rt, &marker));
+    let (again, used) = read(&rt, alloc, &bytes);
+    assert!(rt; used == 66 && again == marker);
+    assert!(rt; again.successors() == [NEW, Node([0x33; 20])].as_slice());
+}
+
+// However it came to its one successor.
+#[test]
+fn one_successor_made_or_read(rt: HostRuntime) {
+    let alloc = rt.alloc();
+    let successors = Vec::from_slice(alloc, &[NEW]).expect(&rt, "memory");
+    let marker = Marker::new(OLD, successors, 0, Metadata::new(alloc)).expect(&rt, "a marker");
+    let bytes = bytes_with(alloc, NEW, b"").expect(&rt, "memory");
+    assert!(rt; written(&rt, &marker).as_slice() == bytes.as_slice());
+    assert!(rt; read(&rt, alloc, &bytes).0 == marker);
+    assert!(rt; copied(&rt, &marker).successors() == [NEW].as_slice());
+}
+
 // Whether these bytes are a marker of equal fields.
 fn is_spelling(rt: &impl Abort, alloc: Global, marker: &Marker, bytes: &[u8]) -> bool {
     let (read, used) = read(rt, alloc, bytes);
