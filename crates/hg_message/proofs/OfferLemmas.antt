@@ -10,8 +10,8 @@ use Rattle.hg_changeset.specs.declared.node.Node.{Node}
 use Rattle.hg_changeset.specs.Node.{node_cmp}
 use Rattle.hg_changeset.specs.Contents.{Contents}
 use Rattle.hg_changeset.specs.Changeset.{node_of}
-use Rattle.hg_changeset.proofs.ListLemmas.{Contains-map, Contains-map_from}
-use Rattle.hg_graph.specs.Graph.{IsAncestorOfOne, IsHeadAmong}
+use Rattle.hg_changeset.proofs.ListLemmas.{Contains-map, Contains-map_from, Contains-none}
+use Rattle.hg_graph.specs.Graph.{IsAncestorOfOne, IsHeadAmong, nodes}
 use Rattle.hg_graph.specs.Marks.{IsMarkedNode}
 use Rattle.hg_graph.proofs.GraphLemmas.{Contains-from_place}
 use Rattle.hg_graph.proofs.MarkLemmas.{IsAt-from, mark_at}
@@ -39,7 +39,7 @@ use Rattle.hg_message.specs.Outgoing.{ArePlacesOf, CopyAnswer, FindAnswer}
 use Rattle.hg_message.specs.Those.{AreThose}
 use Rattle.hg_message.specs.Offer.{AreHeld, IsCommon, IsOutgoing, IsServedAs, IsHead, IsOfferedBound, IsOfferedMarker, AreHeads, bounds_in, AreOfferedBounds, IsOffer, OfferAnswer}
 use Rattle.hg_message.proofs.OfferLawLemmas.{relevant-held}
-use Rattle.hg_message.proofs.ThoseLemmas.{those-member, those-next, those-past}
+use Rattle.hg_message.proofs.ThoseLemmas.{those-member, those-next, those-none, those-past}
 
 -- ---- relevance
 
@@ -202,6 +202,29 @@ is-offer s valid common cs bounds ms out heads rel = record {
   markers = rel;
 }
 
+-- ---- without a changeset nothing is offered
+
+module _ (s : ReplicaState) (valid : IsValid s) (none : changesets s.history ≡ []) where
+  not-held : (n : Node) → ¬ (IsHeld (content_of s).0 n)
+  not-held n held = let at = node_in_content s.history valid.graph n held in absurd (Contains-none n (subst (λ (cs : List Contents). Contains (nodes cs) n) none at))
+
+  not-served : (n : Node) → ¬ (IsServed (content_of s) n)
+  not-served n h = not-held h.0.0 h.0.1.0
+
+  not-offered : (m : Fields) → ¬ (IsOfferedMarker (content_of s) m)
+  not-offered m (direct {n = n} one h touches) = not-served n one
+  not-offered m (further {before = b} r h touches) = not-offered b r
+
+  no-heads : (phase : Phase) → AreHeads (content_of s) (IsServedAs (content_of s) phase) []
+  unfolding IsStrictlySortedBy
+  no-heads phase = record { exact = λ n. ((λ h. absurd (Contains-none n h)), λ h. absurd (not-served n h.0.0)); ascending = tt }
+
+  pub nothing-offered : (common : List Node) → IsOffer s common (record { changesets = []; bounds = []; markers = [] })
+  nothing-offered common = is-offer s valid common [] [] []
+      (subst (λ (cs : List Contents). AreThose (IsOutgoing (content_of s) common) cs []) (sym none) refl)
+      (record { public = []; draft = []; public_heads = no-heads Public; draft_heads = no-heads Draft; both = refl })
+      (those-none (IsOfferedMarker (content_of s)) s.markers not-offered)
+
 -- ---- heads
 
 -- heads among what is so at places, Q, which is what P says of ids
@@ -282,4 +305,4 @@ find-then-copy s common found (Err NoMemory) h k = h.0
 pub find-refused : (s : ReplicaState) (common : List Node) (refusal : OfferRefusal) → FindAnswer s common (Err refusal) → OfferAnswer s common (Err refusal)
 find-refused s common (UnknownCommon n) h = h
 find-refused s common TooLarge h = absurd h
-find-refused s common NoMemory h = h
+find-refused s common NoMemory h = h.0

@@ -71,6 +71,11 @@ module _ {X : Type 0} (P : X → Type 0) where
       let so_far = those-past xs ys i n (omega (arith, within)) (λ j x le lt. never j x le (omega (arith, lt))) are in
       subst (λ k. AreThose P (take k xs) ys) same (those-over xs ys (i + n) at.0 at.1 so_far (never (i + n) at.0 (omega arith) (omega arith) at.1))
 
+-- none of them is so
+pub those-none : {X : Type 0} (P : X → Type 0) (xs : List X) → ((x : X) → ¬ (P x)) → AreThose P xs []
+those-none P [] not = refl
+those-none P (x ∷ xs) not = inr (not x, those-none P xs not)
+
 -- what stands in front of one of them comes from what stands in front of it in the list
 pub those-front : {X : Type 0} (P : X → Type 0) (xs ys : List X) (i : ℕ) (y : X) → AreThose P xs ys → slice_get ys i ≡ Some y → (k : ℕ) × (slice_get xs k ≡ Some y) × AreThose P (take k xs) (take i ys)
 those-front P [] ys i y are at = absurd (none-some y (subst (λ zs. slice_get zs i ≡ Some y) are at))

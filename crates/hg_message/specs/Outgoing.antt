@@ -1,5 +1,5 @@
 -- What goes out, found by place and not copied yet, and the answers to the calls that find, copy and write it.
-use Rattle.std.specs.Prelude.{◌≡◌, ◌↔◌, ℕ, true, false, List, Bool, length, slice_get, Some, Result, Ok, Err}
+use Rattle.std.specs.Prelude.{◌≡◌, ◌≢◌, ◌↔◌, ℕ, true, false, List, [], Bool, length, slice_get, Some, Result, Ok, Err}
 use Rattle.hg_changeset.specs.declared.node.Node.{Node}
 use Rattle.hg_graph.specs.Marks.{IsMarkedNode}
 use Rattle.hg_phases.specs.State.{changesets}
@@ -22,12 +22,12 @@ pub record AreServed (s : ReplicaState) (marks : List Bool) : Type 0 where
 abbrev pub ArePlacesOf : {X : Type 0} → (X → Type 0) → List X → List ℕ → Type 0
 ArePlacesOf {X = X} P xs places = ListsAll (λ i. (x : X) × (slice_get xs i ≡ Some x) × P x) places
 
--- the answer to `Outgoing::above`; memory can be wanting only where each common node is held
+-- the answer to `Outgoing::above`; memory can be wanting only where each common node is held, and there is a changeset
 abbrev pub FindAnswer : ReplicaState → List Node → Result MessageValue OfferRefusal → Type 0
 FindAnswer s common (Ok found) = AreHeld (content_of s) common × IsOffer s common found
 FindAnswer s common (Err (UnknownCommon n)) = IsFirstUnknown (content_of s) common n
 FindAnswer s common (Err TooLarge) = ⊥
-FindAnswer s common (Err NoMemory) = AreHeld (content_of s) common
+FindAnswer s common (Err NoMemory) = AreHeld (content_of s) common × (changesets s.history ≢ [])
 
 -- the answer to a call that makes something of what was found: what is too large is told so, and memory can be wanting only for what isn't
 abbrev pub MakeAnswer : {A : Type 0} → MessageValue → (A → Type 0) → Result A OfferRefusal → Type 0

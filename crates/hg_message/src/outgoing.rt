@@ -2,7 +2,7 @@
 //!
 //! To find it takes memory, for marks and for a queue. Whether it is too large shows as soon as it is found, without memory
 //! and before anything is copied or written: from there on want of memory never stands for what is too large.
-ghost use Rattle.std.specs.Prelude.{◌≡◌, ◌<◌, ◌≤◌, IfOk, MatchOption, true, false, length};
+ghost use Rattle.std.specs.Prelude.{◌≡◌, ◌<◌, ◌≤◌, IfOk, MatchOption, [], true, false, length};
 ghost use Rattle.hg_obsstore.specs.Places.{picked};
 ghost use Rattle.hg_obsstore.specs.Spelling.{IsStoreSpelling, store_spelling};
 ghost use Rattle.hg_replica.specs.Content.{content_of};
@@ -68,7 +68,7 @@ impl<'a> Model for Outgoing<'a> {
 }
 
 impl<'a> Outgoing<'a> {
-    /// What goes out above the common nodes.
+    /// What goes out above the common nodes. Without a changeset nothing does, and no memory is taken.
     ///
     /// Refuses [`OfferRefusal::UnknownCommon`] alone, for the first that isn't held.
     pub fn above(
@@ -80,6 +80,7 @@ impl<'a> Outgoing<'a> {
     {
         match first_unknown(replica, common) {
             Some(node) => Err(OfferRefusal::UnknownCommon(node)),
+            None if replica.graph().is_empty() => Ok(nothing(alloc, replica)),
             None => Ok(find(alloc, replica, common)?),
         }
     }
@@ -158,6 +159,18 @@ impl<'a> Outgoing<'a> {
         let bounds = self.bounds.clone()?;
         let markers = copy_markers_at(alloc, self.replica.store(), &self.markers)?;
         Ok(Message::of_parts(changesets, bounds, markers))
+    }
+}
+
+// Nothing goes out, and no memory is taken.
+fn nothing(alloc: Global, replica: &Replica) -> Outgoing<'_>
+    ensures { result ≡ record { changesets = []; bounds = []; markers = [] } }
+{
+    Outgoing {
+        replica,
+        changesets: Vec::new(alloc),
+        bounds: Vec::new(alloc),
+        markers: Vec::new(alloc),
     }
 }
 
