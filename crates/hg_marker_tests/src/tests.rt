@@ -328,10 +328,6 @@ fn records_parents(rt: HostRuntime) {
             Parents::Unrecorded,
         ),
         (
-            b"p1:2\0p2:222222222222222222222222222222222222222g",
-            Parents::Unrecorded,
-        ),
-        (
             b"p0:222222222222222222222222222222222222222g\0user:bob",
             Parents::Empty,
         ),
