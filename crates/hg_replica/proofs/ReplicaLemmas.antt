@@ -1,17 +1,22 @@
 -- A history's answer and a store's, side by side.
-use Rattle.std.proofs.Common.{◌≡◌, Bool, List, get_or, All, Contains, IsTrue, ◌↔◌, subst}
+use Rattle.std.proofs.Common.{◌≡◌, ◌∙◌, ℕ, Bool, List, length, take, get_or, All, Contains, IsTrue, Result, Ok, Err, ◌↔◌, inr, sym, ap, subst}
+use Rattle.std.proofs.Math.Seq.{take-append_seam}
 use Rattle.std.proofs.lemmas.Option.{slice_get-get_or}
 use Rattle.hg_graph.proofs.GraphLemmas.{Contains-from_place}
 use Rattle.hg_marker.specs.Fields.{Fields}
+use Rattle.hg_phases.specs.State.{State}
 use Rattle.hg_phases.specs.Order.{Below as BelowHistory}
-use Rattle.hg_history.specs.Answer.{IsAbsorbed as IsAbsorbedHistory}
+use Rattle.hg_history.specs.Answer.{IsAbsorbed as IsAbsorbedHistory, AbsorbAnswer as AbsorbHistoryAnswer, IsGrowthBeforeFault as IsHistoryGrowth}
+use Rattle.hg_history.specs.Change.{ChangeValue as HistoryChange}
+use Rattle.hg_history.specs.declared.fault.Fault.{Fault}
+use Rattle.hg_history.specs.declared.fault.Fault.TheVariants.{NoMemory}
 use Rattle.hg_history.specs.Join.{IsJoin as IsHistoryJoin}
 use Rattle.hg_obsstore.specs.Sets.{IsUnion}
-use Rattle.hg_obsstore.specs.Growth.{holds, united, AreNewPlaces}
+use Rattle.hg_obsstore.specs.Growth.{holds, united, new_among, AreNewPlaces}
 use Rattle.hg_replica.specs.State.{ReplicaState, AreWithin, Below}
 use Rattle.hg_replica.specs.Least.{PartValue}
 use Rattle.hg_replica.specs.Change.{ChangeValue, history_change}
-use Rattle.hg_replica.specs.Answer.{IsAbsorbed, IsJoin}
+use Rattle.hg_replica.specs.Answer.{AbsorbAnswer, IsAbsorbed, KeepAnswer, IsGrowthBeforeFault, IsJoin}
 use Rattle.hg_replica.proofs.MarkerLemmas.{union-sets}
 use Rattle.hg_replica.proofs.ContentLemmas.{least-union}
 
@@ -26,6 +31,31 @@ absorbed s t k change h order union places = record {
   marker_order = order;
   markers = places;
 }
+
+-- the store keeps what the history's answer leaves it: together they answer for the part
+pub kept_answer : (s : ReplicaState) (k : PartValue) (h : State) (grown kept : List Fields) (before : ℕ) (places : List ℕ) (answered : Result HistoryChange Fault) (result : Result ChangeValue Fault) → KeepAnswer before places answered grown result kept
+    → before ≡ length s.markers → grown ≡ united s.markers k.markers → IsUnion (holds s.markers) (holds k.markers) (holds grown) → AreNewPlaces s.markers grown places → AbsorbHistoryAnswer s.history k.history answered h
+    → AbsorbAnswer s k result (record { history = h; markers = kept })
+unfolding AbsorbAnswer
+kept_answer s k h grown kept before places (Ok change) result keeps first order union new answer =
+    let t : ReplicaState = record { history = h; markers = kept } in
+    let told : ChangeValue = record { added = change.added; lowered = change.lowered; markers = places } in
+    let there = sym keeps.1 in
+    let done = absorbed s t k told answer (keeps.1 ∙ order) (subst (λ ms. IsUnion (holds s.markers) (holds k.markers) (holds ms)) there union) (subst (λ ms. AreNewPlaces s.markers ms places) there new) in
+    subst (λ r. AbsorbAnswer s k r t) (sym keeps.0) done
+kept_answer s k h grown kept before places (Err fault) result keeps first order union new answer =
+    let back : kept ≡ s.markers = keeps.1 ∙ (λ i. take (first i) (order i)) ∙ take-append_seam s.markers (new_among s.markers k.markers) in
+    subst (λ r. AbsorbAnswer s k r (record { history = h; markers = kept })) (sym keeps.0) (answer.0, λ i. record { history = answer.1 i; markers = back i })
+
+-- want of memory is the history's
+pub kept_growth : (s : ReplicaState) (k : PartValue) (grown kept : List Fields) (before : ℕ) (places : List ℕ) (answered : Result HistoryChange Fault) (result : Result ChangeValue Fault) → KeepAnswer before places answered grown result kept
+    → (answered ≡ Err NoMemory → IsHistoryGrowth s.history k.history) → result ≡ Err NoMemory → IsGrowthBeforeFault s k
+unfolding IsGrowthBeforeFault
+kept_growth s k grown kept before places (Ok change) result keeps growth is = absurd (let e = sym keeps.0 ∙ is in cc)
+kept_growth s k grown kept before places (Err fault) result keeps growth is =
+    let e = sym keeps.0 ∙ is in
+    let same : fault ≡ NoMemory = cc in
+    inr (growth (ap (λ x. Err x) same))
 
 pub joined : (s o t : ReplicaState) → IsHistoryJoin s.history o.history t.history → IsUnion (holds s.markers) (holds o.markers) (holds t.markers) → IsJoin s o t
 joined s o t h union = record { history = h; markers = (union-sets s.markers o.markers t.markers).1 union }

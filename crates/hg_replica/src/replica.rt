@@ -8,7 +8,7 @@ ghost use Rattle.hg_phases.specs.Roots.{AreRoots};
 ghost use Rattle.hg_obsstore.specs.Markers.{AreApart};
 ghost use Rattle.hg_replica.specs.State.{IsValid, Below};
 ghost use Rattle.hg_replica.specs.Least.{part_of};
-ghost use Rattle.hg_replica.specs.Answer.{AbsorbAnswer, IsGrowthBeforeFault, JoinAnswer, OpenAnswer};
+ghost use Rattle.hg_replica.specs.Answer.{AbsorbAnswer, KeepAnswer, IsGrowthBeforeFault, JoinAnswer, OpenAnswer};
 
 use crate::part::{Change, Part};
 use hg_changeset::{Changeset, Node};
@@ -141,17 +141,30 @@ impl Replica {
             Ok(markers) => markers,
             Err(NoMemory) => return Err(Fault::NoMemory),
         };
-        match self.history.absorb(&part.changesets, &part.bounds) {
-            Ok(change) => Ok(Change {
-                added: change.added,
-                lowered: change.lowered,
-                markers,
-            }),
-            Err(fault) => {
-                self.store.truncate(before);
-                Err(fault)
-            }
-        }
+        let absorbed = self.history.absorb(&part.changesets, &part.bounds);
+        keep_or_forget(&mut self.store, before, markers, absorbed)
+    }
+
+    /// Takes in a part as [`absorb`](Replica::absorb) does, but moves the changesets and the markers that aren't held in place
+    /// of copying them. The others are dropped, and after a refusal all are.
+    pub fn absorb_owned(&mut self, part: Part) -> Result<Change, Fault>
+        ensures answer { AbsorbAnswer self.old part result self.new }
+        ensures memory { IsErrOf result Fault.NoMemory → IsGrowthBeforeFault self.old part }
+        ensures valid { IsValid self.old }
+        ensures still_valid { IsValid self.new }
+    {
+        let Part {
+            changesets,
+            bounds,
+            markers,
+        } = part;
+        let before = self.store.len();
+        let markers = match self.store.absorb_owned(markers) {
+            Ok(markers) => markers,
+            Err(NoMemory) => return Err(Fault::NoMemory),
+        };
+        let absorbed = self.history.absorb_owned(changesets, &bounds);
+        keep_or_forget(&mut self.store, before, markers, absorbed)
     }
 
     /// Takes in all that another replica holds: the replica goes to the least state above both, the union of the
@@ -185,5 +198,28 @@ impl Replica {
         ensures other_valid { IsValid other.now }
     {
         self.history.is_below(&other.history) && self.store.is_below(&other.store)
+    }
+}
+
+// Where the history was changed, tells of the markers too; where it refused, the store forgets those from the place `before`
+// on.
+fn keep_or_forget(
+    store: &mut Store,
+    before: usize,
+    markers: Vec<usize>,
+    absorbed: Result<hg_history::Change, Fault>,
+) -> Result<Change, Fault>
+    ensures { KeepAnswer before markers.items absorbed store.old result store.new }
+{
+    match absorbed {
+        Ok(change) => Ok(Change {
+            added: change.added,
+            lowered: change.lowered,
+            markers,
+        }),
+        Err(fault) => {
+            store.truncate(before);
+            Err(fault)
+        }
     }
 }

@@ -1,63 +1,38 @@
-use Rattle.std.proofs.Common.{◌≡◌, ◌≢◌, [], Err, inl, inr, ap, take, sym, ◌∙◌, subst}
-use Rattle.std.proofs.Math.Seq.{take-append_seam}
-use Rattle.hg_phases.specs.State.{changesets}
-use Rattle.hg_phases.proofs.LawLemmas.{least-valid}
-use Rattle.hg_history.specs.Answer.{IsAbsorbed as IsAbsorbedHistory, IsRefusal, IsGrowthBeforeFault as IsHistoryGrowth}
-use Rattle.hg_history.specs.declared.fault.Fault.TheVariants.{NoMemory}
+use Rattle.std.proofs.Common.{◌≡◌, ◌≢◌, [], inl, ap, ◌∙◌, subst}
 use Rattle.hg_obsstore.specs.Growth.{new_among}
 use Rattle.hg_replica.specs.State.{ReplicaState}
 use Rattle.hg_replica.specs.Least.{PartValue}
-use Rattle.hg_replica.specs.Change.{ChangeValue}
-use Rattle.hg_replica.specs.Answer.{AbsorbAnswer, IsAbsorbed, IsGrowthBeforeFault}
-use Rattle.hg_replica.proofs.ReplicaLemmas.{absorbed}
+use Rattle.hg_replica.specs.Answer.{AbsorbAnswer, IsGrowthBeforeFault}
+use Rattle.hg_replica.proofs.ReplicaLemmas.{kept_answer, kept_growth}
 use Rattle.hg_replica.proofs.replica.Replica.absorb.Goals as goal
+use Rattle.hg_replica.proofs.replica.Replica.absorb.Goals.{After-keep_or_forget}
 
-pub invariant_of-self-in-Ok-absorb : goal.invariant_of-self-in-Ok-absorb
-invariant_of-self-in-Ok-absorb c = least-valid c.self.inside.history _ c.absorb-2.new.self c.in-Ok-absorb.ensures.answer.least c.self.invariant
+module _ (c : After-keep_or_forget) where
+  abbrev s : ReplicaState
+  s = record { history = c.self.inside.history; markers = c.self.inside.store }
 
-pub returns-in-Ok-absorb-clause-answer : goal.returns-in-Ok-absorb-clause-answer
-unfolding AbsorbAnswer
-returns-in-Ok-absorb-clause-answer c =
-    let s : ReplicaState = record { history = c.self.inside.history; markers = c.self.inside.store } in
-    let t : ReplicaState = record { history = c.absorb-2.new.self; markers = c.absorb.new.self } in
-    let k : PartValue = record { history = record { changesets = c.deref-2.result.now; bounds = c.deref-3.result.now }; markers = c.deref.result.now } in
-    let k_is : k ≡ c.args.part.now =
-    (λ i. record { history = record { changesets = c.deref-2.ensures.value i; bounds = c.deref-3.ensures.value i }; markers = c.deref.ensures.value i }) ∙ c.part.view_is in
-    let change : ChangeValue = record { added = c.change.inside.added.items; lowered = c.change.inside.lowered.items; markers = c.in-Ok.markers.items } in
-    let history = subst (λ x. IsAbsorbedHistory s.history k.history x t.history) (sym c.change.view_is) c.in-Ok-absorb.ensures.answer in
-    subst (λ u. IsAbsorbed u c.args.part.now change t) c.self.view_is
-    (subst (λ x. IsAbsorbed s x change t) k_is (absorbed s t k change history c.in-Ok.ensures.ok c.in-Ok.ensures.union c.in-Ok.ensures.places))
+  abbrev k : PartValue
+  k = record { history = record { changesets = c.deref-2.result.now; bounds = c.deref-3.result.now }; markers = c.deref.result.now }
 
-pub returns-in-Err-absorb-clause-answer : goal.returns-in-Err-absorb-clause-answer
-unfolding AbsorbAnswer
-returns-in-Err-absorb-clause-answer c =
-    let s : ReplicaState = record { history = c.self.inside.history; markers = c.self.inside.store } in
-    let k : PartValue = record { history = record { changesets = c.deref-2.result.now; bounds = c.deref-3.result.now }; markers = c.deref.result.now } in
-    let k_is : k ≡ c.args.part.now =
-    (λ i. record { history = record { changesets = c.deref-2.ensures.value i; bounds = c.deref-3.ensures.value i }; markers = c.deref.ensures.value i }) ∙ c.part.view_is in
-    let fault = c.in-Err-absorb.fault in
-    let answer = c.in-Err-absorb.ensures.answer in
-    let old = c.self.inside.store in
-    let new = new_among old c.deref.result.now in
-    let back : c.truncate.new.self ≡ old = c.truncate.ensures ∙ (λ i. take (c.len-before.ensures i) (c.in-Ok.ensures.ok i)) ∙ take-append_seam old new in (
-      subst (λ u. IsRefusal (changesets u.history) c.args.part.now.history fault) c.self.view_is (subst (λ x. IsRefusal (changesets s.history) x.history fault) k_is answer.0),
-      (λ i. record { history = answer.1 i; markers = back i }) ∙ c.self.view_is,
-    )
+  k_is : k ≡ c.args.part.now
+  k_is = (λ i. record { history = record { changesets = c.deref-2.ensures.value i; bounds = c.deref-3.ensures.value i }; markers = c.deref.ensures.value i }) ∙ c.part.view_is
+
+pub returns-clause-answer : goal.returns-clause-answer
+returns-clause-answer c =
+    let h = c.absorb-absorbed.new.self in
+    let kept = c.keep_or_forget.new.store in
+    let answer = kept_answer (s c) (k c) h c.absorb.new.self kept c.len-before.result c.in-Ok.markers.items c.absorb-absorbed.result c.keep_or_forget.result c.keep_or_forget.ensures c.len-before.ensures c.in-Ok.ensures.ok c.in-Ok.ensures.union c.in-Ok.ensures.places c.absorb-absorbed.ensures.answer in
+    subst (λ u. AbsorbAnswer u c.args.part.now c.keep_or_forget.result (record { history = h; markers = kept })) c.self.view_is
+    (subst (λ x. AbsorbAnswer (s c) x c.keep_or_forget.result (record { history = h; markers = kept })) (k_is c) answer)
+
+pub returns-clause-memory : goal.returns-clause-memory
+returns-clause-memory c is =
+    let growth = kept_growth (s c) (k c) c.absorb.new.self c.keep_or_forget.new.store c.len-before.result c.in-Ok.markers.items c.absorb-absorbed.result c.keep_or_forget.result c.keep_or_forget.ensures c.absorb-absorbed.ensures.memory is in
+    subst (λ u. IsGrowthBeforeFault u c.args.part.now) c.self.view_is (subst (IsGrowthBeforeFault (s c)) (k_is c) growth)
 
 pub returns-in-Err-clause-answer : goal.returns-in-Err-clause-answer
 unfolding AbsorbAnswer
 returns-in-Err-clause-answer c = (tt, (λ i. record { history = c.self.inside.history; markers = c.in-Err.ensures.err i }) ∙ c.self.view_is)
-
-pub returns-in-Err-absorb-clause-memory : goal.returns-in-Err-absorb-clause-memory
-unfolding IsGrowthBeforeFault
-returns-in-Err-absorb-clause-memory c =
-    let k : PartValue = record { history = record { changesets = c.deref-2.result.now; bounds = c.deref-3.result.now }; markers = c.deref.result.now } in
-    let k_is : k ≡ c.args.part.now =
-    (λ i. record { history = record { changesets = c.deref-2.ensures.value i; bounds = c.deref-3.ensures.value i }; markers = c.deref.ensures.value i }) ∙ c.part.view_is in
-    let fault = c.in-Err-absorb.fault in
-    λ e.
-    let same : fault ≡ NoMemory = cc in
-    inr (subst (λ u. IsHistoryGrowth u.history c.args.part.now.history) c.self.view_is (subst (λ x. IsHistoryGrowth c.self.inside.history x.history) k_is (c.in-Err-absorb.ensures.memory (ap (λ x. Err x) same))))
 
 pub returns-in-Err-clause-memory : goal.returns-in-Err-clause-memory
 unfolding IsGrowthBeforeFault
