@@ -4,7 +4,8 @@ use crate::parts::{
 };
 use hg_changeset::Node;
 use hg_phases::Phase;
-use hg_replica::{Fault, Replica};
+use hg_replica::{Fault, Part, Replica};
+use std::alloc::Global;
 use std::test::Fail;
 
 #[test]
@@ -18,6 +19,23 @@ fn a_changeset_is_added_once(rt: HostRuntime) {
     let again = replica.absorb(&part).expect(&rt, "a change");
     assert!(rt; again.added.is_empty() && again.lowered.is_empty());
     assert!(rt; counts(&replica) == (1, 0));
+}
+
+#[test]
+fn what_is_moved_in_is_told_once(rt: HostRuntime) {
+    let alloc = rt.alloc();
+    let mut replica = Replica::new(alloc);
+    let root = commit(alloc, &mut replica, Node::NULL, Phase::Secret).expect(&rt, "memory");
+    let (part, node) = published_child(alloc, root).expect(&rt, "memory");
+    let change = replica.absorb_owned(part).expect(&rt, "a change");
+    assert!(rt; change.added.as_slice() == [node].as_slice());
+    assert!(rt; change.lowered.as_slice() == [root].as_slice());
+    assert!(rt; change.markers.as_slice() == [0usize].as_slice());
+    let (same, _) = published_child(alloc, root).expect(&rt, "memory");
+    let again = replica.absorb_owned(same).expect(&rt, "a change");
+    assert!(rt; again.added.is_empty() && again.lowered.is_empty() && again.markers.is_empty());
+    assert!(rt; counts(&replica) == (2, 1));
+    assert!(rt; phase(&replica, node) == Some(Phase::Public));
 }
 
 #[test]
@@ -120,7 +138,13 @@ fn refused_growth_leaves_an_empty_replica_empty(rt: HostRuntime) {
     assert!(rt; phase(&replica, node) == Some(Phase::Draft));
 }
 
-// The part publishes a secret root, and adds a child of it and a marker.
+// The part of a public child of the root and a marker on it. And the child's id.
+fn published_child(alloc: Global, root: Node) -> Option<(Part, Node)> {
+    let (mut part, node) = child(alloc, root, Phase::Public)?;
+    push_marker(alloc, &mut part, root, node)?;
+    Some((part, node))
+}
+
 #[test]
 fn refused_growth_in_absorbing_changes_nothing(rt: HostRuntime) {
     let alloc = rt.alloc();
@@ -131,15 +155,36 @@ fn refused_growth_in_absorbing_changes_nothing(rt: HostRuntime) {
     let Ok(before) = replica.copy() else {
         return;
     };
-    let Some((mut part, node)) = child(alloc, root, Phase::Public) else {
+    let Some((part, _)) = published_child(alloc, root) else {
         return;
     };
-    if push_marker(alloc, &mut part, root, node).is_none() {
-        return;
-    }
     if let Err(fault) = replica.absorb(&part) {
         assert!(rt; fault == Fault::NoMemory && are_equal(&replica, &before));
         assert!(rt; replica.absorb(&part).is_ok());
+    }
+    assert!(rt; counts(&replica) == (2, 1));
+    assert!(rt; phase(&replica, root) == Some(Phase::Public));
+}
+
+#[test]
+fn refused_growth_in_moving_in_changes_nothing(rt: HostRuntime) {
+    let alloc = rt.alloc();
+    let mut replica = Replica::new(alloc);
+    let Some(root) = commit(alloc, &mut replica, Node::NULL, Phase::Secret) else {
+        return;
+    };
+    let Ok(before) = replica.copy() else {
+        return;
+    };
+    let Some((part, _)) = published_child(alloc, root) else {
+        return;
+    };
+    let Some((same, _)) = published_child(alloc, root) else {
+        return;
+    };
+    if let Err(fault) = replica.absorb_owned(part) {
+        assert!(rt; fault == Fault::NoMemory && are_equal(&replica, &before));
+        assert!(rt; replica.absorb_owned(same).is_ok());
     }
     assert!(rt; counts(&replica) == (2, 1));
     assert!(rt; phase(&replica, root) == Some(Phase::Public));
