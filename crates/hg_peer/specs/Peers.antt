@@ -60,6 +60,10 @@ IsAgainstOffer s common (Offer offer.NoMemory) = ⊥
 IsAgainstOffer s common (Message fault) = ⊥
 IsAgainstOffer s common NoMemory = ⊥
 
+-- what was found is too large to be written
+abbrev pub IsAgainstWriting : MessageValue → PeerRefusal → Type 0
+IsAgainstWriting m refusal = (refusal ≡ Offer TooLarge) × (is_too_large m ≡ true)
+
 -- ---- bytes
 
 -- the part of the message that the bytes say

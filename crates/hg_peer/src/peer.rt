@@ -14,7 +14,7 @@ ghost use Rattle.hg_message.specs.Offer.{AreHeld};
 ghost use Rattle.hg_message.specs.Part.{part_of as message_part};
 ghost use Rattle.hg_message.specs.Spelling.{message_spelling};
 ghost use Rattle.hg_peer.specs.declared.refusal.PeerRefusal.TheVariants.{NoMemory as OutOfMemory};
-ghost use Rattle.hg_peer.specs.Peers.{Decides as DecidesPart, IsAgainstOperation, Offers as OffersBytes, IsAgainstOffer, SpellsPart, IsAgainstBytes as AgainstBytes, IsMemory, CanBeWritten};
+ghost use Rattle.hg_peer.specs.Peers.{Decides as DecidesPart, IsAgainstOperation, Offers as OffersBytes, IsAgainstOffer, IsAgainstWriting, SpellsPart, IsAgainstBytes as AgainstBytes, IsMemory, CanBeWritten};
 ghost use Rattle.hg_peer.specs.DecisionLaws.{decided_once, decided_not_refused, memory_not_against_operation};
 ghost use Rattle.hg_peer.specs.OfferLaws.{offered_once, offered_not_refused, offered_spelled, offered_covered, offered_alike, memory_not_against_offer};
 ghost use Rattle.hg_peer.specs.BytesLaws.{spelled_once, spelled_not_refused, memory_not_against_bytes};
@@ -23,7 +23,7 @@ use crate::refusal::PeerRefusal;
 use hg_changeset::Node;
 use hg_history::Fault;
 use hg_join::{Actor, JoinState, NoMemory};
-use hg_message::{Message, offer};
+use hg_message::{Message, Outgoing};
 use hg_replica::{Change, Part, Replica};
 use hg_rewrite::{Op, decide};
 use std::alloc::Global;
@@ -228,8 +228,8 @@ impl Actor for Peer {
         // They say that the replica is in a valid state, and that each of its markers can be written.
         let _graph = self.replica.graph();
         let _markers = self.replica.store().markers();
-        match offer(alloc, &self.replica, common) {
-            Ok(message) => written(&message),
+        match Outgoing::above(alloc, &self.replica, common) {
+            Ok(found) => written(&found),
             Err(refusal) => Err(refusal.into()),
         }
     }
@@ -249,16 +249,14 @@ impl Actor for Peer {
     }
 }
 
-/// The bytes of a message.
-fn written(message: &Message) -> Result<Vec<u8>, PeerRefusal>
-    ensures ok { IfOk result (λ bytes. CanBeWritten message.now × (bytes.items ≡ message_spelling message.now)) }
-    ensures err { IfErr result (λ refusal. refusal ≡ OutOfMemory) }
+/// The bytes of what goes out.
+fn written(found: &Outgoing<'_>) -> Result<Vec<u8>, PeerRefusal>
+    ensures ok { IfOk result (λ bytes. CanBeWritten found.now × (bytes.items ≡ message_spelling found.now)) }
+    ensures err { IfErr result (λ refusal. IsAgainstWriting found.now refusal ⊎ IsMemory refusal) }
 {
-    // It says that the message isn't too large.
-    let _changesets = message.changesets();
-    match message.to_bytes() {
+    match found.to_bytes() {
         Ok(bytes) => Ok(bytes),
-        Err(_) => Err(PeerRefusal::NoMemory),
+        Err(refusal) => Err(refusal.into()),
     }
 }
 
