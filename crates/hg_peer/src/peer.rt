@@ -141,6 +141,10 @@ impl JoinState for Peer {
         JoinState::absorb(&mut self.replica, part)
     }
 
+    fn absorb_owned(&mut self, part: Part) -> Result<Change, Fault> {
+        JoinState::absorb_owned(&mut self.replica, part)
+    }
+
     fn join(&mut self, other: &Peer) -> Result<(), Fault> {
         JoinState::join(&mut self.replica, &other.replica)
     }

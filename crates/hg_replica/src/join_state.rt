@@ -96,6 +96,10 @@ impl JoinState for Replica {
         Replica::absorb(self, part)
     }
 
+    fn absorb_owned(&mut self, part: Part) -> Result<Change, Fault> {
+        Replica::absorb_owned(self, part)
+    }
+
     fn join(&mut self, other: &Replica) -> Result<(), Fault> {
         Replica::join(self, other)
     }
