@@ -9,7 +9,8 @@ use Rattle.std.specs.List.Sorted.{IsStrictlyIncreasing}
 use Rattle.hg_changeset.specs.declared.node.Node.{Node}
 use Rattle.hg_marker.specs.Fields.{Fields}
 use Rattle.hg_marker.specs.Parents.{recorded_parents}
-use Rattle.hg_obsstore.specs.declared.indexes.Indexes.{Indexes}
+use Rattle.hg_obsstore.specs.declared.index.Index.{Index}
+use Rattle.hg_obsstore.specs.declared.index.Role.TheVariants.{Predecessor, Successor, Parent}
 use Rattle.hg_obsstore.specs.Places.{ListsAll}
 use Rattle.hg_obsstore.specs.Markers.{IsAt, predecessors, successors}
 use Rattle.hg_obsstore.specs.Index.{places_of, TakesPlaces}
@@ -106,13 +107,13 @@ cut_at xs x place at read =
       omega (arith, length-take place xs, at),
     )
 
-pub all_forget : (xs : List Fields) (x : Fields) (place : ℕ) (old new : Indexes) → place + 1 ≡ length xs → x ≡ get_or xs place x → AreIndexed xs old → TakeMarker x place old new → AreIndexed (take place xs) new
+pub all_forget : (xs : List Fields) (x : Fields) (place : ℕ) (old new : Index) → place + 1 ≡ length xs → x ≡ get_or xs place x → AreIndexed xs old → TakeMarker x place old new → AreIndexed (take place xs) new
 all_forget xs x place old new at read all takes =
     let cut = cut_at xs x place at read in
     let here : AreIndexed (take place xs ++ x ∷ []) old = subst (λ ys. AreIndexed ys old) cut.0 all in
     let gone : TakeMarker x (length (take place xs)) old new = subst (λ n. TakeMarker x n old new) (sym cut.1) takes in
     record {
-      predecessor = indexed_forget predecessors (take place xs) x (places_of old.by_predecessor) (places_of new.by_predecessor) here.predecessor gone.predecessor;
-      successor = indexed_forget successors (take place xs) x (places_of old.by_successor) (places_of new.by_successor) here.successor gone.successor;
-      child = indexed_forget recorded_parents (take place xs) x (places_of old.by_child) (places_of new.by_child) here.child gone.child;
+      predecessor = indexed_forget predecessors (take place xs) x (places_of Predecessor old) (places_of Predecessor new) here.predecessor gone.predecessor;
+      successor = indexed_forget successors (take place xs) x (places_of Successor old) (places_of Successor new) here.successor gone.successor;
+      child = indexed_forget recorded_parents (take place xs) x (places_of Parent old) (places_of Parent new) here.child gone.child;
     }

@@ -1,5 +1,5 @@
 -- Indexes after a change at one node, and after one at each of some nodes.
-use Rattle.std.proofs.Common.{arith, ◌≡◌, ◌≢◌, ◌+◌, ◌⊎◌, ◌++◌, ◌∷◌, [], ◌∙◌, sym, ap, ℕ, List, true, false, Some, refl, subst, inl, inr, ⊎_elim, Vec, Global, length, take, drop, get_or, ◌<◌, Contains}
+use Rattle.std.proofs.Common.{arith, ◌≡◌, ◌≢◌, ◌+◌, ◌⊎◌, ◌++◌, ◌∷◌, [], ◌∙◌, sym, ap, ℕ, List, true, false, Some, refl, subst, inl, inr, ⊎_elim, length, take, drop, get_or, ◌<◌, Contains}
 use Rattle.std.proofs.lemmas.Bool.{false_from_ne_true, cases_Bool, false≢true}
 use Rattle.std.proofs.lemmas.List.{take_more, take-append-drop}
 use Rattle.std.proofs.lemmas.List.Elements.{Contains-push, Contains-push_cases, Contains-append_left}
@@ -10,27 +10,71 @@ use Rattle.indexmap.specs.IndexMap.{get, get_by}
 use Rattle.hg_changeset.specs.declared.node.Node.{Node}
 use Rattle.hg_changeset.specs.Node.{node_eq}
 use Rattle.hg_obsstore.specs.declared.index.Index.{Index}
-use Rattle.hg_obsstore.specs.Index.{places_of, items_of, SamePlaces, AreBelow, AddsPlace, MayAddPlace, with_last, without_last}
+use Rattle.hg_obsstore.specs.declared.index.Role.{Role}
+use Rattle.hg_obsstore.specs.declared.index.Role.TheVariants.{Predecessor, Successor, Parent}
+use Rattle.hg_obsstore.specs.declared.index.Roles.{Roles}
+use Rattle.hg_obsstore.specs.Index.{listed_as, found_as, places_of, ChangesPlaces, AreBelow, AddsPlace, MayAddPlace, with_last, without_last}
 use Rattle.hg_obsstore.proofs.PlaceLemmas.{with_last_below, with_last_again, without_last_below, without_last_pushed}
 
 pub among_or_not : (ns : List Node) (n : Node) → Contains ns n ⊎ ¬ Contains ns n
 among_or_not ns n = ⊎_elim (λ (t : list_any (node_eq n) ns ≡ true). inl (Contains-from_any same_node n ns t))
     (λ (f : list_any (node_eq n) ns ≡ false). inr (λ h. false≢true (sym f ∙ list_any-from_Contains node_eq_laws n ns h))) (cases_Bool (list_any (node_eq n) ns))
 
-module _ (old new : Index) (node : Node) where
-  -- what each look-up gives after v was put at the node
-  pub looked_up : (v : Vec ℕ Global) (places : List ℕ) → get_by (node_eq node) new.by_node ≡ Some v → ((q : Node) → node_eq node q ≡ false → get node_eq new.by_node q ≡ get node_eq old.by_node q)
-      → v.items ≡ places → (places_of new node ≡ places) × ((other : Node) → other ≢ node → places_of new other ≡ places_of old other)
-  looked_up v places here others items =
-      (ap items_of here ∙ items, λ q other. ap items_of (others q (false_from_ne_true (node_eq node q) (λ h. other (sym (same_node node q h))))))
+-- what is so of each role
+pub each_role : (P : Role → Type 0) → P Predecessor → P Successor → P Parent → (role : Role) → P role
+each_role P predecessor successor parent Predecessor = predecessor
+each_role P predecessor successor parent Successor = successor
+each_role P predecessor successor parent Parent = parent
 
-  pub same_everywhere : (places_of new node ≡ places_of old node) → ((other : Node) → other ≢ node → places_of new other ≡ places_of old other) → SamePlaces old new
-  same_everywhere here others q = ⊎_elim (λ (same : q ≡ node). rw same here) (λ (other : q ≢ node). others q other) (node_cases q node)
+-- the roles differ
+pub successor-predecessor : Successor ≢ Predecessor
+successor-predecessor e = absurd cc
 
--- one node more
+pub predecessor-successor : Predecessor ≢ Successor
+predecessor-successor e = absurd cc
+
+pub predecessor-parent : Predecessor ≢ Parent
+predecessor-parent e = absurd cc
+
+pub successor-parent : Successor ≢ Parent
+successor-parent e = absurd cc
+
+pub parent-predecessor : Parent ≢ Predecessor
+parent-predecessor e = absurd cc
+
+pub parent-successor : Parent ≢ Successor
+parent-successor e = absurd cc
+
 abbrev Lists : Type 0
 Lists = Node → List ℕ
 
+pub pointwise : (f g : Lists) → ((n : Node) → f n ≡ g n) → f ≡ g
+pointwise f g e i n = e n i
+
+-- what each look-up gives after v was put at the node
+module _ (old new : Index) (node : Node) (v : Roles) (at : get_by (node_eq node) new.by_node ≡ Some v) (off : (q : Node) → node_eq node q ≡ false → get node_eq new.by_node q ≡ get node_eq old.by_node q) where
+  found_else : (role : Role) (q : Node) → q ≢ node → places_of role new q ≡ places_of role old q
+  found_else role q other = ap (found_as role) (off q (false_from_ne_true (node_eq node q) (λ h. other (sym (same_node node q h)))))
+
+  pub found_same : (role : Role) → listed_as role v ≡ places_of role old node → places_of role new ≡ places_of role old
+  found_same role same = pointwise (places_of role new) (places_of role old) (λ q. ⊎_elim
+      (λ (e : q ≡ node). rw e (ap (found_as role) at ∙ same)) (λ (other : q ≢ node). found_else role q other) (node_cases q node))
+
+  pub found_changed : (role : Role) (places : List ℕ) → listed_as role v ≡ places → ((other : Role) → other ≢ role → listed_as other v ≡ places_of other old node) → ChangesPlaces old new role node places
+  found_changed role places is asides = record {
+    here = ap (found_as role) at ∙ is;
+    others = found_else role;
+    aside = λ other apart. found_same other (asides other apart);
+  }
+
+-- a relation of lists before and after, carried over to equal lists
+pub carried : (R : List Node → Lists → Lists → Type 0) (ns ps : List Node) (old before new after : Lists) → ns ≡ ps → old ≡ before → new ≡ after → R ns old new → R ps before after
+carried R ns ps old before new after e f g h = subst (λ xs. R xs before after) e (subst (λ o. R ns o after) f (subst (R ns old) g h))
+
+pub unchanged : (ns : List Node) (place : ℕ) (old new : Lists) → new ≡ old → MayAddPlace ns place old new
+unchanged ns place old new e n = inl (ap (λ (f : Lists). f n) e)
+
+-- one node more
 pub adds_none : (place : ℕ) (old : Lists) → AddsPlace [] place old old
 adds_none place old = record { here = λ n h. absurd (omega (arith, h.1)); others = λ n h. refl }
 

@@ -75,10 +75,6 @@ without_last_pushed xs k =
     let at : length (xs ++ k ∷ []) - 1 ≡ length xs = omega (arith, long) in
     rw (pushed_stands_last xs k) (ap (λ n. take n (xs ++ k ∷ [])) at ∙ take-append_seam xs (k ∷ []))
 
-pub with_last_none : (k : ℕ) → with_last [] k ≡ k ∷ []
-unfolding with_last
-with_last_none k = refl
-
 pub without_last_none : (k : ℕ) → without_last [] k ≡ []
 unfolding without_last
 without_last_none k = refl

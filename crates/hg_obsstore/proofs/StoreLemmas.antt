@@ -12,11 +12,12 @@ use Rattle.hg_changeset.specs.declared.node.Node.{Node}
 use Rattle.hg_marker.specs.Same.{same_fields, fields_decides, fields_equivalence}
 use Rattle.hg_marker.specs.Fields.{Fields}
 use Rattle.hg_marker.specs.Parents.{recorded_parents}
-use Rattle.hg_obsstore.specs.declared.indexes.Indexes.{Indexes}
+use Rattle.hg_obsstore.specs.declared.index.Index.{Index}
+use Rattle.hg_obsstore.specs.declared.index.Role.TheVariants.{Predecessor, Successor, Parent}
 use Rattle.hg_obsstore.specs.Places.{ListsAll}
 use Rattle.hg_obsstore.specs.Markers.{IsAt, ArePlaces, predecessors, successors}
-use Rattle.hg_obsstore.specs.Index.{places_of, AreBelow, AddsPlace}
-use Rattle.hg_obsstore.specs.Indexes.{IsIndexBy, AreIndexed, HaveBelow, AddMarker, SameIndexes}
+use Rattle.hg_obsstore.specs.Index.{places_of, AreBelow, AddsPlace, SamePlaces}
+use Rattle.hg_obsstore.specs.Indexes.{IsIndexBy, AreIndexed, HaveBelow, AddMarker}
 use Rattle.hg_obsstore.proofs.PlaceLemmas.{one_more, no_more, all_listed}
 use Rattle.hg_obsstore.proofs.IndexLemmas.{among_or_not}
 
@@ -64,28 +65,25 @@ module _ (nodes_of : Fields → List Node) (ms : List Fields) where
   pub indexed_below : (old : Node → List ℕ) → IsIndexBy nodes_of ms old → AreBelow old (length ms)
   indexed_below old all n i h = let at = ((all n).exact i).0 h in slice_get_within ms i at.0 at.1
 
-  pub indexed_same : (old new : Node → List ℕ) → ((n : Node) → new n ≡ old n) → IsIndexBy nodes_of ms old → IsIndexBy nodes_of ms new
-  indexed_same old new same all n = subst (ArePlaces (λ x. Contains (nodes_of x) n) ms) (sym (same n)) (all n)
-
-pub all_below : (ms : List Fields) (indexes : Indexes) → AreIndexed ms indexes → HaveBelow indexes (length ms)
-all_below ms indexes all = record {
-  predecessor = indexed_below predecessors ms (places_of indexes.by_predecessor) all.predecessor;
-  successor = indexed_below successors ms (places_of indexes.by_successor) all.successor;
-  child = indexed_below recorded_parents ms (places_of indexes.by_child) all.child;
+pub all_below : (ms : List Fields) (index : Index) → AreIndexed ms index → HaveBelow index (length ms)
+all_below ms index all = record {
+  predecessor = indexed_below predecessors ms (places_of Predecessor index) all.predecessor;
+  successor = indexed_below successors ms (places_of Successor index) all.successor;
+  child = indexed_below recorded_parents ms (places_of Parent index) all.child;
 }
 
-pub all_push : (ms : List Fields) (m : Fields) (old new : Indexes) → AreIndexed ms old → AddMarker m (length ms) old new → AreIndexed (ms ++ m ∷ []) new
+pub all_push : (ms : List Fields) (m : Fields) (old new : Index) → AreIndexed ms old → AddMarker m (length ms) old new → AreIndexed (ms ++ m ∷ []) new
 all_push ms m old new all adds = record {
-  predecessor = indexed_push predecessors ms m (places_of old.by_predecessor) (places_of new.by_predecessor) all.predecessor adds.predecessor;
-  successor = indexed_push successors ms m (places_of old.by_successor) (places_of new.by_successor) all.successor adds.successor;
-  child = indexed_push recorded_parents ms m (places_of old.by_child) (places_of new.by_child) all.child adds.child;
+  predecessor = indexed_push predecessors ms m (places_of Predecessor old) (places_of Predecessor new) all.predecessor adds.predecessor;
+  successor = indexed_push successors ms m (places_of Successor old) (places_of Successor new) all.successor adds.successor;
+  child = indexed_push recorded_parents ms m (places_of Parent old) (places_of Parent new) all.child adds.child;
 }
 
-pub all_same : (ms : List Fields) (old new : Indexes) → SameIndexes old new → AreIndexed ms old → AreIndexed ms new
+pub all_same : (ms : List Fields) (old new : Index) → SamePlaces old new → AreIndexed ms old → AreIndexed ms new
 all_same ms old new same all = record {
-  predecessor = indexed_same predecessors ms (places_of old.by_predecessor) (places_of new.by_predecessor) same.predecessor all.predecessor;
-  successor = indexed_same successors ms (places_of old.by_successor) (places_of new.by_successor) same.successor all.successor;
-  child = indexed_same recorded_parents ms (places_of old.by_child) (places_of new.by_child) same.child all.child;
+  predecessor = subst (IsIndexBy predecessors ms) (sym (same Predecessor)) all.predecessor;
+  successor = subst (IsIndexBy successors ms) (sym (same Successor)) all.successor;
+  child = subst (IsIndexBy recorded_parents ms) (sym (same Parent)) all.child;
 }
 
 -- an equal marker is the marker itself

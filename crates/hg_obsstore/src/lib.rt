@@ -4,8 +4,8 @@
 mod fault;
 mod format;
 mod index;
-mod indexes;
 mod join_state;
+mod places;
 mod store;
 
 pub use fault::StoreFault;
@@ -16,4 +16,5 @@ pub use format::{
 pub use hg_changeset::Node;
 pub use hg_join::NoMemory;
 pub use hg_marker::{Marker, MarkerFault};
+pub use index::Mentions;
 pub use store::{Added, Store};

@@ -1,4 +1,4 @@
-//! A set of markers with three indexes.
+//! A set of markers with an index.
 //!
 //! The markers stand in the order in which they came, in a set that finds an equal one by its value in one look-up, so
 //! no marker stands twice. A marker is named by its place. Places only grow, so what is new stands last, and a call that
@@ -12,7 +12,7 @@ ghost use Rattle.hg_obsstore.specs.Markers.{AreDifferent, ArePlaces};
 ghost use Rattle.hg_obsstore.specs.Growth.{AddAnswer, AreNewPlaces, StartsWith, holds, new_among, united, with_marker};
 ghost use Rattle.hg_obsstore.specs.Sets.{IsUnion};
 
-use crate::indexes::Indexes;
+use crate::index::{Index, Mentions};
 use hg_changeset::Node;
 use hg_join::NoMemory;
 use hg_marker::Marker;
@@ -39,7 +39,7 @@ pub enum Added {
 pub struct Store {
     alloc: Global,
     markers: IndexSet<Marker>,
-    indexes: Indexes,
+    index: Index,
 }
 
 // Whoever owns a store calls this once, and is proved without a look at each collection in it.
@@ -48,7 +48,7 @@ impl Drop for Store {
         let Store {
             alloc: _,
             markers: _,
-            indexes: _,
+            index: _,
         } = self;
     }
 }
@@ -68,7 +68,7 @@ impl Model for Store {
 
     ghost view = { λ s. s.markers.keys };
 
-    ghost invariant = { λ s. AreApart s.markers.keys × AreIndexed s.markers.keys s.indexes × All IsMarker s.markers.keys };
+    ghost invariant = { λ s. AreApart s.markers.keys × AreIndexed s.markers.keys s.index × All IsMarker s.markers.keys };
 }
 
 impl PartialEq for Store {
@@ -104,7 +104,7 @@ impl Store {
         Store {
             alloc,
             markers: IndexSet::new(alloc),
-            indexes: Indexes::new(alloc),
+            index: Index::new(alloc),
         }
     }
 
@@ -142,25 +142,34 @@ impl Store {
         self.markers.contains(marker)
     }
 
+    /// The places of the markers that name this node, in each role, by one look-up.
+    pub fn mentions(&self, node: Node) -> Mentions<'_>
+        ensures predecessor { ArePlaces (λ m. m.predecessor ≡ node) self.now result.as_predecessor.now }
+        ensures successor { ArePlaces (λ m. Contains m.successors node) self.now result.as_successor.now }
+        ensures parent { ArePlaces (λ m. Contains (recorded_parents m) node) self.now result.as_parent.now }
+    {
+        self.index.mentions(node)
+    }
+
     /// The places of the markers with this predecessor, ascending.
     pub fn with_predecessor(&self, node: Node) -> &[usize]
         ensures { ArePlaces (λ m. m.predecessor ≡ node) self.now result.now }
     {
-        self.indexes.with_predecessor(node)
+        self.mentions(node).as_predecessor
     }
 
     /// The places of the markers with this successor, ascending, each once.
     pub fn with_successor(&self, node: Node) -> &[usize]
         ensures { ArePlaces (λ m. Contains m.successors node) self.now result.now }
     {
-        self.indexes.with_successor(node)
+        self.mentions(node).as_successor
     }
 
     /// The places of the markers that record this node as a parent of their predecessor, ascending, each once.
     pub fn with_child(&self, node: Node) -> &[usize]
         ensures { ArePlaces (λ m. Contains (recorded_parents m) node) self.now result.now }
     {
-        self.indexes.with_child(node)
+        self.mentions(node).as_parent
     }
 
     /// Adds a marker last, where no equal one is held.
@@ -177,7 +186,7 @@ impl Store {
             return Ok(Added::Known);
         }
         let marker = &self.markers.as_slice()[place];
-        if let Err(_) = self.indexes.add(marker, place) {
+        if let Err(_) = self.index.add(marker, place) {
             self.markers.truncate(place);
             return Err(NoMemory);
         }
@@ -203,7 +212,7 @@ impl Store {
         ensures { self.new ≡ take place self.old }
     {
         let marker = &self.markers.as_slice()[place];
-        self.indexes.remove(marker, place);
+        self.index.remove(marker, place);
         self.markers.truncate(place);
     }
 }

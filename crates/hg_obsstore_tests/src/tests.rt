@@ -238,6 +238,22 @@ fn joins(rt: HostRuntime) {
     assert!(rt; store.is_below(&joined) && !joined.is_below(&store));
 }
 
+#[test]
+fn tells_each_mention_of_a_node(rt: HostRuntime) {
+    let alloc = rt.alloc();
+    let mut store = Store::new(alloc);
+    add(&rt, &mut store, marker(alloc, OLD, &[NEW]));
+    add(&rt, &mut store, marker(alloc, NEW, &[]));
+    add(&rt, &mut store, prune(alloc));
+    let mentions = store.mentions(NEW);
+    assert!(rt; mentions.as_predecessor == [1usize].as_slice());
+    assert!(rt; mentions.as_successor == [0usize].as_slice());
+    assert!(rt; mentions.as_parent == [2usize].as_slice());
+    let mentions = store.mentions(OLD);
+    assert!(rt; mentions.as_predecessor == [0usize, 2].as_slice());
+    assert!(rt; mentions.as_successor.is_empty() && mentions.as_parent.is_empty());
+}
+
 // One allocation is refused, wherever it falls: nothing changed, and the same call with memory answers as ever.
 #[test]
 fn refused_growth_adds_nothing(rt: HostRuntime) {
@@ -253,6 +269,30 @@ fn refused_growth_adds_nothing(rt: HostRuntime) {
     }
     assert!(rt; store.with_predecessor(OLD) == [0usize].as_slice());
     assert!(rt; store.with_child(NEW) == [0usize].as_slice());
+}
+
+// The second place of a list takes memory of its own.
+#[test]
+fn refused_growth_of_places_adds_nothing(rt: HostRuntime) {
+    let alloc = rt.alloc();
+    let (Some(one), Some(other), Some(same)) = (
+        marker(alloc, OLD, &[NEW]),
+        prune(alloc),
+        prune(alloc),
+    ) else {
+        return;
+    };
+    let mut store = Store::new(alloc);
+    if store.add(one).is_err() {
+        return;
+    }
+    if let Err(NoMemory) = store.add(other) {
+        assert!(rt; store.len() == 1 && store.with_predecessor(OLD) == [0usize].as_slice());
+        assert!(rt; store.with_child(NEW).is_empty());
+        assert!(rt; store.add(same) == Ok(Added::New));
+    }
+    assert!(rt; store.with_predecessor(OLD) == [0usize, 1].as_slice());
+    assert!(rt; store.with_child(NEW) == [1usize].as_slice());
 }
 
 #[test]

@@ -1,19 +1,26 @@
-use Rattle.std.proofs.Common.{rules, arith, subst}
-use Rattle.std.proofs.lemmas.List.{take_all}
-use Rattle.hg_obsstore.specs.Index.{places_of}
-use Rattle.hg_obsstore.proofs.IndexLemmas.{takes_all, all_taken, takes_none, TakesFrom}
+use Rattle.std.proofs.Common.{◌∙◌, ◌∷◌, [], ap, sym, refl}
+use Rattle.hg_marker.specs.Parents.{listed, recorded_parents}
+use Rattle.hg_obsstore.specs.declared.index.Role.TheVariants.{Predecessor, Successor, Parent}
+use Rattle.hg_obsstore.specs.Index.{places_of, TakesPlaces}
+use Rattle.hg_obsstore.specs.Markers.{predecessors, successors}
+use Rattle.hg_obsstore.proofs.IndexLemmas.{carried, predecessor-parent, predecessor-successor, successor-parent, successor-predecessor, parent-predecessor, parent-successor}
 use Rattle.hg_obsstore.proofs.index.Index.remove.Goals as goal
 
-pub loop-node-init : goal.loop-node-init
-loop-node-init c = λ before below may. takes_none c.args.nodes.now c.args.place before (places_of c.args.self.now) may
-
-pub loop-node-preserved : goal.loop-node-preserved
-loop-node-preserved c = λ before below may.
-    takes_all c.args.nodes.now c.loop-node.node-index _ c.args.place before (places_of c.loop-node.self) (places_of c.take.new.self) (search rules) (search rules) below (c.loop-node.invariant before below may) c.take.ensures.here c.take.ensures.others
-
 pub returns : goal.returns
-returns c = record {
-  restores = λ before below may.
-      all_taken c.args.nodes.now c.args.place before (places_of c.loop-node.self)
-      (subst (λ ns. TakesFrom ns before (places_of c.loop-node.self) c.args.place c.args.nodes.now) (take_all c.loop-node.node-index c.args.nodes.now (omega arith)) (c.loop-node.invariant before below may));
-}
+returns c =
+    let m = c.args.marker.now in
+    let old = c.args.self.now in
+    let first = c.take_each.new.self in
+    let second = c.take_each-2.new.self in
+    let third = c.take_parents.new.self in
+    let others = c.take_each.ensures.others in
+    let others-2 = c.take_each-2.ensures.others in
+    let others-3 = c.take_parents.ensures.others in
+    record {
+      predecessor = carried (λ ns. TakesPlaces ns c.args.place) (c.predecessor.result ∷ []) (predecessors m) (places_of Predecessor old) (places_of Predecessor old) (places_of Predecessor first) (places_of Predecessor third)
+          (ap (λ p. p ∷ []) c.predecessor.ensures.predecessor) refl (sym (others-3 Predecessor predecessor-parent ∙ others-2 Predecessor predecessor-successor)) c.take_each.ensures.taken;
+      successor = carried (λ ns. TakesPlaces ns c.args.place) c.successors.result.now (successors m) (places_of Successor first) (places_of Successor old) (places_of Successor second) (places_of Successor third)
+          c.successors.ensures (others Successor successor-predecessor) (sym (others-3 Successor successor-parent)) c.take_each-2.ensures.taken;
+      child = carried (λ ns. TakesPlaces ns c.args.place) (listed c.parents.result) (recorded_parents m) (places_of Parent second) (places_of Parent old) (places_of Parent third) (places_of Parent third)
+          (ap listed c.parents.ensures) (others-2 Parent parent-successor ∙ others Parent parent-predecessor) refl c.take_parents.ensures.taken;
+    }

@@ -25,7 +25,7 @@ returns-in_err-is_new-clause-memory c =
     on_err_anyway c.from_residual.result _ (λ h. false≢true (sym c.in_err-is_new.ensures.absent ∙ held_back ms c.args.marker (subst (λ (xs : List Fields). Contains xs c.args.marker) (sym c.self.view_is) h)))
 
 pub add-requires : goal.add-requires
-add-requires c = subst (HaveBelow c.self.inside.indexes) (sym c.len-place.ensures.len) (all_below c.self.inside.markers.keys c.self.inside.indexes c.self.invariant.1)
+add-requires c = subst (HaveBelow c.self.inside.index) (sym c.len-place.ensures.len) (all_below c.self.inside.markers.keys c.self.inside.index c.self.invariant.1)
 
 pub invariant_of-self-in-Err : goal.invariant_of-self-in-Err
 invariant_of-self-in-Err c =
@@ -34,7 +34,7 @@ invariant_of-self-in-Err c =
     let keys : c.insert.new.self.keys ≡ ms ++ c.args.marker ∷ [] = c.in_ok-is_new.ensures.keys ∙ inserted_new ms c.args.marker (told_new (list_any (same_fields c.args.marker) ms) c.in_ok-is_new.is_new c.in_ok-is_new.ensures.added new) in
     let back : c.truncate.new.self.keys ≡ ms = cut_back ms c.insert.new.self.keys c.truncate.new.self.keys c.args.marker c.len-place.result keys c.len-place.ensures.len c.truncate.ensures.keys in (
       c.truncate.ensures.unique,
-      subst (λ (xs : List Fields). AreIndexed xs c.add.new.self) (sym back) (all_same ms c.self.inside.indexes c.add.new.self c.in-Err.ensures.err c.self.invariant.1),
+      subst (λ (xs : List Fields). AreIndexed xs c.add.new.self) (sym back) (all_same ms c.self.inside.index c.add.new.self c.in-Err.ensures.err c.self.invariant.1),
       subst (All IsMarker) (sym back) c.self.invariant.2,
     )
 
@@ -44,10 +44,10 @@ invariant_of-self-in_default c =
     let new : c.in_ok-is_new.is_new ≡ true = search rules in
     let keys : c.insert.new.self.keys ≡ ms ++ c.args.marker ∷ [] = c.in_ok-is_new.ensures.keys ∙ inserted_new ms c.args.marker (told_new (list_any (same_fields c.args.marker) ms) c.in_ok-is_new.is_new c.in_ok-is_new.ensures.added new) in
     let same : c.index-as_slice-place.result ≡ c.args.marker = read_last ms c.as_slice.result.now c.args.marker c.index-as_slice-place.result c.len-place.result (c.as_slice.ensures.keys ∙ keys) c.len-place.ensures.len c.index-as_slice-place.is in
-    let added : AddMarker c.args.marker (length ms) c.self.inside.indexes c.add.new.self =
-    subst (λ n. AddMarker c.args.marker n c.self.inside.indexes c.add.new.self) c.len-place.ensures.len
-    (subst (λ m. AddMarker m c.len-place.result c.self.inside.indexes c.add.new.self) same c.in_default.ensures.ok) in (
+    let added : AddMarker c.args.marker (length ms) c.self.inside.index c.add.new.self =
+    subst (λ n. AddMarker c.args.marker n c.self.inside.index c.add.new.self) c.len-place.ensures.len
+    (subst (λ m. AddMarker m c.len-place.result c.self.inside.index c.add.new.self) same c.in_default.ensures.ok) in (
       c.in_ok-is_new.ensures.unique,
-      subst (λ (xs : List Fields). AreIndexed xs c.add.new.self) (sym keys) (all_push ms c.args.marker c.self.inside.indexes c.add.new.self c.self.invariant.1 added),
+      subst (λ (xs : List Fields). AreIndexed xs c.add.new.self) (sym keys) (all_push ms c.args.marker c.self.inside.index c.add.new.self c.self.invariant.1 added),
       subst (All IsMarker) (sym keys) (All-push IsMarker ms c.args.marker c.self.invariant.2 (subst IsMarker same c.add.ensures.marker)),
     )
