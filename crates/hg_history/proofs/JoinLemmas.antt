@@ -5,11 +5,14 @@ use Rattle.std.proofs.lemmas.List.{take_all, length-map}
 use Rattle.std.proofs.lemmas.List.Elements.{Contains-append_right, Contains-append_cases}
 use Rattle.std.specs.Option.{option_map, option_copied}
 use Rattle.std.specs.Result.{IfErr, OnOk}
+use Rattle.std.proofs.lemmas.Map.Made.{length-le_from_is_member}
+use Rattle.std.proofs.lemmas.Map.Views.{Contains-from_any, list_any-from_Contains}
 use Rattle.std.proofs.lemmas.Option.{none-some, same_Some, slice_get-map, slice_get_within}
 use Rattle.hg_changeset.specs.declared.node.Node.{Node}
 use Rattle.hg_changeset.specs.Contents.{Contents}
 use Rattle.hg_changeset.specs.Changeset.{node_of}
 use Rattle.hg_changeset.proofs.ListLemmas.{slice_get_some, Contains-one}
+use Rattle.hg_changeset.proofs.NodeLemmas.{node_eq_laws, same_node}
 use Rattle.hg_graph.specs.Graph.{IsGraph, nodes, Holds as GraphHolds}
 use Rattle.hg_graph.specs.Graph.Reaches.{itself}
 use Rattle.hg_graph.specs.Places.{IsAt, IsOnlyAt}
@@ -162,6 +165,20 @@ pub not-below : (cs : List Contents) (ks : List Phase) (i : ℕ) (t : State) (c 
 not-below cs ks i t c k at_c at_k low below =
     let h : Held = record { changeset = c; phase = k } in
     low (below h (Contains-from_place (held_of cs ks) i h (held-at cs ks i c k at_c at_k)))
+
+-- a state that is below another holds no more changesets
+pub below-length : (cs : List Contents) (ks : List Phase) (ds : List Contents) (ls : List Phase) → IsGraph cs → length ks ≡ length cs → length ls ≡ length ds → Below (state_of cs ks) (state_of ds ls) → length cs ≤ length ds
+below-length cs ks ds ls graph len other_len below =
+    let within = length-le_from_is_member node_eq_laws (nodes cs) (nodes ds) graph.distinct (λ n is. list_any-from_Contains node_eq_laws n (nodes ds) (there n (Contains-from_any same_node n (nodes cs) is))) in
+    omega (arith, within, length-map cs node_of, length-map ds node_of)
+  where
+    there : (n : Node) → GraphHolds cs n → GraphHolds ds n
+    there = Holds-same cs ds (λ c at.
+        let place = place_from_Contains cs c at in
+        let k = slice_get_some ks place.0 (omega (arith, slice_get_within cs place.0 c place.1, len)) in
+        let g = below (record { changeset = c; phase = k.0 }) (Contains-from_place (held_of cs ks) place.0 _ (held-at cs ks place.0 c k.0 place.1 k.1)) in
+        let q = place_from_Contains (held_of ds ls) g.0 g.1 in
+        subst (Contains ds) g.2 (Contains-from_place ds q.0 g.0.changeset (parts-at ds ls q.0 g.0 q.1).0))
 
 -- the least state for the other, taken as a part, is the join
 module _ (s o t : State) (w : IsValid o) (l : IsLeast s (part_of o ∷ []) t) where

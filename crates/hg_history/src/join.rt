@@ -149,6 +149,10 @@ pub(crate) fn is_below(
     requires other_len { length (phases_at other.now other_phases.now) ≡ length other.now }
     ensures { IsTrue result ↔ Below (kept_state graph.now phases.now) (kept_state other.now other_phases.now) }
 {
+    // Who holds more isn't below: that takes no look at what is held.
+    if graph.len() > other.len() {
+        return false;
+    }
     for place in 0..graph.len() {
         if let Some(changeset) = graph.changeset_at(place) {
             if !holds_as_low(other, other_phases, changeset, phases.at(graph, place)) {

@@ -1,10 +1,12 @@
 -- Lists of markers as sets.
-use Rattle.std.proofs.Common.{◌≡◌, Bool, true, ◌||◌, List, Contains, ◌↔◌, ◌⊎◌, inl, inr, sym, ap, ◌∙◌}
+use Rattle.std.proofs.Common.{◌≡◌, ◌≤◌, Bool, true, ◌||◌, List, length, Contains, ◌↔◌, ◌⊎◌, inl, inr, sym, ap, ◌∙◌}
+use Rattle.std.proofs.lemmas.Map.Made.{length-le_from_is_member, IsDistinct-from_AllPairs}
 use Rattle.std.proofs.lemmas.Map.Views.{list_any-from_Contains, Contains-from_any}
 use Rattle.std.proofs.lemmas.Bool.{or_left, or_right, or_cases}
 use Rattle.std.specs.Cmp.{both_ways}
 use Rattle.hg_marker.specs.Fields.{Fields}
 use Rattle.hg_marker.specs.Same.{fields_decides, fields_equivalence}
+use Rattle.hg_obsstore.specs.Markers.{AreDifferent}
 use Rattle.hg_obsstore.specs.Sets.{IsWithin, IsUnion}
 use Rattle.hg_obsstore.specs.Growth.{holds}
 use Rattle.hg_replica.specs.State.{AreWithin}
@@ -20,6 +22,10 @@ within-sets ms ns = (
   λ within m h. holds-from ns m (within m (in_from_holds ms m h)),
   λ within m at. in_from_holds ns m (within m (holds-from ms m at)),
 )
+
+-- different markers, all within a list, are no more than it has
+pub within-length : (ms ns : List Fields) → AreDifferent ms → AreWithin ms ns → length ms ≤ length ns
+within-length ms ns different within = length-le_from_is_member fields_equivalence ms ns (IsDistinct-from_AllPairs fields_decides ms different) ((within-sets ms ns).0 within)
 
 -- the list has the markers of both, and no others
 pub union-sets : (ms ns us : List Fields) → ((m : Fields) → Contains us m ↔ (Contains ms m ⊎ Contains ns m)) ↔ IsUnion (holds ms) (holds ns) (holds us)

@@ -197,6 +197,11 @@ impl Replica {
         ensures valid { IsValid self.now }
         ensures other_valid { IsValid other.now }
     {
+        // Who holds more isn't below: that takes no look at what is held.
+        let markers = self.store.markers();
+        if markers.len() > other.store.len() {
+            return false;
+        }
         self.history.is_below(&other.history) && self.store.is_below(&other.store)
     }
 }

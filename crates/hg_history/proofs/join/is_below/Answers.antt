@@ -1,8 +1,16 @@
 use Rattle.std.proofs.Common.{◌<◌, ◌≤◌, length, true≢false, refl, sym, ◌∙◌, arith}
 use Rattle.hg_phases.specs.State.{state_of}
-use Rattle.hg_history.proofs.JoinLemmas.{missing, below-start, below-step, below-finish, not-below}
+use Rattle.hg_history.proofs.JoinLemmas.{missing, below-length, below-start, below-step, below-finish, not-below}
 use Rattle.hg_history.proofs.join.is_below.Goals as goal
 use Rattle.hg_history.proofs.join.is_below.Goals.{in-Some+else-not-holds_as_low, in_default}
+
+pub returns-then-len : goal.returns-then-len
+returns-then-len c = (
+  λ h. absurd (true≢false (sym h)),
+  λ below.
+      let fewer = below-length c.args.graph.now c.args.phases.now c.args.other.now c.args.other_phases.now c.len.ensures.graph c.requires.len c.requires.other_len below in
+      absurd (omega (arith, fewer, c.if-len.true, c.len.ensures.len, c.len-2.ensures.len)),
+)
 
 pub loop-place-init : goal.loop-place-init
 loop-place-init c = below-start c.args.graph.now c.args.phases.now (state_of c.args.other.now c.args.other_phases.now)
