@@ -14,7 +14,7 @@ mod successors;
 
 use discoveries::discover;
 use markers::{Shape, add_markers, list_markers, read_markers, write_markers};
-use messages::{make_offer, read_offer, take_offer, write_offer};
+use messages::{find_offer, make_offer, read_offer, send_offer, take_offer, write_offer};
 use rewrites::{amend_bottom, tell_instabilities};
 use states::{absorb_at_once, absorb_one_by_one, ask_below, join_into_empty, join_into_equal};
 use std::time::{CpuClock, Duration};
@@ -80,6 +80,8 @@ fn spent_on_exchange(
         "divergence-of-pairs" => tell_divergent(rt, size, PAIRS),
         "divergence-of-one-chain" => tell_divergent(rt, size, one_chain(size)),
         "offer" => make_offer(rt, size),
+        "find-offer" => find_offer(rt, size),
+        "send-offer" => send_offer(rt, size),
         "write-offer" => write_offer(rt, size),
         "read-offer" => read_offer(rt, size),
         "take-offer" => take_offer(rt, size),

@@ -3,7 +3,7 @@
 use crate::chain::{chain_on, replica_of};
 use crate::markers::{marker, node};
 use hg_changeset::Node;
-use hg_message::{Message, offer};
+use hg_message::{Message, Outgoing, offer};
 use hg_replica::{Part, Replica};
 use std::alloc::{AllocError, Global};
 use std::io;
@@ -15,6 +15,24 @@ pub fn make_offer(rt: &(impl CpuClock + AllocGlobal), size: usize) -> io::Result
     let replica = marked(alloc, size)?;
     let before = rt.thread_cpu_time()?;
     let _offered = offer(alloc, &replica, &[]);
+    Ok(rt.thread_cpu_time()?.saturating_sub(before))
+}
+
+/// The same, found alone.
+pub fn find_offer(rt: &(impl CpuClock + AllocGlobal), size: usize) -> io::Result<Duration> {
+    let alloc = rt.alloc();
+    let replica = marked(alloc, size)?;
+    let before = rt.thread_cpu_time()?;
+    let _found = Outgoing::above(alloc, &replica, &[]);
+    Ok(rt.thread_cpu_time()?.saturating_sub(before))
+}
+
+/// The same, found and written straight from the replica.
+pub fn send_offer(rt: &(impl CpuClock + AllocGlobal), size: usize) -> io::Result<Duration> {
+    let alloc = rt.alloc();
+    let replica = marked(alloc, size)?;
+    let before = rt.thread_cpu_time()?;
+    let _written = bytes_of(alloc, &replica);
     Ok(rt.thread_cpu_time()?.saturating_sub(before))
 }
 
@@ -36,7 +54,7 @@ fn time_writing(rt: &impl CpuClock, message: &Message) -> io::Result<Duration> {
 /// An offer, read from its bytes.
 pub fn read_offer(rt: &(impl CpuClock + AllocGlobal), size: usize) -> io::Result<Duration> {
     let alloc = rt.alloc();
-    let bytes = offered(alloc, size)?;
+    let bytes = bytes_of(alloc, &marked(alloc, size)?)?;
     let before = rt.thread_cpu_time()?;
     let _read = Message::from_bytes(alloc, &bytes);
     Ok(rt.thread_cpu_time()?.saturating_sub(before))
@@ -45,7 +63,7 @@ pub fn read_offer(rt: &(impl CpuClock + AllocGlobal), size: usize) -> io::Result
 /// An offer, taken in by an empty replica.
 pub fn take_offer(rt: &(impl CpuClock + AllocGlobal), size: usize) -> io::Result<Duration> {
     let alloc = rt.alloc();
-    let bytes = offered(alloc, size)?;
+    let bytes = bytes_of(alloc, &marked(alloc, size)?)?;
     match Message::from_bytes(alloc, &bytes) {
         Ok(message) => time_taking(rt, &message.into_part()?, &mut Replica::new(alloc)),
         Err(_) => Ok(Duration::ZERO),
@@ -58,9 +76,10 @@ fn time_taking(rt: &impl CpuClock, part: &Part, replica: &mut Replica) -> io::Re
     Ok(rt.thread_cpu_time()?.saturating_sub(before))
 }
 
-fn offered(alloc: Global, size: usize) -> Result<Vec<u8>, AllocError> {
-    match offer(alloc, &marked(alloc, size)?, &[]) {
-        Ok(message) => message.to_bytes(),
+// All that a replica offers, written.
+fn bytes_of(alloc: Global, replica: &Replica) -> Result<Vec<u8>, AllocError> {
+    match Outgoing::above(alloc, replica, &[]) {
+        Ok(found) => found.to_bytes().map_err(|_| AllocError),
         Err(_) => Err(AllocError),
     }
 }
