@@ -1,22 +1,27 @@
 -- Names of a script after one of them is bound, and after several are.
-use Rattle.std.proofs.Common.{◌≡◌, ℕ, List, [], ◌∷◌, Bool, true, false, cond, ◌+◌, ◌<◌, ◌++◌, ◌⊎◌, length, map, take, get_or, Option, Some, None, is_some, refl, sym, ap, subst, ◌∙◌, arith}
+use Rattle.std.proofs.Common.{◌≡◌, ◌↔◌, IsTrue, Ordering, nat_eq, ℕ, List, [], ◌∷◌, Bool, true, false, cond, ◌+◌, ◌<◌, ◌++◌, ◌⊎◌, length, map, take, get_or, Option, Some, None, is_some, refl, sym, ap, subst, ◌∙◌, arith}
 use Rattle.std.specs.declared.vec.Vec.{Vec}
 use Rattle.std.specs.declared.alloc.Global.{Global}
 use Rattle.std.specs.BTreeMap.{BTreeMap, UpdatesBy}
+use Rattle.std.specs.BTreeSet.{BTreeSet, IsFromIterResult, btree_set_len}
+use Rattle.std.specs.Cmp.{IsTotalOrder, on_total}
 use Rattle.std.specs.Cmp.Lexicographic.{slice_cmp}
+use Rattle.std.specs.List.{IsDistinct}
 use Rattle.std.specs.Map.{KeepsOthers, update}
 use Rattle.std.specs.Ordering.{is_eq, nat_cmp, eq_by_cmp}
 use Rattle.std.specs.Str.{bytes_eq}
-use Rattle.std.proofs.lemmas.Bool.{cases_Bool, cond-true, cond-false}
+use Rattle.std.proofs.lemmas.Bool.{cases_Bool, cond-true, cond-false, eqb-true, eq-eqb}
 use Rattle.std.proofs.lemmas.Cmp.{eq_by_cmp_equiv, nat_list_cmp_total}
+use Rattle.std.proofs.lemmas.Map.Made.{IsDistinct-from_count, distinct_count-from_IsDistinct}
 use Rattle.std.proofs.lemmas.Map.Text.{is_eq-slice_cmp}
+use Rattle.std.proofs.lemmas.Map.Views.{btree_set_len-from_list}
 use Rattle.std.proofs.lemmas.Slice.Eq.{bytes_eq-Decides}
 use Rattle.std.proofs.lemmas.List.{take_more, map-append}
 use denote.Bor.{Bor}
 use mathlib.Core.Logic.{⊎_elim}
 use Rattle.hg_changeset.specs.declared.node.Node.{Node}
 use Rattle.hg_script.specs.Events.{AreIds}
-use Rattle.hg_script.specs.Names.{value_of, Binds}
+use Rattle.hg_script.specs.Names.{AreDistinct, value_of, Binds}
 use Rattle.hg_script.specs.Scripts.{bound_to}
 
 -- a name that isn't bs is equal to no key that bs is equal to
@@ -82,3 +87,31 @@ ids_more ids labels i d nodes new n l so_far here e =
 pub unbound : {V : Type 0} (o : Option V) → is_some o ≡ false → o ≡ None
 unbound None h = refl
 unbound (Some v) h = cc
+
+-- ---- names of a line that are all different
+
+abbrev by_text : Bor (List ℕ) → Bor (List ℕ) → Ordering
+by_text v w = slice_cmp nat_cmp v.now w.now
+
+by_text_total : IsTotalOrder by_text
+by_text_total = on_total (λ (w : Bor (List ℕ)). w.now) nat_list_cmp_total
+
+-- the order calls names equal where their texts are
+same_texts : eq_by_cmp by_text ≡ (λ v w. bytes_eq v.now w.now)
+same_texts = λ i v w. is_eq-slice_cmp v.now w.now i
+
+-- fewer than two names are distinct
+pub few_are_distinct : (names : List (Bor (List ℕ))) → length names < 2 → IsTrue true ↔ AreDistinct names
+unfolding IsDistinct
+few_are_distinct [] l = (λ t. tt, λ d. refl)
+few_are_distinct (v ∷ []) l = (λ t. (tt, tt), λ d. refl)
+few_are_distinct (v ∷ w ∷ names) l = absurd (omega arith)
+
+-- names are distinct exactly if a set of them has as many
+pub distinct_by_count : (names all : List (Bor (List ℕ))) (n : ℕ) (set : BTreeSet (Bor (List ℕ))) → all ≡ names → IsFromIterResult by_text all set → n ≡ btree_set_len set → IsTrue (nat_eq n (length names)) ↔ AreDistinct names
+distinct_by_count names all n set same made e =
+    let count = e ∙ btree_set_len-from_list by_text_total names set (subst (λ (xs : List (Bor (List ℕ))). IsFromIterResult by_text xs set) same made) in
+    let laws = eq_by_cmp_equiv by_text_total in (
+      λ t. subst (λ (eq : Bor (List ℕ) → Bor (List ℕ) → Bool). IsDistinct eq names) same_texts (IsDistinct-from_count laws names (sym count ∙ eqb-true _ _ t)),
+      λ d. eq-eqb _ _ (count ∙ distinct_count-from_IsDistinct laws names (subst (λ (eq : Bor (List ℕ) → Bor (List ℕ) → Bool). IsDistinct eq names) (sym same_texts) d)),
+    )

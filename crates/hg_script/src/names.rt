@@ -1,6 +1,6 @@
 //! Names of a script, and what each stands for.
-ghost use Rattle.std.specs.Prelude.{◌≡◌, OnOk};
-ghost use Rattle.hg_script.specs.Names.{value_of, Binds};
+ghost use Rattle.std.specs.Prelude.{◌≡◌, ◌↔◌, IfOk, IsTrue, OnOk};
+ghost use Rattle.hg_script.specs.Names.{AreDistinct, value_of, Binds};
 
 use std::alloc::{AllocError, Global};
 use std::collections::{BTreeMap, BTreeSet};
@@ -27,7 +27,9 @@ pub fn bind<V: Drop>(
 }
 
 /// Whether no name comes twice. One name or none takes no memory.
-pub fn are_distinct(alloc: Global, names: &[&[u8]]) -> Result<bool, AllocError> {
+pub fn are_distinct(alloc: Global, names: &[&[u8]]) -> Result<bool, AllocError>
+    ensures { IfOk result (λ answer. IsTrue answer ↔ AreDistinct names.now) }
+{
     if names.len() < 2 {
         return Ok(true);
     }
