@@ -69,6 +69,23 @@ def splits(size):
         yield f"split A {label(number)} {label(size + 2 * number)} {label(size + 2 * number + 1)}"
 
 
+def wide_splits(size):
+    """One node and commits without parents, each split into 255, which is the most."""
+    yield "node A"
+    for number in range(0, 256 * size, 256):
+        yield f"commit A {label(number)} draft"
+        yield f"split A {label(number)} " + " ".join(label(number + place) for place in range(1, 256))
+
+
+def splits_into_too_many(size):
+    """One node and splits into as many new labels as a line can hold, each refused."""
+    yield "node A"
+    yield f"commit A {label(0)} draft"
+    new = " ".join(first + second for first in NAME_BYTES for second in NAME_BYTES)[:4_080]
+    for _ in range(size):
+        yield f"split A {label(0)} {new}"
+
+
 def folds(size):
     """One node and pairs of commits, each pair folded into one."""
     yield "node A"
@@ -130,6 +147,14 @@ def orphans_with_report(size):
     yield from chain(size)
     yield f"amend A {label(0)} {label(size)}"
     yield "report A"
+
+
+def chain_with_empty_reports(size):
+    """One node and a chain of commits, and a thousand reports of another that holds nothing."""
+    yield from chain(size)
+    yield "node B"
+    for _ in range(1_000):
+        yield "report B"
 
 
 # ---- refusals: so many of one kind, at a replica of the size
@@ -280,6 +305,8 @@ CASES = [
     ("amends of one tip", amends, SIZES, lambda size: 0),
     ("amends of the bottom of a stack", amends_below_a_stack, SMALL, lambda size: 0),
     ("splits", splits, SMALL, lambda size: 0),
+    ("splits into 255", wide_splits, (240, 480, 960), lambda size: 0),
+    ("splits into 1,360, all refused", splits_into_too_many, (64, 128, 256), lambda size: size),
     ("folds", folds, SMALL, lambda size: 0),
     ("prunes from the tip on", prunes, SMALL, lambda size: 0),
     ("old roots relocated onto the newest", relocations, SMALL, lambda size: 0),
@@ -287,6 +314,7 @@ CASES = [
     ("a chain published one by one", published, SMALL, lambda size: 0),
     ("commits on an obsolete parent", commits_on_an_obsolete_parent, SIZES, lambda size: 0),
     ("commits in a chain, and a report", chain_with_report, SIZES, lambda size: size + 2),
+    ("commits in a chain, and 1,000 reports of an empty node", chain_with_empty_reports, SIZES, lambda size: 2_000),
     ("a stack on an amended changeset, and a report", orphans_with_report, SIZES, lambda size: size + 3),
 ]
 for _kind, (_before, _line) in REFUSED.items():
