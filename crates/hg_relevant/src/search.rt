@@ -1,18 +1,16 @@
 //! A search along chains of markers.
 //!
-//! The ids whose markers are wanted are numbered in a set that is its own queue: first the changesets, and then the
-//! predecessor of each marker that is found. Each id is looked up once, and each marker is found once.
-ghost use Rattle.std.specs.Prelude.{◌≡◌, ◌<◌, ◌↔◌, ℕ, length, replicate, false, Contains, IfOk, OnOk};
-ghost use Rattle.hg_changeset.specs.declared.node.Node.{Node};
+//! Each marker that is found is put into a queue once. The markers that touch one of the nodes are found first, and then
+//! those that touch the predecessor of each marker in the queue, once for all the markers of one predecessor.
+ghost use Rattle.std.specs.Prelude.{◌≡◌, ◌<◌, ◌↔◌, ◌⊎◌, ℕ, [], length, replicate, false, Contains, IfOk, OnOk};
 ghost use Rattle.hg_obsstore.specs.Markers.{IsAt, ArePlaces};
 ghost use Rattle.hg_obsstore.specs.Places.{ListsAll};
-ghost use Rattle.hg_relevant.specs.Relevant.{IsPrune, IsRelevant, Touches};
-ghost use Rattle.hg_relevant.specs.Search.{Finds, IsMarked};
+ghost use Rattle.hg_relevant.specs.Relevant.{IsPrune, IsRelevant};
+ghost use Rattle.hg_relevant.specs.Search.{Expands, Finds, IsMarked, IsSearched, Settles};
 
 use hg_changeset::Node;
 use hg_marker::Marker;
 use hg_obsstore::Store;
-use indexmap::IndexSet;
 use std::alloc::{AllocError, Global};
 
 /// The places of the markers that are relevant to the nodes, ascending.
@@ -21,59 +19,107 @@ use std::alloc::{AllocError, Global};
 /// the parents that it records. What is relevant to the predecessor of a relevant marker is relevant too: so the whole
 /// line of rewrites that led to the nodes is told, and what was pruned from them.
 ///
-/// It costs what the nodes, the markers and their successors are together, however the markers hang together.
+/// It costs what the nodes, the markers and their successors are together, however the markers hang together: one look-up
+/// for each node and for each predecessor. A node that is given twice is looked up twice.
 pub fn relevant(alloc: Global, store: &Store, nodes: &[Node]) -> Result<Vec<usize>, AllocError>
     ensures { IfOk result (λ places. ArePlaces (IsRelevant (Contains store.now) (Contains nodes.now)) store.now places.items) }
 {
-    let mut search = Search::new(alloc, store.len(), nodes)?;
+    let mut search = Search::of_nodes(alloc, store, nodes)?;
     let mut next = 0;
-    while next < search.wanted.len() {
-        let node = search.wanted.as_slice()[next];
-        search.find_touching(store, node)?;
+    while next < search.queue.len() {
+        let place = search.queue[next];
+        search.expand_predecessor(store, place)?;
         next += 1;
     }
     marked_places(alloc, &search.found)
 }
 
-/// The ids whose markers are wanted, in the order in which they are looked up, and for each place whether its marker was
-/// found.
+/// For each place whether its marker was found, and whether what touches its predecessor was, and the places that were
+/// found, in the order in which they were.
 #[derive(Drop)]
 struct Search {
-    wanted: IndexSet<Node>,
     found: Vec<bool>,
+    settled: Vec<bool>,
+    queue: Vec<usize>,
 }
 
 impl Search {
-    // Nothing is found yet, and the nodes are wanted.
-    fn new(alloc: Global, places: usize, nodes: &[Node]) -> Result<Search, AllocError>
-        ensures wanted { IfOk result (λ s. (n : Node) → Contains s.wanted.keys n ↔ Contains nodes.now n) }
-        ensures found { IfOk result (λ s. s.found.items ≡ replicate places false) }
+    // What touches one of the nodes is found.
+    fn of_nodes(alloc: Global, store: &Store, nodes: &[Node]) -> Result<Search, AllocError>
+        ensures { IfOk result (λ s. IsSearched store.now nodes.now nodes.now s 0) }
     {
-        let wanted = set_of(alloc, nodes)?;
-        let found = vec![in alloc; false; places]?;
-        Ok(Search { wanted, found })
+        let mut search = Search::new(alloc, store.len())?;
+        for node in nodes {
+            search.expand(store, *node)?;
+        }
+        Ok(search)
     }
 
-    // Finds the markers that touch the node.
-    fn find_touching(&mut self, store: &Store, node: Node) -> Result<(), AllocError>
-        requires { length self.old.found.items ≡ length store.now }
-        ensures { OnOk result (Finds store.now (IsAt (Touches node) store.now) self.old self.new) }
+    // Nothing is found yet.
+    fn new(alloc: Global, places: usize) -> Result<Search, AllocError>
+        ensures found { IfOk result (λ s. s.found.items ≡ replicate places false) }
+        ensures settled { IfOk result (λ s. s.settled.items ≡ replicate places false) }
+        ensures queue { IfOk result (λ s. s.queue.items ≡ []) }
     {
-        let markers = store.markers();
-        self.find_all(markers, store.with_successor(node))?;
-        self.find_prunes(markers, store.with_predecessor(node))?;
-        self.find_prunes(markers, store.with_child(node))?;
+        let found = vec![in alloc; false; places]?;
+        let settled = vec![in alloc; false; places]?;
+        Ok(Search {
+            found,
+            settled,
+            queue: Vec::new(alloc),
+        })
+    }
+
+    // Finds the markers that touch the predecessor of the marker at the place, unless they were found.
+    fn expand_predecessor(&mut self, store: &Store, place: usize) -> Result<(), AllocError>
+        requires found { length self.old.found.items ≡ length store.now }
+        requires settled { length self.old.settled.items ≡ length store.now }
+        requires within { place < length store.now }
+        ensures { OnOk result (Settles store.now place self.old self.new) }
+    {
+        if self.settled[place] {
+            return Ok(());
+        }
+        let node = store.markers()[place].predecessor();
+        self.expand(store, node)?;
         Ok(())
     }
 
-    // Finds the markers at the places.
-    fn find_all(&mut self, markers: &[Marker], places: &[usize]) -> Result<(), AllocError>
-        requires marks { length self.old.found.items ≡ length markers.now }
-        requires within { (i : ℕ) → Contains places.now i → i < length markers.now }
-        ensures { OnOk result (Finds markers.now (Contains places.now) self.old self.new) }
+    // Finds the markers that touch the node.
+    fn expand(&mut self, store: &Store, node: Node) -> Result<(), AllocError>
+        requires found { length self.old.found.items ≡ length store.now }
+        requires settled { length self.old.settled.items ≡ length store.now }
+        ensures { OnOk result (Expands store.now node self.old self.new) }
+    {
+        let markers = store.markers();
+        let mentions = store.mentions(node);
+        self.find_all(mentions.as_successor)?;
+        self.find_prunes(markers, mentions.as_predecessor)?;
+        self.find_prunes(markers, mentions.as_parent)?;
+        self.settle(mentions.as_predecessor);
+        Ok(())
+    }
+
+    // What touches the predecessor of the markers at the places was found.
+    fn settle(&mut self, places: &[usize])
+        requires within { (i : ℕ) → Contains places.now i → i < length self.old.settled.items }
+        ensures settled { (i : ℕ) → IsMarked self.new.settled.items i ↔ (IsMarked self.old.settled.items i ⊎ Contains places.now i) }
+        ensures marks { length self.new.settled.items ≡ length self.old.settled.items }
+        ensures found { self.new.found.items ≡ self.old.found.items }
+        ensures queue { self.new.queue.items ≡ self.old.queue.items }
     {
         for place in places {
-            self.find(markers, *place)?;
+            self.settled[*place] = true;
+        }
+    }
+
+    // Finds the markers at the places.
+    fn find_all(&mut self, places: &[usize]) -> Result<(), AllocError>
+        requires { (i : ℕ) → Contains places.now i → i < length self.old.found.items }
+        ensures { OnOk result (Finds (Contains places.now) self.old self.new) }
+    {
+        for place in places {
+            self.find(*place)?;
         }
         Ok(())
     }
@@ -82,7 +128,7 @@ impl Search {
     fn find_prunes(&mut self, markers: &[Marker], places: &[usize]) -> Result<(), AllocError>
         requires marks { length self.old.found.items ≡ length markers.now }
         requires within { (i : ℕ) → Contains places.now i → i < length markers.now }
-        ensures { OnOk result (Finds markers.now (λ i. Contains places.now i × IsAt IsPrune markers.now i) self.old self.new) }
+        ensures { OnOk result (Finds (λ i. Contains places.now i × IsAt IsPrune markers.now i) self.old self.new) }
     {
         for place in places {
             self.find_prune(markers, *place)?;
@@ -94,37 +140,25 @@ impl Search {
     fn find_prune(&mut self, markers: &[Marker], place: usize) -> Result<(), AllocError>
         requires marks { length self.old.found.items ≡ length markers.now }
         requires within { place < length markers.now }
-        ensures { OnOk result (Finds markers.now (λ i. (place ≡ i) × IsAt IsPrune markers.now i) self.old self.new) }
+        ensures { OnOk result (Finds (λ i. (place ≡ i) × IsAt IsPrune markers.now i) self.old self.new) }
     {
         if markers[place].successors().is_empty() {
-            self.find(markers, place)?;
+            self.find(place)?;
         }
         Ok(())
     }
 
-    // Finds the marker at the place, and then what touches its predecessor is wanted as well.
-    fn find(&mut self, markers: &[Marker], place: usize) -> Result<(), AllocError>
-        requires marks { length self.old.found.items ≡ length markers.now }
-        requires within { place < length markers.now }
-        ensures { OnOk result (Finds markers.now (λ i. place ≡ i) self.old self.new) }
+    // Finds the marker at the place.
+    fn find(&mut self, place: usize) -> Result<(), AllocError>
+        requires { place < length self.old.found.items }
+        ensures { OnOk result (Finds (λ i. place ≡ i) self.old self.new) }
     {
         if !self.found[place] {
-            self.wanted.insert(markers[place].predecessor())?;
+            self.queue.push(place)?;
             self.found[place] = true;
         }
         Ok(())
     }
-}
-
-// The set of the nodes.
-fn set_of(alloc: Global, nodes: &[Node]) -> Result<IndexSet<Node>, AllocError>
-    ensures { IfOk result (λ set. (n : Node) → Contains set.keys n ↔ Contains nodes.now n) }
-{
-    let mut set = IndexSet::with_capacity(alloc, nodes.len())?;
-    for node in nodes {
-        set.insert(*node)?;
-    }
-    Ok(set)
 }
 
 // The places that are marked, ascending.

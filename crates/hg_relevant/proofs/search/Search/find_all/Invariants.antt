@@ -3,4 +3,4 @@ use Rattle.hg_relevant.specs.Search.{Finds}
 use Rattle.hg_relevant.proofs.search.Search.find_all.Given as goal
 
 abbrev pub invariant-loop-place : goal.invariant-loop-place
-invariant-loop-place l = Finds l.markers (Contains (take l.place-index l.places)) l.fn.self l.self
+invariant-loop-place l = Finds (Contains (take l.place-index l.places)) l.fn.self l.self

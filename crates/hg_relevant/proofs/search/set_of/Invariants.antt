@@ -1,6 +1,0 @@
-use Rattle.std.proofs.Common.{◌↔◌, take, Contains}
-use Rattle.hg_changeset.specs.declared.node.Node.{Node}
-use Rattle.hg_relevant.proofs.search.set_of.Given as goal
-
-abbrev pub invariant-loop-node : goal.invariant-loop-node
-invariant-loop-node l = (n : Node) → Contains l.set.keys n ↔ Contains (take l.node-index l.nodes) n
