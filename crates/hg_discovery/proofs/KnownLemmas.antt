@@ -1,10 +1,15 @@
 -- The other side's answers, one more at a time.
-use Rattle.std.proofs.Common.{◌↔◌, ℕ, ◌+◌, ◌<◌, inl, inr, Bool, List, [], ◌∷◌, ◌++◌, length, length-append, take, get_or, IsTrue, refl, sym, subst, arith}
+use Rattle.std.proofs.Common.{◌↔◌, ℕ, ◌+◌, ◌<◌, inl, inr, Bool, List, [], ◌∷◌, ◌++◌, length, length-append, take, get_or, IsTrue, refl, sym, subst, arith, ◌≡◌}
 use Rattle.std.proofs.lemmas.List.{take_more}
 use Rattle.std.proofs.lemmas.Option.{none-some, slice_get_within}
 use Rattle.hg_changeset.specs.declared.node.Node.{Node}
 use Rattle.hg_changeset.proofs.ListLemmas.{slice_get-push_cases}
 use Rattle.hg_discovery.specs.Rounds.{AreAnswers}
+use Rattle.hg_graph.specs.Marks.{IsMarkedNode}
+use Rattle.hg_phases.specs.State.{changesets}
+use Rattle.hg_replica.specs.State.{ReplicaState}
+use Rattle.hg_replica.specs.Content.{content_of}
+use Rattle.hg_replica.specs.Evolution.{IsServed}
 
 pub known_none : (P : Node → Type 0) → AreAnswers P [] []
 known_none P = (refl, λ i n b at at_b. absurd (none-some n at))
@@ -25,3 +30,8 @@ known_more P ns answers i d b lt told before =
         ]
       ],
     )
+
+-- marks that are the same mark what is served
+pub served_as : (s : ReplicaState) (marks same : List Bool) → same ≡ marks → ((n : Node) → IsMarkedNode (changesets s.history) marks n ↔ IsServed (content_of s) n)
+    → (n : Node) → IsMarkedNode (changesets s.history) same n ↔ IsServed (content_of s) n
+served_as s marks same e h = subst (λ (ms : List Bool). (n : Node) → IsMarkedNode (changesets s.history) ms n ↔ IsServed (content_of s) n) (sym e) h

@@ -1,6 +1,9 @@
 //! The other side's answers.
-ghost use Rattle.std.specs.Prelude.{IfOk};
+ghost use Rattle.std.specs.Prelude.{◌≡◌, ◌↔◌, IfOk, length};
+ghost use Rattle.hg_graph.specs.Marks.{IsMarkedNode};
+ghost use Rattle.hg_phases.specs.State.{changesets};
 ghost use Rattle.hg_replica.specs.Content.{content_of};
+ghost use Rattle.hg_replica.specs.Evolution.{IsServed};
 ghost use Rattle.hg_discovery.specs.Rounds.{AreKnown};
 
 use hg_changeset::Node;
@@ -15,10 +18,24 @@ pub fn known(alloc: Global, replica: &Replica, nodes: &[Node]) -> Result<Vec<boo
     ensures { IfOk result (λ answers. AreKnown (content_of replica.now) nodes.now answers.items) }
 {
     let served = served_marks(alloc, replica)?;
+    known_by(alloc, replica, &served, nodes)
+}
+
+/// [`known`] of a replica whose served changesets are marked already: it costs one look-up for each node.
+pub(crate) fn known_by(
+    alloc: Global,
+    replica: &Replica,
+    served: &[bool],
+    nodes: &[Node],
+) -> Result<Vec<bool>, AllocError>
+    requires len { length served.now ≡ length (changesets replica.now.history) }
+    requires exact { (n : Node) → IsMarkedNode (changesets replica.now.history) served.now n ↔ IsServed (content_of replica.now) n }
+    ensures { IfOk result (λ answers. AreKnown (content_of replica.now) nodes.now answers.items) }
+{
     let graph = replica.graph();
     let mut answers = Vec::with_capacity(alloc, nodes.len())?;
     for node in nodes {
-        answers.push(graph.is_marked(&served, *node))?;
+        answers.push(graph.is_marked(served, *node))?;
     }
     Ok(answers)
 }
