@@ -55,7 +55,7 @@ fn time_writing(rt: &impl CpuClock, store: &Store) -> io::Result<Duration> {
     Ok(rt.thread_cpu_time()?.saturating_sub(before))
 }
 
-/// A store of this size, read from its bytes, with its indexes.
+/// A store of this size, read from its bytes, with its index.
 pub fn read_markers(rt: &(impl CpuClock + AllocGlobal), size: usize) -> io::Result<Duration> {
     let bytes = written(rt.alloc(), size)?;
     time_reading(rt, rt.alloc(), &bytes)
