@@ -12,7 +12,7 @@ ghost use Rattle.hg_obsstore.specs.Markers.{AreDifferent, ArePlaces};
 ghost use Rattle.hg_obsstore.specs.Growth.{AddAnswer, AreNewPlaces, StartsWith, holds, new_among, united, with_marker};
 ghost use Rattle.hg_obsstore.specs.Sets.{IsUnion};
 
-use crate::index::{Index, Mentions};
+use crate::index::{Hint, Index, Mentions};
 use hg_changeset::Node;
 use hg_join::NoMemory;
 use hg_marker::Marker;
@@ -148,7 +148,22 @@ impl Store {
         ensures successor { ArePlaces (λ m. Contains m.successors node) self.now result.as_successor.now }
         ensures parent { ArePlaces (λ m. Contains (recorded_parents m) node) self.now result.as_parent.now }
     {
-        self.index.mentions(node)
+        self.mentions_near(node, Hint::NOWHERE)
+    }
+
+    /// The same as [`mentions`](Store::mentions), whatever the hint is. It takes no look-up by a hash where the hint came with
+    /// the mentions of this node.
+    pub fn mentions_near(&self, node: Node, hint: Hint) -> Mentions<'_>
+        ensures predecessor { ArePlaces (λ m. m.predecessor ≡ node) self.now result.as_predecessor.now }
+        ensures successor { ArePlaces (λ m. Contains m.successors node) self.now result.as_successor.now }
+        ensures parent { ArePlaces (λ m. Contains (recorded_parents m) node) self.now result.as_parent.now }
+    {
+        self.index.mentions_near(node, hint)
+    }
+
+    /// A hint that is of the predecessor of the marker at a place.
+    pub fn predecessor_hint(&self, place: usize) -> Hint {
+        self.index.predecessor_hint(place)
     }
 
     /// The places of the markers with this predecessor, ascending.
