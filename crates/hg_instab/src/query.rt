@@ -9,7 +9,7 @@ ghost use Rattle.hg_replica.specs.Evolution.{HasPhase, IsMutable, IsPredecessor,
 
 use hg_changeset::Node;
 use hg_phases::Phase;
-use hg_replica::Replica;
+use hg_replica::{Hint, Replica};
 
 /// Whether a changeset is held with this phase.
 pub fn has_phase(replica: &Replica, node: Node, phase: Phase) -> bool
@@ -46,12 +46,16 @@ fn is_same(its: Phase, phase: Phase) -> bool
     its == phase
 }
 
-/// Whether the changeset at a place of the graph is obsolete. A public one takes no look-up, and any other one.
+/// Whether the changeset at a place of the graph is obsolete. It takes no look-up by a hash, unless it isn't public and no
+/// marker names it.
 pub fn is_obsolete_at(replica: &Replica, place: usize) -> bool
     ensures { (n : Node) → IsAt (changesets replica.now.history) n place → (IsTrue result ↔ IsObsolete (content_of replica.now) n) }
 {
     match replica.graph().node_at(place) {
-        Some(node) => !has_phase_at(replica, place, Phase::Public) && is_predecessor(replica, node),
+        Some(node) => {
+            !has_phase_at(replica, place, Phase::Public)
+                && is_predecessor_near(replica, node, replica.hint_at(place))
+        }
         None => false,
     }
 }
@@ -77,7 +81,15 @@ fn is_mutable(replica: &Replica, node: Node) -> bool
 fn is_predecessor(replica: &Replica, node: Node) -> bool
     ensures { IsTrue result ↔ IsPredecessor (content_of replica.now) node }
 {
-    !replica.store().with_predecessor(node).is_empty()
+    is_predecessor_near(replica, node, Hint::NOWHERE)
+}
+
+// The same, and sooner where the hint is of this node.
+fn is_predecessor_near(replica: &Replica, node: Node, hint: Hint) -> bool
+    ensures { IsTrue result ↔ IsPredecessor (content_of replica.now) node }
+{
+    let mentions = replica.store().mentions_near(node, hint);
+    !mentions.as_predecessor.is_empty()
 }
 
 // Its phase, where it is held. The replica always answers, so no error is passed over.

@@ -3,4 +3,4 @@
 
 mod search;
 
-pub use search::relevant;
+pub use search::{relevant, relevant_near};

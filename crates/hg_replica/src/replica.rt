@@ -10,12 +10,13 @@ ghost use Rattle.hg_replica.specs.State.{IsValid, Below};
 ghost use Rattle.hg_replica.specs.Least.{part_of};
 ghost use Rattle.hg_replica.specs.Answer.{AbsorbAnswer, KeepAnswer, IsGrowthBeforeFault, JoinAnswer, OpenAnswer};
 
+use crate::hints::{note_hints, note_new};
 use crate::part::{Change, Part};
 use hg_changeset::{Changeset, Node};
 use hg_graph::Graph;
 use hg_history::{Fault, History};
 use hg_join::NoMemory;
-use hg_obsstore::Store;
+use hg_obsstore::{Hint, Store};
 use hg_phases::{Phase, Roots};
 use std::alloc::{AllocError, Global};
 use std::marker::Model;
@@ -25,6 +26,8 @@ use std::marker::Model;
 pub struct Replica {
     history: History,
     store: Store,
+    // For each place of the graph, where the store finds what names the changeset there, as far as it was noted.
+    hints: Vec<Hint>,
 }
 
 // Whoever owns a replica calls this once, and is proved without a look at each collection in it.
@@ -33,6 +36,7 @@ impl Drop for Replica {
         let Replica {
             history: _,
             store: _,
+            hints: _,
         } = self;
     }
 }
@@ -59,6 +63,7 @@ impl Replica {
         Replica {
             history: History::new(alloc),
             store: Store::new(alloc),
+            hints: Vec::new(alloc),
         }
     }
 
@@ -72,7 +77,15 @@ impl Replica {
         ensures valid { IfOk result IsValid }
     {
         match History::open(roots.allocator(), changesets, roots) {
-            Ok(history) => Ok(Replica { history, store }),
+            Ok(history) => {
+                let mut hints = Vec::new(roots.allocator());
+                note_new(&mut hints, history.graph(), &store);
+                Ok(Replica {
+                    history,
+                    store,
+                    hints,
+                })
+            }
             Err(fault) => Err(fault),
         }
     }
@@ -92,7 +105,12 @@ impl Replica {
     {
         let history = self.history.copy()?;
         let store = self.store.copy()?;
-        Ok(Replica { history, store })
+        let hints = self.hints.clone()?;
+        Ok(Replica {
+            history,
+            store,
+            hints,
+        })
     }
 
     /// The graph of its changesets.
@@ -108,6 +126,14 @@ impl Replica {
         ensures { result.now ≡ self.now.markers }
     {
         &self.store
+    }
+
+    /// A hint of the store's that is of the changeset at a place of the graph, where there is one.
+    pub fn hint_at(&self, place: usize) -> Hint {
+        match self.hints.get(place) {
+            Some(hint) => *hint,
+            None => Hint::NOWHERE,
+        }
     }
 
     /// The phase of the changeset with this id, if it is held.
@@ -142,7 +168,9 @@ impl Replica {
             Err(NoMemory) => return Err(Fault::NoMemory),
         };
         let absorbed = self.history.absorb(&part.changesets, &part.bounds);
-        keep_or_forget(&mut self.store, before, markers, absorbed)
+        let answer = keep_or_forget(&mut self.store, before, markers, absorbed);
+        note_hints(&mut self.hints, self.history.graph(), &self.store, before);
+        answer
     }
 
     /// Takes in a part as [`absorb`](Replica::absorb) does, but moves the changesets and the markers that aren't held in place
@@ -164,7 +192,9 @@ impl Replica {
             Err(NoMemory) => return Err(Fault::NoMemory),
         };
         let absorbed = self.history.absorb_owned(changesets, &bounds);
-        keep_or_forget(&mut self.store, before, markers, absorbed)
+        let answer = keep_or_forget(&mut self.store, before, markers, absorbed);
+        note_hints(&mut self.hints, self.history.graph(), &self.store, before);
+        answer
     }
 
     /// Takes in all that another replica holds: the replica goes to the least state above both, the union of the
@@ -183,7 +213,10 @@ impl Replica {
             Err(NoMemory) => return Err(Fault::NoMemory),
         }
         match self.history.join(&other.history) {
-            Ok(()) => Ok(()),
+            Ok(()) => {
+                note_hints(&mut self.hints, self.history.graph(), &self.store, before);
+                Ok(())
+            }
             Err(fault) => {
                 self.store.truncate(before);
                 Err(fault)

@@ -5,9 +5,9 @@ use Rattle.hg_replica.specs.Least.{PartValue}
 use Rattle.hg_replica.specs.Answer.{AbsorbAnswer, IsGrowthBeforeFault}
 use Rattle.hg_replica.proofs.ReplicaLemmas.{kept_answer, kept_growth}
 use Rattle.hg_replica.proofs.replica.Replica.absorb.Goals as goal
-use Rattle.hg_replica.proofs.replica.Replica.absorb.Goals.{After-keep_or_forget}
+use Rattle.hg_replica.proofs.replica.Replica.absorb.Goals.{After-note_hints}
 
-module _ (c : After-keep_or_forget) where
+module _ (c : After-note_hints) where
   abbrev s : ReplicaState
   s = record { history = c.self.inside.history; markers = c.self.inside.store }
 
@@ -20,14 +20,14 @@ module _ (c : After-keep_or_forget) where
 pub returns-clause-answer : goal.returns-clause-answer
 returns-clause-answer c =
     let h = c.absorb-absorbed.new.self in
-    let kept = c.keep_or_forget.new.store in
-    let answer = kept_answer (s c) (k c) h c.absorb.new.self kept c.len-before.result c.in-Ok.markers.items c.absorb-absorbed.result c.keep_or_forget.result c.keep_or_forget.ensures c.len-before.ensures c.in-Ok.ensures.ok c.in-Ok.ensures.union c.in-Ok.ensures.places c.absorb-absorbed.ensures.answer in
-    subst (λ u. AbsorbAnswer u c.args.part.now c.keep_or_forget.result (record { history = h; markers = kept })) c.self.view_is
-    (subst (λ x. AbsorbAnswer (s c) x c.keep_or_forget.result (record { history = h; markers = kept })) (k_is c) answer)
+    let kept = c.keep_or_forget-answer.new.store in
+    let answer = kept_answer (s c) (k c) h c.absorb.new.self kept c.len-before.result c.in-Ok.markers.items c.absorb-absorbed.result c.keep_or_forget-answer.result c.keep_or_forget-answer.ensures c.len-before.ensures c.in-Ok.ensures.ok c.in-Ok.ensures.union c.in-Ok.ensures.places c.absorb-absorbed.ensures.answer in
+    subst (λ u. AbsorbAnswer u c.args.part.now c.keep_or_forget-answer.result (record { history = h; markers = kept })) c.self.view_is
+    (subst (λ x. AbsorbAnswer (s c) x c.keep_or_forget-answer.result (record { history = h; markers = kept })) (k_is c) answer)
 
 pub returns-clause-memory : goal.returns-clause-memory
 returns-clause-memory c is =
-    let growth = kept_growth (s c) (k c) c.absorb.new.self c.keep_or_forget.new.store c.len-before.result c.in-Ok.markers.items c.absorb-absorbed.result c.keep_or_forget.result c.keep_or_forget.ensures c.absorb-absorbed.ensures.memory is in
+    let growth = kept_growth (s c) (k c) c.absorb.new.self c.keep_or_forget-answer.new.store c.len-before.result c.in-Ok.markers.items c.absorb-absorbed.result c.keep_or_forget-answer.result c.keep_or_forget-answer.ensures c.absorb-absorbed.ensures.memory is in
     subst (λ u. IsGrowthBeforeFault u c.args.part.now) c.self.view_is (subst (IsGrowthBeforeFault (s c)) (k_is c) growth)
 
 pub returns-in-Err-clause-answer : goal.returns-in-Err-clause-answer

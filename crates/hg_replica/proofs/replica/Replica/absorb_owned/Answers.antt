@@ -20,14 +20,14 @@ module _ (c : After-drop-bounds-2) where
 pub returns-clause-answer : goal.returns-clause-answer
 returns-clause-answer c =
     let h = c.absorb_owned-absorbed.new.self in
-    let kept = c.keep_or_forget.new.store in
-    let answer = kept_answer (s c) (k c) h c.absorb_owned.new.self kept c.len-before.result c.in-Ok.markers.items c.absorb_owned-absorbed.result c.keep_or_forget.result c.keep_or_forget.ensures c.len-before.ensures c.in-Ok.ensures.ok c.in-Ok.ensures.union c.in-Ok.ensures.places c.absorb_owned-absorbed.ensures.answer in
-    subst (λ u. AbsorbAnswer u c.args.part c.keep_or_forget.result (record { history = h; markers = kept })) c.self.view_is
-    (subst (λ x. AbsorbAnswer (s c) x c.keep_or_forget.result (record { history = h; markers = kept })) (k_is c) answer)
+    let kept = c.keep_or_forget-answer.new.store in
+    let answer = kept_answer (s c) (k c) h c.absorb_owned.new.self kept c.len-before.result c.in-Ok.markers.items c.absorb_owned-absorbed.result c.keep_or_forget-answer.result c.keep_or_forget-answer.ensures c.len-before.ensures c.in-Ok.ensures.ok c.in-Ok.ensures.union c.in-Ok.ensures.places c.absorb_owned-absorbed.ensures.answer in
+    subst (λ u. AbsorbAnswer u c.args.part c.keep_or_forget-answer.result (record { history = h; markers = kept })) c.self.view_is
+    (subst (λ x. AbsorbAnswer (s c) x c.keep_or_forget-answer.result (record { history = h; markers = kept })) (k_is c) answer)
 
 pub returns-clause-memory : goal.returns-clause-memory
 returns-clause-memory c is =
-    let growth = kept_growth (s c) (k c) c.absorb_owned.new.self c.keep_or_forget.new.store c.len-before.result c.in-Ok.markers.items c.absorb_owned-absorbed.result c.keep_or_forget.result c.keep_or_forget.ensures c.absorb_owned-absorbed.ensures.memory is in
+    let growth = kept_growth (s c) (k c) c.absorb_owned.new.self c.keep_or_forget-answer.new.store c.len-before.result c.in-Ok.markers.items c.absorb_owned-absorbed.result c.keep_or_forget-answer.result c.keep_or_forget-answer.ensures c.absorb_owned-absorbed.ensures.memory is in
     subst (λ u. IsGrowthBeforeFault u c.args.part) c.self.view_is (subst (IsGrowthBeforeFault (s c)) (k_is c) growth)
 
 pub returns-in-Err-clause-answer : goal.returns-in-Err-clause-answer
