@@ -13,8 +13,8 @@ ghost use Rattle.hg_message.specs.Outgoing.{ArePlacesOf, AreServed};
 use hg_changeset::Node;
 use hg_instab::has_phase_at;
 use hg_phases::Phase;
-use hg_relevant::relevant;
-use hg_replica::Replica;
+use hg_relevant::relevant_near;
+use hg_replica::{Hint, Replica};
 use std::alloc::{AllocError, Global};
 
 /// The first of the nodes that isn't held.
@@ -63,7 +63,23 @@ pub(crate) fn relevant_places(
     ensures { IfOk result (λ found. ArePlaces (IsOfferedMarker (content_of replica.now)) replica.now.markers found.items) }
 {
     let nodes = replica.graph().marked(served)?;
-    relevant(alloc, replica.store(), &nodes)
+    let hints = marked_hints(alloc, replica, served)?;
+    relevant_near(alloc, replica.store(), &nodes, &hints)
+}
+
+// The hints that are of the changesets at the marked places, in their order.
+fn marked_hints(
+    alloc: Global,
+    replica: &Replica,
+    marks: &[bool],
+) -> Result<Vec<Hint>, AllocError> {
+    let mut hints = Vec::with_capacity(alloc, marks.len())?;
+    for (place, marked) in marks.iter().enumerate() {
+        if *marked {
+            hints.push(replica.hint_at(place))?;
+        }
+    }
+    Ok(hints)
 }
 
 /// Public bounds for the heads of what is served and public, and then draft ones.
