@@ -89,7 +89,7 @@ fn is_predecessor_near(replica: &Replica, node: Node, hint: Hint) -> bool
     ensures { IsTrue result ↔ IsPredecessor (content_of replica.now) node }
 {
     let mentions = replica.store().mentions_near(node, hint);
-    !mentions.as_predecessor.is_empty()
+    !mentions.as_predecessor().is_empty()
 }
 
 // Its phase, where it is held. The replica always answers, so no error is passed over.

@@ -1,5 +1,6 @@
 pub mod Places
 pub mod Markers
+pub mod Mentions
 pub mod Index
 pub mod Indexes
 pub mod Growth

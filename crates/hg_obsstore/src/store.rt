@@ -144,9 +144,9 @@ impl Store {
 
     /// The places of the markers that name this node, in each role, by one look-up.
     pub fn mentions(&self, node: Node) -> Mentions<'_>
-        ensures predecessor { ArePlaces (λ m. m.predecessor ≡ node) self.now result.as_predecessor.now }
-        ensures successor { ArePlaces (λ m. Contains m.successors node) self.now result.as_successor.now }
-        ensures parent { ArePlaces (λ m. Contains (recorded_parents m) node) self.now result.as_parent.now }
+        ensures predecessor { ArePlaces (λ m. m.predecessor ≡ node) self.now result.as_predecessor }
+        ensures successor { ArePlaces (λ m. Contains m.successors node) self.now result.as_successor }
+        ensures parent { ArePlaces (λ m. Contains (recorded_parents m) node) self.now result.as_parent }
     {
         self.mentions_near(node, Hint::NOWHERE)
     }
@@ -154,9 +154,9 @@ impl Store {
     /// The same as [`mentions`](Store::mentions), whatever the hint is. It takes no look-up by a hash where the hint came with
     /// the mentions of this node.
     pub fn mentions_near(&self, node: Node, hint: Hint) -> Mentions<'_>
-        ensures predecessor { ArePlaces (λ m. m.predecessor ≡ node) self.now result.as_predecessor.now }
-        ensures successor { ArePlaces (λ m. Contains m.successors node) self.now result.as_successor.now }
-        ensures parent { ArePlaces (λ m. Contains (recorded_parents m) node) self.now result.as_parent.now }
+        ensures predecessor { ArePlaces (λ m. m.predecessor ≡ node) self.now result.as_predecessor }
+        ensures successor { ArePlaces (λ m. Contains m.successors node) self.now result.as_successor }
+        ensures parent { ArePlaces (λ m. Contains (recorded_parents m) node) self.now result.as_parent }
     {
         self.index.mentions_near(node, hint)
     }
@@ -170,21 +170,21 @@ impl Store {
     pub fn with_predecessor(&self, node: Node) -> &[usize]
         ensures { ArePlaces (λ m. m.predecessor ≡ node) self.now result.now }
     {
-        self.mentions(node).as_predecessor
+        self.mentions(node).as_predecessor()
     }
 
     /// The places of the markers with this successor, ascending, each once.
     pub fn with_successor(&self, node: Node) -> &[usize]
         ensures { ArePlaces (λ m. Contains m.successors node) self.now result.now }
     {
-        self.mentions(node).as_successor
+        self.mentions(node).as_successor()
     }
 
     /// The places of the markers that record this node as a parent of their predecessor, ascending, each once.
     pub fn with_child(&self, node: Node) -> &[usize]
         ensures { ArePlaces (λ m. Contains (recorded_parents m) node) self.now result.now }
     {
-        self.mentions(node).as_parent
+        self.mentions(node).as_parent()
     }
 
     /// Adds a marker last, where no equal one is held.

@@ -248,12 +248,12 @@ fn tells_each_mention_of_a_node(rt: HostRuntime) {
     add(&rt, &mut store, marker(alloc, NEW, &[]));
     add(&rt, &mut store, prune(alloc));
     let mentions = store.mentions(NEW);
-    assert!(rt; mentions.as_predecessor == [1usize].as_slice());
-    assert!(rt; mentions.as_successor == [0usize].as_slice());
-    assert!(rt; mentions.as_parent == [2usize].as_slice());
+    assert!(rt; mentions.as_predecessor() == [1usize].as_slice());
+    assert!(rt; mentions.as_successor() == [0usize].as_slice());
+    assert!(rt; mentions.as_parent() == [2usize].as_slice());
     let mentions = store.mentions(OLD);
-    assert!(rt; mentions.as_predecessor == [0usize, 2].as_slice());
-    assert!(rt; mentions.as_successor.is_empty() && mentions.as_parent.is_empty());
+    assert!(rt; mentions.as_predecessor() == [0usize, 2].as_slice());
+    assert!(rt; mentions.as_successor().is_empty() && mentions.as_parent().is_empty());
 }
 
 // One allocation is refused, wherever it falls: nothing changed, and the same call with memory answers as ever.

@@ -111,10 +111,10 @@ impl Search {
     {
         let markers = store.markers();
         let mentions = store.mentions_near(node, hint);
-        self.find_all(mentions.as_successor)?;
-        self.find_prunes(markers, mentions.as_predecessor)?;
-        self.find_prunes(markers, mentions.as_parent)?;
-        self.settle(mentions.as_predecessor);
+        self.find_all(mentions.as_successor())?;
+        self.find_prunes(markers, mentions.as_predecessor())?;
+        self.find_prunes(markers, mentions.as_parent())?;
+        self.settle(mentions.as_predecessor());
         Ok(())
     }
 

@@ -17,7 +17,7 @@ pub(crate) fn note_hints(hints: &mut Vec<Hint>, graph: &Graph, store: &Store, be
 pub(crate) fn note_new(hints: &mut Vec<Hint>, graph: &Graph, store: &Store) {
     for place in hints.len()..graph.len() {
         let hint = match graph.node_at(place) {
-            Some(node) => store.mentions(node).hint,
+            Some(node) => store.mentions(node).hint(),
             None => Hint::NOWHERE,
         };
         if hints.push(hint).is_err() {
@@ -41,7 +41,7 @@ fn note_each(hints: &mut Vec<Hint>, graph: &Graph, store: &Store, nodes: &[Node]
     for node in nodes {
         if let Some(place) = graph.place(*node) {
             if place < hints.len() {
-                hints[place] = store.mentions(*node).hint;
+                hints[place] = store.mentions(*node).hint();
             }
         }
     }
