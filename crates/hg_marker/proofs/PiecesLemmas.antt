@@ -1,12 +1,14 @@
 -- Pieces of metadata, one after another.
-use Rattle.std.proofs.Common.{◌≡◌, ℕ, ◌+◌, Bool, true, false, cond, not, eqb, List, [], ◌∷◌, ◌++◌, length, take, drop, map, reverse, Some, None, refl, sym, ap, ◌∙◌, arith, append_assoc}
+use Rattle.std.proofs.Common.{◌≡◌, ℕ, ◌+◌, Bool, true, false, cond, not, eqb, List, [], ◌∷◌, ◌++◌, length, take, drop, map, reverse, Option, Some, None, ltb, ◌<◌, ◌≤◌, refl, sym, ap, ◌∙◌, arith, append_assoc}
 use Rattle.std.specs.Prelude.{position, ◌&&◌}
+use Rattle.memchr.specs.Find.{IsFirstByte, is_byte}
 use Rattle.std.specs.List.{list_all, position_or_len, slice_split, before_first, after_first}
 use Rattle.std.proofs.lemmas.List.Splits.{slice_split_first, slice_split_none}
 use Rattle.std.proofs.lemmas.List.{map-append, reverse-append, append-nil, nil_from_length, take_all, length-drop}
 use Rattle.std.proofs.lemmas.List.Elements.{filter-append}
 use Rattle.std.proofs.lemmas.List.Folds.{list_all-append, list_any_none, list_any_at}
-use Rattle.std.proofs.lemmas.List.Sums.{fails_before_first}
+use Rattle.std.proofs.lemmas.List.Sums.{fails_before_first, position_or_len_is}
+use Rattle.std.proofs.lemmas.Bool.{false_from_ne_true, le-ltb, lt-ltb}
 use Rattle.std.proofs.lemmas.List.Quantifiers.{position-Some}
 use Rattle.std.specs.FinMap.{from_entries, insert, empty}
 use Rattle.hg_changeset.proofs.ListLemmas.{position-found, position-none}
@@ -109,3 +111,12 @@ without_colon p e = elim (eqb (length p) 0) as (λ b. list_all has_colon (cond (
 -- the pieces have colons as far as this one has and those after it have
 pub colons_split : (rest p after : List ℕ) → pieces rest ≡ nonempty (p ∷ []) ++ pieces after → list_all has_colon (pieces rest) ≡ (list_all has_colon (nonempty (p ∷ [])) && list_all has_colon (pieces after))
 colons_split rest p after split = ap (list_all has_colon) split ∙ list_all-append has_colon (nonempty (p ∷ [])) (pieces after)
+
+-- the first byte that passes stands at its position
+pub first_is_position : (wanted : ℕ) (bytes : List ℕ) (place : Option ℕ) → IsFirstByte (is_byte wanted) bytes place → place ≡ position (is_byte wanted) bytes
+first_is_position wanted bytes None nowhere =
+    let at_end = position_or_len_is (is_byte wanted) bytes (length bytes) 0 (omega arith) (λ k l. false_from_ne_true _ (nowhere k (omega arith) l)) (λ l. absurd (omega (arith, l))) in
+    sym (ap (λ n. cond (ltb n (length bytes)) (Some n) None) at_end ∙ ap (λ b. cond b (Some (length bytes)) None) (le-ltb (length bytes) (length bytes) (omega arith)))
+first_is_position wanted bytes (Some place) found =
+    let there = position_or_len_is (is_byte wanted) bytes place 0 (omega (arith, found.0.high)) (λ k l. false_from_ne_true _ (found.0.before k (omega arith) l)) (λ l. found.1) in
+    sym (ap (λ n. cond (ltb n (length bytes)) (Some n) None) there ∙ ap (λ b. cond b (Some place) None) (lt-ltb place (length bytes) found.0.high))

@@ -9,6 +9,7 @@ ghost use Rattle.hg_marker.specs.Metadata.{pieces, nonempty, has_colon, entry, t
 ghost use Rattle.hg_marker.specs.Written.{IsWritten, is_behind};
 
 use crate::text_map::TextMap;
+use memchr::memchr;
 use std::alloc::{AllocError, Global};
 use std::marker::Model;
 
@@ -168,5 +169,5 @@ fn next_piece(bytes: &[u8]) -> (&[u8], &[u8])
 fn place_of(bytes: &[u8], wanted: u8) -> Option<usize>
     ensures { result ≡ position (λ byte. byte == wanted) bytes.now }
 {
-    bytes.iter().position(|byte| *byte == wanted)
+    memchr(wanted, bytes)
 }
