@@ -60,19 +60,19 @@ pub fn read_offer(rt: &(impl CpuClock + AllocGlobal), size: usize) -> io::Result
     Ok(rt.thread_cpu_time()?.saturating_sub(before))
 }
 
-/// An offer, taken in by an empty replica.
+/// An offer, taken in by an empty replica, to which it is handed over.
 pub fn take_offer(rt: &(impl CpuClock + AllocGlobal), size: usize) -> io::Result<Duration> {
     let alloc = rt.alloc();
     let bytes = bytes_of(alloc, &marked(alloc, size)?)?;
     match Message::from_bytes(alloc, &bytes) {
-        Ok(message) => time_taking(rt, &message.into_part()?, &mut Replica::new(alloc)),
+        Ok(message) => time_taking(rt, message.into_part()?, &mut Replica::new(alloc)),
         Err(_) => Ok(Duration::ZERO),
     }
 }
 
-fn time_taking(rt: &impl CpuClock, part: &Part, replica: &mut Replica) -> io::Result<Duration> {
+fn time_taking(rt: &impl CpuClock, part: Part, replica: &mut Replica) -> io::Result<Duration> {
     let before = rt.thread_cpu_time()?;
-    let _absorbed = replica.absorb(part);
+    let _absorbed = replica.absorb_owned(part);
     Ok(rt.thread_cpu_time()?.saturating_sub(before))
 }
 
