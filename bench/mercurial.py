@@ -1,44 +1,65 @@
 """A Mercurial extension with one command, which does the lines of a script in process and tells what they took.
 
-    hg --config extensions.evolve= --config extensions.fleet=bench/mercurial.py fleet [SCRIPT]
+    hg --config extensions.evolve= --config extensions.fleet=bench/mercurial.py fleet [--told] [SCRIPT]
 
 prints the seconds of processor time that the script took, from its first line to its last, and how many lines it would
-have printed: one for each that was refused, and those of reports and of `agree`. Without a script it prints the version.
-The lines between two exchanges are one transaction. Changesets have no files. Repositories are temporary.
+have printed: one for each that was refused, and those of reports and of `agree`. With --told they are printed too, of a
+refusal what Mercurial says. Without a script the command prints the version.
+
+The lines between two exchanges are one transaction. Changesets have no files. Repositories are temporary. Where Mercurial
+has a cheap way to ask and a dear one, the cheap one is taken: what is hidden is only found out for new parents.
 """
+import io
 import os
 import tempfile
 import time
 
-from mercurial import commands, context, error, exchange, extensions, hg, obsolete, registrar, repoview, rewriteutil, util
+from mercurial import bundle2, context, error, exchange, extensions, hg, obsolete, phases, registrar, repoview, rewriteutil, util
 
 cmdtable = {}
 command = registrar.command(cmdtable)
 
+# What Mercurial answers where it refuses a line.
 REFUSED = (error.Abort, error.RepoError, error.RepoLookupError, error.LookupError)
-WORDS = (b"suspended", b"extinct", b"orphan", b"phasedivergent", b"contentdivergent")
+
+# The words of a report, and the sets that they tell of.
+WORDS = {
+    b"obsolete": b"obsolete", b"suspended": b"suspended", b"extinct": b"extinct", b"orphan": b"orphan",
+    b"phase-divergent": b"phasedivergent", b"content-divergent": b"contentdivergent",
+}
+
+# A marker has room for so many successors.
+MOST_SUCCESSORS = 255
 
 
 class Fleet:
-    """Repositories by name, the id of each label, and the bundle of each message."""
+    """Repositories by name, the id of each label, and the bytes of each message."""
 
-    def __init__(self, ui, room):
-        self.ui, self.room = ui, room
-        self.nodes, self.labels, self.opened = {}, {}, {}
+    def __init__(self, ui, room, told):
+        self.ui, self.room, self.told = ui, room, told
+        self.nodes, self.labels, self.messages, self.opened = {}, {}, {}, {}
         self.printed = 0
 
-    def do(self, line):
+    def do(self, number, line):
+        """Does a line of a script, whose words are not at fault."""
         words = line.split()
+        if not words or line.startswith(b"#"):
+            return
         try:
             getattr(self, "do_" + words[0].decode())(*words[1:])
-        except REFUSED:
-            self.printed += 1
+        except REFUSED as refusal:
+            self.tell([b"%d: %s" % (number, str(refusal).encode())])
+
+    def tell(self, lines):
+        self.printed += len(lines)
+        if self.told:
+            self.ui.write(b"".join(line + b"\n" for line in lines))
 
     # ---- transactions
 
     def at(self, name):
-        """The repository of a node, with its transaction open."""
-        repo = self.nodes[name]
+        """The repository of a node with its hidden changesets, and with its transaction open."""
+        repo = self.nodes[name].unfiltered()
         if name not in self.opened:
             lock = repo.lock()
             self.opened[name] = (lock, repo.transaction(b"fleet"))
@@ -56,13 +77,10 @@ class Fleet:
     def do_node(self, name):
         self.nodes[name] = hg.repository(self.ui, os.path.join(self.room, name), create=True)
 
-    def context_of(self, repo, label):
-        """The changeset of a label, which has to be held and visible."""
-        return repo[self.labels[label]]
-
-    def parents(self, repo, labels):
-        nodes = [self.context_of(repo, label).node() for label in labels]
-        return tuple(nodes + [repo[b"null"].node()] * (2 - len(nodes)))
+    def parents(self, at, labels):
+        """The ids of new parents, which have to be held and visible."""
+        nodes = [self.nodes[at][self.labels[label]].node() for label in labels]
+        return tuple(nodes + [self.nodes[at].nullid] * (2 - len(nodes)))
 
     def make(self, repo, label, parents, phase, extra=None):
         """A new changeset without files, whose description is the label, and which the label names from now on."""
@@ -76,13 +94,15 @@ class Fleet:
 
     def old(self, repo, label, word):
         """The changeset of a label, where it may be rewritten."""
-        found = self.context_of(repo, label)
+        found = repo[self.labels[label]]
         rewriteutil.precheck(repo, [found.rev()], word)
+        if found.obsolete():
+            raise error.Abort(b"an obsolete changeset")
         return found
 
     def do_commit(self, at, new, phase, *parents):
         repo = self.at(at)
-        self.make(repo, new, self.parents(repo, parents), phase)
+        self.make(repo, new, self.parents(at, parents), phase)
 
     def do_amend(self, at, old, new):
         repo = self.at(at)
@@ -94,10 +114,12 @@ class Fleet:
     def do_split(self, at, old, *new):
         repo = self.at(at)
         found = self.old(repo, old, b"split")
+        if not 2 <= len(new) <= MOST_SUCCESSORS:
+            raise error.Abort(b"too few or too many parts")
         parents, made = (found.p1().node(), found.p2().node()), []
         for label in new:
             made.append(self.make(repo, label, parents, found.phasestr()))
-            parents = made[-1].node(), repo[b"null"].node()
+            parents = made[-1].node(), repo.nullid
         self.mark(repo, [found], made, b"split")
 
     def do_fold(self, at, new, *old):
@@ -115,33 +137,35 @@ class Fleet:
     def do_relocate(self, at, old, new, *parents):
         repo = self.at(at)
         found = self.old(repo, old, b"rebase")
-        if any(found.isancestorof(self.context_of(repo, label)) for label in parents):
+        onto = self.parents(at, parents)
+        if any(found.isancestorof(repo[node]) for node in onto):
             raise error.Abort(b"a parent is a descendant")
-        made = self.make(repo, new, self.parents(repo, parents), found.phasestr(), {b"rebase_source": found.hex()})
+        made = self.make(repo, new, onto, found.phasestr(), {b"rebase_source": found.hex()})
         self.mark(repo, [found], [made], b"rebase")
 
     def do_phase(self, at, label, phase):
         repo = self.at(at)
-        asked = {name: name.encode() == phase for name in ("public", "draft", "secret")}
-        if commands.phase(self.ui, repo, self.context_of(repo, label).hex(), rev=[], force=False, **asked):
+        found, asked = repo[self.labels[label]], phases.phasenumber[phase]
+        if found.phase() < asked:
             raise error.Abort(b"a phase is not raised")
+        phases.advanceboundary(repo, repo.currenttransaction(), asked, [found.node()])
 
     # ---- exchange
 
     def do_pull(self, to, source):
         self.close()
-        exchange.pull(self.nodes[to], self.nodes[source].peer())
+        exchange.pull(self.nodes[to], self.nodes[source].peer(), force=True)
 
     def do_offer(self, at, message, *labels):
+        """The message is the bundle that a server gives to who has these changesets and asks for all that is served."""
         self.close()
-        repo = self.nodes[at]
-        common = [self.context_of(repo, label).hex() for label in labels] or [b"null"]
-        path = os.path.join(self.room, message + b".bundle")
-        commands.bundle(self.ui, repo, path, rev=[b"all() - secret()"], base=common, branch=[], all=False, type=b"none-v2", force=False)
+        repo = self.nodes[at].unfiltered()
+        common = [repo[self.labels[label]].node() for label in labels] or [repo.nullid]
+        self.messages[message] = bundle_of(repo.filtered(b"served"), common)
 
     def do_take(self, at, message):
         self.close()
-        commands.unbundle(self.ui, self.nodes[at], os.path.join(self.room, message + b".bundle"), update=False)
+        take(self.nodes[at], self.messages[message])
 
     # ---- reports
 
@@ -149,27 +173,39 @@ class Fleet:
         self.close()
         repo = self.nodes[at].unfiltered()
         hidden = repoview.filterrevs(repo, b"visible")
-        sets = [(word, obsolete.getrevs(repo, word)) for word in WORDS]
+        sets = [(word, obsolete.getrevs(repo, name)) for word, name in WORDS.items()] + [(b"hidden", hidden)]
         lines = []
         for rev in repo:
             found = repo[rev]
-            words = [found.description(), found.phasestr()] + [b"obsolete"] * found.obsolete()
-            lines.append(b" ".join(words + [word for word, revs in sets if rev in revs] + [b"hidden"] * (rev in hidden)))
-        told = [b"report " + at] + sorted(lines) + [b"%d changesets %d markers" % (len(lines), len(repo.obsstore))]
-        self.printed += len(told)
+            words = [found.description(), found.phasestr()] + [word for word, revs in sets if rev in revs]
+            lines.append(b" ".join(words))
+        self.tell([b"report " + at, *sorted(lines), b"%d changesets %d markers" % (len(lines), len(repo.obsstore))])
 
     def do_agree(self, one, other):
         self.close()
         first, second = (self.state(self.nodes[name].unfiltered()) for name in (one, other))
-        self.printed += 1
-        return first == second
+        self.tell([b"agree %s %s: %s" % (one, other, b"yes" if first == second else b"no")])
 
     def state(self, repo):
         return {(repo[rev].node(), repo[rev].phase()) for rev in repo}, set(repo.obsstore)
 
 
-@command(b"fleet", [], b"[SCRIPT]", norepo=True)
-def fleet(ui, *scripts, **opts):
+def bundle_of(repo, common):
+    """The bytes of all that a view of a repository gives to who has these changesets."""
+    asked = dict(cg=True, obsmarkers=True, phases=True)
+    caps = exchange.caps20to10(repo, role=b"client")
+    _info, chunks = exchange.getbundlechunks(repo, b"pull", heads=repo.heads(), common=common, bundlecaps=caps, **asked)
+    return b"".join(chunks)
+
+
+def take(repo, message):
+    """Takes the bytes of a bundle in."""
+    with repo.lock(), repo.transaction(b"take") as transaction:
+        bundle2.applybundle(repo, exchange.readbundle(repo.ui, io.BytesIO(message), None), transaction, source=b"pull")
+
+
+@command(b"fleet", [(b"", b"told", False, b"print the lines too")], b"[SCRIPT]", norepo=True)
+def fleet(ui, *scripts, told=False):
     """does the lines of a script, and tells the seconds of processor time and how many lines it would have printed"""
     extensions.find(b"evolve")
     if not scripts:
@@ -177,10 +213,10 @@ def fleet(ui, *scripts, **opts):
         return 0
     memory = b"/dev/shm" if os.path.isdir("/dev/shm") else None
     with open(scripts[0], "rb") as it, tempfile.TemporaryDirectory(dir=memory, prefix=b"fleet") as room:
-        done = Fleet(ui, room)
+        done = Fleet(ui, room, told)
         begin = time.process_time()
-        for line in it:
-            done.do(line)
+        for number, line in enumerate(it, 1):
+            done.do(number, line)
         done.close()
         ui.write(b"%.6f %d\n" % (time.process_time() - begin, done.printed))
     return 0
