@@ -211,12 +211,16 @@ def fleet(ui, *scripts, told=False):
     if not scripts:
         ui.write(b"%s\n" % util.version())
         return 0
-    memory = b"/dev/shm" if os.path.isdir("/dev/shm") else None
-    with open(scripts[0], "rb") as it, tempfile.TemporaryDirectory(dir=memory, prefix=b"fleet") as room:
-        done = Fleet(ui, room, told)
+    with room() as folder, open(scripts[0], "rb") as script:
+        done = Fleet(ui, folder, told)
         begin = time.process_time()
-        for number, line in enumerate(it, 1):
+        for number, line in enumerate(script, 1):
             done.do(number, line)
         done.close()
         ui.write(b"%.6f %d\n" % (time.process_time() - begin, done.printed))
     return 0
+
+
+def room():
+    """A temporary folder, in memory where there is such a place."""
+    return tempfile.TemporaryDirectory(dir=b"/dev/shm" if os.path.isdir("/dev/shm") else None, prefix=b"fleet")
