@@ -3,7 +3,7 @@ use hg_changeset::Node;
 use hg_join::{JoinState, NoMemory};
 use hg_marker::{Marker, MarkerFault, Metadata, ReadError};
 use hg_obsstore::{
-    Added, Store, StoreFault, check_markers, markers_bytes, markers_len, markers_len_at,
+    Added, Hint, Store, StoreFault, check_markers, markers_bytes, markers_len, markers_len_at,
     read_markers, read_store, store_bytes, write_markers, write_markers_at,
 };
 use std::alloc::{AllocError, Global};
@@ -345,4 +345,17 @@ fn refused_growth_reads_and_writes_nothing(rt: HostRuntime) {
         Err(AllocError) => store_bytes(&store).expect(&rt, "memory"),
     };
     assert!(rt; written == bytes);
+}
+
+#[test]
+fn a_hint_decides_nothing(rt: HostRuntime) {
+    let alloc = rt.alloc();
+    let mut store = Store::new(alloc);
+    add(&rt, &mut store, marker(alloc, OLD, &[NEW]));
+    let hint_of_new = store.mentions(NEW).hint();
+    for hint in [hint_of_new, store.predecessor_hint(0), Hint::NOWHERE] {
+        let mentions = store.mentions_near(NEW, hint);
+        assert!(rt; mentions.as_successor() == [0usize].as_slice());
+        assert!(rt; mentions.as_predecessor().is_empty() && mentions.as_parent().is_empty());
+    }
 }

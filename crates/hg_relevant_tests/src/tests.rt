@@ -2,7 +2,7 @@
 use hg_changeset::Node;
 use hg_marker::{Marker, Metadata};
 use hg_obsstore::Store;
-use hg_relevant::relevant;
+use hg_relevant::{relevant, relevant_near};
 use std::alloc::{AllocError, Global};
 
 // The node with this number, which isn't the null id.
@@ -115,4 +115,17 @@ fn refused_growth_tells_nothing(rt: HostRuntime) {
         Err(AllocError) => relevant(alloc, &store, &[node(3)]).expect(&rt, "memory"),
     };
     assert!(rt; told[..] == [0usize, 1, 2, 3, 4]);
+}
+
+#[test]
+fn hints_decide_nothing(rt: HostRuntime) {
+    let alloc = rt.alloc();
+    let store = rewrites(alloc).expect(&rt, "memory");
+    let second = store.mentions(node(2)).hint();
+    let seventh = store.mentions(node(7)).hint();
+    for hints in [[second, seventh], [seventh, second]] {
+        let places = relevant_near(alloc, &store, &[node(2), node(7)], &hints);
+        let places = places.expect(&rt, "memory");
+        assert!(rt; places.as_slice() == [0usize, 4, 5].as_slice());
+    }
 }
