@@ -46,14 +46,19 @@ fewer (Missing ∷ old) (Undecided ∷ new) len within = let c : Missing ≡ Und
 fewer (Missing ∷ old) (Common ∷ new) len within = fewer old new (omega (arith, len)) (λ k. within (suc k))
 fewer (Missing ∷ old) (Missing ∷ new) len within = fewer old new (omega (arith, len)) (λ k. within (suc k))
 
-one_less : (ds : List Status) (k : ℕ) → Is ds Undecided k → undecided ds ≡ suc (undecided (set ds k Common))
-one_less [] k h = absurd (none-some Undecided h)
-one_less (Undecided ∷ ds) zero h = refl
-one_less (Common ∷ ds) zero h = let c : Common ≡ Undecided = same_Some Common Undecided h in cc
-one_less (Missing ∷ ds) zero h = let c : Missing ≡ Undecided = same_Some Missing Undecided h in cc
-one_less (Undecided ∷ ds) (suc k) h = ap suc (one_less ds k h)
-one_less (Common ∷ ds) (suc k) h = one_less ds k h
-one_less (Missing ∷ ds) (suc k) h = one_less ds k h
+not_counted : (d : Status) (ds : List Status) → d ≢ Undecided → undecided (d ∷ ds) ≡ undecided ds
+not_counted Undecided ds ne = absurd (ne refl)
+not_counted Common ds ne = refl
+not_counted Missing ds ne = refl
+
+pub one_less : (ds : List Status) (k : ℕ) (d : Status) → d ≢ Undecided → Is ds Undecided k → undecided ds ≡ suc (undecided (set ds k d))
+one_less [] k d ne h = absurd (none-some Undecided h)
+one_less (Undecided ∷ ds) zero d ne h = ap suc (sym (not_counted d ds ne))
+one_less (Common ∷ ds) zero d ne h = let c : Common ≡ Undecided = same_Some Common Undecided h in cc
+one_less (Missing ∷ ds) zero d ne h = let c : Missing ≡ Undecided = same_Some Missing Undecided h in cc
+one_less (Undecided ∷ ds) (suc k) d ne h = ap suc (one_less ds k d ne h)
+one_less (Common ∷ ds) (suc k) d ne h = one_less ds k d ne h
+one_less (Missing ∷ ds) (suc k) d ne h = one_less ds k d ne h
 
 -- no two stand at one place
 abbrev AreApart : List Spot → Type 0
@@ -65,7 +70,7 @@ settled_count : (xs : List Spot) (old new : List Status) → length new ≡ leng
 settled_count [] old new len apart was not_now within = let le = fewer old new len within in omega (arith, le)
 settled_count (x ∷ xs) old new len apart was not_now within =
     let at : Is old Undecided x.place = was zero x refl in
-    let less = one_less old x.place at in
+    let less = one_less old x.place Common (λ e. cc) at in
     let mid = set old x.place Common in
     let rest = settled_count xs mid new (len ∙ sym (length-set old x.place Common))
     (λ i j y z at_y at_z e. let same : suc i ≡ suc j = apart (suc i) (suc j) y z at_y at_z e in omega (arith, same))

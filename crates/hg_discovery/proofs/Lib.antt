@@ -2,13 +2,14 @@ pub mod UnderLemmas
 pub mod SpreadLemmas
 pub mod DecidedLemmas
 pub mod ToldLemmas
-pub mod ExistLemmas
-pub mod TogetherLemmas
 pub mod DrawLemmas
 pub mod RoundLemmas
 pub mod BetweenLemmas
 pub mod StartLemmas
 pub mod SortLemmas
 pub mod CountLemmas
+pub mod WalkLemmas
+pub mod LogLemmas
+pub mod FamilyLemmas
 pub mod KnownLemmas
 pub mod ServedLemmas

@@ -1,10 +1,11 @@
 pub mod Under
 pub mod Search
 pub mod Spread
-pub mod Together
 pub mod Answers
 pub mod Picking
 pub mod Start
 pub mod Rounds
+pub mod Log
+pub mod Family
 pub mod Between
 pub mod Refusals

@@ -1,28 +1,9 @@
--- What the sweeps of a round do.
+-- What the sweep over marks does.
 use Rattle.std.specs.Prelude.{◌≡◌, ℕ, Bool, true, List, length, slice_get, ◌↔◌, ◌⊎◌, ◌<◌, Some}
 use Rattle.hg_graph.specs.declared.graph.ParentPlaces.{ParentPlaces}
 use Rattle.hg_discovery.specs.declared.status.Status.{Status}
-use Rattle.hg_discovery.specs.declared.status.Status.TheVariants.{Undecided, Common, Missing}
-use Rattle.hg_discovery.specs.Under.{IsParentAt, IsUnder}
+use Rattle.hg_discovery.specs.Under.{IsParentAt}
 use Rattle.hg_discovery.specs.Search.{Is}
-
--- the undecided places of which P holds become common
-pub record SetsCommon (P : ℕ → Type 0) (old new : List Status) : Type 0 where
-  pub len : length new ≡ length old
-  pub common : (k : ℕ) → Is new Common k ↔ (Is old Common k ⊎ (Is old Undecided k × P k))
-  pub missing : (k : ℕ) → Is new Missing k ↔ Is old Missing k
-
--- the undecided ancestors of the common ones become common
-pub record SpreadsDown (ps : List ParentPlaces) (old new : List Status) : Type 0 where
-  pub len : length new ≡ length old
-  pub common : (k : ℕ) → Is new Common k ↔ (Is old Common k ⊎ (Is old Undecided k × ((j : ℕ) × Is old Common j × IsUnder ps k j)))
-  pub missing : (k : ℕ) → Is new Missing k ↔ Is old Missing k
-
--- the undecided descendants of the missing ones become missing
-pub record SpreadsUp (ps : List ParentPlaces) (old new : List Status) : Type 0 where
-  pub len : length new ≡ length old
-  pub common : (k : ℕ) → Is new Common k ↔ Is old Common k
-  pub missing : (k : ℕ) → Is new Missing k ↔ (Is old Missing k ⊎ (Is old Undecided k × ((j : ℕ) × Is old Missing j × IsUnder ps j k)))
 
 -- the place is marked
 abbrev pub IsMarked : List Bool → ℕ → Type 0

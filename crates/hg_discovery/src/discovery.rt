@@ -1,13 +1,15 @@
 //! A discovery, from its start to its end.
-ghost use Rattle.std.specs.Prelude.{◌≡◌, ℕ, ◌↔◌, ◌≤◌, ◌-◌, IfOk, OnOk, IsTrue, [], length};
+ghost use Rattle.std.specs.Prelude.{◌≡◌, ℕ, ◌↔◌, ◌≤◌, ◌-◌, IfOk, OnOk, OnErr, IsTrue, [], length};
 ghost use Rattle.hg_discovery.specs.Search.{IsSearch, nodes_of};
-ghost use Rattle.hg_discovery.specs.Answers.{AnswerAnswer};
+ghost use Rattle.hg_discovery.specs.Answers.{AnswerAnswer, AreTold};
+ghost use Rattle.hg_discovery.specs.Family.{IsFamily};
 ghost use Rattle.hg_discovery.specs.Rounds.{undecided};
 ghost use Rattle.hg_discovery.specs.Start.{IsStart, AreCommonHeads};
 
 use crate::draw::{common_heads, sample};
 use crate::error::DiscoveryError;
-use crate::settle::told;
+use crate::family::{Family, family_of};
+use crate::settle::{take_back, tell_all};
 use crate::start::{parents_of, shared, undecided};
 use crate::status::{Spot, Status};
 use hg_changeset::Node;
@@ -24,6 +26,7 @@ pub struct Discovery {
     spots: Vec<Spot>,
     decided: Vec<Status>,
     asked: Vec<Spot>,
+    family: Family,
     alloc: Global,
 }
 
@@ -35,6 +38,7 @@ impl Drop for Discovery {
             spots: _,
             decided: _,
             asked: _,
+            family: _,
             alloc: _,
         } = self;
     }
@@ -43,6 +47,7 @@ impl Drop for Discovery {
 impl Model for Discovery {
     ghost use Rattle.std.specs.Coded.{codes};
     ghost use Rattle.hg_discovery.specs.Search.{Search, IsSearch};
+    ghost use Rattle.hg_discovery.specs.Family.{IsFamily};
 
     ghost Value = { Search };
 
@@ -50,7 +55,7 @@ impl Model for Discovery {
 
     ghost view = { λ d. record { parents = d.parents.items; spots = d.spots.items; decided = d.decided.items; asked = d.asked.items } };
 
-    ghost invariant = { λ d. IsSearch (record { parents = d.parents.items; spots = d.spots.items; decided = d.decided.items; asked = d.asked.items }) };
+    ghost invariant = { λ d. IsSearch (record { parents = d.parents.items; spots = d.spots.items; decided = d.decided.items; asked = d.asked.items }) × IsFamily d.parents.items d.decided.items d.family.children.items d.family.left.items };
 }
 
 impl Discovery {
@@ -61,12 +66,14 @@ impl Discovery {
         let parents = parents_of(alloc, replica.graph())?;
         let spots = shared(alloc, replica)?;
         let decided = undecided(alloc, parents.len(), &spots)?;
+        let family = family_of(alloc, replica.graph())?;
         let asked = sample(alloc, &parents, &spots, &decided)?;
         Ok(Discovery {
             parents,
             spots,
             decided,
             asked,
+            family,
             alloc,
         })
     }
@@ -91,15 +98,15 @@ impl Discovery {
         if answers.len() != self.asked.len() {
             return Err(DiscoveryError::WrongCount);
         }
-        let decided = told(
+        let asked = next_sample(
             self.alloc,
             &self.parents,
+            &self.family,
+            &self.spots,
             &self.asked,
             answers,
-            &self.decided,
+            &mut self.decided,
         )?;
-        let asked = sample(self.alloc, &self.parents, &self.spots, &decided)?;
-        self.decided = decided;
         self.asked = asked;
         Ok(())
     }
@@ -130,4 +137,39 @@ fn nodes(alloc: Global, spots: &[Spot]) -> Result<Vec<Node>, AllocError>
         nodes.push(spot.node)?;
     }
     Ok(nodes)
+}
+
+// Takes the answers to a sample in, and draws the next one. Where memory is refused, what was decided is taken back.
+fn next_sample(
+    alloc: Global,
+    parents: &[ParentPlaces],
+    family: &Family,
+    spots: &[Spot],
+    asked: &[Spot],
+    answers: &[bool],
+    decided: &mut [Status],
+) -> Result<Vec<Spot>, AllocError>
+    requires search { IsSearch (record { parents = parents.now; spots = spots.now; decided = decided.old; asked = asked.now }) }
+    requires family { IsFamily parents.now decided.old family.now.children.items family.now.left.items }
+    requires answers { length answers.now ≡ length asked.now }
+    ensures told { IfOk result (λ xs. AreTold parents.now asked.now answers.now decided.old decided.new) }
+    ensures search { IfOk result (λ xs. IsSearch (record { parents = parents.now; spots = spots.now; decided = decided.new; asked = xs.items })) }
+    ensures family { IfOk result (λ xs. IsFamily parents.now decided.new family.now.children.items family.now.left.items) }
+    ensures err { OnErr result (decided.new ≡ decided.old) }
+{
+    let mut log = Vec::new(alloc);
+    match tell_all(parents, family, asked, answers, decided, &mut log) {
+        Ok(()) => {}
+        Err(refused) => {
+            take_back(&log, decided);
+            return Err(refused);
+        }
+    }
+    match sample(alloc, parents, spots, decided) {
+        Ok(sample) => Ok(sample),
+        Err(refused) => {
+            take_back(&log, decided);
+            Err(refused)
+        }
+    }
 }

@@ -14,6 +14,7 @@ mod between;
 mod discovery;
 mod draw;
 mod error;
+mod family;
 mod laws;
 mod settle;
 mod start;

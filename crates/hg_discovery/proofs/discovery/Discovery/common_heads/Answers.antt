@@ -5,7 +5,7 @@ use Rattle.hg_discovery.specs.Start.{AreCommonHeads}
 use Rattle.hg_discovery.proofs.discovery.Discovery.common_heads.Goals as goal
 
 pub common_heads-requires-clause-in_order : goal.common_heads-requires-clause-in_order
-common_heads-requires-clause-in_order c = rw c.deref.ensures.value c.self.invariant.in_order
+common_heads-requires-clause-in_order c = rw c.deref.ensures.value c.self.invariant.0.in_order
 
 pub returns-clause-heads : goal.returns-clause-heads
 returns-clause-heads c =

@@ -1,9 +1,9 @@
-use Rattle.std.proofs.Common.{◌≡◌, ◌↔◌, ℕ, arith, length, Contains, subst}
+use Rattle.std.proofs.Common.{◌≡◌, ◌↔◌, ℕ, arith, length, Contains, sym, subst}
 use Rattle.hg_phases.specs.State.{changesets}
 use Rattle.hg_discovery.specs.declared.status.Status.TheVariants.{Undecided}
 use Rattle.hg_discovery.specs.declared.status.Spot.{Spot}
 use Rattle.hg_discovery.specs.Under.{IsShapeOf, IsInOrder}
-use Rattle.hg_discovery.specs.Search.{Is}
+use Rattle.hg_discovery.specs.Search.{Is, IsSearch}
 use Rattle.hg_discovery.proofs.StartLemmas.{in_order, shared_within, closed_start, spots_start}
 use Rattle.hg_discovery.proofs.discovery.Discovery.start.Goals as goal
 
@@ -54,13 +54,13 @@ invariant_of-result c =
     let shape : IsShapeOf (changesets s) ps = subst (λ cs. IsShapeOf cs ps) c.graph.ensures.graph c.in_ok-parents.ensures in
     let len : length ds ≡ length ps = omega (arith, c.in_ok-decided.ensures.len, c.len.ensures, c.in_ok-parents.parents.ok.0) in
     let undecided : (k : ℕ) → Is ds Undecided k ↔ ((x : Spot) × Contains xs x × (x.place ≡ k)) = subst (λ ys. (k : ℕ) → Is ds Undecided k ↔ ((x : Spot) × Contains ys x × (x.place ≡ k))) c.deref.ensures.value c.in_ok-decided.ensures.undecided in
-    record {
+    let search : IsSearch (record { parents = ps; spots = xs; decided = ds; asked = c.in_ok-asked.asked.items }) = record {
       len = len;
       in_order = in_order s c.graph.ensures.valid ps shape xs c.in_ok-spots.ensures.shared;
       spots = spots_start s c.graph.ensures.valid ps shape xs c.in_ok-spots.ensures.shared ds len undecided c.in_ok-decided.ensures.nothing_common c.in_ok-spots.ensures.ascending;
       closed = closed_start s c.graph.ensures.valid ps shape xs c.in_ok-spots.ensures.shared ds len undecided c.in_ok-decided.ensures.nothing_common;
       sample = rw c.deref-2.ensures.value at (rw c.deref-3.ensures.value at (rw c.deref-4.ensures.value at c.in_ok-asked.ensures));
-    }
+    } in (search, c.in_ok-family.ensures ps ds (subst (λ cs. IsShapeOf cs ps) (sym c.graph-2.ensures.graph) shape))
 
 pub returns : goal.returns
 returns c =
@@ -74,5 +74,5 @@ returns c =
       spots = c.in_ok-spots.ensures.shared;
       undecided = undecided;
       nothing_common = c.in_ok-decided.ensures.nothing_common;
-      search = invariant_of-result c;
+      search = (invariant_of-result c).0;
     }
