@@ -1,17 +1,20 @@
 -- The children of each changeset.
-use Rattle.std.proofs.Common.{◌≡◌, ◌↔◌, ℕ, ◌<◌, ◌≤◌, ◌+◌, inl, inr, List, [], ◌∷◌, ◌++◌, length, length-append, slice_get, Some, Contains, refl, sym, ap, subst, ◌∙◌, arith}
-use Rattle.std.proofs.lemmas.Option.{none-some, slice_get_within}
+use Rattle.std.proofs.Common.{◌≡◌, ◌↔◌, ◌⊎◌, ℕ, ◌<◌, ◌≤◌, ◌+◌, inl, inr, Bool, List, [], ◌∷◌, ◌++◌, length, length-append, set, slice_get, Some, Contains, IsTrue, refl, sym, ap, subst, ◌∙◌, arith}
+use Rattle.std.proofs.lemmas.Bool.{cases_eq}
+use Rattle.std.proofs.lemmas.List.{length-set}
+use Rattle.std.proofs.lemmas.Option.{none-some, same_Some, slice_get_within}
+use Rattle.hg_graph.proofs.MarkLemmas.{get-set_same, get-set_other}
 use Rattle.hg_changeset.specs.Contents.{Contents}
 use Rattle.hg_changeset.proofs.ListLemmas.{slice_get-append, slice_get-push_cases, slice_get_some}
 use Rattle.hg_graph.specs.declared.graph.ParentPlaces.{ParentPlaces}
 use Rattle.hg_graph.specs.Places.{IsParentPlace}
-use Rattle.hg_graph.proofs.GraphLemmas.{Contains-from_place, place_from_Contains}
+use Rattle.hg_graph.proofs.GraphLemmas.{place_from_Contains}
 use Rattle.hg_discovery.specs.declared.status.Status.{Status}
 use Rattle.hg_discovery.specs.declared.status.Status.TheVariants.{Undecided}
 use Rattle.hg_discovery.specs.declared.family.Stretch.{Stretch}
-use Rattle.hg_discovery.specs.Under.{IsShapeOf}
+use Rattle.hg_discovery.specs.Under.{IsParentAt, IsShapeOf}
 use Rattle.hg_discovery.specs.Search.{Is}
-use Rattle.hg_discovery.specs.Family.{IsFamily, Stands}
+use Rattle.hg_discovery.specs.Family.{IsFamily, Stands, HasChild, IsFirstLeft}
 use Rattle.hg_discovery.proofs.WalkLemmas.{append_place, append_behind}
 
 -- of the changesets before the place i
@@ -67,3 +70,72 @@ IsFamily-later ps old new children left before f = record {
   sound = f.sound;
   complete = λ k s j h q u. f.complete k s j h q (before j u);
 }
+
+-- ---- the first that is left
+
+-- no undecided one of the stretch stands before the index i
+pub record IsSkipped (children : List ℕ) (s : Stretch) (ds : List Status) (i : ℕ) : Type 0 where
+  pub from : s.from ≤ i
+  pub edge : (s.from ≡ i) ⊎ (i ≤ s.to)
+  pub kept : (j : ℕ) → Stands children s.from s.to j → Is ds Undecided j → Stands children i s.to j
+
+module _ (children : List ℕ) (s : Stretch) (ds : List Status) where
+  pub IsSkipped-start : IsSkipped children s ds s.from
+  IsSkipped-start = record { from = omega arith; edge = inl refl; kept = λ j h u. h }
+
+  module _ (i k : ℕ) (at : slice_get children i ≡ Some k) (lt : i < s.to) (p : IsSkipped children s ds i) where
+    pub IsSkipped-more : (Is ds Undecided k → ⊥) → IsSkipped children s ds (i + 1)
+    IsSkipped-more never = record {
+      from = omega (arith, p.from);
+      edge = inr (omega (arith, lt));
+      kept = λ j h u. let t = p.kept j h u in elim (cases_eq t.0 i) [
+        | inl e ↦ absurd (never (subst (Is ds Undecided) (same_Some j k (sym (subst (λ m. slice_get children m ≡ Some j) e t.3) ∙ at)) u))
+        | inr ne ↦ (t.0, omega (arith, t.1, ne), t.2, t.3)
+      ];
+    }
+
+    pub IsSkipped-found : Is ds Undecided k → IsFirstLeft children s ds i
+    IsSkipped-found u = record {
+      kept = p.kept;
+      part = λ j h. (h.0, omega (arith, h.1, p.from), h.2, h.3);
+      found = λ l. (k, (i, omega arith, lt, at), u);
+    }
+
+  pub IsSkipped-end : (i : ℕ) → s.to ≤ i → IsSkipped children s ds i → IsFirstLeft children s ds s.to
+  IsSkipped-end i le p = record {
+    kept = λ j h u. let t = p.kept j h u in absurd (omega (arith, t.1, t.2, le));
+    part = λ j h. absurd (omega (arith, h.1, h.2));
+    found = λ l. absurd (omega (arith, l));
+  }
+
+-- ---- a question
+
+module _ (ps : List ParentPlaces) (ds : List Status) (children : List ℕ) (left : List Stretch) (f : IsFamily ps ds children left) (k : ℕ) (s : Stretch) (at : slice_get left k ≡ Some s) (r : ℕ) (first : IsFirstLeft children s ds r) where
+  pub asked_family : IsFamily ps ds children (set left k (record { from = r; to = s.to }))
+  asked_family = record {
+    len = length-set left k new ∙ f.len;
+    within = λ q t h. elim (cases_eq q k) [
+      | inl e ↦ subst (λ (u : Stretch). u.to ≤ length children) (is q t h e) (f.within k s at)
+      | inr ne ↦ f.within q t (sym (get-set_other left k q new ne) ∙ h)
+    ];
+    sound = λ q t j h stands. elim (cases_eq q k) [
+      | inl e ↦ subst (IsParentAt ps j) (sym e) (f.sound k s j at (first.part j (subst (λ (u : Stretch). Stands children u.from u.to j) (sym (is q t h e)) stands)))
+      | inr ne ↦ f.sound q t j (sym (get-set_other left k q new ne) ∙ h) stands
+    ];
+    complete = λ q t j h parent u. elim (cases_eq q k) [
+      | inl e ↦ subst (λ (v : Stretch). Stands children v.from v.to j) (is q t h e) (first.kept j (f.complete k s j at (subst (IsParentAt ps j) e parent) u) u)
+      | inr ne ↦ f.complete q t j (sym (get-set_other left k q new ne) ∙ h) parent u
+    ];
+  }
+    where
+      new : Stretch
+      new = record { from = r; to = s.to }
+
+      is : (q : ℕ) (t : Stretch) → slice_get (set left k new) q ≡ Some t → q ≡ k → new ≡ t
+      is q t h e = same_Some new t (sym (get-set_same left k new (slice_get_within left k s at)) ∙ subst (λ m. slice_get (set left k new) m ≡ Some t) e h)
+
+  pub asked_child : (b : Bool) → (IsTrue b ↔ (r < s.to)) → IsTrue b ↔ HasChild ps ds k
+  asked_child b less = (
+    λ t. let h = first.found (less.0 t) in (h.0, f.sound k s h.0 at (first.part h.0 h.1), h.2),
+    λ h. let t = first.kept h.0 (f.complete k s h.0 at h.1 h.2) h.2 in less.1 (omega (arith, t.1, t.2)),
+  )

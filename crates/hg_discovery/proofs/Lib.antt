@@ -11,5 +11,6 @@ pub mod CountLemmas
 pub mod WalkLemmas
 pub mod LogLemmas
 pub mod FamilyLemmas
+pub mod SampleLemmas
 pub mod KnownLemmas
 pub mod ServedLemmas

@@ -1,14 +1,14 @@
 -- What is logged, and how it is taken back.
-use Rattle.std.proofs.Common.{◌≡◌, ◌⊎◌, ℕ, zero, suc, ◌≤◌, ◌+◌, inl, inr, List, [], ◌∷◌, ◌++◌, length, set, slice_get, Some, Contains, refl, sym, ap, subst, ◌∙◌, arith}
+use Rattle.std.proofs.Common.{◌≡◌, ◌⊎◌, ℕ, zero, suc, ◌≤◌, ◌+◌, inl, inr, List, [], ◌∷◌, length, set, slice_get, Some, Contains, refl, sym, subst, ◌∙◌, arith}
 use Rattle.std.proofs.lemmas.Bool.{cases_eq}
 use Rattle.std.proofs.lemmas.List.{length-set}
 use Rattle.std.proofs.lemmas.List.Elements.{Contains-append_left, Contains-append_right, Contains-append_cases}
 use Rattle.std.proofs.lemmas.Option.{same_Some, slice_get_within}
 use Rattle.hg_changeset.proofs.ListLemmas.{Contains-none}
-use Rattle.hg_graph.proofs.GraphLemmas.{Contains-from_place, place_from_Contains}
+use Rattle.hg_graph.proofs.GraphLemmas.{place_from_Contains}
 use Rattle.hg_graph.proofs.MarkLemmas.{get-set_same, get-set_other}
 use Rattle.hg_discovery.specs.declared.status.Status.{Status}
-use Rattle.hg_discovery.specs.declared.status.Status.TheVariants.{Undecided, Common, Missing}
+use Rattle.hg_discovery.specs.declared.status.Status.TheVariants.{Undecided}
 use Rattle.hg_discovery.specs.Search.{Is}
 use Rattle.hg_discovery.specs.Log.{Grows, IsLogged, KeepsLog}
 

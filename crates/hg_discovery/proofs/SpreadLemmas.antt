@@ -1,11 +1,10 @@
 -- What an answer leaves.
-use Rattle.std.proofs.Common.{◌≡◌, ◌⊎◌, ℕ, ◌<◌, inl, inr, Bool, List, length, slice_get, subst, ◌∙◌, arith}
+use Rattle.std.proofs.Common.{◌≡◌, ℕ, ◌<◌, inl, inr, Bool, List, length, arith}
 use Rattle.std.proofs.lemmas.Option.{slice_get_within}
 use Rattle.hg_graph.specs.declared.graph.ParentPlaces.{ParentPlaces}
 use Rattle.hg_discovery.specs.declared.status.Status.{Status}
-use Rattle.hg_discovery.specs.declared.status.Status.TheVariants.{Undecided, Common, Missing}
-use Rattle.hg_discovery.specs.Under.{IsParentAt, IsUnder, IsInOrder, itself, below}
-use Rattle.hg_discovery.specs.Search.{Is, IsClosed}
+use Rattle.hg_discovery.specs.Under.{IsParentAt, IsInOrder, below}
+use Rattle.hg_discovery.specs.Search.{IsClosed}
 use Rattle.hg_discovery.specs.Answers.{IsDecided}
 use Rattle.hg_discovery.proofs.UnderLemmas.{not_both_uc, not_both_um, three, under_then, parent_under}
 

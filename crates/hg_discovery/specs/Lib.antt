@@ -7,5 +7,6 @@ pub mod Start
 pub mod Rounds
 pub mod Log
 pub mod Family
+pub mod Cursor
 pub mod Between
 pub mod Refusals

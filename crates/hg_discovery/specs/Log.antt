@@ -1,5 +1,5 @@
 -- What a walk decides, and its log.
-use Rattle.std.specs.Prelude.{◌≡◌, ℕ, ◌+◌, List, ◌++◌, length, slice_get, ◌⊎◌, Some, Contains}
+use Rattle.std.specs.Prelude.{◌≡◌, ℕ, ◌+◌, List, ◌++◌, length, slice_get, ◌⊎◌, Contains}
 use Rattle.hg_discovery.specs.declared.status.Status.{Status}
 use Rattle.hg_discovery.specs.declared.status.Status.TheVariants.{Undecided}
 use Rattle.hg_discovery.specs.Search.{Is}

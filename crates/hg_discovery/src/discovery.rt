@@ -3,10 +3,11 @@ ghost use Rattle.std.specs.Prelude.{◌≡◌, ℕ, ◌↔◌, ◌≤◌, ◌-�
 ghost use Rattle.hg_discovery.specs.Search.{IsSearch, nodes_of};
 ghost use Rattle.hg_discovery.specs.Answers.{AnswerAnswer, AreTold};
 ghost use Rattle.hg_discovery.specs.Family.{IsFamily};
+ghost use Rattle.hg_discovery.specs.Cursor.{AreDecidedTo};
 ghost use Rattle.hg_discovery.specs.Rounds.{undecided};
 ghost use Rattle.hg_discovery.specs.Start.{IsStart, AreCommonHeads};
 
-use crate::draw::{common_heads, sample};
+use crate::draw::{SAMPLE, common_heads, first_undecided_spot, sample};
 use crate::error::DiscoveryError;
 use crate::family::{Family, family_of};
 use crate::settle::{take_back, tell_all};
@@ -27,6 +28,7 @@ pub struct Discovery {
     decided: Vec<Status>,
     asked: Vec<Spot>,
     family: Family,
+    from: usize,
     alloc: Global,
 }
 
@@ -39,6 +41,7 @@ impl Drop for Discovery {
             decided: _,
             asked: _,
             family: _,
+            from: _,
             alloc: _,
         } = self;
     }
@@ -48,6 +51,7 @@ impl Model for Discovery {
     ghost use Rattle.std.specs.Coded.{codes};
     ghost use Rattle.hg_discovery.specs.Search.{Search, IsSearch};
     ghost use Rattle.hg_discovery.specs.Family.{IsFamily};
+    ghost use Rattle.hg_discovery.specs.Cursor.{AreDecidedTo};
 
     ghost Value = { Search };
 
@@ -55,7 +59,7 @@ impl Model for Discovery {
 
     ghost view = { λ d. record { parents = d.parents.items; spots = d.spots.items; decided = d.decided.items; asked = d.asked.items } };
 
-    ghost invariant = { λ d. IsSearch (record { parents = d.parents.items; spots = d.spots.items; decided = d.decided.items; asked = d.asked.items }) × IsFamily d.parents.items d.decided.items d.family.children.items d.family.left.items };
+    ghost invariant = { λ d. IsSearch (record { parents = d.parents.items; spots = d.spots.items; decided = d.decided.items; asked = d.asked.items }) × IsFamily d.parents.items d.decided.items d.family.children.items d.family.left.items × AreDecidedTo d.decided.items d.spots.items d.from };
 }
 
 impl Discovery {
@@ -66,14 +70,16 @@ impl Discovery {
         let parents = parents_of(alloc, replica.graph())?;
         let spots = shared(alloc, replica)?;
         let decided = undecided(alloc, parents.len(), &spots)?;
-        let family = family_of(alloc, replica.graph())?;
-        let asked = sample(alloc, &parents, &spots, &decided)?;
+        let mut family = family_of(alloc, replica.graph())?;
+        let room = Vec::with_capacity(alloc, SAMPLE)?;
+        let asked = sample(&parents, &mut family, &spots, &decided, 0, room);
         Ok(Discovery {
             parents,
             spots,
             decided,
             asked,
             family,
+            from: 0,
             alloc,
         })
     }
@@ -101,11 +107,12 @@ impl Discovery {
         let asked = next_sample(
             self.alloc,
             &self.parents,
-            &self.family,
+            &mut self.family,
             &self.spots,
             &self.asked,
             answers,
             &mut self.decided,
+            &mut self.from,
         )?;
         self.asked = asked;
         Ok(())
@@ -143,20 +150,24 @@ fn nodes(alloc: Global, spots: &[Spot]) -> Result<Vec<Node>, AllocError>
 fn next_sample(
     alloc: Global,
     parents: &[ParentPlaces],
-    family: &Family,
+    family: &mut Family,
     spots: &[Spot],
     asked: &[Spot],
     answers: &[bool],
     decided: &mut [Status],
+    from: &mut usize,
 ) -> Result<Vec<Spot>, AllocError>
     requires search { IsSearch (record { parents = parents.now; spots = spots.now; decided = decided.old; asked = asked.now }) }
-    requires family { IsFamily parents.now decided.old family.now.children.items family.now.left.items }
+    requires family { IsFamily parents.now decided.old family.old.children.items family.old.left.items }
+    requires from { AreDecidedTo decided.old spots.now from.old }
     requires answers { length answers.now ≡ length asked.now }
     ensures told { IfOk result (λ xs. AreTold parents.now asked.now answers.now decided.old decided.new) }
     ensures search { IfOk result (λ xs. IsSearch (record { parents = parents.now; spots = spots.now; decided = decided.new; asked = xs.items })) }
-    ensures family { IfOk result (λ xs. IsFamily parents.now decided.new family.now.children.items family.now.left.items) }
     ensures err { OnErr result (decided.new ≡ decided.old) }
+    ensures family { IsFamily parents.now decided.new family.new.children.items family.new.left.items }
+    ensures from { AreDecidedTo decided.new spots.now from.new }
 {
+    let room = Vec::with_capacity(alloc, SAMPLE)?;
     let mut log = Vec::new(alloc);
     match tell_all(parents, family, asked, answers, decided, &mut log) {
         Ok(()) => {}
@@ -165,11 +176,6 @@ fn next_sample(
             return Err(refused);
         }
     }
-    match sample(alloc, parents, spots, decided) {
-        Ok(sample) => Ok(sample),
-        Err(refused) => {
-            take_back(&log, decided);
-            Err(refused)
-        }
-    }
+    *from = first_undecided_spot(spots, decided, *from);
+    Ok(sample(parents, family, spots, decided, *from, room))
 }

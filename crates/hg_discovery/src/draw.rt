@@ -1,52 +1,110 @@
 //! The next sample.
-ghost use Rattle.std.specs.Prelude.{◌≡◌, ℕ, ◌≤◌, ◌<◌, ◌++◌, Some, length, take, filter, vec_len, All, OnOk, IfOk, Contains};
+ghost use Rattle.std.specs.Prelude.{◌≡◌, ℕ, ◌≤◌, ◌<◌, ◌++◌, [], Bool, List, Some, length, take, filter, vec_len, All, OnOk, IfOk, Contains};
+ghost use Rattle.std.specs.Vec.{vec_capacity};
+ghost use Rattle.hg_graph.specs.declared.graph.ParentPlaces.{ParentPlaces};
+ghost use Rattle.hg_discovery.specs.declared.status.Spot.{Spot};
 ghost use Rattle.hg_discovery.specs.declared.status.Status.TheVariants.{Undecided, Common, Missing};
 ghost use Rattle.hg_discovery.specs.Under.{IsInOrder, IsOneOf};
 ghost use Rattle.hg_discovery.specs.Search.{Is, IsClosed, AreSpots, IsSample, IsHead, Lists};
 ghost use Rattle.hg_discovery.specs.Spread.{AreCovered, IsMarked, MarksPlace};
 ghost use Rattle.hg_discovery.specs.Picking.{is_picked};
+ghost use Rattle.hg_discovery.specs.Family.{IsFamily, KeepsFamily, FitsChildren};
+ghost use Rattle.hg_discovery.specs.Cursor.{AreDecidedTo};
 
+use crate::family::{Family, has_undecided_child, is_undecided};
 use crate::status::{Spot, Status};
 use hg_graph::ParentPlaces;
 use std::alloc::{AllocError, Global};
 
 // How many changesets a round asks about.
-const SAMPLE: usize = 200;
+pub(crate) const SAMPLE: usize = 200;
 
-// The first of the undecided changesets: the heads among them, and then the others.
+// The first of the undecided changesets: the heads among them, and then the others. No spot before the index is undecided.
+// There is room for all of them.
 pub(crate) fn sample(
-    alloc: Global,
     parents: &[ParentPlaces],
+    family: &mut Family,
     spots: &[Spot],
     decided: &[Status],
-) -> Result<Vec<Spot>, AllocError>
+    from: usize,
+    mut found: Vec<Spot>,
+) -> Vec<Spot>
     requires len { length decided.now ≡ length parents.now }
     requires in_order { IsInOrder parents.now }
     requires closed { IsClosed parents.now decided.now }
     requires spots { AreSpots decided.now spots.now }
-    ensures { IfOk result (λ xs. IsSample (record { parents = parents.now; spots = spots.now; decided = decided.now; asked = xs.items }) xs.items) }
+    requires family { IsFamily parents.now decided.now family.old.children.items family.old.left.items }
+    requires decided { AreDecidedTo decided.now spots.now from }
+    requires empty { found.items ≡ [] }
+    requires room { 200 ≤ vec_capacity found }
+    ensures sample { IsSample (record { parents = parents.now; spots = spots.now; decided = decided.now; asked = result.items }) result.items }
+    ensures family { IsFamily parents.now decided.now family.new.children.items family.new.left.items }
 {
-    let covered = covered(alloc, parents, decided, Status::Undecided)?;
-    let mut found = Vec::new(alloc);
-    pick(
-        spots,
-        decided,
-        &covered,
-        Status::Undecided,
-        false,
-        SAMPLE,
-        &mut found,
-    )?;
-    pick(
-        spots,
-        decided,
-        &covered,
-        Status::Undecided,
-        true,
-        SAMPLE,
-        &mut found,
-    )?;
-    Ok(found)
+    draw(spots, decided, family, from, false, &mut found);
+    draw(spots, decided, family, from, true, &mut found);
+    found
+}
+
+// Adds the undecided ones of the spots from the index on that have an undecided child, or those that have none, until there
+// are enough.
+fn draw(
+    spots: &[Spot],
+    decided: &[Status],
+    family: &mut Family,
+    from: usize,
+    covered: bool,
+    found: &mut Vec<Spot>,
+)
+    requires spots { (x : Spot) → Contains spots.now x → x.place < length family.old.left.items }
+    requires fits { FitsChildren family.old.children.items family.old.left.items }
+    requires decided { AreDecidedTo decided.now spots.now from }
+    requires room { 200 ≤ vec_capacity found.old }
+    ensures family { KeepsFamily decided.now family.old.children.items family.old.left.items family.new.children.items family.new.left.items }
+    ensures len { length family.new.left.items ≡ length family.old.left.items }
+    ensures fits { FitsChildren family.new.children.items family.new.left.items }
+    ensures drawn { (ps : List ParentPlaces) → IsFamily ps decided.now family.old.children.items family.old.left.items → length decided.now ≡ length ps → (marks : List Bool) → AreCovered ps decided.now Undecided marks → vec_len found.old ≤ 200 → found.new.items ≡ take 200 (found.old.items ++ filter (is_picked decided.now marks Undecided covered) spots.now) }
+    ensures room { 200 ≤ vec_capacity found.new }
+{
+    for i in from..spots.len() {
+        if found.len() >= SAMPLE {
+            return;
+        }
+        if is_next(spots[i], decided, family, covered) {
+            found.push_reserved(spots[i]);
+        }
+    }
+}
+
+// Whether the spot is undecided, and has an undecided child or has none.
+fn is_next(spot: Spot, decided: &[Status], family: &mut Family, covered: bool) -> bool
+    requires place { spot.place < length family.old.left.items }
+    requires fits { FitsChildren family.old.children.items family.old.left.items }
+    ensures family { KeepsFamily decided.now family.old.children.items family.old.left.items family.new.children.items family.new.left.items }
+    ensures len { length family.new.left.items ≡ length family.old.left.items }
+    ensures fits { FitsChildren family.new.children.items family.new.left.items }
+    ensures next { (ps : List ParentPlaces) → IsFamily ps decided.now family.old.children.items family.old.left.items → length decided.now ≡ length ps → (marks : List Bool) → AreCovered ps decided.now Undecided marks → result ≡ is_picked decided.now marks Undecided covered spot }
+{
+    if !is_undecided(spot.place, decided) {
+        return false;
+    }
+    has_undecided_child(family, spot.place, decided) == covered
+}
+
+// The first spot from the index on that is undecided, or the end.
+pub(crate) fn first_undecided_spot(spots: &[Spot], decided: &[Status], from: usize) -> usize
+    requires { AreDecidedTo decided.now spots.now from }
+    ensures { AreDecidedTo decided.now spots.now result }
+{
+    for i in from..spots.len() {
+        if is_undecided(spots[i].place, decided) {
+            return i;
+        }
+    }
+    if from < spots.len() {
+        spots.len()
+    } else {
+        from
+    }
 }
 
 // The heads of what is common.

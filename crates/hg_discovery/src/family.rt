@@ -1,10 +1,14 @@
 //! The children of each changeset.
-ghost use Rattle.std.specs.Prelude.{List, IfOk};
+ghost use Rattle.std.specs.Prelude.{◌≡◌, ◌≤◌, ◌<◌, ◌↔◌, List, Some, length, slice_get, IfOk, IsTrue};
 ghost use Rattle.hg_graph.specs.declared.graph.ParentPlaces.{ParentPlaces};
 ghost use Rattle.hg_discovery.specs.declared.status.Status.{Status};
 ghost use Rattle.hg_discovery.specs.Under.{IsShapeOf};
-ghost use Rattle.hg_discovery.specs.Family.{IsFamily};
+ghost use Rattle.hg_discovery.specs.declared.status.Status.TheVariants.{Undecided};
+ghost use Rattle.hg_discovery.specs.declared.family.Stretch.{Stretch};
+ghost use Rattle.hg_discovery.specs.Search.{Is};
+ghost use Rattle.hg_discovery.specs.Family.{IsFamily, FitsChildren, KeepsFamily, HasChild, IsFirstLeft};
 
+use crate::status::Status;
 use hg_graph::Graph;
 use std::alloc::{AllocError, Global};
 
@@ -45,4 +49,41 @@ pub(crate) fn family_of(alloc: Global, graph: &Graph) -> Result<Family, AllocErr
         left.push(Stretch { from, to })?;
     }
     Ok(Family { children, left })
+}
+
+// Whether a child of the changeset is undecided. The decided ones that come first are left out from then on: so all such
+// questions together cost what the questions and the links are.
+pub(crate) fn has_undecided_child(family: &mut Family, place: usize, decided: &[Status]) -> bool
+    requires place { place < length family.old.left.items }
+    requires fits { FitsChildren family.old.children.items family.old.left.items }
+    ensures family { KeepsFamily decided.now family.old.children.items family.old.left.items family.new.children.items family.new.left.items }
+    ensures len { length family.new.left.items ≡ length family.old.left.items }
+    ensures fits { FitsChildren family.new.children.items family.new.left.items }
+    ensures child { (ps : List ParentPlaces) → IsFamily ps decided.now family.old.children.items family.old.left.items → IsTrue result ↔ HasChild ps decided.now place }
+{
+    let stretch = family.left[place];
+    let from = first_undecided(&family.children, stretch, decided);
+    let to = stretch.to;
+    family.left[place] = Stretch { from, to };
+    from < to
+}
+
+// Where the first undecided one of a stretch of children stands, or its end.
+fn first_undecided(children: &[usize], stretch: Stretch, decided: &[Status]) -> usize
+    requires { stretch.to ≤ length children.now }
+    ensures { IsFirstLeft children.now stretch decided.now result }
+{
+    for i in stretch.from..stretch.to {
+        if is_undecided(children[i], decided) {
+            return i;
+        }
+    }
+    stretch.to
+}
+
+// Whether there is a changeset at the place, and it is undecided.
+pub(crate) fn is_undecided(place: usize, decided: &[Status]) -> bool
+    ensures { IsTrue result ↔ Is decided.now Undecided place }
+{
+    place < decided.len() && decided[place] == Status::Undecided
 }

@@ -1,6 +1,6 @@
-use Rattle.std.proofs.Common.{◌≡◌, ◌∙◌, ◌+◌, ◌++◌, ◌∷◌, [], arith, length, sym, subst, ap}
+use Rattle.std.proofs.Common.{◌≡◌, ◌∙◌, ◌++◌, arith, length, ap}
 use Rattle.hg_discovery.specs.declared.family.Stretch.{Stretch}
-use Rattle.hg_discovery.proofs.FamilyLemmas.{IsFamilyTo, IsFamilyTo-push, IsFamilyTo-end}
+use Rattle.hg_discovery.proofs.FamilyLemmas.{IsFamilyTo-push, IsFamilyTo-end}
 use Rattle.hg_discovery.proofs.family.family_of.Goals as goal
 
 pub loop-place-preserved : goal.loop-place-preserved

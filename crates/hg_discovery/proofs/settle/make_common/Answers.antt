@@ -1,8 +1,7 @@
-use Rattle.std.proofs.Common.{rules, ◌≡◌, ◌<◌, ◌∙◌, arith, length, slice_get, Some, refl, sym, ap, subst}
+use Rattle.std.proofs.Common.{rules, ◌≡◌, ◌<◌, ◌∙◌, arith, length}
 use Rattle.std.proofs.lemmas.Option.{slice_get-get_or}
-use Rattle.hg_discovery.specs.declared.status.Status.TheVariants.{Undecided, Common}
+use Rattle.hg_discovery.specs.declared.status.Status.TheVariants.{Common}
 use Rattle.hg_discovery.specs.Under.{itself}
-use Rattle.hg_discovery.specs.Search.{Is}
 use Rattle.hg_discovery.proofs.LogLemmas.{Grows-log}
 use Rattle.hg_discovery.proofs.WalkLemmas.{IsWalked-start, ToParent, Below, read, up_within, up_grows, up_walked, walked_common}
 use Rattle.hg_discovery.proofs.settle.make_common.Goals as goal

@@ -1,7 +1,6 @@
-use Rattle.std.proofs.Common.{◌≡◌, ◌<◌, ◌∙◌, arith, length, slice_get, Some, refl, sym, ap, subst}
-use Rattle.hg_discovery.specs.declared.status.Status.TheVariants.{Undecided, Missing}
+use Rattle.std.proofs.Common.{◌≡◌, ◌∙◌, arith, length}
+use Rattle.hg_discovery.specs.declared.status.Status.TheVariants.{Missing}
 use Rattle.hg_discovery.specs.Under.{IsUnder, itself}
-use Rattle.hg_discovery.specs.Search.{Is}
 use Rattle.hg_discovery.specs.Family.{Stands}
 use Rattle.hg_discovery.specs.Log.{Grows, AreTaken}
 use Rattle.hg_discovery.proofs.LogLemmas.{Grows-log}

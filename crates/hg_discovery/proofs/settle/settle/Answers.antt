@@ -1,9 +1,8 @@
-use Rattle.std.proofs.Common.{◌≡◌, arith, sym, subst, ◌∙◌, ap}
+use Rattle.std.proofs.Common.{arith, sym, subst}
 use Rattle.std.proofs.lemmas.Option.{slice_get_within}
 use Rattle.hg_graph.proofs.MarkLemmas.{get-set_same}
 use Rattle.hg_discovery.specs.declared.status.Status.TheVariants.{Undecided}
 use Rattle.hg_discovery.specs.Search.{Is}
-use Rattle.hg_discovery.specs.Log.{Grows}
 use Rattle.hg_discovery.proofs.DecidedLemmas.{read_so, read_not_so}
 use Rattle.hg_discovery.proofs.WalkLemmas.{Grows-one}
 use Rattle.hg_discovery.proofs.settle.settle.Goals as goal

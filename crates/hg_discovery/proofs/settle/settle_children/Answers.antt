@@ -1,4 +1,4 @@
-use Rattle.std.proofs.Common.{◌≡◌, ◌<◌, ◌+◌, inl, inr, arith, length, get_or, slice_get, Some, refl}
+use Rattle.std.proofs.Common.{◌≡◌, ◌+◌, inl, inr, arith, get_or, slice_get, Some, refl}
 use Rattle.std.proofs.lemmas.Option.{slice_get-get_or}
 use Rattle.hg_discovery.specs.declared.status.Status.TheVariants.{Missing}
 use Rattle.hg_discovery.specs.Family.{Stands}

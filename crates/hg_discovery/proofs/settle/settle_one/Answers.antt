@@ -1,6 +1,6 @@
 use Rattle.std.proofs.Common.{ap, Some}
 use Rattle.hg_discovery.specs.declared.status.Status.TheVariants.{Common}
-use Rattle.std.proofs.Common.{◌∙◌, sym}
+use Rattle.std.proofs.Common.{◌∙◌}
 use Rattle.hg_discovery.proofs.WalkLemmas.{Grows-wider}
 use Rattle.hg_discovery.proofs.settle.settle_one.Goals as goal
 

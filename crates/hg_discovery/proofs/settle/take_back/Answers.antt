@@ -1,4 +1,4 @@
-use Rattle.std.proofs.Common.{◌≡◌, ◌<◌, arith, length, get_or, Some, slice_get}
+use Rattle.std.proofs.Common.{◌≡◌, arith, get_or, Some, slice_get}
 use Rattle.std.proofs.lemmas.Option.{slice_get-get_or}
 use Rattle.hg_graph.proofs.GraphLemmas.{Contains-from_place}
 use Rattle.hg_discovery.proofs.LogLemmas.{IsTakenBack-step, IsTakenBack-end}

@@ -1,7 +1,5 @@
-use Rattle.std.proofs.Common.{arith, inr, refl}
-use Rattle.std.proofs.lemmas.Option.{slice_get_within}
 use Rattle.hg_discovery.specs.declared.status.Status.TheVariants.{Undecided}
-use Rattle.hg_discovery.proofs.DecidedLemmas.{read_so, read_not_so}
+use Rattle.hg_discovery.proofs.DecidedLemmas.{read_so}
 use Rattle.hg_discovery.proofs.settle.tell.Goals as goal
 
 pub make_common-requires-clause-undecided : goal.make_common-requires-clause-undecided

@@ -1,4 +1,4 @@
-use Rattle.std.proofs.Common.{◌≡◌, ◌≤◌, ◌-◌, ◌∙◌, arith, length, refl, sym, subst}
+use Rattle.std.proofs.Common.{◌≡◌, ◌≤◌, ◌-◌, ◌∙◌, length, refl, sym, subst}
 use Rattle.hg_graph.proofs.MarkLemmas.{written}
 use Rattle.hg_discovery.specs.Search.{Search, IsSearch}
 use Rattle.hg_discovery.specs.Answers.{IsRound, AreTold}

@@ -15,16 +15,16 @@ undecided-requires c x h =
     let within = shared_within s c.graph.ensures.valid ps shape c.in_ok-spots.spots.items c.in_ok-spots.ensures.shared x (subst (λ xs. Contains xs x) c.deref.ensures.value h) in
     omega (arith, within, c.len.ensures, c.in_ok-parents.parents.ok.0)
 
-pub sample-requires-clause-in_order : goal.sample-requires-clause-in_order
-sample-requires-clause-in_order c =
+pub sample-asked-requires-clause-in_order : goal.sample-asked-requires-clause-in_order
+sample-asked-requires-clause-in_order c =
     let s = c.args.replica.now.history in
     let ps = c.in_ok-parents.parents.items in
     let shape : IsShapeOf (changesets s) ps = subst (λ cs. IsShapeOf cs ps) c.graph.ensures.graph c.in_ok-parents.ensures in
     let order : IsInOrder ps = in_order s c.graph.ensures.valid ps shape c.in_ok-spots.spots.items c.in_ok-spots.ensures.shared in
     rw c.deref-2.ensures.value order
 
-pub sample-requires-clause-closed : goal.sample-requires-clause-closed
-sample-requires-clause-closed c =
+pub sample-asked-requires-clause-closed : goal.sample-asked-requires-clause-closed
+sample-asked-requires-clause-closed c =
     let s = c.args.replica.now.history in
     let ps = c.in_ok-parents.parents.items in
     let xs = c.in_ok-spots.spots.items in
@@ -34,8 +34,8 @@ sample-requires-clause-closed c =
     let undecided : (k : ℕ) → Is ds Undecided k ↔ ((x : Spot) × Contains xs x × (x.place ≡ k)) = subst (λ ys. (k : ℕ) → Is ds Undecided k ↔ ((x : Spot) × Contains ys x × (x.place ≡ k))) c.deref.ensures.value c.in_ok-decided.ensures.undecided in
     rw c.deref-2.ensures.value (rw c.deref-4.ensures.value (closed_start s c.graph.ensures.valid ps shape xs c.in_ok-spots.ensures.shared ds len undecided c.in_ok-decided.ensures.nothing_common))
 
-pub sample-requires-clause-spots : goal.sample-requires-clause-spots
-sample-requires-clause-spots c =
+pub sample-asked-requires-clause-spots : goal.sample-asked-requires-clause-spots
+sample-asked-requires-clause-spots c =
     let s = c.args.replica.now.history in
     let ps = c.in_ok-parents.parents.items in
     let xs = c.in_ok-spots.spots.items in
@@ -44,6 +44,14 @@ sample-requires-clause-spots c =
     let len : length ds ≡ length ps = omega (arith, c.in_ok-decided.ensures.len, c.len.ensures, c.in_ok-parents.parents.ok.0) in
     let undecided : (k : ℕ) → Is ds Undecided k ↔ ((x : Spot) × Contains xs x × (x.place ≡ k)) = subst (λ ys. (k : ℕ) → Is ds Undecided k ↔ ((x : Spot) × Contains ys x × (x.place ≡ k))) c.deref.ensures.value c.in_ok-decided.ensures.undecided in
     rw c.deref-3.ensures.value (rw c.deref-4.ensures.value (spots_start s c.graph.ensures.valid ps shape xs c.in_ok-spots.ensures.shared ds len undecided c.in_ok-decided.ensures.nothing_common c.in_ok-spots.ensures.ascending))
+
+pub sample-asked-requires-clause-family : goal.sample-asked-requires-clause-family
+sample-asked-requires-clause-family c =
+    let s = c.args.replica.now.history in
+    let ps = c.in_ok-parents.parents.items in
+    let ds = c.in_ok-decided.decided.items in
+    let shape : IsShapeOf (changesets s) ps = subst (λ cs. IsShapeOf cs ps) c.graph.ensures.graph c.in_ok-parents.ensures in
+    rw c.deref-2.ensures.value (rw c.deref-4.ensures.value (c.in_ok-family.ensures ps ds (subst (λ cs. IsShapeOf cs ps) (sym c.graph-2.ensures.graph) shape)))
 
 pub invariant_of-result : goal.invariant_of-result
 invariant_of-result c =
@@ -54,13 +62,17 @@ invariant_of-result c =
     let shape : IsShapeOf (changesets s) ps = subst (λ cs. IsShapeOf cs ps) c.graph.ensures.graph c.in_ok-parents.ensures in
     let len : length ds ≡ length ps = omega (arith, c.in_ok-decided.ensures.len, c.len.ensures, c.in_ok-parents.parents.ok.0) in
     let undecided : (k : ℕ) → Is ds Undecided k ↔ ((x : Spot) × Contains xs x × (x.place ≡ k)) = subst (λ ys. (k : ℕ) → Is ds Undecided k ↔ ((x : Spot) × Contains ys x × (x.place ≡ k))) c.deref.ensures.value c.in_ok-decided.ensures.undecided in
-    let search : IsSearch (record { parents = ps; spots = xs; decided = ds; asked = c.in_ok-asked.asked.items }) = record {
+    let search : IsSearch (record { parents = ps; spots = xs; decided = ds; asked = c.sample-asked.result.items }) = record {
       len = len;
       in_order = in_order s c.graph.ensures.valid ps shape xs c.in_ok-spots.ensures.shared;
       spots = spots_start s c.graph.ensures.valid ps shape xs c.in_ok-spots.ensures.shared ds len undecided c.in_ok-decided.ensures.nothing_common c.in_ok-spots.ensures.ascending;
       closed = closed_start s c.graph.ensures.valid ps shape xs c.in_ok-spots.ensures.shared ds len undecided c.in_ok-decided.ensures.nothing_common;
-      sample = rw c.deref-2.ensures.value at (rw c.deref-3.ensures.value at (rw c.deref-4.ensures.value at c.in_ok-asked.ensures));
-    } in (search, c.in_ok-family.ensures ps ds (subst (λ cs. IsShapeOf cs ps) (sym c.graph-2.ensures.graph) shape))
+      sample = rw c.deref-2.ensures.value at (rw c.deref-3.ensures.value at (rw c.deref-4.ensures.value at c.sample-asked.ensures.sample));
+    } in (
+      search,
+      rw c.deref-2.ensures.value at (rw c.deref-4.ensures.value at c.sample-asked.ensures.family),
+      λ i x l at u. omega (arith, l),
+    )
 
 pub returns : goal.returns
 returns c =
