@@ -72,7 +72,7 @@ impl Discovery {
         let decided = undecided(alloc, parents.len(), &spots)?;
         let mut family = family_of(alloc, replica.graph())?;
         let room = Vec::with_capacity(alloc, SAMPLE)?;
-        let asked = sample(&parents, &mut family, &spots, &decided, 0, room);
+        let asked = sample(&mut family, &spots, &decided, 0, room);
         Ok(Discovery {
             parents,
             spots,
@@ -177,5 +177,5 @@ fn next_sample(
         }
     }
     *from = first_undecided_spot(spots, decided, *from);
-    Ok(sample(parents, family, spots, decided, *from, room))
+    Ok(sample(family, spots, decided, *from, room))
 }

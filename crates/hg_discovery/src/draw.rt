@@ -1,5 +1,5 @@
 //! The next sample.
-ghost use Rattle.std.specs.Prelude.{◌≡◌, ℕ, ◌≤◌, ◌<◌, ◌++◌, [], Bool, List, Some, length, take, filter, vec_len, All, OnOk, IfOk, Contains};
+ghost use Rattle.std.specs.Prelude.{◌≡◌, ℕ, ◌≤◌, ◌<◌, ◌++◌, [], Bool, List, Some, length, slice_get, take, filter, vec_len, All, OnOk, IfOk, Contains};
 ghost use Rattle.std.specs.Vec.{vec_capacity};
 ghost use Rattle.hg_graph.specs.declared.graph.ParentPlaces.{ParentPlaces};
 ghost use Rattle.hg_discovery.specs.declared.status.Spot.{Spot};
@@ -22,23 +22,20 @@ pub(crate) const SAMPLE: usize = 200;
 // The first of the undecided changesets: the heads among them, and then the others. No spot before the index is undecided.
 // There is room for all of them.
 pub(crate) fn sample(
-    parents: &[ParentPlaces],
     family: &mut Family,
     spots: &[Spot],
     decided: &[Status],
     from: usize,
     mut found: Vec<Spot>,
 ) -> Vec<Spot>
-    requires len { length decided.now ≡ length parents.now }
-    requires in_order { IsInOrder parents.now }
-    requires closed { IsClosed parents.now decided.now }
+    requires len { length decided.now ≡ length family.old.left.items }
+    requires fits { FitsChildren family.old.children.items family.old.left.items }
     requires spots { AreSpots decided.now spots.now }
-    requires family { IsFamily parents.now decided.now family.old.children.items family.old.left.items }
     requires decided { AreDecidedTo decided.now spots.now from }
     requires empty { found.items ≡ [] }
     requires room { 200 ≤ vec_capacity found }
-    ensures sample { IsSample (record { parents = parents.now; spots = spots.now; decided = decided.now; asked = result.items }) result.items }
-    ensures family { IsFamily parents.now decided.now family.new.children.items family.new.left.items }
+    ensures sample { (ps : List ParentPlaces) → IsInOrder ps → IsClosed ps decided.now → IsFamily ps decided.now family.old.children.items family.old.left.items → IsSample (record { parents = ps; spots = spots.now; decided = decided.now; asked = result.items }) result.items }
+    ensures family { KeepsFamily decided.now family.old.children.items family.old.left.items family.new.children.items family.new.left.items }
 {
     draw(spots, decided, family, from, false, &mut found);
     draw(spots, decided, family, from, true, &mut found);
@@ -93,7 +90,8 @@ fn is_next(spot: Spot, decided: &[Status], family: &mut Family, covered: bool) -
 // The first spot from the index on that is undecided, or the end.
 pub(crate) fn first_undecided_spot(spots: &[Spot], decided: &[Status], from: usize) -> usize
     requires { AreDecidedTo decided.now spots.now from }
-    ensures { AreDecidedTo decided.now spots.now result }
+    ensures before { AreDecidedTo decided.now spots.now result }
+    ensures found { (x : Spot) → slice_get spots.now result ≡ Some x → Is decided.now Undecided x.place }
 {
     for i in from..spots.len() {
         if is_undecided(spots[i].place, decided) {

@@ -17,9 +17,9 @@ take_back-requires c k h =
 pub sample-requires-clause-spots : goal.sample-requires-clause-spots
 sample-requires-clause-spots c = spots_after c.args.parents.now c.args.asked.now c.args.answers.now c.args.decided.now c.tell_all.new.decided c.args.spots.now c.in-Ok.ensures.told c.requires.search.spots
 
-pub sample-requires-clause-family : goal.sample-requires-clause-family
-sample-requires-clause-family c =
-    IsFamily-later c.args.parents.now c.args.decided.now c.tell_all.new.decided _ _ (undecided_before c.args.parents.now c.args.asked.now c.args.answers.now c.args.decided.now c.tell_all.new.decided c.in-Ok.ensures.told) c.requires.family
+pub returns-clause-family : goal.returns-clause-family
+returns-clause-family c =
+    c.sample.ensures.family c.args.parents.now (IsFamily-later c.args.parents.now c.args.decided.now c.tell_all.new.decided _ _ (undecided_before c.args.parents.now c.args.asked.now c.args.answers.now c.args.decided.now c.tell_all.new.decided c.in-Ok.ensures.told) c.requires.family)
 
 pub first_undecided_spot-requires : goal.first_undecided_spot-requires
 first_undecided_spot-requires c =
@@ -31,5 +31,6 @@ returns-clause-search c = record {
   in_order = c.requires.search.in_order;
   spots = spots_after c.args.parents.now c.args.asked.now c.args.answers.now c.args.decided.now c.tell_all.new.decided c.args.spots.now c.in-Ok.ensures.told c.requires.search.spots;
   closed = c.in-Ok.ensures.closed;
-  sample = c.sample.ensures.sample;
+  sample = c.sample.ensures.sample c.args.parents.now c.requires.search.in_order c.in-Ok.ensures.closed
+      (IsFamily-later c.args.parents.now c.args.decided.now c.tell_all.new.decided _ _ (undecided_before c.args.parents.now c.args.asked.now c.args.answers.now c.args.decided.now c.tell_all.new.decided c.in-Ok.ensures.told) c.requires.family);
 }

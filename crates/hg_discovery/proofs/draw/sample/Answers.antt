@@ -11,23 +11,23 @@ use Rattle.hg_discovery.proofs.SampleLemmas.{marks_exist}
 use Rattle.hg_discovery.proofs.draw.sample.Goals as goal
 
 pub returns-clause-sample : goal.returns-clause-sample
-returns-clause-sample c =
+returns-clause-sample c ps order closed f =
     let ds = c.args.decided.now in
-    let ps = c.args.parents.now in
+    let len : length ds ≡ length ps = c.requires.len ∙ f.len in
     let spots = c.args.spots.now in
-    let marks = marks_exist ps ds c.requires.len in
+    let marks = marks_exist ps ds len in
     let s : Search = record { parents = ps; spots = spots; decided = ds; asked = c.draw-2.new.found.items } in
     let heads : List Spot = filter (is_picked ds marks.0 Undecided false) spots in
     let others : List Spot = filter (is_picked ds marks.0 Undecided true) spots in
-    let convex = λ (k m j : ℕ). between ps ds c.requires.closed c.requires.len c.requires.in_order k m j in
+    let convex = λ (k m j : ℕ). between ps ds closed len order k m j in
     let none : vec_len c.args.found ≤ 200 = omega (arith, c.args.found.ok.0, ap length c.requires.empty) in
-    let first : c.draw.new.found.items ≡ take 200 heads = c.draw.ensures.drawn ps c.requires.family c.requires.len marks.0 marks.1 none ∙ ap (λ zs. take 200 (zs ++ heads)) c.requires.empty in
+    let first : c.draw.new.found.items ≡ take 200 heads = c.draw.ensures.drawn ps f len marks.0 marks.1 none ∙ ap (λ zs. take 200 (zs ++ heads)) c.requires.empty in
     let short : vec_len c.draw.new.found ≤ 200 = omega (arith, c.draw.new.found.ok.0, ap length first, length-take 200 heads) in
     record {
       heads = heads;
       others = others;
-      heads_are = heads_are s Undecided marks.0 c.requires.in_order c.requires.spots marks.1 convex;
-      others_are = others_are s Undecided marks.0 c.requires.in_order c.requires.spots marks.1 convex;
-      first = c.draw-2.ensures.drawn ps (c.draw.ensures.family ps c.requires.family) c.requires.len marks.0 marks.1 short
+      heads_are = heads_are s Undecided marks.0 order c.requires.spots marks.1 convex;
+      others_are = others_are s Undecided marks.0 order c.requires.spots marks.1 convex;
+      first = c.draw-2.ensures.drawn ps (c.draw.ensures.family ps f) len marks.0 marks.1 short
           ∙ ap (λ zs. take 200 (zs ++ others)) first ∙ take_front 200 heads others;
     }

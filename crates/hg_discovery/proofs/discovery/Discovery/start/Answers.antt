@@ -1,9 +1,10 @@
-use Rattle.std.proofs.Common.{◌≡◌, ◌↔◌, ℕ, arith, length, Contains, sym, subst}
+use Rattle.std.proofs.Common.{◌≡◌, ◌↔◌, ℕ, arith, length, Contains, sym, subst, ◌∙◌}
 use Rattle.hg_phases.specs.State.{changesets}
 use Rattle.hg_discovery.specs.declared.status.Status.TheVariants.{Undecided}
 use Rattle.hg_discovery.specs.declared.status.Spot.{Spot}
 use Rattle.hg_discovery.specs.Under.{IsShapeOf, IsInOrder}
-use Rattle.hg_discovery.specs.Search.{Is, IsSearch}
+use Rattle.hg_discovery.specs.Search.{Is, IsClosed, IsSearch}
+use Rattle.hg_discovery.specs.Family.{IsFamily}
 use Rattle.hg_discovery.proofs.StartLemmas.{in_order, shared_within, closed_start, spots_start}
 use Rattle.hg_discovery.proofs.discovery.Discovery.start.Goals as goal
 
@@ -15,25 +16,6 @@ undecided-requires c x h =
     let within = shared_within s c.graph.ensures.valid ps shape c.in_ok-spots.spots.items c.in_ok-spots.ensures.shared x (subst (λ xs. Contains xs x) c.deref.ensures.value h) in
     omega (arith, within, c.len.ensures, c.in_ok-parents.parents.ok.0)
 
-pub sample-asked-requires-clause-in_order : goal.sample-asked-requires-clause-in_order
-sample-asked-requires-clause-in_order c =
-    let s = c.args.replica.now.history in
-    let ps = c.in_ok-parents.parents.items in
-    let shape : IsShapeOf (changesets s) ps = subst (λ cs. IsShapeOf cs ps) c.graph.ensures.graph c.in_ok-parents.ensures in
-    let order : IsInOrder ps = in_order s c.graph.ensures.valid ps shape c.in_ok-spots.spots.items c.in_ok-spots.ensures.shared in
-    rw c.deref-2.ensures.value order
-
-pub sample-asked-requires-clause-closed : goal.sample-asked-requires-clause-closed
-sample-asked-requires-clause-closed c =
-    let s = c.args.replica.now.history in
-    let ps = c.in_ok-parents.parents.items in
-    let xs = c.in_ok-spots.spots.items in
-    let ds = c.in_ok-decided.decided.items in
-    let shape : IsShapeOf (changesets s) ps = subst (λ cs. IsShapeOf cs ps) c.graph.ensures.graph c.in_ok-parents.ensures in
-    let len : length ds ≡ length ps = omega (arith, c.in_ok-decided.ensures.len, c.len.ensures, c.in_ok-parents.parents.ok.0) in
-    let undecided : (k : ℕ) → Is ds Undecided k ↔ ((x : Spot) × Contains xs x × (x.place ≡ k)) = subst (λ ys. (k : ℕ) → Is ds Undecided k ↔ ((x : Spot) × Contains ys x × (x.place ≡ k))) c.deref.ensures.value c.in_ok-decided.ensures.undecided in
-    rw c.deref-2.ensures.value (rw c.deref-4.ensures.value (closed_start s c.graph.ensures.valid ps shape xs c.in_ok-spots.ensures.shared ds len undecided c.in_ok-decided.ensures.nothing_common))
-
 pub sample-asked-requires-clause-spots : goal.sample-asked-requires-clause-spots
 sample-asked-requires-clause-spots c =
     let s = c.args.replica.now.history in
@@ -43,15 +25,22 @@ sample-asked-requires-clause-spots c =
     let shape : IsShapeOf (changesets s) ps = subst (λ cs. IsShapeOf cs ps) c.graph.ensures.graph c.in_ok-parents.ensures in
     let len : length ds ≡ length ps = omega (arith, c.in_ok-decided.ensures.len, c.len.ensures, c.in_ok-parents.parents.ok.0) in
     let undecided : (k : ℕ) → Is ds Undecided k ↔ ((x : Spot) × Contains xs x × (x.place ≡ k)) = subst (λ ys. (k : ℕ) → Is ds Undecided k ↔ ((x : Spot) × Contains ys x × (x.place ≡ k))) c.deref.ensures.value c.in_ok-decided.ensures.undecided in
-    rw c.deref-3.ensures.value (rw c.deref-4.ensures.value (spots_start s c.graph.ensures.valid ps shape xs c.in_ok-spots.ensures.shared ds len undecided c.in_ok-decided.ensures.nothing_common c.in_ok-spots.ensures.ascending))
+    rw c.deref-2.ensures.value (rw c.deref-3.ensures.value (spots_start s c.graph.ensures.valid ps shape xs c.in_ok-spots.ensures.shared ds len undecided c.in_ok-decided.ensures.nothing_common c.in_ok-spots.ensures.ascending))
 
-pub sample-asked-requires-clause-family : goal.sample-asked-requires-clause-family
-sample-asked-requires-clause-family c =
+pub sample-asked-requires-clause-len : goal.sample-asked-requires-clause-len
+sample-asked-requires-clause-len c =
     let s = c.args.replica.now.history in
     let ps = c.in_ok-parents.parents.items in
     let ds = c.in_ok-decided.decided.items in
-    let shape : IsShapeOf (changesets s) ps = subst (λ cs. IsShapeOf cs ps) c.graph.ensures.graph c.in_ok-parents.ensures in
-    rw c.deref-2.ensures.value (rw c.deref-4.ensures.value (c.in_ok-family.ensures ps ds (subst (λ cs. IsShapeOf cs ps) (sym c.graph-2.ensures.graph) shape)))
+    let shape : IsShapeOf c.graph-2.result.now ps = subst (λ cs. IsShapeOf cs ps) (c.graph.ensures.graph ∙ sym c.graph-2.ensures.graph) c.in_ok-parents.ensures in
+    let len : length ds ≡ length ps = omega (arith, c.in_ok-decided.ensures.len, c.len.ensures, c.in_ok-parents.parents.ok.0) in
+    rw c.deref-3.ensures.value (len ∙ sym (c.in_ok-family.ensures ps ds shape).len)
+
+pub sample-asked-requires-clause-fits : goal.sample-asked-requires-clause-fits
+sample-asked-requires-clause-fits c =
+    let ps = c.in_ok-parents.parents.items in
+    let shape : IsShapeOf c.graph-2.result.now ps = subst (λ cs. IsShapeOf cs ps) (c.graph.ensures.graph ∙ sym c.graph-2.ensures.graph) c.in_ok-parents.ensures in
+    (c.in_ok-family.ensures ps c.in_ok-decided.decided.items shape).within
 
 pub invariant_of-result : goal.invariant_of-result
 invariant_of-result c =
@@ -62,15 +51,21 @@ invariant_of-result c =
     let shape : IsShapeOf (changesets s) ps = subst (λ cs. IsShapeOf cs ps) c.graph.ensures.graph c.in_ok-parents.ensures in
     let len : length ds ≡ length ps = omega (arith, c.in_ok-decided.ensures.len, c.len.ensures, c.in_ok-parents.parents.ok.0) in
     let undecided : (k : ℕ) → Is ds Undecided k ↔ ((x : Spot) × Contains xs x × (x.place ≡ k)) = subst (λ ys. (k : ℕ) → Is ds Undecided k ↔ ((x : Spot) × Contains ys x × (x.place ≡ k))) c.deref.ensures.value c.in_ok-decided.ensures.undecided in
+    let order : IsInOrder ps = in_order s c.graph.ensures.valid ps shape xs c.in_ok-spots.ensures.shared in
+    let closed : IsClosed ps ds = closed_start s c.graph.ensures.valid ps shape xs c.in_ok-spots.ensures.shared ds len undecided c.in_ok-decided.ensures.nothing_common in
+    let before = c.in_ok-family.family in
+    let family : IsFamily ps ds before.children.items before.left.items = c.in_ok-family.ensures ps ds (subst (λ cs. IsShapeOf cs ps) (sym c.graph-2.ensures.graph) shape) in
+    let drawn = rw c.deref-2.ensures.value at (rw c.deref-3.ensures.value at c.sample-asked.ensures.sample) in
+    let kept = rw c.deref-3.ensures.value at c.sample-asked.ensures.family in
     let search : IsSearch (record { parents = ps; spots = xs; decided = ds; asked = c.sample-asked.result.items }) = record {
       len = len;
-      in_order = in_order s c.graph.ensures.valid ps shape xs c.in_ok-spots.ensures.shared;
+      in_order = order;
       spots = spots_start s c.graph.ensures.valid ps shape xs c.in_ok-spots.ensures.shared ds len undecided c.in_ok-decided.ensures.nothing_common c.in_ok-spots.ensures.ascending;
-      closed = closed_start s c.graph.ensures.valid ps shape xs c.in_ok-spots.ensures.shared ds len undecided c.in_ok-decided.ensures.nothing_common;
-      sample = rw c.deref-2.ensures.value at (rw c.deref-3.ensures.value at (rw c.deref-4.ensures.value at c.sample-asked.ensures.sample));
+      closed = closed;
+      sample = drawn ps order closed family;
     } in (
       search,
-      rw c.deref-2.ensures.value at (rw c.deref-4.ensures.value at c.sample-asked.ensures.family),
+      kept ps family,
       λ i x l at u. omega (arith, l),
     )
 
