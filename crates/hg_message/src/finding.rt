@@ -68,11 +68,7 @@ pub(crate) fn relevant_places(
 }
 
 // The hints that are of the changesets at the marked places, in their order.
-fn marked_hints(
-    alloc: Global,
-    replica: &Replica,
-    marks: &[bool],
-) -> Result<Vec<Hint>, AllocError> {
+fn marked_hints(alloc: Global, replica: &Replica, marks: &[bool]) -> Result<Vec<Hint>, AllocError> {
     let mut hints = Vec::with_capacity(alloc, marks.len())?;
     for (place, marked) in marks.iter().enumerate() {
         if *marked {
