@@ -72,6 +72,17 @@ fn a_marker_is_new_once(rt: HostRuntime) {
     assert!(rt; store.with_successor(TWOS) == [0usize].as_slice());
 }
 
+#[test]
+fn a_hint_leads_to_what_names_a_changeset(rt: HostRuntime) {
+    let alloc = rt.alloc();
+    let mut replica = Replica::new(alloc);
+    let root = commit(alloc, &mut replica, Node::NULL, Phase::Draft).expect(&rt, "memory");
+    let part = marker(alloc, root, TWOS).expect(&rt, "memory");
+    assert!(rt; replica.absorb(&part).is_ok());
+    let mentions = replica.store().mentions_near(root, replica.hint_at(0));
+    assert!(rt; mentions.as_predecessor() == [0usize].as_slice());
+}
+
 // The part has a child of the root and a marker on it, and then a changeset of an unknown parent; and it publishes the root.
 #[test]
 fn a_refused_part_changes_nothing(rt: HostRuntime) {
