@@ -1,5 +1,5 @@
 pub mod UnderLemmas
-pub mod SpreadLemmas
+pub mod ClosedLemmas
 pub mod DecidedLemmas
 pub mod ToldLemmas
 pub mod DrawLemmas

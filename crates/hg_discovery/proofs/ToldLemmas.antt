@@ -9,7 +9,7 @@ use Rattle.hg_discovery.specs.Under.{IsUnder, IsInOrder, itself}
 use Rattle.hg_discovery.specs.Search.{Is, IsClosed, AreSpots}
 use Rattle.hg_discovery.specs.Answers.{IsTold, AreTold}
 use Rattle.hg_discovery.proofs.UnderLemmas.{not_both_uc, not_both_um, not_both_cm, three}
-use Rattle.hg_discovery.proofs.SpreadLemmas.{decided_closed}
+use Rattle.hg_discovery.proofs.ClosedLemmas.{decided_closed}
 
 module _ (ps : List ParentPlaces) where
   pub told_len : (k : ℕ) (said : Bool) (old new : List Status) → IsTold ps k said old new → length new ≡ length old

@@ -28,6 +28,8 @@ pub struct Discovery {
     decided: Vec<Status>,
     asked: Vec<Spot>,
     family: Family,
+
+    // No spot before it is undecided.
     from: usize,
     alloc: Global,
 }
