@@ -1,7 +1,10 @@
 //! An inbox in one thread, and its refusals.
-use hg_live::{Full, Inbox, InboxRefusal};
+ghost use Rattle.std.specs.Prelude.{◌≡◌};
+
+use hg_live::{Full, Inbox, InboxRefusal, Seat};
 use std::alloc::Global;
 use std::process::Abort;
+use std::sync::Wait;
 use std::test::*;
 
 fn message(rt: &impl Abort, alloc: Global, text: &[u8]) -> Vec<u8> {
@@ -24,8 +27,33 @@ fn gives(taken: Option<Vec<u8>>, text: &[u8]) -> bool {
     }
 }
 
+// What is left where the inbox is closed with one seat, which is refused, and then with both.
+fn left<R: Wait + Abort>(
+    rt: &R,
+    alloc: Global,
+    inbox: Inbox,
+    one: Seat,
+    other: Seat,
+) -> Vec<Vec<u8>>
+    requires one { one.inbox ≡ inbox.name }
+    requires other { other.inbox ≡ inbox.name }
+{
+    let seats = vec![in alloc; one].expect(rt, "memory");
+    let Err(mut unclosed) = inbox.close(rt, seats) else {
+        assert!(rt; false, "a seat is out");
+        return Vec::new(alloc);
+    };
+    assert!(rt; unclosed.refusal == InboxRefusal::SeatsOut);
+    unclosed.seats.push(other).expect(rt, "memory");
+    let Ok(rest) = unclosed.inbox.close(rt, unclosed.seats) else {
+        assert!(rt; false, "all seats are back");
+        return Vec::new(alloc);
+    };
+    rest
+}
+
 #[test]
-fn messages_come_out_in_order_at_any_seat(rt: HostRuntime) {
+fn messages_come_out_in_order_at_any_seat_and_the_last_at_the_close(rt: HostRuntime) {
     let alloc = rt.alloc();
     let mut inbox = Inbox::new(alloc, 2).expect(&rt, "an inbox");
     let mut s = inbox.seat().expect(&rt, "a seat");
@@ -38,28 +66,22 @@ fn messages_come_out_in_order_at_any_seat(rt: HostRuntime) {
     assert!(rt; gives(inbox.take(&rt, &mut s), b"y"));
     assert!(rt; inbox.take(&rt, &mut t).is_none());
     assert!(rt; inbox.put(&rt, &mut s, message(&rt, alloc, b"z")).is_ok());
+
+    let rest = left(&rt, alloc, inbox, s, t);
+    assert_eq!(rt; rest.len(), 1);
+    assert_eq!(rt; rest[0].as_slice(), b"z".as_slice());
 }
 
 #[test]
-fn an_inbox_is_closed_by_all_its_seats(rt: HostRuntime) {
+fn what_is_left_comes_out_front_first(rt: HostRuntime) {
     let alloc = rt.alloc();
     let mut inbox = Inbox::new(alloc, 2).expect(&rt, "an inbox");
     let mut s = inbox.seat().expect(&rt, "a seat");
     let t = inbox.seat().expect(&rt, "a seat");
     assert!(rt; inbox.put(&rt, &mut s, message(&rt, alloc, b"y")).is_ok());
     assert!(rt; inbox.put(&rt, &mut s, message(&rt, alloc, b"z")).is_ok());
-    let one = vec![in alloc; s].expect(&rt, "memory");
 
-    let Err(mut unclosed) = inbox.close(&rt, one) else {
-        assert!(rt; false, "a seat is out");
-        return;
-    };
-    assert!(rt; unclosed.refusal == InboxRefusal::SeatsOut);
-    unclosed.seats.push(t).expect(&rt, "memory");
-    let Ok(rest) = unclosed.inbox.close(&rt, unclosed.seats) else {
-        assert!(rt; false, "all seats are back");
-        return;
-    };
+    let rest = left(&rt, alloc, inbox, s, t);
     assert_eq!(rt; rest.len(), 2);
     assert_eq!(rt; rest[0].as_slice(), b"y".as_slice());
     assert_eq!(rt; rest[1].as_slice(), b"z".as_slice());
