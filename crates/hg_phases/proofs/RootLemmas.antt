@@ -89,10 +89,35 @@ same_list (g ∷ gs) (h ∷ hs) e each =
     let phase = each zero g h refl refl in
     λ t. record { changeset = first t; phase = phase t } ∷ rest t
 
-module _ (s t : State) (roots listed : List (Phase × Node)) (valid : IsValid s) (are : AreRoots s roots) (same : AreSameRoots listed roots) (opened : IsOpened (changesets s) listed t) where
-  facing : (i : ℕ) (h : Held) → slice_get s.held i ≡ Some h → (g : Held) × (slice_get t.held i ≡ Some g) × (g.changeset ≡ h.changeset)
-  facing i h at = at_place t.held i h.changeset (ap (λ cs. slice_get cs i) opened.held ∙ changeset_at s i h at)
+facing : (s t : State) → changesets t ≡ changesets s → (i : ℕ) (h : Held) → slice_get s.held i ≡ Some h → (g : Held) × (slice_get t.held i ≡ Some g) × (g.changeset ≡ h.changeset)
+facing s t same i h at = at_place t.held i h.changeset (ap (λ cs. slice_get cs i) same ∙ changeset_at s i h at)
 
+-- where no root has a lower phase in t, nothing has
+module _ (s t : State) (valid : IsValid s) (same : changesets t ≡ changesets s)
+    (rises : (child parent : Held) → Contains t.held child → Contains t.held parent → IsParent child.changeset (node_of parent.changeset) → rank parent.phase ≤ rank child.phase)
+    (gives : (h g : Held) → Contains s.held h → Contains t.held g → g.changeset ≡ h.changeset → IsRoot s h → rank h.phase ≤ rank g.phase) where
+  no_lower : (n i : ℕ) → i < n → (g h : Held) → slice_get t.held i ≡ Some g → slice_get s.held i ≡ Some h → g.changeset ≡ h.changeset → rank h.phase ≤ rank g.phase
+  no_lower zero i l g h at_g at_h e = absurd (omega arith)
+  no_lower (suc n) i l g h at_g at_h e = elim (cases_lt (rank g.phase) (rank h.phase)) [
+    | inl lower ↦
+        let in_t = Contains-from_place t.held i g at_g in
+        let root : IsRoot s h = record {
+          not_public = λ z. let k = ap rank z in omega (arith, lower, k);
+          begins = λ p at_p is same_phase.
+              let j = parent_before s valid i h p at_h at_p is in
+              let up = facing s t same j.0 p j.2 in
+              let first = no_lower n j.0 (omega (arith, j.1)) up.0 p up.1 j.2 up.2 in
+              let then = rises g up.0 in_t (Contains-from_place t.held j.0 up.0 up.1)
+              (subst (λ c. IsParent c (node_of up.0.changeset)) (sym e) (subst (λ c. IsParent h.changeset (node_of c)) (sym up.2) is)) in
+              let k = ap rank same_phase in
+              omega (arith, first, then, k, lower);
+        } in
+        let le = gives h g (Contains-from_place s.held i h at_h) in_t e root in
+        absurd (omega (arith, le, lower))
+    | inr enough ↦ enough
+  ]
+
+module _ (s t : State) (roots listed : List (Phase × Node)) (valid : IsValid s) (are : AreRoots s roots) (same : AreSameRoots listed roots) (opened : IsOpened (changesets s) listed t) where
   -- no listed root gives a higher phase than the state has
   no_higher : (i : ℕ) (g h : Held) → slice_get t.held i ≡ Some g → slice_get s.held i ≡ Some h → g.changeset ≡ h.changeset → rank g.phase ≤ rank h.phase
   no_higher i g h at_g at_h e = by (opened.phases g (Contains-from_place t.held i g at_g)).0
@@ -106,37 +131,42 @@ module _ (s t : State) (roots listed : List (Phase × Node)) (valid : IsValid s)
           let l = ap rank r.3 in
           omega (arith, le, k, l)
 
-  -- and one gives as high a phase
-  no_lower : (n i : ℕ) → i < n → (g h : Held) → slice_get t.held i ≡ Some g → slice_get s.held i ≡ Some h → g.changeset ≡ h.changeset → rank h.phase ≤ rank g.phase
-  no_lower zero i l g h at_g at_h e = absurd (omega arith)
-  no_lower (suc n) i l g h at_g at_h e = elim (cases_lt (rank g.phase) (rank h.phase)) [
-    | inl lower ↦
-        let in_t = Contains-from_place t.held i g at_g in
-        let in_s = Contains-from_place s.held i h at_h in
-        let root : IsRoot s h = record {
-          not_public = λ z. let k = ap rank z in omega (arith, lower, k);
-          begins = λ p at_p is same_phase.
-              let j = parent_before s valid i h p at_h at_p is in
-              let up = facing j.0 p j.2 in
-              let first = no_lower n j.0 (omega (arith, j.1)) up.0 p up.1 j.2 up.2 in
-              let then = opened-parent (changesets s) listed t opened g up.0 in_t (Contains-from_place t.held j.0 up.0 up.1)
-              (subst (λ c. IsParent c (node_of up.0.changeset)) (sym e) (subst (λ c. IsParent h.changeset (node_of c)) (sym up.2) is)) in
-              let k = ap rank same_phase in
-              omega (arith, first, then, k, lower);
-        } in
-        let at_listed = (same (root_of h)).1 (root_listed s s.held roots are h in_s root) in
-        let held = Holds-from (changesets s) h.changeset (changeset_from s h in_s) in
-        let le = (opened.phases g in_t).1 h.phase (inr (root_of h, at_listed, subst (λ c. Reaches (changesets s) (node_of h.changeset) (node_of c)) (sym e) (itself held), refl)) in
-        absurd (omega (arith, le, lower))
-    | inr enough ↦ enough
-  ]
+  -- and each listed root gives its phase
+  gives_root : (h g : Held) → Contains s.held h → Contains t.held g → g.changeset ≡ h.changeset → IsRoot s h → rank h.phase ≤ rank g.phase
+  gives_root h g in_s in_t e root =
+      let at_listed = (same (root_of h)).1 (root_listed s s.held roots are h in_s root) in
+      let held = Holds-from (changesets s) h.changeset (changeset_from s h in_s) in
+      (opened.phases g in_t).1 h.phase (inr (root_of h, at_listed, subst (λ c. Reaches (changesets s) (node_of h.changeset) (node_of c)) (sym e) (itself held), refl))
 
   pub opened-again : t ≡ s
   opened-again =
       let all = same_list t.held s.held opened.held (λ i g h at_g at_h.
-      let up = facing i h at_h in
+      let up = facing s t opened.held i h at_h in
       let e : g.changeset ≡ h.changeset = ap (λ x. x.changeset) (same_Some g up.0 (sym at_g ∙ up.1)) ∙ up.2 in
       let a = no_higher i g h at_g at_h e in
-      let b = no_lower (suc i) i (omega arith) g h at_g at_h e in
+      let b = no_lower s t valid opened.held (opened-parent (changesets s) listed t opened) gives_root (suc i) i (omega arith) g h at_g at_h e in
       rank-apart g.phase h.phase (omega (arith, a, b))) in
       λ i. record { held = all i }
+
+-- ---- two states with the same roots
+
+-- a root of s that t has as well
+root_in_both : (s t : State) (roots listed : List (Phase × Node)) → AreRoots s roots → AreRoots t listed → AreSameRoots roots listed → IsValid t
+    → (h g : Held) → Contains s.held h → Contains t.held g → g.changeset ≡ h.changeset → IsRoot s h → rank h.phase ≤ rank g.phase
+root_in_both s t roots listed are are_t same valid h g in_s in_t e root =
+    let x = (roots_are t listed are_t (root_of h)).0 ((same (root_of h)).0 (root_listed s s.held roots are h in_s root)) in
+    let is : x.0 ≡ g = same_held t valid.graph g x.0 in_t x.1 (ap node_of e ∙ sym (ap (λ r. r.1) x.3)) in
+    let k = ap (λ y. rank y.phase) is in
+    let l = ap (λ r. rank r.0) x.3 in
+    omega (arith, k, l)
+
+pub same-roots : (s t : State) (roots listed : List (Phase × Node)) → IsValid s → IsValid t → changesets t ≡ changesets s → AreRoots s roots → AreRoots t listed → AreSameRoots roots listed → t ≡ s
+same-roots s t roots listed valid_s valid_t held are_s are_t same =
+    let all = same_list t.held s.held held (λ i g h at_g at_h.
+    let up = facing s t held i h at_h in
+    let e : g.changeset ≡ h.changeset = ap (λ x. x.changeset) (same_Some g up.0 (sym at_g ∙ up.1)) ∙ up.2 in
+    let back : AreSameRoots listed roots = λ r. ((same r).1, (same r).0) in
+    let a = no_lower t s valid_t (sym held) valid_s.phases (root_in_both t s listed roots are_t are_s back valid_s) (suc i) i (omega arith) h g at_h at_g (sym e) in
+    let b = no_lower s t valid_s held valid_t.phases (root_in_both s t roots listed are_s are_t same valid_t) (suc i) i (omega arith) g h at_g at_h e in
+    rank-apart g.phase h.phase (omega (arith, a, b))) in
+    λ i. record { held = all i }

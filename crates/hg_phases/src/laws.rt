@@ -57,9 +57,11 @@ pub fn least_of_a_state_is_the_join()
 {}
 
 /// Roots say all that a state's phases are: with its own changesets they give the state back, in whatever order they are
-/// listed and however often. They are few: each is one, and none is left out.
+/// listed and however often. They are few: each is one, and none is left out. So of one graph, two states with the same
+/// roots have the same phases.
 pub fn roots_say_the_phases()
     ensures listed { (s : State) (roots : List (Phase × Node)) → AreRoots s roots → (r : Phase × Node) → Contains roots r ↔ ((h : Held) × Contains s.held h × IsRoot s h × (root_of h ≡ r)) }
     ensures valid { (cs : List Contents) (roots : List (Phase × Node)) (s : State) → IsGraph cs → IsOpened cs roots s → IsValid s }
     ensures again { (s t : State) (roots listed : List (Phase × Node)) → IsValid s → AreRoots s roots → AreSameRoots listed roots → IsOpened (changesets s) listed t → t ≡ s }
+    ensures same { (s t : State) (roots listed : List (Phase × Node)) → IsValid s → IsValid t → changesets t ≡ changesets s → AreRoots s roots → AreRoots t listed → AreSameRoots roots listed → t ≡ s }
 {}

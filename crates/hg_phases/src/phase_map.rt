@@ -1,8 +1,9 @@
 //! The phases of a graph's changesets, one at each place.
 //!
-//! What is kept is the phase of each changeset. The contracts say no more than what that means for the graph, by
-//! `phases_at`, and by `phases_before` where a log is at hand, so that another form, as the roots alone, can take its
-//! place. No public call gives a changeset a phase without its parents: the phase rule is kept here alone.
+//! What is kept is the phase of each changeset, which is the plain form of a graph's phases, and the index of their roots
+//! in [`PhaseRoots`](crate::PhaseRoots). The contracts say no more than what that means for the graph, by `phases_at`, and
+//! by `phases_before` where a log is at hand. No public call gives a changeset a phase without its parents: the phase
+//! rule is kept here alone.
 //!
 //! Lowering a changeset lowers its ancestors with it. The walk keeps one log of what it lowered, with the phase that
 //! each had: the log is the queue of the walk, the answer, and what takes the lowering back.
@@ -188,6 +189,15 @@ impl PhaseMap {
     {
         self.restore(&mut log.places);
         self.phases.truncate(before);
+    }
+
+    /// Forgets the last place.
+    pub(crate) fn forget_last(&mut self)
+        requires { 0 < length self.old }
+        ensures { self.new ≡ take (length self.old - 1) self.old }
+    {
+        let last = self.phases.len() - 1;
+        self.phases.truncate(last);
     }
 
     // Lowers what stands at a place, with its ancestors.

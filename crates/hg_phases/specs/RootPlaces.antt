@@ -1,0 +1,38 @@
+-- The places of the roots, and what is kept of a graph's phases with them.
+use Rattle.std.specs.Prelude.{◌≡◌, ◌≢◌, ℕ, List, take, length, slice_get, Some, Contains, ◌↔◌, ◌⊎◌}
+use Rattle.hg_changeset.specs.Contents.{Contents}
+use Rattle.hg_graph.specs.Places.{IsParentPlace}
+use Rattle.hg_phases.specs.declared.phase.Phase.{Phase}
+use Rattle.hg_phases.specs.declared.phase.Phase.TheVariants.{Public}
+use Rattle.hg_phases.specs.declared.lowered.LoweredPlace.{LoweredPlace}
+use Rattle.hg_phases.specs.declared.phase_roots.PhaseRoots.{PhaseRoots}
+use Rattle.hg_phases.specs.Kept.{phases_at, phases_before}
+
+-- a parent of the changeset at the place has the phase
+abbrev pub HasParentIn : List Contents → List Phase → ℕ → Phase → Type 0
+HasParentIn cs ks place phase = (p : ℕ) × IsParentPlace cs place p × (slice_get ks p ≡ Some phase)
+
+-- the changeset at the place is a root: draft or secret, and none of its parents has its phase
+abbrev pub IsRootPlace : List Contents → List Phase → ℕ → Type 0
+IsRootPlace cs ks p = (k : Phase) × (slice_get ks p ≡ Some k) × (k ≢ Public) × ¬ (HasParentIn cs ks p k)
+
+-- exactly the places of the roots
+abbrev pub AreRootPlaces : List Contents → List Phase → List ℕ → Type 0
+AreRootPlaces cs ks places = (p : ℕ) → Contains places p ↔ IsRootPlace cs ks p
+
+-- the place, or that of a child of the changeset there
+abbrev pub IsFamily : List Contents → ℕ → ℕ → Type 0
+IsFamily cs place p = (place ≡ p) ⊎ IsParentPlace cs p place
+
+-- what was logged stands at the place, or is a parent of what stands there
+abbrev pub IsTouched : List Contents → List LoweredPlace → ℕ → Type 0
+IsTouched cs log p = (e : LoweredPlace) × Contains log e × IsFamily cs e.place p
+
+-- the roots that are kept are those of the changesets before a place, before what was logged went down
+abbrev pub AreRootsBefore : List Contents → PhaseRoots → List LoweredPlace → ℕ → Type 0
+AreRootsBefore cs kept log before = AreRootPlaces (take before cs) (take before (phases_before cs kept.phases log)) kept.roots.keys
+
+-- a phase for each changeset, and exactly the roots
+pub record AreKept (cs : List Contents) (kept : PhaseRoots) : Type 0 where
+  pub len : length (phases_at cs kept.phases) ≡ length cs
+  pub roots : AreRootPlaces cs (phases_at cs kept.phases) kept.roots.keys

@@ -1,0 +1,214 @@
+//! The phases of a graph's changesets, kept with the places of their roots.
+//!
+//! The roots are what is kept: they are exactly those of the state, and are told without a look at the other changesets.
+//! The phase at each place is an index of them, so that a phase is looked up at once. A part moves the index first, and
+//! the roots when all of it was lowered: so what is taken back after a refusal is the index alone, and takes no memory.
+ghost use Rattle.std.specs.Prelude.{◌≡◌, ◌<◌, ◌≤◌, ◌+◌, ◌-◌, [], ◌∷◌, ◌++◌, List, Some, OnOk, OnErr, IfOk, IsOkAnd, MatchOption, IsTrue, ◌↔◌, length, slice_get};
+ghost use Rattle.hg_graph.specs.Graph.{Holds as GraphHolds, IsGraph};
+ghost use Rattle.hg_graph.specs.Places.{IsAt};
+ghost use Rattle.hg_phases.specs.declared.phase.Phase.{Phase};
+ghost use Rattle.hg_phases.specs.State.{Holds, IsPhaseOf, IsValid};
+ghost use Rattle.hg_phases.specs.Kept.{phases_at, kept_state, before_last, phases_before, IsLogOf};
+ghost use Rattle.hg_phases.specs.Least.{IsLeast, bound_alone};
+ghost use Rattle.hg_phases.specs.Lowered.{IsAbove, ListsLowered};
+ghost use Rattle.hg_phases.specs.Log.{IsLog};
+ghost use Rattle.hg_phases.specs.Roots.{AreRoots, IsOpened};
+ghost use Rattle.hg_phases.specs.RootPlaces.{AreRootsBefore, AreKept};
+
+use crate::lowered::{Lowered, LoweredPlace, LoweringLog};
+use crate::phase::Phase;
+use crate::phase_map::PhaseMap;
+use crate::root_places::{roots_at, update_roots};
+use crate::roots::Roots;
+use hg_changeset::Node;
+use hg_graph::Graph;
+use std::alloc::{AllocError, Global};
+use std::collections::BTreeSet;
+
+/// The phases of a graph's changesets, and where their roots stand.
+///
+/// It has no model: who takes a whole part in lowers the map alone, with a log, and updates the roots at the end.
+#[derive(Drop)]
+pub struct PhaseRoots {
+    /// The phase at each place of the graph.
+    pub phases: PhaseMap,
+
+    /// The places of the draft and secret changesets none of whose parents has their phase.
+    pub roots: BTreeSet<usize>,
+    alloc: Global,
+}
+
+impl PhaseRoots {
+    /// The phases of a graph without changesets.
+    pub fn new(alloc: Global) -> PhaseRoots
+        ensures none { phases_at [] result.phases ≡ [] }
+        ensures kept { AreKept [] result }
+    {
+        PhaseRoots {
+            phases: PhaseMap::new(alloc),
+            roots: BTreeSet::new(alloc),
+            alloc,
+        }
+    }
+
+    /// The phases that listed roots give the changesets of a graph: each the highest phase of a listed root that is it or
+    /// an ancestor of it, and public where there is none. Roots that the graph doesn't hold say nothing.
+    pub fn open(alloc: Global, graph: &Graph, roots: &Roots) -> Result<PhaseRoots, AllocError>
+        ensures opened { IfOk result (λ kept. IsOpened graph.now roots.now (kept_state graph.now kept.phases)) }
+        ensures valid { IfOk result (λ kept. IsValid (kept_state graph.now kept.phases)) }
+        ensures kept { IfOk result (AreKept graph.now) }
+    {
+        let mut kept = PhaseRoots {
+            phases: PhaseMap::open(alloc, graph, roots)?,
+            roots: BTreeSet::new(alloc),
+            alloc,
+        };
+        kept.update(graph, &LoweringLog::new(alloc), 0)?;
+        Ok(kept)
+    }
+
+    /// Equal phases and roots.
+    pub fn copy(&self) -> Result<PhaseRoots, AllocError>
+        ensures { IfOk result (λ kept. (kept.phases ≡ self.now.phases) × (kept.roots.keys ≡ self.now.roots.keys)) }
+    {
+        Ok(PhaseRoots {
+            phases: self.phases.copy()?,
+            roots: self.roots.clone()?,
+            alloc: self.alloc,
+        })
+    }
+
+    /// The phase of the changeset with this id, if it is held.
+    pub fn phase_of(&self, graph: &Graph, node: Node) -> Result<Option<Phase>, AllocError>
+        requires { length (phases_at graph.now self.now.phases) ≡ length graph.now }
+        ensures { IsOkAnd result (λ phase. MatchOption phase (¬ (Holds (kept_state graph.now self.now.phases) node)) (IsPhaseOf (kept_state graph.now self.now.phases) node)) }
+    {
+        self.phases.phase_of(graph, node)
+    }
+
+    /// The phase of the changeset at a place.
+    pub fn at(&self, graph: &Graph, place: usize) -> Phase
+        requires len { length (phases_at graph.now self.now.phases) ≡ length graph.now }
+        requires within { place < length graph.now }
+        ensures { slice_get (phases_at graph.now self.now.phases) place ≡ Some result }
+    {
+        self.phases.at(graph, place)
+    }
+
+    /// The roots: exactly the draft and secret changesets none of whose parents has their phase, each once, in the graph's
+    /// order. It costs what the roots are.
+    pub fn roots(&self, graph: &Graph) -> Result<Roots, AllocError>
+        requires kept { AreKept graph.now self.now }
+        ensures { IfOk result (AreRoots (kept_state graph.now self.now.phases)) }
+    {
+        roots_at(graph, &self.phases, &self.roots, self.alloc)
+    }
+
+    /// Makes the changeset that was just added to the graph secret.
+    pub fn admit(&mut self, graph: &Graph, node: Node) -> Result<(), AllocError>
+        requires len { length graph.now ≡ length (phases_at (before_last graph.now) self.old.phases) + 1 }
+        requires added { IsAt graph.now node (length graph.now - 1) }
+        requires kept { AreKept (before_last graph.now) self.old }
+        ensures admitted { OnOk result (phases_at graph.now self.new.phases ≡ phases_at (before_last graph.now) self.old.phases ++ Phase.Secret ∷ []) }
+        ensures kept { OnOk result (AreKept graph.now self.new) }
+        ensures valid { IsGraph graph.now → IsValid (kept_state (before_last graph.now) self.old.phases) → OnOk result (IsValid (kept_state graph.now self.new.phases)) }
+        ensures unchanged { OnErr result ((self.new.phases ≡ self.old.phases) × AreKept (before_last graph.now) self.new) }
+    {
+        self.phases.admit(graph, node)?;
+        match self.update(graph, &LoweringLog::new(self.alloc), graph.len() - 1) {
+            Ok(()) => Ok(()),
+            Err(refused) => {
+                self.phases.forget_last();
+                Err(refused)
+            }
+        }
+    }
+
+    /// Gives the changeset with this id and its ancestors the phase, where theirs is higher, and tells which went down. A
+    /// refusal leaves every phase as it was, and comes only where the changeset's phase is higher, so that it goes down.
+    pub fn lower(&mut self, graph: &Graph, node: Node, phase: Phase) -> Result<Lowered, AllocError>
+        requires valid { IsValid (kept_state graph.now self.old.phases) }
+        requires held { GraphHolds graph.now node }
+        requires kept { AreKept graph.now self.old }
+        ensures least { OnOk result (IsLeast (kept_state graph.now self.old.phases) (bound_alone (node, phase) ∷ []) (kept_state graph.now self.new.phases)) }
+        ensures valid { OnOk result (IsValid (kept_state graph.now self.new.phases)) }
+        ensures lowered { IfOk result (λ lowered. ListsLowered (kept_state graph.now self.old.phases) (kept_state graph.now self.new.phases) lowered.nodes.items) }
+        ensures kept { AreKept graph.now self.new }
+        ensures unchanged { OnErr result (self.new.phases ≡ self.old.phases) }
+        ensures memory { OnErr result (IsAbove (kept_state graph.now self.old.phases) node phase) }
+    {
+        let mut log = LoweringLog::new(self.alloc);
+        match self.lower_and_update(graph, &mut log, node, phase) {
+            Ok(lowered) => Ok(lowered),
+            Err(refused) => {
+                self.phases.take_back(graph, &mut log, graph.len());
+                Err(refused)
+            }
+        }
+    }
+
+    // Lowers, tells from the log what went down, and updates the roots. After a refusal the log takes back what was done.
+    fn lower_and_update(
+        &mut self,
+        graph: &Graph,
+        log: &mut LoweringLog,
+        node: Node,
+        phase: Phase,
+    ) -> Result<Lowered, AllocError>
+        requires valid { IsValid (kept_state graph.now self.old.phases) }
+        requires held { GraphHolds graph.now node }
+        requires kept { AreKept graph.now self.old }
+        requires fresh { log.old ≡ [] }
+        ensures least { OnOk result (IsLeast (kept_state graph.now self.old.phases) (bound_alone (node, phase) ∷ []) (kept_state graph.now self.new.phases)) }
+        ensures valid { OnOk result (IsValid (kept_state graph.now self.new.phases)) }
+        ensures lowered { IfOk result (λ lowered. ListsLowered (kept_state graph.now self.old.phases) (kept_state graph.now self.new.phases) lowered.nodes.items) }
+        ensures logged { IsLog phase (phases_at graph.now self.old.phases) (phases_at graph.now self.new.phases) log.new }
+        ensures undoes { phases_before graph.now self.new.phases log.new ≡ phases_at graph.now self.old.phases }
+        ensures kept { OnOk result (AreKept graph.now self.new) }
+        ensures rooted { OnErr result (AreRootsBefore graph.now self.new log.new (length graph.now)) }
+        ensures memory { OnErr result (IsAbove (kept_state graph.now self.old.phases) node phase) }
+    {
+        self.phases.lower_logged(graph, log, node, phase)?;
+        let nodes = log.nodes_before(graph, graph.len())?;
+        self.update(graph, log, graph.len())?;
+        Ok(Lowered { nodes })
+    }
+
+    /// Moves the roots of the changesets before a place to where they are since the others were added and what was logged
+    /// went down. A refusal leaves everything as it was, and comes only where something was logged or added. It costs what
+    /// was, and the children of what went down.
+    pub fn update(
+        &mut self,
+        graph: &Graph,
+        log: &LoweringLog,
+        before: usize,
+    ) -> Result<(), AllocError>
+        requires len { length (phases_at graph.now self.old.phases) ≡ length graph.now }
+        requires within { before ≤ length graph.now }
+        requires logged { IsLogOf graph.now self.old.phases log.now }
+        requires rooted { AreRootsBefore graph.now self.old log.now before }
+        ensures same { self.new.phases ≡ self.old.phases }
+        ensures kept { OnOk result (AreKept graph.now self.new) }
+        ensures unchanged { OnErr result (AreRootsBefore graph.now self.new log.now before) }
+        ensures memory { OnErr result (¬ ((log.now ≡ []) × (before ≡ length graph.now))) }
+    {
+        if is_still(graph, &log.places, before) {
+            return Ok(());
+        }
+        update_roots(
+            graph,
+            &self.phases,
+            &mut self.roots,
+            &log.places,
+            before,
+            self.alloc,
+        )
+    }
+}
+
+// Whether nothing was logged, and nothing added from the place on.
+fn is_still(graph: &Graph, log: &[LoweredPlace], before: usize) -> bool
+    ensures { IsTrue result ↔ ((log.now ≡ []) × (before ≡ length graph.now)) }
+{
+    log.is_empty() && before == graph.len()
+}
