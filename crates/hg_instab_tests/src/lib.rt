@@ -2,6 +2,8 @@
 #![tactic(auto)]
 
 #[cfg(test)]
+mod across;
+#[cfg(test)]
 mod kinds;
 #[cfg(test)]
 mod plain;
