@@ -6,8 +6,8 @@ use Rattle.hg_replica.specs.Least.{PartValue, IsAdmitted}
 use Rattle.hg_rewrite.specs.declared.op.Op.{Op}
 use Rattle.hg_rewrite.specs.declared.op.Op.TheVariants.{Commit, Amend, Split, Fold, Prune, Relocate, Advance}
 use Rattle.hg_rewrite.specs.declared.refusal.Refusal.{Refusal}
-use Rattle.hg_rewrite.specs.Parts.{part_of, chain, markers}
-use Rattle.hg_rewrite.specs.Refusals.{Row, NoneApplies, IsFirstRefusal, unknown_nodes, hidden_parents, public_nodes, obsolete_nodes, not_linear, wrong_count, raise, bad_users, marker_refused, not_written, not_marked, existing_ids, refusals}
+use Rattle.hg_rewrite.specs.Parts.{part_of, chain, markers, new_changesets}
+use Rattle.hg_rewrite.specs.Refusals.{Row, NoneApplies, IsFirstRefusal, unknown_nodes, hidden_parents, public_nodes, obsolete_nodes, not_linear, wrong_count, raise, bad_entries, bad_users, changeset_refused, marker_refused, not_written, not_marked, existing_ids, refusals}
 use Rattle.hg_rewrite.specs.Answer.{IsRefusal, DecideAnswer}
 use Rattle.hg_rewrite.proofs.RowLemmas.{none_both, sooner, later}
 use Rattle.hg_rewrite.proofs.PartLemmas.{admitted}
@@ -88,6 +88,12 @@ module _ (s : ReplicaState) (op : Op) where
   pub refused_unmarked : (r : Refusal) → NoneApplies (unknown_nodes s op) → NoneApplies (hidden_parents s op) → NoneApplies (public_nodes s op) → NoneApplies (obsolete_nodes s op) → NoneApplies (not_linear s op) → NoneApplies (wrong_count op) → NoneApplies (raise s op) → NoneApplies (not_written s op) → IsRefusal (not_marked s op) r → IsRefusal (refusals s op) r
   unfolding refusals
   refused_unmarked r known visible unpublished current linear counted lowered written h = later (unknown_nodes s op) rows_from_hidden r known (later (hidden_parents s op) rows_from_public r visible (later (public_nodes s op) rows_from_obsolete r unpublished (later (obsolete_nodes s op) rows_from_not_linear r current (later (not_linear s op) rows_from_count r linear (later (wrong_count op) rows_from_raise r counted (later (raise s op) rows_from_unwritten r lowered (later (not_written s op) rows_from_unmarked r written (sooner (not_marked s op) rows_from_existing r h))))))))
+
+  -- an entry, which is tried before anything is written
+  pub refused_entry : (r : Refusal) → NoneApplies (unknown_nodes s op) → NoneApplies (hidden_parents s op) → NoneApplies (public_nodes s op) → NoneApplies (obsolete_nodes s op) → NoneApplies (not_linear s op) → NoneApplies (wrong_count op) → NoneApplies (raise s op) → IsFirstRefusal (bad_entries op) r → IsRefusal (refusals s op) r
+  refused_entry r known visible unpublished current linear counted lowered h =
+      refused_unwritten r known visible unpublished current linear counted lowered
+      (sooner (bad_entries op) (map changeset_refused (new_changesets s.history op)) r (inr h))
 
   -- the user of a prune, which is tried before anything is written
   pub refused_user : (r : Refusal) → NoneApplies (unknown_nodes s op) → NoneApplies (hidden_parents s op) → NoneApplies (public_nodes s op) → NoneApplies (obsolete_nodes s op) → NoneApplies (not_linear s op) → NoneApplies (wrong_count op) → NoneApplies (raise s op) → IsFirstRefusal (bad_users op) r → IsRefusal (refusals s op) r

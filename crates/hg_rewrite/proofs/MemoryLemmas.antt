@@ -8,8 +8,9 @@ use Rattle.hg_rewrite.specs.declared.op.Op.{Op}
 use Rattle.hg_rewrite.specs.declared.op.Op.TheVariants.{Commit, Amend, Split, Fold, Prune, Relocate, Advance}
 use Rattle.hg_rewrite.specs.declared.refusal.Refusal.{Refusal}
 use Rattle.hg_rewrite.specs.declared.refusal.Refusal.TheVariants.{NoMemory}
-use Rattle.hg_rewrite.specs.Refusals.{Row, NoneApplies, IsFirstRefusal, new_parents, unknown_nodes, public_nodes, obsolete_nodes, not_linear, wrong_count, raise, bad_users}
-use Rattle.hg_rewrite.specs.Memory.{WalksForHidden, WalksForAncestors, MayWantMemory}
+use Rattle.hg_rewrite.specs.Refusals.{Row, NoneApplies, IsFirstRefusal, new_parents, unknown_nodes, hidden_parents}
+use Rattle.hg_rewrite.specs.Refusals.{public_nodes, obsolete_nodes, not_linear, wrong_count, raise, bad_entries, bad_users}
+use Rattle.hg_rewrite.specs.Memory.{WalksForHidden, WalksForDescendants, rows_before_descendants, MayWantMemory}
 use Rattle.hg_rewrite.proofs.RowLemmas.{none_both}
 use Rattle.hg_rewrite.proofs.TableLemmas.{AreTelling, no_memory}
 
@@ -36,44 +37,26 @@ pub never : {A : Type 0} (rows : List Row) (r : Refusal) → AreTelling rows →
 never rows r tells first is = absurd (no_memory rows tells (subst (IsFirstRefusal rows) is first))
 
 module _ (s : ReplicaState) (op : Op) (known : NoneApplies (unknown_nodes s op)) where
-  shaped : (o : Op) → WalksForHidden s o → WalksForAncestors o ⊎ NoneApplies (not_linear s o ++ (wrong_count o ++ raise s o))
-  shaped (Commit p q entry secret) h = inr ((λ r. r.1.0), ((λ r. r.1.0), ((λ r. r.1.0), tt)))
-  shaped (Amend node entry) h = absurd h
-  shaped (Split node es) h = absurd h
-  shaped (Fold nodes entry) h = absurd h
-  shaped (Prune node user secs offset) h = absurd h
-  shaped (Relocate node p q entry) h = inl tt
-  shaped (Advance node phase) h = absurd h
-
-  -- only a prune names a user outside of an entry, and it takes no walk
-  hidden_users : (o : Op) → WalksForHidden s o → NoneApplies (bad_users o)
-  hidden_users (Commit p q entry secret) h = tt
-  hidden_users (Amend node entry) h = absurd h
-  hidden_users (Split node es) h = absurd h
-  hidden_users (Fold nodes entry) h = absurd h
-  hidden_users (Prune node user secs offset) h = absurd h
-  hidden_users (Relocate node p q entry) h = tt
-  hidden_users (Advance node phase) h = absurd h
-
-  ancestors_users : (o : Op) → WalksForAncestors o → NoneApplies (bad_users o)
-  ancestors_users (Commit p q entry secret) h = absurd h
-  ancestors_users (Amend node entry) h = absurd h
-  ancestors_users (Split node es) h = absurd h
-  ancestors_users (Fold nodes entry) h = absurd h
-  ancestors_users (Prune node user secs offset) h = absurd h
-  ancestors_users (Relocate node p q entry) h = tt
-  ancestors_users (Advance node phase) h = absurd h
-
   pub wanting_hidden : WalksForHidden s op → MayWantMemory s op
-  wanting_hidden walks = record { known = known; rewritten = inl walks; shaped = shaped op walks; pruner = hidden_users op walks }
+  wanting_hidden walks = inl (known, walks)
 
-  pub wanting_ancestors : NoneApplies (public_nodes s op) → NoneApplies (obsolete_nodes s op) → WalksForAncestors op → MayWantMemory s op
-  wanting_ancestors unpublished current walks = record { known = known; rewritten = inr (none_both (public_nodes s op) (obsolete_nodes s op) unpublished current); shaped = inl walks; pruner = ancestors_users op walks }
+  module _ (visible : NoneApplies (hidden_parents s op)) (unpublished : NoneApplies (public_nodes s op)) (current : NoneApplies (obsolete_nodes s op)) where
+    before : NoneApplies (rows_before_descendants s op)
+    before =
+        none_both (unknown_nodes s op) _ known
+        (none_both (hidden_parents s op) _ visible
+        (none_both (public_nodes s op) (obsolete_nodes s op) unpublished current))
 
-  pub wanting_later : NoneApplies (public_nodes s op) → NoneApplies (obsolete_nodes s op) → NoneApplies (not_linear s op) → NoneApplies (wrong_count op) → NoneApplies (raise s op) → NoneApplies (bad_users op) → MayWantMemory s op
-  wanting_later unpublished current linear counted lowered named = record {
-    known = known;
-    rewritten = inr (none_both (public_nodes s op) (obsolete_nodes s op) unpublished current);
-    shaped = inr (none_both (not_linear s op) (wrong_count op ++ raise s op) linear (none_both (wrong_count op) (raise s op) counted lowered));
-    pruner = named;
-  }
+    pub wanting_descendants : WalksForDescendants s.history op → MayWantMemory s op
+    wanting_descendants walks = inr (inl (before, walks))
+
+    pub wanting_later : NoneApplies (not_linear s op) → NoneApplies (wrong_count op) → NoneApplies (raise s op)
+        → NoneApplies (bad_entries op) → NoneApplies (bad_users op) → MayWantMemory s op
+    wanting_later linear counted lowered entered named =
+        inr (inr (
+          before,
+          none_both (not_linear s op) (wrong_count op ++ (raise s op ++ (bad_entries op ++ bad_users op))) linear
+              (none_both (wrong_count op) (raise s op ++ (bad_entries op ++ bad_users op)) counted
+              (none_both (raise s op) (bad_entries op ++ bad_users op) lowered
+              (none_both (bad_entries op) (bad_users op) entered named))),
+        ))

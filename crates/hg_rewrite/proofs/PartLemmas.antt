@@ -85,7 +85,7 @@ on_last_in : (ns : List Node) (k : Phase) (b : Node × Phase) → Contains (on_l
 on_last_in ns k b h = bound_on_last ns k (slice_get ns (length ns - 1)) refl b h
 
 module _ (s : State) (valid : IsValid s) where
-  known_target : (n : Node) → ¬ (Applies (unknown s n)) → Holds s n
+  pub known_target : (n : Node) → ¬ (Applies (unknown s n)) → Holds s n
   known_target n not = elim (held_or_not s valid n) [ inl held ↦ held | inr missing ↦ absurd (not (Unknown n, (missing, refl))) ]
 
   known_parent : (n : Node) → ¬ (Applies (unknown_parent s n)) → n ≢ null_node → Holds s n

@@ -11,7 +11,8 @@ use Rattle.hg_graph.specs.Graph.{Holds as GraphHolds}
 use Rattle.hg_graph.proofs.GraphLemmas.{Holds-changeset, Holds-from}
 use Rattle.hg_phases.specs.declared.phase.Phase.{Phase}
 use Rattle.hg_phases.specs.declared.phase.Phase.TheVariants.{Public}
-use Rattle.hg_phases.specs.State.{State, Held, Holds, IsPhaseOf, IsValid, changesets}
+use Rattle.hg_graph.specs.Graph.Reaches.{itself}
+use Rattle.hg_phases.specs.State.{State, Held, Holds, Reaches, IsPhaseOf, IsValid, changesets}
 use Rattle.hg_phases.specs.Content.{content_of}
 use Rattle.hg_phases.proofs.ContentLemmas.{held_in_content, content-held}
 use Rattle.hg_rewrite.specs.Reading.{phase_in, parents_in}
@@ -57,3 +58,7 @@ held_or_not s valid n = by (content_of s n) refl
         let c = Holds-changeset (changesets s) n held in
         let h = Contains-map_from (λ (x : Held). x.changeset) s.held c.0 c.1 in
         none-some h.0 (sym e ∙ content-held s valid.graph n h.0 h.1 (ap node_of h.2 ∙ c.2)))
+
+-- no step leads from a node to itself
+pub reaches_itself : (s : State) (a n : Node) → Holds s a → a ≡ n → Reaches s a n
+reaches_itself s a n held same = subst (Reaches s a) same (itself held)

@@ -14,7 +14,11 @@ use Rattle.hg_rewrite.specs.declared.refusal.Refusal.TheVariants.{Unknown, Hidde
 use Rattle.hg_rewrite.specs.declared.refusal.Cause.{Cause}
 use Rattle.hg_rewrite.specs.declared.refusal.Cause.TheVariants.{Entry, Changeset, Marker}
 use Rattle.hg_rewrite.specs.Parts.{entries, new_changesets, new_ids, markers, rewritten}
-use Rattle.hg_rewrite.specs.Refusals.{Row, NoneApplies, IsFirstRefusal, where_so, unknown, unknown_parent, unknown_nodes, targets, new_parents, hidden, hidden_parents, is_public, public_nodes, is_obsolete, obsolete_nodes, not_linear, wrong_count, raise, entry_refused, changeset_refused, user_refused, marker_refused, users, bad_users, not_written, not_marked, existing, existing_ids, refusals}
+use Rattle.hg_rewrite.specs.Refusals.{Row, NoneApplies, IsFirstRefusal, where_so, unknown, unknown_parent, unknown_nodes}
+use Rattle.hg_rewrite.specs.Refusals.{targets, new_parents, hidden, hidden_parents, is_public, public_nodes, is_obsolete}
+use Rattle.hg_rewrite.specs.Refusals.{obsolete_nodes, not_linear, wrong_count, raise, entry_refused, changeset_refused}
+use Rattle.hg_rewrite.specs.Refusals.{user_refused, marker_refused, users, bad_entries, bad_users, not_written, not_marked}
+use Rattle.hg_rewrite.specs.Refusals.{existing, existing_ids, refusals}
 
 -- the row tells one refusal at most, and never want of memory
 pub record IsTelling (row : Row) : Type 0 where
@@ -73,6 +77,9 @@ existing_tells : (s : State) (ns : List Node) → AreTelling (existing s ns)
 existing_tells s [] = tt
 existing_tells s (n ∷ ns) = (where_so_tells _ (Exists n) (λ e. cc), existing_tells s ns)
 
+pub entries_tell : (op : Op) → AreTelling (bad_entries op)
+entries_tell op = mapped entry_refused (λ e. fault_tells (entry_fault e) Entry) (entries op)
+
 pub users_tell : (op : Op) → AreTelling (bad_users op)
 users_tell op = mapped user_refused (λ user. fault_tells (user_fault (trimmed_user user)) Entry) (users op)
 
@@ -103,8 +110,8 @@ module _ (s : ReplicaState) (op : Op) where
 
   unwritten_tells : AreTelling (not_written s op)
   unwritten_tells =
-      both (map entry_refused (entries op)) (map changeset_refused (new_changesets s.history op))
-      (mapped entry_refused (λ e. fault_tells (entry_fault e) Entry) (entries op))
+      both (bad_entries op) (map changeset_refused (new_changesets s.history op))
+      (entries_tell op)
       (mapped changeset_refused (λ n. fault_tells (changeset_fault n.p n.q n.text) Changeset) (new_changesets s.history op))
 
   unmarked_tells : AreTelling (not_marked s op)

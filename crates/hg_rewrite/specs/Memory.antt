@@ -1,14 +1,19 @@
--- What is tried without memory.
+-- Where memory may be wanting.
 --
 -- Whether nodes are held, public or obsolete, whether they are a line, how many there are, which phase they have, and whether
--- the user of a prune is one, is seen by look-ups and comparisons. Two things take a walk, and so memory; all that is written comes after these rows.
-use Rattle.std.specs.Prelude.{◌⊎◌, ◌++◌}
+-- each entry has a text, is seen by look-ups and comparisons. Three steps take memory, in this order: a walk that tells whether
+-- a new parent is hidden, one that tells whether a new parent is a descendant, and what is written in the end.
+use Rattle.std.specs.Prelude.{◌≢◌, ℕ, ◌<◌, ◌⊎◌, List, ◌++◌}
+use Rattle.hg_changeset.specs.declared.node.Node.{Node}
+use Rattle.hg_graph.specs.Places.{IsAt}
+use Rattle.hg_phases.specs.State.{State, changesets}
 use Rattle.hg_replica.specs.State.{ReplicaState}
 use Rattle.hg_replica.specs.Content.{content_of}
 use Rattle.hg_replica.specs.Evolution.{IsObsolete}
 use Rattle.hg_rewrite.specs.declared.op.Op.{Op}
 use Rattle.hg_rewrite.specs.declared.op.Op.TheVariants.{Commit, Amend, Split, Fold, Prune, Relocate, Advance}
-use Rattle.hg_rewrite.specs.Refusals.{NoneApplies, unknown_nodes, public_nodes, obsolete_nodes, not_linear, wrong_count, raise, bad_users}
+use Rattle.hg_rewrite.specs.Refusals.{Row, NoneApplies, unknown_nodes, hidden_parents, public_nodes, obsolete_nodes}
+use Rattle.hg_rewrite.specs.Refusals.{not_linear, wrong_count, raise, bad_entries, bad_users}
 
 -- whether a new parent is hidden, where it is obsolete; any other isn't
 abbrev pub WalksForHidden : ReplicaState → Op → Type 0
@@ -20,19 +25,35 @@ WalksForHidden s (Prune node user secs offset) = ⊥
 WalksForHidden s (Relocate node p q entry) = IsObsolete (content_of s) p ⊎ IsObsolete (content_of s) q
 WalksForHidden s (Advance node phase) = ⊥
 
--- whether a new parent is a descendant of the node that is relocated
-abbrev pub WalksForAncestors : Op → Type 0
-WalksForAncestors (Commit p q entry secret) = ⊥
-WalksForAncestors (Amend node entry) = ⊥
-WalksForAncestors (Split node es) = ⊥
-WalksForAncestors (Fold nodes entry) = ⊥
-WalksForAncestors (Prune node user secs offset) = ⊥
-WalksForAncestors (Relocate node p q entry) = Unit {0}
-WalksForAncestors (Advance node phase) = ⊥
+-- the one stands before the other in the graph
+abbrev pub StandsBefore : State → Node → Node → Type 0
+StandsBefore s a n = (low : ℕ) × (high : ℕ) × IsAt (changesets s) a low × IsAt (changesets s) n high × (low < high)
 
--- memory may be wanting: none of the rows that are tried before the first growth applies
-pub record MayWantMemory (s : ReplicaState) (op : Op) : Type 0 where
-  pub known : NoneApplies (unknown_nodes s op)
-  pub rewritten : WalksForHidden s op ⊎ NoneApplies (public_nodes s op ++ obsolete_nodes s op)
-  pub shaped : WalksForAncestors op ⊎ NoneApplies (not_linear s op ++ (wrong_count op ++ raise s op))
-  pub pruner : NoneApplies (bad_users op)
+-- neither new parent is the node itself, and it stands before one of them
+abbrev pub StandsBeforeParent : State → Node → Node → Node → Type 0
+StandsBeforeParent s node p q = (node ≢ p) × (node ≢ q) × (StandsBefore s node p ⊎ StandsBefore s node q)
+
+-- whether a new parent is a descendant of the node that is relocated, where the node stands before one; no other is
+abbrev pub WalksForDescendants : State → Op → Type 0
+WalksForDescendants s (Commit p q entry secret) = ⊥
+WalksForDescendants s (Amend node entry) = ⊥
+WalksForDescendants s (Split node es) = ⊥
+WalksForDescendants s (Fold nodes entry) = ⊥
+WalksForDescendants s (Prune node user secs offset) = ⊥
+WalksForDescendants s (Relocate node p q entry) = StandsBeforeParent s node p q
+WalksForDescendants s (Advance node phase) = ⊥
+
+-- the rows that are tried before that walk
+abbrev pub rows_before_descendants : ReplicaState → Op → List Row
+rows_before_descendants s op = unknown_nodes s op ++ (hidden_parents s op ++ (public_nodes s op ++ obsolete_nodes s op))
+
+-- the rows that are tried after it, before anything is written
+abbrev pub rows_before_writing : ReplicaState → Op → List Row
+rows_before_writing s op = not_linear s op ++ (wrong_count op ++ (raise s op ++ (bad_entries op ++ bad_users op)))
+
+-- memory may be wanting at one of the three steps, and no row that is tried before it applies
+abbrev pub MayWantMemory : ReplicaState → Op → Type 0
+MayWantMemory s op =
+    (NoneApplies (unknown_nodes s op) × WalksForHidden s op)
+    ⊎ (NoneApplies (rows_before_descendants s op) × WalksForDescendants s.history op)
+    ⊎ (NoneApplies (rows_before_descendants s op) × NoneApplies (rows_before_writing s op))

@@ -179,6 +179,9 @@ unwritten es new = map entry_refused es ++ map changeset_refused new
 abbrev pub unmarked : List (List ℕ) → List Fields → List Row
 unmarked us ms = map user_refused us ++ map marker_refused ms
 
+abbrev pub bad_entries : Op → List Row
+bad_entries op = map entry_refused (entries op)
+
 abbrev pub bad_users : Op → List Row
 bad_users op = map user_refused (users op)
 

@@ -1,22 +1,25 @@
 //! The refusals that are tried before anything is made: one check for each number.
-ghost use Rattle.std.specs.Prelude.{◌≡◌, ◌↔◌, ◌⊎◌, ◌∷◌, [], IsTrue, IsErrOf, MatchOption, map};
+ghost use Rattle.std.specs.Prelude.{◌≡◌, ◌↔◌, ◌⊎◌, ◌∷◌, [], IsTrue, IsErrOf, IfOk, OnErr, MatchOption, map};
 ghost use Rattle.hg_changeset.specs.Node.{null_node};
 ghost use Rattle.hg_replica.specs.Content.{content_of};
 ghost use Rattle.hg_replica.specs.Evolution.{IsObsolete};
 ghost use Rattle.hg_rewrite.specs.Reading.{parents_in};
+ghost use Rattle.hg_phases.specs.State.{Holds, Reaches};
 ghost use Rattle.hg_replica.specs.State.{IsValid};
-ghost use Rattle.hg_rewrite.specs.Parts.{rewritten};
-ghost use Rattle.hg_rewrite.specs.Refusals.{targets, new_parents, unknown, unknown_parent, unknown_nodes, hidden, hidden_parents, public_nodes, obsolete_nodes, not_linear, wrong_count, raise, bad_users, existing, IsLinear};
+ghost use Rattle.hg_rewrite.specs.Parts.{named_entries, rewritten};
+ghost use Rattle.hg_rewrite.specs.Refusals.{NoneApplies, targets, new_parents, unknown, unknown_parent, unknown_nodes};
+ghost use Rattle.hg_rewrite.specs.Refusals.{hidden, hidden_parents, public_nodes, obsolete_nodes, not_linear, IsLinear};
+ghost use Rattle.hg_rewrite.specs.Refusals.{wrong_count, raise, bad_entries, entry_refused, bad_users, existing};
 ghost use Rattle.hg_rewrite.specs.Answer.{Checked, CheckedInMemory};
-ghost use Rattle.hg_rewrite.specs.Memory.{WalksForHidden, WalksForAncestors};
+ghost use Rattle.hg_rewrite.specs.Memory.{WalksForHidden, WalksForDescendants, StandsBeforeParent};
 
 use crate::op::Op;
 use crate::query::{contains, holds, is_hidden, is_public, parents_in, phase_in};
 use crate::refusal::{Cause, Refusal};
-use hg_changeset::{Node, check_user, trimmed_user};
+use hg_changeset::{Entry, Node, check_entry, check_user, trimmed_user};
 use hg_instab::is_obsolete;
 use hg_replica::Replica;
-use std::alloc::Global;
+use std::alloc::{AllocError, Global};
 use std::slice;
 
 // The fewest changesets that a split makes.
@@ -154,15 +157,14 @@ pub(crate) fn check_not_obsolete(replica: &Replica, op: &Op) -> Result<(), Refus
 
 // Refuses a fold of what is no line, and a relocation onto the node itself or a descendant.
 pub(crate) fn check_linear(replica: &Replica, op: &Op) -> Result<(), Refusal>
+    requires known { NoneApplies (unknown_nodes replica.now op.now) }
+    requires valid { IsValid replica.now }
     ensures answer { CheckedInMemory (not_linear replica.now op.now) result }
-    ensures memory { IsErrOf result Refusal.NoMemory → WalksForAncestors op.now }
+    ensures memory { IsErrOf result Refusal.NoMemory → WalksForDescendants replica.now.history op.now }
 {
     let is_linear = match op {
         Op::Fold { nodes, .. } => is_line(replica, nodes),
-        Op::Relocate { node, p, q, .. } => {
-            let graph = replica.graph();
-            !graph.is_ancestor(*node, *p)? && !graph.is_ancestor(*node, *q)?
-        }
+        Op::Relocate { node, p, q, .. } => !leads_to_either(replica, *node, *p, *q)?,
         _ => true,
     };
     if is_linear {
@@ -170,6 +172,20 @@ pub(crate) fn check_linear(replica: &Replica, op: &Op) -> Result<(), Refusal>
     } else {
         Err(Refusal::NotLinear)
     }
+}
+
+// Whether a new parent is the node itself, which takes no memory, or a descendant.
+fn leads_to_either(replica: &Replica, node: Node, p: Node, q: Node) -> Result<bool, AllocError>
+    requires { Holds replica.now.history node }
+    ensures answer { IfOk result (λ answer. IsTrue answer
+        ↔ (Reaches replica.now.history node p ⊎ Reaches replica.now.history node q)) }
+    ensures memory { OnErr result (StandsBeforeParent replica.now.history node p q) }
+{
+    if node == p || node == q {
+        return Ok(true);
+    }
+    let graph = replica.graph();
+    Ok(graph.is_ancestor(node, p)? || graph.is_ancestor(node, q)?)
 }
 
 // Whether each node after the first has the one before as its sole parent.
@@ -219,6 +235,40 @@ pub(crate) fn check_raise(replica: &Replica, op: &Op) -> Result<(), Refusal>
         }
         _ => Ok(()),
     }
+}
+
+// The entries that an operation names.
+fn named_entries(op: &Op) -> &[Entry]
+    ensures { result.now ≡ named_entries op.now }
+{
+    match op {
+        Op::Commit { entry, .. } => slice::from_ref(entry),
+        Op::Amend { entry, .. } => slice::from_ref(entry),
+        Op::Split { entries, .. } => entries,
+        Op::Fold { entry, .. } => slice::from_ref(entry),
+        Op::Prune { .. } => &[],
+        Op::Relocate { entry, .. } => slice::from_ref(entry),
+        Op::Advance { .. } => &[],
+    }
+}
+
+// Refuses an entry that has no text. The node that is noted among its extras changes nothing of that.
+pub(crate) fn check_entries(op: &Op) -> Result<(), Refusal>
+    ensures { Checked (bad_entries op.now) result }
+{
+    check_each(named_entries(op))
+}
+
+fn check_each(entries: &[Entry]) -> Result<(), Refusal>
+    ensures { Checked (map entry_refused entries.now) result }
+{
+    for entry in entries {
+        match check_entry(entry) {
+            Ok(()) => {}
+            Err(fault) => return Err(Refusal::Fault(Cause::Entry(fault))),
+        }
+    }
+    Ok(())
 }
 
 // Refuses the user of a prune that is none.

@@ -9,8 +9,8 @@ ghost use Rattle.hg_rewrite.specs.Memory.{MayWantMemory};
 use crate::bounds::bounds;
 use crate::changesets::{ids, new_changesets};
 use crate::check::{
-    check_count, check_known, check_linear, check_new, check_not_obsolete, check_not_public,
-    check_pruner, check_raise, check_visible,
+    check_count, check_entries, check_known, check_linear, check_new, check_not_obsolete,
+    check_not_public, check_pruner, check_raise, check_visible,
 };
 use crate::markers::markers;
 use crate::op::Op;
@@ -37,6 +37,7 @@ pub fn decide(alloc: Global, replica: &Replica, op: &Op) -> Result<Part, Refusal
     check_linear(replica, op)?;
     check_count(op)?;
     check_raise(replica, op)?;
+    check_entries(op)?;
     check_pruner(op)?;
     let changesets = new_changesets(alloc, replica, op)?;
     let ids = ids(alloc, &changesets)?;

@@ -2,11 +2,11 @@ use Rattle.std.proofs.Common.{◌≡◌, Err, inr, ap, subst, ◌∙◌}
 use Rattle.std.proofs.lemmas.Result.{err_from_is_err_and}
 use Rattle.hg_graph.specs.Graph.{nodes}
 use Rattle.hg_rewrite.specs.Parts.{new_ids}
-use Rattle.hg_rewrite.specs.Refusals.{NoneApplies, IsFirstRefusal, unknown_nodes, public_nodes, obsolete_nodes, wrong_count, raise, bad_users, existing}
+use Rattle.hg_rewrite.specs.Refusals.{NoneApplies, IsFirstRefusal, unknown_nodes, public_nodes, obsolete_nodes, wrong_count, raise, bad_entries, bad_users, existing}
 use Rattle.hg_rewrite.proofs.PartLemmas.{part_is}
-use Rattle.hg_rewrite.proofs.DecideLemmas.{refused_unknown, refused_hidden, refused_public, refused_obsolete, refused_not_linear, refused_count, refused_raise, refused_unwritten, refused_unmarked, refused_user, refused_existing, none_unmarked, marks_refused, decided}
-use Rattle.hg_rewrite.proofs.TableLemmas.{unknown_tells, public_tells, obsolete_tells, count_tells, raise_tells, users_tell}
-use Rattle.hg_rewrite.proofs.MemoryLemmas.{told, never, wanting_hidden, wanting_ancestors, wanting_later}
+use Rattle.hg_rewrite.proofs.DecideLemmas.{refused_unknown, refused_hidden, refused_public, refused_obsolete, refused_not_linear, refused_count, refused_raise, refused_unwritten, refused_unmarked, refused_entry, refused_user, refused_existing, none_unmarked, marks_refused, decided}
+use Rattle.hg_rewrite.proofs.TableLemmas.{unknown_tells, public_tells, obsolete_tells, count_tells, raise_tells, entries_tell, users_tell}
+use Rattle.hg_rewrite.proofs.MemoryLemmas.{told, never, wanting_hidden, wanting_descendants, wanting_later}
 use Rattle.hg_rewrite.proofs.decision.decide.Goals as goal
 
 pub returns-in_err-check_known-clause-answer : goal.returns-in_err-check_known-clause-answer
@@ -43,6 +43,11 @@ pub returns-in_err-check_raise-clause-answer : goal.returns-in_err-check_raise-c
 returns-in_err-check_raise-clause-answer c =
     let p = err_from_is_err_and c.from_residual-in_err-check_raise.result c.from_residual-in_err-check_raise.ensures.1 in
     rw (p.1, p.2) (refused_raise c.args.replica.now c.args.op.now c.in_err-check_raise.field-0.0 c.in_ok-check_known.ensures.answer c.in_ok-check_visible.ensures.answer c.in_ok-check_not_public.ensures c.in_ok-check_not_obsolete.ensures c.in_ok-check_linear.ensures.answer c.in_ok-check_count.ensures (inr c.in_err-check_raise.ensures))
+
+pub returns-in_err-check_entries-clause-answer : goal.returns-in_err-check_entries-clause-answer
+returns-in_err-check_entries-clause-answer c =
+    let p = err_from_is_err_and c.from_residual-in_err-check_entries.result c.from_residual-in_err-check_entries.ensures.1 in
+    rw (p.1, p.2) (refused_entry c.args.replica.now c.args.op.now c.in_err-check_entries.field-0.0 c.in_ok-check_known.ensures.answer c.in_ok-check_visible.ensures.answer c.in_ok-check_not_public.ensures c.in_ok-check_not_obsolete.ensures c.in_ok-check_linear.ensures.answer c.in_ok-check_count.ensures c.in_ok-check_raise.ensures c.in_err-check_entries.ensures)
 
 pub returns-in_err-check_pruner-clause-answer : goal.returns-in_err-check_pruner-clause-answer
 returns-in_err-check_pruner-clause-answer c =
@@ -109,6 +114,12 @@ returns-in_err-check_raise-clause-memory c =
     let p = err_from_is_err_and c.from_residual-in_err-check_raise.result c.from_residual-in_err-check_raise.ensures.1 in
     λ e. never (raise s op) c.in_err-check_raise.field-0.0 (raise_tells s op) c.in_err-check_raise.ensures (told c.from_residual-in_err-check_raise.result _ c.in_err-check_raise.field-0.0 p.1 p.2 e)
 
+pub returns-in_err-check_entries-clause-memory : goal.returns-in_err-check_entries-clause-memory
+returns-in_err-check_entries-clause-memory c =
+    let op = c.args.op.now in
+    let p = err_from_is_err_and c.from_residual-in_err-check_entries.result c.from_residual-in_err-check_entries.ensures.1 in
+    λ e. never (bad_entries op) c.in_err-check_entries.field-0.0 (entries_tell op) c.in_err-check_entries.ensures (told c.from_residual-in_err-check_entries.result _ c.in_err-check_entries.field-0.0 p.1 p.2 e)
+
 pub returns-in_err-check_pruner-clause-memory : goal.returns-in_err-check_pruner-clause-memory
 returns-in_err-check_pruner-clause-memory c =
     let op = c.args.op.now in
@@ -123,19 +134,19 @@ returns-in_err-check_visible-clause-memory c =
 pub returns-in_err-check_linear-clause-memory : goal.returns-in_err-check_linear-clause-memory
 returns-in_err-check_linear-clause-memory c =
     let p = err_from_is_err_and c.from_residual-in_err-check_linear.result c.from_residual-in_err-check_linear.ensures.1 in
-    λ e. wanting_ancestors c.args.replica.now c.args.op.now c.in_ok-check_known.ensures.answer c.in_ok-check_not_public.ensures c.in_ok-check_not_obsolete.ensures (c.in_err-check_linear.ensures.memory (ap (λ x. Err x) (told c.from_residual-in_err-check_linear.result _ c.in_err-check_linear.field-0.0 p.1 p.2 e)))
+    λ e. wanting_descendants c.args.replica.now c.args.op.now c.in_ok-check_known.ensures.answer c.in_ok-check_visible.ensures.answer c.in_ok-check_not_public.ensures c.in_ok-check_not_obsolete.ensures (c.in_err-check_linear.ensures.memory (ap (λ x. Err x) (told c.from_residual-in_err-check_linear.result _ c.in_err-check_linear.field-0.0 p.1 p.2 e)))
 
 pub returns-in_err-changesets-clause-memory : goal.returns-in_err-changesets-clause-memory
-returns-in_err-changesets-clause-memory c = λ e. wanting_later c.args.replica.now c.args.op.now c.in_ok-check_known.ensures.answer c.in_ok-check_not_public.ensures c.in_ok-check_not_obsolete.ensures c.in_ok-check_linear.ensures.answer c.in_ok-check_count.ensures c.in_ok-check_raise.ensures c.in_ok-check_pruner.ensures
+returns-in_err-changesets-clause-memory c = λ e. wanting_later c.args.replica.now c.args.op.now c.in_ok-check_known.ensures.answer c.in_ok-check_visible.ensures.answer c.in_ok-check_not_public.ensures c.in_ok-check_not_obsolete.ensures c.in_ok-check_linear.ensures.answer c.in_ok-check_count.ensures c.in_ok-check_raise.ensures c.in_ok-check_entries.ensures c.in_ok-check_pruner.ensures
 
 pub returns-in_err-ids-clause-memory : goal.returns-in_err-ids-clause-memory
-returns-in_err-ids-clause-memory c = λ e. wanting_later c.args.replica.now c.args.op.now c.in_ok-check_known.ensures.answer c.in_ok-check_not_public.ensures c.in_ok-check_not_obsolete.ensures c.in_ok-check_linear.ensures.answer c.in_ok-check_count.ensures c.in_ok-check_raise.ensures c.in_ok-check_pruner.ensures
+returns-in_err-ids-clause-memory c = λ e. wanting_later c.args.replica.now c.args.op.now c.in_ok-check_known.ensures.answer c.in_ok-check_visible.ensures.answer c.in_ok-check_not_public.ensures c.in_ok-check_not_obsolete.ensures c.in_ok-check_linear.ensures.answer c.in_ok-check_count.ensures c.in_ok-check_raise.ensures c.in_ok-check_entries.ensures c.in_ok-check_pruner.ensures
 
 pub returns-in_err-markers-clause-memory : goal.returns-in_err-markers-clause-memory
-returns-in_err-markers-clause-memory c = λ e. wanting_later c.args.replica.now c.args.op.now c.in_ok-check_known.ensures.answer c.in_ok-check_not_public.ensures c.in_ok-check_not_obsolete.ensures c.in_ok-check_linear.ensures.answer c.in_ok-check_count.ensures c.in_ok-check_raise.ensures c.in_ok-check_pruner.ensures
+returns-in_err-markers-clause-memory c = λ e. wanting_later c.args.replica.now c.args.op.now c.in_ok-check_known.ensures.answer c.in_ok-check_visible.ensures.answer c.in_ok-check_not_public.ensures c.in_ok-check_not_obsolete.ensures c.in_ok-check_linear.ensures.answer c.in_ok-check_count.ensures c.in_ok-check_raise.ensures c.in_ok-check_entries.ensures c.in_ok-check_pruner.ensures
 
 pub returns-in_err-check_new-clause-memory : goal.returns-in_err-check_new-clause-memory
-returns-in_err-check_new-clause-memory c = λ e. wanting_later c.args.replica.now c.args.op.now c.in_ok-check_known.ensures.answer c.in_ok-check_not_public.ensures c.in_ok-check_not_obsolete.ensures c.in_ok-check_linear.ensures.answer c.in_ok-check_count.ensures c.in_ok-check_raise.ensures c.in_ok-check_pruner.ensures
+returns-in_err-check_new-clause-memory c = λ e. wanting_later c.args.replica.now c.args.op.now c.in_ok-check_known.ensures.answer c.in_ok-check_visible.ensures.answer c.in_ok-check_not_public.ensures c.in_ok-check_not_obsolete.ensures c.in_ok-check_linear.ensures.answer c.in_ok-check_count.ensures c.in_ok-check_raise.ensures c.in_ok-check_entries.ensures c.in_ok-check_pruner.ensures
 
 pub returns-in_err-bounds-clause-memory : goal.returns-in_err-bounds-clause-memory
-returns-in_err-bounds-clause-memory c = λ e. wanting_later c.args.replica.now c.args.op.now c.in_ok-check_known.ensures.answer c.in_ok-check_not_public.ensures c.in_ok-check_not_obsolete.ensures c.in_ok-check_linear.ensures.answer c.in_ok-check_count.ensures c.in_ok-check_raise.ensures c.in_ok-check_pruner.ensures
+returns-in_err-bounds-clause-memory c = λ e. wanting_later c.args.replica.now c.args.op.now c.in_ok-check_known.ensures.answer c.in_ok-check_visible.ensures.answer c.in_ok-check_not_public.ensures c.in_ok-check_not_obsolete.ensures c.in_ok-check_linear.ensures.answer c.in_ok-check_count.ensures c.in_ok-check_raise.ensures c.in_ok-check_entries.ensures c.in_ok-check_pruner.ensures
