@@ -4,7 +4,7 @@ use hg_changeset::{Changeset, Node};
 use hg_instab::Instabilities;
 use hg_phases::Phase;
 use hg_replica::{Part, Replica};
-use hg_succ::SuccessorsTable;
+use hg_succ::several_among;
 use std::alloc::{AllocError, Global};
 use std::io;
 use std::time::{CpuClock, Duration};
@@ -19,7 +19,7 @@ pub struct Chains {
     pub are_paired: bool,
 }
 
-/// The successors sets of all predecessors.
+/// The successors sets of all predecessors, and which of these have several.
 pub fn tell_sets(
     rt: &(impl CpuClock + AllocGlobal),
     size: usize,
@@ -28,7 +28,7 @@ pub fn tell_sets(
     let alloc = rt.alloc();
     let replica = replica_of(alloc, size, chains)?;
     let before = rt.thread_cpu_time()?;
-    let _table = SuccessorsTable::new(alloc, &replica)?;
+    let _several = several_among(alloc, &replica, &predecessors(alloc, &replica)?)?;
     Ok(rt.thread_cpu_time()?.saturating_sub(before))
 }
 
@@ -43,6 +43,15 @@ pub fn tell_divergent(
     let before = rt.thread_cpu_time()?;
     let _sets = Instabilities::from_scratch(alloc, &replica)?;
     Ok(rt.thread_cpu_time()?.saturating_sub(before))
+}
+
+// The predecessors of all markers.
+fn predecessors(alloc: Global, replica: &Replica) -> Result<Vec<Node>, AllocError> {
+    let mut nodes = Vec::new(alloc);
+    for marker in replica.store().markers() {
+        nodes.push(marker.predecessor())?;
+    }
+    Ok(nodes)
 }
 
 // A replica with so many markers.

@@ -14,7 +14,6 @@ use Rattle.hg_changeset.proofs.ListLemmas.{Contains-cons_cases, Contains-later, 
 use Rattle.hg_graph.proofs.GraphLemmas.{Contains-from_place, place_from_Contains}
 use Rattle.hg_marker.specs.Fields.{Fields}
 use Rattle.hg_obsstore.specs.Markers.{ArePlaces, AreDifferent}
-use Rattle.hg_phases.specs.State.{Held}
 use Rattle.hg_history.specs.Content.{IsHeld}
 use Rattle.hg_replica.specs.State.{ReplicaState}
 use Rattle.hg_replica.specs.Content.{Content, content_of}
@@ -24,12 +23,12 @@ use Rattle.std.specs.Option.{option_map}
 use Rattle.hg_succ.specs.declared.families.Solved.{Solved}
 use Rattle.hg_succ.specs.declared.families.Table.{Table}
 use Rattle.hg_succ.specs.Rows.{At}
-use Rattle.hg_succ.specs.Successors.{IsRewrittenTo, IsOnCycle, IsPick, IsPickOfEach, IsOverfull, IsFamily, IsSuccessorsSet, AreWithin, HasCount, HasCounts, AreMarkersOf, HasSeveral, ways}
+use Rattle.hg_succ.specs.Successors.{IsRewrittenTo, IsOnCycle, IsPick, IsPickOfEach, IsOverfull, IsFamily, AreWithin, HasCount, HasCounts, AreMarkersOf, HasSeveral, ways}
 use Rattle.hg_succ.specs.Successors.IsPick.{on_cycle, itself, unknown, rewritten}
 use Rattle.hg_succ.specs.Successors.IsPickOfEach.{no_places, next_place}
 use Rattle.hg_succ.specs.Successors.IsOverfull.{passed_on, too_many}
 use Rattle.hg_succ.specs.Numbered.{successors_at, IsRow}
-use Rattle.hg_succ.specs.Cover.{Known, IsCover, IsSolved, IsTable, IsSeveral, HasEntry, HasPredecessors, known_by, answer, answer_at, entry, families, family_in, NoneOverfull, SomeOverfull}
+use Rattle.hg_succ.specs.Cover.{Known, IsCover, IsSolved, IsTable, IsSeveral, HasEntry, known_by, answer, answer_at, entry, families, family_in, NoneOverfull, SomeOverfull}
 use Rattle.hg_succ.specs.Cover.Known.{are_sets, overfull}
 use Rattle.hg_succ.specs.Unions.{choices, counts, AreLargest, IsChoice}
 use Rattle.hg_succ.specs.Factors.{many_at, few_at, ways_at, IsFew, IsOnlySuccessor}
@@ -346,30 +345,10 @@ solved_unheld s n free missing = (
   free_not_over s n free,
 )
 
--- and hasn't several sets
-pub free_not_several : (s : Content) (n : Node) → ¬ (IsPredecessor s n) → HasSeveral s n → ⊥
-free_not_several s n free (inl over) = free_not_over s n free over
-free_not_several s n free (inr two) = two.4 (only_set two.0 two.2 ∙ sym (only_set two.1 two.3))
-  where
-    only_set : (set : List Node) → IsSuccessorsSet s n set → set ≡ n ∷ []
-    only_set set is = by (s.0 n) refl
-      where
-        by : (o : Option Held) → s.0 n ≡ o → set ≡ n ∷ []
-        by (Some h) e = sym (Contains-one (n ∷ []) set (((family_from_cover s n ((n ∷ []) ∷ []) (solved_held s n free (h, e)).0).exact set).1 is))
-        by None e = absurd (Contains-none set (((family_from_cover s n [] (solved_unheld s n free (λ held. none-some held.0 (sym e ∙ held.1))).0).exact set).1 is))
-
 -- what a table knows of a node that is done tells whether it has several sets
 pub entry_several : (s : Content) (t : Table) → IsTable s t → (n : Node) → HasEntry t n → IsSeveral (entry t n) ↔ HasSeveral s n
 entry_several s t so n has =
     subst (λ (o : Option Solved). IsSeveral (option_map (known_by t.families.items) o) ↔ HasSeveral s n) (sym has.1) (known_several s n (known_by t.families.items has.0) (so.right n has.0 has.1).1)
-
--- what a table of all predecessors knows of a node tells the same
-pub told_several : (s : Content) (t : Table) → IsTable s t → HasPredecessors s t → (n : Node) → IsSeveral (entry t n) ↔ HasSeveral s n
-told_several s t so has n = by (answer t n) refl
-  where
-    by : (o : Option Solved) → answer t n ≡ o → IsSeveral (option_map (known_by t.families.items) o) ↔ HasSeveral s n
-    by None e = (λ h. absurd h, λ several. absurd (free_not_several s n (λ is. none-some (has n is).0 (sym e ∙ (has n is).1)) several))
-    by (Some solved) e = subst (λ (o : Option Solved). IsSeveral (option_map (known_by t.families.items) o) ↔ HasSeveral s n) e (entry_several s t so n (solved, e))
 
 -- the sets that are told
 pub told_family : (s : Content) (n : Node) (family sets : List (List Node)) → IsSolved s n (are_sets family) → sets ≡ family → IsFamily s n sets × ¬ (IsOverfull s n)

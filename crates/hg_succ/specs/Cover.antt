@@ -9,7 +9,6 @@ use Rattle.std.specs.declared.alloc.Global.{Global}
 use Rattle.hg_changeset.specs.declared.node.Node.{Node}
 use Rattle.hg_changeset.specs.Node.{node_cmp, node_eq}
 use Rattle.hg_replica.specs.Content.{Content}
-use Rattle.hg_replica.specs.Evolution.{IsPredecessor}
 use Rattle.hg_succ.specs.declared.families.Solved.{Solved}
 use Rattle.hg_succ.specs.declared.families.Solved.TheVariants.{Family, Overfull}
 use Rattle.hg_succ.specs.declared.families.Table.{Table}
@@ -75,10 +74,6 @@ pub record IsTable (f : Content) (table : Table) : Type 0 where
   pub once : AreOnce table.nodes.keys
   pub long : length table.answers.items ≡ length table.nodes.keys
   pub right : (n : Node) (solved : Solved) → answer table n ≡ Some solved → IsRight f n table.families.items solved
-
--- each predecessor of a marker has its answer
-abbrev pub HasPredecessors : Content → Table → Type 0
-HasPredecessors f table = (n : Node) → IsPredecessor f n → HasEntry table n
 
 -- the family that is known, if any
 abbrev pub family_in : Option Known → List (List Node)

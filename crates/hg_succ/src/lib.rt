@@ -3,8 +3,8 @@
 //! A pick of a node is one full choice: nothing for a node on a cycle of markers, the node itself where no marker rewrites
 //! it and it is held, and otherwise, by one of its markers, a pick of each successor, all together. The successors sets are
 //! the largest picks. They are found for all nodes that some lead to at once: `numbered` gives these nodes numbers,
-//! `search` an order in which each comes after what it was rewritten to, and tells which are on cycles, and `families`
-//! goes along that order.
+//! `search` an order in which each comes after what it was rewritten to, and tells which are on cycles, by Gabow's
+//! algorithm, and `families` goes along that order.
 #![tactic(auto)]
 
 mod families;
@@ -17,4 +17,4 @@ mod unions;
 
 pub use laws::states_of_one_content_have_the_same_successors_sets;
 pub use sets::{Sets, UNION_LIMIT};
-pub use successors::{SuccessorsTable, several_among, successors_sets};
+pub use successors::{several_among, successors_sets};

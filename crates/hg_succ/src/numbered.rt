@@ -5,7 +5,6 @@
 ghost use Rattle.std.specs.Prelude.{◌≡◌, ◌++◌, List, Contains, IfOk, OnOk};
 ghost use Rattle.hg_changeset.specs.declared.node.Node.{Node};
 ghost use Rattle.hg_replica.specs.Content.{content_of};
-ghost use Rattle.hg_replica.specs.Evolution.{IsPredecessor};
 ghost use Rattle.hg_succ.specs.Rows.{rows_of};
 ghost use Rattle.hg_succ.specs.Numbered.{successors_at, Adds, IsRow, IsNumbered};
 
@@ -20,17 +19,6 @@ use std::alloc::{AllocError, Global};
 pub(crate) struct Numbered {
     pub nodes: IndexSet<Node>,
     pub rows: Vec<Vec<usize>>,
-}
-
-/// The predecessors of all markers.
-pub(crate) fn predecessors(alloc: Global, replica: &Replica) -> Result<IndexSet<Node>, AllocError>
-    ensures { IfOk result (λ nodes. (n : Node) → IsPredecessor (content_of replica.now) n → Contains nodes.keys n) }
-{
-    let mut nodes = IndexSet::new(alloc);
-    for marker in replica.store().markers() {
-        nodes.insert(marker.predecessor())?;
-    }
-    Ok(nodes)
 }
 
 /// The nodes, each once.

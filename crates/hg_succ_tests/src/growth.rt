@@ -1,7 +1,7 @@
 //! Each growth refused in turn.
 use crate::scene::{id, rewritten, tells};
 use hg_replica::Replica;
-use hg_succ::{SuccessorsTable, successors_sets};
+use hg_succ::{several_among, successors_sets};
 use std::alloc::Global;
 
 // A split of which one part was amended twice.
@@ -25,7 +25,7 @@ fn refused_growth_in_the_sets_of_a_node_is_told_and_passes(rt: HostRuntime) {
 }
 
 #[test]
-fn refused_growth_in_a_table_is_told_and_passes(rt: HostRuntime) {
+fn refused_growth_in_the_search_of_several_is_told_and_passes(rt: HostRuntime) {
     let alloc = rt.alloc();
     let Some(replica) = split(alloc) else {
         return;
@@ -33,11 +33,8 @@ fn refused_growth_in_a_table_is_told_and_passes(rt: HostRuntime) {
     let Some(node) = id(alloc, b'b') else {
         return;
     };
-    let Ok(table) = SuccessorsTable::new(alloc, &replica) else {
-        assert!(rt; tells(alloc, &replica, b'b', &[b"ts", b"us"]) == Some(true));
-        return;
-    };
-    if table.sets(node).is_err() {
-        assert!(rt; table.sets(node).is_ok() && table.has_several(node));
+    if several_among(alloc, &replica, &[node]).is_err() {
+        let found = several_among(alloc, &replica, &[node]).expect(&rt, "memory");
+        assert!(rt; found.contains(&node));
     }
 }

@@ -2,7 +2,7 @@
 use crate::scene::{empty, hold, id, ids, mark, replica_of, tells, tells_overfull};
 use hg_changeset::Node;
 use hg_replica::Replica;
-use hg_succ::{Sets, SuccessorsTable, successors_sets};
+use hg_succ::{Sets, several_among, successors_sets};
 use std::alloc::Global;
 
 const FIRST: u8 = 250;
@@ -53,11 +53,10 @@ fn a_family_of_4096_sets_is_told(rt: HostRuntime) {
         .ok()
         .expect(&rt, "memory");
     assert!(rt; is_of(&sets, 4096, 13));
-    let table = SuccessorsTable::new(alloc, &replica)
+    let shared = successors_sets(alloc, &replica, before)
         .ok()
         .expect(&rt, "memory");
-    let shared = table.sets(before).ok().expect(&rt, "memory");
-    assert!(rt; is_of(&shared, 4096, 13) && table.has_several(before));
+    assert!(rt; is_of(&shared, 4096, 13));
 }
 
 // One successor of two sets more. The node that is held stays as it is.
@@ -92,6 +91,15 @@ fn chain(alloc: Global) -> Option<Replica> {
     replica_of(alloc, &part)
 }
 
+// The nodes of the chain.
+fn links(alloc: Global) -> Option<Vec<Node>> {
+    let mut links = Vec::new(alloc);
+    for number in 0..LENGTH {
+        links.push(link(number)).ok()?;
+    }
+    Some(links)
+}
+
 fn is_alone(sets: &Sets, node: Node) -> bool {
     match sets {
         Sets::Family(family) => family.len() == 1
@@ -105,15 +113,13 @@ fn each_node_of_a_long_chain_became_its_end(rt: HostRuntime) {
     let alloc = rt.alloc();
     let replica = chain(alloc).expect(&rt, "memory");
     let end = id(alloc, ALONE).expect(&rt, "memory");
-    let sets = successors_sets(alloc, &replica, link(0))
-        .ok()
-        .expect(&rt, "memory");
-    assert!(rt; is_alone(&sets, end));
-    let table = SuccessorsTable::new(alloc, &replica)
-        .ok()
-        .expect(&rt, "memory");
-    for number in 0..LENGTH {
-        let sets = table.sets(link(number)).ok().expect(&rt, "memory");
-        assert!(rt; is_alone(&sets, end) && !table.has_several(link(number)));
+    for number in [0, 1, LENGTH - 1] {
+        let sets = successors_sets(alloc, &replica, link(number))
+            .ok()
+            .expect(&rt, "memory");
+        assert!(rt; is_alone(&sets, end));
     }
+    let links = links(alloc).expect(&rt, "memory");
+    let several = several_among(alloc, &replica, &links).expect(&rt, "memory");
+    assert!(rt; several.is_empty());
 }

@@ -4,7 +4,7 @@
 use crate::scene::{empty, hold, ids, mark, replica_of};
 use hg_changeset::Node;
 use hg_replica::Replica;
-use hg_succ::{Sets, SuccessorsTable};
+use hg_succ::{Sets, several_among, successors_sets};
 use std::alloc::Global;
 
 const NAMES: [u8; 4] = *b"abcd";
@@ -161,14 +161,14 @@ fn replica(alloc: Global, nodes: &[Node], store: &Store) -> Option<Replica> {
 
 fn agrees(alloc: Global, nodes: &[Node], store: &Store) -> Option<bool> {
     let replica = replica(alloc, nodes, store)?;
-    let table = SuccessorsTable::new(alloc, &replica).ok()?;
+    let found = several_among(alloc, &replica, nodes).ok()?;
     let known = all_picks(store);
     for node in 0..4u32 {
         let expected = largest(picks_of(&known, node));
         let id = node_at(nodes, node)?;
-        let sets = table.sets(id).ok()?;
+        let sets = successors_sets(alloc, &replica, id).ok()?;
         let several = expected.count_ones() > 1;
-        if numbers_of(nodes, &sets) != Some(expected) || table.has_several(id) != several {
+        if numbers_of(nodes, &sets) != Some(expected) || found.contains(&id) != several {
             return Some(false);
         }
     }
@@ -187,7 +187,7 @@ fn marker(number: u32) -> (u32, u32, u32) {
 
 // Each store once, but for the order of its markers; held are now these and now those of the four.
 #[test]
-fn a_table_tells_what_a_plain_program_tells(rt: HostRuntime) {
+fn each_store_tells_what_a_plain_program_tells(rt: HostRuntime) {
     let alloc = rt.alloc();
     let nodes = ids(alloc, &NAMES).expect(&rt, "memory");
     for number in 0..512000u32 {

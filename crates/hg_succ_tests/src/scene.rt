@@ -5,7 +5,7 @@ use hg_changeset::{Changeset, Node};
 use hg_marker::{Marker, decode};
 use hg_phases::Phase;
 use hg_replica::{Part, Replica};
-use hg_succ::{Sets, SuccessorsTable, successors_sets};
+use hg_succ::{Sets, several_among, successors_sets};
 use std::alloc::Global;
 
 /// The part without anything.
@@ -101,15 +101,13 @@ fn are_sets(told: &Sets, family: &[Vec<Node>]) -> bool {
     }
 }
 
-/// Whether exactly these are the successors sets of the node, asked alone and of the table.
+/// Whether exactly these are the successors sets of the node, which is told to have several where they are.
 pub fn tells(alloc: Global, replica: &Replica, name: u8, sets: &[&[u8]]) -> Option<bool> {
     let node = id(alloc, name)?;
     let family = family(alloc, sets)?;
-    let table = SuccessorsTable::new(alloc, replica).ok()?;
-    let alone = successors_sets(alloc, replica, node).ok()?;
-    let among = table.sets(node).ok()?;
-    let several = table.has_several(node) == (sets.len() > 1);
-    Some(are_sets(&alone, &family) && are_sets(&among, &family) && several)
+    let told = successors_sets(alloc, replica, node).ok()?;
+    let several = several_among(alloc, replica, &[node]).ok()?;
+    Some(are_sets(&told, &family) && several.contains(&node) == (sets.len() > 1))
 }
 
 fn is_overfull(told: &Sets) -> bool {
@@ -119,11 +117,10 @@ fn is_overfull(told: &Sets) -> bool {
     }
 }
 
-/// Whether the node is overfull, asked alone and of the table.
+/// Whether the node is overfull, which counts as several sets.
 pub fn tells_overfull(alloc: Global, replica: &Replica, name: u8) -> Option<bool> {
     let node = id(alloc, name)?;
-    let table = SuccessorsTable::new(alloc, replica).ok()?;
-    let alone = successors_sets(alloc, replica, node).ok()?;
-    let among = table.sets(node).ok()?;
-    Some(is_overfull(&alone) && is_overfull(&among) && table.has_several(node))
+    let told = successors_sets(alloc, replica, node).ok()?;
+    let several = several_among(alloc, replica, &[node]).ok()?;
+    Some(is_overfull(&told) && several.contains(&node))
 }
