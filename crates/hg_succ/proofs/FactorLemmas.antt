@@ -1,5 +1,7 @@
 -- Products and sums of counts, and where they pass the limit.
-use Rattle.std.proofs.Common.{◌≡◌, ℕ, ◌+◌, ◌-◌, ◌*◌, ◌<◌, ◌≤◌, ◌^◌, max, min, List, [], ◌∷◌, ◌++◌, length, sum, take, drop, get_or, Contains, inl, inr, refl, sym, ap, subst, ◌∙◌, arith, Option, Some, None, zero-add}
+use Rattle.std.proofs.Common.{◌≡◌, ℕ, ◌+◌, ◌-◌, ◌*◌, ◌<◌, ◌≤◌, ◌^◌, max, min, List, [], ◌∷◌, ◌++◌, length, sum, take}
+use Rattle.std.proofs.Common.{drop, get_or, Contains, inl, inr, refl, sym, ap, subst, ◌∙◌, arith, Option, Some, None}
+use Rattle.std.proofs.Common.{zero-add}
 use Rattle.std.proofs.Math.Nat.{le-mul_of_pos_right, mul_assoc, mul-one, one-mul}
 use Rattle.std.proofs.lemmas.List.{take-append-drop, map-append, take_more}
 use Rattle.std.proofs.lemmas.List.Sums.{sum_by-append}
@@ -20,30 +22,35 @@ factor_pos c = omega arith
 
 pub ways_pos : (cs : List ℕ) → 0 < ways cs
 ways_pos [] = omega arith
-ways_pos (c ∷ cs) = (let a = ways_pos cs in let b = factor_pos c in let l = le-mul_of_pos_right (max c 1) a in omega arith)
+ways_pos (c ∷ cs) = (let a = ways_pos cs in let b = factor_pos c in let l = le-mul_of_pos_right (max c 1) a in
+    omega arith)
 
 pub ways-append : (cs ds : List ℕ) → ways (cs ++ ds) ≡ ways cs * ways ds
 ways-append [] ds = sym (one-mul (ways ds))
 ways-append (c ∷ cs) ds = ap (λ n. max c 1 * n) (ways-append cs ds) ∙ sym (mul_assoc (max c 1) (ways cs) (ways ds))
 
 pub ways_front : (cs ds : List ℕ) → ways cs ≤ ways (cs ++ ds)
-ways_front cs ds = (let e = ways-append cs ds in let l = le-mul_of_pos_right (ways cs) (ways_pos ds) in omega (arith, e, l))
+ways_front cs ds = (let e = ways-append cs ds in let l = le-mul_of_pos_right (ways cs) (ways_pos ds) in
+    omega (arith, e, l))
 
 pub ways_push : (cs : List ℕ) (c : ℕ) → ways (cs ++ c ∷ []) ≡ ways cs * max c 1
 ways_push cs c = ways-append cs (c ∷ []) ∙ ap (λ n. ways cs * n) (mul-one (max c 1))
 
 -- what a factor says of what is known
-pub factor_some : (o : Option Known) (f : ℕ) → factor_in o ≡ Some f → (f ≡ max (length (family_in o)) 1) × ((o ≡ Some overfull) → ⊥)
+pub factor_some : (o : Option Known) (f : ℕ) → factor_in o ≡ Some f → (f ≡ max (length (family_in o)) 1)
+    × ((o ≡ Some overfull) → ⊥)
 factor_some None f e = (sym (same_Some 1 f e), λ h. none-some overfull h)
 factor_some (Some overfull) f e = absurd (none-some f e)
-factor_some (Some (are_sets family)) f e = (sym (same_Some (max (length family) 1) f e), λ h. (let g = same_Some (are_sets family) overfull h in cc))
+factor_some (Some (are_sets family)) f e =
+    (sym (same_Some (max (length family) 1) f e), λ h. (let g = same_Some (are_sets family) overfull h in cc))
 
 pub factor_none : (o : Option Known) → factor_in o ≡ None → o ≡ Some overfull
 factor_none None e = absurd (none-some 1 (sym e))
 factor_none (Some overfull) e = refl
 factor_none (Some (are_sets family)) e = absurd (none-some (max (length family) 1) (sym e))
 
-module _ (t : Table) (nodes : List Node) (i : ℕ) (x : Node) (inside : i < length nodes) (read : x ≡ get_or nodes i x) where
+module _ (t : Table) (nodes : List Node) (i : ℕ) (x : Node) (inside : i < length nodes)
+    (read : x ≡ get_or nodes i x) where
   split_nodes : take (i + 1) nodes ≡ take i nodes ++ x ∷ []
   split_nodes = take_more nodes i x inside ∙ ap (λ (z : Node). take i nodes ++ z ∷ []) (sym read)
 
@@ -56,7 +63,8 @@ module _ (t : Table) (nodes : List Node) (i : ℕ) (x : Node) (inside : i < leng
   ways_all : ways (counts t (take (i + 1) nodes)) ≤ ways (counts t nodes)
   ways_all =
       let e : counts t nodes ≡ counts t (take (i + 1) nodes) ++ counts t (drop (i + 1) nodes) =
-      ap (counts t) (sym (take-append-drop (i + 1) nodes)) ∙ map-append (λ n. length (families t n)) (take (i + 1) nodes) (drop (i + 1) nodes) in
+      ap (counts t) (sym (take-append-drop (i + 1) nodes)) ∙ map-append (λ n. length (families t n))
+      (take (i + 1) nodes) (drop (i + 1) nodes) in
       let l = ways_front (counts t (take (i + 1) nodes)) (counts t (drop (i + 1) nodes)) in
       omega (arith, l, ap ways e)
 
@@ -67,7 +75,8 @@ module _ (t : Table) (nodes : List Node) (i : ℕ) (x : Node) (inside : i < leng
   pub stops_overfull : factor_in (entry t x) ≡ None → HasManyWays t nodes
   stops_overfull e = inl (x, node_in, factor_none (entry t x) e)
 
-  module _ (w f : ℕ) (few : FewWays t (take i nodes) w) (factor : factor_in (entry t x) ≡ Some f) (p : ℕ) (product : p ≡ min (w * f) (2 ^ 64 - 1)) where
+  module _ (w f : ℕ) (few : FewWays t (take i nodes) w) (factor : factor_in (entry t x) ≡ Some f) (p : ℕ)
+      (product : p ≡ min (w * f) (2 ^ 64 - 1)) where
     full : ways (counts t (take (i + 1) nodes)) ≡ w * f
     full = ways_more ∙ (λ j. sym few.ways j * sym (factor_some (entry t x) f factor).0 j)
 
@@ -85,13 +94,16 @@ module _ (t : Table) (nodes : List Node) (i : ℕ) (x : Node) (inside : i < leng
     }
 
 -- the same for the markers at places
-module _ (t : Table) (markers : List Fields) (places : List ℕ) (i place : ℕ) (inside : i < length places) (read : place ≡ get_or places i place) where
+module _ (t : Table) (markers : List Fields) (places : List ℕ) (i place : ℕ) (inside : i < length places)
+    (read : place ≡ get_or places i place) where
   split_places : take (i + 1) places ≡ take i places ++ place ∷ []
   split_places = take_more places i place inside ∙ ap (λ (z : ℕ). take i places ++ z ∷ []) (sym read)
 
-  sum_more : sum (ways_at t markers (take (i + 1) places)) ≡ sum (ways_at t markers (take i places)) + ways (counts t (successors_at markers place))
+  sum_more : sum (ways_at t markers (take (i + 1) places)) ≡ sum (ways_at t markers (take i places))
+      + ways (counts t (successors_at markers place))
   sum_more =
-      let one : sum (ways (counts t (successors_at markers place)) ∷ []) ≡ ways (counts t (successors_at markers place)) = zero-add (ways (counts t (successors_at markers place))) in
+      let one : sum (ways (counts t (successors_at markers place)) ∷ [])
+      ≡ ways (counts t (successors_at markers place)) = zero-add (ways (counts t (successors_at markers place))) in
       ap (λ (ps : List ℕ). sum (ways_at t markers ps)) split_places
       ∙ ap sum (map-append (λ p. ways (counts t (successors_at markers p))) (take i places) (place ∷ []))
       ∙ sum_by-append (λ n. n) (ways_at t markers (take i places)) (ways (counts t (successors_at markers place)) ∷ [])
@@ -117,14 +129,16 @@ module _ (t : Table) (markers : List Fields) (places : List ℕ) (i place : ℕ)
     | inr many ↦ inr (let l = one_too_many in omega (arith, l, many))
   ]
 
-  module _ (total w : ℕ) (so_far : ((p : ℕ) → Contains (take i places) p → NoneOverfull t (successors_at markers p)) × (total ≡ sum (ways_at t markers (take i places)))) (few : FewWays t (successors_at markers place) w) where
+  module _ (total w : ℕ) (so_far : ((p : ℕ) → Contains (take i places) p → NoneOverfull t (successors_at markers p))
+      × (total ≡ sum (ways_at t markers (take i places)))) (few : FewWays t (successors_at markers place) w) where
     sum_is : sum (ways_at t markers (take (i + 1) places)) ≡ total + w
     sum_is = (let e = sum_more in omega (arith, e, so_far.1, few.ways))
 
     pub sum_stops : 4096 < total + w → many_at t markers places
     sum_stops l = inr (let a = sum_is in let b = sum_all in omega (arith, a, b, l))
 
-    pub sum_goes_on : ((p : ℕ) → Contains (take (i + 1) places) p → NoneOverfull t (successors_at markers p)) × (total + w ≡ sum (ways_at t markers (take (i + 1) places)))
+    pub sum_goes_on : ((p : ℕ) → Contains (take (i + 1) places) p → NoneOverfull t (successors_at markers p))
+        × (total + w ≡ sum (ways_at t markers (take (i + 1) places)))
     sum_goes_on = (
       (λ p h. elim ((more_of places i place inside read p).0 h) [
         | inl before ↦ so_far.0 p before

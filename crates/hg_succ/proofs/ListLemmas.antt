@@ -1,12 +1,15 @@
 -- Elements and the places where they stand.
-use Rattle.std.proofs.Common.{◌≡◌, ℕ, zero, suc, ◌+◌, ◌-◌, ◌<◌, List, [], ◌∷◌, ◌++◌, length, take, set, get_or, Contains, ◌⊎◌, inl, inr, refl, sym, ap, subst, ◌∙◌, arith, sum, map, Bool, IsTrue, ◌↔◌, eqb, Vec, Global}
+use Rattle.std.proofs.Common.{◌≡◌, ℕ, zero, suc, ◌+◌, ◌-◌, ◌<◌, List, [], ◌∷◌, ◌++◌, length, take, set, get_or}
+use Rattle.std.proofs.Common.{Contains, ◌⊎◌, inl, inr, refl, sym, ap, subst, ◌∙◌, arith, sum, map, Bool, IsTrue, ◌↔◌}
+use Rattle.std.proofs.Common.{eqb, Vec, Global}
 use Rattle.std.specs.List.{IsAnyAnswer}
 use Rattle.std.proofs.lemmas.List.Sums.{sum_by-set}
 use Rattle.std.proofs.lemmas.List.Elements.{Decides-contains, contains_decides}
 use Rattle.std.specs.Option.{option_map}
 use Rattle.std.specs.Cmp.{unsigned_Decides}
 use Rattle.std.proofs.lemmas.List.{length_push, take_at}
-use Rattle.std.proofs.lemmas.Option.{slice_get_within, get_or_from_slice_get, none-some, same_Some, slice_get_read, slice_get-map}
+use Rattle.std.proofs.lemmas.Option.{slice_get_within, get_or_from_slice_get, none-some, same_Some, slice_get_read}
+use Rattle.std.proofs.lemmas.Option.{slice_get-map}
 use Rattle.hg_changeset.proofs.ListLemmas.{slice_get-append, slice_get-append_seam, slice_get-push_cases}
 use Rattle.hg_graph.proofs.GraphLemmas.{Contains-from_place, place_from_Contains}
 use Rattle.hg_succ.specs.Rows.{At}
@@ -16,21 +19,29 @@ module _ {X : Type 0} where
   pub get_one : (xs : List X) (i : ℕ) (x y : X) → At xs i x → At xs i y → x ≡ y
   get_one xs i x y h g = same_Some x y (sym h ∙ g)
 
-  pub get_append_cases : (xs ys : List X) (i : ℕ) (x : X) → At (xs ++ ys) i x → (At xs i x) ⊎ ((k : ℕ) × (i ≡ length xs + k) × At ys k x)
+  pub get_append_cases : (xs ys : List X) (i : ℕ) (x : X) → At (xs ++ ys) i x
+      → (At xs i x) ⊎ ((k : ℕ) × (i ≡ length xs + k) × At ys k x)
   get_append_cases [] ys i x h = inr (i, omega arith, h)
   get_append_cases (z ∷ xs) ys zero x h = inl h
-  get_append_cases (z ∷ xs) ys (suc i) x h = elim (get_append_cases xs ys i x h) [ inl before ↦ inl before | inr later ↦ inr (later.0, (let e : suc i ≡ suc (length xs) + later.0 = omega (arith, later.1) in e), later.2) ]
+  get_append_cases (z ∷ xs) ys (suc i) x h = elim (get_append_cases xs ys i x h) [
+    | inl before ↦ inl before
+    | inr later ↦
+        inr (later.0, (let e : suc i ≡ suc (length xs) + later.0 = omega (arith, later.1) in e), later.2)
+  ]
 
   pub get_later : (xs ys : List X) (k : ℕ) (x : X) → At ys k x → At (xs ++ ys) (length xs + k) x
   get_later [] ys k x h = let e : k ≡ 0 + k = omega arith in subst (λ i. At ys i x) e h
-  get_later (z ∷ xs) ys k x h = let e : suc (length xs + k) ≡ suc (length xs) + k = omega arith in subst (λ i. At (z ∷ xs ++ ys) i x) e (get_later xs ys k x h)
+  get_later (z ∷ xs) ys k x h = let e : suc (length xs + k) ≡ suc (length xs) + k = omega arith in
+      subst (λ i. At (z ∷ xs ++ ys) i x) e (get_later xs ys k x h)
 
-  pub get_set_cases : (xs : List X) (i : ℕ) (v : X) (j : ℕ) (w : X) → At (set xs i v) j w → ((i ≡ j) × (v ≡ w)) ⊎ At xs j w
+  pub get_set_cases : (xs : List X) (i : ℕ) (v : X) (j : ℕ) (w : X) → At (set xs i v) j w
+      → ((i ≡ j) × (v ≡ w)) ⊎ At xs j w
   get_set_cases [] i v j w h = inr h
   get_set_cases (x ∷ xs) zero v zero w h = inl (refl, same_Some v w h)
   get_set_cases (x ∷ xs) zero v (suc j) w h = inr h
   get_set_cases (x ∷ xs) (suc i) v zero w h = inr h
-  get_set_cases (x ∷ xs) (suc i) v (suc j) w h = elim (get_set_cases xs i v j w h) [ inl same ↦ inl (ap suc same.0, same.1) | inr other ↦ inr other ]
+  get_set_cases (x ∷ xs) (suc i) v (suc j) w h = elim (get_set_cases xs i v j w h)
+      [ inl same ↦ inl (ap suc same.0, same.1) | inr other ↦ inr other ]
 
   -- a write of what stands there elsewhere
   pub get_set_keeps : (xs : List X) (i : ℕ) (v : X) (j : ℕ) → At xs j v → At (set xs i v) j v
@@ -45,10 +56,13 @@ module _ {X : Type 0} where
   split_last [] x h = absurd (none-some x h)
   split_last (y ∷ []) x h = ([], ap (λ z. z ∷ []) (same_Some y x h))
   split_last (y ∷ z ∷ xs) x h =
-      let r = split_last (z ∷ xs) x (subst (λ k. At (y ∷ z ∷ xs) k x) (let e : suc (suc (length xs)) - 1 ≡ suc (suc (length xs) - 1) = omega arith in e) h) in
+      let r = split_last (z ∷ xs) x
+      (subst (λ k. At (y ∷ z ∷ xs) k x)
+      (let e : suc (suc (length xs)) - 1 ≡ suc (suc (length xs) - 1) = omega arith in e) h) in
       (y ∷ r.0, ap (λ zs. y ∷ zs) r.1)
 
-pub ascending_push : (xs : List ℕ) (t : ℕ) → IsAscending xs → ((a : ℕ) → Contains xs a → a < t) → IsAscending (xs ++ t ∷ [])
+pub ascending_push : (xs : List ℕ) (t : ℕ) → IsAscending xs → ((a : ℕ) → Contains xs a → a < t)
+    → IsAscending (xs ++ t ∷ [])
 ascending_push xs t up below i j a b l at_i at_j =
     elim (slice_get-push_cases xs t j b at_j) [
       | inl j_in ↦ elim (slice_get-push_cases xs t i a at_i) [
@@ -62,10 +76,13 @@ ascending_push xs t up below i j a b l at_i at_j =
     ]
 
 pub ascending_front : (xs ys : List ℕ) → IsAscending (xs ++ ys) → IsAscending xs
-ascending_front xs ys up i j a b l at_i at_j = up i j a b l (slice_get-append xs ys i a at_i) (slice_get-append xs ys j b at_j)
+ascending_front xs ys up i j a b l at_i at_j = up i j a b l (slice_get-append xs ys i a at_i)
+    (slice_get-append xs ys j b at_j)
 
 pub ascending_last : (xs : List ℕ) (t : ℕ) → IsAscending (xs ++ t ∷ []) → (a : ℕ) → Contains xs a → a < t
-ascending_last xs t up a h = let g = place_from_Contains xs a h in up g.0 (length xs) a t (slice_get_within xs g.0 a g.1) (slice_get-append xs (t ∷ []) g.0 a g.1) (slice_get-append_seam xs t [])
+ascending_last xs t up a h = let g = place_from_Contains xs a h in
+    up g.0 (length xs) a t (slice_get_within xs g.0 a g.1) (slice_get-append xs (t ∷ []) g.0 a g.1)
+    (slice_get-append_seam xs t [])
 
 -- what `pop` leaves of a list that ends with an element
 pub popped : (xs ys front : List ℕ) (n t : ℕ) → n ≡ length xs → ys ≡ take (n - 1) xs → xs ≡ front ++ t ∷ [] → ys ≡ front
@@ -85,7 +102,8 @@ one_end xs s t a b =
     let lb : length (b.0 ++ t ∷ []) ≡ length b.0 + 1 = length_push b.0 t in
     let same : length a.0 ≡ length b.0 = omega (arith, la, lb, ap length a.1, ap length b.1) in
     get_one xs (length b.0) s t
-    (subst (λ i. At xs i s) same (subst (λ (zs : List ℕ). At zs (length a.0) s) (sym a.1) (slice_get-append_seam a.0 s [])))
+    (subst (λ i. At xs i s) same
+    (subst (λ (zs : List ℕ). At zs (length a.0) s) (sym a.1) (slice_get-append_seam a.0 s [])))
     (subst (λ (zs : List ℕ). At zs (length b.0) t) (sym b.1) (slice_get-append_seam b.0 t []))
 
 pub sum_set : (xs : List ℕ) (i l : ℕ) → At xs i (suc l) → sum (set xs i l) + 1 ≡ sum xs
@@ -99,5 +117,7 @@ pub test_contains : (xs : List ℕ) (x : ℕ) (r : Bool) → IsAnyAnswer (λ y b
 test_contains xs x r cases = Decides-contains xs x r (contains_decides eqb unsigned_Decides xs x r cases)
 
 -- the row that stands at a number
-pub row_at : (rows : List (Vec ℕ Global)) (i : ℕ) (row : Vec ℕ Global) → i < length rows → row ≡ get_or rows i row → At (map (λ r. r.items) rows) i row.items
-row_at rows i row l e = slice_get-map (λ (r : Vec ℕ Global). r.items) rows i ∙ ap (option_map (λ (r : Vec ℕ Global). r.items)) (slice_get_read rows (length rows) i row refl l e)
+pub row_at : (rows : List (Vec ℕ Global)) (i : ℕ) (row : Vec ℕ Global) → i < length rows → row ≡ get_or rows i row
+    → At (map (λ r. r.items) rows) i row.items
+row_at rows i row l e = slice_get-map (λ (r : Vec ℕ Global). r.items) rows i
+    ∙ ap (option_map (λ (r : Vec ℕ Global). r.items)) (slice_get_read rows (length rows) i row refl l e)

@@ -1,5 +1,6 @@
 -- Answers that stand at the numbers of nodes.
-use Rattle.std.proofs.Common.{◌≡◌, ℕ, zero, suc, ◌+◌, cond, List, [], ◌∷◌, length, set, get_or, replicate, Option, Some, None, ◌⊎◌, inl, inr, refl, sym, ap, subst, ◌∙◌, arith}
+use Rattle.std.proofs.Common.{◌≡◌, ℕ, zero, suc, ◌+◌, cond, List, [], ◌∷◌, length, set, get_or, replicate, Option, Some}
+use Rattle.std.proofs.Common.{None, ◌⊎◌, inl, inr, refl, sym, ap, subst, ◌∙◌, arith}
 use Rattle.std.specs.List.{position, position_from}
 use Rattle.std.specs.Option.{option_and_then}
 use Rattle.std.proofs.lemmas.Bool.{cases_Bool, cases_eq}
@@ -18,20 +19,26 @@ use Rattle.hg_succ.proofs.ListLemmas.{get_one}
 
 -- ---- the number of a node
 
-number_from : (nodes : List Node) (k i : ℕ) (n : Node) → AreOnce nodes → At nodes i n → position_from (node_eq n) k nodes ≡ Some (k + i)
+number_from : (nodes : List Node) (k i : ℕ) (n : Node) → AreOnce nodes → At nodes i n
+    → position_from (node_eq n) k nodes ≡ Some (k + i)
 number_from [] k i n once at = absurd (none-some n at)
 number_from (x ∷ nodes) k zero n once at =
-    ap (λ b. cond b (Some k) (position_from (node_eq n) (k + 1) nodes)) (node_itself n x (sym (same_Some x n at))) ∙ ap (λ j. Some j) (let e : k ≡ k + 0 = omega arith in e)
+    ap (λ b. cond b (Some k) (position_from (node_eq n) (k + 1) nodes)) (node_itself n x (sym (same_Some x n at)))
+    ∙ ap (λ j. Some j) (let e : k ≡ k + 0 = omega arith in e)
 number_from (x ∷ nodes) k (suc i) n once at = elim (cases_Bool (node_eq n x)) [
-  | inl same ↦ absurd (let e : 0 ≡ suc i = once 0 (suc i) n (ap (λ y. Some y) (sym (same_node n x same))) at in omega (arith, e))
+  | inl same ↦ absurd (let e : 0 ≡ suc i = once 0 (suc i) n (ap (λ y. Some y) (sym (same_node n x same))) at in
+      omega (arith, e))
   | inr other ↦
       ap (λ b. cond b (Some k) (position_from (node_eq n) (k + 1) nodes)) other
-      ∙ number_from nodes (k + 1) i n (λ a b y at_a at_b. let e : suc a ≡ suc b = once (suc a) (suc b) y at_a at_b in omega (arith, e)) at
+      ∙ number_from nodes (k + 1) i n (λ a b y at_a at_b. let e : suc a ≡ suc b = once (suc a) (suc b) y at_a at_b in
+      omega (arith, e)) at
       ∙ ap (λ j. Some j) (let e : (k + 1) + i ≡ k + suc i = omega arith in e)
 ]
 
-pub number_at : (nodes : List Node) (i : ℕ) (n : Node) → AreOnce nodes → At nodes i n → position (node_eq n) nodes ≡ Some i
-number_at nodes i n once at = position_from-zero (node_eq n) nodes ∙ number_from nodes 0 i n once at ∙ ap (λ j. Some j) (let e : 0 + i ≡ i = omega arith in e)
+pub number_at : (nodes : List Node) (i : ℕ) (n : Node) → AreOnce nodes → At nodes i n
+    → position (node_eq n) nodes ≡ Some i
+number_at nodes i n once at = position_from-zero (node_eq n) nodes ∙ number_from nodes 0 i n once at
+    ∙ ap (λ j. Some j) (let e : 0 + i ≡ i = omega arith in e)
 
 at_number : (nodes : List Node) (i : ℕ) (n : Node) → position (node_eq n) nodes ≡ Some i → At nodes i n
 at_number nodes i n e =
@@ -44,7 +51,8 @@ at_number nodes i n e =
 abbrev pub look : List Node → List (Option Solved) → Node → Option Solved
 look nodes answers n = option_and_then (answer_at answers) (position (node_eq n) nodes)
 
-pub look_at : (nodes : List Node) (answers : List (Option Solved)) (i : ℕ) (n : Node) → AreOnce nodes → At nodes i n → look nodes answers n ≡ answer_at answers i
+pub look_at : (nodes : List Node) (answers : List (Option Solved)) (i : ℕ) (n : Node) → AreOnce nodes → At nodes i n
+    → look nodes answers n ≡ answer_at answers i
 look_at nodes answers i n once at = ap (option_and_then (answer_at answers)) (number_at nodes i n once at)
 
 none_there : (count i : ℕ) → answer_at (replicate count None) i ≡ None
@@ -59,10 +67,13 @@ look_none nodes count n = by (position (node_eq n) nodes)
     by None = refl
     by (Some i) = none_there count i
 
-module _ (nodes : List Node) (once : AreOnce nodes) (answers : List (Option Solved)) (long : length answers ≡ length nodes) (number : ℕ) (node : Node) (at : At nodes number node) (v : Option Solved) where
+module _ (nodes : List Node) (once : AreOnce nodes) (answers : List (Option Solved))
+    (long : length answers ≡ length nodes) (number : ℕ) (node : Node) (at : At nodes number node)
+    (v : Option Solved) where
   -- the answer that is written, at its number
   written : answer_at (set answers number v) number ≡ v
-  written = ap (option_and_then (λ o. o)) (get-set_same answers number v (let l = slice_get_within nodes number node at in omega (arith, l, long)))
+  written = ap (option_and_then (λ o. o))
+      (get-set_same answers number v (let l = slice_get_within nodes number node at in omega (arith, l, long)))
 
   pub look_written : look nodes (set answers number v) node ≡ v
   look_written = look_at nodes (set answers number v) number node once at ∙ written
@@ -71,8 +82,10 @@ module _ (nodes : List Node) (once : AreOnce nodes) (answers : List (Option Solv
   pub look_after : (n : Node) → (node ≡ n) ⊎ (look nodes (set answers number v) n ≡ look nodes answers n)
   look_after n = by (position (node_eq n) nodes) refl
     where
-      by : (o : Option ℕ) → position (node_eq n) nodes ≡ o → (node ≡ n) ⊎ (look nodes (set answers number v) n ≡ look nodes answers n)
-      by None e = inr (ap (option_and_then (answer_at (set answers number v))) e ∙ sym (ap (option_and_then (answer_at answers)) e))
+      by : (o : Option ℕ) → position (node_eq n) nodes ≡ o → (node ≡ n)
+          ⊎ (look nodes (set answers number v) n ≡ look nodes answers n)
+      by None e = inr (ap (option_and_then (answer_at (set answers number v))) e
+          ∙ sym (ap (option_and_then (answer_at answers)) e))
       by (Some i) e = elim (cases_eq i number) [
         | inl same ↦ inl (get_one nodes number node n at (subst (λ k. At nodes k n) same (at_number nodes i n e)))
         | inr other ↦ inr (

@@ -15,15 +15,20 @@ use Rattle.hg_succ.specs.Numbered.{AreOnce, AreRows}
 use Rattle.hg_succ.proofs.ListLemmas.{get_one}
 
 -- steps over markers, as a first one and the others
-path_from_precedes : (f : Content) (p n : Node) → Precedes f IsAny p n → (y : Node) × IsRewrittenTo f p y × Reaches (IsRewrittenTo f) y n
+path_from_precedes : (f : Content) (p n : Node) → Precedes f IsAny p n → (y : Node) × IsRewrittenTo f p y
+    × Reaches (IsRewrittenTo f) y n
 path_from_precedes f p n (step {m = m} held kind at is) = (n, (m, held, is, at), no_step)
-path_from_precedes f p n (further {m = m} held kind at r) = let w = path_from_precedes f p m.predecessor r in (w.0, w.1, one_step_more w.2 (m, held, refl, at))
+path_from_precedes f p n (further {m = m} held kind at r) = let w = path_from_precedes f p m.predecessor r in
+    (w.0, w.1, one_step_more w.2 (m, held, refl, at))
 
-precedes_from_path : (f : Content) (p y n : Node) → IsRewrittenTo f p y → Reaches (IsRewrittenTo f) y n → Precedes f IsAny p n
+precedes_from_path : (f : Content) (p y n : Node) → IsRewrittenTo f p y → Reaches (IsRewrittenTo f) y n
+    → Precedes f IsAny p n
 precedes_from_path f p y n s no_step = step s.1 tt s.3 s.2
-precedes_from_path f p y n s (one_step_more {y = k} r t) = further t.1 tt t.3 (subst (Precedes f IsAny p) (sym t.2) (precedes_from_path f p y k s r))
+precedes_from_path f p y n s (one_step_more {y = k} r t) =
+    further t.1 tt t.3 (subst (Precedes f IsAny p) (sym t.2) (precedes_from_path f p y k s r))
 
-module _ (f : Content) (nodes : List Node) (rows : List (List ℕ)) (once : AreOnce nodes) (all : length rows ≡ length nodes) (exact : AreRows f nodes rows) where
+module _ (f : Content) (nodes : List Node) (rows : List (List ℕ)) (once : AreOnce nodes)
+    (all : length rows ≡ length nodes) (exact : AreRows f nodes rows) where
   edge_to : (i j : ℕ) (x : Node) → Edge rows i j → At nodes i x → (y : Node) × At nodes j y × IsRewrittenTo f x y
   edge_to i j x e at = (let l = (exact i x e.0 at e.1).listed j e.2 in (l.0, l.2, l.1))
 
@@ -33,13 +38,17 @@ module _ (f : Content) (nodes : List Node) (rows : List (List ℕ)) (once : AreO
       let e = (exact i x row.0 at row.1).each y to in
       (e.0, e.2, (row.0, row.1, e.1))
 
-  path_to : (i j : ℕ) (x : Node) → At nodes i x → Reaches (Edge rows) i j → (y : Node) × At nodes j y × Reaches (IsRewrittenTo f) x y
+  path_to : (i j : ℕ) (x : Node) → At nodes i x → Reaches (Edge rows) i j
+      → (y : Node) × At nodes j y × Reaches (IsRewrittenTo f) x y
   path_to i j x at no_step = (x, at, no_step)
-  path_to i j x at (one_step_more {y = k} r e) = (let w = path_to i k x at r in let s = edge_to k j w.0 e w.1 in (s.0, s.1, one_step_more w.2 s.2))
+  path_to i j x at (one_step_more {y = k} r e) = (let w = path_to i k x at r in let s = edge_to k j w.0 e w.1 in
+      (s.0, s.1, one_step_more w.2 s.2))
 
-  path_from : (i : ℕ) (x y : Node) → At nodes i x → Reaches (IsRewrittenTo f) x y → (j : ℕ) × At nodes j y × Reaches (Edge rows) i j
+  path_from : (i : ℕ) (x y : Node) → At nodes i x → Reaches (IsRewrittenTo f) x y
+      → (j : ℕ) × At nodes j y × Reaches (Edge rows) i j
   path_from i x y at no_step = (i, at, no_step)
-  path_from i x y at (one_step_more {y = w} r s) = (let k = path_from i x w at r in let e = edge_from k.0 w y k.1 s in (e.0, e.1, one_step_more k.2 e.2))
+  path_from i x y at (one_step_more {y = w} r s) = (let k = path_from i x w at r in let e = edge_from k.0 w y k.1 s in
+      (e.0, e.1, one_step_more k.2 e.2))
 
   -- a number is on a cycle where its node is
   pub cycles_are : (i : ℕ) (x : Node) → At nodes i x → LeadsBack (Edge rows) i ↔ IsOnCycle f x
@@ -61,7 +70,10 @@ module _ (f : Content) (nodes : List Node) (rows : List (List ℕ)) (once : AreO
       let s = edge_to i j x.0 e x.1 in
       (let l = slice_get_within nodes j s.0 s.1 in omega (arith, l, all))
 
-pub reads_node : (nodes read : List Node) (rows : List (Vec ℕ Global)) (i : ℕ) → read ≡ nodes → length rows ≡ length nodes → i < length (rows_of rows) → At nodes i (get_or read i (record { 0 = [] }))
+pub reads_node : (nodes read : List Node) (rows : List (Vec ℕ Global)) (i : ℕ)
+    → read ≡ nodes → length rows ≡ length nodes → i < length (rows_of rows)
+    → At nodes i (get_or read i (record { 0 = [] }))
 reads_node nodes read rows i e all l =
     subst (λ (ns : List Node). At ns i (get_or read i (record { 0 = [] }))) e
-    (slice_get-get_or read i (record { 0 = [] }) (omega (arith, l, all, ap length e, length-map rows (λ (row : Vec ℕ Global). row.items))))
+    (slice_get-get_or read i (record { 0 = [] })
+    (omega (arith, l, all, ap length e, length-map rows (λ (row : Vec ℕ Global). row.items))))

@@ -1,5 +1,6 @@
 -- Where each node that is led to has one marker at most, there is one pick, and so one successors set at most.
-use Rattle.std.proofs.Common.{◌≡◌, ◌≤◌, ◌*◌, ◌⊎◌, ◌∷◌, ◌++◌, [], ℕ, List, length, Contains, map, sum, max, arith, inl, inr, subst, sym, ap, ◌∙◌, refl, zero, suc}
+use Rattle.std.proofs.Common.{◌≡◌, ◌≤◌, ◌*◌, ◌⊎◌, ◌∷◌, ◌++◌, [], ℕ, List, length, Contains, map, sum, max, arith, inl}
+use Rattle.std.proofs.Common.{inr, subst, sym, ap, ◌∙◌, refl, zero, suc}
 use Rattle.std.specs.List.{AllZip}
 use Rattle.std.specs.Cmp.Lexicographic.{slice_cmp, lists_total}
 use Rattle.std.specs.declared.cmp.Ordering.TheVariants.{Less}
@@ -11,7 +12,8 @@ use Rattle.hg_marker.specs.Fields.{Fields}
 use Rattle.hg_replica.specs.Content.{Content}
 use Rattle.hg_replica.specs.Evolution.{IsMarker, Precedes}
 use Rattle.hg_replica.specs.Evolution.Precedes.{step, further}
-use Rattle.hg_succ.specs.Successors.{IsAny, IsRewrittenTo, IsPick, IsPickOfEach, IsSuccessorsSet, IsFamily, HasCount, HasCounts, ways, AreMarkersOf, IsOverfull, HasSeveral}
+use Rattle.hg_succ.specs.Successors.{IsAny, IsRewrittenTo, IsPick, IsPickOfEach, IsSuccessorsSet, IsFamily, HasCount}
+use Rattle.hg_succ.specs.Successors.{HasCounts, ways, AreMarkersOf, IsOverfull, HasSeveral}
 use Rattle.hg_succ.specs.Successors.IsPick.{on_cycle, itself, unknown, rewritten}
 use Rattle.hg_succ.specs.Successors.IsPickOfEach.{no_places, next_place}
 use Rattle.hg_succ.specs.Successors.IsOverfull.{passed_on, too_many}
@@ -29,7 +31,8 @@ module _ (f : Content) where
 
   -- one marker more at the front of a way
   lead : (n y x : Node) → IsRewrittenTo f n y → Precedes f IsAny y x → Precedes f IsAny n x
-  lead n y x to (step {m = m} held kind at is) = further held tt at (subst (Precedes f IsAny n) (sym is) (step to.1 tt to.3 to.2))
+  lead n y x to (step {m = m} held kind at is) =
+      further held tt at (subst (Precedes f IsAny n) (sym is) (step to.1 tt to.3 to.2))
   lead n y x to (further {m = m} held kind at r) = further held tt at (lead n y m.predecessor to r)
 
   single-next : (n y : Node) → AllSingle n → IsRewrittenTo f n y → AllSingle y
@@ -45,12 +48,16 @@ module _ (f : Content) where
     same-pick n p q all (rewritten m held at off picks) (itself free h) = absurd (free (m, held, at))
     same-pick n p q all (rewritten m held at off picks) (unknown free h) = absurd (free (m, held, at))
     same-pick n p q all (rewritten m held at off picks) (rewritten k in' from away others) =
-        same-picks m.successors p q (λ y h. single-next n y all (m, held, at, h)) picks (subst (λ x. IsPickOfEach f x.successors q) (all n (inl refl) k m in' held from at) others)
+        same-picks m.successors p q (λ y h. single-next n y all (m, held, at, h)) picks
+        (subst (λ x. IsPickOfEach f x.successors q) (all n (inl refl) k m in' held from at) others)
 
-    same-picks : (ns p q : List Node) → ((y : Node) → Contains ns y → AllSingle y) → IsPickOfEach f ns p → IsPickOfEach f ns q → p ≡ q
+    same-picks : (ns p q : List Node) → ((y : Node) → Contains ns y → AllSingle y) → IsPickOfEach f ns p
+        → IsPickOfEach f ns q → p ≡ q
     same-picks [] p q all no_places no_places = refl
-    same-picks (n ∷ ns) p q all (next_place {pick = a} {picks = as'} first rest) (next_place {pick = b} {picks = bs} second more) =
-        ap (λ l. l ++ as') (same-pick n a b (all n (0, omega arith, refl)) first second) ∙ ap (λ l. b ++ l) (same-picks ns as' bs (λ y h. all y (Contains-later n ns y h)) rest more)
+    same-picks (n ∷ ns) p q all (next_place {pick = a} {picks = as'} first rest)
+        (next_place {pick = b} {picks = bs} second more) =
+        ap (λ l. l ++ as') (same-pick n a b (all n (0, omega arith, refl)) first second)
+        ∙ ap (λ l. b ++ l) (same-picks ns as' bs (λ y h. all y (Contains-later n ns y h)) rest more)
 
   same-set : (n : Node) (a b : List Node) → AllSingle n → IsSuccessorsSet f n a → IsSuccessorsSet f n b → a ≡ b
   same-set n a b all s t =
@@ -67,8 +74,11 @@ module _ (f : Content) where
       by [] is e = omega (arith, e)
       by (a ∷ []) is e = omega (arith, e)
       by (a ∷ b ∷ rest) is e =
-          let same : a ≡ b = same-set x a b all ((is.exact a).0 (Contains-first a (b ∷ rest))) ((is.exact b).0 (Contains-later a (b ∷ rest) b (Contains-first b rest))) in
-          absurd (not_below_itself (lists_total node_cmp_total) b (subst (λ l. slice_cmp node_cmp l b ≡ Less) same (below_rest (lists_total node_cmp_total) a (b ∷ rest) b is.ascending (Contains-first b rest))))
+          let same : a ≡ b = same-set x a b all ((is.exact a).0 (Contains-first a (b ∷ rest)))
+          ((is.exact b).0 (Contains-later a (b ∷ rest) b (Contains-first b rest))) in
+          absurd (not_below_itself (lists_total node_cmp_total) b
+          (subst (λ l. slice_cmp node_cmp l b ≡ Less) same
+          (below_rest (lists_total node_cmp_total) a (b ∷ rest) b is.ascending (Contains-first b rest))))
 
   -- and a marker of such nodes allows one way
   factor-one : (count rest : ℕ) → count ≤ 1 → rest ≡ 1 → max count 1 * rest ≡ 1
@@ -76,14 +86,17 @@ module _ (f : Content) where
   factor-one (suc zero) rest le e = omega (arith, e)
   factor-one (suc (suc count)) rest le e = absurd (omega (arith, le))
 
-  one-way : (ns : List Node) (counts : List ℕ) → ((y : Node) → Contains ns y → AllSingle y) → AllZip (HasCount f) ns counts → ways counts ≡ 1
+  one-way : (ns : List Node) (counts : List ℕ) → ((y : Node) → Contains ns y → AllSingle y)
+      → AllZip (HasCount f) ns counts → ways counts ≡ 1
   one-way [] [] all zip = refl
   one-way [] (count ∷ counts) all zip = absurd zip
   one-way (n ∷ ns) [] all zip = absurd zip
   one-way (n ∷ ns) (count ∷ counts) all zip =
-      factor-one count (ways counts) (one-set count n (all n (Contains-first n ns)) zip.0) (one-way ns counts (λ y h. all y (Contains-later n ns y h)) zip.1)
+      factor-one count (ways counts) (one-set count n (all n (Contains-first n ns)) zip.0)
+      (one-way ns counts (λ y h. all y (Contains-later n ns y h)) zip.1)
 
-  few : (n : Node) (ms : List Fields) (counts : List (List ℕ)) → AllSingle n → AreMarkersOf f n ms → AllZip (HasCounts f) ms counts → sum (map ways counts) ≤ 1
+  few : (n : Node) (ms : List Fields) (counts : List (List ℕ)) → AllSingle n → AreMarkersOf f n ms
+      → AllZip (HasCounts f) ms counts → sum (map ways counts) ≤ 1
   few n [] [] all are zip = omega arith
   few n [] (cs ∷ counts) all are zip = absurd zip
   few n (m ∷ ms) [] all are zip = absurd zip

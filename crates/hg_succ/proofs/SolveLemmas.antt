@@ -1,5 +1,6 @@
 -- The sets of a node from those of its successors.
-use Rattle.std.proofs.Common.{max, zero-add, ◌*◌, ◌≡◌, ℕ, ◌<◌, ◌≤◌, List, [], ◌∷◌, ◌++◌, length, map, sum, Contains, ◌⊎◌, ◌↔◌, inl, inr, refl, sym, ap, subst, ◌∙◌, arith, Option, Some, None}
+use Rattle.std.proofs.Common.{max, zero-add, ◌*◌, ◌≡◌, ℕ, ◌<◌, ◌≤◌, List, [], ◌∷◌, ◌++◌, length, map, sum, Contains}
+use Rattle.std.proofs.Common.{◌⊎◌, ◌↔◌, inl, inr, refl, sym, ap, subst, ◌∙◌, arith, Option, Some, None}
 use Rattle.std.specs.List.{AllZip, flat_map}
 use Rattle.std.specs.List.Sorted.{IsStrictlySortedBy}
 use Rattle.std.specs.Cmp.Lexicographic.{lists_total}
@@ -10,7 +11,8 @@ use Rattle.std.proofs.lemmas.Option.{none-some, same_Some}
 use Rattle.hg_changeset.specs.declared.node.Node.{Node}
 use Rattle.hg_changeset.specs.Node.{node_cmp}
 use Rattle.hg_changeset.proofs.NodeLemmas.{node_cmp_total}
-use Rattle.hg_changeset.proofs.ListLemmas.{Contains-cons_cases, Contains-later, Contains-first, Contains-none, Contains-one}
+use Rattle.hg_changeset.proofs.ListLemmas.{Contains-cons_cases, Contains-later, Contains-first, Contains-none}
+use Rattle.hg_changeset.proofs.ListLemmas.{Contains-one}
 use Rattle.hg_graph.proofs.GraphLemmas.{Contains-from_place, place_from_Contains}
 use Rattle.hg_marker.specs.Fields.{Fields}
 use Rattle.hg_obsstore.specs.Markers.{ArePlaces, AreDifferent}
@@ -23,12 +25,14 @@ use Rattle.std.specs.Option.{option_map}
 use Rattle.hg_succ.specs.declared.families.Solved.{Solved}
 use Rattle.hg_succ.specs.declared.families.Table.{Table}
 use Rattle.hg_succ.specs.Rows.{At}
-use Rattle.hg_succ.specs.Successors.{IsRewrittenTo, IsOnCycle, IsPick, IsPickOfEach, IsOverfull, IsFamily, AreWithin, HasCount, HasCounts, AreMarkersOf, HasSeveral, ways}
+use Rattle.hg_succ.specs.Successors.{IsRewrittenTo, IsOnCycle, IsPick, IsPickOfEach, IsOverfull, IsFamily, AreWithin}
+use Rattle.hg_succ.specs.Successors.{HasCount, HasCounts, AreMarkersOf, HasSeveral, ways}
 use Rattle.hg_succ.specs.Successors.IsPick.{on_cycle, itself, unknown, rewritten}
 use Rattle.hg_succ.specs.Successors.IsPickOfEach.{no_places, next_place}
 use Rattle.hg_succ.specs.Successors.IsOverfull.{passed_on, too_many}
 use Rattle.hg_succ.specs.Numbered.{successors_at, IsRow}
-use Rattle.hg_succ.specs.Cover.{Known, IsCover, IsSolved, IsTable, IsSeveral, HasEntry, known_by, answer, answer_at, entry, families, family_in, NoneOverfull, SomeOverfull}
+use Rattle.hg_succ.specs.Cover.{Known, IsCover, IsSolved, IsTable, IsSeveral, HasEntry, known_by, answer, answer_at}
+use Rattle.hg_succ.specs.Cover.{entry, families, family_in, NoneOverfull, SomeOverfull}
 use Rattle.hg_succ.specs.Cover.Known.{are_sets, overfull}
 use Rattle.hg_succ.specs.Unions.{choices, counts, AreLargest, IsChoice}
 use Rattle.hg_succ.specs.Factors.{many_at, few_at, ways_at, IsFew, IsOnlySuccessor}
@@ -38,29 +42,35 @@ use Rattle.hg_succ.proofs.MarkerLists.{there, place_of_one, one_at_place, differ
 use Rattle.hg_succ.proofs.LookupLemmas.{look_at}
 use Rattle.hg_succ.proofs.TableLemmas.{entry_solved, entry_known, known_several}
 use Rattle.hg_succ.proofs.SetLemmas.{flat_contains, contains_flat, choices_have}
-use Rattle.hg_succ.proofs.FamilyLemmas.{family_from_cover, pick_on_cycle, not_overfull, pick_free_held, pick_free_unknown, AreUnions, cover_from_unions}
+use Rattle.hg_succ.proofs.FamilyLemmas.{family_from_cover, pick_on_cycle, not_overfull, pick_free_held}
+use Rattle.hg_succ.proofs.FamilyLemmas.{pick_free_unknown, AreUnions, cover_from_unions}
 
 -- a node has one family, so one count
 one_count : (s : Content) (n : Node) (a b : ℕ) → HasCount s n a → HasCount s n b → a ≡ b
 one_count s n a b h g =
-    let same = same_members (lists_total node_cmp_total) h.0 g.0 h.1.ascending g.1.ascending (λ z i. (g.1.exact z).1 ((h.1.exact z).0 i)) (λ z i. (h.1.exact z).1 ((g.1.exact z).0 i)) in
+    let same = same_members (lists_total node_cmp_total) h.0 g.0 h.1.ascending g.1.ascending
+    (λ z i. (g.1.exact z).1 ((h.1.exact z).0 i)) (λ z i. (h.1.exact z).1 ((g.1.exact z).0 i)) in
     sym h.2 ∙ ap length same ∙ g.2
 
-one_counts : (s : Content) (ns : List Node) (ks bs : List ℕ) → AllZip (HasCount s) ns ks → AllZip (HasCount s) ns bs → ks ≡ bs
+one_counts : (s : Content) (ns : List Node) (ks bs : List ℕ) → AllZip (HasCount s) ns ks → AllZip (HasCount s) ns bs
+    → ks ≡ bs
 one_counts s [] [] [] h g = refl
 one_counts s [] [] (b ∷ bs) h g = absurd g
 one_counts s [] (a ∷ ks) bs h g = absurd h
 one_counts s (n ∷ ns) [] bs h g = absurd h
 one_counts s (n ∷ ns) (a ∷ ks) [] h g = absurd g
-one_counts s (n ∷ ns) (a ∷ ks) (b ∷ bs) h g = (λ k. one_count s n a b h.0 g.0 k ∷ ks) ∙ ap (λ (cs : List ℕ). b ∷ cs) (one_counts s ns ks bs h.1 g.1)
+one_counts s (n ∷ ns) (a ∷ ks) (b ∷ bs) h g = (λ k. one_count s n a b h.0 g.0 k ∷ ks)
+    ∙ ap (λ (cs : List ℕ). b ∷ cs) (one_counts s ns ks bs h.1 g.1)
 
-all_counts : (s : Content) (ms : List Fields) (ks bs : List (List ℕ)) → AllZip (HasCounts s) ms ks → AllZip (HasCounts s) ms bs → ks ≡ bs
+all_counts : (s : Content) (ms : List Fields) (ks bs : List (List ℕ)) → AllZip (HasCounts s) ms ks
+    → AllZip (HasCounts s) ms bs → ks ≡ bs
 all_counts s [] [] [] h g = refl
 all_counts s [] [] (b ∷ bs) h g = absurd g
 all_counts s [] (a ∷ ks) bs h g = absurd h
 all_counts s (m ∷ ms) [] bs h g = absurd h
 all_counts s (m ∷ ms) (a ∷ ks) [] h g = absurd g
-all_counts s (m ∷ ms) (a ∷ ks) (b ∷ bs) h g = (λ k. one_counts s m.successors a b h.0 g.0 k ∷ ks) ∙ ap (λ (cs : List (List ℕ)). b ∷ cs) (all_counts s ms ks bs h.1 g.1)
+all_counts s (m ∷ ms) (a ∷ ks) (b ∷ bs) h g = (λ k. one_counts s m.successors a b h.0 g.0 k ∷ ks)
+    ∙ ap (λ (cs : List (List ℕ)). b ∷ cs) (all_counts s ms ks bs h.1 g.1)
 
 -- whether an answer is that a node is overfull
 is_over : (o : Option Known) → (o ≡ Some overfull) ⊎ (¬ (o ≡ Some overfull))
@@ -74,22 +84,29 @@ over_or_not t (n ∷ ns) = elim (is_over (entry t n)) [
   | inl over ↦ inl (n, Contains-first n ns, over)
   | inr fine ↦ elim (over_or_not t ns) [
     | inl over ↦ inl (over.0, Contains-later n ns over.0 over.1, over.2)
-    | inr none ↦ inr (λ x h. elim (Contains-cons_cases n ns x h) [ inl same ↦ subst (λ z. entry t z ≡ Some overfull → ⊥) same fine | inr later ↦ none x later ])
+    | inr none ↦
+        inr (λ x h. elim (Contains-cons_cases n ns x h)
+        [ inl same ↦ subst (λ z. entry t z ≡ Some overfull → ⊥) same fine | inr later ↦ none x later ])
   ]
 ]
 
-over_at_or_not : (t : Table) (markers : List Fields) (ps : List ℕ) → ((p : ℕ) × Contains ps p × SomeOverfull t (successors_at markers p)) ⊎ ((p : ℕ) → Contains ps p → NoneOverfull t (successors_at markers p))
+over_at_or_not : (t : Table) (markers : List Fields) (ps : List ℕ)
+    → ((p : ℕ) × Contains ps p × SomeOverfull t (successors_at markers p))
+    ⊎ ((p : ℕ) → Contains ps p → NoneOverfull t (successors_at markers p))
 over_at_or_not t markers [] = inr (λ p h. absurd (Contains-none p h))
 over_at_or_not t markers (q ∷ ps) = elim (over_or_not t (successors_at markers q)) [
   | inl over ↦ inl (q, Contains-first q ps, over)
   | inr fine ↦ elim (over_at_or_not t markers ps) [
     | inl over ↦ inl (over.0, Contains-later q ps over.0 over.1, over.2)
-    | inr none ↦ inr (λ p h. elim (Contains-cons_cases q ps p h) [ inl same ↦ subst (λ z. NoneOverfull t (successors_at markers z)) same fine | inr later ↦ none p later ])
+    | inr none ↦
+        inr (λ p h. elim (Contains-cons_cases q ps p h)
+        [ inl same ↦ subst (λ z. NoneOverfull t (successors_at markers z)) same fine | inr later ↦ none p later ])
   ]
 ]
 
 -- what is known of a node that isn't overfull
-solved_family : (s : Content) (n : Node) (o : Option Known) → ((e : Known) → o ≡ Some e → IsSolved s n e) → (e : Known) × (o ≡ Some e) → (¬ (o ≡ Some overfull)) → IsCover s n (family_in o) × (¬ IsOverfull s n)
+solved_family : (s : Content) (n : Node) (o : Option Known) → ((e : Known) → o ≡ Some e → IsSolved s n e)
+    → (e : Known) × (o ≡ Some e) → (¬ (o ≡ Some overfull)) → IsCover s n (family_in o) × (¬ IsOverfull s n)
 solved_family s n None so e none = absurd (none-some e.0 e.1)
 solved_family s n (Some overfull) so e none = absurd (none refl)
 solved_family s n (Some (are_sets f)) so e none = so (are_sets f) refl
@@ -98,20 +115,25 @@ solved_family s n (Some (are_sets f)) so e none = so (are_sets f) refl
 abbrev ways_of : Table → Fields → ℕ
 ways_of t m = ways (counts t m.successors)
 
-same_ways : (t : Table) (markers : List Fields) (ps : List ℕ) (ms : List Fields) → AllZip (At markers) ps ms → ways_at t markers ps ≡ map (ways_of t) ms
+same_ways : (t : Table) (markers : List Fields) (ps : List ℕ) (ms : List Fields) → AllZip (At markers) ps ms
+    → ways_at t markers ps ≡ map (ways_of t) ms
 same_ways t markers [] [] z = refl
 same_ways t markers [] (x ∷ ms) z = absurd z
 same_ways t markers (p ∷ ps) [] z = absurd z
 same_ways t markers (p ∷ ps) (x ∷ ms) z =
-    (λ k. ways (counts t (successors_there markers p x z.0 k)) ∷ ways_at t markers ps) ∙ ap (λ (ws : List ℕ). ways_of t x ∷ ws) (same_ways t markers ps ms z.1)
+    (λ k. ways (counts t (successors_there markers p x z.0 k)) ∷ ways_at t markers ps)
+    ∙ ap (λ (ws : List ℕ). ways_of t x ∷ ws) (same_ways t markers ps ms z.1)
 
 map_ways : (t : Table) (ms : List Fields) → map ways (map (λ m. counts t m.successors) ms) ≡ map (ways_of t) ms
 map_ways t [] = refl
 map_ways t (m ∷ ms) = ap (λ (ws : List ℕ). ways_of t m ∷ ws) (map_ways t ms)
 
-module _ (s : ReplicaState) (t : Table) (so : IsTable (content_of s) t) (n : Node) (off : ¬ (IsOnCycle (content_of s) n)) (below : (y : Node) → IsRewrittenTo (content_of s) n y → HasEntry t y)
-    (different : AreDifferent s.markers) (places : List ℕ) (are : ArePlaces (λ m. m.predecessor ≡ n) s.markers places) where
-  step_at : (p : ℕ) (x : Node) → Contains places p → Contains (successors_at s.markers p) x → IsRewrittenTo (content_of s) n x
+module _ (s : ReplicaState) (t : Table) (so : IsTable (content_of s) t) (n : Node)
+    (off : ¬ (IsOnCycle (content_of s) n)) (below : (y : Node) → IsRewrittenTo (content_of s) n y → HasEntry t y)
+    (different : AreDifferent s.markers) (places : List ℕ)
+    (are : ArePlaces (λ m. m.predecessor ≡ n) s.markers places) where
+  step_at : (p : ℕ) (x : Node) → Contains places p → Contains (successors_at s.markers p) x
+      → IsRewrittenTo (content_of s) n x
   step_at p x h g = (rewritten_places s places n are x).0 (p, h, g)
 
   over_passes : (p : ℕ) × Contains places p × SomeOverfull t (successors_at s.markers p) → IsOverfull (content_of s) n
@@ -139,19 +161,28 @@ module _ (s : ReplicaState) (t : Table) (so : IsTable (content_of s) t) (n : Nod
   }
 
   module _ (none : (p : ℕ) → Contains places p → NoneOverfull t (successors_at s.markers p)) where
-    known : (p : ℕ) (x : Node) → Contains places p → Contains (successors_at s.markers p) x → IsCover (content_of s) x (families t x) × ¬ (IsOverfull (content_of s) x)
-    known p x h g = solved_family (content_of s) x (entry t x) (entry_solved (content_of s) t so x) (entry_known t x (below x (step_at p x h g))) (none p h x g)
+    known : (p : ℕ) (x : Node) → Contains places p → Contains (successors_at s.markers p) x
+        → IsCover (content_of s) x (families t x) × ¬ (IsOverfull (content_of s) x)
+    known p x h g = solved_family (content_of s) x (entry t x) (entry_solved (content_of s) t so x)
+        (entry_known t x (below x (step_at p x h g))) (none p h x g)
 
-    known_successor : (m : Fields) → IsMarker (content_of s) m → m.predecessor ≡ n → (x : Node) → Contains m.successors x → IsCover (content_of s) x (families t x)
+    known_successor : (m : Fields) → IsMarker (content_of s) m → m.predecessor ≡ n → (x : Node)
+        → Contains m.successors x → IsCover (content_of s) x (families t x)
     known_successor m held at x g =
         let place = place_from_Contains s.markers m (in_from_holds s.markers m held) in
-        (known place.0 x ((are.exact place.0).1 (m, place.1, at)) (subst (λ (ns : List Node). Contains ns x) (sym (successors_there s.markers place.0 m place.1)) g)).0
+        (known place.0 x ((are.exact place.0).1 (m, place.1, at))
+        (subst (λ (ns : List Node). Contains ns x) (sym (successors_there s.markers place.0 m place.1)) g)).0
 
-    count_each : (ns : List Node) → ((x : Node) → Contains ns x → IsCover (content_of s) x (families t x)) → AllZip (HasCount (content_of s)) ns (counts t ns)
+    count_each : (ns : List Node) → ((x : Node) → Contains ns x → IsCover (content_of s) x (families t x))
+        → AllZip (HasCount (content_of s)) ns (counts t ns)
     count_each [] h = tt
-    count_each (x ∷ ns) h = ((families t x, family_from_cover (content_of s) x (families t x) (h x (Contains-first x ns)), refl), count_each ns (λ y g. h y (Contains-later x ns y g)))
+    count_each (x ∷ ns) h = (
+      (families t x, family_from_cover (content_of s) x (families t x) (h x (Contains-first x ns)), refl),
+      count_each ns (λ y g. h y (Contains-later x ns y g)),
+    )
 
-    counts_all : (ms : List Fields) → ((m : Fields) → Contains ms m → IsMarker (content_of s) m × (m.predecessor ≡ n)) → AllZip (HasCounts (content_of s)) ms (map (λ m. counts t m.successors) ms)
+    counts_all : (ms : List Fields) → ((m : Fields) → Contains ms m → IsMarker (content_of s) m × (m.predecessor ≡ n))
+        → AllZip (HasCounts (content_of s)) ms (map (λ m. counts t m.successors) ms)
     counts_all [] h = tt
     counts_all (m ∷ ms) h = (
       (let w = h m (Contains-first m ms) in count_each m.successors (known_successor m w.0 w.1)),
@@ -159,7 +190,8 @@ module _ (s : ReplicaState) (t : Table) (so : IsTable (content_of s) t) (n : Nod
     )
 
     over_many : 4096 < sum (ways_at t s.markers places) → IsOverfull (content_of s) n
-    over_many l = too_many own.0 (map (λ m. counts t m.successors) own.0) off own_are (counts_all own.0 (λ m h. (own_are.exact m).0 h))
+    over_many l = too_many own.0 (map (λ m. counts t m.successors) own.0) off own_are
+        (counts_all own.0 (λ m h. (own_are.exact m).0 h))
         (subst (λ (ws : List ℕ). 4096 < sum ws) (same_ways t s.markers places own.0 own.1 ∙ sym (map_ways t own.0)) l)
 
     not_over : sum (ways_at t s.markers places) ≤ 4096 → IsOverfull (content_of s) n → ⊥
@@ -167,10 +199,13 @@ module _ (s : ReplicaState) (t : Table) (so : IsTable (content_of s) t) (n : Nod
         let at = (rewritten_places s places n are _).1 to in
         (known at.0 _ at.1 at.2).1 over
     not_over l (too_many ms counts' off' are' zip many) =
-        let cs = all_counts (content_of s) ms counts' (map (λ m. counts t m.successors) ms) zip (counts_all ms (λ m h. (are'.exact m).0 h)) in
-        let e : sum (map ways counts') ≡ sum (map (ways_of t) ms) = ap (λ (ds : List (List ℕ)). sum (map ways ds)) cs ∙ ap sum (map_ways t ms) in
+        let cs = all_counts (content_of s) ms counts' (map (λ m. counts t m.successors) ms) zip
+        (counts_all ms (λ m h. (are'.exact m).0 h)) in
+        let e : sum (map ways counts') ≡ sum (map (ways_of t) ms) = ap (λ (ds : List (List ℕ)). sum (map ways ds)) cs
+        ∙ ap sum (map_ways t ms) in
         let among = sum_among (ways_of t) ms own.0 are'.different (λ m h. (own_are.exact m).1 ((are'.exact m).0 h)) in
-        let all : sum (ways_at t s.markers places) ≡ sum (map (ways_of t) own.0) = ap sum (same_ways t s.markers places own.0 own.1) in
+        let all : sum (ways_at t s.markers places) ≡ sum (map (ways_of t) own.0) =
+        ap sum (same_ways t s.markers places own.0 own.1) in
         omega (arith, l, many, e, among, all)
 
     unions_are : AreUnions (content_of s) n (families t) (flat_map (λ p. choices t (successors_at s.markers p)) places)
@@ -184,18 +219,25 @@ module _ (s : ReplicaState) (t : Table) (so : IsTable (content_of s) t) (n : Nod
             w.0,
             holds-from s.markers w.0 (Contains-from_place s.markers f.0 w.0 w.1),
             w.2,
-            subst (λ (ns : List Node). IsChoice (map (families t) ns) u) (successors_there s.markers f.0 w.0 w.1) (subst (IsChoice (map (families t) (successors_at s.markers f.0))) (sym u_is) c.3),
+            subst (λ (ns : List Node). IsChoice (map (families t) ns) u) (successors_there s.markers f.0 w.0 w.1)
+                (subst (IsChoice (map (families t) (successors_at s.markers f.0))) (sym u_is) c.3),
           );
       complete = λ m u held at choice.
           let place = place_from_Contains s.markers m (in_from_holds s.markers m held) in
           let there' = (are.exact place.0).1 (m, place.1, at) in
-          let choice' : IsChoice (map (families t) (successors_at s.markers place.0)) u = subst (λ (ns : List Node). IsChoice (map (families t) ns) u) (sym (successors_there s.markers place.0 m place.1)) choice in
+          let choice' : IsChoice (map (families t) (successors_at s.markers place.0)) u =
+          subst (λ (ns : List Node). IsChoice (map (families t) ns) u)
+          (sym (successors_there s.markers place.0 m place.1)) choice in
           contains_flat (λ p. choices t (successors_at s.markers p)) places place.0 u there'
-          ((choices_have (map (families t) (successors_at s.markers place.0)) ([] ∷ []) u).1 ([], u, Contains-first [] [], choice', refl));
+          ((choices_have (map (families t) (successors_at s.markers place.0)) ([] ∷ []) u).1
+          ([], u, Contains-first [] [], choice', refl));
     }
 
-    solved_cover : IsPredecessor (content_of s) n → (family : List (List Node)) → AreLargest (flat_map (λ p. choices t (successors_at s.markers p)) places) family → IsCover (content_of s) n family
-    solved_cover is family largest = cover_from_unions (content_of s) n (families t) (flat_map (λ p. choices t (successors_at s.markers p)) places) family off is known_successor unions_are largest
+    solved_cover : IsPredecessor (content_of s) n → (family : List (List Node))
+        → AreLargest (flat_map (λ p. choices t (successors_at s.markers p)) places) family
+        → IsCover (content_of s) n family
+    solved_cover is family largest = cover_from_unions (content_of s) n (families t)
+        (flat_map (λ p. choices t (successors_at s.markers p)) places) family off is known_successor unions_are largest
 
   -- where too much is to be done the node is overfull
   pub solved_over : many_at t s.markers places → IsOverfull (content_of s) n
@@ -208,7 +250,9 @@ module _ (s : ReplicaState) (t : Table) (so : IsTable (content_of s) t) (n : Nod
   ]
 
   -- and otherwise its sets are the largest of the unions
-  pub solved_few : few_at t s.markers places → IsPredecessor (content_of s) n → (family : List (List Node)) → AreLargest (flat_map (λ p. choices t (successors_at s.markers p)) places) family → IsCover (content_of s) n family × ¬ (IsOverfull (content_of s) n)
+  pub solved_few : few_at t s.markers places → IsPredecessor (content_of s) n → (family : List (List Node))
+      → AreLargest (flat_map (λ p. choices t (successors_at s.markers p)) places) family
+      → IsCover (content_of s) n family × ¬ (IsOverfull (content_of s) n)
   solved_few few is family largest = (solved_cover few.0 is family largest, not_over few.0 few.1)
 
   -- ---- one marker with one successor
@@ -217,26 +261,34 @@ module _ (s : ReplicaState) (t : Table) (so : IsTable (content_of s) t) (n : Nod
     one_successor : (m : Fields) → IsMarker (content_of s) m → m.predecessor ≡ n → m.successors ≡ x ∷ []
     one_successor m held at =
         let place = place_from_Contains s.markers m (in_from_holds s.markers m held) in
-        let here : only.0 ≡ place.0 = Contains-one only.0 place.0 (subst (λ (ps : List ℕ). Contains ps place.0) only.1 ((are.exact place.0).1 (m, place.1, at))) in
+        let here : only.0 ≡ place.0 = Contains-one only.0 place.0
+        (subst (λ (ps : List ℕ). Contains ps place.0) only.1 ((are.exact place.0).1 (m, place.1, at))) in
         sym (successors_there s.markers place.0 m place.1) ∙ ap (successors_at s.markers) (sym here) ∙ only.2
 
     only_marker : (m : Fields) × IsMarker (content_of s) m × (m.predecessor ≡ n)
     only_marker =
-        let w = (are.exact only.0).0 (subst (λ (ps : List ℕ). Contains ps only.0) (sym only.1) (Contains-first only.0 [])) in
+        let w = (are.exact only.0).0
+        (subst (λ (ps : List ℕ). Contains ps only.0) (sym only.1) (Contains-first only.0 [])) in
         (w.0, holds-from s.markers w.0 (Contains-from_place s.markers only.0 w.0 w.1), w.2)
 
     pick_up : (p : List Node) → IsPick (content_of s) x p → IsPick (content_of s) n p
     pick_up p pick =
         let m = only_marker in
         let each : IsPickOfEach (content_of s) (x ∷ []) (p ++ []) = next_place pick no_places in
-        subst (IsPick (content_of s) n) (append-nil p) (rewritten m.0 m.1 m.2 off (subst (λ (ns : List Node). IsPickOfEach (content_of s) ns (p ++ [])) (sym (one_successor m.0 m.1 m.2)) each))
+        subst (IsPick (content_of s) n) (append-nil p)
+        (rewritten m.0 m.1 m.2 off
+        (subst (λ (ns : List Node). IsPickOfEach (content_of s) ns (p ++ []))
+        (sym (one_successor m.0 m.1 m.2)) each))
 
-    pick_of_one : (ns : List Node) (p : List Node) → ns ≡ x ∷ [] → IsPickOfEach (content_of s) ns p → IsPick (content_of s) x p
+    pick_of_one : (ns : List Node) (p : List Node) → ns ≡ x ∷ [] → IsPickOfEach (content_of s) ns p
+        → IsPick (content_of s) x p
     pick_of_one ns p is no_places = absurd (let e = ap length is in omega (arith, e))
     pick_of_one ns p is (next_place {n = y} {ns = ys} {pick = a} {picks = b} first rest) =
         let head : y ≡ x = cc in
         let none : ys ≡ [] = cc in
-        subst (IsPick (content_of s) x) (sym (append-nil a) ∙ ap (λ (c : List Node). a ++ c) (sym (no_picks ys b none rest))) (subst (λ (z : Node). IsPick (content_of s) z a) head first)
+        subst (IsPick (content_of s) x)
+        (sym (append-nil a) ∙ ap (λ (c : List Node). a ++ c) (sym (no_picks ys b none rest)))
+        (subst (λ (z : Node). IsPick (content_of s) z a) head first)
       where
         no_picks : (zs : List Node) (q : List Node) → zs ≡ [] → IsPickOfEach (content_of s) zs q → q ≡ []
         no_picks zs q is' no_places = refl
@@ -259,17 +311,22 @@ module _ (s : ReplicaState) (t : Table) (so : IsTable (content_of s) t) (n : Nod
       covers = λ p pick. c.covers p (pick_down p pick);
     }
 
-    few_only : (family : List (List Node)) → entry t x ≡ Some (are_sets family) → length family ≤ 4096 → few_at t s.markers places
+    few_only : (family : List (List Node)) → entry t x ≡ Some (are_sets family)
+        → length family ≤ 4096 → few_at t s.markers places
     few_only family is le =
         let counted : ways_at t s.markers places ≡ (max (length family) 1 * 1) ∷ [] =
         ap (ways_at t s.markers) only.1
         ∙ ap (λ (ns : List Node). ways (counts t ns) ∷ []) only.2
         ∙ ap (λ (o : Option Known). (max (length (family_in o)) 1 * 1) ∷ []) is in
-        let one : sum ((max (length family) 1 * 1) ∷ []) ≡ max (length family) 1 = zero-add (max (length family) 1 * 1) ∙ mul-one (max (length family) 1) in (
+        let one : sum ((max (length family) 1 * 1) ∷ []) ≡ max (length family) 1 = zero-add (max (length family) 1 * 1)
+        ∙ mul-one (max (length family) 1) in (
           λ p h y g over.
               let here : only.0 ≡ p = Contains-one only.0 p (subst (λ (ps : List ℕ). Contains ps p) only.1 h) in
-              let same : x ≡ y = Contains-one x y (subst (λ (ns : List Node). Contains ns y) (ap (successors_at s.markers) (sym here) ∙ only.2) g) in
-              let bad : are_sets family ≡ overfull = same_Some (are_sets family) overfull (sym is ∙ ap (entry t) same ∙ over) in
+              let same : x ≡ y =
+              Contains-one x y
+              (subst (λ (ns : List Node). Contains ns y) (ap (successors_at s.markers) (sym here) ∙ only.2) g) in
+              let bad : are_sets family ≡ overfull = same_Some (are_sets family) overfull
+              (sym is ∙ ap (entry t) same ∙ over) in
               cc,
           (let e = ap sum counted in omega (arith, e, one, le)),
         )
@@ -281,14 +338,22 @@ module _ (s : ReplicaState) (t : Table) (so : IsTable (content_of s) t) (n : Nod
         (shared_cover family (entry_solved (content_of s) t so x (are_sets family) is).0, not_over few.0 few.1)
     solved_shared overfull is le =
         let m = only_marker in
-        passed_on off (m.0, m.1, m.2, subst (λ (ns : List Node). Contains ns x) (sym (one_successor m.0 m.1 m.2)) (Contains-first x [])) (entry_solved (content_of s) t so x overfull is)
+        passed_on off (
+          m.0,
+          m.1,
+          m.2,
+          subst (λ (ns : List Node). Contains ns x) (sym (one_successor m.0 m.1 m.2))
+              (Contains-first x []),
+        ) (entry_solved (content_of s) t so x overfull is)
 
     -- the number in the row is that of the successor
-    pub shared_answer : (row : List ℕ) (number : ℕ) (solved : Solved) → IsRow (content_of s) t.nodes.keys n row → Contains row number → answer_at t.answers.items number ≡ Some solved → answer t x ≡ Some solved
+    pub shared_answer : (row : List ℕ) (number : ℕ) (solved : Solved) → IsRow (content_of s) t.nodes.keys n row
+        → Contains row number → answer_at t.answers.items number ≡ Some solved → answer t x ≡ Some solved
     shared_answer row number solved is at told =
         let y = is.listed number at in
         let m = y.1 in
-        let same : x ≡ y.0 = Contains-one x y.0 (subst (λ (ns : List Node). Contains ns y.0) (one_successor m.0 m.1 m.2) m.3) in
+        let same : x ≡ y.0 =
+        Contains-one x y.0 (subst (λ (ns : List Node). Contains ns y.0) (one_successor m.0 m.1 m.2) m.3) in
         look_at t.nodes.keys t.answers.items number x so.once (subst (At t.nodes.keys number) (sym same) y.2) ∙ told
 
 -- a node on a cycle has none
@@ -312,25 +377,40 @@ free_not_over : (s : Content) (n : Node) → ¬ (IsPredecessor s n) → IsOverfu
 free_not_over s n free (passed_on off to over) = free (to.0, to.1, to.2)
 free_not_over s n free (too_many [] [] off are zip many) = omega (arith, many)
 free_not_over s n free (too_many [] (c ∷ cs) off are zip many) = absurd zip
-free_not_over s n free (too_many (m ∷ ms) counts' off are zip many) = (let w = (are.exact m).0 (Contains-first m ms) in free (m, w.0, w.1))
+free_not_over s n free (too_many (m ∷ ms) counts' off are zip many) =
+    (let w = (are.exact m).0 (Contains-first m ms) in free (m, w.0, w.1))
 
-pub solved_held : (s : Content) (n : Node) → (¬ IsPredecessor s n) → IsHeld s.0 n → IsCover s n ((n ∷ []) ∷ []) × (¬ (IsOverfull s n))
+pub solved_held : (s : Content) (n : Node) → (¬ IsPredecessor s n) → IsHeld s.0 n
+    → IsCover s n ((n ∷ []) ∷ []) × (¬ (IsOverfull s n))
 unfolding IsStrictlySortedBy
 solved_held s n free held =
-    let only = λ (set : List Node) (h : Contains ((n ∷ []) ∷ []) set). (let r : (n ∷ []) ≡ set = Contains-one (n ∷ []) set h in r) in (
+    let only = λ (set : List Node) (h : Contains ((n ∷ []) ∷ []) set).
+    (let r : (n ∷ []) ≡ set = Contains-one (n ∷ []) set h in r) in (
       record {
         ascending = (tt, tt);
         each_ascending = λ set h. subst (IsStrictlySortedBy node_cmp) (only set h) (tt, tt);
         some = λ set h e. (let f = ap length (only set h ∙ e) in omega (arith, f));
         one = (n ∷ [], itself free held);
-        picks = λ set h. (n ∷ [], itself free held, subst (λ (zs : List Node). AreWithin zs (n ∷ [])) (only set h) (λ x g. g), subst (AreWithin (n ∷ [])) (only set h) (λ x g. g));
+        picks = λ set h. (
+          n ∷ [],
+          itself free held,
+          subst (λ (zs : List Node). AreWithin zs (n ∷ [])) (only set h)
+              (λ x g. g),
+          subst (AreWithin (n ∷ [])) (only set h) (λ x g. g),
+        );
         apart = λ a b h g w. sym (only a h) ∙ only b g;
-        covers = λ p pick. inr (n ∷ [], Contains-first (n ∷ []) [], subst (λ (zs : List Node). AreWithin zs (n ∷ [])) (sym (pick_free_held s n p free held pick)) (λ x g. g));
+        covers = λ p pick. inr (
+          n ∷ [],
+          Contains-first (n ∷ []) [],
+          subst (λ (zs : List Node). AreWithin zs (n ∷ []))
+              (sym (pick_free_held s n p free held pick)) (λ x g. g),
+        );
       },
       free_not_over s n free,
     )
 
-pub solved_unheld : (s : Content) (n : Node) → (¬ IsPredecessor s n) → (¬ (IsHeld s.0 n)) → IsCover s n [] × (¬ (IsOverfull s n))
+pub solved_unheld : (s : Content) (n : Node) → (¬ IsPredecessor s n) → (¬ (IsHeld s.0 n))
+    → IsCover s n [] × (¬ (IsOverfull s n))
 unfolding IsStrictlySortedBy
 solved_unheld s n free missing = (
   record {
@@ -346,19 +426,27 @@ solved_unheld s n free missing = (
 )
 
 -- what a table knows of a node that is done tells whether it has several sets
-pub entry_several : (s : Content) (t : Table) → IsTable s t → (n : Node) → HasEntry t n → IsSeveral (entry t n) ↔ HasSeveral s n
+pub entry_several : (s : Content) (t : Table) → IsTable s t → (n : Node) → HasEntry t n → IsSeveral (entry t n)
+    ↔ HasSeveral s n
 entry_several s t so n has =
-    subst (λ (o : Option Solved). IsSeveral (option_map (known_by t.families.items) o) ↔ HasSeveral s n) (sym has.1) (known_several s n (known_by t.families.items has.0) (so.right n has.0 has.1).1)
+    subst (λ (o : Option Solved). IsSeveral (option_map (known_by t.families.items) o) ↔ HasSeveral s n) (sym has.1)
+    (known_several s n (known_by t.families.items has.0) (so.right n has.0 has.1).1)
 
 -- the sets that are told
-pub told_family : (s : Content) (n : Node) (family sets : List (List Node)) → IsSolved s n (are_sets family) → sets ≡ family → IsFamily s n sets × ¬ (IsOverfull s n)
+pub told_family : (s : Content) (n : Node) (family sets : List (List Node)) → IsSolved s n (are_sets family)
+    → sets ≡ family → IsFamily s n sets × ¬ (IsOverfull s n)
 told_family s n family sets so is = (subst (IsFamily s n) (sym is) (family_from_cover s n family so.0), so.1)
 
 -- whether a node has markers, by their places
-pub rewritten_somewhere : (s : ReplicaState) (n : Node) (places : List ℕ) → ArePlaces (λ m. m.predecessor ≡ n) s.markers places → (length places ≡ 0 → ⊥) → IsPredecessor (content_of s) n
+pub rewritten_somewhere : (s : ReplicaState) (n : Node) (places : List ℕ)
+    → ArePlaces (λ m. m.predecessor ≡ n) s.markers places → (length places ≡ 0 → ⊥) → IsPredecessor (content_of s) n
 rewritten_somewhere s n [] are some = absurd (some refl)
-rewritten_somewhere s n (p ∷ ps) are some = (let w = (are.exact p).0 (Contains-first p ps) in (w.0, holds-from s.markers w.0 (Contains-from_place s.markers p w.0 w.1), w.2))
+rewritten_somewhere s n (p ∷ ps) are some =
+    (let w = (are.exact p).0 (Contains-first p ps) in
+    (w.0, holds-from s.markers w.0 (Contains-from_place s.markers p w.0 w.1), w.2))
 
-pub rewritten_nowhere : (s : ReplicaState) (n : Node) (places : List ℕ) → ArePlaces (λ m. m.predecessor ≡ n) s.markers places → length places ≡ 0 → IsPredecessor (content_of s) n → ⊥
-rewritten_nowhere s n [] are none h = (let at = place_from_Contains s.markers h.0 (in_from_holds s.markers h.0 h.1) in Contains-none at.0 ((are.exact at.0).1 (h.0, at.1, h.2)))
+pub rewritten_nowhere : (s : ReplicaState) (n : Node) (places : List ℕ)
+    → ArePlaces (λ m. m.predecessor ≡ n) s.markers places → length places ≡ 0 → IsPredecessor (content_of s) n → ⊥
+rewritten_nowhere s n [] are none h = (let at = place_from_Contains s.markers h.0 (in_from_holds s.markers h.0 h.1) in
+    Contains-none at.0 ((are.exact at.0).1 (h.0, at.1, h.2)))
 rewritten_nowhere s n (p ∷ ps) are none h = omega (arith, none)

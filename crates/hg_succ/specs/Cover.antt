@@ -1,5 +1,6 @@
 -- What is known of a node whose sets are found.
-use Rattle.std.specs.Prelude.{◌≡◌, ◌≢◌, ◌⊎◌, ◌<◌, ◌++◌, ◌∷◌, ℕ, List, [], Contains, length, slice_get, Option, Some, None}
+use Rattle.std.specs.Prelude.{◌≡◌, ◌≢◌, ◌⊎◌, ◌<◌, ◌++◌, ◌∷◌, ℕ, List, [], Contains, length, slice_get, Option, Some}
+use Rattle.std.specs.Prelude.{None}
 use Rattle.std.specs.Option.{option_map, option_map_or, option_and_then}
 use Rattle.std.specs.List.{position}
 use Rattle.std.specs.List.Sorted.{IsStrictlySortedBy}
@@ -23,7 +24,8 @@ pub record IsCover (f : Content) (n : Node) (family : List (List Node)) : Type 0
   pub each_ascending : (set : List Node) → Contains family set → IsStrictlySortedBy node_cmp set
   pub some : (set : List Node) → Contains family set → set ≢ []
   pub one : (p : List Node) × IsPick f n p
-  pub picks : (set : List Node) → Contains family set → (p : List Node) × IsPick f n p × AreWithin set p × AreWithin p set
+  pub picks : (set : List Node) → Contains family set → (p : List Node) × IsPick f n p × AreWithin set p
+      × AreWithin p set
   pub apart : (a b : List Node) → Contains family a → Contains family b → AreWithin a b → a ≡ b
   pub covers : (p : List Node) → IsPick f n p → (p ≡ []) ⊎ ((set : List Node) × Contains family set × AreWithin p set)
 

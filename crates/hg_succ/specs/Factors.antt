@@ -31,10 +31,12 @@ ways_at table markers places = map (λ place. ways (counts table (successors_at 
 
 -- a successor of a marker at one of these places is overfull, or they give too many unions
 abbrev pub many_at : Table → List Fields → List ℕ → Type 0
-many_at table markers places = ((place : ℕ) × Contains places place × SomeOverfull table (successors_at markers place)) ⊎ (4096 < sum (ways_at table markers places))
+many_at table markers places = ((place : ℕ) × Contains places place × SomeOverfull table (successors_at markers place))
+    ⊎ (4096 < sum (ways_at table markers places))
 
 abbrev pub few_at : Table → List Fields → List ℕ → Type 0
-few_at table markers places = ((place : ℕ) → Contains places place → NoneOverfull table (successors_at markers place)) × (sum (ways_at table markers places) ≤ 4096)
+few_at table markers places = ((place : ℕ) → Contains places place → NoneOverfull table (successors_at markers place))
+    × (sum (ways_at table markers places) ≤ 4096)
 
 -- not more sets than ways are allowed
 abbrev pub IsFew : Known → Type 0

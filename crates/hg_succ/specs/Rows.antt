@@ -28,4 +28,5 @@ StandsBefore order place x = (k : ℕ) × (e : Settled) × (k < place) × At ord
 pub record IsOrder (rows : List (List ℕ)) (order : List Settled) : Type 0 where
   pub nodes : (k : ℕ) (e : Settled) → At order k e → e.node < length rows
   pub cyclic : (k : ℕ) (e : Settled) → At order k e → (IsTrue e.cyclic ↔ LeadsBack (Edge rows) e.node)
-  pub after : (k : ℕ) (e : Settled) (y : ℕ) → At order k e → e.cyclic ≡ false → Edge rows e.node y → StandsBefore order k y
+  pub after : (k : ℕ) (e : Settled) (y : ℕ) → At order k e → e.cyclic ≡ false → Edge rows e.node y
+      → StandsBefore order k y

@@ -1,5 +1,6 @@
 -- How far a search has come, and what is so of it all the time.
-use Rattle.std.specs.Prelude.{◌≡◌, ℕ, ◌+◌, ◌*◌, ◌<◌, ◌≤◌, ◌⊎◌, Bool, List, [], ◌∷◌, ◌++◌, length, take, slice_get, slice_set, sum, Contains}
+use Rattle.std.specs.Prelude.{◌≡◌, ℕ, ◌+◌, ◌*◌, ◌<◌, ◌≤◌, ◌⊎◌, Bool, List, [], ◌∷◌, ◌++◌, length, take, slice_get}
+use Rattle.std.specs.Prelude.{slice_set, sum, Contains}
 use Rattle.hg_succ.specs.declared.search.Mark.{Mark}
 use Rattle.hg_succ.specs.declared.search.Mark.TheVariants.{New, Waiting, Done}
 use Rattle.hg_succ.specs.declared.search.Settled.{Settled}
@@ -20,7 +21,16 @@ pub record SearchState : Type 0 where
   pub order : List Settled
 
 abbrev pub state_of : Search → SearchState
-state_of s = record { left = s.left.items; marks = s.marks.items; waiting = s.waiting.items; path = s.path.items; starts = s.starts.items; order = s.order.items }
+state_of s =
+    record {
+      left = s.left.items;
+      marks = s.marks.items;
+      waiting = s.waiting.items;
+      path = s.path.items;
+      starts =
+          s.starts.items;
+      order = s.order.items;
+    }
 
 abbrev pub EndsWith : List ℕ → ℕ → Type 0
 EndsWith xs x = (front : List ℕ) × (xs ≡ front ++ x ∷ [])
@@ -49,7 +59,8 @@ pub record IsSearch (rows : List (List ℕ)) (s : SearchState) : Type 0 where
   pub bounded : (x l : ℕ) (row : List ℕ) → At s.left x l → At rows x row → l ≤ length row
   -- a node that the search has left has no more edges to follow
   pub spent : (p x : ℕ) → At s.waiting p x → Contains s.path p ⊎ At s.left x 0
-  pub followed : (p x l e y : ℕ) (row : List ℕ) → At s.waiting p x → At s.left x l → At rows x row → l ≤ e → At row e y → IsAccounted s p y
+  pub followed : (p x l e y : ℕ) (row : List ℕ) → At s.waiting p x → At s.left x l → At rows x row → l ≤ e → At row e y
+      → IsAccounted s p y
   pub path_up : IsAscending s.path
   pub path_in : (p : ℕ) → Contains s.path p → p < length s.waiting
   pub starts_up : IsAscending s.starts
@@ -57,7 +68,8 @@ pub record IsSearch (rows : List (List ℕ)) (s : SearchState) : Type 0 where
   pub first : 0 < length s.waiting → Contains s.starts 0
   -- each waiting node leads to those that were met after it, and within a part back
   pub onward : (p q x y : ℕ) → p ≤ q → At s.waiting p x → At s.waiting q y → Reaches (Edge rows) x y
-  pub back : (p q x y : ℕ) → AreJoined s.starts p q → p ≤ q → At s.waiting p x → At s.waiting q y → Reaches (Edge rows) y x
+  pub back : (p q x y : ℕ) → AreJoined s.starts p q → p ≤ q → At s.waiting p x → At s.waiting q y
+      → Reaches (Edge rows) y x
   pub closed : (x y : ℕ) → At s.marks x Done → Edge rows x y → At s.marks y Done
   pub order : IsOrder rows s.order
 
@@ -89,8 +101,10 @@ pub record Settles (place : ℕ) (cyclic : Bool) (old new : SearchState) : Type 
   pub marks_long : length new.marks ≡ length old.marks
   pub done : (p x : ℕ) → place ≤ p → At old.waiting p x → At new.marks x Done
   pub others : (x : ℕ) → ((p : ℕ) → place ≤ p → ¬ (At old.waiting p x)) → slice_get new.marks x ≡ slice_get old.marks x
-  pub from : (x : ℕ) (m : Mark) → At new.marks x m → ((m ≡ Done) × (p : ℕ) × (place ≤ p) × At old.waiting p x) ⊎ At old.marks x m
-  pub more : (more : List Settled) × (new.order ≡ old.order ++ more) × ((k : ℕ) (e : Settled) → At more k e → (e.cyclic ≡ cyclic) × (p : ℕ) × (place ≤ p) × At old.waiting p e.node)
+  pub from : (x : ℕ) (m : Mark) → At new.marks x m → ((m ≡ Done) × (p : ℕ) × (place ≤ p) × At old.waiting p x)
+      ⊎ At old.marks x m
+  pub more : (more : List Settled) × (new.order ≡ old.order ++ more)
+      × ((k : ℕ) (e : Settled) → At more k e → (e.cyclic ≡ cyclic) × (p : ℕ) × (place ≤ p) × At old.waiting p e.node)
   pub listed : (p x : ℕ) → place ≤ p → At old.waiting p x → IsListed new.order x
 
 -- how much is left to do

@@ -25,18 +25,22 @@ IsRewrittenTo f x y = (m : Fields) × IsMarker f m × (m.predecessor ≡ x) × C
 
 -- ---- picks, and the largest of them
 
--- A pick of n is one full choice of what became of it: nothing where n is on a cycle; itself where no marker rewrote it and it is held; and otherwise, by one of its markers, a pick of each successor, all together. The order in a pick, and what it has twice, say nothing.
+-- A pick of n is one full choice of what became of it: nothing where n is on a cycle; itself where no marker rewrote it
+-- and it is held; and otherwise, by one of its markers, a pick of each successor, all together. The order in a pick,
+-- and what it has twice, say nothing.
 mutual
   pub data IsPick (f : Content) : Node → List Node → Type 0 where
     on_cycle : {n : Node} → IsOnCycle f n → IsPick f n []
     itself : {n : Node} → ¬ (IsPredecessor f n) → IsHeld f.0 n → IsPick f n (n ∷ [])
     unknown : {n : Node} → ¬ (IsPredecessor f n) → ¬ (IsHeld f.0 n) → IsPick f n []
-    rewritten : {n : Node} {picks : List Node} (m : Fields) → IsMarker f m → m.predecessor ≡ n → ¬ (IsOnCycle f n) → IsPickOfEach f m.successors picks → IsPick f n picks
+    rewritten : {n : Node} {picks : List Node} (m : Fields) → IsMarker f m → m.predecessor ≡ n → ¬ (IsOnCycle f n)
+        → IsPickOfEach f m.successors picks → IsPick f n picks
 
   -- a pick for each place of the list, all together
   pub data IsPickOfEach (f : Content) : List Node → List Node → Type 0 where
     no_places : IsPickOfEach f [] []
-    next_place : {n : Node} {ns pick picks : List Node} → IsPick f n pick → IsPickOfEach f ns picks → IsPickOfEach f (n ∷ ns) (pick ++ picks)
+    next_place : {n : Node} {ns pick picks : List Node} → IsPick f n pick → IsPickOfEach f ns picks
+        → IsPickOfEach f (n ∷ ns) (pick ++ picks)
 
 -- each member of xs is one of ys
 abbrev pub AreWithin : List Node → List Node → Type 0
@@ -64,7 +68,8 @@ HasCount f n count = (family : List (List Node)) × IsFamily f n family × (leng
 abbrev pub HasCounts : Content → Fields → List ℕ → Type 0
 HasCounts f m counts = AllZip (HasCount f) m.successors counts
 
--- in how many ways one set for each place can be taken, where places without sets are passed over: the product of the counts that aren't 0
+-- in how many ways one set for each place can be taken, where places without sets are passed over: the product of the
+-- counts that aren't 0
 abbrev pub ways : List ℕ → ℕ
 ways [] = 1
 ways (count ∷ counts) = max count 1 * ways counts
@@ -74,10 +79,12 @@ pub record AreMarkersOf (f : Content) (n : Node) (ms : List Fields) : Type 0 whe
   pub different : AreDifferent ms
   pub exact : (m : Fields) → Contains ms m ↔ (IsMarker f m × (m.predecessor ≡ n))
 
--- n isn't on a cycle, and a successor of one of its markers is overfull, or its markers together allow more than 4,096 ways
+-- n isn't on a cycle, and a successor of one of its markers is overfull, or its markers together allow more than 4,096
+-- ways
 pub data IsOverfull (f : Content) : Node → Type 0 where
   passed_on : {n x : Node} → ¬ (IsOnCycle f n) → IsRewrittenTo f n x → IsOverfull f x → IsOverfull f n
-  too_many : {n : Node} (ms : List Fields) (counts : List (List ℕ)) → ¬ (IsOnCycle f n) → AreMarkersOf f n ms → AllZip (HasCounts f) ms counts → 4096 < sum (map ways counts) → IsOverfull f n
+  too_many : {n : Node} (ms : List Fields) (counts : List (List ℕ)) → ¬ (IsOnCycle f n) → AreMarkersOf f n ms
+      → AllZip (HasCounts f) ms counts → 4096 < sum (map ways counts) → IsOverfull f n
 
 -- more than one successors set, or overfull: what n became differs with the markers that are followed
 abbrev pub HasSeveral : Content → Node → Type 0

@@ -1,5 +1,6 @@
 -- The unions that one set of each of several families give, and the largest of some sets.
-use Rattle.std.specs.Prelude.{◌≡◌, ◌≢◌, ◌⊎◌, ◌==◌, ℕ, List, [], ◌∷◌, ◌++◌, map, length, Contains, Bool, not, ◌&&◌, nat_lt}
+use Rattle.std.specs.Prelude.{◌≡◌, ◌≢◌, ◌⊎◌, ◌==◌, ℕ, List, [], ◌∷◌, ◌++◌, map, length, Contains, Bool, not, ◌&&◌}
+use Rattle.std.specs.Prelude.{nat_lt}
 use Rattle.std.specs.List.{flat_map, list_any, list_all}
 use Rattle.std.specs.List.Sorted.{IsStrictlySortedBy}
 use Rattle.std.specs.Cmp.Lexicographic.{slice_cmp}
@@ -12,7 +13,8 @@ use Rattle.hg_succ.specs.declared.families.Table.{Table}
 -- what one set of each family gives, families without sets being skipped
 abbrev pub IsChoice : List (List (List Node)) → List Node → Type 0
 IsChoice [] u = u ≡ []
-IsChoice (f ∷ fs) u = ((f ≡ []) × IsChoice fs u) ⊎ ((set : List Node) × (rest : List Node) × Contains f set × IsChoice fs rest × (u ≡ set ++ rest))
+IsChoice (f ∷ fs) u = ((f ≡ []) × IsChoice fs u)
+    ⊎ ((set : List Node) × (rest : List Node) × Contains f set × IsChoice fs rest × (u ≡ set ++ rest))
 
 -- the union of each of the first sets with each of the second
 abbrev pub products : List (List Node) → List (List Node) → List (List Node)
@@ -67,6 +69,8 @@ pub record AreLargest (lists family : List (List Node)) : Type 0 where
   pub ascending : IsStrictlySortedBy (slice_cmp node_cmp) family
   pub each_ascending : (set : List Node) → Contains family set → IsStrictlySortedBy node_cmp set
   pub some : (set : List Node) → Contains family set → set ≢ []
-  pub kept : (set : List Node) → Contains family set → (xs : List Node) × Contains lists xs × AreWithin set xs × AreWithin xs set
+  pub kept : (set : List Node) → Contains family set → (xs : List Node) × Contains lists xs × AreWithin set xs
+      × AreWithin xs set
   pub apart : (a b : List Node) → Contains family a → Contains family b → AreWithin a b → a ≡ b
-  pub covers : (xs : List Node) → Contains lists xs → (xs ≡ []) ⊎ ((big : List Node) × Contains family big × AreWithin xs big)
+  pub covers : (xs : List Node) → Contains lists xs
+      → (xs ≡ []) ⊎ ((big : List Node) × Contains family big × AreWithin xs big)

@@ -1,8 +1,10 @@
 //! The successors sets of nodes, lowest first.
 //!
-//! Families stand in a list, and each node that is done has the place of its own. A node with one marker with one successor
+//! Families stand in a list, and each node that is done has the place of its own. A node with one marker with one
+//! successor
 //! has the same picks as that one, and shares its family; so a chain copies nothing.
-ghost use Rattle.std.specs.Prelude.{◌≡◌, ◌↔◌, ◌<◌, ℕ, length, Contains, None, IsTrue, IfOk, IfSome, IfNone, OnOk, false};
+ghost use Rattle.std.specs.Prelude.{◌≡◌, ◌↔◌, ◌<◌, ℕ, length, Contains, None, IsTrue, IfOk, IfSome, IfNone, OnOk};
+ghost use Rattle.std.specs.Prelude.{false};
 ghost use Rattle.std.specs.List.{flat_map};
 ghost use Rattle.hg_changeset.specs.declared.node.Node.{Node};
 ghost use Rattle.hg_replica.specs.Content.{content_of};
@@ -13,9 +15,11 @@ ghost use Rattle.hg_succ.specs.Successors.{IsRewrittenTo, IsOnCycle};
 ghost use Rattle.hg_succ.specs.Answer.{AreSets, sets_of};
 ghost use Rattle.hg_succ.specs.Numbered.{successors_at, AreRows, IsRow};
 ghost use Rattle.hg_succ.specs.Cover.Known.{are_sets};
-ghost use Rattle.hg_succ.specs.Cover.{IsTable, IsSolved, IsSeveral, HasEntry, PutsLast, Solves, AddsAnswer, answer, answer_at, entry, families, known_by, sets_at};
+ghost use Rattle.hg_succ.specs.Cover.{IsTable, IsSolved, IsSeveral, HasEntry, PutsLast, Solves, AddsAnswer, answer};
+ghost use Rattle.hg_succ.specs.Cover.{answer_at, entry, families, known_by, sets_at};
 ghost use Rattle.hg_succ.specs.Unions.{with_sets, choices};
-ghost use Rattle.hg_succ.specs.Factors.{factor_in, HasManyWays, FewWays, many_at, few_at, IsFew, IsOnlySuccessor, IsShared};
+ghost use Rattle.hg_succ.specs.Factors.{factor_in, HasManyWays, FewWays, many_at, few_at, IsFew, IsOnlySuccessor};
+ghost use Rattle.hg_succ.specs.Factors.{IsShared};
 
 use crate::numbered::{Numbered, number, successors_at};
 use crate::search::{Settled, order};
@@ -130,7 +134,8 @@ impl Table {
         requires rows { AreRows (content_of replica.now) self.old.nodes.keys (rows_of rows.now) }
         requires order { IsOrder (rows_of rows.now) order.now }
         ensures table { OnOk result (IsTable (content_of replica.now) self.new) }
-        ensures done { OnOk result ((k : ℕ) (e : Settled) (x : Node) → At order.now k e → At self.old.nodes.keys e.node x → HasEntry self.new x) }
+        ensures done { OnOk result ((k : ℕ) (e : Settled) (x : Node) → At order.now k e
+            → At self.old.nodes.keys e.node x → HasEntry self.new x) }
     {
         for settled in order {
             let number = settled.node;
@@ -149,9 +154,12 @@ impl Table {
     ) -> Result<(), AllocError>
         requires table { IsTable (content_of replica.now) self.old }
         requires number { number < length self.old.nodes.keys }
-        requires row { (n : Node) → At self.old.nodes.keys number n → IsRow (content_of replica.now) self.old.nodes.keys n row.now }
-        requires cyclic { (n : Node) → At self.old.nodes.keys number n → IsTrue cyclic ↔ IsOnCycle (content_of replica.now) n }
-        requires below { cyclic ≡ false → (n y : Node) → At self.old.nodes.keys number n → IsRewrittenTo (content_of replica.now) n y → HasEntry self.old y }
+        requires row { (n : Node) → At self.old.nodes.keys number n
+            → IsRow (content_of replica.now) self.old.nodes.keys n row.now }
+        requires cyclic { (n : Node) → At self.old.nodes.keys number n → IsTrue cyclic
+            ↔ IsOnCycle (content_of replica.now) n }
+        requires below { cyclic ≡ false → (n y : Node) → At self.old.nodes.keys number n
+            → IsRewrittenTo (content_of replica.now) n y → HasEntry self.old y }
         ensures { OnOk result (AddsAnswer (content_of replica.now) number self.old self.new) }
     {
         let node = self.nodes.as_slice()[number];
@@ -171,7 +179,8 @@ impl Table {
         requires table { IsTable (content_of replica.now) self.old }
         requires row { IsRow (content_of replica.now) self.old.nodes.keys node row.now }
         requires cyclic { IsTrue cyclic ↔ IsOnCycle (content_of replica.now) node }
-        requires below { cyclic ≡ false → (y : Node) → IsRewrittenTo (content_of replica.now) node y → HasEntry self.old y }
+        requires below { cyclic ≡ false → (y : Node) → IsRewrittenTo (content_of replica.now) node y
+            → HasEntry self.old y }
         ensures { IfOk result (Solves (content_of replica.now) node self.old self.new) }
     {
         if cyclic {
@@ -291,7 +300,9 @@ impl Table {
 
     // The unions that the markers at these places give, as lists in any order.
     fn unions(&self, markers: &[Marker], places: &[usize]) -> Result<Vec<Vec<Node>>, AllocError>
-        ensures { IfOk result (λ found. sets_of found.items ≡ flat_map (λ place. choices self.now (successors_at markers.now place)) places.now) }
+        ensures { IfOk result
+            (λ found. sets_of found.items ≡ flat_map (λ place. choices self.now (successors_at markers.now place))
+            places.now) }
     {
         let mut found = Vec::new(self.alloc);
         for place in places {
@@ -315,7 +326,8 @@ impl Table {
 
     // The unions with each set of the node, or as they are where it has none.
     fn with_sets(&self, node: Node, unions: Vec<Vec<Node>>) -> Result<Vec<Vec<Node>>, AllocError>
-        ensures { IfOk result (λ found. sets_of found.items ≡ with_sets (families self.now node) (sets_of unions.items)) }
+        ensures { IfOk result
+            (λ found. sets_of found.items ≡ with_sets (families self.now node) (sets_of unions.items)) }
     {
         let family = self.family(node);
         if family.is_empty() {

@@ -7,7 +7,10 @@ ghost use Rattle.hg_succ.specs.Successors.{IsSuccessorsSet, IsOverfull, HasSever
 
 /// States that are below each other have the same successors sets, in whatever order each keeps what it holds.
 pub fn states_of_one_content_have_the_same_successors_sets()
-    ensures sets { (s t : ReplicaState) (n : Node) (set : List Node) → IsValid s → IsValid t → IsSameState s t → (IsSuccessorsSet (content_of s) n set ↔ IsSuccessorsSet (content_of t) n set) }
-    ensures overfull { (s t : ReplicaState) (n : Node) → IsValid s → IsValid t → IsSameState s t → (IsOverfull (content_of s) n ↔ IsOverfull (content_of t) n) }
-    ensures several { (s t : ReplicaState) (n : Node) → IsValid s → IsValid t → IsSameState s t → (HasSeveral (content_of s) n ↔ HasSeveral (content_of t) n) }
+    ensures sets { (s t : ReplicaState) (n : Node) (set : List Node) → IsValid s → IsValid t → IsSameState s t
+        → (IsSuccessorsSet (content_of s) n set ↔ IsSuccessorsSet (content_of t) n set) }
+    ensures overfull { (s t : ReplicaState) (n : Node) → IsValid s → IsValid t → IsSameState s t
+        → (IsOverfull (content_of s) n ↔ IsOverfull (content_of t) n) }
+    ensures several { (s t : ReplicaState) (n : Node) → IsValid s → IsValid t → IsSameState s t
+        → (HasSeveral (content_of s) n ↔ HasSeveral (content_of t) n) }
 {}

@@ -38,7 +38,8 @@ pub(crate) fn number(
     replica: &Replica,
     roots: IndexSet<Node>,
 ) -> Result<Numbered, AllocError>
-    ensures { IfOk result (λ numbered. IsNumbered (content_of replica.now) roots.keys numbered.nodes.keys (rows_of numbered.rows.items)) }
+    ensures { IfOk result
+        (λ numbered. IsNumbered (content_of replica.now) roots.keys numbered.nodes.keys (rows_of numbered.rows.items)) }
 {
     let mut nodes = roots;
     let mut rows = Vec::new(alloc);

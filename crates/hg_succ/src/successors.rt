@@ -13,7 +13,8 @@ use hg_replica::Replica;
 use indexmap::IndexSet;
 use std::alloc::{AllocError, Global};
 
-/// The successors sets of a node, held or not: Mercurial's `successorssets`. It costs what the node leads to by markers,
+/// The successors sets of a node, held or not: Mercurial's `successorssets`. It costs what the node leads to by
+/// markers,
 /// beside the sets themselves.
 pub fn successors_sets(alloc: Global, replica: &Replica, node: Node) -> Result<Sets, AllocError>
     ensures { IfOk result (AreSets (content_of replica.now) node) }
@@ -24,13 +25,15 @@ pub fn successors_sets(alloc: Global, replica: &Replica, node: Node) -> Result<S
     table.sets(replica, node)
 }
 
-/// Those of the nodes that have more than one successors set or are overfull. It costs what the nodes lead to by markers.
+/// Those of the nodes that have more than one successors set or are overfull. It costs what the nodes lead to by
+/// markers.
 pub fn several_among(
     alloc: Global,
     replica: &Replica,
     nodes: &[Node],
 ) -> Result<IndexSet<Node>, AllocError>
-    ensures { IfOk result (λ found. (n : Node) → Contains found.keys n ↔ (Contains nodes.now n × HasSeveral (content_of replica.now) n)) }
+    ensures { IfOk result (λ found. (n : Node) → Contains found.keys n
+        ↔ (Contains nodes.now n × HasSeveral (content_of replica.now) n)) }
 {
     let table = table_of(alloc, replica, set_of(alloc, nodes)?)?;
     let mut found = IndexSet::new(alloc);

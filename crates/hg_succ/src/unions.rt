@@ -1,14 +1,17 @@
 //! The unions that one set of each of several families give, and the largest of some sets.
 //!
-//! Unions are formed as lists in any order. The largest of them are made sets, sorted and once each; then what is within
-//! a larger one is dropped. Only a set that is smaller than the largest can be, and only it is compared with the others.
+//! Unions are formed as lists in any order. The largest of them are made sets, sorted and once each; then what is
+//! within
+//! a larger one is dropped. Only a set that is smaller than the largest can be, and only it is compared with the
+//! others.
 ghost use Rattle.std.specs.Prelude.{◌≡◌, ◌≤◌, ◌++◌, List, filter, length, map, Contains, IfOk, OnOk, not};
 ghost use Rattle.std.specs.List.{list_any};
 ghost use Rattle.std.specs.List.Sorted.{IsStrictlySortedBy};
 ghost use Rattle.hg_changeset.specs.declared.node.Node.{Node};
 ghost use Rattle.hg_changeset.specs.Node.{node_cmp, node_eq};
 ghost use Rattle.hg_succ.specs.Answer.{sets_of};
-ghost use Rattle.hg_succ.specs.Unions.{products, is_within, is_within_larger, is_largest, IsSetOf, AreSetsOf, AreLargest, AreAscending};
+ghost use Rattle.hg_succ.specs.Unions.{products, is_within, is_within_larger, is_largest, IsSetOf, AreSetsOf};
+ghost use Rattle.hg_succ.specs.Unions.{AreLargest, AreAscending};
 
 use hg_changeset::Node;
 use std::alloc::{AllocError, Global};
@@ -47,7 +50,8 @@ fn push_unions(
     seconds: &[Vec<Node>],
     found: &mut Vec<Vec<Node>>,
 ) -> Result<(), AllocError>
-    ensures { OnOk result (sets_of found.new.items ≡ sets_of found.old.items ++ map (λ second. first.now ++ second) (sets_of seconds.now)) }
+    ensures { OnOk result (sets_of found.new.items ≡ sets_of found.old.items ++ map (λ second. first.now ++ second)
+        (sets_of seconds.now)) }
 {
     for second in seconds {
         let both = union(alloc, first, second)?;

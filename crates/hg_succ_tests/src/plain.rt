@@ -175,7 +175,8 @@ fn agrees(alloc: Global, nodes: &[Node], store: &Store) -> Option<bool> {
     Some(true)
 }
 
-// The marker with this number, of 80: any of the four was rewritten to one of them, or to two, in either order or to one
+// The marker with this number, of 80: any of the four was rewritten to one of them, or to two, in either order or to
+// one
 // twice.
 fn marker(number: u32) -> (u32, u32, u32) {
     let list = number / 4;

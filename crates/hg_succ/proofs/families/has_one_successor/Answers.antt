@@ -13,5 +13,6 @@ returns c one =
     let places = c.args.places.now in
     let successors = c.successors_at.result.now in
     let x : Node = get_or successors 0 (record { 0 = [] }) in
-    let is : successors ≡ x ∷ [] = one_element successors (record { 0 = [] }) ((unsigned_Decides (length successors) 1).0 one) in
+    let is : successors ≡ x ∷ [] = one_element successors (record { 0 = [] })
+    ((unsigned_Decides (length successors) 1).0 one) in
     (x, (get_or places 0 0, one_element places 0 c.if-places-ne1.false, sym c.successors_at.ensures ∙ is))

@@ -13,7 +13,8 @@ pub order-requires : goal.order-requires
 order-requires c =
     let n = c.in_ok-nodes.ensures in
     let numbered = c.in_ok-nodes.field-0 in
-    let w = rows_within (content_of c.args.replica.now) numbered.nodes.keys (rows_of numbered.rows.items) n.once n.all n.exact in
+    let w = rows_within (content_of c.args.replica.now) numbered.nodes.keys (rows_of numbered.rows.items) n.once n.all
+    n.exact in
     subst (λ (rows : List (Vec ℕ Global)). AreWithin (rows_of rows)) (sym c.deref.ensures.value) w
 
 pub returns-clause-done : goal.returns-clause-done
@@ -22,9 +23,17 @@ returns-clause-done c n h =
     let nodes = c.in_ok-nodes.field-0.nodes.keys in
     let rows = c.in_ok-nodes.field-0.rows.items in
     let place = place_from_Contains nodes n (told.first n h) in
-    let some : place.0 < length c.deref.result.now = (let l = slice_get_within nodes place.0 n place.1 in omega (arith, l, told.all, length-map rows (λ (row : Vec ℕ Global). row.items), ap length c.deref.ensures.value)) in
+    let some : place.0 < length c.deref.result.now = (let l = slice_get_within nodes place.0 n place.1 in
+    omega (
+      arith,
+      l,
+      told.all,
+      length-map rows (λ (row : Vec ℕ Global). row.items),
+      ap length c.deref.ensures.value,
+    )) in
     let listed = c.in_ok-order.ensures.all place.0 some in
-    let at : At c.deref-3.result.now listed.0 listed.1 = subst (λ (es : List Settled). At es listed.0 listed.1) (sym c.deref-3.ensures.value) listed.3 in
+    let at : At c.deref-3.result.now listed.0 listed.1 = subst (λ (es : List Settled). At es listed.0 listed.1)
+    (sym c.deref-3.ensures.value) listed.3 in
     let here : At nodes listed.1.node n = subst (λ i. At nodes i n) (sym listed.4) place.1 in
     let same : nodes ≡ c.in_ok-table.table.nodes.keys = sym c.in_ok-table.ensures.nodes in
     c.in_ok-add_all.ensures.done listed.0 listed.1 n at (subst (λ (ns : List Node). At ns listed.1.node n) same here)

@@ -4,4 +4,5 @@ use Rattle.hg_succ.proofs.NumberLemmas.{IsAtOneOf}
 use Rattle.hg_succ.proofs.numbered.next_row.Given as goal
 
 abbrev pub invariant-loop-place : goal.invariant-loop-place
-invariant-loop-place l = Adds (IsAtOneOf l.replica.markers (take l.place-index l.place-items)) l.initial.nodes.keys l.nodes.keys [] l.row.items
+invariant-loop-place l = Adds (IsAtOneOf l.replica.markers (take l.place-index l.place-items)) l.initial.nodes.keys
+    l.nodes.keys [] l.row.items

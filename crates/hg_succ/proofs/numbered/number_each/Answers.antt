@@ -22,11 +22,15 @@ loop-successor-preserved c =
     let new = c.insert_full.new.self.keys in
     let stored = c.in_ok-number.ensures.stored in
     let at : At new number x = subst (At new number) (sym (same_node x stored.0 stored.2)) stored.1 in
-    subst (λ (row : List ℕ). Adds (Contains (take (i + 1) xs)) c.args.nodes.now.keys new c.args.row.now.items row) (sym c.in_ok-push.ensures.items)
-    (adds_one (Contains (take i xs)) (Contains (take (i + 1) xs)) c.args.nodes.now.keys old new c.args.row.now.items c.loop-successor.row.items number x
+    subst (λ (row : List ℕ). Adds (Contains (take (i + 1) xs)) c.args.nodes.now.keys new c.args.row.now.items row)
+    (sym c.in_ok-push.ensures.items)
+    (adds_one (Contains (take i xs)) (Contains (take (i + 1) xs)) c.args.nodes.now.keys old new c.args.row.now.items
+    c.loop-successor.row.items number x
     c.loop-successor.invariant (insert_grows (list_any (node_eq x) old) old new x c.in_ok-number.ensures.keys) at
     (more_of xs i x c.loop-successor-test.true (get_or_default xs i (record { 0 = [] }) x c.loop-successor-test.true)))
 
 pub returns : goal.returns
-returns c = subst (λ (xs : List Node). Adds (Contains xs) c.args.nodes.now.keys c.loop-successor.nodes.keys c.args.row.now.items c.loop-successor.row.items)
-    (take_all c.loop-successor.successor-index c.args.successors.now c.loop-successor-test.false) c.loop-successor.invariant
+returns c = subst (λ (xs : List Node). Adds (Contains xs) c.args.nodes.now.keys c.loop-successor.nodes.keys
+    c.args.row.now.items c.loop-successor.row.items)
+    (take_all c.loop-successor.successor-index c.args.successors.now c.loop-successor-test.false)
+    c.loop-successor.invariant

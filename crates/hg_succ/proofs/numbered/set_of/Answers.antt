@@ -16,10 +16,14 @@ loop-node-preserved c n h =
     let x = get_or nodes i first in
     let keys = c.loop-node.set.keys in
     subst (λ (ks : List Node). Contains ks n) (sym c.in_ok-insert.ensures.keys)
-    (elim ((more_of nodes i x c.loop-node-test.true (sym (get_or_default nodes i x first c.loop-node-test.true)) n).0 h) [
+    (elim ((more_of nodes i x c.loop-node-test.true (sym (get_or_default nodes i x first c.loop-node-test.true))
+    n).0 h) [
       | inl before ↦ insert_keeps keys x n (c.loop-node.invariant n before)
       | inr same ↦ subst (Contains (insert_key node_eq keys x)) same (Contains-insert_key node_eq same_node keys x)
     ])
 
 pub returns : goal.returns
-returns c n h = c.loop-node.invariant n (subst (λ (ns : List Node). Contains ns n) (sym (take_all c.loop-node.node-index c.args.nodes.now c.loop-node-test.false)) h)
+returns c n h =
+    c.loop-node.invariant n
+    (subst (λ (ns : List Node). Contains ns n)
+    (sym (take_all c.loop-node.node-index c.args.nodes.now c.loop-node-test.false)) h)

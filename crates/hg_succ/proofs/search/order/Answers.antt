@@ -13,13 +13,17 @@ loop-node-preserved c = record {
   waiting = c.in_ok-visit.ensures.waiting;
   met = λ x l new. elim (cases_lt x c.loop-node.node) [
     | inl before ↦ c.loop-node.invariant.met x before (c.in_ok-visit.ensures.met x new)
-    | inr last ↦ (let e : x ≡ c.loop-node.node = omega arith in c.in_ok-visit.ensures.done (subst (λ y. At c.visit.new.self.marks.items y New) e new))
+    | inr last ↦
+        (let e : x ≡ c.loop-node.node = omega arith in
+        c.in_ok-visit.ensures.done (subst (λ y. At c.visit.new.self.marks.items y New) e new))
   ];
 }
 
 pub returns : goal.returns
 returns c = record {
   order = c.loop-node.invariant.search.order;
-  all = λ x l. all_listed (rows_of c.args.rows.now) (state_of c.loop-node.search) c.loop-node.invariant.search c.loop-node.invariant.waiting x
-      (omega (arith, l, length-map c.args.rows.now (λ row. row.items))) (c.loop-node.invariant.met x (omega (arith, l, c.loop-node-test.false, c.loop-node.auto.node-end)));
+  all = λ x l. all_listed (rows_of c.args.rows.now) (state_of c.loop-node.search) c.loop-node.invariant.search
+      c.loop-node.invariant.waiting x
+      (omega (arith, l, length-map c.args.rows.now (λ row. row.items)))
+      (c.loop-node.invariant.met x (omega (arith, l, c.loop-node-test.false, c.loop-node.auto.node-end)));
 }

@@ -21,8 +21,10 @@ loop-node-preserved c =
     (c.in_ok-table.ensures.done x (c.in_ok-set_of.ensures x (Contains-get_or nodes i first c.loop-node-test.true))) in
     elim c.if-has_several.branch [
       | then-has_several+in_ok-insert w ↦
-          subst (AreAmong (take (i + 1) nodes) (HasSeveral f)) (sym (ap (λ v. v.keys) w.found-is ∙ w.in_ok-insert.ensures.keys))
-          (among_found nodes (HasSeveral f) c.loop-node.found.keys i x c.loop-node-test.true at c.loop-node.invariant (told.0 (c.has_several.ensures.0 w.if-has_several.true)))
+          subst (AreAmong (take (i + 1) nodes) (HasSeveral f))
+          (sym (ap (λ v. v.keys) w.found-is ∙ w.in_ok-insert.ensures.keys))
+          (among_found nodes (HasSeveral f) c.loop-node.found.keys i x c.loop-node-test.true at c.loop-node.invariant
+          (told.0 (c.has_several.ensures.0 w.if-has_several.true)))
       | else-has_several w ↦
           subst (AreAmong (take (i + 1) nodes) (HasSeveral f)) (sym (ap (λ v. v.keys) w.found-is))
           (among_other nodes (HasSeveral f) c.loop-node.found.keys i x c.loop-node-test.true at c.loop-node.invariant
@@ -31,4 +33,5 @@ loop-node-preserved c =
 
 pub returns : goal.returns
 returns c =
-    subst (λ (ns : List Node). AreAmong ns (HasSeveral (content_of c.args.replica.now)) c.loop-node.found.keys) (take_all c.loop-node.node-index c.args.nodes.now c.loop-node-test.false) c.loop-node.invariant
+    subst (λ (ns : List Node). AreAmong ns (HasSeveral (content_of c.args.replica.now)) c.loop-node.found.keys)
+    (take_all c.loop-node.node-index c.args.nodes.now c.loop-node-test.false) c.loop-node.invariant

@@ -12,11 +12,14 @@ returns-then-not-has c =
     let set = c.args.set.now in
     let i = c.loop-node.node-index in
     let x : Node = get_or set i (record { 0 = [] }) in
-    sym (all_fails (λ z. list_any (λ y. node_eq y z) c.args.other.now) set x (Contains-get_or set i (record { 0 = [] }) c.loop-node-test.true) (sym c.has.ensures ∙ c.if-not-has.true))
+    sym (all_fails (λ z. list_any (λ y. node_eq y z) c.args.other.now) set x
+    (Contains-get_or set i (record { 0 = [] }) c.loop-node-test.true) (sym c.has.ensures ∙ c.if-not-has.true))
 
 pub loop-node-preserved : goal.loop-node-preserved
 loop-node-preserved c =
     let set = c.args.set.now in
     let i = c.loop-node.node-index in
     let x : Node = get_or set i (record { 0 = [] }) in
-    all_more (λ z. list_any (λ y. node_eq y z) c.args.other.now) set i x c.loop-node-test.true (get_or_default set i (record { 0 = [] }) x c.loop-node-test.true) c.loop-node.invariant (sym c.has.ensures ∙ c.if-not-has.false)
+    all_more (λ z. list_any (λ y. node_eq y z) c.args.other.now) set i x c.loop-node-test.true
+    (get_or_default set i (record { 0 = [] }) x c.loop-node-test.true) c.loop-node.invariant
+    (sym c.has.ensures ∙ c.if-not-has.false)

@@ -13,19 +13,27 @@ pub without_subsets-requires : goal.without_subsets-requires
 without_subsets-requires c =
     let sorted = c.sort_unstable.new.self.items in
     let ws = c.dedup.new.self.items in
-    let is = dedup_is (λ (v w : Vec Node Global). pointwise node_eq v.items w.items) sorted ws c.dedup.ensures.filtered in
-    let are = deduped_sets (sets_of c.args.found.items) c.in_ok-sets.sets.items sorted ws c.in_ok-sets.ensures c.sort_unstable.ensures.permutation c.sort_unstable.ensures.sorted is in
-    subst (λ (us : List (Vec Node Global)). AreAscending (sets_of us)) (sym c.deref.ensures.value) (λ set h. (are.from set h).2.ascending)
+    let is = dedup_is (λ (v w : Vec Node Global). pointwise node_eq v.items w.items) sorted ws
+    c.dedup.ensures.filtered in
+    let are = deduped_sets (sets_of c.args.found.items) c.in_ok-sets.sets.items sorted ws c.in_ok-sets.ensures
+    c.sort_unstable.ensures.permutation c.sort_unstable.ensures.sorted is in
+    subst (λ (us : List (Vec Node Global)). AreAscending (sets_of us)) (sym c.deref.ensures.value)
+    (λ set h. (are.from set h).2.ascending)
 
 pub returns : goal.returns
 returns c =
     let sorted = c.sort_unstable.new.self.items in
     let ws = c.dedup.new.self.items in
-    let is = dedup_is (λ (v w : Vec Node Global). pointwise node_eq v.items w.items) sorted ws c.dedup.ensures.filtered in
+    let is = dedup_is (λ (v w : Vec Node Global). pointwise node_eq v.items w.items) sorted ws
+    c.dedup.ensures.filtered in
     let all : AreLargest (sets_of c.args.found.items) (filter (is_largest (sets_of ws)) (sets_of ws)) =
-    largest_deduped (sets_of c.args.found.items) c.in_ok-sets.sets.items sorted ws c.in_ok-sets.ensures c.sort_unstable.ensures.permutation c.sort_unstable.ensures.sorted is in
+    largest_deduped (sets_of c.args.found.items) c.in_ok-sets.sets.items sorted ws c.in_ok-sets.ensures
+    c.sort_unstable.ensures.permutation c.sort_unstable.ensures.sorted is in
     IfOk-weaker c.without_subsets.result
-    (λ (kept : Vec (Vec Node Global) Global). sets_of kept.items ≡ filter (is_largest (sets_of c.deref.result.now)) (sets_of c.deref.result.now))
+    (λ (kept : Vec (Vec Node Global) Global). sets_of kept.items ≡ filter (is_largest (sets_of c.deref.result.now))
+    (sets_of c.deref.result.now))
     (λ (family : Vec (Vec Node Global) Global). AreLargest (sets_of c.args.found.items) (sets_of family.items))
-    (λ kept e. subst (AreLargest (sets_of c.args.found.items)) (sym (e ∙ ap (λ (us : List (Vec Node Global)). filter (is_largest (sets_of us)) (sets_of us)) c.deref.ensures.value)) all)
+    (λ kept e. subst (AreLargest (sets_of c.args.found.items))
+    (sym (e ∙ ap (λ (us : List (Vec Node Global)). filter (is_largest (sets_of us)) (sets_of us))
+    c.deref.ensures.value)) all)
     c.without_subsets.ensures

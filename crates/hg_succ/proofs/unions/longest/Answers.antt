@@ -12,10 +12,13 @@ loop-set-preserved c set h =
     let v = c.set-item.result in
     let split = sets_more c.args.sets.now c.loop-set.set-index v c.loop-set-test.true c.set-item.is in
     let long : c.len.result ≡ length v.items = c.len.ensures ∙ v.ok.0 in
-    let or = Contains-push_cases (sets_of (take c.loop-set.set-index c.args.sets.now)) v.items set (subst (λ (zs : List (List Node)). Contains zs set) split h) in
+    let or = Contains-push_cases (sets_of (take c.loop-set.set-index c.args.sets.now)) v.items set
+    (subst (λ (zs : List (List Node)). Contains zs set) split h) in
     elim c.if-len-longest.branch [
       | then-len-longest w ↦ elim or [
-        | inl before ↦ (let b = c.loop-set.invariant set before in omega (arith, b, w.longest-is, w.if-len-longest.true, w.len-longest.ensures, v.ok.0, long))
+        | inl before ↦
+            (let b = c.loop-set.invariant set before in
+            omega (arith, b, w.longest-is, w.if-len-longest.true, w.len-longest.ensures, v.ok.0, long))
         | inr last ↦ omega (arith, ap length last, w.longest-is, w.len-longest.ensures, v.ok.0, long)
       ]
       | else-len-longest w ↦ elim or [
@@ -25,4 +28,6 @@ loop-set-preserved c set h =
     ]
 
 pub returns : goal.returns
-returns c = subst (λ (xs : List (Vec Node Global)). (set : List Node) → Contains (sets_of xs) set → length set ≤ c.loop-set.longest) (take_all c.loop-set.set-index c.args.sets.now c.loop-set-test.false) c.loop-set.invariant
+returns c = subst (λ (xs : List (Vec Node Global)). (set : List Node) → Contains (sets_of xs) set
+    → length set ≤ c.loop-set.longest) (take_all c.loop-set.set-index c.args.sets.now c.loop-set-test.false)
+    c.loop-set.invariant

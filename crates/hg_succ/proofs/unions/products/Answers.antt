@@ -16,4 +16,5 @@ loop-first-preserved c =
     c.in_ok-push_unions.ensures
     ∙ (λ k. c.loop-first.invariant k ++ f (c.deref.ensures.value k))
     ∙ flat_map_more f [] (sets_of (take i firsts)) v.items
-    ∙ ap (λ (us : List (List Node)). products us seconds) (sym (sets_more firsts i v c.loop-first-test.true c.first-item.is))
+    ∙ ap (λ (us : List (List Node)). products us seconds)
+    (sym (sets_more firsts i v c.loop-first-test.true c.first-item.is))

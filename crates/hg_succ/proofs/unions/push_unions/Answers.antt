@@ -23,4 +23,6 @@ loop-second-preserved c =
     ∙ ap (λ (us : List (List Node)). old ++ map f us) (sym more)
 
 pub returns : goal.returns
-returns c = c.loop-second.invariant ∙ ap (λ (xs : List (Vec Node Global)). sets_of c.args.found.now.items ++ map (λ second. c.args.first.now ++ second) (sets_of xs)) (take_all c.loop-second.second-index c.args.seconds.now c.loop-second-test.false)
+returns c = c.loop-second.invariant ∙
+    ap (λ (xs : List (Vec Node Global)). sets_of c.args.found.now.items ++ map (λ second. c.args.first.now ++ second)
+    (sets_of xs)) (take_all c.loop-second.second-index c.args.seconds.now c.loop-second-test.false)

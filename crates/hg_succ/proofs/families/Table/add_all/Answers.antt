@@ -16,9 +16,11 @@ add-requires-clause-cyclic c n at =
     let rows = c.args.rows.now in
     let i = c.loop-settled.settled-index in
     let e : Settled = get_or c.args.order.now i (record { node = 0; cyclic = false }) in
-    let e_at : At c.args.order.now i e = slice_get-get_or c.args.order.now i (record { node = 0; cyclic = false }) c.loop-settled-test.true in
+    let e_at : At c.args.order.now i e = slice_get-get_or c.args.order.now i (record { node = 0; cyclic = false })
+    c.loop-settled-test.true in
     let before : At nodes e.node n = subst (λ (ns : List Node). At ns e.node n) c.loop-settled.invariant.nodes at in
-    let cycles = cycles_are (content_of c.args.replica.now) nodes (rows_of rows) c.requires.table.once (length-map rows (λ (row : Vec ℕ Global). row.items) ∙ c.requires.all) c.requires.rows e.node n before in
+    let cycles = cycles_are (content_of c.args.replica.now) nodes (rows_of rows) c.requires.table.once
+    (length-map rows (λ (row : Vec ℕ Global). row.items) ∙ c.requires.all) c.requires.rows e.node n before in
     let told = c.requires.order.cyclic i e e_at in
     (λ t. cycles.0 (told.0 t), λ on. told.1 (cycles.1 on))
 
@@ -28,11 +30,14 @@ add-requires-clause-below c off n y at to =
     let rows = c.args.rows.now in
     let i = c.loop-settled.settled-index in
     let e : Settled = get_or c.args.order.now i (record { node = 0; cyclic = false }) in
-    let e_at : At c.args.order.now i e = slice_get-get_or c.args.order.now i (record { node = 0; cyclic = false }) c.loop-settled-test.true in
+    let e_at : At c.args.order.now i e = slice_get-get_or c.args.order.now i (record { node = 0; cyclic = false })
+    c.loop-settled-test.true in
     let before : At nodes e.node n = subst (λ (ns : List Node). At ns e.node n) c.loop-settled.invariant.nodes at in
-    let edge = edge_from (content_of c.args.replica.now) nodes (rows_of rows) c.requires.table.once (length-map rows (λ (row : Vec ℕ Global). row.items) ∙ c.requires.all) c.requires.rows e.node n y before to in
+    let edge = edge_from (content_of c.args.replica.now) nodes (rows_of rows) c.requires.table.once
+    (length-map rows (λ (row : Vec ℕ Global). row.items) ∙ c.requires.all) c.requires.rows e.node n y before to in
     let earlier = c.requires.order.after i e edge.0 e_at off edge.2 in
-    c.loop-settled.invariant.done earlier.0 earlier.1 y earlier.2 earlier.3 (subst (λ j. At nodes j y) (sym earlier.4) edge.1)
+    c.loop-settled.invariant.done earlier.0 earlier.1 y earlier.2 earlier.3
+    (subst (λ j. At nodes j y) (sym earlier.4) edge.1)
 
 pub loop-settled-preserved : goal.loop-settled-preserved
 loop-settled-preserved c =
@@ -50,9 +55,12 @@ loop-settled-preserved c =
         | inr last ↦
             let k_is : k ≡ i = omega arith in
             let d_is : d ≡ e = get_one order i d e (subst (λ j. At order j d) k_is d_at) e_at in
-            c.in_ok-add.ensures.done y (subst (λ (ns : List Node). At ns e.node y) (sym now) (subst (λ (s : Settled). At nodes s.node y) d_is y_at))
+            c.in_ok-add.ensures.done y
+            (subst (λ (ns : List Node). At ns e.node y) (sym now)
+            (subst (λ (s : Settled). At nodes s.node y) d_is y_at))
       ];
     }
 
 pub returns-clause-done : goal.returns-clause-done
-returns-clause-done c k e x e_at x_at = c.loop-settled.invariant.done k e x (let l = slice_get_within c.args.order.now k e e_at in omega (arith, l, c.loop-settled-test.false)) e_at x_at
+returns-clause-done c k e x e_at x_at = c.loop-settled.invariant.done k e x
+    (let l = slice_get_within c.args.order.now k e e_at in omega (arith, l, c.loop-settled-test.false)) e_at x_at

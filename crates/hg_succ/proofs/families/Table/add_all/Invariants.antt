@@ -10,5 +10,6 @@ abbrev pub invariant-loop-settled : goal.invariant-loop-settled
 invariant-loop-settled l = record {
   table : IsTable (content_of l.replica) l.self;
   nodes : l.self.nodes.keys ≡ l.initial.self.nodes.keys;
-  done : (k : ℕ) (e : Settled) (x : Node) → k < l.settled-index → At l.order k e → At l.initial.self.nodes.keys e.node x → HasEntry l.self x;
+  done : (k : ℕ) (e : Settled) (x : Node) → k < l.settled-index → At l.order k e → At l.initial.self.nodes.keys e.node x
+      → HasEntry l.self x;
 }

@@ -14,7 +14,9 @@ returns-in-None-clause-many c yes' =
     let i = c.loop-place.place-index in
     let place = get_or places i 0 in
     let ns : c.successors_at.result.now ≡ successors_at markers place = c.successors_at.ensures in
-    stops_there c.args.self.now markers places i place c.loop-place-test.true (get_or_default places i 0 place c.loop-place-test.true) (subst (HasManyWays c.args.self.now) ns c.in-None.ensures.many)
+    stops_there c.args.self.now markers places i place c.loop-place-test.true
+    (get_or_default places i 0 place c.loop-place-test.true)
+    (subst (HasManyWays c.args.self.now) ns c.in-None.ensures.many)
 
 pub returns-then-sum-gt-UNION_LIMIT-clause-many : goal.returns-then-sum-gt-UNION_LIMIT-clause-many
 returns-then-sum-gt-UNION_LIMIT-clause-many c yes' =
@@ -23,8 +25,11 @@ returns-then-sum-gt-UNION_LIMIT-clause-many c yes' =
     let i = c.loop-place.place-index in
     let place = get_or places i 0 in
     let ns : c.successors_at.result.now ≡ successors_at markers place = c.successors_at.ensures in
-    sum_stops c.args.self.now markers places i place c.loop-place-test.true (get_or_default places i 0 place c.loop-place-test.true) c.loop-place.sum c.in-Some.ways c.loop-place.invariant.so_far
-    (subst (λ (xs : List Node). FewWays c.args.self.now xs c.in-Some.ways) ns c.in-Some.ensures.few) c.if-sum-gt-UNION_LIMIT.true
+    sum_stops c.args.self.now markers places i place c.loop-place-test.true
+    (get_or_default places i 0 place c.loop-place-test.true) c.loop-place.sum c.in-Some.ways
+    c.loop-place.invariant.so_far
+    (subst (λ (xs : List Node). FewWays c.args.self.now xs c.in-Some.ways) ns c.in-Some.ensures.few)
+    c.if-sum-gt-UNION_LIMIT.true
 
 pub loop-place-preserved : goal.loop-place-preserved
 loop-place-preserved c =
@@ -34,7 +39,9 @@ loop-place-preserved c =
     let place = get_or places i 0 in
     let ns : c.successors_at.result.now ≡ successors_at markers place = c.successors_at.ensures in
     record {
-      so_far = sum_goes_on c.args.self.now markers places i place c.loop-place-test.true (get_or_default places i 0 place c.loop-place-test.true) c.loop-place.sum c.in-Some.ways c.loop-place.invariant.so_far
+      so_far = sum_goes_on c.args.self.now markers places i place c.loop-place-test.true
+          (get_or_default places i 0 place c.loop-place-test.true) c.loop-place.sum c.in-Some.ways
+          c.loop-place.invariant.so_far
           (subst (λ (xs : List Node). FewWays c.args.self.now xs c.in-Some.ways) ns c.in-Some.ensures.few);
       few = c.if-sum-gt-UNION_LIMIT.false;
     }
@@ -45,6 +52,8 @@ returns-clause-few c no' =
     let places = c.args.places.now in
     let all = take_all c.loop-place.place-index places c.loop-place-test.false in
     let before = c.loop-place.invariant.so_far in (
-      subst (λ (ps : List ℕ). (p : ℕ) → Contains ps p → NoneOverfull c.args.self.now (successors_at markers p)) all before.0,
-      (let e = ap (λ (ps : List ℕ). sum (ways_at c.args.self.now markers ps)) all in let f = c.loop-place.invariant.few in omega (arith, e, f, before.1)),
+      subst (λ (ps : List ℕ). (p : ℕ) → Contains ps p → NoneOverfull c.args.self.now (successors_at markers p)) all
+          before.0,
+      (let e = ap (λ (ps : List ℕ). sum (ways_at c.args.self.now markers ps)) all in
+          let f = c.loop-place.invariant.few in omega (arith, e, f, before.1)),
     )

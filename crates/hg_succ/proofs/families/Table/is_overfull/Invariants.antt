@@ -6,6 +6,7 @@ use Rattle.hg_succ.proofs.families.Table.is_overfull.Given as goal
 
 abbrev pub invariant-loop-place : goal.invariant-loop-place
 invariant-loop-place l = record {
-  so_far : ((p : ℕ) → Contains (take l.place-index l.places) p → NoneOverfull l.self (successors_at l.markers p)) × (l.sum ≡ sum (ways_at l.self l.markers (take l.place-index l.places)));
+  so_far : ((p : ℕ) → Contains (take l.place-index l.places) p → NoneOverfull l.self (successors_at l.markers p))
+      × (l.sum ≡ sum (ways_at l.self l.markers (take l.place-index l.places)));
   few : l.sum ≤ 4096;
 }

@@ -6,4 +6,5 @@ use Rattle.hg_succ.specs.Unions.{choices}
 use Rattle.hg_succ.proofs.families.Table.unions.Given as goal
 
 abbrev pub invariant-loop-place : goal.invariant-loop-place
-invariant-loop-place l = sets_of l.found.items ≡ flat_map (λ place. choices l.self (successors_at l.markers place)) (take l.place-index l.places)
+invariant-loop-place l = sets_of l.found.items ≡ flat_map (λ place. choices l.self (successors_at l.markers place))
+    (take l.place-index l.places)

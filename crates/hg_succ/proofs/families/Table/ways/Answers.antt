@@ -10,14 +10,20 @@ returns-then-product-gt-UNION_LIMIT-clause-many c =
     let nodes = c.args.nodes.now in
     let i = c.loop-node.node-index in
     let x : Node = get_or nodes i (record { 0 = [] }) in
-    stops_many c.args.self.now nodes i x c.loop-node-test.true (get_or_default nodes i (record { 0 = [] }) x c.loop-node-test.true) c.loop-node.product c.in_ok-factor.factor c.loop-node.invariant (sym c.in_ok-factor.ensures) c.saturating_mul-product.result c.saturating_mul-product.ensures c.if-product-gt-UNION_LIMIT.true
+    stops_many c.args.self.now nodes i x c.loop-node-test.true
+    (get_or_default nodes i (record { 0 = [] }) x c.loop-node-test.true) c.loop-node.product c.in_ok-factor.factor
+    c.loop-node.invariant (sym c.in_ok-factor.ensures) c.saturating_mul-product.result
+    c.saturating_mul-product.ensures c.if-product-gt-UNION_LIMIT.true
 
 pub loop-node-preserved : goal.loop-node-preserved
 loop-node-preserved c =
     let nodes = c.args.nodes.now in
     let i = c.loop-node.node-index in
     let x : Node = get_or nodes i (record { 0 = [] }) in
-    goes_on c.args.self.now nodes i x c.loop-node-test.true (get_or_default nodes i (record { 0 = [] }) x c.loop-node-test.true) c.loop-node.product c.in_ok-factor.factor c.loop-node.invariant (sym c.in_ok-factor.ensures) c.saturating_mul-product.result c.saturating_mul-product.ensures c.if-product-gt-UNION_LIMIT.false
+    goes_on c.args.self.now nodes i x c.loop-node-test.true
+    (get_or_default nodes i (record { 0 = [] }) x c.loop-node-test.true) c.loop-node.product c.in_ok-factor.factor
+    c.loop-node.invariant (sym c.in_ok-factor.ensures) c.saturating_mul-product.result
+    c.saturating_mul-product.ensures c.if-product-gt-UNION_LIMIT.false
 
 if_none : (o : Option ℕ) (P : Type 0) → P → IfNone o P
 if_none None P p = p
@@ -29,4 +35,6 @@ returns-in_err-factor-clause-many c =
     let i = c.loop-node.node-index in
     let x : Node = get_or nodes i (record { 0 = [] }) in
     if_none c.from_residual.result (HasManyWays c.args.self.now nodes)
-    (stops_overfull c.args.self.now nodes i x c.loop-node-test.true (get_or_default nodes i (record { 0 = [] }) x c.loop-node-test.true) (sym c.factor.ensures ∙ c.in_err-factor.was))
+    (stops_overfull c.args.self.now nodes i x c.loop-node-test.true
+    (get_or_default nodes i (record { 0 = [] }) x c.loop-node-test.true)
+    (sym c.factor.ensures ∙ c.in_err-factor.was))
