@@ -1,5 +1,6 @@
 -- Ids with two markers: only what leads to one became different changesets.
-use Rattle.std.proofs.Common.{◌≡◌, ◌≢◌, ℕ, zero, suc, ◌<◌, Bool, true, false, true≢false, ◌⊎◌, ◌↔◌, ◌∷◌, [], List, length, slice_get, Contains, Some, inl, inr, refl, sym, ap, subst, ◌∙◌, arith}
+use Rattle.std.proofs.Common.{◌≡◌, ◌≢◌, ℕ, zero, suc, ◌<◌, Bool, true, false, true≢false, ◌⊎◌, ◌↔◌, ◌∷◌, [], List}
+use Rattle.std.proofs.Common.{length, slice_get, Contains, Some, inl, inr, refl, sym, ap, subst, ◌∙◌, arith}
 use Rattle.std.proofs.lemmas.Option.{same_Some}
 use Rattle.std.proofs.lemmas.Map.Views.{Contains-from_any, list_any-from_Contains}
 use Rattle.std.specs.List.{list_any}
@@ -22,16 +23,24 @@ use Rattle.hg_instab.specs.Walk.Leads.{one, further}
 
 -- ---- two places
 
-pub fork-from_places : (ms : List Fields) (n : Node) (places : List ℕ) → ArePlaces (λ m. m.predecessor ≡ n) ms places → 1 < length places → IsFork ms n
+pub fork-from_places : (ms : List Fields) (n : Node) (places : List ℕ) → ArePlaces (λ m. m.predecessor ≡ n) ms places
+    → 1 < length places → IsFork ms n
 fork-from_places ms n [] are l = absurd (omega (arith, l))
 fork-from_places ms n (i ∷ []) are l = absurd (omega (arith, l))
-fork-from_places ms n (i ∷ j ∷ rest) are l =
-    (i, j, (λ e. absurd (omega (arith, are.ascending 0 (omega arith), e))), (are.exact i).0 (Contains-first i (j ∷ rest)), (are.exact j).0 (Contains-later i (j ∷ rest) j (Contains-first j rest)))
+fork-from_places ms n (i ∷ j ∷ rest) are l = (
+  i,
+  j,
+  (λ e. absurd (omega (arith, are.ascending 0 (omega arith), e))),
+  (are.exact i).0 (Contains-first i (j ∷ rest)),
+  (are.exact j).0 (Contains-later i (j ∷ rest) j (Contains-first j rest)),
+)
 
-pub places-from_fork : (ms : List Fields) (n : Node) (places : List ℕ) → ArePlaces (λ m. m.predecessor ≡ n) ms places → IsFork ms n → 1 < length places
+pub places-from_fork : (ms : List Fields) (n : Node) (places : List ℕ) → ArePlaces (λ m. m.predecessor ≡ n) ms places
+    → IsFork ms n → 1 < length places
 places-from_fork ms n [] are fork = absurd (Contains-none fork.0 ((are.exact fork.0).1 fork.3))
 places-from_fork ms n (k ∷ []) are fork =
-    absurd (fork.2 (sym (Contains-one k fork.0 ((are.exact fork.0).1 fork.3)) ∙ Contains-one k fork.1 ((are.exact fork.1).1 fork.4)))
+    absurd (fork.2 (sym (Contains-one k fork.0 ((are.exact fork.0).1 fork.3))
+    ∙ Contains-one k fork.1 ((are.exact fork.1).1 fork.4)))
 places-from_fork ms n (k ∷ l ∷ rest) are fork = omega arith
 
 -- a fork is the predecessor of a marker
@@ -43,7 +52,8 @@ one_or_not : (i j : ℕ) → (i ≡ j) ⊎ (i ≢ j)
 one_or_not zero zero = inl refl
 one_or_not zero (suc j) = inr (λ e. omega (arith, e))
 one_or_not (suc i) zero = inr (λ e. omega (arith, e))
-one_or_not (suc i) (suc j) = elim (one_or_not i j) [ inl e ↦ inl (ap suc e) | inr ne ↦ inr (λ e. ne (omega (arith, e))) ]
+one_or_not (suc i) (suc j) =
+    elim (one_or_not i j) [ inl e ↦ inl (ap suc e) | inr ne ↦ inr (λ e. ne (omega (arith, e))) ]
 
 -- ---- the way back
 
@@ -55,9 +65,11 @@ lead ms p q n first (further {q = r} far last) = further (lead ms p q r first fa
 -- from what is preceded steps lead back
 back : (s : ReplicaState) (p n : Node) → Precedes (content_of s) IsAny p n → Leads (IsBefore s.markers) n p
 back s p n (step {m = m} held kind at is) = one (m, in_from_holds s.markers m held, at, is)
-back s p n (precedes_further {m = m} held kind at r) = lead s.markers n m.predecessor p (m, in_from_holds s.markers m held, at, refl) (back s p m.predecessor r)
+back s p n (precedes_further {m = m} held kind at r) = lead s.markers n m.predecessor p
+    (m, in_from_holds s.markers m held, at, refl) (back s p m.predecessor r)
 
-module _ (s : ReplicaState) (forks asked : List Node) (are : (n : Node) → Contains forks n ↔ IsFork s.markers n) (walked : (n : Node) → Contains asked n ↔ IsReached (IsBefore s.markers) forks n) where
+module _ (s : ReplicaState) (forks asked : List Node) (are : (n : Node) → Contains forks n ↔ IsFork s.markers n)
+    (walked : (n : Node) → Contains asked n ↔ IsReached (IsBefore s.markers) forks n) where
   -- what leads to a fork is asked
   asked-leads : (p x : Node) → (p ≡ x) ⊎ Precedes (content_of s) IsAny p x → IsFork s.markers x → Contains asked p
   asked-leads p x (inl e) fork = (walked p).1 (inl (subst (Contains forks) (sym e) ((are x).1 fork)))
@@ -80,7 +92,11 @@ module _ (s : ReplicaState) (forks asked : List Node) (are : (n : Node) → Cont
     where
       by : (b : Bool) → list_any (node_eq p) asked ≡ b → Contains asked p
       by true e = Contains-from_any same_node p asked e
-      by false e = absurd (single_not_several (content_of s) p (λ x way. not_fork-single x (λ fork. true≢false (sym (list_any-from_Contains node_eq_laws p asked (asked-leads p x way fork)) ∙ e))) several)
+      by false e =
+          absurd (single_not_several (content_of s) p
+          (λ x way. not_fork-single x
+          (λ fork. true≢false (sym (list_any-from_Contains node_eq_laws p asked (asked-leads p x way fork)) ∙ e)))
+          several)
 
   -- and what is asked is the predecessor of a marker
   pub asked-predecessor : (p : Node) → Contains asked p → IsPredecessor (content_of s) p
@@ -91,5 +107,6 @@ module _ (s : ReplicaState) (forks asked : List Node) (are : (n : Node) → Cont
       last q n (further {q = r} far next) = (next.0, holds-from s.markers next.0 next.1, next.3)
 
       by : IsReached (IsBefore s.markers) forks p → IsPredecessor (content_of s) p
-      by (inl first) = let m = fork-predecessor s.markers p ((are p).0 first) in (m.0, holds-from s.markers m.0 m.1, m.2)
+      by (inl first) = let m = fork-predecessor s.markers p ((are p).0 first) in
+          (m.0, holds-from s.markers m.0 m.1, m.2)
       by (inr far) = last far.0 p far.2

@@ -15,24 +15,38 @@ module _ (s : ReplicaState) (Kind : Fields → Type 0) where
   precedes-from_leads : (p n : Node) → Leads (IsNext Kind s.markers) p n → Precedes (content_of s) Kind p n
   precedes-from_leads p n (one next) = step (holds-from s.markers next.0 next.1) next.3 next.4 next.2
   precedes-from_leads p n (further {q = q} far next) =
-      precedes_further (holds-from s.markers next.0 next.1) next.3 next.4 (subst (Precedes (content_of s) Kind p) (sym next.2) (precedes-from_leads p q far))
+      precedes_further (holds-from s.markers next.0 next.1) next.3 next.4
+      (subst (Precedes (content_of s) Kind p) (sym next.2) (precedes-from_leads p q far))
 
   leads-from_precedes : (p n : Node) → Precedes (content_of s) Kind p n → Leads (IsNext Kind s.markers) p n
   leads-from_precedes p n (step {m = m} held kind at is) = one (m, in_from_holds s.markers m held, is, kind, at)
-  leads-from_precedes p n (precedes_further {m = m} held kind at r) = further (leads-from_precedes p m.predecessor r) (m, in_from_holds s.markers m held, refl, kind, at)
+  leads-from_precedes p n (precedes_further {m = m} held kind at r) = further (leads-from_precedes p m.predecessor r)
+      (m, in_from_holds s.markers m held, refl, kind, at)
 
 -- what precedes something is the predecessor of a marker
 precedes-predecessor : (f : Content) (Kind : Fields → Type 0) (p n : Node) → Precedes f Kind p n → IsPredecessor f p
 precedes-predecessor f Kind p n (step {m = m} held kind at is) = (m, held, is)
-precedes-predecessor f Kind p n (precedes_further {m = m} held kind at r) = precedes-predecessor f Kind p m.predecessor r
+precedes-predecessor f Kind p n (precedes_further {m = m} held kind at r) = precedes-predecessor f Kind p
+    m.predecessor r
 
--- of what was reached from predecessors that are so the current ones are those that such a one precedes: no predecessor is current
-pub reached-current : (s : ReplicaState) (Kind : Fields → Type 0) (P : Node → Type 0) (starts : List Node) (n : Node) → ((p : Node) → Contains starts p ↔ (IsPredecessor (content_of s) p × P p))
-    → (IsReached (IsNext Kind s.markers) starts n × IsCurrent (content_of s) n) ↔ (IsCurrent (content_of s) n × ((p : Node) × P p × Precedes (content_of s) Kind p n))
+-- of what was reached from predecessors that are so the current ones are those that such a one precedes: no predecessor
+-- is current
+pub reached-current : (s : ReplicaState) (Kind : Fields → Type 0) (P : Node → Type 0) (starts : List Node) (n : Node)
+    → ((p : Node) → Contains starts p ↔ (IsPredecessor (content_of s) p × P p))
+    → (IsReached (IsNext Kind s.markers) starts n × IsCurrent (content_of s) n)
+    ↔ (IsCurrent (content_of s) n × ((p : Node) × P p × Precedes (content_of s) Kind p n))
 reached-current s Kind P starts n are = (
   λ h. elim h.0 [
     | inl first ↦ absurd (h.1.1 (h.1.0, ((are n).0 first).0))
     | inr far ↦ (h.1, (far.0, ((are far.0).0 far.1).1, precedes-from_leads s Kind far.0 n far.2))
   ],
-  λ h. (inr (h.1.0, (are h.1.0).1 (precedes-predecessor (content_of s) Kind h.1.0 n h.1.2, h.1.1), leads-from_precedes s Kind h.1.0 n h.1.2), h.0),
+  λ h. (
+    inr (
+      h.1.0,
+      (are h.1.0).1 (precedes-predecessor (content_of s) Kind h.1.0 n h.1.2, h.1.1),
+      leads-from_precedes s
+          Kind h.1.0 n h.1.2,
+    ),
+    h.0,
+  ),
 )

@@ -1,5 +1,6 @@
 -- What is asked of one changeset, in the words of contents.
-use Rattle.std.proofs.Common.{◌≡◌, ◌≢◌, ℕ, Bool, true, false, not, true≢false, List, [], ◌∷◌, length, Option, Some, None, slice_get, Contains, IsTrue, MatchOption, ◌↔◌, refl, sym, ap, subst, ◌∙◌, arith}
+use Rattle.std.proofs.Common.{◌≡◌, ◌≢◌, ℕ, Bool, true, false, not, true≢false, List, [], ◌∷◌, length, Option, Some}
+use Rattle.std.proofs.Common.{None, slice_get, Contains, IsTrue, MatchOption, ◌↔◌, refl, sym, ap, subst, ◌∙◌, arith}
 use Rattle.std.specs.Bool.{◌==◌}
 use Rattle.std.specs.Option.{option_map}
 use Rattle.std.proofs.lemmas.Bool.Decides.{nat_tests}
@@ -25,7 +26,9 @@ use Rattle.hg_replica.specs.Evolution.{HasPhase, IsMutable, IsPredecessor}
 use Rattle.hg_replica.proofs.MarkerLemmas.{holds-from, in_from_holds}
 
 -- the phase that was told
-pub told_phase : (s : ReplicaState) → IsValid s → (n : Node) (o : Option Phase) → MatchOption o (¬ (Holds s.history n)) (IsPhaseOf s.history n) → MatchOption o (¬ (IsHeld (content_of s).0 n)) (HasPhase (content_of s) n)
+pub told_phase : (s : ReplicaState) → IsValid s → (n : Node) (o : Option Phase)
+    → MatchOption o (¬ (Holds s.history n)) (IsPhaseOf s.history n)
+    → MatchOption o (¬ (IsHeld (content_of s).0 n)) (HasPhase (content_of s) n)
 told_phase s v n None missing = λ held. missing (node_in_content s.history v.graph n held)
 told_phase s v n (Some k) h = (h.0, content-held s.history v.graph n h.0 h.1 h.2, h.3)
 
@@ -56,13 +59,17 @@ isnt_so true A so = (λ h. absurd (true≢false (sym h)), λ not. absurd (not (s
 isnt_so false A so = (λ h a. true≢false (sym (so.1 a)), λ not. refl)
 
 -- the places tell whether there is a marker
-pub told_predecessor : (s : ReplicaState) (n : Node) (ms : List Fields) (places : List ℕ) (b : Bool) → ms ≡ s.markers → ArePlaces (λ m. m.predecessor ≡ n) ms places → b ≡ (length places == 0) → IsTrue (not b) ↔ IsPredecessor (content_of s) n
+pub told_predecessor : (s : ReplicaState) (n : Node) (ms : List Fields) (places : List ℕ) (b : Bool)
+    → ms ≡ s.markers → ArePlaces (λ m. m.predecessor ≡ n) ms places → b ≡ (length places == 0) → IsTrue (not b)
+    ↔ IsPredecessor (content_of s) n
 told_predecessor s n ms [] b is are e = (
   (λ t. absurd (not_true b t e)),
-  (λ h. let p = place_from_Contains ms h.0 (subst (λ xs. Contains xs h.0) (sym is) (in_from_holds s.markers h.0 h.1)) in absurd (Contains-none p.0 ((are.exact p.0).1 (h.0, p.1, h.2)))),
+  (λ h. let p = place_from_Contains ms h.0 (subst (λ xs. Contains xs h.0) (sym is) (in_from_holds s.markers h.0 h.1)) in
+      absurd (Contains-none p.0 ((are.exact p.0).1 (h.0, p.1, h.2)))),
 )
 told_predecessor s n ms (x ∷ xs) b is are e = (
-  (λ t. let m = (are.exact x).0 (0, omega arith, refl) in (m.0, holds-from s.markers m.0 (subst (λ ys. Contains ys m.0) is (Contains-from_place ms x m.0 m.1)), m.2)),
+  (λ t. let m = (are.exact x).0 (0, omega arith, refl) in
+      (m.0, holds-from s.markers m.0 (subst (λ ys. Contains ys m.0) is (Contains-from_place ms x m.0 m.1)), m.2)),
   (λ h. ap not (e ∙ some_length x xs)),
 )
 
@@ -72,12 +79,24 @@ module _ (s : ReplicaState) (v : IsValid s) (i : ℕ) (n : Node) (at : IsAt (cha
   -- the phase at the node's place is the node's
   pub phase_there : (h : Held) → slice_get s.history.held i ≡ Some h → HasPhase (content_of s) n h.phase
   phase_there h here =
-      let changeset : slice_get (changesets s.history) i ≡ Some h.changeset = slice_get-map (λ (x : Held). x.changeset) s.history.held i ∙ ap (option_map (λ (x : Held). x.changeset)) here in
-      let named : slice_get (nodes (changesets s.history)) i ≡ Some (node_of h.changeset) = slice_get-map node_of (changesets s.history) i ∙ ap (option_map node_of) changeset in
-      (h, content-held s.history v.graph n h (Contains-from_place s.history.held i h here) (same_Some (node_of h.changeset) n (sym named ∙ at)), refl)
+      let changeset : slice_get (changesets s.history) i ≡ Some h.changeset = slice_get-map (λ (x : Held). x.changeset)
+      s.history.held i ∙ ap (option_map (λ (x : Held). x.changeset)) here in
+      let named : slice_get (nodes (changesets s.history)) i ≡ Some (node_of h.changeset) =
+      slice_get-map node_of (changesets s.history) i ∙ ap (option_map node_of) changeset in (
+        h,
+        content-held s.history v.graph n h (Contains-from_place s.history.held i h here)
+            (same_Some (node_of h.changeset) n (sym named ∙ at)),
+        refl,
+      )
 
   pub held_there : (h : Held) × (slice_get s.history.held i ≡ Some h)
-  held_there = slice_get_some s.history.held i (omega (arith, slice_get_within (nodes (changesets s.history)) i n at, length-map (changesets s.history) node_of, length-map s.history.held (λ (x : Held). x.changeset)))
+  held_there = slice_get_some s.history.held i
+      (omega (
+        arith,
+        slice_get_within (nodes (changesets s.history)) i n at,
+        length-map (changesets s.history) node_of,
+        length-map s.history.held (λ (x : Held). x.changeset),
+      ))
 
   -- what isn't public is mutable
   pub mutable_there : ¬ (HasPhase (content_of s) n Public) → IsMutable (content_of s) n

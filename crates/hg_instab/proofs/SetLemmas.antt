@@ -8,7 +8,8 @@ use Rattle.hg_changeset.specs.Node.{node_cmp}
 use Rattle.hg_changeset.proofs.NodeLemmas.{node_cmp_total, node_cmp_exact}
 
 -- the set has the list's nodes
-pub collected : (xs : List Node) (set : BTreeSet Node) → IsFromIterResult node_cmp xs set → (n : Node) → Contains set.keys n ↔ Contains xs n
+pub collected : (xs : List Node) (set : BTreeSet Node) → IsFromIterResult node_cmp xs set → (n : Node)
+    → Contains set.keys n ↔ Contains xs n
 collected xs set made n =
     let iff = btree_set_contains_iff node_cmp_total node_cmp_exact set n in (
       λ h. Contains-from_any (tells_apart node_cmp_exact) n xs (sym (made.0 n) ∙ iff.1 h),

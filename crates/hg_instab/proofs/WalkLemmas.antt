@@ -1,5 +1,7 @@
 -- Steps over markers, and the walk along them.
-use Rattle.std.proofs.Common.{◌≡◌, ℕ, zero, suc, ◌+◌, ◌<◌, ◌≤◌, List, [], ◌∷◌, ◌++◌, length, take, get_or, slice_get, Some, Contains, Bool, true, false, ◌↔◌, ◌⊎◌, inl, inr, refl, sym, ap, subst, ◌∙◌, append_assoc, arith}
+use Rattle.std.proofs.Common.{◌≡◌, ℕ, zero, suc, ◌+◌, ◌<◌, ◌≤◌, List, [], ◌∷◌, ◌++◌, length, take, get_or, slice_get}
+use Rattle.std.proofs.Common.{Some, Contains, Bool, true, false, ◌↔◌, ◌⊎◌, inl, inr, refl, sym, ap, subst, ◌∙◌}
+use Rattle.std.proofs.Common.{append_assoc, arith}
 use Rattle.std.specs.List.{list_any, IsDistinct}
 use Rattle.std.proofs.lemmas.List.{append-nil, take_all}
 use Rattle.std.proofs.lemmas.List.Elements.{Contains-append_left, Contains-append_right, Contains-get_or}
@@ -23,9 +25,14 @@ use Rattle.indexmap.specs.IndexSet.{insert_key}
 -- ---- what is added
 
 pub adds-nothing : (P : Node → Type 0) (xs : List Node) → ((n : Node) → P n → Contains xs n) → Adds P xs xs
-adds-nothing P xs known = record { kept = ([], sym (append-nil xs)); members = λ n. (λ h. inl h, λ h. elim h [ inl old ↦ old | inr p ↦ known n p ]) }
+adds-nothing P xs known =
+    record {
+      kept = ([], sym (append-nil xs));
+      members = λ n. (λ h. inl h, λ h. elim h [ inl old ↦ old | inr p ↦ known n p ]);
+    }
 
-pub adds-then : (P Q R : Node → Type 0) (xs ys zs : List Node) → ((n : Node) → R n ↔ (P n ⊎ Q n)) → Adds P xs ys → Adds Q ys zs → Adds R xs zs
+pub adds-then : (P Q R : Node → Type 0) (xs ys zs : List Node) → ((n : Node) → R n ↔ (P n ⊎ Q n)) → Adds P xs ys
+    → Adds Q ys zs → Adds R xs zs
 adds-then P Q R xs ys zs joins a b = record {
   kept = (a.kept.0 ++ b.kept.0, b.kept.1 ∙ ap (λ l. l ++ b.kept.0) a.kept.1 ∙ append_assoc xs a.kept.0 b.kept.0);
   members = λ n. (
@@ -56,14 +63,24 @@ adds-one xs ys x is = by (list_any (node_eq x) xs) refl
     by : (b : Bool) → list_any (node_eq x) xs ≡ b → Adds (λ n. x ≡ n) xs ys
     by true e =
         let same : ys ≡ xs = is ∙ rw e refl in
-        subst (Adds (λ n. x ≡ n) xs) (sym same) (adds-nothing (λ n. x ≡ n) xs (λ n at. subst (Contains xs) at (Contains-from_any same_node x xs e)))
+        subst (Adds (λ n. x ≡ n) xs) (sym same)
+        (adds-nothing (λ n. x ≡ n) xs (λ n at. subst (Contains xs) at (Contains-from_any same_node x xs e)))
     by false e =
         let same : ys ≡ xs ++ x ∷ [] = is ∙ rw e refl in
-        record { kept = (x ∷ [], same); members = λ n. (λ h. (Contains-pushed xs x n).0 (subst (λ zs. Contains zs n) same h), λ h. subst (λ zs. Contains zs n) (sym same) ((Contains-pushed xs x n).1 h)) }
+        record {
+          kept = (x ∷ [], same);
+          members = λ n. (
+            λ h. (Contains-pushed xs x n).0 (subst (λ zs. Contains zs n) same h),
+            λ h. subst (λ zs. Contains zs n) (sym same) ((Contains-pushed xs x n).1 h),
+          );
+        }
 
 -- the nodes up to one more
-pub adds-more : (nodes : List Node) (i : ℕ) (x : Node) (xs ys zs : List Node) → i < length nodes → get_or nodes i x ≡ x → Adds (Contains (take i nodes)) xs ys → zs ≡ insert_key node_eq ys x → Adds (Contains (take (i + 1) nodes)) xs zs
-adds-more nodes i x xs ys zs l at before is = adds-then (Contains (take i nodes)) (λ n. x ≡ n) (Contains (take (i + 1) nodes)) xs ys zs (λ n. Contains-taken nodes i x n l at) before (adds-one ys zs x is)
+pub adds-more : (nodes : List Node) (i : ℕ) (x : Node) (xs ys zs : List Node) → i < length nodes
+    → get_or nodes i x ≡ x → Adds (Contains (take i nodes)) xs ys → zs ≡ insert_key node_eq ys x
+    → Adds (Contains (take (i + 1) nodes)) xs zs
+adds-more nodes i x xs ys zs l at before is = adds-then (Contains (take i nodes)) (λ n. x ≡ n)
+    (Contains (take (i + 1) nodes)) xs ys zs (λ n. Contains-taken nodes i x n l at) before (adds-one ys zs x is)
 
 -- what stood first still does
 take-front : (k : ℕ) (xs more : List Node) → k ≤ length xs → take k (xs ++ more) ≡ take k xs
@@ -71,17 +88,21 @@ take-front zero xs more le = refl
 take-front (suc k) [] more le = absurd (omega (arith, le))
 take-front (suc k) (y ∷ xs) more le = ap (λ l. y ∷ l) (take-front k xs more (omega (arith, le)))
 
-pub front-kept : (xs ys : List Node) (k : ℕ) → (more : List Node) × (ys ≡ xs ++ more) → k ≤ length xs → take k ys ≡ take k xs
+pub front-kept : (xs ys : List Node) (k : ℕ) → (more : List Node) × (ys ≡ xs ++ more) → k ≤ length xs
+    → take k ys ≡ take k xs
 front-kept xs ys k kept le = ap (take k) kept.1 ∙ take-front k xs kept.0 le
 
 -- ---- one step
 
 -- a marker of this kind, at one of the places, has n as a successor
 abbrev pub IsNextAt : (Fields → Type 0) → List Fields → List ℕ → Node → Type 0
-IsNextAt Kind ms places n = (k : ℕ) × Contains places k × (m : Fields) × (slice_get ms k ≡ Some m) × Kind m × Contains m.successors n
+IsNextAt Kind ms places n = (k : ℕ) × Contains places k × (m : Fields) × (slice_get ms k ≡ Some m) × Kind m
+    × Contains m.successors n
 
-pub next-more : (Kind : Fields → Type 0) (ms : List Fields) (places : List ℕ) (i k : ℕ) (m : Fields) → i < length places → get_or places i k ≡ k → slice_get ms k ≡ Some m → (n : Node)
-    → IsNextAt Kind ms (take (i + 1) places) n ↔ (IsNextAt Kind ms (take i places) n ⊎ (Kind m × Contains m.successors n))
+pub next-more : (Kind : Fields → Type 0) (ms : List Fields) (places : List ℕ) (i k : ℕ) (m : Fields) → i < length places
+    → get_or places i k ≡ k → slice_get ms k ≡ Some m → (n : Node)
+    → IsNextAt Kind ms (take (i + 1) places) n
+    ↔ (IsNextAt Kind ms (take i places) n ⊎ (Kind m × Contains m.successors n))
 next-more Kind ms places i k m l is at n = (
   λ h. elim ((Contains-taken places i k h.0 l is).0 h.1) [
     | inl old ↦ inl (h.0, old, h.2, h.3, h.4, h.5)
@@ -95,7 +116,8 @@ next-more Kind ms places i k m l is at n = (
   ],
 )
 
-pub next-all : (Kind : Fields → Type 0) (ms : List Fields) (places : List ℕ) (p n : Node) → ArePlaces (λ m. m.predecessor ≡ p) ms places → IsNext Kind ms p n ↔ IsNextAt Kind ms places n
+pub next-all : (Kind : Fields → Type 0) (ms : List Fields) (places : List ℕ) (p n : Node)
+    → ArePlaces (λ m. m.predecessor ≡ p) ms places → IsNext Kind ms p n ↔ IsNextAt Kind ms places n
 next-all Kind ms places p n are = (
   λ h. let k = place_from_Contains ms h.0 h.1 in (k.0, (are.exact k.0).1 (h.0, k.1, h.2), h.0, k.1, h.3, h.4),
   λ h.
@@ -110,7 +132,8 @@ next-all Kind ms places p n are = (
 abbrev pub IsBeforeAt : List Fields → List ℕ → Node → Type 0
 IsBeforeAt ms places n = (k : ℕ) × Contains places k × (m : Fields) × (slice_get ms k ≡ Some m) × (m.predecessor ≡ n)
 
-pub before-more : (ms : List Fields) (places : List ℕ) (i k : ℕ) (m : Fields) → i < length places → get_or places i k ≡ k → slice_get ms k ≡ Some m → (n : Node)
+pub before-more : (ms : List Fields) (places : List ℕ) (i k : ℕ) (m : Fields) → i < length places
+    → get_or places i k ≡ k → slice_get ms k ≡ Some m → (n : Node)
     → IsBeforeAt ms (take (i + 1) places) n ↔ (IsBeforeAt ms (take i places) n ⊎ (m.predecessor ≡ n))
 before-more ms places i k m l is at n = (
   λ h. elim ((Contains-taken places i k h.0 l is).0 h.1) [
@@ -125,7 +148,8 @@ before-more ms places i k m l is at n = (
   ],
 )
 
-pub before-all : (ms : List Fields) (places : List ℕ) (p n : Node) → ArePlaces (λ m. Contains m.successors p) ms places → IsBefore ms p n ↔ IsBeforeAt ms places n
+pub before-all : (ms : List Fields) (places : List ℕ) (p n : Node) → ArePlaces (λ m. Contains m.successors p) ms places
+    → IsBefore ms p n ↔ IsBeforeAt ms places n
 before-all ms places p n are = (
   λ h. let k = place_from_Contains ms h.0 h.1 in (k.0, (are.exact k.0).1 (h.0, k.1, h.2), h.0, k.1, h.3),
   λ h.
@@ -141,17 +165,23 @@ abbrev pub ids : List Fields → List Node
 ids [] = []
 ids (m ∷ ms) = (m.predecessor ∷ m.successors) ++ ids ms
 
-named : (ms : List Fields) (m : Fields) (n : Node) → Contains ms m → Contains (m.predecessor ∷ m.successors) n → Contains (ids ms) n
+named : (ms : List Fields) (m : Fields) (n : Node) → Contains ms m → Contains (m.predecessor ∷ m.successors) n
+    → Contains (ids ms) n
 named [] m n at h = absurd (Contains-none m at)
 named (x ∷ ms) m n at h = elim (Contains-cons_cases x ms m at) [
-  | inl e ↦ Contains-append_left (x.predecessor ∷ x.successors) (ids ms) n (subst (λ y. Contains (y.predecessor ∷ y.successors) n) (sym e) h)
+  | inl e ↦ Contains-append_left (x.predecessor ∷ x.successors) (ids ms) n
+      (subst (λ y. Contains (y.predecessor ∷ y.successors) n) (sym e) h)
   | inr more ↦ Contains-append_right (x.predecessor ∷ x.successors) (ids ms) n (named ms m n more h)
 ]
 
 -- a step leads to what a marker names
 step-named : (way : Way) (ms : List Fields) (p n : Node) → IsStep way ms p n → Contains (ids ms) n
-step-named (ToSuccessors followed) ms p n h = named ms h.0 n h.1 (Contains-append_right (h.0.predecessor ∷ []) h.0.successors n h.4)
-step-named ToPredecessors ms p n h = named ms h.0 n h.1 (Contains-append_left (h.0.predecessor ∷ []) h.0.successors n (subst (Contains (h.0.predecessor ∷ [])) h.3 (0, omega arith, refl)))
+step-named (ToSuccessors followed) ms p n h =
+    named ms h.0 n h.1 (Contains-append_right (h.0.predecessor ∷ []) h.0.successors n h.4)
+step-named ToPredecessors ms p n h =
+    named ms h.0 n h.1
+    (Contains-append_left (h.0.predecessor ∷ []) h.0.successors n
+    (subst (Contains (h.0.predecessor ∷ [])) h.3 (0, omega arith, refl)))
 
 -- how far the walk has come: from the first i of those that were seen, all that a step leads to was seen
 pub record IsWalked (Step : Node → Node → Type 0) (starts seen : List Node) (i : ℕ) : Type 0 where
@@ -175,7 +205,9 @@ module _ (way : Way) (ms : List Fields) (starts : List Node) where
   reached-next p n (inl first) next = inr (p, first, one next)
   reached-next p n (inr far) next = inr (far.0, far.1, further far.2 next)
 
-  pub walk-step : (seen new : List Node) (i : ℕ) (x : Node) → i < length seen → get_or seen i x ≡ x → IsWalked (IsStep way ms) starts seen i → Adds (IsStep way ms x) seen new → IsWalked (IsStep way ms) starts new (i + 1)
+  pub walk-step : (seen new : List Node) (i : ℕ) (x : Node) → i < length seen
+      → get_or seen i x ≡ x → IsWalked (IsStep way ms) starts seen i → Adds (IsStep way ms x) seen new
+      → IsWalked (IsStep way ms) starts new (i + 1)
   walk-step seen new i x l at w a = record {
     sound = λ n h. elim ((a.members n).0 h) [
       | inl old ↦ w.sound n old
@@ -183,7 +215,8 @@ module _ (way : Way) (ms : List Fields) (starts : List Node) where
     ];
     begun = λ n h. (a.members n).1 (inl (w.begun n h));
     closed = λ p n h next.
-        let before : Contains (take (i + 1) seen) p = subst (λ zs. Contains zs p) (front-kept seen new (i + 1) a.kept (omega (arith, l))) h in
+        let before : Contains (take (i + 1) seen) p = subst (λ zs. Contains zs p)
+        (front-kept seen new (i + 1) a.kept (omega (arith, l))) h in
         (a.members n).1 (elim ((Contains-taken seen i x p l at).0 before) [
           | inl old ↦ inl (w.closed p n old next)
           | inr e ↦ inr (subst (λ y. Step y n) (sym e) next)
@@ -191,8 +224,11 @@ module _ (way : Way) (ms : List Fields) (starts : List Node) where
   }
 
   -- all that was seen is a start, or named by a marker, so the walk ends
-  pub walk-within : (seen : List Node) (i : ℕ) → IsWalked (IsStep way ms) starts seen i → IsDistinct node_eq seen → length seen ≤ length (starts ++ ids ms)
-  walk-within seen i w distinct = length-le_from_is_member node_eq_laws seen (starts ++ ids ms) distinct (λ q e. list_any-from_Contains node_eq_laws q (starts ++ ids ms) (reached-named q (w.sound q (Contains-from_any same_node q seen e))))
+  pub walk-within : (seen : List Node) (i : ℕ) → IsWalked (IsStep way ms) starts seen i → IsDistinct node_eq seen
+      → length seen ≤ length (starts ++ ids ms)
+  walk-within seen i w distinct = length-le_from_is_member node_eq_laws seen (starts ++ ids ms) distinct
+      (λ q e. list_any-from_Contains node_eq_laws q (starts ++ ids ms)
+      (reached-named q (w.sound q (Contains-from_any same_node q seen e))))
     where
       leads-named : (p n : Node) → Leads Step p n → Contains (ids ms) n
       leads-named p n (one next) = step-named way ms p n next

@@ -2,7 +2,8 @@
 use Rattle.std.specs.Prelude.{◌↔◌, List, Contains}
 use Rattle.hg_changeset.specs.declared.node.Node.{Node}
 use Rattle.hg_replica.specs.Content.{Content}
-use Rattle.hg_replica.specs.Evolution.{IsObsolete, IsCurrent, IsOrphan, IsSuspended, IsExtinct, IsPhaseDivergent, Precedes}
+use Rattle.hg_replica.specs.Evolution.{IsObsolete, IsCurrent, IsOrphan, IsSuspended, IsExtinct, IsPhaseDivergent}
+use Rattle.hg_replica.specs.Evolution.{Precedes}
 use Rattle.hg_succ.specs.Successors.{IsAny, HasSeveral}
 
 -- neither public nor obsolete, though what precedes it, over any markers, has several successors sets or is overfull

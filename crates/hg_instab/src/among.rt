@@ -30,7 +30,8 @@ pub(crate) fn obsolete_among(
     replica: &Replica,
     nodes: &[Node],
 ) -> Result<Vec<Node>, AllocError>
-    ensures { IfOk result (λ found. (n : Node) → Contains found.items n ↔ (Contains nodes.now n × IsObsolete (content_of replica.now) n)) }
+    ensures { IfOk result (λ found. (n : Node) → Contains found.items n
+        ↔ (Contains nodes.now n × IsObsolete (content_of replica.now) n)) }
 {
     among(
         alloc,
@@ -47,7 +48,8 @@ pub(crate) fn current_among(
     replica: &Replica,
     nodes: &[Node],
 ) -> Result<Vec<Node>, AllocError>
-    ensures { IfOk result (λ found. (n : Node) → Contains found.items n ↔ (Contains nodes.now n × IsCurrent (content_of replica.now) n)) }
+    ensures { IfOk result (λ found. (n : Node) → Contains found.items n
+        ↔ (Contains nodes.now n × IsCurrent (content_of replica.now) n)) }
 {
     among(
         alloc,
@@ -64,7 +66,8 @@ pub(crate) fn outside(
     nodes: &[Node],
     set: &BTreeSet<Node>,
 ) -> Result<Vec<Node>, AllocError>
-    ensures { IfOk result (λ found. (n : Node) → Contains found.items n ↔ (Contains nodes.now n × ¬ (Contains set.now.keys n))) }
+    ensures { IfOk result (λ found. (n : Node) → Contains found.items n
+        ↔ (Contains nodes.now n × ¬ (Contains set.now.keys n))) }
 {
     among(alloc, nodes, |node| is_missing(set, node))
 }
@@ -82,7 +85,8 @@ fn among<F: Fn(Node) -> bool>(
     test: F,
 ) -> Result<Vec<Node>, AllocError>
     requires { F.IsAlwaysCallable test }
-    ensures { IfOk result (λ found. (n : Node) → (Contains found.items n → Contains nodes.now n × F.post test n true) × (Contains nodes.now n → Contains found.items n ⊎ F.post test n false)) }
+    ensures { IfOk result (λ found. (n : Node) → (Contains found.items n → Contains nodes.now n × F.post test n true)
+        × (Contains nodes.now n → Contains found.items n ⊎ F.post test n false)) }
 {
     let mut found = Vec::new(alloc);
     for node in nodes {

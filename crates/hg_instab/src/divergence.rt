@@ -1,6 +1,7 @@
 //! What a rewriting of something public, or two rewritings of one changeset, leave unstable.
 //!
-//! Both are looked for from where they begin: from the predecessors of markers that are so, a walk goes on to successors.
+//! Both are looked for from where they begin: from the predecessors of markers that are so, a walk goes on to
+//! successors.
 ghost use Rattle.std.specs.Prelude.{◌≡◌, ◌↔◌, Contains, IfOk};
 ghost use Rattle.hg_changeset.specs.declared.node.Node.{Node};
 ghost use Rattle.hg_phases.specs.declared.phase.Phase.TheVariants.{Public as public_phase};
@@ -39,7 +40,8 @@ pub(crate) fn phase_divergent_nodes(
 
 // The predecessors of markers that are public.
 fn public_predecessors(alloc: Global, replica: &Replica) -> Result<IndexSet<Node>, AllocError>
-    ensures { IfOk result (λ seen. (n : Node) → Contains seen.keys n ↔ (IsPredecessor (content_of replica.now) n × HasPhase (content_of replica.now) n public_phase)) }
+    ensures { IfOk result (λ seen. (n : Node) → Contains seen.keys n
+        ↔ (IsPredecessor (content_of replica.now) n × HasPhase (content_of replica.now) n public_phase)) }
 {
     let mut seen = IndexSet::new(alloc);
     for marker in replica.store().markers() {
@@ -56,17 +58,20 @@ pub(crate) fn content_divergent_nodes(
     alloc: Global,
     replica: &Replica,
 ) -> Result<Vec<Node>, AllocError>
-    ensures { IfOk result (λ found. (n : Node) → Contains found.items n ↔ IsContentDivergent (content_of replica.now) n) }
+    ensures { IfOk result (λ found. (n : Node) → Contains found.items n
+        ↔ IsContentDivergent (content_of replica.now) n) }
 {
     let starts = divided_predecessors(alloc, replica)?;
     let led_to = reached(replica.store(), Way::ToSuccessors(Followed::Every), starts)?;
     current_among(alloc, replica, led_to.as_slice())
 }
 
-// The predecessors of markers that became different changesets with the markers that are followed. Nothing is asked of ids
+// The predecessors of markers that became different changesets with the markers that are followed. Nothing is asked of
+// ids
 // that don't lead to one with two markers.
 fn divided_predecessors(alloc: Global, replica: &Replica) -> Result<IndexSet<Node>, AllocError>
-    ensures { IfOk result (λ divided. (n : Node) → Contains divided.keys n ↔ (IsPredecessor (content_of replica.now) n × HasSeveral (content_of replica.now) n)) }
+    ensures { IfOk result (λ divided. (n : Node) → Contains divided.keys n
+        ↔ (IsPredecessor (content_of replica.now) n × HasSeveral (content_of replica.now) n)) }
 {
     let forks = forks(alloc, replica.store())?;
     let asked = reached(replica.store(), Way::ToPredecessors, forks)?;

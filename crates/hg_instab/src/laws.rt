@@ -8,10 +8,16 @@ ghost use Rattle.hg_instab.specs.Instabilities.{IsContentDivergent};
 
 /// States that are below each other have the same instabilities, in whatever order each keeps what it holds.
 pub fn states_of_one_content_have_the_same_instabilities()
-    ensures obsolete { (s t : ReplicaState) (n : Node) → IsValid s → IsValid t → IsSameState s t → (IsObsolete (content_of s) n ↔ IsObsolete (content_of t) n) }
-    ensures orphan { (s t : ReplicaState) (n : Node) → IsValid s → IsValid t → IsSameState s t → (IsOrphan (content_of s) n ↔ IsOrphan (content_of t) n) }
-    ensures suspended { (s t : ReplicaState) (n : Node) → IsValid s → IsValid t → IsSameState s t → (IsSuspended (content_of s) n ↔ IsSuspended (content_of t) n) }
-    ensures extinct { (s t : ReplicaState) (n : Node) → IsValid s → IsValid t → IsSameState s t → (IsExtinct (content_of s) n ↔ IsExtinct (content_of t) n) }
-    ensures phase_divergent { (s t : ReplicaState) (n : Node) → IsValid s → IsValid t → IsSameState s t → (IsPhaseDivergent (content_of s) n ↔ IsPhaseDivergent (content_of t) n) }
-    ensures content_divergent { (s t : ReplicaState) (n : Node) → IsValid s → IsValid t → IsSameState s t → (IsContentDivergent (content_of s) n ↔ IsContentDivergent (content_of t) n) }
+    ensures obsolete { (s t : ReplicaState) (n : Node) → IsValid s → IsValid t → IsSameState s t
+        → (IsObsolete (content_of s) n ↔ IsObsolete (content_of t) n) }
+    ensures orphan { (s t : ReplicaState) (n : Node) → IsValid s → IsValid t → IsSameState s t
+        → (IsOrphan (content_of s) n ↔ IsOrphan (content_of t) n) }
+    ensures suspended { (s t : ReplicaState) (n : Node) → IsValid s → IsValid t → IsSameState s t
+        → (IsSuspended (content_of s) n ↔ IsSuspended (content_of t) n) }
+    ensures extinct { (s t : ReplicaState) (n : Node) → IsValid s → IsValid t → IsSameState s t
+        → (IsExtinct (content_of s) n ↔ IsExtinct (content_of t) n) }
+    ensures phase_divergent { (s t : ReplicaState) (n : Node) → IsValid s → IsValid t → IsSameState s t
+        → (IsPhaseDivergent (content_of s) n ↔ IsPhaseDivergent (content_of t) n) }
+    ensures content_divergent { (s t : ReplicaState) (n : Node) → IsValid s → IsValid t → IsSameState s t
+        → (IsContentDivergent (content_of s) n ↔ IsContentDivergent (content_of t) n) }
 {}

@@ -30,7 +30,8 @@ pub fn is_obsolete(replica: &Replica, node: Node) -> bool
 
 /// Whether the changeset at a place of the graph has this phase. It takes no look-up.
 pub fn has_phase_at(replica: &Replica, place: usize, phase: Phase) -> bool
-    ensures { (n : Node) → IsAt (changesets replica.now.history) n place → (IsTrue result ↔ HasPhase (content_of replica.now) n phase) }
+    ensures { (n : Node) → IsAt (changesets replica.now.history) n place
+        → (IsTrue result ↔ HasPhase (content_of replica.now) n phase) }
 {
     // It says that the replica is in a valid state.
     let _graph = replica.graph();
@@ -46,10 +47,12 @@ fn is_same(its: Phase, phase: Phase) -> bool
     its == phase
 }
 
-/// Whether the changeset at a place of the graph is obsolete. It takes no look-up by a hash, unless it isn't public and no
+/// Whether the changeset at a place of the graph is obsolete. It takes no look-up by a hash, unless it isn't public and
+/// no
 /// marker names it.
 pub fn is_obsolete_at(replica: &Replica, place: usize) -> bool
-    ensures { (n : Node) → IsAt (changesets replica.now.history) n place → (IsTrue result ↔ IsObsolete (content_of replica.now) n) }
+    ensures { (n : Node) → IsAt (changesets replica.now.history) n place
+        → (IsTrue result ↔ IsObsolete (content_of replica.now) n) }
 {
     match replica.graph().node_at(place) {
         Some(node) => {

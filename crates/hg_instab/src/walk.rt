@@ -1,6 +1,7 @@
 //! Steps over markers, from some ids to what they were rewritten to, or back to what was rewritten to them.
 //!
-//! The ids that steps lead to need not be held. They are numbered in a set that is its own queue: each is looked at once,
+//! The ids that steps lead to need not be held. They are numbered in a set that is its own queue: each is looked at
+//! once,
 //! and so is each marker.
 ghost use Rattle.std.specs.Prelude.{◌≡◌, ◌↔◌, Contains, IfOk, OnOk, IsTrue};
 ghost use Rattle.hg_changeset.specs.declared.node.Node.{Node};
@@ -99,7 +100,8 @@ fn add_successors(
 
 // Adds the successors of a marker, if it is one that is followed.
 fn follow(marker: &Marker, followed: Followed, seen: &mut IndexSet<Node>) -> Result<(), AllocError>
-    ensures { OnOk result (Adds (λ n. IsFollowed followed marker.now × Contains marker.now.successors n) seen.old.keys seen.new.keys) }
+    ensures { OnOk result (Adds (λ n. IsFollowed followed marker.now × Contains marker.now.successors n) seen.old.keys
+        seen.new.keys) }
 {
     if is_followed(marker, followed) {
         return add_all(seen, marker.successors());

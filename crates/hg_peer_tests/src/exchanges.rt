@@ -17,7 +17,8 @@ type PeerAnswer = Answer<Change, PeerRefusal, Fault>;
 /// The draft root with the description `a`, of user `fleet` at `0 0`; its id was computed outside.
 const A: &[u8] = b"f96ca39738e6588d0bf7020cd1d44a23774c1b77";
 
-/// What an answer tells: how many changesets were added and lowered and how many markers are new, which number a message
+/// What an answer tells: how many changesets were added and lowered and how many markers are new, which number a
+/// message
 /// has, or why the event was refused.
 #[derive(Clone, Copy, Debug, PartialEq, Eq)]
 enum Outcome {

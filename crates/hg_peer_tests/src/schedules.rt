@@ -55,7 +55,8 @@ impl Schedule {
         })
     }
 
-    /// Runs one event. An accepted one is heard, an offered message is kept; `None` where an answer is none of those that
+    /// Runs one event. An accepted one is heard, an offered message is kept; `None` where an answer is none of those
+    /// that
     /// the states before allow, or memory ran out.
     fn run(&mut self, event: PeerEvent) -> Option<()> {
         let part = self.part_of(&event);

@@ -16,7 +16,8 @@ struct Plain {
     parent: usize,
 }
 
-// The marker with this number, of 20: its node was pruned, recording no parent or one of the two next to it, or rewritten to
+// The marker with this number, of 20: its node was pruned, recording no parent or one of the two next to it, or
+// rewritten to
 // the next one, or split into the other two.
 fn numbered(number: usize) -> Plain {
     let predecessor = number % 4;
@@ -56,7 +57,8 @@ fn touches_any(marker: &Plain, wanted: &[bool; 5]) -> bool {
     false
 }
 
-// Which of the markers are relevant to the node. A chain of different markers has at most three, so three rounds are enough.
+// Which of the markers are relevant to the node. A chain of different markers has at most three, so three rounds are
+// enough.
 fn told(markers: &[Plain; 3], one: usize) -> [bool; 3] {
     let mut wanted = [false; 5];
     wanted[one % 4] = true;

@@ -83,7 +83,8 @@ fn a_hint_leads_to_what_names_a_changeset(rt: HostRuntime) {
     assert!(rt; mentions.as_predecessor() == [0usize].as_slice());
 }
 
-// The part has a child of the root and a marker on it, and then a changeset of an unknown parent; and it publishes the root.
+// The part has a child of the root and a marker on it, and then a changeset of an unknown parent; and it publishes the
+// root.
 #[test]
 fn a_refused_part_changes_nothing(rt: HostRuntime) {
     let alloc = rt.alloc();

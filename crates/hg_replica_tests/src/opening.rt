@@ -7,7 +7,8 @@ use hg_phases::{Phase, Roots};
 use hg_replica::{Fault, Replica};
 use std::alloc::Global;
 
-// Each changeset has the highest listed phase of its own and its ancestors', in either order, and is public without one.
+// Each changeset has the highest listed phase of its own and its ancestors', in either order, and is public without
+// one.
 // A root that isn't held is dropped.
 #[test]
 fn the_highest_listed_phase_counts(rt: HostRuntime) {

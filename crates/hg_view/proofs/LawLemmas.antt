@@ -17,7 +17,8 @@ leads-along f a n d up (below {p = p} r e is) = below (leads-along f a n p up r)
 -- what is led to from what is held is held
 leads-held : (f : HistoryContent) → IsValidHistory f → (a n : Node) → Leads f a n → IsHeld f n → IsHeld f a
 leads-held f v a n itself held = held
-leads-held f v a n (below {p = p} {h = h} r e is) held = let parent = v.parents n h p e is in leads-held f v a p r (parent.0, parent.1)
+leads-held f v a n (below {p = p} {h = h} r e is) held = let parent = v.parents n h p e is in
+    leads-held f v a p r (parent.0, parent.1)
 
 pub visible-above : (f : Content) (a n : Node) → IsVisible f n → Leads f.0 a n → IsVisible f a
 visible-above f a n v up = (v.0, v.1, leads-along f.0 a n v.0 up v.2)

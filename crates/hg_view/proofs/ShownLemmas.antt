@@ -1,5 +1,6 @@
 -- The walk from a changeset to what stands on it.
-use Rattle.std.proofs.Common.{◌≡◌, ℕ, ◌+◌, ◌<◌, ◌≤◌, List, [], length, take, get_or, slice_get, Contains, ◌↔◌, ◌⊎◌, inl, inr, refl, sym, ap, subst, ◌∙◌, arith}
+use Rattle.std.proofs.Common.{◌≡◌, ℕ, ◌+◌, ◌<◌, ◌≤◌, List, [], length, take, get_or, slice_get, Contains, ◌↔◌, ◌⊎◌, inl}
+use Rattle.std.proofs.Common.{inr, refl, sym, ap, subst, ◌∙◌, arith}
 use Rattle.std.specs.List.{IsDistinct}
 use Rattle.std.proofs.lemmas.List.{take_all}
 use Rattle.std.proofs.lemmas.List.Elements.{Contains-get_or}
@@ -30,21 +31,32 @@ use Rattle.hg_instab.proofs.WalkLemmas.{front-kept}
 use Rattle.hg_view.specs.Shown.{IsChild, IsAtOne}
 
 -- one place more
-pub at-more : (cs : List Contents) (places : List ℕ) (i k : ℕ) (x : Node) → i < length places → get_or places i k ≡ k → IsAt cs x k → (n : Node) → IsAtOne cs (take (i + 1) places) n ↔ (IsAtOne cs (take i places) n ⊎ (x ≡ n))
+pub at-more : (cs : List Contents) (places : List ℕ) (i k : ℕ) (x : Node) → i < length places
+    → get_or places i k ≡ k → IsAt cs x k → (n : Node) → IsAtOne cs (take (i + 1) places) n
+    ↔ (IsAtOne cs (take i places) n ⊎ (x ≡ n))
 at-more cs places i k x l is at n = (
-  λ h. elim ((Contains-taken places i k h.0 l is).0 h.1) [ inl old ↦ inl (h.0, old, h.2) | inr e ↦ inr (same_Some x n (sym at ∙ ap (slice_get (nodes cs)) e ∙ h.2)) ],
-  λ h. elim h [ inl old ↦ (old.0, (Contains-taken places i k old.0 l is).1 (inl old.1), old.2) | inr e ↦ (k, (Contains-taken places i k k l is).1 (inr refl), subst (λ m. IsAt cs m k) e at) ],
+  λ h. elim ((Contains-taken places i k h.0 l is).0 h.1)
+      [ inl old ↦ inl (h.0, old, h.2) | inr e ↦ inr (same_Some x n (sym at ∙ ap (slice_get (nodes cs)) e ∙ h.2)) ],
+  λ h. elim h [
+    | inl old ↦ (old.0, (Contains-taken places i k old.0 l is).1 (inl old.1), old.2)
+    | inr e ↦
+        (k, (Contains-taken places i k k l is).1 (inr refl), subst (λ m. IsAt cs m k) e at)
+  ],
 )
 
 -- nothing stands at a place beyond the graph
-pub at-nothing : (cs : List Contents) (places : List ℕ) (i k : ℕ) → i < length places → get_or places i k ≡ k → ((x : Node) → IsAt cs x k → ⊥) → (n : Node) → IsAtOne cs (take (i + 1) places) n ↔ IsAtOne cs (take i places) n
+pub at-nothing : (cs : List Contents) (places : List ℕ) (i k : ℕ) → i < length places
+    → get_or places i k ≡ k → ((x : Node) → IsAt cs x k → ⊥) → (n : Node) → IsAtOne cs (take (i + 1) places) n
+    ↔ IsAtOne cs (take i places) n
 at-nothing cs places i k l is none n = (
-  λ h. elim ((Contains-taken places i k h.0 l is).0 h.1) [ inl old ↦ (h.0, old, h.2) | inr e ↦ absurd (none n (ap (slice_get (nodes cs)) e ∙ h.2)) ],
+  λ h. elim ((Contains-taken places i k h.0 l is).0 h.1)
+      [ inl old ↦ (h.0, old, h.2) | inr e ↦ absurd (none n (ap (slice_get (nodes cs)) e ∙ h.2)) ],
   λ h. (h.0, (Contains-taken places i k h.0 l is).1 (inl h.1), h.2),
 )
 
 -- the children stand at the places of children
-pub children-at : (cs : List Contents) (p : Node) (place : ℕ) (places : List ℕ) → IsOnlyAt cs p place → ((k : ℕ) → Contains places k ↔ IsParentPlace cs k place) → (n : Node) → IsChild cs p n ↔ IsAtOne cs places n
+pub children-at : (cs : List Contents) (p : Node) (place : ℕ) (places : List ℕ) → IsOnlyAt cs p place
+    → ((k : ℕ) → Contains places k ↔ IsParentPlace cs k place) → (n : Node) → IsChild cs p n ↔ IsAtOne cs places n
 children-at cs p place places only are n = (
   λ h.
       let k = place_from_Contains cs h.0 h.1 in
@@ -64,10 +76,12 @@ childless cs graph p missing n child =
     missing (Holds-taken cs k.0 p (graph.parents_first k.0 child.0 k.1 p child.3))
 
 -- one that isn't obsolete is visible where it is held
-pub current-visible : (s : ReplicaState) → IsValid s → (n : Node) → ¬ (IsObsolete (content_of s) n) → Holds (changesets s.history) n ↔ IsVisible (content_of s) n
+pub current-visible : (s : ReplicaState) → IsValid s → (n : Node) → ¬ (IsObsolete (content_of s) n)
+    → Holds (changesets s.history) n ↔ IsVisible (content_of s) n
 current-visible s valid n not = (
   λ held. (n, (content-node s.history valid.graph n held, not), leads_itself),
-  λ v. Holds-reaching (changesets s.history) (reach_from_leads s.history valid.graph n v.0 (node_in_content s.history valid.graph v.0 v.1.0) v.2),
+  λ v. Holds-reaching (changesets s.history)
+      (reach_from_leads s.history valid.graph n v.0 (node_in_content s.history valid.graph v.0 v.1.0) v.2),
 )
 
 -- how far the walk has come: of the first i that were met all are obsolete, and their children were met
@@ -78,17 +92,24 @@ pub record IsSearched (s : ReplicaState) (start : Node) (met : List Node) (i : �
   pub obsolete : (p : Node) → Contains (take i met) p → IsObsolete (content_of s) p
 
 module _ (s : ReplicaState) (valid : IsValid s) (start : Node) where
-  pub search-start : (met : List Node) → IsObsolete (content_of s) start → Adds (λ n. start ≡ n) [] met → IsSearched s start met 0
+  pub search-start : (met : List Node) → IsObsolete (content_of s) start → Adds (λ n. start ≡ n) [] met
+      → IsSearched s start met 0
   search-start met o a =
       let held = node_in_content s.history valid.graph start (o.0.0, o.0.1) in
       record {
-        sound = λ n h. elim ((a.members n).0 h) [ inl none ↦ absurd (Contains-none n none) | inr e ↦ subst (Reaches (changesets s.history) start) e (itself held) ];
+        sound = λ n h. elim ((a.members n).0 h) [
+          | inl none ↦ absurd (Contains-none n none)
+          | inr e ↦ subst (Reaches (changesets s.history) start) e
+              (itself held)
+        ];
         begun = (a.members start).1 (inr refl);
         closed = λ p n h child. absurd (Contains-none p h);
         obsolete = λ p h. absurd (Contains-none p h);
       }
 
-  pub search-step : (met new : List Node) (i : ℕ) (x : Node) → i < length met → get_or met i x ≡ x → IsSearched s start met i → IsObsolete (content_of s) x → Adds (IsChild (changesets s.history) x) met new → IsSearched s start new (i + 1)
+  pub search-step : (met new : List Node) (i : ℕ) (x : Node) → i < length met
+      → get_or met i x ≡ x → IsSearched s start met i → IsObsolete (content_of s) x
+      → Adds (IsChild (changesets s.history) x) met new → IsSearched s start new (i + 1)
   search-step met new i x l at w o a = record {
     sound = λ n h. elim ((a.members n).0 h) [
       | inl old ↦ w.sound n old
@@ -99,34 +120,51 @@ module _ (s : ReplicaState) (valid : IsValid s) (start : Node) where
       | inl old ↦ inl (w.closed p n old child)
       | inr e ↦ inr (subst (λ y. IsChild (changesets s.history) y n) (sym e) child)
     ]);
-    obsolete = λ p h. elim ((Contains-taken met i x p l at).0 (before p h)) [ inl old ↦ w.obsolete p old | inr e ↦ subst (IsObsolete (content_of s)) e o ];
+    obsolete = λ p h. elim ((Contains-taken met i x p l at).0 (before p h))
+        [ inl old ↦ w.obsolete p old | inr e ↦ subst (IsObsolete (content_of s)) e o ];
   }
     where
       before : (p : Node) → Contains (take (i + 1) new) p → Contains (take (i + 1) met) p
       before p h = subst (λ zs. Contains zs p) (front-kept met new (i + 1) a.kept (omega (arith, l))) h
 
   -- all that was met is held, so the walk ends
-  pub search-within : (met : List Node) (i : ℕ) → IsSearched s start met i → IsDistinct node_eq met → length met ≤ length (nodes (changesets s.history))
+  pub search-within : (met : List Node) (i : ℕ) → IsSearched s start met i → IsDistinct node_eq met
+      → length met ≤ length (nodes (changesets s.history))
   search-within met i w distinct =
       length-le_from_is_member node_eq_laws met (nodes (changesets s.history)) distinct
-      (λ q e. list_any-from_Contains node_eq_laws q (nodes (changesets s.history)) (Holds-reached (changesets s.history) (w.sound q (Contains-from_any same_node q met e))))
+      (λ q e. list_any-from_Contains node_eq_laws q (nodes (changesets s.history))
+      (Holds-reached (changesets s.history) (w.sound q (Contains-from_any same_node q met e))))
 
   -- one that isn't obsolete was met
-  pub search-found : (met : List Node) (i : ℕ) → IsSearched s start met i → (x : Node) → Contains met x → ¬ (IsObsolete (content_of s) x) → IsVisible (content_of s) start
+  pub search-found : (met : List Node) (i : ℕ) → IsSearched s start met i → (x : Node) → Contains met x
+      → ¬ (IsObsolete (content_of s) x) → IsVisible (content_of s) start
   search-found met i w x h not =
-      let reach = w.sound x h in
-      (x, (content-node s.history valid.graph x (Holds-reached (changesets s.history) reach), not), leads_from_reach s.history valid.graph start x reach)
+      let reach = w.sound x h in (
+        x,
+        (content-node s.history valid.graph x (Holds-reached (changesets s.history) reach), not),
+        leads_from_reach s.history valid.graph start x reach,
+      )
 
   -- what was met has a child that isn't obsolete
-  pub search-child : (met : List Node) (i : ℕ) → IsSearched s start met i → (p x : Node) → Contains met p → IsChild (changesets s.history) p x → ¬ (IsObsolete (content_of s) x) → IsVisible (content_of s) start
+  pub search-child : (met : List Node) (i : ℕ) → IsSearched s start met i → (p x : Node) → Contains met p
+      → IsChild (changesets s.history) p x → ¬ (IsObsolete (content_of s) x) → IsVisible (content_of s) start
   search-child met i w p x h child not =
-      let reach = below (w.sound p h) child.3 child.1 child.2 in
-      (x, (content-node s.history valid.graph x (Holds-reached (changesets s.history) reach), not), leads_from_reach s.history valid.graph start x reach)
+      let reach = below (w.sound p h) child.3 child.1 child.2 in (
+        x,
+        (content-node s.history valid.graph x (Holds-reached (changesets s.history) reach), not),
+        leads_from_reach s.history valid.graph start x reach,
+      )
 
   -- all that was met is obsolete, and that is all that there is
-  pub search-end : (met : List Node) (i : ℕ) → IsSearched s start met i → length met ≤ i → ¬ (IsVisible (content_of s) start)
-  search-end met i w ended v = v.1.1 (w.obsolete v.0 (subst (λ zs. Contains zs v.0) (sym (take_all i met ended)) (all v.0 (reach_from_leads s.history valid.graph start v.0 (node_in_content s.history valid.graph v.0 v.1.0) v.2))))
+  pub search-end : (met : List Node) (i : ℕ) → IsSearched s start met i
+      → length met ≤ i → ¬ (IsVisible (content_of s) start)
+  search-end met i w ended v =
+      v.1.1 (w.obsolete v.0
+      (subst (λ zs. Contains zs v.0) (sym (take_all i met ended))
+      (all v.0 (reach_from_leads s.history valid.graph start v.0 (node_in_content s.history valid.graph v.0 v.1.0)
+      v.2))))
     where
       all : (n : Node) → Reaches (changesets s.history) start n → Contains met n
       all n (itself held) = w.begun
-      all n (below {c = c} {p = p} r is at e) = w.closed p n (subst (λ zs. Contains zs p) (sym (take_all i met ended)) (all p r)) (c, at, e, is)
+      all n (below {c = c} {p = p} r is at e) =
+          w.closed p n (subst (λ zs. Contains zs p) (sym (take_all i met ended)) (all p r)) (c, at, e, is)

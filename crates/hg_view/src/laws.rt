@@ -8,9 +8,12 @@ ghost use Rattle.hg_replica.specs.Evolution.{IsVisible, IsHidden, IsServed};
 
 /// States that are below each other have the same views, in whatever order each keeps what it holds.
 pub fn states_of_one_content_have_the_same_views()
-    ensures visible { (s t : ReplicaState) (n : Node) → IsValid s → IsValid t → IsSameState s t → (IsVisible (content_of s) n ↔ IsVisible (content_of t) n) }
-    ensures hidden { (s t : ReplicaState) (n : Node) → IsValid s → IsValid t → IsSameState s t → (IsHidden (content_of s) n ↔ IsHidden (content_of t) n) }
-    ensures served { (s t : ReplicaState) (n : Node) → IsValid s → IsValid t → IsSameState s t → (IsServed (content_of s) n ↔ IsServed (content_of t) n) }
+    ensures visible { (s t : ReplicaState) (n : Node) → IsValid s → IsValid t → IsSameState s t
+        → (IsVisible (content_of s) n ↔ IsVisible (content_of t) n) }
+    ensures hidden { (s t : ReplicaState) (n : Node) → IsValid s → IsValid t → IsSameState s t
+        → (IsHidden (content_of s) n ↔ IsHidden (content_of t) n) }
+    ensures served { (s t : ReplicaState) (n : Node) → IsValid s → IsValid t → IsSameState s t
+        → (IsServed (content_of s) n ↔ IsServed (content_of t) n) }
 {}
 
 /// With a changeset each view holds its ancestors.

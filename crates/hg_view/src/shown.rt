@@ -14,7 +14,8 @@ use hg_replica::Replica;
 use indexmap::IndexSet;
 use std::alloc::{AllocError, Global};
 
-/// Whether a changeset is visible. One that isn't obsolete costs two look-ups; for any other the answer costs what the walk
+/// Whether a changeset is visible. One that isn't obsolete costs two look-ups; for any other the answer costs what the
+/// walk
 /// to its descendants visits, and that ends at the first that isn't obsolete.
 pub fn is_visible(alloc: Global, replica: &Replica, node: Node) -> Result<bool, AllocError>
     ensures answer { IfOk result (λ answer. IsTrue answer ↔ IsVisible (content_of replica.now) node) }
@@ -54,7 +55,8 @@ fn has_revealed(alloc: Global, replica: &Replica, node: Node) -> Result<bool, Al
 // Whether some child of a changeset isn't obsolete. The walk would come to it anyway; a look ahead spares it the other
 // children, of which there may be many.
 fn has_current_child(replica: &Replica, node: Node) -> bool
-    ensures { IsTrue result → ((n : Node) × IsChild (changesets replica.now.history) node n × ¬ (IsObsolete (content_of replica.now) n)) }
+    ensures { IsTrue result
+        → ((n : Node) × IsChild (changesets replica.now.history) node n × ¬ (IsObsolete (content_of replica.now) n)) }
 {
     let graph = replica.graph();
     match graph.place(node) {
@@ -65,7 +67,9 @@ fn has_current_child(replica: &Replica, node: Node) -> bool
 
 // Whether some changeset at the places isn't obsolete.
 fn has_current_at(replica: &Replica, places: &[usize]) -> bool
-    ensures { IsTrue result → ((n : Node) × IsAtOne (changesets replica.now.history) places.now n × ¬ (IsObsolete (content_of replica.now) n)) }
+    ensures { IsTrue result
+        → ((n : Node) × IsAtOne (changesets replica.now.history) places.now n
+        × ¬ (IsObsolete (content_of replica.now) n)) }
 {
     let graph = replica.graph();
     for place in places {

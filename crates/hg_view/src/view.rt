@@ -33,7 +33,8 @@ pub fn served(alloc: Global, replica: &Replica) -> Result<BTreeSet<Node>, AllocE
 // The changesets at the marked places.
 fn set_at(alloc: Global, replica: &Replica, marks: &[bool]) -> Result<BTreeSet<Node>, AllocError>
     requires { length marks.now ≡ length (changesets replica.now.history) }
-    ensures { IfOk result (λ set. (n : Node) → Contains set.keys n ↔ IsMarkedNode (changesets replica.now.history) marks.now n) }
+    ensures { IfOk result (λ set. (n : Node) → Contains set.keys n
+        ↔ IsMarkedNode (changesets replica.now.history) marks.now n) }
 {
     let nodes = replica.graph().marked(marks)?;
     nodes.into_iter().collect(alloc)
@@ -42,7 +43,8 @@ fn set_at(alloc: Global, replica: &Replica, marks: &[bool]) -> Result<BTreeSet<N
 /// A mark for each place of the graph: whether the changeset there is [`served`].
 pub fn served_marks(alloc: Global, replica: &Replica) -> Result<Vec<bool>, AllocError>
     ensures len { IfOk result (λ marks. length marks.items ≡ length (changesets replica.now.history)) }
-    ensures exact { IfOk result (λ marks. (n : Node) → IsMarkedNode (changesets replica.now.history) marks.items n ↔ IsServed (content_of replica.now) n) }
+    ensures exact { IfOk result (λ marks. (n : Node) → IsMarkedNode (changesets replica.now.history) marks.items n
+        ↔ IsServed (content_of replica.now) n) }
 {
     let visible = visible_marks(alloc, replica)?;
     not_secret(alloc, replica, &visible)
@@ -51,7 +53,8 @@ pub fn served_marks(alloc: Global, replica: &Replica) -> Result<Vec<bool>, Alloc
 // A mark for each place: whether the changeset there is visible.
 fn visible_marks(alloc: Global, replica: &Replica) -> Result<Vec<bool>, AllocError>
     ensures len { IfOk result (λ marks. length marks.items ≡ length (changesets replica.now.history)) }
-    ensures exact { IfOk result (λ marks. (n : Node) → IsMarkedNode (changesets replica.now.history) marks.items n ↔ IsVisible (content_of replica.now) n) }
+    ensures exact { IfOk result (λ marks. (n : Node) → IsMarkedNode (changesets replica.now.history) marks.items n
+        ↔ IsVisible (content_of replica.now) n) }
 {
     let mut marks = revealed_marks(alloc, replica)?;
     replica.graph().add_ancestors(&mut marks);
@@ -61,7 +64,8 @@ fn visible_marks(alloc: Global, replica: &Replica) -> Result<Vec<bool>, AllocErr
 // A mark for each place: whether the changeset there isn't obsolete.
 fn revealed_marks(alloc: Global, replica: &Replica) -> Result<Vec<bool>, AllocError>
     ensures len { IfOk result (λ marks. length marks.items ≡ length (changesets replica.now.history)) }
-    ensures exact { IfOk result (λ marks. (n : Node) → IsMarkedNode (changesets replica.now.history) marks.items n ↔ IsRevealed (content_of replica.now) n) }
+    ensures exact { IfOk result (λ marks. (n : Node) → IsMarkedNode (changesets replica.now.history) marks.items n
+        ↔ IsRevealed (content_of replica.now) n) }
 {
     let graph = replica.graph();
     let mut marks = Vec::with_capacity(alloc, graph.len())?;
@@ -75,7 +79,9 @@ fn revealed_marks(alloc: Global, replica: &Replica) -> Result<Vec<bool>, AllocEr
 fn not_secret(alloc: Global, replica: &Replica, marks: &[bool]) -> Result<Vec<bool>, AllocError>
     requires { length marks.now ≡ length (changesets replica.now.history) }
     ensures len { IfOk result (λ found. length found.items ≡ length (changesets replica.now.history)) }
-    ensures exact { IfOk result (λ found. (n : Node) → IsMarkedNode (changesets replica.now.history) found.items n ↔ (IsMarkedNode (changesets replica.now.history) marks.now n × ¬ (HasPhase (content_of replica.now) n secret_phase))) }
+    ensures exact { IfOk result (λ found. (n : Node) → IsMarkedNode (changesets replica.now.history) found.items n
+        ↔ (IsMarkedNode (changesets replica.now.history) marks.now n
+        × ¬ (HasPhase (content_of replica.now) n secret_phase))) }
 {
     let graph = replica.graph();
     let mut found = Vec::with_capacity(alloc, graph.len())?;

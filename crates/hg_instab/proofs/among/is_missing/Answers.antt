@@ -6,5 +6,6 @@ use Rattle.hg_instab.proofs.among.is_missing.Goals as goal
 
 pub returns : goal.returns
 returns c =
-    let told : IsTrue c.contains.result ↔ Contains c.args.set.now.keys c.args.node = rw c.contains.ensures (btree_set_contains_iff node_cmp_total node_cmp_exact c.args.set.now c.args.node) in
+    let told : IsTrue c.contains.result ↔ Contains c.args.set.now.keys c.args.node =
+    rw c.contains.ensures (btree_set_contains_iff node_cmp_total node_cmp_exact c.args.set.now c.args.node) in
     other-told c.contains.result told

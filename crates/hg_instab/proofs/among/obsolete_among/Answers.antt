@@ -6,4 +6,6 @@ use Rattle.hg_instab.proofs.AmongLemmas.{those-divided, told-alike}
 use Rattle.hg_instab.proofs.among.obsolete_among.Goals as goal
 
 pub returns : goal.returns
-returns c = IfOk-weaker c.among.result _ _ (λ found h. those-divided (Contains c.args.nodes.now) _ _ (IsObsolete (content_of c.args.replica.now)) found.items h (λ n p. search (rules, told-alike)) (λ n p. search (rules, told-alike))) c.among.ensures
+returns c = IfOk-weaker c.among.result
+    _ _ (λ found h. those-divided (Contains c.args.nodes.now) _ _ (IsObsolete (content_of c.args.replica.now))
+    found.items h (λ n p. search (rules, told-alike)) (λ n p. search (rules, told-alike))) c.among.ensures

@@ -4,4 +4,6 @@ use Rattle.hg_instab.proofs.AmongLemmas.{those-divided, told-alike}
 use Rattle.hg_instab.proofs.among.outside.Goals as goal
 
 pub returns : goal.returns
-returns c = IfOk-weaker c.among.result _ _ (λ found h. those-divided (Contains c.args.nodes.now) _ _ (λ n. ¬ (Contains c.args.set.now.keys n)) found.items h (λ n p. search (rules, told-alike)) (λ n p. search (rules, told-alike))) c.among.ensures
+returns c = IfOk-weaker c.among.result
+    _ _ (λ found h. those-divided (Contains c.args.nodes.now) _ _ (λ n. ¬ (Contains c.args.set.now.keys n)) found.items
+    h (λ n p. search (rules, told-alike)) (λ n p. search (rules, told-alike))) c.among.ensures

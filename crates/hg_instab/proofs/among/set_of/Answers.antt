@@ -9,5 +9,6 @@ use Rattle.hg_instab.proofs.among.set_of.Goals as goal
 pub returns : goal.returns
 returns c =
     let nodes = c.args.nodes.items in
-    let made = fact_from_collect (λ xs set. IsFromIterResult node_cmp xs set) c.collect.result c.collect.ensures.ran (YieldsList-from_vec nodes c.into_iter.ensures.rest (c.into_iter.ensures.len ∙ c.args.nodes.ok.0)) in
+    let made = fact_from_collect (λ xs set. IsFromIterResult node_cmp xs set) c.collect.result c.collect.ensures.ran
+    (YieldsList-from_vec nodes c.into_iter.ensures.rest (c.into_iter.ensures.len ∙ c.args.nodes.ok.0)) in
     IfOk-weaker c.collect.result _ _ (λ set h. collected nodes set h) made

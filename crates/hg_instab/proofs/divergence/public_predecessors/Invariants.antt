@@ -6,4 +6,5 @@ use Rattle.hg_instab.proofs.AmongLemmas.{AreThose, HavePredecessor}
 use Rattle.hg_instab.proofs.divergence.public_predecessors.Given as goal
 
 abbrev pub invariant-loop-marker : goal.invariant-loop-marker
-invariant-loop-marker l = AreThose (HavePredecessor (take l.marker-index l.marker-items)) (λ n. HasPhase (content_of l.replica) n Public) l.seen.keys
+invariant-loop-marker l = AreThose (HavePredecessor (take l.marker-index l.marker-items))
+    (λ n. HasPhase (content_of l.replica) n Public) l.seen.keys

@@ -12,7 +12,9 @@ returns c =
     let cs = changesets s.history in
     let obsolete = c.args.obsolete.now in
     let above = c.in_ok-above.above.items in
-    let select : Selects cs (IsDescendantOfOne cs obsolete) above = subst (λ (ds : List Contents). Selects ds (IsDescendantOfOne ds obsolete) above) c.graph.ensures.graph c.in_ok-above.ensures.answer in
+    let select : Selects cs (IsDescendantOfOne cs obsolete) above =
+    subst (λ (ds : List Contents). Selects ds (IsDescendantOfOne ds obsolete) above) c.graph.ensures.graph
+    c.in_ok-above.ensures.answer in
     let are = orphans-are s c.graph.ensures.valid obsolete above c.requires select in
     IfOk-weaker c.current_among.result _ _
     (λ found those n. (

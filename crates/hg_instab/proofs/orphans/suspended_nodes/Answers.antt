@@ -12,7 +12,9 @@ returns c =
     let cs = changesets s.history in
     let orphans = c.args.orphans.now in
     let below = c.in_ok-below.below.items in
-    let select : Selects cs (IsAncestorOfOne cs orphans) below = subst (λ (ds : List Contents). Selects ds (IsAncestorOfOne ds orphans) below) c.graph.ensures.graph c.in_ok-below.ensures in
+    let select : Selects cs (IsAncestorOfOne cs orphans) below =
+    subst (λ (ds : List Contents). Selects ds (IsAncestorOfOne ds orphans) below) c.graph.ensures.graph
+    c.in_ok-below.ensures in
     let are = suspended-are s c.graph.ensures.valid orphans below c.requires select in
     IfOk-weaker c.obsolete_among.result _ _
     (λ found those n. (

@@ -12,9 +12,12 @@ pub returns-then-not-has_phase_at : goal.returns-then-not-has_phase_at
 returns-then-not-has_phase_at c = λ n at.
     let s = c.args.replica.now in
     let f = content_of s in
-    let node : c.in-Some.node ≡ n = same_Some c.in-Some.node n (sym c.in-Some.is ∙ c.node_at.ensures ∙ ap (λ (cs : List Contents). slice_get (nodes cs) c.args.place) c.graph.ensures.graph ∙ at) in (
+    let node : c.in-Some.node ≡ n = same_Some c.in-Some.node n
+    (sym c.in-Some.is ∙ c.node_at.ensures ∙ ap (λ (cs : List Contents). slice_get (nodes cs) c.args.place)
+    c.graph.ensures.graph ∙ at) in (
       λ t. (
-        mutable_there s c.graph.ensures.valid c.args.place n at (λ public. true≢false (sym ((c.has_phase_at.ensures n at).1 public) ∙ c.if-not-has_phase_at.true)),
+        mutable_there s c.graph.ensures.valid c.args.place n at
+            (λ public. true≢false (sym ((c.has_phase_at.ensures n at).1 public) ∙ c.if-not-has_phase_at.true)),
         subst (IsPredecessor f) node (c.is_predecessor_near.ensures.0 t),
       ),
       λ h. c.is_predecessor_near.ensures.1 (subst (IsPredecessor f) (sym node) h.1),
@@ -23,9 +26,13 @@ returns-then-not-has_phase_at c = λ n at.
 pub returns-else-not-has_phase_at : goal.returns-else-not-has_phase_at
 returns-else-not-has_phase_at c = λ n at.
     let f = content_of c.args.replica.now in
-    let public : HasPhase f n Public = (c.has_phase_at.ensures n at).0 c.if-not-has_phase_at.false in
-    (λ t. absurd (not_true c.has_phase_at.result t c.if-not-has_phase_at.false), λ h. absurd (phase_from_mutable f n Public public h.0 refl))
+    let public : HasPhase f n Public = (c.has_phase_at.ensures n at).0 c.if-not-has_phase_at.false in (
+      λ t. absurd (not_true c.has_phase_at.result t c.if-not-has_phase_at.false),
+      λ h. absurd (phase_from_mutable f n Public public h.0 refl),
+    )
 
 pub returns-in-None : goal.returns-in-None
 returns-in-None c = λ n at.
-    absurd (none-some n (sym c.in-None.is ∙ c.node_at.ensures ∙ ap (λ (cs : List Contents). slice_get (nodes cs) c.args.place) c.graph.ensures.graph ∙ at))
+    absurd (none-some n
+    (sym c.in-None.is ∙ c.node_at.ensures ∙ ap (λ (cs : List Contents). slice_get (nodes cs) c.args.place)
+    c.graph.ensures.graph ∙ at))

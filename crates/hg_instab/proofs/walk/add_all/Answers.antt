@@ -8,5 +8,7 @@ pub loop-node-preserved : goal.loop-node-preserved
 loop-node-preserved c =
     let first : Node = record { 0 = [] } in
     let node = get_or c.args.nodes.now c.loop-node.node-index first in
-    adds-more c.args.nodes.now c.loop-node.node-index node c.args.seen.now.keys c.loop-node.seen.keys c.insert.new.self.keys c.loop-node-test.true
-    (get_or_default c.args.nodes.now c.loop-node.node-index node first c.loop-node-test.true) c.loop-node.invariant c.in_ok-insert.ensures.keys
+    adds-more c.args.nodes.now c.loop-node.node-index node c.args.seen.now.keys c.loop-node.seen.keys
+    c.insert.new.self.keys c.loop-node-test.true
+    (get_or_default c.args.nodes.now c.loop-node.node-index node first c.loop-node-test.true) c.loop-node.invariant
+    c.in_ok-insert.ensures.keys

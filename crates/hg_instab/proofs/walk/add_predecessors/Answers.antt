@@ -19,11 +19,16 @@ loop-place-preserved c =
       | in-Some+in_ok-insert-in-Some w ↦
           let m = w.in-Some.marker.now in
           let at : slice_get ms k ≡ Some m = sym c.get.ensures ∙ ap option_copied w.in-Some.is in
-          adds-then (IsBeforeAt ms (take i places)) (λ n. m.predecessor ≡ n) (IsBeforeAt ms (take (i + 1) places)) c.args.seen.now.keys c.loop-place.seen.keys _
-          (before-more ms places i k m c.loop-place-test.true (get_or_default places i k 0 c.loop-place-test.true) at) c.loop-place.invariant
-          (subst (λ (x : Node). Adds (λ n. x ≡ n) c.loop-place.seen.keys c.match-get.seen.keys) w.predecessor.ensures.predecessor (adds-one c.loop-place.seen.keys _ w.predecessor.result (ap (λ v. v.keys) w.seen-is ∙ w.in_ok-insert-in-Some.ensures.keys)))
+          adds-then (IsBeforeAt ms (take i places)) (λ n. m.predecessor ≡ n) (IsBeforeAt ms (take (i + 1) places))
+          c.args.seen.now.keys c.loop-place.seen.keys _
+          (before-more ms places i k m c.loop-place-test.true (get_or_default places i k 0 c.loop-place-test.true) at)
+          c.loop-place.invariant
+          (subst (λ (x : Node). Adds (λ n. x ≡ n) c.loop-place.seen.keys c.match-get.seen.keys)
+          w.predecessor.ensures.predecessor (adds-one c.loop-place.seen.keys _ w.predecessor.result
+          (ap (λ v. v.keys) w.seen-is ∙ w.in_ok-insert-in-Some.ensures.keys)))
       | in-None w ↦
-          let there = (c.with_successor-place-items.ensures.exact k).0 (Contains-get_or places i 0 c.loop-place-test.true) in
+          let there = (c.with_successor-place-items.ensures.exact k).0
+          (Contains-get_or places i 0 c.loop-place-test.true) in
           absurd (none-some there.0 (sym (ap option_copied w.in-None.is) ∙ c.get.ensures ∙ there.1))
     ]
 
@@ -32,5 +37,7 @@ returns c =
     let ms = c.args.store.now in
     let places = c.with_successor-place-items.result.now in
     let all = take_all c.loop-place.place-index places c.loop-place-test.false in
-    adds-same (IsBeforeAt ms places) (IsBefore ms c.args.node) c.args.seen.now.keys c.loop-place.seen.keys (λ n. before-all ms places c.args.node n c.with_successor-place-items.ensures)
-    (subst (λ (ps : List ℕ). Adds (IsBeforeAt ms ps) c.args.seen.now.keys c.loop-place.seen.keys) all c.loop-place.invariant)
+    adds-same (IsBeforeAt ms places) (IsBefore ms c.args.node) c.args.seen.now.keys c.loop-place.seen.keys
+    (λ n. before-all ms places c.args.node n c.with_successor-place-items.ensures)
+    (subst (λ (ps : List ℕ). Adds (IsBeforeAt ms ps) c.args.seen.now.keys c.loop-place.seen.keys) all
+    c.loop-place.invariant)

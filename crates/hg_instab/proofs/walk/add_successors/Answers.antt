@@ -19,10 +19,13 @@ loop-place-preserved c =
       | in-Some+in_ok-follow-in-Some w ↦
           let m = w.in-Some.marker.now in
           let at : slice_get ms k ≡ Some m = sym c.get.ensures ∙ ap option_copied w.in-Some.is in
-          rw w.seen-is (adds-then (IsNextAt Kind ms (take i places)) (λ n. Kind m × Contains m.successors n) (IsNextAt Kind ms (take (i + 1) places)) c.args.seen.now.keys c.loop-place.seen.keys _
-          (next-more Kind ms places i k m c.loop-place-test.true (get_or_default places i k 0 c.loop-place-test.true) at) c.loop-place.invariant w.in_ok-follow-in-Some.ensures)
+          rw w.seen-is (adds-then (IsNextAt Kind ms (take i places)) (λ n. Kind m × Contains m.successors n)
+          (IsNextAt Kind ms (take (i + 1) places)) c.args.seen.now.keys c.loop-place.seen.keys _
+          (next-more Kind ms places i k m c.loop-place-test.true (get_or_default places i k 0 c.loop-place-test.true)
+          at) c.loop-place.invariant w.in_ok-follow-in-Some.ensures)
       | in-None w ↦
-          let there = (c.with_predecessor-place-items.ensures.exact k).0 (Contains-get_or places i 0 c.loop-place-test.true) in
+          let there = (c.with_predecessor-place-items.ensures.exact k).0
+          (Contains-get_or places i 0 c.loop-place-test.true) in
           absurd (none-some there.0 (sym (ap option_copied w.in-None.is) ∙ c.get.ensures ∙ there.1))
     ]
 
@@ -32,5 +35,7 @@ returns c =
     let Kind = IsFollowed c.args.followed in
     let places = c.with_predecessor-place-items.result.now in
     let all = take_all c.loop-place.place-index places c.loop-place-test.false in
-    adds-same (IsNextAt Kind ms places) (IsNext Kind ms c.args.node) c.args.seen.now.keys c.loop-place.seen.keys (λ n. next-all Kind ms places c.args.node n c.with_predecessor-place-items.ensures)
-    (subst (λ (ps : List ℕ). Adds (IsNextAt Kind ms ps) c.args.seen.now.keys c.loop-place.seen.keys) all c.loop-place.invariant)
+    adds-same (IsNextAt Kind ms places) (IsNext Kind ms c.args.node) c.args.seen.now.keys c.loop-place.seen.keys
+    (λ n. next-all Kind ms places c.args.node n c.with_predecessor-place-items.ensures)
+    (subst (λ (ps : List ℕ). Adds (IsNextAt Kind ms ps) c.args.seen.now.keys c.loop-place.seen.keys) all
+    c.loop-place.invariant)

@@ -10,7 +10,8 @@ loop-next-init c = walk-start c.args.way c.args.store.now c.args.starts.keys
 
 pub loop-next-smaller : goal.loop-next-smaller
 loop-next-smaller c =
-    let within = walk-within c.args.way c.args.store.now c.args.starts.keys c.loop-next.seen.keys c.loop-next.next c.loop-next.invariant c.len.ensures.unique in
+    let within = walk-within c.args.way c.args.store.now c.args.starts.keys c.loop-next.seen.keys c.loop-next.next
+    c.loop-next.invariant c.len.ensures.unique in
     omega (arith, within, c.loop-next-test.true, c.len.ensures.len)
 
 pub loop-next-preserved : goal.loop-next-preserved
@@ -20,8 +21,11 @@ loop-next-preserved c =
     let first : Node = record { 0 = [] } in
     let node = get_or seen i first in
     let l : i < length seen = omega (arith, c.loop-next-test.true, c.len.ensures.len) in
-    walk-step c.args.way c.args.store.now c.args.starts.keys seen c.add_next.new.seen.keys i node l (get_or_default seen i node first l) c.loop-next.invariant
-    (subst (λ (ns : List Node). Adds (IsStep c.args.way c.args.store.now (get_or ns i first)) seen c.add_next.new.seen.keys) c.as_slice.ensures.keys c.in_ok-add_next.ensures)
+    walk-step c.args.way c.args.store.now c.args.starts.keys seen c.add_next.new.seen.keys i node l
+    (get_or_default seen i node first l) c.loop-next.invariant
+    (subst (λ (ns : List Node). Adds (IsStep c.args.way c.args.store.now (get_or ns i first)) seen
+    c.add_next.new.seen.keys) c.as_slice.ensures.keys c.in_ok-add_next.ensures)
 
 pub returns : goal.returns
-returns c = walk-end c.args.way c.args.store.now c.args.starts.keys c.loop-next.seen.keys c.loop-next.next c.loop-next.invariant (omega (arith, c.loop-next-test.false, c.len.ensures.len))
+returns c = walk-end c.args.way c.args.store.now c.args.starts.keys c.loop-next.seen.keys c.loop-next.next
+    c.loop-next.invariant (omega (arith, c.loop-next-test.false, c.len.ensures.len))

@@ -22,9 +22,12 @@ loop-place-preserved c =
       | in-Some+in_ok-insert-in-Some w ↦
           let n = w.in-Some.node in
           let at : slice_get (nodes cs) k ≡ Some n = sym c.node_at.ensures ∙ w.in-Some.is in
-          adds-then (IsAtOne cs (take i places)) (λ m. n ≡ m) (IsAtOne cs (take (i + 1) places)) old mid _ (at-more cs places i k n c.loop-place-test.true is at) c.loop-place.invariant
+          adds-then (IsAtOne cs (take i places)) (λ m. n ≡ m) (IsAtOne cs (take (i + 1) places)) old mid
+          _ (at-more cs places i k n c.loop-place-test.true is at) c.loop-place.invariant
           (adds-one mid _ n (ap (λ v. v.keys) w.met-is ∙ w.in_ok-insert-in-Some.ensures.keys))
       | in-None w ↦
           subst (Adds (IsAtOne cs (take (i + 1) places)) old) (sym (ap (λ v. v.keys) w.met-is))
-          (adds-same (IsAtOne cs (take i places)) (IsAtOne cs (take (i + 1) places)) old mid (at-nothing cs places i k c.loop-place-test.true is (λ x at. none-some x (sym w.in-None.is ∙ c.node_at.ensures ∙ at))) c.loop-place.invariant)
+          (adds-same (IsAtOne cs (take i places)) (IsAtOne cs (take (i + 1) places)) old mid
+          (at-nothing cs places i k c.loop-place-test.true is
+          (λ x at. none-some x (sym w.in-None.is ∙ c.node_at.ensures ∙ at))) c.loop-place.invariant)
     ]

@@ -12,17 +12,24 @@ use Rattle.hg_view.proofs.shown.add_children.Goals as goal
 pub children-requires : goal.children-requires
 children-requires c =
     let cs = c.args.graph.now in
-    omega (arith, slice_get_within (nodes cs) c.in-Some.place c.args.node ((c.in-Some.ensures.place c.in-Some.place).1 refl), length-map cs node_of)
+    omega (
+      arith,
+      slice_get_within (nodes cs) c.in-Some.place c.args.node
+          ((c.in-Some.ensures.place c.in-Some.place).1 refl),
+      length-map cs node_of,
+    )
 
 pub returns-in-Some : goal.returns-in-Some
 returns-in-Some c =
     let cs = c.args.graph.now in
     let places = c.children.result.now in
     on_ok_weaker c.add_at.result
-    (λ adds. adds-same (IsAtOne cs places) (IsChild cs c.args.node) c.args.met.now.keys c.add_at.new.met.keys (children-at cs c.args.node c.in-Some.place places c.in-Some.ensures.place c.children.ensures.exact) adds)
+    (λ adds. adds-same (IsAtOne cs places) (IsChild cs c.args.node) c.args.met.now.keys c.add_at.new.met.keys
+    (children-at cs c.args.node c.in-Some.place places c.in-Some.ensures.place c.children.ensures.exact) adds)
     c.add_at.ensures
 
 pub returns-in-None : goal.returns-in-None
 returns-in-None c =
     let cs = c.args.graph.now in
-    adds-nothing (IsChild cs c.args.node) c.args.met.now.keys (λ n child. absurd (childless cs c.in-None.ensures.graph c.args.node c.in-None.ensures.place n child))
+    adds-nothing (IsChild cs c.args.node) c.args.met.now.keys
+    (λ n child. absurd (childless cs c.in-None.ensures.graph c.args.node c.in-None.ensures.place n child))

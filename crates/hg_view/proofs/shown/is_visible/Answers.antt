@@ -7,8 +7,10 @@ use Rattle.hg_view.proofs.shown.is_visible.Goals as goal
 pub returns-then-not-is_obsolete-clause-answer : goal.returns-then-not-is_obsolete-clause-answer
 returns-then-not-is_obsolete-clause-answer c =
     let s = c.args.replica.now in
-    let are = current-visible s c.graph.ensures.valid c.args.node (λ is. true≢false (sym (c.is_obsolete.ensures.1 is) ∙ c.if-not-is_obsolete.true)) in
-    let told = subst (λ (ds : List Contents). IsTrue c.contains.result ↔ Holds ds c.args.node) c.graph.ensures.graph c.contains.ensures in
+    let are = current-visible s c.graph.ensures.valid c.args.node
+    (λ is. true≢false (sym (c.is_obsolete.ensures.1 is) ∙ c.if-not-is_obsolete.true)) in
+    let told = subst (λ (ds : List Contents). IsTrue c.contains.result ↔ Holds ds c.args.node) c.graph.ensures.graph
+    c.contains.ensures in
     (λ t. are.0 (told.0 t), λ v. told.1 (are.1 v))
 
 pub has_revealed-requires : goal.has_revealed-requires

@@ -11,23 +11,35 @@ use Rattle.hg_view.proofs.view.revealed_marks.Goals as goal
 pub loop-place-init : goal.loop-place-init
 loop-place-init c =
     let s = c.args.replica.now in
-    subst (TellsFirst (changesets s.history) (λ n. ¬ (IsObsolete (content_of s) n)) 0) (sym c.in_ok-marks.ensures.items) (tells_none (changesets s.history) (λ n. ¬ (IsObsolete (content_of s) n)))
+    subst (TellsFirst (changesets s.history) (λ n. ¬ (IsObsolete (content_of s) n)) 0) (sym c.in_ok-marks.ensures.items)
+    (tells_none (changesets s.history) (λ n. ¬ (IsObsolete (content_of s) n)))
 
 pub loop-place-preserved : goal.loop-place-preserved
 loop-place-preserved c =
     let s = c.args.replica.now in
     let i = c.loop-place.place in
     let told = c.is_obsolete_at.result in
-    subst (TellsFirst (changesets s.history) (λ n. ¬ (IsObsolete (content_of s) n)) (i + 1)) (sym c.in_ok-push.ensures.items)
-    (tells_more (changesets s.history) (λ n. ¬ (IsObsolete (content_of s) n)) i c.loop-place.marks.items (not told) c.loop-place.invariant (λ n at. isnt_so told (IsObsolete (content_of s) n) (c.is_obsolete_at.ensures n at)))
+    subst (TellsFirst (changesets s.history) (λ n. ¬ (IsObsolete (content_of s) n)) (i + 1))
+    (sym c.in_ok-push.ensures.items)
+    (tells_more (changesets s.history) (λ n. ¬ (IsObsolete (content_of s) n)) i c.loop-place.marks.items (not told)
+    c.loop-place.invariant (λ n at. isnt_so told (IsObsolete (content_of s) n) (c.is_obsolete_at.ensures n at)))
 
 ended : (c : goal.After-loop-place) → length (changesets c.args.replica.now.history) ≤ c.loop-place.place
 ended c = omega (arith, c.loop-place-test.false, c.len-place-end.ensures.len, ap length c.graph-graph.ensures.graph)
 
 pub returns-clause-len : goal.returns-clause-len
-returns-clause-len c = omega (arith, c.loop-place.invariant.len, c.loop-place.auto.place-end, ended c, c.len-place-end.ensures.len, ap length c.graph-graph.ensures.graph)
+returns-clause-len c =
+    omega (
+      arith,
+      c.loop-place.invariant.len,
+      c.loop-place.auto.place-end,
+      ended c,
+      c.len-place-end.ensures.len,
+      ap length c.graph-graph.ensures.graph,
+    )
 
 pub returns-clause-exact : goal.returns-clause-exact
 returns-clause-exact c n =
     let s = c.args.replica.now in
-    along (tells_all (changesets s.history) (λ m. ¬ (IsObsolete (content_of s) m)) c.loop-place.place c.loop-place.marks.items (ended c) c.loop-place.invariant n) (revealed-are s c.graph-graph.ensures.valid n)
+    along (tells_all (changesets s.history) (λ m. ¬ (IsObsolete (content_of s) m)) c.loop-place.place
+    c.loop-place.marks.items (ended c) c.loop-place.invariant n) (revealed-are s c.graph-graph.ensures.valid n)

@@ -5,4 +5,5 @@ use Rattle.hg_replica.specs.Evolution.{IsObsolete}
 use Rattle.hg_view.proofs.view.revealed_marks.Given as goal
 
 abbrev pub invariant-loop-place : goal.invariant-loop-place
-invariant-loop-place l = TellsFirst (changesets l.replica.history) (λ n. ¬ (IsObsolete (content_of l.replica) n)) l.place l.marks.items
+invariant-loop-place l = TellsFirst (changesets l.replica.history) (λ n. ¬ (IsObsolete (content_of l.replica) n))
+    l.place l.marks.items

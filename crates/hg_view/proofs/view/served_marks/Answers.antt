@@ -12,7 +12,8 @@ returns-clause-exact c =
     let s = c.args.replica.now in
     let cs = changesets s.history in
     let visible : (n : Node) → IsMarkedNode cs c.deref.result.now n ↔ IsVisible (content_of s) n =
-    subst (λ (marks : List Bool). (n : Node) → IsMarkedNode cs marks n ↔ IsVisible (content_of s) n) (sym c.deref.ensures.value) c.in_ok-visible.ensures.exact in
+    subst (λ (marks : List Bool). (n : Node) → IsMarkedNode cs marks n ↔ IsVisible (content_of s) n)
+    (sym c.deref.ensures.value) c.in_ok-visible.ensures.exact in
     IfOk-weaker c.not_secret.result _ _
     (λ marks told n. (λ h. let x = (told n).0 h in ((visible n).0 x.0, x.1), λ h. (told n).1 ((visible n).1 h.0, h.1)))
     c.not_secret.ensures.exact

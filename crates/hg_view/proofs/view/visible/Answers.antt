@@ -9,5 +9,6 @@ pub returns : goal.returns
 returns c =
     let cs = changesets c.args.replica.now.history in
     IfOk-weaker c.set_at.result _ _
-    (λ set told n. along (subst (λ (marks : List Bool). Contains set.keys n ↔ IsMarkedNode cs marks n) c.deref.ensures.value (told n)) (c.in_ok-marks.ensures.exact n))
+    (λ set told n. along (subst (λ (marks : List Bool). Contains set.keys n ↔ IsMarkedNode cs marks n)
+    c.deref.ensures.value (told n)) (c.in_ok-marks.ensures.exact n))
     c.set_at.ensures

@@ -9,9 +9,18 @@ use Rattle.hg_view.proofs.ViewLemmas.{visible-marked}
 use Rattle.hg_view.proofs.view.visible_marks.Goals as goal
 
 all : (c : goal.After-marks-3-1) → length c.add_ancestors.new.marks ≡ c.in_ok-marks.marks.len
-all c = omega (arith, c.add_ancestors.ensures.len, c.in_ok-marks.ensures.len, ap length c.graph.ensures.graph, c.in_ok-marks.marks.ok.0)
+all c = omega (
+  arith,
+  c.add_ancestors.ensures.len,
+  c.in_ok-marks.ensures.len,
+  ap length c.graph.ensures.graph,
+  c.in_ok-marks.marks.ok.0,
+)
 
-whole : (c : goal.After-marks-3-1) → take c.in_ok-marks.marks.len (c.add_ancestors.new.marks ++ drop (length c.add_ancestors.new.marks) c.in_ok-marks.marks.items) ≡ c.add_ancestors.new.marks
+whole : (c : goal.After-marks-3-1)
+    → take c.in_ok-marks.marks.len
+    (c.add_ancestors.new.marks ++ drop (length c.add_ancestors.new.marks) c.in_ok-marks.marks.items)
+    ≡ c.add_ancestors.new.marks
 whole c = written c.in_ok-marks.marks.len c.add_ancestors.new.marks c.in_ok-marks.marks.items (all c)
 
 pub returns-clause-len : goal.returns-clause-len
@@ -22,7 +31,12 @@ returns-clause-exact c =
     let s = c.args.replica.now in
     let cs = changesets s.history in
     let visible = c.add_ancestors.new.marks in
-    let above : (n : Node) → IsMarkedNode cs visible n ↔ ((d : Node) × IsMarkedNode cs c.in_ok-marks.marks.items d × Reaches cs n d) =
-    subst (λ (marks : List Bool). (n : Node) → IsMarkedNode cs visible n ↔ ((d : Node) × IsMarkedNode cs marks d × Reaches cs n d)) c.deref_mut.ensures.value
-    (subst (λ (ds : List Contents). (n : Node) → IsMarkedNode ds visible n ↔ ((d : Node) × IsMarkedNode ds c.deref_mut.result.now d × Reaches ds n d)) c.graph.ensures.graph c.add_ancestors.ensures.marked) in
-    rw (whole c) (visible-marked s c.graph.ensures.valid c.in_ok-marks.marks.items visible c.in_ok-marks.ensures.exact above)
+    let above : (n : Node) → IsMarkedNode cs visible n
+    ↔ ((d : Node) × IsMarkedNode cs c.in_ok-marks.marks.items d × Reaches cs n d) =
+    subst (λ (marks : List Bool). (n : Node) → IsMarkedNode cs visible n
+    ↔ ((d : Node) × IsMarkedNode cs marks d × Reaches cs n d)) c.deref_mut.ensures.value
+    (subst (λ (ds : List Contents). (n : Node) → IsMarkedNode ds visible n
+    ↔ ((d : Node) × IsMarkedNode ds c.deref_mut.result.now d × Reaches ds n d)) c.graph.ensures.graph
+    c.add_ancestors.ensures.marked) in
+    rw (whole c)
+    (visible-marked s c.graph.ensures.valid c.in_ok-marks.marks.items visible c.in_ok-marks.ensures.exact above)

@@ -14,8 +14,11 @@ suspended_nodes-requires c = rw c.deref-2.ensures.value c.in_ok-orphan.ensures
 pub returns : goal.returns
 returns c =
     let f = content_of c.args.replica.now in
-    let suspended : (n : Node) → Contains c.in_ok-suspended.suspended.keys n ↔ IsSuspended f n = λ n. along (c.in_ok-suspended.ensures n) (c.in_ok-suspended_nodes.ensures n) in
-    let outside : (n : Node) → Contains c.in_ok-extinct.extinct.items n ↔ (Contains c.in_ok-obsolete.obsolete.items n × ¬ (Contains c.in_ok-suspended.suspended.keys n)) = rw c.deref-3.ensures.value at c.in_ok-extinct.ensures in
+    let suspended : (n : Node) → Contains c.in_ok-suspended.suspended.keys n
+    ↔ IsSuspended f n = λ n. along (c.in_ok-suspended.ensures n) (c.in_ok-suspended_nodes.ensures n) in
+    let outside : (n : Node) → Contains c.in_ok-extinct.extinct.items n
+    ↔ (Contains c.in_ok-obsolete.obsolete.items n × ¬ (Contains c.in_ok-suspended.suspended.keys n)) =
+    rw c.deref-3.ensures.value at c.in_ok-extinct.ensures in
     record {
       obsolete = λ n. along (c.in_ok-set_of.ensures n) (c.in_ok-obsolete.ensures n);
       orphan = λ n. along (c.in_ok-set_of-2.ensures n) (c.in_ok-orphan.ensures n);
