@@ -13,7 +13,7 @@ use Rattle.hg_discovery.specs.declared.status.Spot.{Spot}
 use Rattle.hg_discovery.specs.Search.{Search, Is, IsSearch, IsAscending}
 use Rattle.hg_discovery.specs.Answers.{IsRound}
 use Rattle.hg_discovery.specs.Rounds.{AreRounds, undecided}
-use Rattle.hg_discovery.proofs.ToldLemmas.{told_length, undecided_before, all_settled}
+use Rattle.hg_discovery.proofs.ToldLemmas.{told_length, undecided_before, all_decided}
 use Rattle.hg_discovery.proofs.DrawLemmas.{sample_member, short_sample, done_is}
 
 -- ---- counting
@@ -65,14 +65,14 @@ abbrev AreApart : List Spot → Type 0
 AreApart xs = (i j : ℕ) (x y : Spot) → slice_get xs i ≡ Some x → slice_get xs j ≡ Some y → x.place ≡ y.place → i ≡ j
 
 -- those who were asked about were undecided, and aren't any more
-settled_count : (xs : List Spot) (old new : List Status) → length new ≡ length old → AreApart xs → ((i : ℕ) (x : Spot) → slice_get xs i ≡ Some x → Is old Undecided x.place) → ((i : ℕ) (x : Spot) → slice_get xs i ≡ Some x → Is new Undecided x.place → ⊥)
+decided_count : (xs : List Spot) (old new : List Status) → length new ≡ length old → AreApart xs → ((i : ℕ) (x : Spot) → slice_get xs i ≡ Some x → Is old Undecided x.place) → ((i : ℕ) (x : Spot) → slice_get xs i ≡ Some x → Is new Undecided x.place → ⊥)
     → ((k : ℕ) → Is new Undecided k → Is old Undecided k) → undecided new + length xs ≤ undecided old
-settled_count [] old new len apart was not_now within = let le = fewer old new len within in omega (arith, le)
-settled_count (x ∷ xs) old new len apart was not_now within =
+decided_count [] old new len apart was not_now within = let le = fewer old new len within in omega (arith, le)
+decided_count (x ∷ xs) old new len apart was not_now within =
     let at : Is old Undecided x.place = was zero x refl in
     let less = one_less old x.place Common (λ e. cc) at in
     let mid = set old x.place Common in
-    let rest = settled_count xs mid new (len ∙ sym (length-set old x.place Common))
+    let rest = decided_count xs mid new (len ∙ sym (length-set old x.place Common))
     (λ i j y z at_y at_z e. let same : suc i ≡ suc j = apart (suc i) (suc j) y z at_y at_z e in omega (arith, same))
     (λ i y at_y.
     let ne : y.place ≢ x.place = λ (e : y.place ≡ x.place). let bad : suc i ≡ zero = apart (suc i) zero y x at_y refl e in omega (arith, bad) in
@@ -133,9 +133,9 @@ pub round_count : (s t : Search) (answers : List Bool) → IsSearch s → IsRoun
 round_count s t answers known round =
     let len = told_length s.parents s.asked answers s.decided t.decided round.told in
     let within = undecided_before s.parents s.asked answers s.decided t.decided round.told in
-    let settled = all_settled s.parents s.asked answers s.decided t.decided round.told in
+    let decided = all_decided s.parents s.asked answers s.decided t.decided round.told in
     elim (cases_order (length s.asked) 200) [
-      | inl e ↦ let c = count len within settled in omega (arith, c, e)
+      | inl e ↦ let c = count len within decided in omega (arith, c, e)
       | inr o ↦ elim o [
         | inl short ↦
             let zero_is : undecided t.decided ≡ 0 = none_undecided t.decided (λ k h.
@@ -143,15 +143,15 @@ round_count s t answers known round =
             let at : Is s.decided Undecided x.0.place = subst (Is s.decided Undecided) (sym x.2) (within k h) in
             short_sample s s.asked known.sample short x.0 (x.1, at) (λ inside.
             let p = place_from_Contains s.asked x.0 inside in
-            settled p.0 x.0 p.1 (subst (Is t.decided Undecided) (sym x.2) h))) in
+            decided p.0 x.0 p.1 (subst (Is t.decided Undecided) (sym x.2) h))) in
             omega (arith, zero_is)
-        | inr long ↦ let c = count len within settled in omega (arith, c, long)
+        | inr long ↦ let c = count len within decided in omega (arith, c, long)
       ]
     ]
   where
     count : length t.decided ≡ length s.decided → ((k : ℕ) → Is t.decided Undecided k → Is s.decided Undecided k) → ((i : ℕ) (x : Spot) → slice_get s.asked i ≡ Some x → Is t.decided Undecided x.place → ⊥) → undecided t.decided + length s.asked ≤ undecided s.decided
-    count len within settled =
-        settled_count s.asked s.decided t.decided len (asked_apart s known) (λ i x at. (sample_member s s.asked known.sample x (Contains-from_place s.asked i x at)).1) settled within
+    count len within decided =
+        decided_count s.asked s.decided t.decided len (asked_apart s known) (λ i x at. (sample_member s s.asked known.sample x (Contains-from_place s.asked i x at)).1) decided within
 
 -- done is where nothing is counted
 pub done_count : (s : Search) → IsSearch s → (b : Bool) → b ≡ (length s.asked == 0) → IsTrue b ↔ (undecided s.decided ≡ 0)

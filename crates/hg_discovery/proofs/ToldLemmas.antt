@@ -1,4 +1,4 @@
--- What answers leave as it was, and what they settle.
+-- What answers leave as it was, and what they decide.
 use Rattle.std.proofs.Common.{◌≡◌, ◌⊎◌, ℕ, zero, suc, inl, inr, Bool, true, false, List, [], ◌∷◌, ◌++◌, length, slice_get, Some, refl, sym, ap, subst, ◌∙◌, arith}
 use Rattle.std.proofs.lemmas.Option.{slice_get_within, none-some, same_Some}
 use Rattle.hg_graph.specs.declared.graph.ParentPlaces.{ParentPlaces}
@@ -32,10 +32,10 @@ module _ (ps : List ParentPlaces) where
   ]
 
   -- what was asked about is decided
-  pub told_settles : (k : ℕ) (said : Bool) (old new : List Status) → IsTold ps k said old new → Is new Undecided k → ⊥
-  told_settles k true old new (inl d) h = not_both_uc new k h ((d.1.common k).1 (inr (refl, d.0, itself)))
-  told_settles k false old new (inl d) h = not_both_um new k h ((d.1.missing k).1 (inr (refl, d.0, itself)))
-  told_settles k said old new (inr e) h = e.0 (subst (λ ds. Is ds Undecided k) e.1 h)
+  pub told_decides : (k : ℕ) (said : Bool) (old new : List Status) → IsTold ps k said old new → Is new Undecided k → ⊥
+  told_decides k true old new (inl d) h = not_both_uc new k h ((d.1.common k).1 (inr (refl, d.0, itself)))
+  told_decides k false old new (inl d) h = not_both_um new k h ((d.1.missing k).1 (inr (refl, d.0, itself)))
+  told_decides k said old new (inr e) h = e.0 (subst (λ ds. Is ds Undecided k) e.1 h)
 
   -- what is so of the common ones, and of all below a yes, stays so
   pub told_common : (P : ℕ → Type 0) → ((k j : ℕ) → IsUnder ps k j → P j → P k) → (k : ℕ) (said : Bool) (old new : List Status) → IsTold ps k said old new → (said ≡ true → P k) → ((j : ℕ) → Is old Common j → P j) → (j : ℕ) → Is new Common j → P j
@@ -117,13 +117,13 @@ all_before ps (x ∷ xs) [] old new t j h = absurd t
 pub undecided_before : (ps : List ParentPlaces) (xs : List Spot) (answers : List Bool) (old new : List Status) → AreTold ps xs answers old new → (j : ℕ) → Is new Undecided j → Is old Undecided j
 undecided_before = all_before
 
-pub all_settled : (ps : List ParentPlaces) (xs : List Spot) (answers : List Bool) (old new : List Status) → AreTold ps xs answers old new → (i : ℕ) (x : Spot) → slice_get xs i ≡ Some x → Is new Undecided x.place → ⊥
-all_settled ps [] [] old new e i x at h = none-some x at
-all_settled ps (y ∷ xs) (b ∷ answers) old new t zero x at h =
-    told_settles ps y.place b old t.0 t.1 (subst (λ (z : Spot). Is t.0 Undecided z.place) (sym (same_Some y x at)) (all_before ps xs answers t.0 new t.2 x.place h))
-all_settled ps (y ∷ xs) (b ∷ answers) old new t (suc i) x at h = all_settled ps xs answers t.0 new t.2 i x at h
-all_settled ps [] (b ∷ answers) old new t i x at h = absurd t
-all_settled ps (x ∷ xs) [] old new t i y at h = absurd t
+pub all_decided : (ps : List ParentPlaces) (xs : List Spot) (answers : List Bool) (old new : List Status) → AreTold ps xs answers old new → (i : ℕ) (x : Spot) → slice_get xs i ≡ Some x → Is new Undecided x.place → ⊥
+all_decided ps [] [] old new e i x at h = none-some x at
+all_decided ps (y ∷ xs) (b ∷ answers) old new t zero x at h =
+    told_decides ps y.place b old t.0 t.1 (subst (λ (z : Spot). Is t.0 Undecided z.place) (sym (same_Some y x at)) (all_before ps xs answers t.0 new t.2 x.place h))
+all_decided ps (y ∷ xs) (b ∷ answers) old new t (suc i) x at h = all_decided ps xs answers t.0 new t.2 i x at h
+all_decided ps [] (b ∷ answers) old new t i x at h = absurd t
+all_decided ps (x ∷ xs) [] old new t i y at h = absurd t
 
 -- ---- all answers of a round
 

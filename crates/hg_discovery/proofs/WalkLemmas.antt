@@ -44,7 +44,7 @@ module _ (d : Status) where
   }
 
   pub Grows-one : d ≢ Undecided → (p : ℕ) (old : List Status) (log : List ℕ) → Is old Undecided p → Grows (λ k. p ≡ k) d old log (set old p d) (log ++ p ∷ [])
-  Grows-one settled p old log at = record {
+  Grows-one decided p old log at = record {
     more = p ∷ [];
     longer = refl;
     len = length-set old p d;
@@ -53,7 +53,7 @@ module _ (d : Status) where
       | inr ne ↦ inl (get-set_other old p k d ne)
     ];
     logged = λ k h. let e : p ≡ k = Contains-one p k h in (subst (Is old Undecided) e at, subst (Is (set old p d) d) e now, e);
-    count = omega (arith, one_less old p d settled at, length-append log (p ∷ []));
+    count = omega (arith, one_less old p d decided at, length-append log (p ∷ []));
   }
     where
       now : Is (set old p d) d p

@@ -10,7 +10,7 @@ ghost use Rattle.hg_discovery.specs.Start.{IsStart, AreCommonHeads};
 use crate::draw::{SAMPLE, common_heads, first_undecided_spot, sample};
 use crate::error::DiscoveryError;
 use crate::family::{Family, family_of};
-use crate::settle::{take_back, tell_all};
+use crate::spread::{take_back, tell_all};
 use crate::start::{parents_of, shared, undecided};
 use crate::status::{Spot, Status};
 use hg_changeset::Node;

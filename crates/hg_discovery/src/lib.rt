@@ -17,7 +17,7 @@ mod draw;
 mod error;
 mod family;
 mod laws;
-mod settle;
+mod spread;
 mod start;
 mod status;
 

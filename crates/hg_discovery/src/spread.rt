@@ -93,9 +93,9 @@ fn make_common(
     ensures log { KeepsLog decided.old log.old.items decided.new log.new.items }
 {
     let mut next = log.len();
-    settle(place, Status::Common, decided, log)?;
+    decide(place, Status::Common, decided, log)?;
     while next < log.len() {
-        settle_parents(parents[log[next]], decided, log)?;
+        decide_parents(parents[log[next]], decided, log)?;
         next += 1;
     }
     Ok(())
@@ -119,16 +119,16 @@ fn make_missing(
     ensures log { KeepsLog decided.old log.old.items decided.new log.new.items }
 {
     let mut next = log.len();
-    settle(place, Status::Missing, decided, log)?;
+    decide(place, Status::Missing, decided, log)?;
     while next < log.len() {
-        settle_children(&family.children, family.left[log[next]], decided, log)?;
+        decide_children(&family.children, family.left[log[next]], decided, log)?;
         next += 1;
     }
     Ok(())
 }
 
 // Makes the undecided ones of the parents common.
-fn settle_parents(
+fn decide_parents(
     parents: ParentPlaces,
     decided: &mut [Status],
     log: &mut Vec<usize>,
@@ -136,13 +136,13 @@ fn settle_parents(
     ensures grows { Grows (IsOneOf parents) Common decided.old log.old.items decided.new log.new.items }
     ensures taken { OnOk result (AreTaken (IsOneOf parents) Common decided.old decided.new) }
 {
-    settle_one(parents.first, decided, log)?;
-    settle_one(parents.second, decided, log)?;
+    decide_parent(parents.first, decided, log)?;
+    decide_parent(parents.second, decided, log)?;
     Ok(())
 }
 
 // Makes an undecided changeset common, where there is one.
-fn settle_one(
+fn decide_parent(
     place: Option<usize>,
     decided: &mut [Status],
     log: &mut Vec<usize>,
@@ -152,7 +152,7 @@ fn settle_one(
 {
     match place {
         Some(place) => {
-            settle(place, Status::Common, decided, log)?;
+            decide(place, Status::Common, decided, log)?;
             Ok(())
         }
         None => Ok(()),
@@ -160,7 +160,7 @@ fn settle_one(
 }
 
 // Makes the undecided ones of a stretch of children missing.
-fn settle_children(
+fn decide_children(
     children: &[usize],
     stretch: Stretch,
     decided: &mut [Status],
@@ -171,13 +171,13 @@ fn settle_children(
     ensures taken { OnOk result (AreTaken (Stands children.now stretch.from stretch.to) Missing decided.old decided.new) }
 {
     for i in stretch.from..stretch.to {
-        settle(children[i], Status::Missing, decided, log)?;
+        decide(children[i], Status::Missing, decided, log)?;
     }
     Ok(())
 }
 
 // Decides an undecided changeset, and logs it.
-fn settle(
+fn decide(
     one: usize,
     status: Status,
     decided: &mut [Status],

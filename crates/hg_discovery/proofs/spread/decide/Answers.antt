@@ -5,8 +5,8 @@ use Rattle.hg_discovery.specs.declared.status.Status.TheVariants.{Undecided}
 use Rattle.hg_discovery.specs.Search.{Is}
 use Rattle.hg_discovery.proofs.DecidedLemmas.{read_so, read_not_so}
 use Rattle.hg_discovery.proofs.WalkLemmas.{Grows-one}
-use Rattle.hg_discovery.proofs.settle.settle.Goals as goal
-use Rattle.hg_discovery.proofs.settle.settle.Goals.{else-one-decided-via-then-one-decided+else-eq, else-one-decided-via-else-one-decided}
+use Rattle.hg_discovery.proofs.spread.decide.Goals as goal
+use Rattle.hg_discovery.proofs.spread.decide.Goals.{else-one-decided-via-then-one-decided+else-eq, else-one-decided-via-else-one-decided}
 
 pub returns-in_ok-push-clause-grows : goal.returns-in_ok-push-clause-grows
 returns-in_ok-push-clause-grows c =

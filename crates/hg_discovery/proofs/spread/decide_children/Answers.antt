@@ -3,16 +3,16 @@ use Rattle.std.proofs.lemmas.Option.{slice_get-get_or}
 use Rattle.hg_discovery.specs.declared.status.Status.TheVariants.{Missing}
 use Rattle.hg_discovery.specs.Family.{Stands}
 use Rattle.hg_discovery.proofs.WalkLemmas.{Grows-wider, Grows-none, stretch_grows, stretch_taken, stands_in}
-use Rattle.hg_discovery.proofs.settle.settle_children.Goals as goal
+use Rattle.hg_discovery.proofs.spread.decide_children.Goals as goal
 
-pub returns-in_err-settle-clause-grows : goal.returns-in_err-settle-clause-grows
-returns-in_err-settle-clause-grows c =
+pub returns-in_err-decide-clause-grows : goal.returns-in_err-decide-clause-grows
+returns-in_err-decide-clause-grows c =
     let cs = c.args.children.now in
     let from = c.args.stretch.from in
     let i = c.loop-i.i in
     let at : slice_get cs i ≡ Some (get_or cs i 0) = slice_get-get_or cs i 0 (omega (arith, c.requires, c.loop-i-test.true, c.loop-i.auto.i-end)) in
     Grows-wider Missing (Stands cs from (i + 1)) (Stands cs from c.args.stretch.to) _ _ _ _ (λ k h. stands_in cs from (i + 1) c.args.stretch.to k (omega (arith, c.loop-i-test.true, c.loop-i.auto.i-end)) h)
-    (stretch_grows cs from i (get_or cs i 0) at c.loop-i.invariant.from Missing _ _ _ _ _ _ c.loop-i.invariant.grows c.settle.ensures.grows)
+    (stretch_grows cs from i (get_or cs i 0) at c.loop-i.invariant.from Missing _ _ _ _ _ _ c.loop-i.invariant.grows c.decide.ensures.grows)
 
 pub loop-i-preserved : goal.loop-i-preserved
 loop-i-preserved c =
@@ -21,8 +21,8 @@ loop-i-preserved c =
     let i = c.loop-i.i in
     let at : slice_get cs i ≡ Some (get_or cs i 0) = slice_get-get_or cs i 0 (omega (arith, c.requires, c.loop-i-test.true, c.loop-i.auto.i-end)) in
     record {
-      grows = stretch_grows cs from i (get_or cs i 0) at c.loop-i.invariant.from Missing _ _ _ _ _ _ c.loop-i.invariant.grows c.settle.ensures.grows;
-      taken = stretch_taken cs from i (get_or cs i 0) at c.loop-i.invariant.from Missing _ _ _ _ _ _ c.loop-i.invariant.grows c.settle.ensures.grows c.loop-i.invariant.taken c.in_ok-settle.ensures.taken;
+      grows = stretch_grows cs from i (get_or cs i 0) at c.loop-i.invariant.from Missing _ _ _ _ _ _ c.loop-i.invariant.grows c.decide.ensures.grows;
+      taken = stretch_taken cs from i (get_or cs i 0) at c.loop-i.invariant.from Missing _ _ _ _ _ _ c.loop-i.invariant.grows c.decide.ensures.grows c.loop-i.invariant.taken c.in_ok-decide.ensures.taken;
       from = omega (arith, c.loop-i.invariant.from);
       edge = inr (omega (arith, c.loop-i-test.true, c.loop-i.auto.i-end));
     }

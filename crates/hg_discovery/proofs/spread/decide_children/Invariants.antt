@@ -2,7 +2,7 @@ use Rattle.std.proofs.Common.{◌≡◌, ◌⊎◌, ◌≤◌}
 use Rattle.hg_discovery.specs.declared.status.Status.TheVariants.{Missing}
 use Rattle.hg_discovery.specs.Family.{Stands}
 use Rattle.hg_discovery.specs.Log.{Grows, AreTaken}
-use Rattle.hg_discovery.proofs.settle.settle_children.Given as goal
+use Rattle.hg_discovery.proofs.spread.decide_children.Given as goal
 
 abbrev pub invariant-loop-i : goal.invariant-loop-i
 invariant-loop-i l = record {

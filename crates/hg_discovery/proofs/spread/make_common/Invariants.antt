@@ -2,7 +2,7 @@ use Rattle.std.proofs.Common.{◌+◌, ◌-◌, length}
 use Rattle.hg_discovery.specs.declared.status.Status.TheVariants.{Common}
 use Rattle.hg_discovery.specs.Rounds.{undecided}
 use Rattle.hg_discovery.proofs.WalkLemmas.{IsWalked, ToParent, Below}
-use Rattle.hg_discovery.proofs.settle.make_common.Given as goal
+use Rattle.hg_discovery.proofs.spread.make_common.Given as goal
 
 abbrev pub invariant-loop-next : goal.invariant-loop-next
 invariant-loop-next l = IsWalked Common (ToParent l.parents) (Below l.parents l.place) l.place l.fn.decided l.fn.log.items l.decided l.log.items l.next

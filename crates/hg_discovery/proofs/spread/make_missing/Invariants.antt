@@ -3,7 +3,7 @@ use Rattle.hg_discovery.specs.declared.status.Status.TheVariants.{Missing}
 use Rattle.hg_discovery.specs.Rounds.{undecided}
 use Rattle.hg_discovery.specs.Under.{IsUnder}
 use Rattle.hg_discovery.proofs.WalkLemmas.{IsWalked, ToChild}
-use Rattle.hg_discovery.proofs.settle.make_missing.Given as goal
+use Rattle.hg_discovery.proofs.spread.make_missing.Given as goal
 
 abbrev pub invariant-loop-next : goal.invariant-loop-next
 invariant-loop-next l = IsWalked Missing (ToChild l.parents) (IsUnder l.parents l.place) l.place l.fn.decided l.fn.log.items l.decided l.log.items l.next

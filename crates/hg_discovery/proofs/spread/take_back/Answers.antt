@@ -2,7 +2,7 @@ use Rattle.std.proofs.Common.{◌≡◌, arith, get_or, Some, slice_get}
 use Rattle.std.proofs.lemmas.Option.{slice_get-get_or}
 use Rattle.hg_graph.proofs.GraphLemmas.{Contains-from_place}
 use Rattle.hg_discovery.proofs.LogLemmas.{IsTakenBack-step, IsTakenBack-end}
-use Rattle.hg_discovery.proofs.settle.take_back.Goals as goal
+use Rattle.hg_discovery.proofs.spread.take_back.Goals as goal
 
 pub bounds-decided-place : goal.bounds-decided-place
 bounds-decided-place c =

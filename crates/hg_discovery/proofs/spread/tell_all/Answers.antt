@@ -2,7 +2,7 @@ use Rattle.std.proofs.Common.{◌≡◌, ◌+◌, ◌++◌, ◌∷◌, ◌∙◌
 use Rattle.std.proofs.lemmas.List.{take_more, take_all}
 use Rattle.hg_discovery.proofs.FamilyLemmas.{IsFamily-later}
 use Rattle.hg_discovery.proofs.ToldLemmas.{AreTold-more, told_before, told_closed}
-use Rattle.hg_discovery.proofs.settle.tell_all.Goals as goal
+use Rattle.hg_discovery.proofs.spread.tell_all.Goals as goal
 
 pub loop-i-init : goal.loop-i-init
 loop-i-init c = record { told = refl; closed = c.requires.closed; family = c.requires.family; len = refl; log = λ base l. l }
