@@ -1,5 +1,6 @@
 -- Tests of a Bool, and elements of lists.
-use Rattle.std.proofs.Common.{◌≡◌, inl, inr, Bool, true, false, List, [], ◌∷◌, Contains, refl, ap, sym, subst, ◌∙◌, not, ◌||◌, true≢false}
+use Rattle.std.proofs.Common.{◌≡◌, inl, inr, Bool, true, false, List, [], ◌∷◌, Contains, refl, ap, sym, subst, ◌∙◌, not}
+use Rattle.std.proofs.Common.{◌||◌, true≢false}
 use Rattle.std.specs.List.{list_any}
 use Rattle.hg_changeset.specs.declared.node.Node.{Node}
 use Rattle.hg_changeset.specs.Node.{node_eq}
@@ -16,9 +17,11 @@ not_untrue true h = absurd (h refl)
 not_untrue false h = refl
 
 -- the nodes that `contains` finds
-any_first : (n y : Node) (ns : List Node) → (list_any (λ m. node_eq m n) ns ≡ true → Contains ns n) → (b : Bool) → node_eq y n ≡ b → list_any (λ m. node_eq m n) (y ∷ ns) ≡ true → Contains (y ∷ ns) n
+any_first : (n y : Node) (ns : List Node) → (list_any (λ m. node_eq m n) ns ≡ true → Contains ns n) → (b : Bool)
+    → node_eq y n ≡ b → list_any (λ m. node_eq m n) (y ∷ ns) ≡ true → Contains (y ∷ ns) n
 any_first n y ns rest true e h = subst (Contains (y ∷ ns)) (same_node y n e) (Contains-first y ns)
-any_first n y ns rest false e h = Contains-later y ns n (rest (subst (λ b. (b || list_any (λ m. node_eq m n) ns) ≡ true) e h))
+any_first n y ns rest false e h =
+    Contains-later y ns n (rest (subst (λ b. (b || list_any (λ m. node_eq m n) ns) ≡ true) e h))
 
 pub Contains-any : (ns : List Node) (n : Node) → list_any (λ m. node_eq m n) ns ≡ true → Contains ns n
 Contains-any [] n h = absurd (true≢false (sym h))

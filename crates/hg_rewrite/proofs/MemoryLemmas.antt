@@ -9,17 +9,21 @@ use Rattle.hg_rewrite.specs.declared.op.Op.TheVariants.{Commit, Amend, Split, Fo
 use Rattle.hg_rewrite.specs.declared.refusal.Refusal.{Refusal}
 use Rattle.hg_rewrite.specs.declared.refusal.Refusal.TheVariants.{NoMemory}
 use Rattle.hg_rewrite.specs.Refusals.{Row, NoneApplies, IsFirstRefusal, new_parents, unknown_nodes, hidden_parents}
-use Rattle.hg_rewrite.specs.Refusals.{public_nodes, obsolete_nodes, not_linear, wrong_count, raise, bad_entries, bad_users}
+use Rattle.hg_rewrite.specs.Refusals.{public_nodes, obsolete_nodes, not_linear, wrong_count, raise, bad_entries}
+use Rattle.hg_rewrite.specs.Refusals.{bad_users}
 use Rattle.hg_rewrite.specs.Memory.{WalksForHidden, WalksForDescendants, rows_before_descendants, MayWantMemory}
 use Rattle.hg_rewrite.proofs.RowLemmas.{none_both}
 use Rattle.hg_rewrite.proofs.TableLemmas.{AreTelling, no_memory}
 
 -- one of the two parents that it names is obsolete
-either : (s : ReplicaState) (a b p q : Node) → a ∷ b ∷ [] ≡ p ∷ q ∷ [] → IsObsolete (content_of s) p ⊎ IsObsolete (content_of s) q → IsObsolete (content_of s) a ⊎ IsObsolete (content_of s) b
+either : (s : ReplicaState) (a b p q : Node) → a ∷ b ∷ [] ≡ p ∷ q ∷ []
+    → IsObsolete (content_of s) p ⊎ IsObsolete (content_of s) q
+    → IsObsolete (content_of s) a ⊎ IsObsolete (content_of s) b
 either s a b p q e (inl h) = let same : a ≡ p = cc in inl (subst (IsObsolete (content_of s)) (sym same) h)
 either s a b p q e (inr h) = let same : b ≡ q = cc in inr (subst (IsObsolete (content_of s)) (sym same) h)
 
-pub walks_for_hidden : (s : ReplicaState) (op : Op) (p q : Node) → new_parents op ≡ p ∷ q ∷ [] → IsObsolete (content_of s) p ⊎ IsObsolete (content_of s) q → WalksForHidden s op
+pub walks_for_hidden : (s : ReplicaState) (op : Op) (p q : Node) → new_parents op ≡ p ∷ q ∷ []
+    → IsObsolete (content_of s) p ⊎ IsObsolete (content_of s) q → WalksForHidden s op
 walks_for_hidden s (Commit a b entry secret) p q e h = either s a b p q e h
 walks_for_hidden s (Amend node entry) p q e h = cc
 walks_for_hidden s (Split node es) p q e h = cc
@@ -29,7 +33,8 @@ walks_for_hidden s (Relocate node a b entry) p q e h = either s a b p q e h
 walks_for_hidden s (Advance node phase) p q e h = cc
 
 -- the refusal that a call passes on is want of memory
-pub told : {X : Type 0} (answer : Result X Refusal) (passed r : Refusal) → answer ≡ Err passed → passed ≡ r → answer ≡ Err NoMemory → r ≡ NoMemory
+pub told : {X : Type 0} (answer : Result X Refusal) (passed r : Refusal) → answer ≡ Err passed → passed ≡ r
+    → answer ≡ Err NoMemory → r ≡ NoMemory
 told answer passed r is same memory = let e : passed ≡ NoMemory = cc in sym same ∙ e
 
 -- a row's refusal never is
@@ -40,7 +45,8 @@ module _ (s : ReplicaState) (op : Op) (known : NoneApplies (unknown_nodes s op))
   pub wanting_hidden : WalksForHidden s op → MayWantMemory s op
   wanting_hidden walks = inl (known, walks)
 
-  module _ (visible : NoneApplies (hidden_parents s op)) (unpublished : NoneApplies (public_nodes s op)) (current : NoneApplies (obsolete_nodes s op)) where
+  module _ (visible : NoneApplies (hidden_parents s op)) (unpublished : NoneApplies (public_nodes s op))
+      (current : NoneApplies (obsolete_nodes s op)) where
     before : NoneApplies (rows_before_descendants s op)
     before =
         none_both (unknown_nodes s op) _ known

@@ -25,26 +25,32 @@ content-missing s n missing = by (content_of s n) refl
     by None e = e
     by (Some h) e =
         let r = held_in_content s n h e in
-        absurd (missing (subst (GraphHolds (changesets s)) r.1 (Holds-from (changesets s) h.changeset (Contains-map (λ (x : Held). x.changeset) s.held h r.0))))
+        absurd (missing (subst (GraphHolds (changesets s)) r.1
+        (Holds-from (changesets s) h.changeset (Contains-map (λ (x : Held). x.changeset) s.held h r.0))))
 
 pub phase_in-held : (s : State) → IsValid s → (n : Node) (k : Phase) → IsPhaseOf s n k → phase_in s n ≡ k
 unfolding phase_in
-phase_in-held s valid n k h = ap (λ o. option_map_or (λ (x : Held). x.phase) o Public) (content-held s valid.graph n h.0 h.1 h.2) ∙ h.3
+phase_in-held s valid n k h = ap (λ o. option_map_or (λ (x : Held). x.phase) o Public)
+    (content-held s valid.graph n h.0 h.1 h.2) ∙ h.3
 
 pub phase_in-missing : (s : State) (n : Node) → ¬ (Holds s n) → phase_in s n ≡ Public
 unfolding phase_in
 phase_in-missing s n missing = ap (λ o. option_map_or (λ (x : Held). x.phase) o Public) (content-missing s n missing)
 
-pub parents_in-held : (s : State) → IsValid s → (n : Node) (c : Contents) → Contains (changesets s) c → node_of c ≡ n → parents_in s n ≡ (c.first, c.second)
+pub parents_in-held : (s : State) → IsValid s → (n : Node) (c : Contents) → Contains (changesets s) c → node_of c ≡ n
+    → parents_in s n ≡ (c.first, c.second)
 unfolding parents_in
 parents_in-held s valid n c at is =
     let h = Contains-map_from (λ (x : Held). x.changeset) s.held c at in
-    ap (λ o. option_map_or (λ (x : Held). (x.changeset.first, x.changeset.second)) o (null_node, null_node)) (content-held s valid.graph n h.0 h.1 (ap node_of h.2 ∙ is))
+    ap (λ o. option_map_or (λ (x : Held). (x.changeset.first, x.changeset.second)) o (null_node, null_node))
+    (content-held s valid.graph n h.0 h.1 (ap node_of h.2 ∙ is))
     ∙ ap (λ (x : Contents). (x.first, x.second)) h.2
 
 pub parents_in-missing : (s : State) (n : Node) → ¬ (Holds s n) → parents_in s n ≡ (null_node, null_node)
 unfolding parents_in
-parents_in-missing s n missing = ap (λ o. option_map_or (λ (x : Held). (x.changeset.first, x.changeset.second)) o (null_node, null_node)) (content-missing s n missing)
+parents_in-missing s n missing =
+    ap (λ o. option_map_or (λ (x : Held). (x.changeset.first, x.changeset.second)) o (null_node, null_node))
+    (content-missing s n missing)
 
 -- a node is held or isn't
 pub held_or_not : (s : State) → IsValid s → (n : Node) → Holds s n ⊎ (¬ (Holds s n))
@@ -53,7 +59,8 @@ held_or_not s valid n = by (content_of s n) refl
     by : (o : Option Held) → content_of s n ≡ o → Holds s n ⊎ (¬ (Holds s n))
     by (Some h) e =
         let r = held_in_content s n h e in
-        inl (subst (GraphHolds (changesets s)) r.1 (Holds-from (changesets s) h.changeset (Contains-map (λ (x : Held). x.changeset) s.held h r.0)))
+        inl (subst (GraphHolds (changesets s)) r.1 (Holds-from (changesets s) h.changeset
+        (Contains-map (λ (x : Held). x.changeset) s.held h r.0)))
     by None e = inr (λ held.
         let c = Holds-changeset (changesets s) n held in
         let h = Contains-map_from (λ (x : Held). x.changeset) s.held c.0 c.1 in

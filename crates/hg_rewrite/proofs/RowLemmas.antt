@@ -1,5 +1,7 @@
 -- Rows that are tried one after another.
-use Rattle.std.proofs.Common.{◌≡◌, ℕ, zero, suc, ◌<◌, ◌≤◌, ◌+◌, ◌⊎◌, inl, inr, List, [], ◌∷◌, ◌++◌, length, map, take, drop, get_or, slice_get, Some, Result, Ok, Err, Contains, refl, sym, ap, subst, ◌∙◌, arith}
+use Rattle.std.proofs.Common.{◌≡◌, ℕ, zero, suc, ◌<◌, ◌≤◌, ◌+◌, ◌⊎◌, inl, inr, List, [], ◌∷◌, ◌++◌, length, map, take}
+use Rattle.std.proofs.Common.{drop, get_or, slice_get, Some, Result, Ok, Err, Contains, refl, sym, ap, subst, ◌∙◌}
+use Rattle.std.proofs.Common.{arith}
 use Rattle.std.proofs.lemmas.List.{take_more, take_all}
 use Rattle.std.proofs.lemmas.Option.{none-some, same_Some}
 use Rattle.std.specs.declared.vec.Vec.{Vec}
@@ -34,27 +36,33 @@ pub sooner : (xs ys : List Row) (r : Refusal) → IsRefusal xs r → IsRefusal (
 sooner xs ys r (inl e) = inl e
 sooner xs ys r (inr h) = inr (first_sooner xs ys r h)
 
-pub gives_later : {X : Type 0} (xs ys : List Row) (vs : List X) (r : Result (Vec X Global) Refusal) → NoneApplies xs → Gives ys vs r → Gives (xs ++ ys) vs r
+pub gives_later : {X : Type 0} (xs ys : List Row) (vs : List X) (r : Result (Vec X Global) Refusal) → NoneApplies xs
+    → Gives ys vs r → Gives (xs ++ ys) vs r
 gives_later xs ys vs (Ok v) none h = (none_both xs ys none h.0, h.1)
 gives_later xs ys vs (Err r) none h = later xs ys r none h
 
 -- one row for each of some values, as far as a loop has come
 module _ {X : Type 0} (row : X → Row) where
-  pub none_push : (xs : List X) (x : X) → NoneApplies (map row xs) → ¬ (Applies (row x)) → NoneApplies (map row (xs ++ x ∷ []))
+  pub none_push : (xs : List X) (x : X) → NoneApplies (map row xs) → ¬ (Applies (row x))
+      → NoneApplies (map row (xs ++ x ∷ []))
   none_push [] x none not = (not, tt)
   none_push (y ∷ xs) x none not = (none.0, none_push xs x none.1 not)
 
   -- one more doesn't apply
-  pub none_more : (xs : List X) (i : ℕ) (d : X) → i < length xs → NoneApplies (map row (take i xs)) → ¬ (Applies (row (get_or xs i d))) → NoneApplies (map row (take (i + 1) xs))
-  none_more xs i d lt none not = subst (λ ys. NoneApplies (map row ys)) (sym (take_more xs i d lt)) (none_push (take i xs) (get_or xs i d) none not)
+  pub none_more : (xs : List X) (i : ℕ) (d : X) → i < length xs → NoneApplies (map row (take i xs))
+      → ¬ (Applies (row (get_or xs i d))) → NoneApplies (map row (take (i + 1) xs))
+  none_more xs i d lt none not = subst (λ ys. NoneApplies (map row ys)) (sym (take_more xs i d lt))
+      (none_push (take i xs) (get_or xs i d) none not)
 
   -- the next one applies
-  pub first_next : (xs : List X) (i : ℕ) (d : X) (r : Refusal) → i < length xs → NoneApplies (map row (take i xs)) → row (get_or xs i d) r → IsFirstRefusal (map row xs) r
+  pub first_next : (xs : List X) (i : ℕ) (d : X) (r : Refusal) → i < length xs → NoneApplies (map row (take i xs))
+      → row (get_or xs i d) r → IsFirstRefusal (map row xs) r
   first_next [] i d r lt none is = absurd (omega arith)
   first_next (x ∷ xs) zero d r lt none is = inl is
   first_next (x ∷ xs) (suc i) d r lt none is = inr (none.0, first_next xs i d r (omega arith) none.1 is)
 
-  pub first_after : (xs ys : List X) (x : X) (r : Refusal) → NoneApplies (map row xs) → row x r → IsFirstRefusal (map row (xs ++ x ∷ ys)) r
+  pub first_after : (xs ys : List X) (x : X) (r : Refusal) → NoneApplies (map row xs) → row x r
+      → IsFirstRefusal (map row (xs ++ x ∷ ys)) r
   first_after [] ys x r none is = inl is
   first_after (z ∷ xs) ys x r none is = inr (none.0, first_after xs ys x r none.1 is)
 
@@ -72,14 +80,19 @@ drop_next k n ns = ap (λ j. drop j (n ∷ ns)) (add_one (suc k)) ∙ ap (λ j. 
     add_one : (j : ℕ) → j + 1 ≡ suc j
     add_one j = omega arith
 
-taken_later : (s : State) (n : Node) (ns : List Node) (k : ℕ) (m : Node) → IsTaken s ns k m → IsTaken s (n ∷ ns) (suc k) m
+taken_later : (s : State) (n : Node) (ns : List Node) (k : ℕ) (m : Node) → IsTaken s ns k m
+    → IsTaken s (n ∷ ns) (suc k) m
 taken_later s n ns k m h = subst (λ xs. Holds s m ⊎ Contains xs m) (sym (drop_next k n ns)) h
 
-pub none_existing : (s : State) (ns : List Node) → ((k : ℕ) (n : Node) → slice_get ns k ≡ Some n → ¬ (IsTaken s ns k n)) → NoneApplies (existing s ns)
+pub none_existing : (s : State) (ns : List Node) → ((k : ℕ) (n : Node) → slice_get ns k ≡ Some n
+    → ¬ (IsTaken s ns k n)) → NoneApplies (existing s ns)
 none_existing s [] not = tt
-none_existing s (n ∷ ns) not = ((λ r. not 0 n refl r.1.0), none_existing s ns (λ k m at is. not (suc k) m at (taken_later s n ns k m is)))
+none_existing s (n ∷ ns) not =
+    ((λ r. not 0 n refl r.1.0), none_existing s ns (λ k m at is. not (suc k) m at (taken_later s n ns k m is)))
 
-pub first_existing : (s : State) (ns : List Node) (i : ℕ) (n : Node) → ((k : ℕ) → k < i → (m : Node) → slice_get ns k ≡ Some m → ¬ (IsTaken s ns k m)) → slice_get ns i ≡ Some n → IsTaken s ns i n → IsFirstRefusal (existing s ns) (Exists n)
+pub first_existing : (s : State) (ns : List Node) (i : ℕ) (n : Node)
+    → ((k : ℕ) → k < i → (m : Node) → slice_get ns k ≡ Some m → ¬ (IsTaken s ns k m)) → slice_get ns i ≡ Some n
+    → IsTaken s ns i n → IsFirstRefusal (existing s ns) (Exists n)
 first_existing s [] i n not at is = absurd (none-some n at)
 first_existing s (m ∷ ns) zero n not at is =
     let e : m ≡ n = same_Some m n at in
@@ -87,7 +100,8 @@ first_existing s (m ∷ ns) zero n not at is =
 first_existing s (m ∷ ns) (suc i) n not at is =
     inr (
       (λ r. not 0 (omega arith) m refl r.1.0),
-      first_existing s ns i n (λ k lt x at_x is_x. not (suc k) (omega arith) x at_x (taken_later s m ns k x is_x)) at (subst (λ xs. Holds s n ⊎ Contains xs n) (drop_next i m ns) is),
+      first_existing s ns i n (λ k lt x at_x is_x. not (suc k) (omega arith) x at_x (taken_later s m ns k x is_x)) at
+          (subst (λ xs. Holds s n ⊎ Contains xs n) (drop_next i m ns) is),
     )
 
 -- rows of values that are made of others
@@ -96,7 +110,8 @@ module _ {X Y : Type 0} (row : Y → Row) (f : X → Y) where
   none_mapped [] none = tt
   none_mapped (x ∷ xs) none = (none.0, none_mapped xs none.1)
 
-  pub first_mapped : (xs : List X) (r : Refusal) → IsFirstRefusal (map (λ x. row (f x)) xs) r → IsFirstRefusal (map row (map f xs)) r
+  pub first_mapped : (xs : List X) (r : Refusal) → IsFirstRefusal (map (λ x. row (f x)) xs) r
+      → IsFirstRefusal (map row (map f xs)) r
   first_mapped [] r first = absurd first
   first_mapped (x ∷ xs) r (inl h) = inl h
   first_mapped (x ∷ xs) r (inr h) = inr (h.0, first_mapped xs r h.1)

@@ -10,14 +10,18 @@ use Rattle.hg_marker.specs.Fields.{Fields}
 use Rattle.hg_replica.specs.State.{ReplicaState}
 use Rattle.hg_rewrite.specs.declared.op.Op.{Op}
 use Rattle.hg_rewrite.specs.declared.refusal.Refusal.{Refusal}
-use Rattle.hg_rewrite.specs.declared.refusal.Refusal.TheVariants.{Unknown, Hidden, Public, AlreadyObsolete, NotLinear, Count, Raise, Fault, Exists, NoMemory}
+use Rattle.hg_rewrite.specs.declared.refusal.Refusal.TheVariants.{Unknown, Hidden, Public, AlreadyObsolete, NotLinear}
+use Rattle.hg_rewrite.specs.declared.refusal.Refusal.TheVariants.{Count, Raise, Fault, Exists, NoMemory}
 use Rattle.hg_rewrite.specs.declared.refusal.Cause.{Cause}
 use Rattle.hg_rewrite.specs.declared.refusal.Cause.TheVariants.{Entry, Changeset, Marker}
 use Rattle.hg_rewrite.specs.Parts.{entries, new_changesets, new_ids, markers, rewritten}
-use Rattle.hg_rewrite.specs.Refusals.{Row, NoneApplies, IsFirstRefusal, where_so, unknown, unknown_parent, unknown_nodes}
-use Rattle.hg_rewrite.specs.Refusals.{targets, new_parents, hidden, hidden_parents, is_public, public_nodes, is_obsolete}
+use Rattle.hg_rewrite.specs.Refusals.{Row, NoneApplies, IsFirstRefusal, where_so, unknown, unknown_parent}
+use Rattle.hg_rewrite.specs.Refusals.{unknown_nodes}
+use Rattle.hg_rewrite.specs.Refusals.{targets, new_parents, hidden, hidden_parents, is_public, public_nodes}
+use Rattle.hg_rewrite.specs.Refusals.{is_obsolete}
 use Rattle.hg_rewrite.specs.Refusals.{obsolete_nodes, not_linear, wrong_count, raise, entry_refused, changeset_refused}
-use Rattle.hg_rewrite.specs.Refusals.{user_refused, marker_refused, users, bad_entries, bad_users, not_written, not_marked}
+use Rattle.hg_rewrite.specs.Refusals.{user_refused, marker_refused, users, bad_entries, bad_users, not_written}
+use Rattle.hg_rewrite.specs.Refusals.{not_marked}
 use Rattle.hg_rewrite.specs.Refusals.{existing, existing_ids, refusals}
 
 -- the row tells one refusal at most, and never want of memory
@@ -31,7 +35,8 @@ AreTelling (row ∷ rows) = IsTelling row × AreTelling rows
 
 -- ---- what follows for the first refusal
 
-pub first_is_one : (rows : List Row) (r other : Refusal) → AreTelling rows → IsFirstRefusal rows r → IsFirstRefusal rows other → r ≡ other
+pub first_is_one : (rows : List Row) (r other : Refusal) → AreTelling rows → IsFirstRefusal rows r
+    → IsFirstRefusal rows other → r ≡ other
 first_is_one [] r other t h k = absurd h
 first_is_one (row ∷ rows) r other t (inl h) (inl k) = t.0.one r other h k
 first_is_one (row ∷ rows) r other t (inl h) (inr k) = absurd (k.0 (r, h))
@@ -53,7 +58,8 @@ no_memory (row ∷ rows) t (inr h) = no_memory rows t.1 h.1
 where_so_tells : (P : Type 0) (refusal : Refusal) → (NoMemory ≡ refusal → ⊥) → IsTelling (where_so P refusal)
 where_so_tells P refusal not = record { one = λ r other h k. h.1 ∙ sym k.1; fault = λ h. not h.1 }
 
-fault_tells : {F : Type 0} (told : Option F) (cause : F → Cause) → IsTelling (λ r. (f : F) × (told ≡ Some f) × (r ≡ Fault (cause f)))
+fault_tells : {F : Type 0} (told : Option F) (cause : F → Cause)
+    → IsTelling (λ r. (f : F) × (told ≡ Some f) × (r ≡ Fault (cause f)))
 fault_tells told cause = record {
   one = λ r other h k. h.2 ∙ ap (λ f. Fault (cause f)) (same_Some h.0 k.0 (sym h.1 ∙ k.1)) ∙ sym k.2;
   fault = λ h. let e = h.2 in cc;
@@ -61,7 +67,8 @@ fault_tells told cause = record {
 
 marker_tells : (m : Fields) → IsTelling (marker_refused m)
 marker_tells m = record {
-  one = λ r other h k. let a = h.1 in let b = k.1 in let e : h.0 ≡ k.0 = cc in h.2 ∙ ap (λ f. Fault (Marker f)) e ∙ sym k.2;
+  one = λ r other h k. let a = h.1 in let b = k.1 in let e : h.0 ≡ k.0 = cc in h.2 ∙ ap (λ f. Fault (Marker f)) e
+      ∙ sym k.2;
   fault = λ h. let e = h.2 in cc;
 }
 
@@ -112,7 +119,8 @@ module _ (s : ReplicaState) (op : Op) where
   unwritten_tells =
       both (bad_entries op) (map changeset_refused (new_changesets s.history op))
       (entries_tell op)
-      (mapped changeset_refused (λ n. fault_tells (changeset_fault n.p n.q n.text) Changeset) (new_changesets s.history op))
+      (mapped changeset_refused (λ n. fault_tells (changeset_fault n.p n.q n.text) Changeset)
+      (new_changesets s.history op))
 
   unmarked_tells : AreTelling (not_marked s op)
   unmarked_tells =
@@ -135,7 +143,8 @@ module _ (s : ReplicaState) (op : Op) where
           count_tells.0,
           (
             raise_tells.0,
-            both (not_written s op) _ unwritten_tells (both (not_marked s op) (existing_ids s op) unmarked_tells existing_ids_tells),
+            both (not_written s op) _ unwritten_tells (both (not_marked s op)
+                (existing_ids s op) unmarked_tells existing_ids_tells),
           ),
         ),
       ))))

@@ -41,7 +41,8 @@ Gives rows xs (Err r) = IsRefusal rows r
 
 -- the answer of what writes these entries
 abbrev pub TextsAnswer : List EntryValue → Result (Vec (Vec ℕ Global) Global) Refusal → Type 0
-TextsAnswer es (Ok texts) = NoneApplies (map entry_refused es) × (map (λ text. text.items) texts.items ≡ map entry_text es)
+TextsAnswer es (Ok texts) = NoneApplies (map entry_refused es)
+    × (map (λ text. text.items) texts.items ≡ map entry_text es)
 TextsAnswer es (Err r) = IsRefusal (map entry_refused es) r
 
 -- the refusal that tells a fault of an entry; want of memory is no fault of it

@@ -1,8 +1,9 @@
 -- Where memory may be wanting.
 --
--- Whether nodes are held, public or obsolete, whether they are a line, how many there are, which phase they have, and whether
--- each entry has a text, is seen by look-ups and comparisons. Three steps take memory, in this order: a walk that tells whether
--- a new parent is hidden, one that tells whether a new parent is a descendant, and what is written in the end.
+-- Whether nodes are held, public or obsolete, whether they are a line, how many there are, which phase they have, and
+-- whether each entry has a text, is seen by look-ups and comparisons. Three steps take memory, in this order: a walk
+-- that tells whether a new parent is hidden, one that tells whether a new parent is a descendant, and what is written
+-- in the end.
 use Rattle.std.specs.Prelude.{◌≢◌, ℕ, ◌<◌, ◌⊎◌, List, ◌++◌}
 use Rattle.hg_changeset.specs.declared.node.Node.{Node}
 use Rattle.hg_graph.specs.Places.{IsAt}

@@ -1,7 +1,8 @@
 -- The numbers and the names of the refusals. A number counts from 1 in the order in which they are tried.
 use Rattle.std.specs.Prelude.{ℕ, List, Option, Some, None, codes}
 use Rattle.hg_rewrite.specs.declared.refusal.Refusal.{Refusal}
-use Rattle.hg_rewrite.specs.declared.refusal.Refusal.TheVariants.{Unknown, Hidden, Public, AlreadyObsolete, NotLinear, Count, Raise, Fault, Exists, NoMemory}
+use Rattle.hg_rewrite.specs.declared.refusal.Refusal.TheVariants.{Unknown, Hidden, Public, AlreadyObsolete, NotLinear}
+use Rattle.hg_rewrite.specs.declared.refusal.Refusal.TheVariants.{Count, Raise, Fault, Exists, NoMemory}
 
 -- want of memory has no number
 abbrev pub refusal_number : Refusal → Option ℕ

@@ -1,8 +1,9 @@
 -- The table of operations: the part of each.
 --
--- The first column is the new changesets: on which parents, of which entries. The second is the bounds, and the third the
--- markers: which nodes are rewritten to the new changesets, and what is noted of it.
-use Rattle.std.specs.Prelude.{ℕ, ℤ, List, [], ◌∷◌, ◌-◌, length, slice_get, map, if◌then◌else◌, codes, option_to_list, option_map}
+-- The first column is the new changesets: on which parents, of which entries. The second is the bounds, and the third
+-- the markers: which nodes are rewritten to the new changesets, and what is noted of it.
+use Rattle.std.specs.Prelude.{ℕ, ℤ, List, [], ◌∷◌, ◌-◌, length, slice_get, map, if◌then◌else◌, codes, option_to_list}
+use Rattle.std.specs.Prelude.{option_map}
 use Rattle.std.specs.FinMap.{empty, insert, put}
 use Rattle.hex.specs.Hex.{encode_lower}
 use Rattle.hg_changeset.specs.declared.node.Node.{Node}
@@ -36,7 +37,8 @@ contents_of n = changeset_of n.p n.q n.text
 -- the first on these parents, each further one with the one before as its sole parent
 unfoldable pub chain : Node × Node → List (List ℕ) → List NewChangeset
 chain on [] = []
-chain on (text ∷ texts) = record { p = on.0; q = on.1; text = text } ∷ chain (node_of (changeset_of on.0 on.1 text), null_node) texts
+chain on (text ∷ texts) = record { p = on.0; q = on.1; text = text } ∷ chain
+    (node_of (changeset_of on.0 on.1 text), null_node) texts
 
 -- the entry with a node noted among its extras, in place of an extra with the same key
 abbrev pub with_extra : List ℕ → Node → EntryValue → EntryValue
@@ -102,12 +104,14 @@ last (n ∷ []) = n
 last (n ∷ m ∷ ns) = last (m ∷ ns)
 
 abbrev pub bounds : State → Op → List (Node × Phase)
-bounds s (Commit p q entry secret) = on_last (new_ids s (Commit p q entry secret)) (highest (asked secret) (highest (phase_in s p) (phase_in s q)))
+bounds s (Commit p q entry secret) = on_last (new_ids s (Commit p q entry secret))
+    (highest (asked secret) (highest (phase_in s p) (phase_in s q)))
 bounds s (Amend node entry) = on_last (new_ids s (Amend node entry)) (phase_in s node)
 bounds s (Split node es) = on_last (new_ids s (Split node es)) (phase_in s node)
 bounds s (Fold nodes entry) = on_last (new_ids s (Fold nodes entry)) (phase_in s (last nodes.items))
 bounds s (Prune node user secs offset) = []
-bounds s (Relocate node p q entry) = on_last (new_ids s (Relocate node p q entry)) (highest (phase_in s node) (highest (phase_in s p) (phase_in s q)))
+bounds s (Relocate node p q entry) = on_last (new_ids s (Relocate node p q entry))
+    (highest (phase_in s node) (highest (phase_in s p) (phase_in s q)))
 bounds s (Advance node phase) = (node, phase) ∷ []
 
 -- ---- markers
@@ -124,7 +128,9 @@ rewritten (Advance node phase) = []
 
 -- when, by which operation and by whom
 unfoldable pub noted : List ℕ → List ℕ → ℤ → ℤ → Texts
-noted operation user secs offset = insert (insert (insert empty (codes "date") (date_text secs offset)) (codes "operation") operation) (codes "user") (trimmed_user user)
+noted operation user secs offset =
+    insert (insert (insert empty (codes "date") (date_text secs offset)) (codes "operation") operation) (codes "user")
+    (trimmed_user user)
 
 abbrev pub noted_of : List ℕ → EntryValue → Texts
 noted_of operation e = noted operation e.user e.secs e.offset
@@ -145,7 +151,8 @@ metadata s (Commit p q entry secret) = empty
 metadata s (Amend node entry) = noted_of (codes "amend") entry
 metadata s (Split node es) = noted_of_first (codes "split") es.items
 metadata s (Fold nodes entry) = noted_of (codes "fold") entry
-metadata s (Prune node user secs offset) = with_parents (parents_in s node) (noted (codes "prune") user.items secs offset)
+metadata s (Prune node user secs offset) = with_parents (parents_in s node)
+    (noted (codes "prune") user.items secs offset)
 metadata s (Relocate node p q entry) = noted_of (codes "relocate") entry
 metadata s (Advance node phase) = empty
 

@@ -1,5 +1,6 @@
 -- The table of refusals: when an operation is refused, and how.
-use Rattle.std.specs.Prelude.{◌≡◌, ◌≢◌, ℕ, ◌+◌, ◌<◌, List, [], ◌∷◌, ◌++◌, length, map, ◌⊎◌, Some, Err, slice_get, Contains}
+use Rattle.std.specs.Prelude.{◌≡◌, ◌≢◌, ℕ, ◌+◌, ◌<◌, List, [], ◌∷◌, ◌++◌, length, map, ◌⊎◌, Some, Err, slice_get}
+use Rattle.std.specs.Prelude.{Contains}
 use Rattle.hg_changeset.specs.declared.node.Node.{Node}
 use Rattle.hg_changeset.specs.Node.{null_node}
 use Rattle.hg_changeset.specs.Changeset.{changeset_fault}
@@ -19,7 +20,8 @@ use Rattle.hg_replica.specs.Evolution.{IsObsolete, IsHidden}
 use Rattle.hg_rewrite.specs.declared.op.Op.{Op}
 use Rattle.hg_rewrite.specs.declared.op.Op.TheVariants.{Commit, Amend, Split, Fold, Prune, Relocate, Advance}
 use Rattle.hg_rewrite.specs.declared.refusal.Refusal.{Refusal}
-use Rattle.hg_rewrite.specs.declared.refusal.Refusal.TheVariants.{Unknown, Hidden, Public, AlreadyObsolete, NotLinear, Count, Raise, Fault, Exists}
+use Rattle.hg_rewrite.specs.declared.refusal.Refusal.TheVariants.{Unknown, Hidden, Public, AlreadyObsolete, NotLinear}
+use Rattle.hg_rewrite.specs.declared.refusal.Refusal.TheVariants.{Count, Raise, Fault, Exists}
 use Rattle.hg_rewrite.specs.declared.refusal.Cause.TheVariants.{Entry, Changeset, Marker}
 use Rattle.hg_rewrite.specs.Limits.{split_least, split_most, fold_least}
 use Rattle.hg_rewrite.specs.Reading.{phase_in, parents_in}
@@ -99,12 +101,13 @@ is_obsolete s n = where_so (IsObsolete (content_of s) n) (AlreadyObsolete n)
 abbrev pub obsolete_nodes : ReplicaState → Op → List Row
 obsolete_nodes s op = map (is_obsolete s) (rewritten op)
 
--- ---- 5: Fold: some node after the first hasn't the one before as its sole parent. Relocate: a new parent is the node or
--- a descendant
+-- ---- 5: Fold: some node after the first hasn't the one before as its sole parent. Relocate: a new parent is the node
+-- or a descendant
 
 -- each node after the first has the one before as its sole parent
 abbrev pub IsLinear : State → List Node → Type 0
-IsLinear s ns = (i : ℕ) (a b : Node) → slice_get ns i ≡ Some a → slice_get ns (i + 1) ≡ Some b → parents_in s b ≡ (a, null_node)
+IsLinear s ns = (i : ℕ) (a b : Node) → slice_get ns i ≡ Some a → slice_get ns (i + 1) ≡ Some b
+    → parents_in s b ≡ (a, null_node)
 
 abbrev pub IsNotLinear : State → Op → Type 0
 IsNotLinear s (Commit p q entry secret) = ⊥
@@ -146,8 +149,8 @@ IsRaise s (Advance node phase) = rank (phase_in s node) < rank phase
 abbrev pub raise : ReplicaState → Op → List Row
 raise s op = where_so (IsRaise s.history op) Raise ∷ []
 
--- ---- 8: there is no such entry, changeset or marker: the entries in order, then the changesets, for Prune the user, then
--- the markers
+-- ---- 8: there is no such entry, changeset or marker: the entries in order, then the changesets, for Prune the user,
+-- then the markers
 
 abbrev pub entry_refused : EntryValue → Row
 entry_refused e r = (f : EntryError) × (entry_fault e ≡ Some f) × (r ≡ Fault (Entry f))

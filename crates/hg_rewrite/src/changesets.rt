@@ -87,7 +87,8 @@ pub(crate) fn date(entry: &Entry) -> (i64, i32)
 
 // The changesets of the entries: the first on these parents, each further one on the one before.
 fn write(alloc: Global, parents: (Node, Node), entries: &[Entry]) -> Result<Vec<Changeset>, Refusal>
-    ensures answer { Gives (unwritten entries.now (written parents entries.now)) (map contents_of (written parents entries.now)) result }
+    ensures answer { Gives (unwritten entries.now (written parents entries.now))
+        (map contents_of (written parents entries.now)) result }
     ensures each { IfOk result (λ made. (c : Contents) → Contains made.items c → IsChangeset c) }
 {
     let texts = texts(alloc, entries)?;
@@ -123,7 +124,8 @@ fn chain(
     parents: (Node, Node),
     texts: Vec<Vec<u8>>,
 ) -> Result<Vec<Changeset>, Refusal>
-    ensures answer { Gives (map changeset_refused (chain parents (map (λ text. text.items) texts.items))) (map contents_of (chain parents (map (λ text. text.items) texts.items))) result }
+    ensures answer { Gives (map changeset_refused (chain parents (map (λ text. text.items) texts.items)))
+        (map contents_of (chain parents (map (λ text. text.items) texts.items))) result }
     ensures each { IfOk result (λ made. (c : Contents) → Contains made.items c → IsChangeset c) }
 {
     let (mut p, mut q) = parents;

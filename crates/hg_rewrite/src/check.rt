@@ -58,7 +58,8 @@ pub(crate) fn rewritten(op: &Op) -> &[Node]
 
 // The parents that it names.
 fn new_parents(op: &Op) -> Option<(Node, Node)>
-    ensures { MatchOption result (new_parents op.now ≡ []) (λ parents. new_parents op.now ≡ parents.0 ∷ parents.1 ∷ []) }
+    ensures { MatchOption result (new_parents op.now ≡ []) (λ parents.
+        new_parents op.now ≡ parents.0 ∷ parents.1 ∷ []) }
 {
     match op {
         Op::Commit { p, q, .. } => Some((*p, *q)),
@@ -118,7 +119,8 @@ pub(crate) fn check_visible(alloc: Global, replica: &Replica, op: &Op) -> Result
 
 fn check_parents_visible(alloc: Global, replica: &Replica, p: Node, q: Node) -> Result<(), Refusal>
     ensures answer { CheckedInMemory (map (hidden replica.now) (p ∷ q ∷ [])) result }
-    ensures memory { IsErrOf result Refusal.NoMemory → IsObsolete (content_of replica.now) p ⊎ IsObsolete (content_of replica.now) q }
+    ensures memory { IsErrOf result Refusal.NoMemory → IsObsolete (content_of replica.now) p
+        ⊎ IsObsolete (content_of replica.now) q }
 {
     if is_hidden(alloc, replica, p)? {
         return Err(Refusal::Hidden(p));

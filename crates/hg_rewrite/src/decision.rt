@@ -22,8 +22,8 @@ use std::alloc::Global;
 ///
 /// The replica admits the part, so that it refuses to absorb it only for want of memory, which is also told here only
 /// where a growth was refused. The call costs what the operation names and writes, however much the replica holds; a
-/// relocation costs what lies between its nodes as well, and a parent that is obsolete a walk over its descendants, which
-/// ends at the first that isn't.
+/// relocation costs what lies between its nodes as well, and a parent that is obsolete a walk over its descendants,
+/// which ends at the first that isn't.
 pub fn decide(alloc: Global, replica: &Replica, op: &Op) -> Result<Part, Refusal>
     ensures answer { DecideAnswer replica.now op.now result }
     ensures memory { IsErrOf result Refusal.NoMemory → MayWantMemory replica.now op.now }

@@ -2,7 +2,8 @@
 ghost use Rattle.std.specs.Prelude.{◌≡◌, IfOk, OnOk, map};
 ghost use Rattle.std.specs.FinMap.{insert};
 ghost use Rattle.hg_changeset.specs.EntryText.{date_text};
-ghost use Rattle.hg_rewrite.specs.Parts.{new_ids, noted, noted_of, noted_of_first, with_parents, metadata, marker, markers};
+ghost use Rattle.hg_rewrite.specs.Parts.{new_ids, noted, noted_of, noted_of_first, with_parents, metadata, marker};
+ghost use Rattle.hg_rewrite.specs.Parts.{markers};
 ghost use Rattle.hg_rewrite.specs.Refusals.{marker_refused};
 ghost use Rattle.hg_rewrite.specs.Answer.{Gives};
 
@@ -24,7 +25,8 @@ pub(crate) fn markers(
     ids: &[Node],
 ) -> Result<Vec<Marker>, Refusal>
     requires { ids.now ≡ new_ids replica.now.history op.now }
-    ensures { Gives (map marker_refused (markers replica.now.history op.now)) (markers replica.now.history op.now) result }
+    ensures { Gives (map marker_refused (markers replica.now.history op.now))
+        (markers replica.now.history op.now) result }
 {
     let metadata = metadata(alloc, replica, op)?;
     mark(alloc, rewritten(op), ids, &metadata)
@@ -123,7 +125,8 @@ fn mark(
     ids: &[Node],
     metadata: &Metadata,
 ) -> Result<Vec<Marker>, Refusal>
-    ensures { Gives (map marker_refused (map (marker metadata.now ids.now) rewritten.now)) (map (marker metadata.now ids.now) rewritten.now) result }
+    ensures { Gives (map marker_refused (map (marker metadata.now ids.now) rewritten.now))
+        (map (marker metadata.now ids.now) rewritten.now) result }
 {
     let mut markers = Vec::new(alloc);
     for node in rewritten {

@@ -14,7 +14,8 @@ returns-in-Err c =
     let es = c.args.entries.now in
     let i = c.loop-entry.entry-index in
     subst (IsRefusal (map entry_refused es)) (sym c.entry_refusal.ensures)
-    (refused_entry es i c.entry-item.result c.in-Err.fault (omega arith) c.loop-entry.invariant.0 c.entry-item.is c.in-Err.ensures)
+    (refused_entry es i c.entry-item.result c.in-Err.fault (omega arith) c.loop-entry.invariant.0 c.entry-item.is
+    c.in-Err.ensures)
 
 pub loop-entry-preserved : goal.loop-entry-preserved
 loop-entry-preserved c =
@@ -22,7 +23,8 @@ loop-entry-preserved c =
     let i = c.loop-entry.entry-index in
     let x = c.entry-item.result in
     let lt : i < length es = omega arith in (
-      none_more entry_refused es i x lt c.loop-entry.invariant.0 (subst (λ e. ¬ (Applies (entry_refused e))) c.entry-item.is (written_entry x c.in-Ok.text c.in-Ok.ensures)),
+      none_more entry_refused es i x lt c.loop-entry.invariant.0
+          (subst (λ e. ¬ (Applies (entry_refused e))) c.entry-item.is (written_entry x c.in-Ok.text c.in-Ok.ensures)),
       ap (λ ts. map (λ (text : Vec ℕ Global). text.items) ts) c.in_ok-push-in-Ok.ensures.items
           ∙ map-append (λ (text : Vec ℕ Global). text.items) c.loop-entry.texts.items (c.in-Ok.text ∷ [])
           ∙ ap (λ ts. ts ++ c.in-Ok.text.items ∷ []) c.loop-entry.invariant.1

@@ -6,4 +6,5 @@ use Rattle.hg_rewrite.specs.Refusals.{NoneApplies, entry_refused}
 use Rattle.hg_rewrite.proofs.changesets.texts.Given as goal
 
 abbrev pub invariant-loop-entry : goal.invariant-loop-entry
-invariant-loop-entry l = NoneApplies (map entry_refused (take l.entry-index l.entries)) × (map (λ (text : Vec ℕ Global). text.items) l.texts.items ≡ map entry_text (take l.entry-index l.entries))
+invariant-loop-entry l = NoneApplies (map entry_refused (take l.entry-index l.entries))
+    × (map (λ (text : Vec ℕ Global). text.items) l.texts.items ≡ map entry_text (take l.entry-index l.entries))

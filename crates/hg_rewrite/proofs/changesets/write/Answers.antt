@@ -9,10 +9,13 @@ use Rattle.hg_rewrite.proofs.changesets.write.Goals as goal
 pub returns-in_err-texts-clause-answer : goal.returns-in_err-texts-clause-answer
 returns-in_err-texts-clause-answer c =
     let p = err_from_is_err_and c.from_residual.result c.from_residual.ensures.1 in
-    rw (p.1, p.2) (sooner (map entry_refused c.args.entries.now) (map changeset_refused (written c.args.parents c.args.entries.now)) _ c.in_err-texts.ensures)
+    rw (p.1, p.2) (sooner (map entry_refused c.args.entries.now)
+    (map changeset_refused (written c.args.parents c.args.entries.now)) _ c.in_err-texts.ensures)
 
 pub returns-clause-answer : goal.returns-clause-answer
 returns-clause-answer c =
     let es = c.args.entries.now in
-    gives_later (map entry_refused es) (map changeset_refused (written c.args.parents es)) (map contents_of (written c.args.parents es)) c.chain.result c.in_ok-texts.ensures.0
-    (subst (λ ts. Gives (map changeset_refused (chain c.args.parents ts)) (map contents_of (chain c.args.parents ts)) c.chain.result) c.in_ok-texts.ensures.1 c.chain.ensures.answer)
+    gives_later (map entry_refused es) (map changeset_refused (written c.args.parents es))
+    (map contents_of (written c.args.parents es)) c.chain.result c.in_ok-texts.ensures.0
+    (subst (λ ts. Gives (map changeset_refused (chain c.args.parents ts))
+    (map contents_of (chain c.args.parents ts)) c.chain.result) c.in_ok-texts.ensures.1 c.chain.ensures.answer)

@@ -11,14 +11,16 @@ pub returns-in-Err : goal.returns-in-Err
 returns-in-Err c =
     let x = c.entry-item.result in
     let f = c.in-Err.fault in
-    first_next entry_refused c.args.entries.now c.loop-entry.entry-index x (Fault (Entry f)) (omega arith) c.loop-entry.invariant
+    first_next entry_refused c.args.entries.now c.loop-entry.entry-index x (Fault (Entry f))
+    (omega arith) c.loop-entry.invariant
     (f, sym (ap entry_fault c.entry-item.is) ∙ c.in-Err.ensures.exact, refl)
 
 pub loop-entry-preserved : goal.loop-entry-preserved
 loop-entry-preserved c =
     let x = c.entry-item.result in
     none_more entry_refused c.args.entries.now c.loop-entry.entry-index x (omega arith) c.loop-entry.invariant
-    (subst (λ e. ¬ (Applies (entry_refused e))) c.entry-item.is (λ r. none-some r.1.0 (sym c.in-Ok.ensures.exact ∙ r.1.1)))
+    (subst (λ e. ¬ (Applies (entry_refused e))) c.entry-item.is
+    (λ r. none-some r.1.0 (sym c.in-Ok.ensures.exact ∙ r.1.1)))
 
 pub returns : goal.returns
 returns c = none_of_all entry_refused c.args.entries.now c.loop-entry.entry-index (omega arith) c.loop-entry.invariant

@@ -8,4 +8,5 @@ use Rattle.hg_rewrite.proofs.check.check_entries.Goals as goal
 pub returns : goal.returns
 returns c =
     named_as_written c.args.op.now c.check_each.result
-    (subst (λ (es : List EntryValue). Checked (map entry_refused es) c.check_each.result) c.named_entries.ensures c.check_each.ensures)
+    (subst (λ (es : List EntryValue). Checked (map entry_refused es) c.check_each.result) c.named_entries.ensures
+    c.check_each.ensures)

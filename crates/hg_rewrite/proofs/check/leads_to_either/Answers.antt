@@ -10,9 +10,11 @@ returns-then-eq-clause-answer c =
     let node = c.args.node in (
       λ _. elim c.then-eq.branch [
         | then-eq-via-then-eq w ↦
-            inl (reaches_itself s node c.args.p c.requires ((node_eq_decides node c.args.p).0 (sym c.eq.ensures ∙ w.if-eq.true)))
+            inl (reaches_itself s node c.args.p c.requires ((node_eq_decides node c.args.p).0
+            (sym c.eq.ensures ∙ w.if-eq.true)))
         | then-eq-via-else-eq+then-eq-2 w ↦
-            inr (reaches_itself s node c.args.q c.requires ((node_eq_decides node c.args.q).0 (sym w.eq-else-eq.ensures ∙ w.if-eq-2.true)))
+            inr (reaches_itself s node c.args.q c.requires ((node_eq_decides node c.args.q).0
+            (sym w.eq-else-eq.ensures ∙ w.if-eq-2.true)))
       ],
       λ _. refl,
     )

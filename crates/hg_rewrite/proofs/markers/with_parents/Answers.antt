@@ -12,5 +12,7 @@ returns-then-is_null c =
 pub returns : goal.returns
 returns c =
     c.in_ok-note-2.ensures
-    ∙ (λ i. insert ((c.in_ok-note.ensures ∙ ap (insert c.args.texts (codes "p1")) c.to_hex.ensures.digits) i) (codes "p2") (c.to_hex-2.ensures.digits i))
-    ∙ two_noted c.args.parents c.args.texts (λ absent. true≢false (sym (c.is_null.ensures.null.1 absent) ∙ c.if-is_null.false))
+    ∙ (λ i. insert ((c.in_ok-note.ensures ∙ ap (insert c.args.texts (codes "p1")) c.to_hex.ensures.digits) i)
+    (codes "p2") (c.to_hex-2.ensures.digits i))
+    ∙ two_noted c.args.parents c.args.texts (λ absent. true≢false
+    (sym (c.is_null.ensures.null.1 absent) ∙ c.if-is_null.false))

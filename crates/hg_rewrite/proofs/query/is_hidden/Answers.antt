@@ -8,15 +8,19 @@ use Rattle.hg_rewrite.proofs.query.is_hidden.Goals as goal
 pub returns-then-not-contains-clause-answer : goal.returns-then-not-contains-clause-answer
 returns-then-not-contains-clause-answer c =
     let s = c.args.replica.now in
-    let told = subst (λ (ds : List Contents). IsTrue c.contains.result ↔ Holds ds c.args.node) c.graph-graph.ensures.graph c.contains.ensures in (
+    let told = subst (λ (ds : List Contents). IsTrue c.contains.result ↔ Holds ds c.args.node)
+    c.graph-graph.ensures.graph c.contains.ensures in (
       (λ no. absurd (true≢false (sym no))),
-      (λ hidden. absurd (true≢false (sym (told.1 (node_in_content s.history c.graph-graph.ensures.valid.graph c.args.node hidden.0)) ∙ c.if-not-contains.true))),
+      (λ hidden. absurd (true≢false
+          (sym (told.1 (node_in_content s.history c.graph-graph.ensures.valid.graph c.args.node hidden.0))
+          ∙ c.if-not-contains.true))),
     )
 
 pub returns-clause-answer : goal.returns-clause-answer
 returns-clause-answer c =
     let s = c.args.replica.now in
-    let told = subst (λ (ds : List Contents). IsTrue c.contains.result ↔ Holds ds c.args.node) c.graph-graph.ensures.graph c.contains.ensures in
+    let told = subst (λ (ds : List Contents). IsTrue c.contains.result ↔ Holds ds c.args.node)
+    c.graph-graph.ensures.graph c.contains.ensures in
     let held = content-node s.history c.graph-graph.ensures.valid.graph c.args.node (told.0 c.if-not-contains.false) in
     let is = c.in_ok-is_visible.ensures.answer in (
       (λ t. (held, λ v. not_true c.in_ok-is_visible.is_visible t (is.1 v))),

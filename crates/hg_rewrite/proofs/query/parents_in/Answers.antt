@@ -7,8 +7,11 @@ pub returns-in-Some : goal.returns-in-Some
 returns-in-Some c =
     let changeset = c.in-Some.changeset.now in
     c.parents.ensures.parents
-    ∙ sym (parents_in-held c.args.replica.now.history c.graph.ensures.valid c.args.node changeset (subst (λ cs. Contains cs changeset) c.graph.ensures.graph c.in-Some.ensures.found.0) c.in-Some.ensures.found.1)
+    ∙ sym (parents_in-held c.args.replica.now.history c.graph.ensures.valid c.args.node changeset
+    (subst (λ cs. Contains cs changeset) c.graph.ensures.graph c.in-Some.ensures.found.0) c.in-Some.ensures.found.1)
 
 pub returns-in-None : goal.returns-in-None
 returns-in-None c =
-    sym (parents_in-missing c.args.replica.now.history c.args.node (λ held. c.in-None.ensures.missing refl (subst (λ cs. GraphHolds cs c.args.node) (sym c.graph.ensures.graph) held)))
+    sym (parents_in-missing c.args.replica.now.history c.args.node
+    (λ held. c.in-None.ensures.missing refl (subst (λ cs. GraphHolds cs c.args.node)
+    (sym c.graph.ensures.graph) held)))
