@@ -1,5 +1,5 @@
 -- Single events, single commands, and whole scripts as one run.
-use Rattle.std.proofs.Common.{◌≡◌, ℕ, List, [], ◌∷◌, Option, Some, None, Result, Ok, Err, OnOk, IfErr, IfSome, refl, sym, ap, subst, ◌∙◌}
+use Rattle.std.proofs.Common.{◌≡◌, ℕ, List, [], ◌∷◌, ◌≤◌, length, Option, Some, None, Result, Ok, Err, OnOk, IfOk, IfErr, IfSome, refl, sym, ap, subst, ◌∙◌}
 use Rattle.std.specs.declared.vec.Vec.{Vec}
 use Rattle.std.specs.declared.alloc.Global.{Global}
 use mathlib.Core.Logic.{⊎_elim}
@@ -18,6 +18,8 @@ use Rattle.hg_script.specs.declared.fleet.Fleet.{Fleet}
 use Rattle.hg_script.specs.declared.fault.RunFault.{RunFault}
 use Rattle.hg_script.specs.Commands.{Text, Word}
 use Rattle.hg_script.specs.Events.{Trace, PeerEvent, PeerAnswer, no_trace, joined, Ran, IsTold, IsFaultAt, IsLeftBy, AreCommonAt, taken, HasTaken}
+use Rattle.hg_script.specs.Endings.{IsScriptOf, IsLeftWorld}
+use Rattle.hg_script.specs.Limits.{script_limit}
 use Rattle.hg_script.specs.Scripts.{places, IsDone, IsRunOf, DoesWords, DoesLines}
 
 -- a fault that changed nothing
@@ -111,11 +113,11 @@ told_left number w (Err fault) h = (h, (no_trace, refl))
 
 -- ---- whole scripts
 
--- a run of the text that was read is one of what the reader had, where that is known
-pub run_of_known : (known : Option Text) (items text : Text) (world : Snapshot ReplicaState) → text ≡ items → IfSome known (λ bytes. bytes ≡ items) → IsRunOf text world → IfSome known (λ bytes. IsRunOf bytes world)
-run_of_known None items text world e whole h = tt
-run_of_known (Some bytes) items text world e whole h = subst (λ (t : Text). IsRunOf t world) (e ∙ sym whole) h
+-- the text that was read is the script
+pub script_of : (known : Option Text) (items text : Text) → text ≡ items → length items ≤ script_limit → IfSome known (λ bytes. bytes ≡ items) → IsScriptOf known text
+script_of None items text e limit whole = (subst (λ (t : Text). length t ≤ script_limit) (sym e) limit, tt)
+script_of (Some bytes) items text e limit whole = (subst (λ (t : Text). length t ≤ script_limit) (sym e) limit, whole ∙ sym e)
 
-pub some_run : (known : Option Text) (world : Snapshot ReplicaState) → IfSome known (λ text. IsRunOf text world) → IfSome known (λ text. (end : Snapshot ReplicaState) × IsRunOf text end)
-some_run None world h = tt
-some_run (Some text) world h = (world, h)
+pub worlds_of : {E : Type 0} (known : Option Text) (text : Text) (r : Result (Snapshot ReplicaState) E) → IsScriptOf known text → IfOk r (IsRunOf text) → IfOk r (IsLeftWorld known)
+worlds_of known text (Ok world) script h = (text, script, h)
+worlds_of known text (Err e) script h = tt

@@ -1,4 +1,5 @@
 pub mod Commands
+pub mod Endings
 pub mod Entries
 pub mod Events
 pub mod Faults

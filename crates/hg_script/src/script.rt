@@ -1,9 +1,10 @@
 //! A script from its first line to its last.
-ghost use Rattle.std.specs.Prelude.{◌≡◌, ◌≤◌, ◌<◌, ◌+◌, IfOk, IfSome, OnOk};
+ghost use Rattle.std.specs.Prelude.{◌≡◌, ◌≤◌, ◌<◌, ◌+◌, IfOk, OnOk};
 ghost use Rattle.std.specs.Str.Lines.{lines};
 ghost use Rattle.hg_replica.specs.State.{ReplicaState};
 ghost use Rattle.hg_world.specs.Runs.{Snapshot};
 ghost use Rattle.hg_script.specs.Events.{Trace};
+ghost use Rattle.hg_script.specs.Endings.{IsLeftWorld};
 ghost use Rattle.hg_script.specs.Limits.{script_limit};
 ghost use Rattle.hg_script.specs.Scripts.{DoesLine, DoesLines, IsRunOf};
 
@@ -29,7 +30,7 @@ pub fn run_script<R: CountedRead, W: Write>(
     reader: &mut R,
     writer: &mut W,
 ) -> Result<(), RunFault>
-    ensures ran { OnOk result (IfSome (R.remaining reader.old) (λ text. (world : Snapshot ReplicaState) × IsRunOf text world)) }
+    ensures ran { OnOk result ((world : Snapshot ReplicaState) × IsLeftWorld (R.remaining reader.old) world) }
     ensures reads { R.reads reader.new ≤ R.reads reader.old + (script_limit + 1) }
 {
     run_fleet(alloc, reader, writer)?;
@@ -44,7 +45,7 @@ pub fn run_fleet<R: CountedRead, W: Write>(
     reader: &mut R,
     writer: &mut W,
 ) -> Result<World<Peer>, RunFault>
-    ensures ran { IfOk result (λ world. IfSome (R.remaining reader.old) (λ text. IsRunOf text world)) }
+    ensures ran { IfOk result (IsLeftWorld (R.remaining reader.old)) }
     ensures reads { R.reads reader.new ≤ R.reads reader.old + (script_limit + 1) }
 {
     let text = read_script(alloc, reader)?;
@@ -57,7 +58,7 @@ pub fn run_counted<R: Read + Drop, W: Write>(
     reader: R,
     writer: &mut W,
 ) -> Result<(), RunFault>
-    ensures { OnOk result (IfSome (R.remaining reader) (λ text. (world : Snapshot ReplicaState) × IsRunOf text world)) }
+    ensures { OnOk result ((world : Snapshot ReplicaState) × IsLeftWorld (R.remaining reader) world) }
 {
     count_and_run::<R, W, Brand>(alloc, reader, writer, Blank::new(1))
 }
@@ -71,7 +72,7 @@ fn count_and_run<R: Read + Drop, W: Write, L: Ledger>(
     requires name { blank.name ≡ L.name }
     requires parts { blank.parts ≡ L.parts }
     requires some { 0 < blank.parts }
-    ensures { OnOk result (IfSome (R.remaining reader) (λ text. (world : Snapshot ReplicaState) × IsRunOf text world)) }
+    ensures { OnOk result ((world : Snapshot ReplicaState) × IsLeftWorld (R.remaining reader) world) }
 {
     let mut counted = Counted::<R, L>::new(reader, blank);
     run_script(alloc, &mut counted, writer)

@@ -1,5 +1,4 @@
-use Rattle.hg_script.proofs.ScriptLemmas.{some_run}
 use Rattle.hg_script.proofs.script.run_script.Goals as goal
 
 pub returns-clause-ran : goal.returns-clause-ran
-returns-clause-ran g c = some_run _ _ c.in_ok-run_fleet.ensures.ran
+returns-clause-ran g c = (_, c.in_ok-run_fleet.ensures.ran)
