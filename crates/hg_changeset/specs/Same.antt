@@ -1,4 +1,5 @@
--- Changesets are equal where their parents and texts are, entries where their fields are: the test that `==` makes decides it.
+-- Changesets are equal where their parents and texts are, entries where their fields are: the test that `==` makes
+-- decides it.
 use Rattle.std.specs.Prelude.{◌≡◌, ℕ, List, Bool, ◌&&◌, nat_eq}
 use Rattle.std.proofs.Common.{ap}
 use Rattle.std.proofs.lemmas.Bool.Decides.{Decides-and, Decides-like}
@@ -29,7 +30,10 @@ same_contents c d = node_eq c.first d.first && (node_eq c.second d.second && sam
 
 -- the same user, date, extras and description
 unfoldable pub same_entry : EntryValue → EntryValue → Bool
-same_entry e f = int_eq e.secs f.secs && (int_eq e.offset f.offset && (same_bytes e.user f.user && (same_bytes e.desc f.desc && same_pairs e.extra f.extra)))
+same_entry e f =
+    int_eq e.secs
+    f.secs && (int_eq e.offset
+    f.offset && (same_bytes e.user f.user && (same_bytes e.desc f.desc && same_pairs e.extra f.extra)))
 
 -- the test of two ids decides whether they are equal
 pub node_eq_decides : (p q : Node) → Decides (node_eq p q) (p ≡ q)
@@ -52,8 +56,10 @@ unfolding same_contents
 contents_decides c d = Decides-like (same_contents c d)
     (λ h i. record { first = h.0 i; second = h.1.0 i; text = h.1.1 i })
     (λ e. (ap (λ (x : Contents). x.first) e, (ap (λ (x : Contents). x.second) e, ap (λ (x : Contents). x.text) e)))
-    (Decides-and (node_eq c.first d.first) (node_eq c.second d.second && same_bytes c.text d.text) (node_eq_decides c.first d.first)
-    (Decides-and (node_eq c.second d.second) (same_bytes c.text d.text) (node_eq_decides c.second d.second) (bytes_decides c.text d.text)))
+    (Decides-and (node_eq c.first d.first) (node_eq c.second d.second && same_bytes c.text d.text)
+    (node_eq_decides c.first d.first)
+    (Decides-and (node_eq c.second d.second) (same_bytes c.text d.text) (node_eq_decides c.second d.second)
+    (bytes_decides c.text d.text)))
 
 pub contents_equivalence : IsEquivalence same_contents
 contents_equivalence = decided same_contents contents_decides
@@ -62,11 +68,24 @@ pub entry_decides : (e f : EntryValue) → Decides (same_entry e f) (e ≡ f)
 unfolding same_entry
 entry_decides e f = Decides-like (same_entry e f)
     (λ h i. record { user = h.1.1.0 i; secs = h.0 i; offset = h.1.0 i; extra = h.1.1.1.1 i; desc = h.1.1.1.0 i })
-    (λ p. (ap (λ (x : EntryValue). x.secs) p, (ap (λ (x : EntryValue). x.offset) p, (ap (λ (x : EntryValue). x.user) p, (ap (λ (x : EntryValue). x.desc) p, ap (λ (x : EntryValue). x.extra) p)))))
-    (Decides-and (int_eq e.secs f.secs) (int_eq e.offset f.offset && (same_bytes e.user f.user && (same_bytes e.desc f.desc && same_pairs e.extra f.extra))) (signed_Decides e.secs f.secs)
-    (Decides-and (int_eq e.offset f.offset) (same_bytes e.user f.user && (same_bytes e.desc f.desc && same_pairs e.extra f.extra)) (signed_Decides e.offset f.offset)
-    (Decides-and (same_bytes e.user f.user) (same_bytes e.desc f.desc && same_pairs e.extra f.extra) (bytes_decides e.user f.user)
-    (Decides-and (same_bytes e.desc f.desc) (same_pairs e.extra f.extra) (bytes_decides e.desc f.desc) (pairs_decides e.extra f.extra)))))
+    (λ p. (
+      ap (λ (x : EntryValue). x.secs) p,
+      (
+        ap (λ (x : EntryValue). x.offset) p,
+        (ap (λ (x : EntryValue). x.user) p, (ap (λ (x : EntryValue). x.desc) p, ap (λ (x : EntryValue). x.extra) p)),
+      ),
+    ))
+    (Decides-and (int_eq e.secs f.secs)
+    (int_eq e.offset
+    f.offset && (same_bytes e.user f.user && (same_bytes e.desc f.desc && same_pairs e.extra f.extra)))
+    (signed_Decides e.secs f.secs)
+    (Decides-and (int_eq e.offset f.offset)
+    (same_bytes e.user f.user && (same_bytes e.desc f.desc && same_pairs e.extra f.extra))
+    (signed_Decides e.offset f.offset)
+    (Decides-and (same_bytes e.user f.user) (same_bytes e.desc f.desc && same_pairs e.extra f.extra)
+    (bytes_decides e.user f.user)
+    (Decides-and (same_bytes e.desc f.desc) (same_pairs e.extra f.extra) (bytes_decides e.desc f.desc)
+    (pairs_decides e.extra f.extra)))))
 
 pub entry_equivalence : IsEquivalence same_entry
 entry_equivalence = decided same_entry entry_decides

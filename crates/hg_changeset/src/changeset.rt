@@ -6,7 +6,8 @@ ghost use Rattle.std.specs.Prelude.{◌≡◌, ◌↔◌, ◌≤◌, length, Som
 ghost use Rattle.hex.specs.Hex.{IsBytes};
 ghost use Rattle.hg_changeset.specs.Contents.{contents};
 ghost use Rattle.hg_changeset.specs.Node.{IsNode};
-ghost use Rattle.hg_changeset.specs.Changeset.{node_of, lesser, greater, is_given_twice, IsNormal, IsNormalFormOf, IsChangeset, changeset_of, changeset_fault, text_limit};
+ghost use Rattle.hg_changeset.specs.Changeset.{node_of, lesser, greater, is_given_twice, IsNormal, IsNormalFormOf};
+ghost use Rattle.hg_changeset.specs.Changeset.{IsChangeset, changeset_of, changeset_fault, text_limit};
 ghost use Rattle.hg_changeset.specs.Refusals.{changeset_error_number, changeset_error_name};
 
 use crate::node::Node;
@@ -77,7 +78,8 @@ impl Model for Changeset {
 
     ghost view = { λ c. contents c.first c.second c.text.items };
 
-    ghost invariant = { λ c. (c.node ≡ node_of (contents c.first c.second c.text.items)) × IsChangeset (contents c.first c.second c.text.items) };
+    ghost invariant = { λ c. (c.node ≡ node_of (contents c.first c.second c.text.items))
+        × IsChangeset (contents c.first c.second c.text.items) };
 }
 
 impl PartialEq for Changeset {

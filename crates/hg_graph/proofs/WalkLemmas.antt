@@ -1,5 +1,7 @@
 -- A walk down from some nodes.
-use Rattle.std.proofs.Common.{◌≡◌, ℕ, zero, suc, ◌<◌, ◌≤◌, ◌+◌, Bool, true, List, [], ◌∷◌, ◌++◌, length, take, drop, get_or, slice_get, Option, Some, None, Contains, All, MatchOption, ◌↔◌, ◌⊎◌, inl, inr, refl, sym, ap, subst, ◌∙◌, arith, filter, cond, true≢false}
+use Rattle.std.proofs.Common.{◌≡◌, ℕ, zero, suc, ◌<◌, ◌≤◌, ◌+◌, Bool, true, List, [], ◌∷◌, ◌++◌, length, take, drop}
+use Rattle.std.proofs.Common.{get_or, slice_get, Option, Some, None, Contains, All, MatchOption, ◌↔◌, ◌⊎◌, inl, inr}
+use Rattle.std.proofs.Common.{refl, sym, ap, subst, ◌∙◌, arith, filter, cond, true≢false}
 use Rattle.std.specs.List.{IsDistinct, list_any}
 use Rattle.std.specs.Cmp.{IsTotalOrder, Equal-is, nat_cmp_is}
 use Rattle.std.specs.Ordering.{nat_cmp}
@@ -9,7 +11,8 @@ use Rattle.std.specs.BTreeMap.{is_at}
 use Rattle.std.specs.BTreeSet.{BTreeSet, Updates, contains}
 use Rattle.std.proofs.lemmas.Bool.{cases_lt, cases_order, cases_Bool}
 use Rattle.std.proofs.lemmas.List.{take_more, take-take, take-append-drop, length-take, length-map}
-use Rattle.std.proofs.lemmas.List.Elements.{Contains-push, Contains-push_cases, Contains-append_left, Contains-get_or, All-contains}
+use Rattle.std.proofs.lemmas.List.Elements.{Contains-push, Contains-push_cases, Contains-append_left, Contains-get_or}
+use Rattle.std.proofs.lemmas.List.Elements.{All-contains}
 use Rattle.std.proofs.lemmas.Map.Lookups.{CmpEqualImpliesEq, exact_unsigned}
 use Rattle.std.proofs.lemmas.Cmp.{nat_cmp_total}
 use Rattle.std.proofs.lemmas.Map.Views.{btree_set_contains_iff, Contains-from_any, list_any-from_Contains}
@@ -23,7 +26,8 @@ use Rattle.hg_graph.specs.Graph.{nodes, Holds, IsGraph, Reaches, IsDescendantOfO
 use Rattle.hg_graph.specs.Graph.Reaches.{itself, below}
 use Rattle.hg_graph.specs.Places.{IsAt, IsOnlyAt, IsParentPlace, IsPlaceOfOne}
 use Rattle.hg_graph.proofs.GraphLemmas.{Contains-from_place, place_from_Contains}
-use Rattle.hg_graph.proofs.PlaceLemmas.{same_place, IsAt-from, place_from_Holds, Holds-reached, Holds-reaching, parent_first}
+use Rattle.hg_graph.proofs.PlaceLemmas.{same_place, IsAt-from, place_from_Holds, Holds-reached, Holds-reaching}
+use Rattle.hg_graph.proofs.PlaceLemmas.{parent_first}
 use Rattle.hg_graph.proofs.MarkLemmas.{other_node, taken_more}
 
 -- ---- lists
@@ -50,18 +54,25 @@ IsPart (n ∷ ns) (m ∷ ms) = ((n ≡ m) × IsPart ns ms) ⊎ IsPart (n ∷ ns)
 part_longer : (ns ms ks : List Node) → IsPart ns ms → IsPart ns (ms ++ ks)
 part_longer [] ms ks h = tt
 part_longer (n ∷ ns) [] ks h = absurd h
-part_longer (n ∷ ns) (m ∷ ms) ks h = elim h [ inl k ↦ inl (k.0, part_longer ns ms ks k.1) | inr k ↦ inr (part_longer (n ∷ ns) ms ks k) ]
+part_longer (n ∷ ns) (m ∷ ms) ks h =
+    elim h [ inl k ↦ inl (k.0, part_longer ns ms ks k.1) | inr k ↦ inr (part_longer (n ∷ ns) ms ks k) ]
 
 part_push : (ns ms : List Node) (k : Node) → IsPart ns ms → IsPart (ns ++ k ∷ []) (ms ++ k ∷ [])
 part_push [] [] k h = inl (refl, tt)
 part_push [] (m ∷ ms) k h = inr (part_push [] ms k tt)
 part_push (n ∷ ns) [] k h = absurd h
-part_push (n ∷ ns) (m ∷ ms) k h = elim h [ inl p ↦ inl (p.0, part_push ns ms k p.1) | inr p ↦ inr (part_push (n ∷ ns) ms k p) ]
+part_push (n ∷ ns) (m ∷ ms) k h =
+    elim h [ inl p ↦ inl (p.0, part_push ns ms k p.1) | inr p ↦ inr (part_push (n ∷ ns) ms k p) ]
 
 pub part_length : (ns ms : List Node) → IsPart ns ms → length ns ≤ length ms
 part_length [] ms h = omega arith
 part_length (n ∷ ns) [] h = absurd h
-part_length (n ∷ ns) (m ∷ ms) h = elim h [ inl p ↦ let l = part_length ns ms p.1 in omega (arith, l) | inr p ↦ let l = part_length (n ∷ ns) ms p in omega (arith, l) ]
+part_length (n ∷ ns) (m ∷ ms) h =
+    elim h [
+      | inl p ↦ let l = part_length ns ms p.1 in omega (arith, l)
+      | inr p ↦ let l = part_length (n ∷ ns) ms p in
+          omega (arith, l)
+    ]
 
 part_contains : (ns ms : List Node) (k : Node) → IsPart ns ms → Contains ns k → Contains ms k
 part_contains [] ms k h c = absurd (omega (arith, c.1))
@@ -86,40 +97,51 @@ unfolding IsDistinct
 distinct_rest m ms d = d.1
 
 -- a part is what a test selects that passes just its elements
-part_filter : (test : Node → Bool) (ns ms : List Node) → IsDistinct node_eq ms → IsPart ns ms → ((k : Node) → Contains ns k → test k ≡ true) → ((k : Node) → Contains ms k → test k ≡ true → Contains ns k)
+part_filter : (test : Node → Bool) (ns ms : List Node) → IsDistinct node_eq ms → IsPart ns ms
+    → ((k : Node) → Contains ns k → test k ≡ true) → ((k : Node) → Contains ms k → test k ≡ true → Contains ns k)
     → filter test ms ≡ ns
 part_filter test [] [] d h passes only = refl
 part_filter test [] (m ∷ ms) d h passes only = elim (cases_Bool (test m)) [
   | inl t ↦ absurd (let c = only m (contains_first m ms) t in omega (arith, c.1))
-  | inr f ↦ ap (λ b. cond b (m ∷ filter test ms) (filter test ms)) f ∙ part_filter test [] ms (distinct_rest m ms d) tt (λ k c. absurd (omega (arith, c.1))) (λ k c t. only k (contains_later m k ms c) t)
+  | inr f ↦ ap (λ b. cond b (m ∷ filter test ms) (filter test ms)) f ∙ part_filter test [] ms (distinct_rest m ms d) tt
+      (λ k c. absurd (omega (arith, c.1))) (λ k c t. only k (contains_later m k ms c) t)
 ]
 part_filter test (n ∷ ns) [] d h passes only = absurd h
 part_filter test (n ∷ ns) (m ∷ ms) d h passes only = elim h [
   | inl p ↦
       let t : test m ≡ true = subst (λ k. test k ≡ true) p.0 (passes n (contains_first n ns)) in
-      let rest = part_filter test ns ms (distinct_rest m ms d) p.1 (λ k c. passes k (contains_later n k ns c)) (λ k c t. elim (contains_cases n k ns (only k (contains_later m k ms c) t)) [
+      let rest = part_filter test ns ms (distinct_rest m ms d) p.1 (λ k c. passes k (contains_later n k ns c))
+      (λ k c t. elim (contains_cases n k ns (only k (contains_later m k ms c) t)) [
         | inl e ↦ absurd (once m ms d (subst (Contains ms) (sym e ∙ p.0) c))
         | inr later ↦ later
       ]) in
       ap (λ b. cond b (m ∷ filter test ms) (filter test ms)) t ∙ (λ i. (sym p.0) i ∷ rest i)
   | inr p ↦ elim (cases_Bool (test m)) [
     | inl t ↦ absurd (once m ms d (part_contains (n ∷ ns) ms m p (only m (contains_first m ms) t)))
-    | inr f ↦ ap (λ b. cond b (m ∷ filter test ms) (filter test ms)) f ∙ part_filter test (n ∷ ns) ms (distinct_rest m ms d) p passes (λ k c t. only k (contains_later m k ms c) t)
+    | inr f ↦ ap (λ b. cond b (m ∷ filter test ms) (filter test ms)) f
+        ∙ part_filter test (n ∷ ns) ms (distinct_rest m ms d) p passes (λ k c t. only k (contains_later m k ms c) t)
   ]
 ]
 
 -- a part of the graph's nodes selects what it contains
-Selects-part : (cs : List Contents) (P : Node → Type 0) (found : List Node) → IsGraph cs → IsPart found (nodes cs) → ((n : Node) → Holds cs n → Contains found n ↔ P n) → Selects cs P found
+Selects-part : (cs : List Contents) (P : Node → Type 0) (found : List Node) → IsGraph cs → IsPart found (nodes cs)
+    → ((n : Node) → Holds cs n → Contains found n ↔ P n) → Selects cs P found
 Selects-part cs P found graph part same = (
   λ n. list_any (node_eq n) found,
-  sym (part_filter (λ n. list_any (node_eq n) found) found (nodes cs) graph.distinct part (λ k c. list_any-from_Contains node_eq_laws k found c) (λ k c t. Contains-from_any same_node k found t)),
-  λ n held. (λ t. (same n held).0 (Contains-from_any same_node n found t), λ p. list_any-from_Contains node_eq_laws n found ((same n held).1 p)),
+  sym (part_filter (λ n. list_any (node_eq n) found) found (nodes cs) graph.distinct part
+      (λ k c. list_any-from_Contains node_eq_laws k found c) (λ k c t. Contains-from_any same_node k found t)),
+  λ n held. (
+    λ t. (same n held).0 (Contains-from_any same_node n found t),
+    λ p. list_any-from_Contains node_eq_laws n
+        found ((same n held).1 p),
+  ),
 )
 
 -- ---- sets
 
 -- one key more
-pub inserted : {K : Type 0} {R : K → K → Ordering} (o : IsTotalOrder R) (exact : CmpEqualImpliesEq R) (s t : BTreeSet K) (k : K) → Updates R s t k true → (q : K) → Contains t.keys q ↔ (Contains s.keys q ⊎ (k ≡ q))
+pub inserted : {K : Type 0} {R : K → K → Ordering} (o : IsTotalOrder R) (exact : CmpEqualImpliesEq R) (s t : BTreeSet K)
+    (k : K) → Updates R s t k true → (q : K) → Contains t.keys q ↔ (Contains s.keys q ⊎ (k ≡ q))
 inserted {R = R} o exact s t k up q = (
   λ h. elim (cases_Bool (is_at (R k) q)) [
     | inl e ↦ inr (exact k q ((Equal-is (R k q)).0 e))
@@ -143,7 +165,8 @@ emptied [] h = refl
 emptied (x ∷ xs) h = absurd (h (omega arith))
 
 -- an element more of a front
-pub taken_one : {X : Type 0} (xs : List X) (i : ℕ) (d x : X) → i < length xs → Contains (take (i + 1) xs) x ↔ (Contains (take i xs) x ⊎ (get_or xs i d ≡ x))
+pub taken_one : {X : Type 0} (xs : List X) (i : ℕ) (d x : X) → i < length xs → Contains (take (i + 1) xs) x
+    ↔ (Contains (take i xs) x ⊎ (get_or xs i d ≡ x))
 taken_one xs i d x l =
     let more : take (i + 1) xs ≡ take i xs ++ get_or xs i d ∷ [] = take_more xs i d l in (
       λ h. Contains-push_cases (take i xs) (get_or xs i d) x (subst (λ ys. Contains ys x) more h),
@@ -154,16 +177,21 @@ taken_one xs i d x l =
     )
 
 -- the places of the nodes so far
-module _ (cs : List Contents) (ns : List Node) (i : ℕ) (d : Node) (l : i < length ns) (r : Option ℕ) (told : MatchOption r (¬ (Holds cs (get_or ns i d))) (IsOnlyAt cs (get_or ns i d))) where
-  pub place_more : (s t : BTreeSet ℕ) (place : ℕ) → r ≡ Some place → Updates nat_cmp s t place true → ((k : ℕ) → Contains s.keys k ↔ IsPlaceOfOne cs (take i ns) k) → (k : ℕ) → Contains t.keys k ↔ IsPlaceOfOne cs (take (i + 1) ns) k
+module _ (cs : List Contents) (ns : List Node) (i : ℕ) (d : Node) (l : i < length ns) (r : Option ℕ)
+    (told : MatchOption r (¬ (Holds cs (get_or ns i d))) (IsOnlyAt cs (get_or ns i d))) where
+  pub place_more : (s t : BTreeSet ℕ) (place : ℕ) → r ≡ Some place → Updates nat_cmp s t place true
+      → ((k : ℕ) → Contains s.keys k ↔ IsPlaceOfOne cs (take i ns) k) → (k : ℕ) → Contains t.keys k
+      ↔ IsPlaceOfOne cs (take (i + 1) ns) k
   place_more s t place r_is up before k =
       let added = inserted nat_cmp_total exact_unsigned s t place up k in
       let more = taken_more cs ns i d l r told k in (
         λ h. more.1 (elim (added.0 h) [ inl old ↦ inl ((before k).0 old) | inr e ↦ inr (r_is ∙ ap (λ j. Some j) e) ]),
-        λ h. added.1 (elim (more.0 h) [ inl old ↦ inl ((before k).1 old) | inr e ↦ inr (same_Some place k (sym r_is ∙ e)) ]),
+        λ h. added.1
+            (elim (more.0 h) [ inl old ↦ inl ((before k).1 old) | inr e ↦ inr (same_Some place k (sym r_is ∙ e)) ]),
       )
 
-  pub place_none : r ≡ None → (s : BTreeSet ℕ) → ((k : ℕ) → Contains s.keys k ↔ IsPlaceOfOne cs (take i ns) k) → (k : ℕ) → Contains s.keys k ↔ IsPlaceOfOne cs (take (i + 1) ns) k
+  pub place_none : r ≡ None → (s : BTreeSet ℕ) → ((k : ℕ) → Contains s.keys k ↔ IsPlaceOfOne cs (take i ns) k) → (k : ℕ)
+      → Contains s.keys k ↔ IsPlaceOfOne cs (take (i + 1) ns) k
   place_none r_is s before k =
       let more = taken_more cs ns i d l r told k in (
         λ h. more.1 (inl ((before k).0 h)),
@@ -200,24 +228,28 @@ pub record IsWalked (cs : List Contents) (ns : List Node) (waiting : List ℕ) (
   pub followed : (j k : ℕ) → j < b → IsDescendantPlace cs ns j → IsParentPlace cs k j → b ≤ k → Contains waiting k
 
 module _ (cs : List Contents) (graph : IsGraph cs) (ns : List Node) where
-  pub IsWalked-start : (waiting : List ℕ) → ((k : ℕ) → Contains waiting k ↔ IsPlaceOfOne cs ns k) → IsWalked cs ns waiting [] 0
+  pub IsWalked-start : (waiting : List ℕ) → ((k : ℕ) → Contains waiting k ↔ IsPlaceOfOne cs ns k)
+      → IsWalked cs ns waiting [] 0
   IsWalked-start waiting given = record {
     within = omega arith;
     part = tt;
     sound = λ n c. absurd (omega (arith, c.1));
     complete = λ k n l at d. absurd (omega (arith, l));
-    waits = λ k c. let h = (given k).0 c in (omega arith, (h.0, h.2, (h.0, h.1, itself (Contains-from_place (nodes cs) k h.0 h.2))));
+    waits = λ k c. let h = (given k).0 c in
+        (omega arith, (h.0, h.2, (h.0, h.1, itself (Contains-from_place (nodes cs) k h.0 h.2))));
     begun = λ k le h. (given k).1 h;
     followed = λ j k l d parent le. absurd (omega (arith, l));
   }
 
   module _ (waiting : List ℕ) (found : List Node) (b : ℕ) (s : IsWalked cs ns waiting found b) where
     -- no place before those that wait is left out
-    no_gap : (w : ℕ) → ((k : ℕ) → Contains waiting k → w ≤ k) → (a n : Node) (k : ℕ) → Contains ns a → Reaches cs a n → IsAt cs n k → b ≤ k → w ≤ k
+    no_gap : (w : ℕ) → ((k : ℕ) → Contains waiting k → w ≤ k) → (a n : Node) (k : ℕ) → Contains ns a → Reaches cs a n
+        → IsAt cs n k → b ≤ k → w ≤ k
     no_gap w least a n k named (itself held) at le = least k (s.begun k le (a, named, at))
     no_gap w least a n k named (below {c = c} {p = p} r is at_c e) at le =
         let child = place_from_Contains cs c at_c in
-        let same : child.0 ≡ k = same_place (nodes cs) n k child.0 graph.distinct at (IsAt-from cs child.0 c n child.1 e) in
+        let same : child.0 ≡ k = same_place (nodes cs) n k child.0 graph.distinct at
+        (IsAt-from cs child.0 c n child.1 e) in
         let up = place_from_Holds cs p (Holds-reached cs r) in
         let parent : IsParentPlace cs k up.0 = (c, p, subst (λ i. slice_get cs i ≡ Some c) same child.1, is, up.1) in
         let before : up.0 < k = parent_first cs graph k up.0 parent in
@@ -227,10 +259,12 @@ module _ (cs : List Contents) (graph : IsGraph cs) (ns : List Node) where
         ]
 
     pub IsWalked-end : waiting ≡ [] → Selects cs (IsDescendantOfOne cs ns) found
-    IsWalked-end empty = Selects-part cs (IsDescendantOfOne cs ns) found graph whole (λ n held. (λ c. s.sound n c, λ d. complete n held d))
+    IsWalked-end empty = Selects-part cs (IsDescendantOfOne cs ns) found graph whole
+        (λ n held. (λ c. s.sound n c, λ d. complete n held d))
       where
         whole : IsPart found (nodes cs)
-        whole = subst (IsPart found) (take-append-drop b (nodes cs)) (part_longer found (take b (nodes cs)) (drop b (nodes cs)) s.part)
+        whole = subst (IsPart found) (take-append-drop b (nodes cs))
+            (part_longer found (take b (nodes cs)) (drop b (nodes cs)) s.part)
 
         complete : (n : Node) → Holds cs n → IsDescendantOfOne cs ns n → Contains found n
         complete n held d =
@@ -238,7 +272,9 @@ module _ (cs : List Contents) (graph : IsGraph cs) (ns : List Node) where
             elim (cases_lt p.0 b) [
               | inl l ↦ s.complete p.0 n l p.1 d
               | inr ge ↦ absurd (
-                  let none_waits : (k : ℕ) → Contains waiting k → suc p.0 ≤ k = λ k c. absurd (let c' : Contains [] k = subst (λ ks. Contains ks k) empty c in omega (arith, c'.1)) in
+                  let none_waits : (k : ℕ) → Contains waiting k
+                  → suc p.0 ≤ k = λ k c. absurd (let c' : Contains [] k = subst (λ ks. Contains ks k) empty c in
+                  omega (arith, c'.1)) in
                   let past = no_gap (suc p.0) none_waits d.0 n p.0 d.1 d.2 p.1 ge in
                   omega (arith, past))
             ]
@@ -248,10 +284,12 @@ module _ (cs : List Contents) (graph : IsGraph cs) (ns : List Node) where
       after k c = less_from_cmp w k (All-contains (λ k. nat_cmp w k ≡ Less) rest k above c)
 
       least : (k : ℕ) → Contains waiting k → w ≤ k
-      least k c = elim (contains_cases w k rest (subst (λ ks. Contains ks k) popped c)) [ inl e ↦ omega (arith, e) | inr later ↦ let l = after k later in omega (arith, l) ]
+      least k c = elim (contains_cases w k rest (subst (λ ks. Contains ks k) popped c))
+          [ inl e ↦ omega (arith, e) | inr later ↦ let l = after k later in omega (arith, l) ]
 
       left : (k : ℕ) → w < k → Contains waiting k → Contains rest k
-      left k l c = elim (contains_cases w k rest (subst (λ ks. Contains ks k) popped c)) [ inl e ↦ absurd (omega (arith, e, l)) | inr later ↦ later ]
+      left k l c = elim (contains_cases w k rest (subst (λ ks. Contains ks k) popped c))
+          [ inl e ↦ absurd (omega (arith, e, l)) | inr later ↦ later ]
 
       taken : (b ≤ w) × IsDescendantPlace cs ns w
       taken = s.waits w (subst (λ ks. Contains ks w) (sym popped) (contains_first w rest))
@@ -264,35 +302,58 @@ module _ (cs : List Contents) (graph : IsGraph cs) (ns : List Node) where
 
       -- the work that is left
       pub found_less : length found < length cs
-      found_less = omega (arith, part_length found (take b (nodes cs)) s.part, length-take b (nodes cs), taken.0, taken_within)
+      found_less = omega (
+        arith,
+        part_length found (take b (nodes cs)) s.part,
+        length-take b (nodes cs),
+        taken.0,
+        taken_within,
+      )
 
       -- a place of those that wait is one of the nodes, or below one: so one is held
       pub one_held : (n : Node) × Contains ns n × Holds cs n
       one_held = let d = taken.1.2 in (d.0, d.1, Holds-reaching cs d.2)
 
-      pub IsWalked-step : (n : Node) → IsAt cs n w → (next : List ℕ) → ((k : ℕ) → Contains next k ↔ (Contains rest k ⊎ IsParentPlace cs k w)) → IsWalked cs ns next (found ++ n ∷ []) (w + 1)
+      pub IsWalked-step : (n : Node) → IsAt cs n w → (next : List ℕ)
+          → ((k : ℕ) → Contains next k ↔ (Contains rest k ⊎ IsParentPlace cs k w))
+          → IsWalked cs ns next (found ++ n ∷ []) (w + 1)
       IsWalked-step n at next adds = record {
         within = omega (arith, taken_within);
-        part = subst (IsPart (found ++ n ∷ [])) (sym front) (part_push found (take w (nodes cs)) n (subst (IsPart found) longer (part_longer found (take b (nodes cs)) (drop b (take w (nodes cs))) s.part)));
-        sound = λ m c. elim (Contains-push_cases found n m c) [ inl before ↦ s.sound m before | inr e ↦ subst (IsDescendantOfOne cs ns) e here ];
+        part = subst (IsPart (found ++ n ∷ [])) (sym front)
+            (part_push found (take w (nodes cs)) n
+            (subst (IsPart found) longer (part_longer found (take b (nodes cs)) (drop b (take w (nodes cs))) s.part)));
+        sound = λ m c. elim (Contains-push_cases found n m c)
+            [ inl before ↦ s.sound m before | inr e ↦ subst (IsDescendantOfOne cs ns) e here ];
         complete = λ k m l at_m d. elim (cases_lt k b) [
           | inl before ↦ Contains-append_left found (n ∷ []) m (s.complete k m before at_m d)
           | inr ge ↦
               let k_is : k ≡ w = let h = no_gap w least d.0 m k d.1 d.2 at_m ge in omega (arith, h, l) in
-              subst (Contains (found ++ n ∷ [])) (same_Some n m (sym at ∙ ap (slice_get (nodes cs)) (sym k_is) ∙ at_m)) (Contains-push found n)
+              subst (Contains (found ++ n ∷ [])) (same_Some n m (sym at ∙ ap (slice_get (nodes cs)) (sym k_is) ∙ at_m))
+              (Contains-push found n)
         ];
         waits = λ k c. elim ((adds k).0 c) [
-          | inl later ↦ let l = after k later in (omega (arith, l), (s.waits k (subst (λ ks. Contains ks k) (sym popped) (contains_later w k rest later))).1)
+          | inl later ↦ let l = after k later in (
+            omega (arith, l),
+            (s.waits k (subst (λ ks. Contains ks k) (sym popped) (contains_later w k rest later))).1,
+          )
           | inr parent ↦
               let l : w < k = parent_first cs graph k w parent in
               let child = node_of parent.0 in
               let same : parent.1 ≡ n = same_Some parent.1 n (sym parent.4 ∙ at) in
-              let from : Reaches cs here.0 parent.1 = subst (Reaches cs here.0) (sym same) here.2 in
-              (omega (arith, l), (child, IsAt-from cs k parent.0 child parent.2 refl, (here.0, here.1, below from parent.3 (Contains-from_place cs k parent.0 parent.2) refl)))
+              let from : Reaches cs here.0 parent.1 = subst (Reaches cs here.0) (sym same) here.2 in (
+                omega (arith, l),
+                (
+                  child,
+                  IsAt-from cs k parent.0 child parent.2 refl,
+                  (here.0, here.1, below from parent.3 (Contains-from_place cs k parent.0 parent.2) refl),
+                ),
+              )
         ];
         begun = λ k le h. (adds k).1 (inl (left k (omega (arith, le)) (s.begun k (omega (arith, le, taken.0)) h)));
         followed = λ j k l d parent le. elim (cases_lt j b) [
-          | inl before ↦ (adds k).1 (inl (left k (omega (arith, le)) (s.followed j k before d parent (omega (arith, le, taken.0)))))
+          | inl before ↦
+              (adds k).1 (inl (left k (omega (arith, le))
+              (s.followed j k before d parent (omega (arith, le, taken.0)))))
           | inr ge ↦
               let j_is : j ≡ w = let h = no_gap w least d.2.0 d.0 j d.2.1 d.2.2 d.1 ge in omega (arith, h, l) in
               (adds k).1 (inr (subst (IsParentPlace cs k) j_is parent))
@@ -304,8 +365,10 @@ module _ (cs : List Contents) (graph : IsGraph cs) (ns : List Node) where
 
           front : take (w + 1) (nodes cs) ≡ take w (nodes cs) ++ n ∷ []
           front =
-              let more : take (w + 1) (nodes cs) ≡ take w (nodes cs) ++ get_or (nodes cs) w n ∷ [] = take_more (nodes cs) w n (slice_get_within (nodes cs) w n at) in
+              let more : take (w + 1) (nodes cs) ≡ take w (nodes cs) ++ get_or (nodes cs) w n ∷ [] =
+              take_more (nodes cs) w n (slice_get_within (nodes cs) w n at) in
               more ∙ ap (λ m. take w (nodes cs) ++ m ∷ []) (get_or_from_slice_get (nodes cs) w n n at)
 
           longer : take b (nodes cs) ++ drop b (take w (nodes cs)) ≡ take w (nodes cs)
-          longer = ap (λ ks. ks ++ drop b (take w (nodes cs))) (sym (take-take b w (nodes cs) taken.0)) ∙ take-append-drop b (take w (nodes cs))
+          longer = ap (λ ks. ks ++ drop b (take w (nodes cs))) (sym (take-take b w (nodes cs) taken.0))
+              ∙ take-append-drop b (take w (nodes cs))

@@ -1,5 +1,6 @@
 -- Links between places: where the parents of each changeset stand, and where its children do.
-use Rattle.std.specs.Prelude.{◌≡◌, ◌≢◌, ℕ, ◌<◌, ◌-◌, List, [], ◌∷◌, ◌++◌, length, take, map, get_or, slice_get, slice_set, ◌↔◌, ◌⊎◌, Option, None, Some, Contains}
+use Rattle.std.specs.Prelude.{◌≡◌, ◌≢◌, ℕ, ◌<◌, ◌-◌, List, [], ◌∷◌, ◌++◌, length, take, map, get_or, slice_get}
+use Rattle.std.specs.Prelude.{slice_set, ◌↔◌, ◌⊎◌, Option, None, Some, Contains}
 use Rattle.std.specs.List.Sorted.{IsStrictlyIncreasing}
 use Rattle.std.specs.declared.vec.Vec.{Vec}
 use Rattle.std.specs.declared.alloc.Global.{Global}

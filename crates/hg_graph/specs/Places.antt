@@ -32,7 +32,8 @@ IsHeadPlace cs P k = P k × ((j : ℕ) → P j → IsAncestorPlace cs k j → j 
 
 -- both places are among those of the nodes, and all of these are from the first up to the second
 abbrev pub IsSpan : List Contents → List Node → ℕ × ℕ → Type 0
-IsSpan cs ns span = IsPlaceOfOne cs ns span.0 × IsPlaceOfOne cs ns span.1 × ((k : ℕ) → IsPlaceOfOne cs ns k → (span.0 ≤ k) × (k ≤ span.1))
+IsSpan cs ns span = IsPlaceOfOne cs ns span.0 × IsPlaceOfOne cs ns span.1
+    × ((k : ℕ) → IsPlaceOfOne cs ns k → (span.0 ≤ k) × (k ≤ span.1))
 
 -- where a parent stands: nowhere if it is absent
 abbrev pub IsPlaceOf : List Contents → Node → Option ℕ → Type 0
@@ -45,4 +46,5 @@ ArePlacesOf cs c places = IsPlaceOf cs c.first places.first × IsPlaceOf cs c.se
 -- for each changeset, where its parents stand
 pub record ArePlaces (cs : List Contents) (places : List ParentPlaces) : Type 0 where
   pub len : length places ≡ length cs
-  pub each : (i : ℕ) (c : Contents) (p : ParentPlaces) → slice_get cs i ≡ Some c → slice_get places i ≡ Some p → ArePlacesOf cs c p
+  pub each : (i : ℕ) (c : Contents) (p : ParentPlaces) → slice_get cs i ≡ Some c → slice_get places i ≡ Some p
+      → ArePlacesOf cs c p

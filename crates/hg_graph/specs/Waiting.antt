@@ -12,4 +12,5 @@ abbrev pub IsNextOf : (ℕ → Type 0) → List ℕ → Option ℕ → Type 0
 IsNextOf Waited waiting next =
     MatchOption next
     ((k : ℕ) → ¬ (Waited k))
-    (λ greatest. Waited greatest × ((k : ℕ) → Contains waiting k → (k < greatest) × Waited k) × ((k : ℕ) → Waited k → (k ≡ greatest) ⊎ Contains waiting k))
+    (λ greatest. Waited greatest × ((k : ℕ) → Contains waiting k → (k < greatest) × Waited k)
+    × ((k : ℕ) → Waited k → (k ≡ greatest) ⊎ Contains waiting k))

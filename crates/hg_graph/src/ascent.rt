@@ -1,6 +1,8 @@
 //! Whether one changeset is an ancestor of another, by a walk from parents to parents.
 //!
-//! The places that the walk still has to visit wait in a set, and the greatest is visited next. A parent's place is before its child's, so each place is visited once, and none that stands before the changeset that is looked for. Along a line of sole parents nothing waits, and no memory is taken.
+//! The places that the walk still has to visit wait in a set, and the greatest is visited next. A parent's place is
+//! before its child's, so each place is visited once, and none that stands before the changeset that is looked for.
+//! Along a line of sole parents nothing waits, and no memory is taken.
 ghost use Rattle.std.specs.Prelude.{◌≡◌, ◌↔◌, ◌⊎◌, ◌≤◌, ◌<◌, ℕ, Some, length, Contains, IsTrue, IfOk, OnOk, OnErr};
 ghost use Rattle.hg_graph.specs.Graph.{IsGraph, Reaches};
 ghost use Rattle.hg_graph.specs.Places.{IsAt, IsAncestorPlace};
@@ -12,12 +14,15 @@ use std::alloc::AllocError;
 use std::collections::BTreeSet;
 
 impl Graph {
-    /// Whether zero or more parent steps lead from `node` to `ancestor`. False where either isn't held. It costs what a walk up from `node` visits before it comes to the place of `ancestor`, and nothing where `ancestor` has no children.
+    /// Whether zero or more parent steps lead from `node` to `ancestor`. False where either isn't held. It costs what a
+    /// walk up from `node` visits before it comes to the place of `ancestor`, and nothing where `ancestor` has no
+    /// children.
     pub fn is_ancestor(&self, ancestor: Node, node: Node) -> Result<bool, AllocError>
         ensures answer { IfOk result (λ answer. IsTrue answer ↔ Reaches self.now ancestor node) }
 
         // Memory is taken only where the ancestor stands before the node.
-        ensures memory { OnErr result ((low : ℕ) × (high : ℕ) × IsAt self.now ancestor low × IsAt self.now node high × low < high) }
+        ensures memory { OnErr result ((low : ℕ) × (high : ℕ) × IsAt self.now ancestor low × IsAt self.now node high
+            × low < high) }
     {
         match self.place(ancestor) {
             None => Ok(false),

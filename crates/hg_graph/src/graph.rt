@@ -1,5 +1,6 @@
 //! The changesets in their order, with the places of their parents.
-ghost use Rattle.std.specs.Prelude.{Some, ◌⊎◌, ◌≡◌, ◌≢◌, ◌↔◌, ℕ, [], ◌∷◌, ◌++◌, ◌<◌, slice_get, take, length, Contains, IsTrue, IsNone, IfSome, IfOk, IfErr, OnOk, OnErr, IsErrOf, MatchOption};
+ghost use Rattle.std.specs.Prelude.{Some, ◌⊎◌, ◌≡◌, ◌≢◌, ◌↔◌, ℕ, [], ◌∷◌, ◌++◌, ◌<◌, slice_get, take, length, Contains};
+ghost use Rattle.std.specs.Prelude.{IsTrue, IsNone, IfSome, IfOk, IfErr, OnOk, OnErr, IsErrOf, MatchOption};
 ghost use Rattle.std.specs.Option.{option_copied};
 ghost use Rattle.std.specs.List.Sorted.{IsStrictlyIncreasing};
 ghost use Rattle.hg_changeset.specs.Node.{null_node};
@@ -61,7 +62,8 @@ impl Model for Graph {
 
     ghost view = { λ g. values g.changesets };
 
-    ghost invariant = { λ g. (keys g.changesets ≡ nodes (values g.changesets)) × IsGraph (values g.changesets) × ArePlaces (values g.changesets) g.links };
+    ghost invariant = { λ g. (keys g.changesets ≡ nodes (values g.changesets)) × IsGraph (values g.changesets)
+        × ArePlaces (values g.changesets) g.links };
 }
 
 impl Graph {
@@ -148,7 +150,8 @@ impl Graph {
     /// Where the parents of the changeset at a place stand.
     pub fn parent_places(&self, place: usize) -> ParentPlaces
         requires { place < length self.now }
-        ensures places { (k : ℕ) → IsParentPlace self.now place k ↔ ((result.first ≡ Some k) ⊎ (result.second ≡ Some k)) }
+        ensures places { (k : ℕ) → IsParentPlace self.now place k
+            ↔ ((result.first ≡ Some k) ⊎ (result.second ≡ Some k)) }
         ensures in_order { IfSome (slice_get self.now place) (λ c. ArePlacesOf self.now c result) }
     {
         self.links.parents(place)
@@ -211,7 +214,8 @@ impl Graph {
 
     // Where the parents stand, or the first, in normal form, that isn't held.
     fn places_of_parents(&self, changeset: &Changeset) -> Result<ParentPlaces, Node>
-        ensures held { IfOk result (λ places. HoldsParents self.now changeset.now × ArePlacesOf self.now changeset.now places) }
+        ensures held { IfOk result
+            (λ places. HoldsParents self.now changeset.now × ArePlacesOf self.now changeset.now places) }
         ensures missing { IfErr result (IsFirstMissing self.now changeset.now) }
     {
         let (first, second) = changeset.parents();
@@ -252,7 +256,8 @@ impl Graph {
         }
     }
 
-    /// Forgets the changesets from the place `len` on. It takes back what a refused call of a crate above has added, and is
+    /// Forgets the changesets from the place `len` on. It takes back what a refused call of a crate above has added,
+    /// and is
     /// for no other use: what is kept beside a graph must be taken back with it.
     pub fn truncate(&mut self, len: usize)
         ensures { self.new ≡ take len self.old }

@@ -1,6 +1,7 @@
 //! Heads, by one sweep between the first place and the last.
 //!
-//! Parents of what is marked get a second mark, and then all that reach them: what has both marks is an ancestor of another marked changeset, and no head.
+//! Parents of what is marked get a second mark, and then all that reach them: what has both marks is an ancestor of
+//! another marked changeset, and no head.
 ghost use Rattle.std.specs.Prelude.{◌≡◌, ◌↔◌, ℕ, ◌+◌, ◌≤◌, min, max, length, Contains, MatchOption, IfOk, OnErr};
 ghost use Rattle.std.specs.List.Sorted.{IsStrictlySortedBy};
 ghost use Rattle.hg_changeset.specs.declared.node.Node.{Node};
@@ -15,7 +16,9 @@ use std::alloc::{AllocError, Global};
 use std::collections::BTreeSet;
 
 impl Graph {
-    /// Those of the nodes that are held and have no other of them as a descendant, each once, ascending by id, as Mercurial's `heads(SET)`. Ids that aren't held change nothing. It costs what stands between the first of them and the last.
+    /// Those of the nodes that are held and have no other of them as a descendant, each once, ascending by id, as
+    /// Mercurial's `heads(SET)`. Ids that aren't held change nothing. It costs what stands between the first of them
+    /// and the last.
     pub fn heads_of(&self, nodes: &[Node]) -> Result<Vec<Node>, AllocError>
         ensures exact { IfOk result (λ heads. (n : Node) → Contains heads.items n ↔ IsHeadOfThem self.now nodes.now n) }
         ensures ascending { IfOk result (λ heads. IsStrictlySortedBy node_cmp heads.items) }
@@ -38,10 +41,12 @@ impl Graph {
         }
     }
 
-    /// The marked changesets that have no other marked one as a descendant, ascending by id. There is a mark for each place.
+    /// The marked changesets that have no other marked one as a descendant, ascending by id. There is a mark for each
+    /// place.
     pub fn marked_heads(&self, marks: &[bool]) -> Result<Vec<Node>, AllocError>
         requires { length marks.now ≡ length self.now }
-        ensures exact { IfOk result (λ heads. (n : Node) → Contains heads.items n ↔ IsHeadAmong self.now (IsMarkedNode self.now marks.now) n) }
+        ensures exact { IfOk result
+            (λ heads. (n : Node) → Contains heads.items n ↔ IsHeadAmong self.now (IsMarkedNode self.now marks.now) n) }
         ensures ascending { IfOk result (λ heads. IsStrictlySortedBy node_cmp heads.items) }
     {
         // It says that this is a graph.
@@ -62,7 +67,8 @@ impl Graph {
         span
     }
 
-    // The nodes at those of the marked places from which no other one of them is reached, ascending by id. The marks are for the places from `low` up to `high`.
+    // The nodes at those of the marked places from which no other one of them is reached, ascending by id. The marks
+    // are for the places from `low` up to `high`.
     fn heads_between(
         &self,
         low: usize,
@@ -71,7 +77,9 @@ impl Graph {
     ) -> Result<Vec<Node>, AllocError>
         requires window { low + length marks.now ≡ high }
         requires within { high ≤ length self.now }
-        ensures exact { IfOk result (λ heads. (n : Node) → Contains heads.items n ↔ ((k : ℕ) × IsAt self.now n k × IsHeadPlace self.now (IsMarked low marks.now) k)) }
+        ensures exact { IfOk result
+            (λ heads. (n : Node) → Contains heads.items n
+            ↔ ((k : ℕ) × IsAt self.now n k × IsHeadPlace self.now (IsMarked low marks.now) k)) }
         ensures ascending { IfOk result (λ heads. IsStrictlySortedBy node_cmp heads.items) }
     {
         let alloc = self.alloc();
@@ -87,7 +95,8 @@ impl Graph {
     fn mark_parents_of(&self, low: usize, high: usize, marks: &[bool], above: &mut [bool])
         requires window { low + length marks.now ≡ high }
         requires within { high ≤ length self.now }
-        ensures { MarksAlso low (λ k. (j : ℕ) × IsMarked low marks.now j × IsParentPlace self.now j k) above.old above.new }
+        ensures { MarksAlso low (λ k. (j : ℕ) × IsMarked low marks.now j × IsParentPlace self.now j k) above.old
+            above.new }
     {
         for place in low..high {
             if marks[place - low] {
@@ -107,7 +116,9 @@ impl Graph {
         requires window { low + length marks.now ≡ high }
         requires same_window { low + length above.now ≡ high }
         requires within { high ≤ length self.now }
-        ensures { IfOk result (λ heads. (n : Node) → Contains heads.keys n ↔ ((k : ℕ) × IsAt self.now n k × IsMarked low marks.now k × ¬ (IsMarked low above.now k))) }
+        ensures { IfOk result
+            (λ heads. (n : Node) → Contains heads.keys n
+            ↔ ((k : ℕ) × IsAt self.now n k × IsMarked low marks.now k × ¬ (IsMarked low above.now k))) }
     {
         let mut found = BTreeSet::new(self.alloc());
         for place in low..high {

@@ -1,7 +1,9 @@
 //! For each changeset where its parents stand, and where its children do.
 //!
-//! A place more is a child of its parents' places, and the last one there. So what was added last is taken back at the cost of what it was, and a walk down from some changesets costs what it visits.
-ghost use Rattle.std.specs.Prelude.{◌≡◌, ℕ, ◌↔◌, ◌++◌, ◌∷◌, [], ◌<◌, ◌-◌, Some, slice_get, take, length, Contains, IfSome, IfOk, OnOk, OnErr};
+//! A place more is a child of its parents' places, and the last one there. So what was added last is taken back at the
+//! cost of what it was, and a walk down from some changesets costs what it visits.
+ghost use Rattle.std.specs.Prelude.{◌≡◌, ℕ, ◌↔◌, ◌++◌, ◌∷◌, [], ◌<◌, ◌-◌, Some, slice_get, take, length, Contains};
+ghost use Rattle.std.specs.Prelude.{IfSome, IfOk, OnOk, OnErr};
 ghost use Rattle.std.specs.List.Sorted.{IsStrictlyIncreasing};
 ghost use Rattle.std.specs.Vec.{vec_capacity};
 ghost use Rattle.hg_graph.specs.Links.{IsChildPlace, IsLinkable, lists_of, put_last, drop_last, changed_at};
@@ -115,7 +117,9 @@ fn add_child(
     child: usize,
 ) -> Result<(), AllocError>
     requires { IsLinkable (length children.old.items) parents }
-    ensures ok { OnOk result (lists_of children.new.items ≡ changed_at parents.second (put_last child) (changed_at parents.first (put_last child) (lists_of children.old.items))) }
+    ensures ok { OnOk result
+        (lists_of children.new.items ≡ changed_at parents.second (put_last child)
+        (changed_at parents.first (put_last child) (lists_of children.old.items))) }
     ensures err { OnErr result (lists_of children.new.items ≡ lists_of children.old.items) }
     ensures capacity { vec_capacity children.new ≡ vec_capacity children.old }
 {
@@ -136,7 +140,8 @@ fn put_child(
     child: usize,
 ) -> Result<(), AllocError>
     requires { IfSome parent (λ k. k < length children.old.items) }
-    ensures ok { OnOk result (lists_of children.new.items ≡ changed_at parent (put_last child) (lists_of children.old.items)) }
+    ensures ok { OnOk result
+        (lists_of children.new.items ≡ changed_at parent (put_last child) (lists_of children.old.items)) }
     ensures err { OnErr result (lists_of children.new.items ≡ lists_of children.old.items) }
     ensures capacity { vec_capacity children.new ≡ vec_capacity children.old }
 {

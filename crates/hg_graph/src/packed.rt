@@ -6,7 +6,8 @@ ghost use Rattle.hg_graph.specs.Packed.{place_in};
 use crate::graph::ParentPlaces;
 use std::marker::Model;
 
-/// The places of a changeset's parents: 0 for an absent one, and otherwise the place and one more. Contracts see the places.
+/// The places of a changeset's parents: 0 for an absent one, and otherwise the place and one more. Contracts see the
+/// places.
 #[derive(Drop)]
 pub struct PackedPlaces {
     first: usize,

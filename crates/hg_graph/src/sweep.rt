@@ -1,6 +1,9 @@
 //! Ancestors, by one sweep from the last place to the first.
 //!
-//! Each place has a mark. Since a parent's place is before its child's, a walk down the places that marks the parents of each marked changeset has marked, when it comes to a changeset, all that reach it. Where only the changesets from a place on are asked for, the marks begin there, and so does the walk end there: whatever lies on the way to a changeset stands after it.
+//! Each place has a mark. Since a parent's place is before its child's, a walk down the places that marks the parents
+//! of each marked changeset has marked, when it comes to a changeset, all that reach it. Where only the changesets from
+//! a place on are asked for, the marks begin there, and so does the walk end there: whatever lies on the way to a
+//! changeset stands after it.
 ghost use Rattle.std.specs.Prelude.{◌≡◌, ◌↔◌, ℕ, ◌+◌, ◌<◌, ◌≤◌, Some, length, Contains, IsTrue, IfOk};
 ghost use Rattle.hg_changeset.specs.declared.node.Node.{Node};
 ghost use Rattle.hg_graph.specs.Graph.{IsGraph, IsAncestorOfOne, Reaches, Selects};
@@ -12,7 +15,8 @@ use hg_changeset::Node;
 use std::alloc::AllocError;
 
 impl Graph {
-    /// The nodes that are held and their ancestors, in the graph's order. Doubles, and ids that aren't held, change nothing.
+    /// The nodes that are held and their ancestors, in the graph's order. Doubles, and ids that aren't held, change
+    /// nothing.
     pub fn ancestors(&self, nodes: &[Node]) -> Result<Vec<Node>, AllocError>
         ensures { IfOk result (λ found. Selects self.now (IsAncestorOfOne self.now nodes.now) found.items) }
     {
@@ -20,10 +24,12 @@ impl Graph {
         self.marked(&marks)
     }
 
-    /// A mark for each place: whether the changeset there is one of the nodes, or an ancestor of one. Doubles, and ids that aren't held, change nothing.
+    /// A mark for each place: whether the changeset there is one of the nodes, or an ancestor of one. Doubles, and ids
+    /// that aren't held, change nothing.
     pub fn ancestor_marks(&self, nodes: &[Node]) -> Result<Vec<bool>, AllocError>
         ensures len { IfOk result (λ marks. length marks.items ≡ length self.now) }
-        ensures marked { IfOk result (λ marks. (a : Node) → IsMarkedNode self.now marks.items a ↔ IsAncestorOfOne self.now nodes.now a) }
+        ensures marked { IfOk result (λ marks. (a : Node) → IsMarkedNode self.now marks.items a
+            ↔ IsAncestorOfOne self.now nodes.now a) }
     {
         let mut marks = vec![in self.alloc(); false; self.len()]?;
         self.mark_ancestors(nodes, &mut marks);
@@ -34,7 +40,8 @@ impl Graph {
     pub fn add_ancestors(&self, marks: &mut [bool])
         requires { length marks.old ≡ length self.now }
         ensures len { length marks.new ≡ length self.now }
-        ensures marked { (a : Node) → IsMarkedNode self.now marks.new a ↔ ((d : Node) × IsMarkedNode self.now marks.old d × Reaches self.now a d) }
+        ensures marked { (a : Node) → IsMarkedNode self.now marks.new a
+            ↔ ((d : Node) × IsMarkedNode self.now marks.old d × Reaches self.now a d) }
     {
         // It says that this is a graph.
         let count = self.len();

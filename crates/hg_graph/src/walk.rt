@@ -1,6 +1,8 @@
 //! Descendants, by a walk from children to children.
 //!
-//! The places that the walk still has to visit wait in a set, and the least is visited first. A child's place is after its parents', so each place is visited once, and the places come in the graph's order. The walk costs what it visits.
+//! The places that the walk still has to visit wait in a set, and the least is visited first. A child's place is after
+//! its parents', so each place is visited once, and the places come in the graph's order. The walk costs what it
+//! visits.
 ghost use Rattle.std.specs.Prelude.{◌≡◌, ◌↔◌, ◌⊎◌, ℕ, ◌<◌, length, Contains, IfOk, OnOk, OnErr};
 ghost use Rattle.hg_changeset.specs.declared.node.Node.{Node};
 ghost use Rattle.hg_graph.specs.Graph.{Holds, IsDescendantOfOne, Selects};
@@ -12,7 +14,8 @@ use std::alloc::AllocError;
 use std::collections::BTreeSet;
 
 impl Graph {
-    /// The nodes that are held and their descendants, in the graph's order. Doubles, and ids that aren't held, change nothing. It costs what it finds, however large the graph is.
+    /// The nodes that are held and their descendants, in the graph's order. Doubles, and ids that aren't held, change
+    /// nothing. It costs what it finds, however large the graph is.
     pub fn descendants(&self, nodes: &[Node]) -> Result<Vec<Node>, AllocError>
         ensures answer { IfOk result (λ found. Selects self.now (IsDescendantOfOne self.now nodes.now) found.items) }
 
@@ -47,7 +50,8 @@ impl Graph {
     // Adds the places of the children.
     fn add_children(&self, place: usize, places: &mut BTreeSet<usize>) -> Result<(), AllocError>
         requires { place < length self.now }
-        ensures { OnOk result ((k : ℕ) → Contains places.new.keys k ↔ (Contains places.old.keys k ⊎ IsParentPlace self.now k place)) }
+        ensures { OnOk result
+            ((k : ℕ) → Contains places.new.keys k ↔ (Contains places.old.keys k ⊎ IsParentPlace self.now k place)) }
     {
         for child in self.children(place) {
             places.insert(*child)?;

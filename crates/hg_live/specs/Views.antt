@@ -29,7 +29,8 @@ AddsPut v m w = (n : ℕ) × (w ≡ seat_log v.inbox (v.puts ++ numbered n m ∷
 
 -- the message has a number above those of the seat's other takes
 abbrev pub AddsTake : SeatLog → List ℕ → SeatLog → Type 0
-AddsTake v m w = (n : ℕ) × (w ≡ seat_log v.inbox v.puts (v.takes ++ numbered n m ∷ [])) × All (λ p. p.number < n) v.takes
+AddsTake v m w = (n : ℕ) × (w ≡ seat_log v.inbox v.puts (v.takes ++ numbered n m ∷ []))
+    × All (λ p. p.number < n) v.takes
 
 -- the puts of all the seats
 abbrev pub all_puts : List SeatLog → List Numbered

@@ -1,9 +1,11 @@
 //! A bounded inbox that threads share, and the seats of its callers.
-ghost use Rattle.std.specs.Prelude.{◌≡◌, ◌↔◌, ℕ, ◌+◌, ◌-◌, ◌^◌, ◌<◌, ◌≤◌, ◌⊎◌, List, [], ◌∷◌, ◌++◌, All, IfOk, OnOk, IfErr, IfSome, IsErrOf, IsNone, MatchResult, MatchOption, length, map};
+ghost use Rattle.std.specs.Prelude.{◌≡◌, ◌↔◌, ℕ, ◌+◌, ◌-◌, ◌^◌, ◌<◌, ◌≤◌, ◌⊎◌, List, [], ◌∷◌, ◌++◌, All, IfOk, OnOk};
+ghost use Rattle.std.specs.Prelude.{IfErr, IfSome, IsErrOf, IsNone, MatchResult, MatchOption, length, map};
 ghost use Rattle.crossbeam_queue.specs.Fifo.{Held};
 ghost use Rattle.crossbeam_queue.specs.Passes.{view, IsPassOf, IsSamePass};
 ghost use Rattle.hg_live.specs.Rule.{log, Agrees};
-ghost use Rattle.hg_live.specs.Views.{seat_log, inbox_state, AddsPut, AddsTake, IsRest, EachAscends, all_puts, all_takes};
+ghost use Rattle.hg_live.specs.Views.{seat_log, inbox_state, AddsPut, AddsTake, IsRest, EachAscends, all_puts};
+ghost use Rattle.hg_live.specs.Views.{all_takes};
 ghost use Rattle.hg_live.specs.declared.refusal.InboxRefusal.TheVariants.{ZeroCapacity, SeatsOut, NoSeat, NoMemory};
 
 use crate::refusal::{Full, InboxRefusal};
@@ -16,7 +18,8 @@ use std::sync::Wait;
 /// How many seats one inbox gives at most.
 const SEATS: u64 = 1 << 62;
 
-/// A caller's seat at an inbox, by which it puts and takes. Contracts see which inbox it is of, and what was put and taken
+/// A caller's seat at an inbox, by which it puts and takes. Contracts see which inbox it is of, and what was put and
+/// taken
 /// by it, each message under its number.
 #[derive(Drop)]
 pub struct Seat {
@@ -35,10 +38,12 @@ impl Model for Seat {
 
     ghost view = { λ s. seat_log s.pass.table_id (known s.pass).puts (known s.pass).takes };
 
-    ghost invariant = { λ s. (s.pass.me.1 ≡ []) × ((known s.pass).parts ≡ 1) × Ascends (known s.pass).puts × Ascends (known s.pass).takes };
+    ghost invariant = { λ s. (s.pass.me.1 ≡ []) × ((known s.pass).parts ≡ 1) × Ascends (known s.pass).puts
+        × Ascends (known s.pass).takes };
 }
 
-/// A bounded queue of messages that threads share. Contracts see its name, which only its own seats have, how many messages
+/// A bounded queue of messages that threads share. Contracts see its name, which only its own seats have, how many
+/// messages
 /// it may hold, and how many seats were made.
 ///
 /// `origin` holds what no seat knows: all parts of the right to see the whole that no seat was given.
@@ -62,7 +67,8 @@ impl Model for Inbox {
 
     ghost view = { λ i. inbox_state i.queue.table.shared.table_id (ruled_capacity i.queue) i.seats };
 
-    ghost invariant = { λ i. IsPassOf i.queue i.origin × (known i.origin ≡ log (2 ^ 62 + 1 - i.seats) [] []) × (i.seats ≤ 2 ^ 62) };
+    ghost invariant = { λ i. IsPassOf i.queue i.origin × (known i.origin ≡ log (2 ^ 62 + 1 - i.seats) [] [])
+        × (i.seats ≤ 2 ^ 62) };
 }
 
 /// The inbox was not closed. It comes back as it was, with the seats.
@@ -77,7 +83,8 @@ pub struct Unclosed {
 }
 
 impl Inbox {
-    /// An inbox for so many messages, with no seats yet. It takes the room for all of them here, so that no put and no take
+    /// An inbox for so many messages, with no seats yet. It takes the room for all of them here, so that no put and no
+    /// take
     /// wants memory.
     ///
     /// Refuses [`InboxRefusal::ZeroCapacity`] where it may hold no message.
@@ -104,7 +111,9 @@ impl Inbox {
     ///
     /// Refuses [`InboxRefusal::NoSeat`] where 2^62 seats were made.
     pub fn seat(&mut self) -> Result<Seat, InboxRefusal>
-        ensures made { IfOk result (λ seat. (seat ≡ seat_log self.old.name [] []) × (self.new ≡ inbox_state self.old.name self.old.capacity (self.old.seats + 1))) }
+        ensures made { IfOk result
+            (λ seat. (seat ≡ seat_log self.old.name [] [])
+            × (self.new ≡ inbox_state self.old.name self.old.capacity (self.old.seats + 1))) }
         ensures refused { IfErr result (λ e. (e ≡ NoSeat) × (self.new ≡ self.old)) }
         ensures none_left { IsErrOf result NoSeat ↔ (self.old.seats ≡ 2 ^ 62) }
     {
@@ -118,11 +127,14 @@ impl Inbox {
 
     /// Puts a message behind all others, by a seat of this inbox. It takes no memory.
     ///
-    /// Refuses [`Full`], with the message, only where the inbox held as many messages as it may at one moment of the call.
+    /// Refuses [`Full`], with the message, only where the inbox held as many messages as it may at one moment of the
+    /// call.
     pub fn put<R: Wait>(&self, rt: &R, seat: &mut Seat, message: Vec<u8>) -> Result<(), Full>
         requires { seat.old.inbox ≡ self.now.name }
         ensures of { seat.new.inbox ≡ seat.old.inbox }
-        ensures put { MatchResult result (λ _. AddsPut seat.old message.items seat.new) (λ full. (full.message.items ≡ message.items) × (seat.new ≡ seat.old) × Held self.now.capacity (Agrees seat.old.puts seat.old.takes)) }
+        ensures put { MatchResult result (λ _. AddsPut seat.old message.items seat.new)
+            (λ full. (full.message.items ≡ message.items) × (seat.new ≡ seat.old)
+            × Held self.now.capacity (Agrees seat.old.puts seat.old.takes)) }
     {
         match steps::put(rt, &self.queue, &mut seat.pass, Message { bytes: message }) {
             Ok(()) => Ok(()),
@@ -138,7 +150,8 @@ impl Inbox {
     pub fn take<R: Wait>(&self, rt: &R, seat: &mut Seat) -> Option<Vec<u8>>
         requires { seat.old.inbox ≡ self.now.name }
         ensures of { seat.new.inbox ≡ seat.old.inbox }
-        ensures take { MatchOption result ((seat.new ≡ seat.old) × Held 0 (Agrees seat.old.puts seat.old.takes)) (λ message. AddsTake seat.old message.items seat.new) }
+        ensures take { MatchOption result ((seat.new ≡ seat.old) × Held 0 (Agrees seat.old.puts seat.old.takes))
+            (λ message. AddsTake seat.old message.items seat.new) }
     {
         match steps::take(rt, &self.queue, &mut seat.pass) {
             Some(message) => Some(message.bytes),
@@ -148,7 +161,8 @@ impl Inbox {
 
     /// Closes the inbox, by all the seats that were made, and gives the messages that are left, front first.
     ///
-    /// Refuses [`InboxRefusal::SeatsOut`] where fewer seats came, and hands the inbox and the seats back, as it does for want
+    /// Refuses [`InboxRefusal::SeatsOut`] where fewer seats came, and hands the inbox and the seats back, as it does
+    /// for want
     /// of memory.
     pub fn close<R: Wait>(self, rt: &R, seats: Vec<Seat>) -> Result<Vec<Vec<u8>>, Unclosed>
         requires { All (λ seat. seat.inbox ≡ self.name) seats.items }
@@ -189,7 +203,8 @@ impl Inbox {
 fn gather(queue: &Queue, origin: &mut Known, seats: Vec<Seat>)
     requires { IsPassOf queue.now origin.old × All (λ seat. seat.inbox ≡ queue.now.table.shared.table_id) seats.items }
     ensures same { IsSamePass origin.old origin.new }
-    ensures all { view origin.new ≡ log ((view origin.old).parts + length seats.items) ((view origin.old).puts ++ all_puts seats.items) ((view origin.old).takes ++ all_takes seats.items) }
+    ensures all { view origin.new ≡ log ((view origin.old).parts + length seats.items)
+        ((view origin.old).puts ++ all_puts seats.items) ((view origin.old).takes ++ all_takes seats.items) }
     ensures numbers { EachAscends seats.items }
     ensures parts { (view origin.new).parts ≤ 2 ^ 62 + 1 }
 {

@@ -5,7 +5,8 @@
 //!
 //! # What is promised
 //!
-//! The accepted puts of an inbox are numbered from 0, with no number left out, and so are the takes that give a message.
+//! The accepted puts of an inbox are numbered from 0, with no number left out, and so are the takes that give a
+//! message.
 //! A take gives the message of the put with its number. So messages come out in the order in which they were put in,
 //! each once, whichever threads put and take them.
 //!

@@ -8,6 +8,7 @@ pub returns : goal.returns
 returns c =
     let none : c.loop-key.key-iterator ≡ [] = c.in-None.ensures.steps.0 in
     sym (append-nil c.loop-key.text.items)
-    ∙ ap (λ (es : List (Vec ℕ Global × Vec ℕ Global)). c.loop-key.text.items ++ led c.loop-key.before (extra_bytes es)) (sym none)
+    ∙ ap (λ (es : List (Vec ℕ Global × Vec ℕ Global)). c.loop-key.text.items ++ led c.loop-key.before (extra_bytes es))
+    (sym none)
     ∙ c.loop-key.invariant
     ∙ ap (λ (t : List ℕ). c.args.text.now.items ++ t) (extras_are_led (extra_bytes c.args.extra.now.entries))

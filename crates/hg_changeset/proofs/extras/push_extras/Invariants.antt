@@ -4,4 +4,5 @@ use Rattle.hg_changeset.proofs.ExtrasLemmas.{led}
 use Rattle.hg_changeset.proofs.extras.push_extras.Given as goal
 
 abbrev pub invariant-loop-key : goal.invariant-loop-key
-invariant-loop-key l = l.text.items ++ led l.before (extra_bytes l.key-iterator) ≡ l.initial.text.items ++ led 32 (extra_bytes l.extra.entries)
+invariant-loop-key l = l.text.items ++ led l.before (extra_bytes l.key-iterator) ≡ l.initial.text.items ++ led 32
+    (extra_bytes l.extra.entries)

@@ -19,10 +19,21 @@ loop-seat-preserved c =
     record {
       same = (same.0 ∙ i.same.0, same.1 ∙ i.same.1, same.2 ∙ i.same.2);
       seats = All-tail P c.in-Some.seat rest (subst (λ (xs : List SeatLog). All P xs) is i.seats);
-      parts = (let one = c.seat.invariant.1 in let p = i.parts in omega (arith, ap (λ (h : Log). h.parts) both, ap length is));
-      puts = ap (λ (h : Log). h.puts ++ all_puts rest) both ∙ (append_assoc v.puts u.puts (all_puts rest) ∙ (ap (λ (s : SeatLog). v.puts ++ (s.puts ++ all_puts rest)) c.seat.view_is ∙ (ap (λ (xs : List SeatLog). v.puts ++ all_puts xs) (sym is) ∙ i.puts)));
-      numbers = λ others. i.numbers (subst EachAscends (sym is) (All-cons (λ (s : SeatLog). Ascends s.puts × Ascends s.takes) c.in-Some.seat rest (subst (λ (s : SeatLog). Ascends s.puts × Ascends s.takes) c.seat.view_is (c.seat.invariant.2, c.seat.invariant.3)) others));
-      takes = ap (λ (h : Log). h.takes ++ all_takes rest) both ∙ (append_assoc v.takes u.takes (all_takes rest) ∙ (ap (λ (s : SeatLog). v.takes ++ (s.takes ++ all_takes rest)) c.seat.view_is ∙ (ap (λ (xs : List SeatLog). v.takes ++ all_takes xs) (sym is) ∙ i.takes)));
+      parts = (let one = c.seat.invariant.1 in let p = i.parts in
+          omega (arith, ap (λ (h : Log). h.parts) both, ap length is));
+      puts = ap (λ (h : Log). h.puts ++ all_puts rest) both
+          ∙ (append_assoc v.puts u.puts (all_puts rest)
+          ∙ (ap (λ (s : SeatLog). v.puts ++ (s.puts ++ all_puts rest)) c.seat.view_is
+          ∙ (ap (λ (xs : List SeatLog). v.puts ++ all_puts xs) (sym is) ∙ i.puts)));
+      numbers = λ others.
+          i.numbers (subst EachAscends (sym is)
+          (All-cons (λ (s : SeatLog). Ascends s.puts × Ascends s.takes) c.in-Some.seat rest
+          (subst (λ (s : SeatLog). Ascends s.puts × Ascends s.takes) c.seat.view_is
+          (c.seat.invariant.2, c.seat.invariant.3)) others));
+      takes = ap (λ (h : Log). h.takes ++ all_takes rest) both
+          ∙ (append_assoc v.takes u.takes (all_takes rest)
+          ∙ (ap (λ (s : SeatLog). v.takes ++ (s.takes ++ all_takes rest)) c.seat.view_is
+          ∙ (ap (λ (xs : List SeatLog). v.takes ++ all_takes xs) (sym is) ∙ i.takes)));
     }
 
 pub loop-seat-init : goal.loop-seat-init

@@ -12,10 +12,12 @@ pub loop-child-preserved : goal.loop-child-preserved
 loop-child-preserved c k =
     let xs = c.children-child-items.result.now in
     let i = c.loop-child.child-index in
-    let added = inserted nat_cmp_total exact_unsigned c.loop-child.places c.insert.new.self (get_or xs i 0) c.in_ok-insert.ensures.updates k in
+    let added = inserted nat_cmp_total exact_unsigned c.loop-child.places c.insert.new.self (get_or xs i 0)
+    c.in_ok-insert.ensures.updates k in
     let more = taken_one xs i 0 k c.loop-child-test.true in (
       λ h. elim (added.0 h) [
-        | inl before ↦ elim ((c.loop-child.invariant k).0 before) [ inl old ↦ inl old | inr new ↦ inr (more.1 (inl new)) ]
+        | inl before ↦ elim ((c.loop-child.invariant k).0 before)
+            [ inl old ↦ inl old | inr new ↦ inr (more.1 (inl new)) ]
         | inr e ↦ inr (more.1 (inr e))
       ],
       λ h. added.1 (elim h [
@@ -30,5 +32,6 @@ returns c k =
     let all : take c.loop-child.child-index xs ≡ xs = take_all c.loop-child.child-index xs c.loop-child-test.false in
     let kept = rw all at c.loop-child.invariant in (
       λ h. elim ((kept k).0 h) [ inl old ↦ inl old | inr new ↦ inr ((c.children-child-items.ensures.exact k).0 new) ],
-      λ h. (kept k).1 (elim h [ inl old ↦ inl old | inr parent ↦ inr ((c.children-child-items.ensures.exact k).1 parent) ]),
+      λ h. (kept k).1
+          (elim h [ inl old ↦ inl old | inr parent ↦ inr ((c.children-child-items.ensures.exact k).1 parent) ]),
     )

@@ -10,4 +10,5 @@ returns c =
     let P = IsMarkedNode cs c.deref.result.now in
     let Q = IsAncestorOfOne cs c.args.nodes.now in
     IfOk-weaker c.marked.result (λ found. Selects cs P found.items) (λ found. Selects cs Q found.items)
-    (λ found h. Selects-same cs P Q found.items (rw c.deref.ensures.value c.in_ok-marks.ensures.marked) h) c.marked.ensures
+    (λ found h. Selects-same cs P Q found.items (rw c.deref.ensures.value c.in_ok-marks.ensures.marked) h)
+    c.marked.ensures

@@ -15,7 +15,8 @@ push-requires-clause-new c =
     let i = c.loop-place.place in
     let x = c.in-Some.changeset.now in
     let new : IsNew (take i cs) x = IsNew-front cs c.len.ensures.graph i x (sym c.in-Some.ensures) in
-    subst (λ g. IsNew g c.in_ok-copy.field-0) (sym c.loop-place.invariant) (subst (IsNew (take i cs)) (sym c.in_ok-copy.ensures) new)
+    subst (λ g. IsNew g c.in_ok-copy.field-0) (sym c.loop-place.invariant)
+    (subst (IsNew (take i cs)) (sym c.in_ok-copy.ensures) new)
 
 pub push-requires-clause-places : goal.push-requires-clause-places
 push-requires-clause-places c =
@@ -23,9 +24,11 @@ push-requires-clause-places c =
     let i = c.loop-place.place in
     let x = c.in-Some.changeset.now in
     let p = c.parent_places.result in
-    let here : ArePlacesOf cs x p = subst (λ o. IfSome o (λ d. ArePlacesOf cs d p)) (sym c.in-Some.ensures) c.parent_places.ensures.in_order in
+    let here : ArePlacesOf cs x p = subst (λ o. IfSome o (λ d. ArePlacesOf cs d p)) (sym c.in-Some.ensures)
+    c.parent_places.ensures.in_order in
     let places = ArePlacesOf-take cs c.len.ensures.graph i i x p (omega arith) (sym c.in-Some.ensures) here in
-    subst (λ g. ArePlacesOf g c.in_ok-copy.field-0 p) (sym c.loop-place.invariant) (subst (λ d. ArePlacesOf (take i cs) d p) (sym c.in_ok-copy.ensures) places)
+    subst (λ g. ArePlacesOf g c.in_ok-copy.field-0 p) (sym c.loop-place.invariant)
+    (subst (λ d. ArePlacesOf (take i cs) d p) (sym c.in_ok-copy.ensures) places)
 
 pub loop-place-preserved : goal.loop-place-preserved
 loop-place-preserved c =
@@ -35,7 +38,8 @@ loop-place-preserved c =
     elim c.match-changeset_at.branch [
       | in-Some+in_ok-copy+in_ok-push w ↦
           let x = w.in-Some.changeset.now in
-          let last : get_or cs i x ≡ w.in_ok-copy.field-0 = get_or_from_slice_get cs i x x (sym w.in-Some.ensures) ∙ sym w.in_ok-copy.ensures in
+          let last : get_or cs i x ≡ w.in_ok-copy.field-0 = get_or_from_slice_get cs i x x (sym w.in-Some.ensures)
+          ∙ sym w.in_ok-copy.ensures in
           w.graph-is ∙ w.in_ok-push.ensures.pushed ∙ ap (λ g. g ++ w.in_ok-copy.field-0 ∷ []) c.loop-place.invariant
           ∙ ap (λ y. take i cs ++ y ∷ []) (sym last) ∙ sym (take_more cs i x within)
       | in_default w ↦

@@ -2,19 +2,24 @@ use Rattle.std.proofs.Common.{◌≡◌, ◌+◌, ◌++◌, ◌∷◌, [], lengt
 use Rattle.std.proofs.lemmas.List.{length-append}
 use Rattle.std.proofs.lemmas.Option.{none-some}
 use Rattle.hg_changeset.proofs.ListLemmas.{on_err_anyway}
-use Rattle.hg_graph.proofs.WalkLemmas.{IsWalked, IsWalked-start, IsWalked-step, IsWalked-end, found_less, one_held, taken_at, taken_within, emptied}
+use Rattle.hg_graph.proofs.WalkLemmas.{IsWalked, IsWalked-start, IsWalked-step, IsWalked-end, found_less, one_held}
+use Rattle.hg_graph.proofs.WalkLemmas.{taken_at, taken_within, emptied}
 use Rattle.hg_graph.proofs.graph.Graph.descendants.Goals as goal
 
 pub loop-place-init : goal.loop-place-init
 loop-place-init c =
     let cs = c.args.self.now in
     let ns = c.args.nodes.now in
-    let waiting = c.in_ok-waiting.waiting.keys in
-    (0, subst (λ found. IsWalked cs ns waiting found 0) (sym c.new-found.ensures.items) (IsWalked-start cs c.alloc.ensures ns waiting c.in_ok-waiting.ensures.answer))
+    let waiting = c.in_ok-waiting.waiting.keys in (
+      0,
+      subst (λ found. IsWalked cs ns waiting found 0) (sym c.new-found.ensures.items)
+          (IsWalked-start cs c.alloc.ensures ns waiting c.in_ok-waiting.ensures.answer),
+    )
 
 not_past : (c : goal.In_default-node_at) → ⊥
 not_past c =
-    let at = taken_at c.args.self.now c.alloc.ensures c.args.nodes.now c.loop-place.waiting.keys c.loop-place.found.items c.loop-place.invariant.0 c.loop-place.invariant.1
+    let at = taken_at c.args.self.now c.alloc.ensures c.args.nodes.now c.loop-place.waiting.keys
+    c.loop-place.found.items c.loop-place.invariant.0 c.loop-place.invariant.1
     c.in-Some.place c.pop_first.new.self.keys c.in-Some.ensures.removal c.in-Some.ensures.all_above in
     none-some at.0 (sym c.in_default-node_at.is ∙ c.node_at.ensures ∙ at.1)
 
@@ -26,34 +31,47 @@ loop-place-smaller c = absurd (not_past c)
 
 pub returns-in_err-push-clause-memory : goal.returns-in_err-push-clause-memory
 returns-in_err-push-clause-memory c =
-    on_err_anyway c.from_residual-in_err-push.result _ (one_held c.args.self.now c.alloc.ensures c.args.nodes.now c.loop-place.waiting.keys c.loop-place.found.items c.loop-place.invariant.0 c.loop-place.invariant.1
+    on_err_anyway c.from_residual-in_err-push.result
+    _ (one_held c.args.self.now c.alloc.ensures c.args.nodes.now c.loop-place.waiting.keys c.loop-place.found.items
+    c.loop-place.invariant.0 c.loop-place.invariant.1
     c.in-Some.place c.pop_first.new.self.keys c.in-Some.ensures.removal c.in-Some.ensures.all_above)
 
 pub add_children-requires : goal.add_children-requires
 add_children-requires c =
-    taken_within c.args.self.now c.alloc.ensures c.args.nodes.now c.loop-place.waiting.keys c.loop-place.found.items c.loop-place.invariant.0 c.loop-place.invariant.1
+    taken_within c.args.self.now c.alloc.ensures c.args.nodes.now c.loop-place.waiting.keys c.loop-place.found.items
+    c.loop-place.invariant.0 c.loop-place.invariant.1
     c.in-Some.place c.pop_first.new.self.keys c.in-Some.ensures.removal c.in-Some.ensures.all_above
 
 pub loop-place-smaller-in-Continue-branch-3 : goal.loop-place-smaller-in-Continue-branch-3
 loop-place-smaller-in-Continue-branch-3 c =
-    let less = found_less c.args.self.now c.alloc.ensures c.args.nodes.now c.loop-place.waiting.keys c.loop-place.found.items c.loop-place.invariant.0 c.loop-place.invariant.1
+    let less = found_less c.args.self.now c.alloc.ensures c.args.nodes.now c.loop-place.waiting.keys
+    c.loop-place.found.items c.loop-place.invariant.0 c.loop-place.invariant.1
     c.in-Some.place c.pop_first.new.self.keys c.in-Some.ensures.removal c.in-Some.ensures.all_above in
-    let more : length c.push.new.self.items ≡ length (c.loop-place.found.items ++ c.in-Some-node_at.node ∷ []) = ap length c.in_ok-push.ensures.items in
+    let more : length c.push.new.self.items ≡ length (c.loop-place.found.items ++ c.in-Some-node_at.node ∷ []) =
+    ap length c.in_ok-push.ensures.items in
     omega (arith, less, more, length-append c.loop-place.found.items (c.in-Some-node_at.node ∷ []))
 
 pub loop-place-preserved-in-Continue-branch-3 : goal.loop-place-preserved-in-Continue-branch-3
 loop-place-preserved-in-Continue-branch-3 c =
     let next = c.add_children.new.places.keys in
-    let step = IsWalked-step c.args.self.now c.alloc.ensures c.args.nodes.now c.loop-place.waiting.keys c.loop-place.found.items c.loop-place.invariant.0 c.loop-place.invariant.1
-    c.in-Some.place c.pop_first.new.self.keys c.in-Some.ensures.removal c.in-Some.ensures.all_above c.in-Some-node_at.node (sym c.node_at.ensures ∙ c.in-Some-node_at.is) next c.in_ok-add_children.ensures in
-    (c.in-Some.place + 1, subst (λ found. IsWalked c.args.self.now c.args.nodes.now next found (c.in-Some.place + 1)) (sym c.in_ok-push.ensures.items) step)
+    let step = IsWalked-step c.args.self.now c.alloc.ensures c.args.nodes.now c.loop-place.waiting.keys
+    c.loop-place.found.items c.loop-place.invariant.0 c.loop-place.invariant.1
+    c.in-Some.place c.pop_first.new.self.keys c.in-Some.ensures.removal c.in-Some.ensures.all_above
+    c.in-Some-node_at.node (sym c.node_at.ensures ∙ c.in-Some-node_at.is) next c.in_ok-add_children.ensures in (
+      c.in-Some.place + 1,
+      subst (λ found. IsWalked c.args.self.now c.args.nodes.now next found (c.in-Some.place + 1))
+          (sym c.in_ok-push.ensures.items) step,
+    )
 
 pub returns-in_err-add_children-clause-memory : goal.returns-in_err-add_children-clause-memory
 returns-in_err-add_children-clause-memory c =
-    on_err_anyway c.from_residual-in_err-add_children.result _ (one_held c.args.self.now c.alloc.ensures c.args.nodes.now c.loop-place.waiting.keys c.loop-place.found.items c.loop-place.invariant.0 c.loop-place.invariant.1
+    on_err_anyway c.from_residual-in_err-add_children.result
+    _ (one_held c.args.self.now c.alloc.ensures c.args.nodes.now c.loop-place.waiting.keys c.loop-place.found.items
+    c.loop-place.invariant.0 c.loop-place.invariant.1
     c.in-Some.place c.pop_first.new.self.keys c.in-Some.ensures.removal c.in-Some.ensures.all_above)
 
 pub returns-clause-answer : goal.returns-clause-answer
 returns-clause-answer c =
-    IsWalked-end c.args.self.now c.alloc.ensures c.args.nodes.now c.loop-place.waiting.keys c.loop-place.found.items c.loop-place.invariant.0 c.loop-place.invariant.1
+    IsWalked-end c.args.self.now c.alloc.ensures c.args.nodes.now c.loop-place.waiting.keys c.loop-place.found.items
+    c.loop-place.invariant.0 c.loop-place.invariant.1
     (emptied c.loop-place.waiting.keys (λ l. true≢false (sym (c.in_default.ensures.variant.1 l))))

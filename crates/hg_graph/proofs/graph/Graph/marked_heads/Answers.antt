@@ -8,4 +8,6 @@ returns-clause-exact c =
     let cs = c.args.self.now in
     let marks = c.args.marks.now in
     let graph = c.len-count.ensures.graph in
-    IfOk-weaker c.heads_between.result _ _ (λ heads are. heads_are cs graph (IsMarkedNode cs marks) (IsMarked 0 marks) (marked_given cs graph marks c.requires) heads.items are) c.heads_between.ensures.exact
+    IfOk-weaker c.heads_between.result
+    _ _ (λ heads are. heads_are cs graph (IsMarkedNode cs marks) (IsMarked 0 marks)
+    (marked_given cs graph marks c.requires) heads.items are) c.heads_between.ensures.exact

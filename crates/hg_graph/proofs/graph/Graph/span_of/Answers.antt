@@ -13,12 +13,16 @@ loop-node-preserved c =
     let d : Node = record { 0 = [] } in
     elim c.match-place.branch [
       | in-Some w ↦
-          let wide = span_more cs ns i d (omega arith) c.place.result c.place.ensures.place w.in-Some.place w.in-Some.is c.loop-node.span c.loop-node.invariant w.widened.result w.widened.ensures in
+          let wide = span_more cs ns i d (omega arith) c.place.result c.place.ensures.place w.in-Some.place w.in-Some.is
+          c.loop-node.span c.loop-node.invariant w.widened.result w.widened.ensures in
           subst (IsSpanOf cs (take (i + 1) ns)) (sym w.span-is) wide
-      | in_default w ↦ subst (IsSpanOf cs (take (i + 1) ns)) (sym w.span-is) (span_same cs ns i d (omega arith) c.place.result c.place.ensures.place w.in_default.is c.loop-node.span c.loop-node.invariant)
+      | in_default w ↦ subst (IsSpanOf cs (take (i + 1) ns)) (sym w.span-is)
+          (span_same cs ns i d (omega arith) c.place.result c.place.ensures.place w.in_default.is c.loop-node.span
+          c.loop-node.invariant)
     ]
 
 pub returns : goal.returns
 returns c =
-    let all : take c.loop-node.node-index c.args.nodes.now ≡ c.args.nodes.now = take_all c.loop-node.node-index c.args.nodes.now (omega arith) in
+    let all : take c.loop-node.node-index c.args.nodes.now ≡ c.args.nodes.now = take_all c.loop-node.node-index
+    c.args.nodes.now (omega arith) in
     subst (λ ns. IsSpanOf c.args.self.now ns c.loop-node.span) all c.loop-node.invariant

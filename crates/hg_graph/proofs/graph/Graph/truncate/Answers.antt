@@ -7,7 +7,8 @@ use Rattle.hg_graph.proofs.graph.Graph.truncate.Goals as goal
 
 pub invariant_of-self : goal.invariant_of-self
 invariant_of-self c =
-    let front = keyed-take c.args.len c.self.inside.changesets.entries c.truncate.new.self.entries c.self.invariant.0 c.truncate.ensures.entries in
+    let front = keyed-take c.args.len c.self.inside.changesets.entries c.truncate.new.self.entries c.self.invariant.0
+    c.truncate.ensures.entries in
     let places = ArePlaces-take _ c.self.invariant.1 c.args.len c.self.inside.links c.self.invariant.2 in (
       front.0,
       subst IsGraph (sym front.1) (IsGraph-take c.args.len _ c.self.invariant.1),
@@ -16,5 +17,6 @@ invariant_of-self c =
 
 pub returns : goal.returns
 returns c =
-    let front = keyed-take c.args.len c.self.inside.changesets.entries c.truncate.new.self.entries c.self.invariant.0 c.truncate.ensures.entries in
+    let front = keyed-take c.args.len c.self.inside.changesets.entries c.truncate.new.self.entries c.self.invariant.0
+    c.truncate.ensures.entries in
     front.1 ∙ ap (take c.args.len) c.self.view_is

@@ -9,11 +9,15 @@ kept : (c : goal.After-as_slice) → AreChildPlaces c.args.self.now c.args.place
 kept c =
     let vectors = c.self.inside.children.items in
     let children = rw c.self.view_is at c.self.invariant in
-    let within : c.args.place < length vectors = omega (arith, c.requires, children.len, length-map vectors (λ v. v.items)) in
+    let within : c.args.place < length vectors =
+    omega (arith, c.requires, children.len, length-map vectors (λ v. v.items)) in
     let v = c.index.result.now in
-    let at : slice_get vectors c.args.place ≡ Some v = slice_get-get_or vectors c.args.place v within ∙ ap (λ v. Some v) (sym c.index.ensures) in
-    let listed : slice_get (lists_of vectors) c.args.place ≡ Some v.items = slice_get-map (λ v. v.items) vectors c.args.place ∙ ap (option_map (λ v. v.items)) at in
-    subst (AreChildPlaces c.args.self.now c.args.place) (sym c.as_slice.ensures.value) (children.each c.args.place v.items listed)
+    let at : slice_get vectors c.args.place ≡ Some v = slice_get-get_or vectors c.args.place v within
+    ∙ ap (λ v. Some v) (sym c.index.ensures) in
+    let listed : slice_get (lists_of vectors) c.args.place ≡ Some v.items = slice_get-map (λ v. v.items) vectors
+    c.args.place ∙ ap (option_map (λ v. v.items)) at in
+    subst (AreChildPlaces c.args.self.now c.args.place) (sym c.as_slice.ensures.value)
+    (children.each c.args.place v.items listed)
 
 pub returns-clause-exact : goal.returns-clause-exact
 returns-clause-exact c = (kept c).exact

@@ -13,8 +13,11 @@ returns-clause-take g c =
       | in-Some w ↦ let e = w.in-Some.ensures.take in
           rw (w.result-is, ← c.seat.view_is) (
             e.0,
-            (λ i. seat_log (same.0 i) (e.1 i).puts (e.1 i).takes) ∙ ap (λ (m : List ℕ). seat_log c.seat.inside.pass.table_id v.puts (v.takes ++ numbered e.0 m ∷ [])) (sym w.message.view_is),
+            (λ i. seat_log (same.0 i) (e.1 i).puts (e.1 i).takes)
+                ∙ ap (λ (m : List ℕ). seat_log c.seat.inside.pass.table_id v.puts (v.takes ++ numbered e.0 m ∷ []))
+                (sym w.message.view_is),
             e.2,
           )
-      | in-None w ↦ let e = w.in-None.ensures.take in rw (w.result-is, ← c.seat.view_is) ((λ i. seat_log (same.0 i) (e.0 i).puts (e.0 i).takes), e.1)
+      | in-None w ↦ let e = w.in-None.ensures.take in
+          rw (w.result-is, ← c.seat.view_is) ((λ i. seat_log (same.0 i) (e.0 i).puts (e.0 i).takes), e.1)
     ]
