@@ -1,5 +1,6 @@
 //! Plain lists of what a peer accepted, and what follows from them.
 use hg_changeset::Node;
+use hg_marker::write_marker;
 use hg_phases::Phase;
 use hg_replica::{Part, Replica};
 use std::alloc::Global;
@@ -46,7 +47,7 @@ impl Heard {
         self.hear_bounds(&part.bounds)?;
         for marker in &part.markers {
             let mut bytes = Vec::new(self.alloc);
-            marker.write_onto(&mut bytes).ok()?;
+            write_marker(&mut bytes, marker).ok()?;
             self.markers.insert(bytes).ok()?;
         }
         Some(())
@@ -105,7 +106,7 @@ impl Heard {
     fn has_markers_of(&self, replica: &Replica) -> Option<bool> {
         for marker in replica.store().markers() {
             let mut bytes = Vec::new(self.alloc);
-            marker.write_onto(&mut bytes).ok()?;
+            write_marker(&mut bytes, marker).ok()?;
             if !self.markers.contains(&bytes) {
                 return Some(false);
             }
