@@ -2,7 +2,7 @@
 //!
 //! A marker says that its predecessor was rewritten to its successors, in their order. Two markers are equal where
 //! their fields are, the metadata as a map, whatever bytes they were read from.
-ghost use Rattle.std.specs.Prelude.{◌≡◌, ◌++◌, IfOk, OnOk, OnErr, false, length, nat_eq};
+ghost use Rattle.std.specs.Prelude.{◌≡◌, IfOk, false, length, nat_eq};
 ghost use Rattle.std.specs.List.{list_any, AllByRecursion};
 ghost use Rattle.hex.specs.Hex.{IsBytes};
 ghost use lib.Pointwise.{pointwise};
@@ -13,7 +13,6 @@ ghost use Rattle.hg_marker.specs.Making.{marker_of};
 ghost use Rattle.hg_marker.specs.Parents.{parents_of};
 
 use crate::error::MarkerError;
-use crate::format::write_marker;
 use crate::metadata::Metadata;
 use crate::parents::{Parents, parents_of};
 use crate::successors::Successors;
@@ -237,14 +236,6 @@ impl Marker {
         ensures marker { IsMarker self.now }
     {
         26 + 20 * self.successors.as_slice().len() + self.metadata.written_len()
-    }
-
-    /// Appends the marker's one written spelling. Without memory nothing is appended.
-    pub fn write_onto(&self, out: &mut Vec<u8>) -> Result<(), AllocError>
-        ensures ok { OnOk result (out.new.items ≡ out.old.items ++ spelling self.now) }
-        ensures err { OnErr result (out.new.items ≡ out.old.items) }
-    {
-        write_marker(out, self)
     }
 
     // Where the marker's memory comes from.

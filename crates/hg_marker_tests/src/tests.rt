@@ -2,6 +2,7 @@
 use hg_changeset::Node;
 use hg_marker::{
     Marker, MarkerError, MarkerFault, Metadata, Parents, ReadError, decode, encode, skip_marker,
+    write_marker,
 };
 use std::alloc::{AllocError, Global};
 use std::fmt::Display;
@@ -86,9 +87,9 @@ fn refused_growth_appends_nothing(rt: HostRuntime) {
     if out.push(7).is_err() {
         return;
     }
-    if marker.write_onto(&mut out).is_err() {
+    if write_marker(&mut out, &marker).is_err() {
         assert_eq!(rt; out.as_slice(), [7].as_slice());
-        assert!(rt; marker.write_onto(&mut out).is_ok());
+        assert!(rt; write_marker(&mut out, &marker).is_ok());
     }
     assert!(rt; out.len() == 47 && out.ends_with(&bytes));
     assert!(rt; marker.written_len() == 46);
