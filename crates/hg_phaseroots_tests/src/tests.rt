@@ -18,7 +18,8 @@ fn listed(rt: &impl Abort, alloc: Global, roots: &[(Phase, Node)]) -> Roots {
 }
 
 fn read(rt: &impl Abort, alloc: Global, text: &[u8]) -> Vec<(Phase, Node)> {
-    read_roots(alloc, text).expect(rt, "roots").into_vec()
+    let roots = read_roots(alloc, text).expect(rt, "roots");
+    Vec::from_slice(alloc, roots.as_slice()).expect(rt, "memory")
 }
 
 fn expect_fault(rt: &impl Abort, alloc: Global, text: &[u8], fault: RootsError) {

@@ -60,14 +60,6 @@ impl Roots {
         &self.listed
     }
 
-    /// The list itself.
-    pub fn into_vec(self) -> Vec<(Phase, Node)>
-        ensures { result.items ≡ self }
-    {
-        let Roots { listed } = self;
-        listed
-    }
-
     /// Where the list's memory comes from.
     pub fn allocator(&self) -> Global {
         *self.listed.allocator()
