@@ -1,5 +1,7 @@
 -- Markers that are added in turn, and the set that they make.
-use Rattle.std.proofs.Common.{suc, ◌≡◌, ◌<◌, ◌≤◌, ◌+◌, ◌-◌, length-append, ◌++◌, ◌∷◌, [], ◌∙◌, ◌||◌, ⊎_elim, arith, sym, ap, subst, ℕ, List, Bool, true, false, cond, refl, length, get_or, Contains, All, append_assoc}
+use Rattle.std.proofs.Common.{suc, ◌≡◌, ◌<◌, ◌≤◌, ◌+◌, ◌-◌, length-append, ◌++◌, ◌∷◌, [], ◌∙◌, ◌||◌, ⊎_elim, arith, sym}
+use Rattle.std.proofs.Common.{ap, subst, ℕ, List, Bool, true, false, cond, refl, length, get_or, Contains, All}
+use Rattle.std.proofs.Common.{append_assoc}
 use Rattle.std.specs.declared.alloc.AllocError.{AllocError}
 use Rattle.std.specs.declared.alloc.Global.{Global}
 use Rattle.std.specs.declared.vec.Vec.{Vec}
@@ -24,13 +26,15 @@ use Rattle.hg_obsstore.specs.Sets.{IsUnion, IsWithin}
 use Rattle.hg_obsstore.proofs.StoreLemmas.{held, held_back}
 
 pub not_held : (ms : List Fields) (m : Fields) → ¬ Contains ms m → holds ms m ≡ false
-not_held ms m absent = ⊎_elim (λ (t : holds ms m ≡ true). absurd (absent (held ms m t))) (λ (f : holds ms m ≡ false). f) (cases_Bool (holds ms m))
+not_held ms m absent = ⊎_elim (λ (t : holds ms m ≡ true). absurd (absent (held ms m t))) (λ (f : holds ms m ≡ false). f)
+    (cases_Bool (holds ms m))
 
 -- one marker
 pub with_known : (ms : List Fields) (m : Fields) → Contains ms m → with_marker ms m ≡ ms
 with_known ms m h = rw (held_back ms m h) refl
 
-pub with_added : (ms : List Fields) (m : Fields) (added : Added) (after : List Fields) → AddAnswer ms m added after → after ≡ with_marker ms m
+pub with_added : (ms : List Fields) (m : Fields) (added : Added) (after : List Fields) → AddAnswer ms m added after
+    → after ≡ with_marker ms m
 with_added ms m New after h = rw (not_held ms m h.0) h.1
 with_added ms m Known after h = h.1 ∙ sym (with_known ms m h.0)
 
@@ -50,11 +54,15 @@ starts_same ms = ([], sym (append-nil ms))
 pub united_none : (ms : List Fields) → united ms [] ≡ ms
 united_none ms = append-nil ms
 
-pub united_step : (ms : List Fields) (m : Fields) (more : List Fields) → united (with_marker ms m) more ≡ united ms (m ∷ more)
-united_step ms m more = elim (holds ms m) as (λ b. united (cond b ms (ms ++ m ∷ [])) more ≡ ms ++ cond b (new_among ms more) (m ∷ new_among (ms ++ m ∷ []) more)) [
-  | true ↦ refl
-  | false ↦ append_assoc ms (m ∷ []) (new_among (ms ++ m ∷ []) more)
-]
+pub united_step : (ms : List Fields) (m : Fields) (more : List Fields)
+    → united (with_marker ms m) more ≡ united ms (m ∷ more)
+united_step ms m more =
+    elim (holds ms m) as
+    (λ b. united (cond b ms (ms ++ m ∷ [])) more ≡ ms ++ cond b (new_among ms more)
+    (m ∷ new_among (ms ++ m ∷ []) more)) [
+      | true ↦ refl
+      | false ↦ append_assoc ms (m ∷ []) (new_among (ms ++ m ∷ []) more)
+    ]
 
 -- where there is more than before something was new
 pub longer_new : (old markers : List Fields) → length old < length (united old markers) → new_among old markers ≡ [] → ⊥
@@ -64,12 +72,14 @@ longer_new old markers more none =
     omega (arith, more, both, empty)
 
 -- a next marker that isn't held is new
-pub next_new : (old now markers rest : List Fields) (m : Fields) → StartsWith old now → united now (m ∷ rest) ≡ united old markers → ¬ Contains now m → new_among old markers ≡ [] → ⊥
+pub next_new : (old now markers rest : List Fields) (m : Fields) → StartsWith old now
+    → united now (m ∷ rest) ≡ united old markers → ¬ Contains now m → new_among old markers ≡ [] → ⊥
 next_new old now markers rest m starts same absent =
     let first : new_among now (m ∷ rest) ≡ m ∷ new_among (now ++ m ∷ []) rest = rw (not_held now m absent) refl in
     let more : length (new_among now (m ∷ rest)) ≡ suc (length (new_among (now ++ m ∷ []) rest)) = ap length first in
     let before : length now ≡ length old + length starts.0 = ap length starts.1 ∙ length-append old starts.0 in
-    let all : length (united old markers) ≡ length now + length (new_among now (m ∷ rest)) = ap length (sym same) ∙ length-append now (new_among now (m ∷ rest)) in
+    let all : length (united old markers) ≡ length now + length (new_among now (m ∷ rest)) = ap length (sym same)
+    ∙ length-append now (new_among now (m ∷ rest)) in
     longer_new old markers (omega (arith, more, before, all))
 
 either_held : (a b : Bool) → (b ≡ true → a ≡ true) → a ≡ (a || b)
@@ -79,8 +89,11 @@ either_held false false f = refl
 
 holds_with : (ms : List Fields) (m k : Fields) → holds (with_marker ms m) k ≡ (holds ms k || same_fields k m)
 holds_with ms m k = ⊎_elim
-    (λ (t : holds ms m ≡ true). rw t (either_held (holds ms k) (same_fields k m) (λ s. subst (λ x. holds ms x ≡ true) (sym ((fields_decides k m).0 s)) t)))
-    (λ (f : holds ms m ≡ false). rw f (list_any-append (same_fields k) ms (m ∷ []) ∙ ap (λ b. holds ms k || b) (nothing_else (same_fields k m))))
+    (λ (t : holds ms m ≡ true). rw t
+    (either_held (holds ms k) (same_fields k m)
+    (λ s. subst (λ x. holds ms x ≡ true) (sym ((fields_decides k m).0 s)) t)))
+    (λ (f : holds ms m ≡ false). rw f
+    (list_any-append (same_fields k) ms (m ∷ []) ∙ ap (λ b. holds ms k || b) (nothing_else (same_fields k m))))
     (cases_Bool (holds ms m))
   where
     nothing_else : (b : Bool) → (b || false) ≡ b
@@ -99,16 +112,20 @@ union_of_united : (ms more all : List Fields) → all ≡ united ms more → IsU
 union_of_united ms more all e = ap holds e ∙ (λ i k. holds_united ms more k i)
 
 -- what was added is kept where it is answered
-pub union_settled : {A E : Type 0} (r added : Result A E) (ms more mid new : List Fields) → r ≡ added → OnOk added (mid ≡ united ms more) → OnOk r (new ≡ mid) → OnOk r (IsUnion (holds ms) (holds more) (holds new))
-union_settled (Ok x) added ms more mid new same done kept = union_of_united ms more new (kept ∙ subst (λ t. OnOk t (mid ≡ united ms more)) (sym same) done)
-union_settled (Err e) added ms more mid new same done kept = tt
+pub union_kept : {A E : Type 0} (r added : Result A E) (ms more mid new : List Fields)
+    → r ≡ added → OnOk added (mid ≡ united ms more) → OnOk r (new ≡ mid)
+    → OnOk r (IsUnion (holds ms) (holds more) (holds new))
+union_kept (Ok x) added ms more mid new same done kept = union_of_united ms more new
+    (kept ∙ subst (λ t. OnOk t (mid ≡ united ms more)) (sym same) done)
+union_kept (Err e) added ms more mid new same done kept = tt
 
 -- each of the first is among the second
 pub below_is_within : (ms other : List Fields) → All (Contains other) ms → IsWithin (holds ms) (holds other)
 below_is_within ms other all k h = held_back other k (All-contains (Contains other) ms k all (held ms k h))
 
 pub within_is_below : (ms other : List Fields) → IsWithin (holds ms) (holds other) → All (Contains other) ms
-within_is_below ms other within i d lt = held other _ (within (get_or ms i d) (held_back ms (get_or ms i d) (Contains-get_or ms i d lt)))
+within_is_below ms other within i d lt =
+    held other _ (within (get_or ms i d) (held_back ms (get_or ms i d) (Contains-get_or ms i d lt)))
 
 -- markers that are apart already
 at_its_place : (ms : List Fields) (m : Fields) (more : List Fields) → get_or (ms ++ m ∷ more) (length ms) m ≡ m
@@ -125,7 +142,8 @@ absent_before ms m more apart = not_held ms m (λ c.
 new_apart : (ms more : List Fields) → AreApart (ms ++ more) → new_among ms more ≡ more
 new_apart ms [] apart = refl
 new_apart ms (m ∷ more) apart =
-    rw (absent_before ms m more apart) (ap (λ xs. m ∷ xs) (new_apart (ms ++ m ∷ []) more (subst AreApart (sym (append_assoc ms (m ∷ []) more)) apart)))
+    rw (absent_before ms m more apart)
+    (ap (λ xs. m ∷ xs) (new_apart (ms ++ m ∷ []) more (subst AreApart (sym (append_assoc ms (m ∷ []) more)) apart)))
 
 pub copied : (ms : List Fields) → AreApart ms → united [] ms ≡ ms
 copied ms apart = new_apart [] ms apart
@@ -135,15 +153,24 @@ pub lists_between : (a b : ℕ) → ListsAll (λ i. (a ≤ i) × (i < b)) (range
 lists_between a b =
     let long = length-range_with_len a (b - a) in
     record {
-      ascending = λ j h. let lt : j + 1 < b - a = omega (arith, h, long) in let before : j < b - a = omega (arith, lt) in
-          rw (get_or-range_with_len a (b - a) j 0 before, get_or-range_with_len a (b - a) (j + 1) 0 lt) (let up : a + j < a + (j + 1) = omega arith in up);
+      ascending = λ j h. let lt : j + 1 < b - a = omega (arith, h, long) in
+          let before : j < b - a = omega (arith, lt) in
+          rw (get_or-range_with_len a (b - a) j 0 before, get_or-range_with_len a (b - a) (j + 1) 0 lt)
+          (let up : a + j < a + (j + 1) = omega arith in up);
       exact = λ i. (
-        (λ h. let lt : h.0 < b - a = omega (arith, h.1, long) in let at : a + h.0 ≡ i = sym (get_or-range_with_len a (b - a) h.0 i lt) ∙ h.2 in (omega (arith, at), omega (arith, at, lt))),
-        (λ h. let lt : i - a < b - a = omega (arith, h.0, h.1) in
-            (i - a, omega (arith, lt, long), get_or-range_with_len a (b - a) (i - a) i lt ∙ (let at : a + (i - a) ≡ i = omega (arith, h.0) in at))),
+        (λ h. let lt : h.0 < b - a = omega (arith, h.1, long) in
+            let at : a + h.0 ≡ i = sym (get_or-range_with_len a (b - a) h.0 i lt) ∙ h.2 in
+            (omega (arith, at), omega (arith, at, lt))),
+        (λ h. let lt : i - a < b - a = omega (arith, h.0, h.1) in (
+          i - a,
+          omega (arith, lt, long),
+          get_or-range_with_len a (b - a) (i - a) i lt
+              ∙ (let at : a + (i - a) ≡ i = omega (arith, h.0) in at),
+        )),
       );
     }
 
-pub are_between : (a b : ℕ) (r : Result (Vec ℕ Global) AllocError) → IfOk r (λ v. vec_items v ≡ range_with_len a (b - a)) → IfOk r (λ v. ListsAll (λ i. (a ≤ i) × (i < b)) v.items)
+pub are_between : (a b : ℕ) (r : Result (Vec ℕ Global) AllocError)
+    → IfOk r (λ v. vec_items v ≡ range_with_len a (b - a)) → IfOk r (λ v. ListsAll (λ i. (a ≤ i) × (i < b)) v.items)
 are_between a b (Ok v) e = subst (ListsAll (λ i. (a ≤ i) × (i < b))) (sym e) (lists_between a b)
 are_between a b (Err error) e = tt

@@ -1,5 +1,6 @@
 -- What is read of the bytes of a store, and which fault there is.
-use Rattle.std.specs.Prelude.{◌≡◌, ◌<◌, ℕ, zero, suc, ◌+◌, ◌-◌, ◌==◌, List, [], ◌∷◌, ◌++◌, length, Result, Ok, Err, if◌then◌else◌}
+use Rattle.std.specs.Prelude.{◌≡◌, ◌<◌, ℕ, zero, suc, ◌+◌, ◌-◌, ◌==◌, List, [], ◌∷◌, ◌++◌, length, Result, Ok, Err}
+use Rattle.std.specs.Prelude.{if◌then◌else◌}
 use Rattle.hg_marker.specs.declared.error.MarkerFault.{MarkerFault}
 use Rattle.hg_marker.specs.Fields.{Fields}
 use Rattle.hg_marker.specs.Faults.{marker_at, IsFault}
@@ -28,14 +29,14 @@ IsStoreFault (version ∷ bytes) (Bad place cause) = (version ≡ 0) × IsBadAt 
 
 -- ---- the same from left to right, as far as the first fault
 
--- a fault of a marker, told with the place of its first byte
-abbrev pub told_at : {A : Type 0} → ℕ → Result A MarkerFault → Result A StoreFault
-told_at place (Ok x) = Ok x
-told_at place (Err cause) = Err (Bad place cause)
+-- a fault of a marker, with the place of its first byte
+abbrev pub with_place : {A : Type 0} → ℕ → Result A MarkerFault → Result A StoreFault
+with_place place (Ok x) = Ok x
+with_place place (Err cause) = Err (Bad place cause)
 
 -- the marker at the front of the rest of so many bytes
 abbrev pub placed_marker : ℕ → Reader StoreFault Fields
-placed_marker total rest = told_at (total - length rest) (marker_at rest)
+placed_marker total rest = with_place (total - length rest) (marker_at rest)
 
 -- these markers, and then what was read
 abbrev pub with_front : List Fields → Result (List Fields) StoreFault → Result (List Fields) StoreFault
@@ -43,16 +44,19 @@ with_front front (Ok markers) = Ok (front ++ markers)
 with_front front (Err fault) = Err fault
 
 -- what was read, and then the others after it
-abbrev pub with_others : Result (Fields × List ℕ) StoreFault → (List ℕ → Result (List Fields) StoreFault) → Result (List Fields) StoreFault
+abbrev pub with_others : Result (Fields × List ℕ) StoreFault → (List ℕ → Result (List Fields) StoreFault)
+    → Result (List Fields) StoreFault
 with_others (Ok first) others = with_front (first.0 ∷ []) (others first.1)
 with_others (Err fault) others = Err fault
 
 -- the markers up to the end of the rest of so many bytes, at most limit of them
 unfoldable pub markers_at : ℕ → ℕ → List ℕ → Result (List Fields) StoreFault
 markers_at total zero rest = Ok []
-markers_at total (suc limit) rest = if length rest == 0 then Ok [] else with_others (placed_marker total rest) (markers_at total limit)
+markers_at total (suc limit) rest = if length rest == 0 then Ok [] else with_others (placed_marker total rest)
+    (markers_at total limit)
 
 -- the markers of a store, which are no more than its bytes
 unfoldable pub store_at : List ℕ → Result (List Fields) StoreFault
 store_at [] = Ok []
-store_at (version ∷ bytes) = if version == 0 then markers_at (suc (length bytes)) (length bytes) bytes else Err (BadVersion version)
+store_at (version ∷ bytes) = if version == 0 then markers_at (suc (length bytes)) (length bytes) bytes else Err
+    (BadVersion version)

@@ -1,9 +1,11 @@
 //! A set of markers with an index.
 //!
 //! The markers stand in the order in which they came, in a set that finds an equal one by its value in one look-up, so
-//! no marker stands twice. A marker is named by its place. Places only grow, so what is new stands last, and a call that
+//! no marker stands twice. A marker is named by its place. Places only grow, so what is new stands last, and a call
+//! that
 //! is refused half way is taken back by cutting off what it added.
-ghost use Rattle.std.specs.Prelude.{◌≡◌, ◌≢◌, ◌+◌, ◌<◌, ◌≤◌, ◌↔◌, [], length, take, All, IsTrue, IfOk, OnOk, OnErr, Contains, slice_get};
+ghost use Rattle.std.specs.Prelude.{◌≡◌, ◌≢◌, ◌+◌, ◌<◌, ◌≤◌, ◌↔◌, [], length, take, All, IsTrue, IfOk, OnOk, OnErr};
+ghost use Rattle.std.specs.Prelude.{Contains, slice_get};
 ghost use Rattle.std.specs.Option.{option_copied};
 ghost use Rattle.hg_marker.specs.Grammar.{IsMarker};
 ghost use Rattle.hg_marker.specs.Parents.{recorded_parents};
@@ -68,7 +70,8 @@ impl Model for Store {
 
     ghost view = { λ s. s.markers.keys };
 
-    ghost invariant = { λ s. AreApart s.markers.keys × AreIndexed s.markers.keys s.index × All IsMarker s.markers.keys };
+    ghost invariant = { λ s. AreApart s.markers.keys × AreIndexed s.markers.keys s.index
+        × All IsMarker s.markers.keys };
 }
 
 impl PartialEq for Store {
@@ -151,7 +154,8 @@ impl Store {
         self.mentions_near(node, Hint::NOWHERE)
     }
 
-    /// The same as [`mentions`](Store::mentions), whatever the hint is. It takes no look-up by a hash where the hint came with
+    /// The same as [`mentions`](Store::mentions), whatever the hint is. It takes no look-up by a hash where the hint
+    /// came with
     /// the mentions of this node.
     pub fn mentions_near(&self, node: Node, hint: Hint) -> Mentions<'_>
         ensures predecessor { ArePlaces (λ m. m.predecessor ≡ node) self.now result.as_predecessor }
@@ -254,7 +258,7 @@ impl Store {
     {
         let before = self.len();
         let added = self.add_and_tell(part);
-        self.settle(before, added)
+        self.keep_or_undo(before, added)
     }
 
     /// Moves in the markers that aren't held, each once, in their order, and tells their places, ascending. The others
@@ -270,7 +274,7 @@ impl Store {
     {
         let before = self.len();
         let added = self.add_owned_and_tell(part);
-        self.settle(before, added)
+        self.keep_or_undo(before, added)
     }
 
     /// Adds copies of the other's markers that aren't held, in their order.
@@ -284,7 +288,7 @@ impl Store {
     {
         let before = self.len();
         let added = self.add_copies(other.markers());
-        self.settle(before, added)
+        self.keep_or_undo(before, added)
     }
 
     /// Whether the other holds each marker of this store. It takes no memory.
@@ -305,7 +309,11 @@ impl Store {
     }
 
     // Keeps what was added from a place on or, where memory ran out, forgets it.
-    fn settle<T: Drop>(&mut self, before: usize, added: Result<T, NoMemory>) -> Result<T, NoMemory>
+    fn keep_or_undo<T: Drop>(
+        &mut self,
+        before: usize,
+        added: Result<T, NoMemory>,
+    ) -> Result<T, NoMemory>
         ensures same { result ≡ added }
         ensures ok { OnOk result (self.new ≡ self.old) }
         ensures err { OnErr result (self.new ≡ take before self.old) }

@@ -8,7 +8,8 @@ use Rattle.hg_marker.specs.Parents.{recorded_parents}
 abbrev pub IsPrune : Fields → Type 0
 IsPrune m = m.successors ≡ []
 
--- The node is one of its successors; or nothing came in place of its predecessor, which is the node, or records the node
+-- The node is one of its successors; or nothing came in place of its predecessor, which is the node, or records the
+-- node
 -- as a parent.
 abbrev pub Touches : Node → Fields → Type 0
 Touches n m = Contains m.successors n ⊎ (IsPrune m × ((m.predecessor ≡ n) ⊎ Contains (recorded_parents m) n))
@@ -17,4 +18,5 @@ Touches n m = Contains m.successors n ⊎ (IsPrune m × ((m.predecessor ≡ n) �
 -- predecessor of the one before.
 pub data IsRelevant (IsHeld : Fields → Type 0) (IsOne : Node → Type 0) : Fields → Type 0 where
   direct : {n : Node} {m : Fields} → IsOne n → IsHeld m → Touches n m → IsRelevant IsHeld IsOne m
-  further : {before m : Fields} → IsRelevant IsHeld IsOne before → IsHeld m → Touches before.predecessor m → IsRelevant IsHeld IsOne m
+  further : {before m : Fields} → IsRelevant IsHeld IsOne before → IsHeld m → Touches before.predecessor m
+      → IsRelevant IsHeld IsOne m

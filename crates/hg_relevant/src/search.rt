@@ -1,12 +1,13 @@
 //! A search along chains of markers.
 //!
-//! Each marker that is found is put into a queue once. The markers that touch one of the nodes are found first, and then
+//! Each marker that is found is put into a queue once. The markers that touch one of the nodes are found first, and
+//! then
 //! those that touch the predecessor of each marker in the queue, once for all the markers of one predecessor.
 ghost use Rattle.std.specs.Prelude.{◌≡◌, ◌<◌, ◌↔◌, ◌⊎◌, ℕ, [], length, replicate, false, Contains, IfOk, OnOk};
 ghost use Rattle.hg_obsstore.specs.Markers.{IsAt, ArePlaces};
 ghost use Rattle.hg_obsstore.specs.Places.{ListsAll};
 ghost use Rattle.hg_relevant.specs.Relevant.{IsPrune, IsRelevant};
-ghost use Rattle.hg_relevant.specs.Search.{Expands, Finds, IsMarked, IsSearched, Settles};
+ghost use Rattle.hg_relevant.specs.Search.{Expands, Finds, IsMarked, IsSearched, ExpandsPredecessor};
 
 use hg_changeset::Node;
 use hg_marker::Marker;
@@ -15,19 +16,23 @@ use std::alloc::{AllocError, Global};
 
 /// The places of the markers that are relevant to the nodes, ascending.
 ///
-/// A marker is relevant to its successors, and one without successors, which tells of a prune, to its predecessor and to
+/// A marker is relevant to its successors, and one without successors, which tells of a prune, to its predecessor and
+/// to
 /// the parents that it records. What is relevant to the predecessor of a relevant marker is relevant too: so the whole
 /// line of rewrites that led to the nodes is told, and what was pruned from them.
 ///
-/// It costs what the nodes, the markers and their successors are together, however the markers hang together: one look-up
+/// It costs what the nodes, the markers and their successors are together, however the markers hang together: one
+/// look-up
 /// by a hash for each node. A node that is given twice is looked up twice.
 pub fn relevant(alloc: Global, store: &Store, nodes: &[Node]) -> Result<Vec<usize>, AllocError>
-    ensures { IfOk result (λ places. ArePlaces (IsRelevant (Contains store.now) (Contains nodes.now)) store.now places.items) }
+    ensures { IfOk result (λ places. ArePlaces (IsRelevant (Contains store.now) (Contains nodes.now)) store.now
+        places.items) }
 {
     relevant_near(alloc, store, nodes, &[])
 }
 
-/// The same as [`relevant`], with a hint for each of the nodes, as far as there are hints. Whatever they are, the answer is
+/// The same as [`relevant`], with a hint for each of the nodes, as far as there are hints. Whatever they are, the
+/// answer is
 /// the same; a node takes no look-up by a hash where its hint came with its mentions.
 pub fn relevant_near(
     alloc: Global,
@@ -35,7 +40,8 @@ pub fn relevant_near(
     nodes: &[Node],
     hints: &[Hint],
 ) -> Result<Vec<usize>, AllocError>
-    ensures { IfOk result (λ places. ArePlaces (IsRelevant (Contains store.now) (Contains nodes.now)) store.now places.items) }
+    ensures { IfOk result (λ places. ArePlaces (IsRelevant (Contains store.now) (Contains nodes.now)) store.now
+        places.items) }
 {
     let mut search = Search::of_nodes(alloc, store, nodes, hints)?;
     let mut next = 0;
@@ -52,7 +58,7 @@ pub fn relevant_near(
 #[derive(Drop)]
 struct Search {
     found: Vec<bool>,
-    settled: Vec<bool>,
+    expanded: Vec<bool>,
     queue: Vec<usize>,
 }
 
@@ -76,14 +82,14 @@ impl Search {
     // Nothing is found yet.
     fn new(alloc: Global, places: usize) -> Result<Search, AllocError>
         ensures found { IfOk result (λ s. s.found.items ≡ replicate places false) }
-        ensures settled { IfOk result (λ s. s.settled.items ≡ replicate places false) }
+        ensures expanded { IfOk result (λ s. s.expanded.items ≡ replicate places false) }
         ensures queue { IfOk result (λ s. s.queue.items ≡ []) }
     {
         let found = vec![in alloc; false; places]?;
-        let settled = vec![in alloc; false; places]?;
+        let expanded = vec![in alloc; false; places]?;
         Ok(Search {
             found,
-            settled,
+            expanded,
             queue: Vec::new(alloc),
         })
     }
@@ -91,11 +97,11 @@ impl Search {
     // Finds the markers that touch the predecessor of the marker at the place, unless they were found.
     fn expand_predecessor(&mut self, store: &Store, place: usize) -> Result<(), AllocError>
         requires found { length self.old.found.items ≡ length store.now }
-        requires settled { length self.old.settled.items ≡ length store.now }
+        requires expanded { length self.old.expanded.items ≡ length store.now }
         requires within { place < length store.now }
-        ensures { OnOk result (Settles store.now place self.old self.new) }
+        ensures { OnOk result (ExpandsPredecessor store.now place self.old self.new) }
     {
-        if self.settled[place] {
+        if self.expanded[place] {
             return Ok(());
         }
         let node = store.markers()[place].predecessor();
@@ -106,7 +112,7 @@ impl Search {
     // Finds the markers that touch the node.
     fn expand(&mut self, store: &Store, node: Node, hint: Hint) -> Result<(), AllocError>
         requires found { length self.old.found.items ≡ length store.now }
-        requires settled { length self.old.settled.items ≡ length store.now }
+        requires expanded { length self.old.expanded.items ≡ length store.now }
         ensures { OnOk result (Expands store.now node self.old self.new) }
     {
         let markers = store.markers();
@@ -114,20 +120,21 @@ impl Search {
         self.find_all(mentions.as_successor())?;
         self.find_prunes(markers, mentions.as_predecessor())?;
         self.find_prunes(markers, mentions.as_parent())?;
-        self.settle(mentions.as_predecessor());
+        self.mark_expanded(mentions.as_predecessor());
         Ok(())
     }
 
     // What touches the predecessor of the markers at the places was found.
-    fn settle(&mut self, places: &[usize])
-        requires within { (i : ℕ) → Contains places.now i → i < length self.old.settled.items }
-        ensures settled { (i : ℕ) → IsMarked self.new.settled.items i ↔ (IsMarked self.old.settled.items i ⊎ Contains places.now i) }
-        ensures marks { length self.new.settled.items ≡ length self.old.settled.items }
+    fn mark_expanded(&mut self, places: &[usize])
+        requires within { (i : ℕ) → Contains places.now i → i < length self.old.expanded.items }
+        ensures expanded { (i : ℕ) → IsMarked self.new.expanded.items i
+            ↔ (IsMarked self.old.expanded.items i ⊎ Contains places.now i) }
+        ensures marks { length self.new.expanded.items ≡ length self.old.expanded.items }
         ensures found { self.new.found.items ≡ self.old.found.items }
         ensures queue { self.new.queue.items ≡ self.old.queue.items }
     {
         for place in places {
-            self.settled[*place] = true;
+            self.expanded[*place] = true;
         }
     }
 

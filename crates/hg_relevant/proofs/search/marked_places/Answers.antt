@@ -9,6 +9,9 @@ pub loop-place-preserved : goal.loop-place-preserved
 loop-place-preserved c =
     let so_far = c.loop-place.places.items in
     elim c.if-marked.branch [
-      | then-marked+in_ok-push w ↦ rw (w.places-is, w.in_ok-push.ensures.items) (one_more (IsMarked c.args.marks.now) so_far c.loop-place.place c.loop-place.invariant w.if-marked.true)
-      | else-marked w ↦ rw w.places-is (no_more (IsMarked c.args.marks.now) so_far c.loop-place.place c.loop-place.invariant (λ h. true≢false (sym h ∙ w.if-marked.false)))
+      | then-marked+in_ok-push w ↦ rw (w.places-is, w.in_ok-push.ensures.items)
+          (one_more (IsMarked c.args.marks.now) so_far c.loop-place.place c.loop-place.invariant w.if-marked.true)
+      | else-marked w ↦
+          rw w.places-is (no_more (IsMarked c.args.marks.now) so_far c.loop-place.place c.loop-place.invariant
+          (λ h. true≢false (sym h ∙ w.if-marked.false)))
     ]

@@ -1,5 +1,7 @@
-use Rattle.hg_obsstore.proofs.GrowthLemmas.{union_settled}
+use Rattle.hg_obsstore.proofs.GrowthLemmas.{union_kept}
 use Rattle.hg_obsstore.proofs.store.Store.absorb.Goals as goal
 
 pub returns-clause-union : goal.returns-clause-union
-returns-clause-union c = union_settled c.settle.result c.add_and_tell-added.result c.args.self.now c.args.part.now c.add_and_tell-added.new.self c.settle.new.self c.settle.ensures.same c.add_and_tell-added.ensures.ok c.settle.ensures.ok
+returns-clause-union c = union_kept c.keep_or_undo.result c.add_and_tell-added.result c.args.self.now c.args.part.now
+    c.add_and_tell-added.new.self c.keep_or_undo.new.self c.keep_or_undo.ensures.same c.add_and_tell-added.ensures.ok
+    c.keep_or_undo.ensures.ok

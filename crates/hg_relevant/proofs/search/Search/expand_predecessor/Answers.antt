@@ -9,5 +9,11 @@ pub returns : goal.returns
 returns c =
     let ms = c.args.store.now in
     let m = c.index-markers-place.result in
-    let read : m ≡ get_or ms c.args.place m = c.index-markers-place.is ∙ ap (λ (xs : List Fields). get_or xs c.args.place m) c.markers.ensures.markers in
-    inr (m, slice_get_read ms _ c.args.place m refl c.requires.within read, subst (λ (n : Node). Expands ms n c.args.self.now c.expand.new.self) c.predecessor-node.ensures.predecessor c.in_ok-expand.ensures)
+    let read : m ≡ get_or ms c.args.place m =
+    c.index-markers-place.is ∙ ap (λ (xs : List Fields). get_or xs c.args.place m) c.markers.ensures.markers in
+    inr (
+      m,
+      slice_get_read ms _ c.args.place m refl c.requires.within read,
+      subst (λ (n : Node). Expands ms n c.args.self.now c.expand.new.self) c.predecessor-node.ensures.predecessor
+          c.in_ok-expand.ensures,
+    )

@@ -6,6 +6,8 @@ use Rattle.hg_relevant.proofs.search.Search.find.Goals as goal
 
 pub returns-in_ok-push : goal.returns-in_ok-push
 returns-in_ok-push c =
-    let read = get_or_read c.args.self.now.found.items c.args.place c.index.result.now c.requires c.index.ensures false in
+    let read = get_or_read c.args.self.now.found.items c.args.place c.index.result.now c.requires c.index.ensures
+    false in
     let new : c.index.result.now ≡ false = search rules in
-    finds-new c.args.place c.args.self.now _ c.requires (λ h. true≢false (sym h ∙ sym read ∙ new)) refl c.in_ok-push.ensures.items refl
+    finds-new c.args.place c.args.self.now _ c.requires (λ h. true≢false (sym h ∙ sym read ∙ new)) refl
+    c.in_ok-push.ensures.items refl
