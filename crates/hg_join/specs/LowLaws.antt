@@ -39,7 +39,9 @@ lower_least (Some m) (Some n) None p q = absurd p
 lower_least (Some m) (Some n) (Some k) p q = omega arith
 
 lower_comm : (a b : Option ℕ) → lower_of a b ≡ lower_of b a
-lower_comm a b = as_low_both _ _ (lower_least a b (lower_of b a) (lower_second b a) (lower_first b a)) (lower_least b a (lower_of a b) (lower_second a b) (lower_first a b))
+lower_comm a b =
+    as_low_both _ _ (lower_least a b (lower_of b a) (lower_second b a) (lower_first b a))
+    (lower_least b a (lower_of a b) (lower_second a b) (lower_first a b))
 
 -- the lower of three, however they are grouped
 pub lower_assoc : (a b c : Option ℕ) → lower_of (lower_of a b) c ≡ lower_of a (lower_of b c)
@@ -63,7 +65,8 @@ module _ {K : Type 0} where
   pub lows_commute : (a b c : K → Option ℕ) → LowsJoined a b c → LowsJoined b a c
   lows_commute a b c h = h ∙ (λ i k. lower_comm (a k) (b k) i)
 
-  pub lows_associate : (a b c d : K → Option ℕ) → ((ab : K → Option ℕ) × LowsJoined a b ab × LowsJoined ab c d) ↔ ((bc : K → Option ℕ) × LowsJoined b c bc × LowsJoined a bc d)
+  pub lows_associate : (a b c d : K → Option ℕ) → ((ab : K → Option ℕ) × LowsJoined a b ab × LowsJoined ab c d)
+      ↔ ((bc : K → Option ℕ) × LowsJoined b c bc × LowsJoined a bc d)
   lows_associate a b c d =
       let right : (K → Option ℕ) → K → Option ℕ = λ f k. lower_of (f k) (c k) in
       let left : (K → Option ℕ) → K → Option ℕ = λ f k. lower_of (a k) (f k) in (
@@ -83,10 +86,12 @@ module _ {K : Type 0} where
   }
 
   module _ (cmp : K → K → Ordering) where
-    pub lows_stay_covered : (a b : K → Option ℕ) (p : List (K × ℕ)) → ⊤ → ⊤ → LowsBelow a b → LowsCover cmp a p → LowsCover cmp b p
+    pub lows_stay_covered : (a b : K → Option ℕ) (p : List (K × ℕ)) → ⊤ → ⊤ → LowsBelow a b → LowsCover cmp a p →
+        LowsCover cmp b p
     lows_stay_covered a b p _ _ up c k = as_low_along (lowest_given cmp p k) (a k) (b k) (c k) (up k)
 
-    pub lows_absorbed : (a b : K → Option ℕ) (p : List (K × ℕ)) → ⊤ → LowsAfter cmp a p b → IsLeastCovering (λ _. ⊤) LowsBelow (LowsCover cmp) a (p ∷ []) b
+    pub lows_absorbed : (a b : K → Option ℕ) (p : List (K × ℕ)) → ⊤ → LowsAfter cmp a p b →
+        IsLeastCovering (λ _. ⊤) LowsBelow (LowsCover cmp) a (p ∷ []) b
     lows_absorbed a b p _ h = let l = lows_least a (lowest_given cmp p) b h in record {
       valid = tt;
       above = l.above_first;
@@ -97,5 +102,6 @@ module _ {K : Type 0} where
     pub lows_again : (a b : K → Option ℕ) (p : List (K × ℕ)) → ⊤ → LowsCover cmp a p → LowsAfter cmp a p b → b ≡ a
     lows_again = again_by_least lows_ordered lows_stay_covered lows_absorbed
 
-    pub lows_swap : (a x xy y yx : K → Option ℕ) (p q : List (K × ℕ)) → ⊤ → LowsAfter cmp a p x → LowsAfter cmp x q xy → LowsAfter cmp a q y → LowsAfter cmp y p yx → xy ≡ yx
+    pub lows_swap : (a x xy y yx : K → Option ℕ) (p q : List (K × ℕ)) → ⊤ → LowsAfter cmp a p x → LowsAfter cmp x q xy →
+        LowsAfter cmp a q y → LowsAfter cmp y p yx → xy ≡ yx
     lows_swap = swap_by_least lows_ordered lows_stay_covered lows_absorbed

@@ -48,7 +48,8 @@ pub trait Actor: JoinState {
     fn empty(alloc: Global) -> Result<Self, NoMemory>
         ensures { IfOk result (λ state. IsLeastOfAll Self.IsValid Self.Below (Self.content state)) };
 
-    /// The part that the operation comes to, which this state admits. It is refused for a reason, or where memory ran out.
+    /// The part that the operation comes to, which this state admits. It is refused for a reason, or where memory ran
+    /// out.
     fn decide(&self, alloc: Global, op: &Self::Op) -> Result<Self::Part, Self::Refusal>
         ensures ok { IfOk result (Decides self.now op.now) }
         ensures admitted { IfOk result (λ part. Self.Admits (Self.content self.now) (Self.part_content part)) }
@@ -70,38 +71,53 @@ pub trait Actor: JoinState {
         ensures due { IsDue (Spells bytes.now) (IsAgainstBytes bytes.now) };
 
     /// States with one content decide one part.
-    ghost decided_once: { (s t : Self) (op : Self.Op) (p q : Self.Part) → Self.IsValid (Self.content s) → Self.content s ≡ Self.content t → Decides s op p → Decides t op q → Self.part_content p ≡ Self.part_content q };
+    ghost decided_once: { (s t : Self) (op : Self.Op) (p q : Self.Part) → Self.IsValid (Self.content s) →
+        Self.content s ≡ Self.content t → Decides s op p → Decides t op q → Self.part_content p ≡ Self.part_content q };
 
     /// What is decided has no reason against it, so it is refused for want of memory alone.
-    ghost decided_is_not_refused: { (s : Self) (op : Self.Op) (p : Self.Part) (refusal : Self.Refusal) → Self.IsValid (Self.content s) → Decides s op p → IsAgainstOp s op refusal → ⊥ };
+    ghost decided_is_not_refused: { (s : Self) (op : Self.Op) (p : Self.Part) (refusal : Self.Refusal) →
+        Self.IsValid (Self.content s) → Decides s op p → IsAgainstOp s op refusal → ⊥ };
 
     /// A state offers one message.
-    ghost offered_once: { (s : Self) (ask : Self.Ask) (bytes others : List ℕ) → Self.IsValid (Self.content s) → Offers s ask bytes → Offers s ask others → bytes ≡ others };
+    ghost offered_once: { (s : Self) (ask : Self.Ask) (bytes others : List ℕ) → Self.IsValid (Self.content s) →
+        Offers s ask bytes → Offers s ask others → bytes ≡ others };
 
     /// What is offered has no reason against it, so it is refused for want of memory alone.
-    ghost offered_is_not_refused: { (s : Self) (ask : Self.Ask) (bytes : List ℕ) (refusal : Self.Refusal) → Self.IsValid (Self.content s) → Offers s ask bytes → IsAgainstAsk s ask refusal → ⊥ };
+    ghost offered_is_not_refused: { (s : Self) (ask : Self.Ask) (bytes : List ℕ) (refusal : Self.Refusal) →
+        Self.IsValid (Self.content s) → Offers s ask bytes → IsAgainstAsk s ask refusal → ⊥ };
 
     /// Offered bytes can be read.
-    ghost offered_is_spelled: { (s : Self) (ask : Self.Ask) (bytes : List ℕ) → Self.IsValid (Self.content s) → Offers s ask bytes → (p : Self.Part) × Spells bytes p };
+    ghost offered_is_spelled: { (s : Self) (ask : Self.Ask) (bytes : List ℕ) → Self.IsValid (Self.content s) →
+        Offers s ask bytes → (p : Self.Part) × Spells bytes p };
 
     /// A state offers no more than it says itself.
-    ghost offered_is_covered: { (s : Self) (ask : Self.Ask) (bytes : List ℕ) (p : Self.Part) → Self.IsValid (Self.content s) → Offers s ask bytes → Spells bytes p → Self.Covers (Self.content s) (Self.part_content p) };
+    ghost offered_is_covered: { (s : Self) (ask : Self.Ask) (bytes : List ℕ) (p : Self.Part) →
+        Self.IsValid (Self.content s) → Offers s ask bytes → Spells bytes p →
+        Self.Covers (Self.content s) (Self.part_content p) };
 
     /// States with one content offer the same, though each may spell it in its own way.
-    ghost offered_alike: { (s t : Self) (ask : Self.Ask) (bytes others : List ℕ) (p q : Self.Part) → Self.IsValid (Self.content s) → Self.content s ≡ Self.content t → Offers s ask bytes → Offers t ask others → Spells bytes p → Spells others q → SaySame Self.IsValid Self.Covers (Self.part_content p) (Self.part_content q) };
+    ghost offered_alike: { (s t : Self) (ask : Self.Ask) (bytes others : List ℕ) (p q : Self.Part) →
+        Self.IsValid (Self.content s) → Self.content s ≡ Self.content t → Offers s ask bytes → Offers t ask others →
+        Spells bytes p → Spells others q →
+        SaySame Self.IsValid Self.Covers (Self.part_content p) (Self.part_content q) };
 
     /// Bytes spell one part.
-    ghost spelled_once: { (bytes : List ℕ) (p q : Self.Part) → Spells bytes p → Spells bytes q → Self.part_content p ≡ Self.part_content q };
+    ghost spelled_once: { (bytes : List ℕ) (p q : Self.Part) → Spells bytes p → Spells bytes q →
+        Self.part_content p ≡ Self.part_content q };
 
     /// What spells a part has no reason against it, so it is refused for want of memory alone.
-    ghost spelled_is_not_refused: { (bytes : List ℕ) (p : Self.Part) (refusal : Self.Refusal) → Spells bytes p → IsAgainstBytes bytes refusal → ⊥ };
+    ghost spelled_is_not_refused: { (bytes : List ℕ) (p : Self.Part) (refusal : Self.Refusal) → Spells bytes p →
+        IsAgainstBytes bytes refusal → ⊥ };
 
     /// Want of memory is no reason against an operation, so it can't stand for one.
-    ghost memory_is_not_against_op: { (s : Self) (op : Self.Op) (refusal : Self.Refusal) → IsRefusalOfMemory refusal → IsAgainstOp s op refusal → ⊥ };
+    ghost memory_is_not_against_op: { (s : Self) (op : Self.Op) (refusal : Self.Refusal) → IsRefusalOfMemory refusal →
+        IsAgainstOp s op refusal → ⊥ };
 
     /// Want of memory is no reason against an offer.
-    ghost memory_is_not_against_ask: { (s : Self) (ask : Self.Ask) (refusal : Self.Refusal) → IsRefusalOfMemory refusal → IsAgainstAsk s ask refusal → ⊥ };
+    ghost memory_is_not_against_ask: { (s : Self) (ask : Self.Ask) (refusal : Self.Refusal) →
+        IsRefusalOfMemory refusal → IsAgainstAsk s ask refusal → ⊥ };
 
     /// Want of memory is no reason against bytes.
-    ghost memory_is_not_against_bytes: { (bytes : List ℕ) (refusal : Self.Refusal) → IsRefusalOfMemory refusal → IsAgainstBytes bytes refusal → ⊥ };
+    ghost memory_is_not_against_bytes: { (bytes : List ℕ) (refusal : Self.Refusal) → IsRefusalOfMemory refusal →
+        IsAgainstBytes bytes refusal → ⊥ };
 }

@@ -5,8 +5,10 @@
 //! the last first, which takes no memory.
 ghost use Rattle.std.specs.Prelude.{◌≡◌, ◌↔◌, ℕ, Option, List, [], ⊤, IsTrue, IfOk, IsOkAnd, OnOk, OnErr};
 ghost use Rattle.std.specs.BTreeMap.{IsOrdered};
-ghost use Rattle.hg_join.specs.Lows.{LowsBelow, LowsJoined, LowsCover, LowsAfter, lower_of, lows_of, given, put_back, undone};
-ghost use Rattle.hg_join.specs.LowLaws.{lows_ordered, lows_commute, lows_associate, lows_idempotent, lows_least, lows_stay_covered, lows_absorbed, lows_again, lows_swap};
+ghost use Rattle.hg_join.specs.Lows.{LowsBelow, LowsJoined, LowsCover, LowsAfter, lower_of, lows_of, given, put_back};
+ghost use Rattle.hg_join.specs.Lows.{undone};
+ghost use Rattle.hg_join.specs.LowLaws.{lows_ordered, lows_commute, lows_associate, lows_idempotent, lows_least};
+ghost use Rattle.hg_join.specs.LowLaws.{lows_stay_covered, lows_absorbed, lows_again, lows_swap};
 
 use crate::memory::NoMemory;
 use crate::state::JoinState;
@@ -137,18 +139,19 @@ impl<K: Ord + Copy> JoinState for LowMap<K> {
     fn absorb(&mut self, part: &Vec<(K, u8)>) -> Result<(), NoMemory> {
         let mut log = Vec::new(self.alloc);
         let lowered = lower_each(&mut self.lows, &mut log, part.as_slice());
-        settle(&mut self.lows, log, lowered)
+        keep_or_undo(&mut self.lows, log, lowered)
     }
 
     fn join(&mut self, other: &LowMap<K>) -> Result<(), NoMemory> {
         let mut log = Vec::new(self.alloc);
         let lowered = lower_by(&mut self.lows, &mut log, &other.lows);
-        settle(&mut self.lows, log, lowered)
+        keep_or_undo(&mut self.lows, log, lowered)
     }
 
     fn below(&self, other: &LowMap<K>) -> Result<bool, NoMemory>
         // It takes no memory, so it is never refused.
-        ensures { IsOkAnd result (λ answer. IsTrue answer ↔ LowsBelow (lows_of K.cmp self.now) (lows_of K.cmp other.now)) }
+        ensures { IsOkAnd result
+            (λ answer. IsTrue answer ↔ LowsBelow (lows_of K.cmp self.now) (lows_of K.cmp other.now)) }
     {
         Ok(are_below(&self.lows, &other.lows))
     }
@@ -177,7 +180,8 @@ fn lower<K: Ord + Copy>(
     low: u8,
 ) -> Result<(), NoMemory>
     requires { IsOrdered K.cmp lows.old }
-    ensures lowered { OnOk result ((k : K) → lows_of K.cmp lows.new.entries k ≡ lower_of (lows_of K.cmp lows.old.entries k) (given K.cmp (key, low) k)) }
+    ensures lowered { OnOk result ((k : K) →
+        lows_of K.cmp lows.new.entries k ≡ lower_of (lows_of K.cmp lows.old.entries k) (given K.cmp (key, low) k)) }
     ensures log { undone K.cmp log.new.items lows.new.entries ≡ undone K.cmp log.old.items lows.old.entries }
     ensures ordered { IsOrdered K.cmp lows.new }
 {
@@ -197,7 +201,8 @@ fn lower_each<K: Ord + Copy>(
     pairs: &[(K, u8)],
 ) -> Result<(), NoMemory>
     requires { IsOrdered K.cmp lows.old }
-    ensures lowered { OnOk result (LowsAfter K.cmp (lows_of K.cmp lows.old.entries) pairs.now (lows_of K.cmp lows.new.entries)) }
+    ensures lowered { OnOk result
+        (LowsAfter K.cmp (lows_of K.cmp lows.old.entries) pairs.now (lows_of K.cmp lows.new.entries)) }
     ensures log { undone K.cmp log.new.items lows.new.entries ≡ undone K.cmp log.old.items lows.old.entries }
     ensures ordered { IsOrdered K.cmp lows.new }
 {
@@ -215,7 +220,8 @@ fn lower_by<K: Ord + Copy>(
 ) -> Result<(), NoMemory>
     requires ordered { IsOrdered K.cmp lows.old }
     requires others { IsOrdered K.cmp others.now }
-    ensures lowered { OnOk result (LowsJoined (lows_of K.cmp lows.old.entries) (lows_of K.cmp others.now.entries) (lows_of K.cmp lows.new.entries)) }
+    ensures lowered { OnOk result (LowsJoined (lows_of K.cmp lows.old.entries) (lows_of K.cmp others.now.entries)
+        (lows_of K.cmp lows.new.entries)) }
     ensures log { undone K.cmp log.new.items lows.new.entries ≡ undone K.cmp log.old.items lows.old.entries }
     ensures ordered { IsOrdered K.cmp lows.new }
 {
@@ -226,7 +232,7 @@ fn lower_by<K: Ord + Copy>(
 }
 
 /// Keeps what was lowered or, where memory ran out, puts it all back.
-fn settle<K: Ord + Copy>(
+fn keep_or_undo<K: Ord + Copy>(
     lows: &mut BTreeMap<K, u8>,
     log: Vec<(K, Option<u8>)>,
     lowered: Result<(), NoMemory>,

@@ -73,16 +73,18 @@ pub trait JoinState: Drop {
         ensures valid { OnOk result (IsValid (content self.old)) }
 
         // What is refused is at fault, or memory ran out.
-        ensures fault { IfErr result (λ fault. IsFirstFault (content self.old) (part_content part.now) fault ⊎ IsWantOfMemory fault) }
+        ensures fault { IfErr result (λ fault. IsFirstFault (content self.old) (part_content part.now) fault
+            ⊎ IsWantOfMemory fault) }
         ensures err { OnErr result (self.new ≡ self.old) };
 
-    /// Takes in a part that isn't needed any more: what [`absorb`](JoinState::absorb) does, and tells. A state that keeps
-    /// what its parts hold can move it in rather than copy it; by default it is absorbed and then dropped.
+    /// Takes in a part that isn't needed any more: what [`absorb`](JoinState::absorb) does, and tells. A state that
+    /// keeps what its parts hold can move it in rather than copy it; by default it is absorbed and then dropped.
     fn absorb_owned(&mut self, part: Self::Part) -> Result<Self::Change, Self::Fault>
         ensures after { OnOk result (After (content self.old) (part_content part) (content self.new)) }
         ensures change { IfOk result (λ change. Tells self.old change self.new) }
         ensures valid { OnOk result (IsValid (content self.old)) }
-        ensures fault { IfErr result (λ fault. IsFirstFault (content self.old) (part_content part) fault ⊎ IsWantOfMemory fault) }
+        ensures fault { IfErr result (λ fault. IsFirstFault (content self.old) (part_content part) fault
+            ⊎ IsWantOfMemory fault) }
         ensures err { OnErr result (self.new ≡ self.old) }
     {
         self.absorb(&part)
@@ -96,7 +98,8 @@ pub trait JoinState: Drop {
         ensures other_valid { OnOk result (IsValid (content other.now)) }
 
         // What is refused collides, or memory ran out.
-        ensures fault { IfErr result (λ fault. Collides (content self.old) (content other.now) fault ⊎ IsWantOfMemory fault) }
+        ensures fault { IfErr result (λ fault. Collides (content self.old) (content other.now) fault
+            ⊎ IsWantOfMemory fault) }
         ensures err { OnErr result (self.new ≡ self.old) };
 
     /// Whether the other state says all that this one says. States that are below each other have one content.
@@ -111,37 +114,45 @@ pub trait JoinState: Drop {
     ghost ordered: { IsPartialOrder IsValid Below };
 
     /// What covers a part still does when it grows, so a part is never forgotten.
-    ghost stays_covered: { (a b : Content) (p : PartContent) → IsValid a → IsValid b → Below a b → Covers a p → Covers b p };
+    ghost stays_covered: { (a b : Content) (p : PartContent) → IsValid a → IsValid b → Below a b → Covers a p →
+        Covers b p };
 
     /// What a part leaves is the least valid content above that covers it: nothing is added that the part does not say.
-    ghost absorbed: { (a b : Content) (p : PartContent) → IsValid a → After a p b → IsLeastCovering IsValid Below Covers a (p ∷ []) b };
+    ghost absorbed: { (a b : Content) (p : PartContent) → IsValid a → After a p b →
+        IsLeastCovering IsValid Below Covers a (p ∷ []) b };
 
     /// Only an admitted part is absorbed.
     ghost after_is_admitted: { (a b : Content) (p : PartContent) → IsValid a → After a p b → Admits a p };
 
     /// An admitted part has no fault, so it is refused for want of memory alone.
-    ghost faultless: { (a : Content) (p : PartContent) (fault : Self.Fault) → IsValid a → Admits a p → IsFirstFault a p fault → ⊥ };
+    ghost faultless: { (a : Content) (p : PartContent) (fault : Self.Fault) → IsValid a → Admits a p →
+        IsFirstFault a p fault → ⊥ };
 
     /// A covered part is admitted: what is held may come again.
     ghost covered_is_admitted: { (a : Content) (p : PartContent) → IsValid a → Covers a p → Admits a p };
 
     /// Contents that have a join don't collide, so joining them is refused for want of memory alone.
-    ghost apart: { (a b c : Content) (fault : Self.Fault) → IsValid a → IsValid b → Joined a b c → Collides a b fault → ⊥ };
+    ghost apart: { (a b c : Content) (fault : Self.Fault) → IsValid a → IsValid b → Joined a b c → Collides a b fault →
+        ⊥ };
 
     /// What collides has no valid content above both: no growth mends it.
-    ghost collides_for_good: { (a b c : Content) (fault : Self.Fault) → IsValid a → IsValid b → IsValid c → Below a c → Below b c → Collides a b fault → ⊥ };
+    ghost collides_for_good: { (a b c : Content) (fault : Self.Fault) → IsValid a → IsValid b → IsValid c → Below a c →
+        Below b c → Collides a b fault → ⊥ };
 
     /// Want of memory is no fault of a part, so it can't stand for one.
-    ghost memory_is_no_fault: { (a : Content) (p : PartContent) (fault : Self.Fault) → IsValid a → IsWantOfMemory fault → IsFirstFault a p fault → ⊥ };
+    ghost memory_is_no_fault: { (a : Content) (p : PartContent) (fault : Self.Fault) → IsValid a →
+        IsWantOfMemory fault → IsFirstFault a p fault → ⊥ };
 
     /// Want of memory is no collision, so it can't stand for one.
-    ghost memory_is_no_collision: { (a b : Content) (fault : Self.Fault) → IsValid a → IsValid b → IsWantOfMemory fault → Collides a b fault → ⊥ };
+    ghost memory_is_no_collision: { (a b : Content) (fault : Self.Fault) → IsValid a → IsValid b →
+        IsWantOfMemory fault → Collides a b fault → ⊥ };
 
     /// A join in either order: both are defined together and equal.
     ghost commutes: { (a b c : Content) → IsValid a → IsValid b → Joined a b c ↔ Joined b a c };
 
     /// Joins of three, however they are grouped: both are defined together and equal.
-    ghost associates: { (a b c abc : Content) → IsValid a → IsValid b → IsValid c → ((ab : Content) × Joined a b ab × Joined ab c abc) ↔ ((bc : Content) × Joined b c bc × Joined a bc abc) };
+    ghost associates: { (a b c abc : Content) → IsValid a → IsValid b → IsValid c →
+        ((ab : Content) × Joined a b ab × Joined ab c abc) ↔ ((bc : Content) × Joined b c bc × Joined a bc abc) };
 
     /// A content joined with itself stays.
     ghost idempotent: { (a : Content) → IsValid a → Joined a a a };
@@ -153,5 +164,6 @@ pub trait JoinState: Drop {
     ghost again: { (a b : Content) (p : PartContent) → IsValid a → Covers a p → After a p b → b ≡ a };
 
     /// Two parts, each admitted in either order, leave one content. The lemma `swap_by_least` gives this.
-    ghost swap: { (a ap apq aq aqp : Content) (p q : PartContent) → IsValid a → After a p ap → After ap q apq → After a q aq → After aq p aqp → apq ≡ aqp };
+    ghost swap: { (a ap apq aq aqp : Content) (p q : PartContent) → IsValid a → After a p ap → After ap q apq →
+        After a q aq → After aq p aqp → apq ≡ aqp };
 }

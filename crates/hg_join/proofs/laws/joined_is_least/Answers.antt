@@ -7,4 +7,5 @@ returns g c =
     λ old a b c ps qs v h k j.
     let to_a = least_of_each laws.ordered laws.stays_covered laws.absorbed old a ps v h in
     let to_b = least_of_each laws.ordered laws.stays_covered laws.absorbed old b qs v k in
-    least_of_both laws.ordered laws.stays_covered laws.absorbed old a b c ps qs v h k (laws.least a b c to_a.valid to_b.valid j)
+    least_of_both laws.ordered laws.stays_covered laws.absorbed old a b c ps qs v h k
+    (laws.least a b c to_a.valid to_b.valid j)

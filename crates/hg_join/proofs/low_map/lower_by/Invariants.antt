@@ -9,5 +9,6 @@ invariant-loop-key g l = let cmp = g.K.Ord.cmp in record {
   log : undone cmp l.log.items l.lows.entries ≡ undone cmp l.fn.log.items l.fn.lows.entries;
   front : List (g.row.K.Denot × ℕ);
   whole : front ++ l.key-iterator ≡ l.others.entries;
-  lowered : (k : g.row.K.Denot) → lows_of cmp l.lows.entries k ≡ lower_of (lows_of cmp l.fn.lows.entries k) (lowest_given cmp front k);
+  lowered : (k : g.row.K.Denot) → lows_of cmp l.lows.entries k ≡ lower_of (lows_of cmp l.fn.lows.entries k)
+      (lowest_given cmp front k);
 }

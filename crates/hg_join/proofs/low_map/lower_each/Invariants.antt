@@ -7,5 +7,6 @@ abbrev pub invariant-loop-key : goal.invariant-loop-key
 invariant-loop-key g l = let cmp = g.K.Ord.cmp in record {
   ordered : IsOrdered cmp l.lows;
   log : undone cmp l.log.items l.lows.entries ≡ undone cmp l.fn.log.items l.fn.lows.entries;
-  lowered : (k : g.row.K.Denot) → lows_of cmp l.lows.entries k ≡ lower_of (lows_of cmp l.fn.lows.entries k) (lowest_given cmp (take l.key-index l.pairs) k);
+  lowered : (k : g.row.K.Denot) → lows_of cmp l.lows.entries k ≡ lower_of (lows_of cmp l.fn.lows.entries k)
+      (lowest_given cmp (take l.key-index l.pairs) k);
 }
