@@ -25,23 +25,36 @@ within-sets ms ns = (
 
 -- different markers, all within a list, are no more than it has
 pub within-length : (ms ns : List Fields) → AreDifferent ms → AreWithin ms ns → length ms ≤ length ns
-within-length ms ns different within = length-le_from_is_member fields_equivalence ms ns (IsDistinct-from_AllPairs fields_decides ms different) ((within-sets ms ns).0 within)
+within-length ms ns different within =
+    length-le_from_is_member fields_equivalence ms ns (IsDistinct-from_AllPairs fields_decides ms different)
+    ((within-sets ms ns).0 within)
 
 -- the list has the markers of both, and no others
-pub union-sets : (ms ns us : List Fields) → ((m : Fields) → Contains us m ↔ (Contains ms m ⊎ Contains ns m)) ↔ IsUnion (holds ms) (holds ns) (holds us)
+pub union-sets : (ms ns us : List Fields) → ((m : Fields) → Contains us m ↔ (Contains ms m ⊎ Contains ns m))
+    ↔ IsUnion (holds ms) (holds ns) (holds us)
 union-sets ms ns us = (
   λ h i m. both_ways (holds us m) (holds ms m || holds ns m)
-      (λ e. elim ((h m).0 (in_from_holds us m e)) [ inl x ↦ or_left _ _ (holds-from ms m x) | inr x ↦ or_right (holds ms m) _ (holds-from ns m x) ])
+      (λ e. elim ((h m).0 (in_from_holds us m e)) [
+        | inl x ↦ or_left _ _ (holds-from ms m x)
+        | inr x ↦ or_right (holds ms m) _ (holds-from ns m x)
+      ])
       (λ e. elim (or_cases _ _ e) [
         | inl x ↦ holds-from us m ((h m).1 (inl (in_from_holds ms m x)))
         | inr x ↦ holds-from us m ((h m).1 (inr (in_from_holds ns m x)))
       ]) i,
   λ u m. let e : holds us m ≡ (holds ms m || holds ns m) = ap (λ (f : Fields → Bool). f m) u in (
-    λ at. elim (or_cases (holds ms m) (holds ns m) (sym e ∙ holds-from us m at)) [ inl x ↦ inl (in_from_holds ms m x) | inr x ↦ inr (in_from_holds ns m x) ],
-    λ h. in_from_holds us m (e ∙ elim h [ inl x ↦ or_left (holds ms m) (holds ns m) (holds-from ms m x) | inr x ↦ or_right (holds ms m) (holds ns m) (holds-from ns m x) ]),
+    λ at. elim (or_cases (holds ms m) (holds ns m) (sym e ∙ holds-from us m at)) [
+      | inl x ↦ inl (in_from_holds ms m x)
+      | inr x ↦ inr (in_from_holds ns m x)
+    ],
+    λ h. in_from_holds us m (e ∙ elim h [
+      | inl x ↦ or_left (holds ms m) (holds ns m) (holds-from ms m x)
+      | inr x ↦ or_right (holds ms m) (holds ns m) (holds-from ns m x)
+    ]),
   ),
 )
 
 -- the same markers are one set
 pub same-sets : (ms ns : List Fields) → AreWithin ms ns → AreWithin ns ms → holds ms ≡ holds ns
-same-sets ms ns up down i m = both_ways (holds ms m) (holds ns m) ((within-sets ms ns).0 up m) ((within-sets ns ms).0 down m) i
+same-sets ms ns up down i m =
+    both_ways (holds ms m) (holds ns m) ((within-sets ms ns).0 up m) ((within-sets ns ms).0 down m) i

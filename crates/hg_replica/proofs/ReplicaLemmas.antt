@@ -1,12 +1,14 @@
 -- A history's answer and a store's, side by side.
-use Rattle.std.proofs.Common.{◌≡◌, ◌∙◌, ℕ, Bool, List, length, take, get_or, All, Contains, IsTrue, Result, Ok, Err, ◌↔◌, inr, sym, ap, subst}
+use Rattle.std.proofs.Common.{◌≡◌, ◌∙◌, ℕ, Bool, List, length, take, get_or, All, Contains, IsTrue, Result, Ok, Err}
+use Rattle.std.proofs.Common.{◌↔◌, inr, sym, ap, subst}
 use Rattle.std.proofs.Math.Seq.{take-append_seam}
 use Rattle.std.proofs.lemmas.Option.{slice_get-get_or}
 use Rattle.hg_graph.proofs.GraphLemmas.{Contains-from_place}
 use Rattle.hg_marker.specs.Fields.{Fields}
 use Rattle.hg_phases.specs.State.{State}
 use Rattle.hg_phases.specs.Order.{Below as BelowHistory}
-use Rattle.hg_history.specs.Answer.{IsAbsorbed as IsAbsorbedHistory, AbsorbAnswer as AbsorbHistoryAnswer, IsGrowthBeforeFault as IsHistoryGrowth}
+use Rattle.hg_history.specs.Answer.{IsAbsorbed as IsAbsorbedHistory, AbsorbAnswer as AbsorbHistoryAnswer}
+use Rattle.hg_history.specs.Answer.{IsGrowthBeforeFault as IsHistoryGrowth}
 use Rattle.hg_history.specs.Change.{ChangeValue as HistoryChange}
 use Rattle.hg_history.specs.declared.fault.Fault.{Fault}
 use Rattle.hg_history.specs.declared.fault.Fault.TheVariants.{NoMemory}
@@ -20,8 +22,10 @@ use Rattle.hg_replica.specs.Answer.{AbsorbAnswer, IsAbsorbed, KeepAnswer, IsGrow
 use Rattle.hg_replica.proofs.MarkerLemmas.{union-sets}
 use Rattle.hg_replica.proofs.ContentLemmas.{least-union}
 
-pub absorbed : (s t : ReplicaState) (k : PartValue) (change : ChangeValue) → IsAbsorbedHistory s.history k.history (history_change change) t.history
-    → t.markers ≡ united s.markers k.markers → IsUnion (holds s.markers) (holds k.markers) (holds t.markers) → AreNewPlaces s.markers t.markers change.markers → IsAbsorbed s k change t
+pub absorbed : (s t : ReplicaState) (k : PartValue) (change : ChangeValue) →
+    IsAbsorbedHistory s.history k.history (history_change change) t.history
+    → t.markers ≡ united s.markers k.markers → IsUnion (holds s.markers) (holds k.markers) (holds t.markers) →
+    AreNewPlaces s.markers t.markers change.markers → IsAbsorbed s k change t
 absorbed s t k change h order union places = record {
   admitted = h.admitted;
   least = record { history = h.least; markers = (least-union s k t).1 union };
@@ -33,22 +37,33 @@ absorbed s t k change h order union places = record {
 }
 
 -- the store keeps what the history's answer leaves it: together they answer for the part
-pub kept_answer : (s : ReplicaState) (k : PartValue) (h : State) (grown kept : List Fields) (before : ℕ) (places : List ℕ) (answered : Result HistoryChange Fault) (result : Result ChangeValue Fault) → KeepAnswer before places answered grown result kept
-    → before ≡ length s.markers → grown ≡ united s.markers k.markers → IsUnion (holds s.markers) (holds k.markers) (holds grown) → AreNewPlaces s.markers grown places → AbsorbHistoryAnswer s.history k.history answered h
+pub kept_answer : (s : ReplicaState) (k : PartValue) (h : State) (grown kept : List Fields) (before : ℕ)
+    (places : List ℕ) (answered : Result HistoryChange Fault) (result : Result ChangeValue Fault) →
+    KeepAnswer before places answered grown result kept
+    → before ≡ length s.markers → grown ≡ united s.markers k.markers →
+    IsUnion (holds s.markers) (holds k.markers) (holds grown) → AreNewPlaces s.markers grown places →
+    AbsorbHistoryAnswer s.history k.history answered h
     → AbsorbAnswer s k result (record { history = h; markers = kept })
 unfolding AbsorbAnswer
 kept_answer s k h grown kept before places (Ok change) result keeps first order union new answer =
     let t : ReplicaState = record { history = h; markers = kept } in
     let told : ChangeValue = record { added = change.added; lowered = change.lowered; markers = places } in
     let there = sym keeps.1 in
-    let done = absorbed s t k told answer (keeps.1 ∙ order) (subst (λ ms. IsUnion (holds s.markers) (holds k.markers) (holds ms)) there union) (subst (λ ms. AreNewPlaces s.markers ms places) there new) in
+    let done =
+    absorbed s t k told answer (keeps.1 ∙ order)
+    (subst (λ ms. IsUnion (holds s.markers) (holds k.markers) (holds ms)) there union)
+    (subst (λ ms. AreNewPlaces s.markers ms places) there new) in
     subst (λ r. AbsorbAnswer s k r t) (sym keeps.0) done
 kept_answer s k h grown kept before places (Err fault) result keeps first order union new answer =
-    let back : kept ≡ s.markers = keeps.1 ∙ (λ i. take (first i) (order i)) ∙ take-append_seam s.markers (new_among s.markers k.markers) in
-    subst (λ r. AbsorbAnswer s k r (record { history = h; markers = kept })) (sym keeps.0) (answer.0, λ i. record { history = answer.1 i; markers = back i })
+    let back : kept ≡ s.markers =
+    keeps.1 ∙ (λ i. take (first i) (order i)) ∙ take-append_seam s.markers (new_among s.markers k.markers) in
+    subst (λ r. AbsorbAnswer s k r (record { history = h; markers = kept })) (sym keeps.0)
+    (answer.0, λ i. record { history = answer.1 i; markers = back i })
 
 -- want of memory is the history's
-pub kept_growth : (s : ReplicaState) (k : PartValue) (grown kept : List Fields) (before : ℕ) (places : List ℕ) (answered : Result HistoryChange Fault) (result : Result ChangeValue Fault) → KeepAnswer before places answered grown result kept
+pub kept_growth : (s : ReplicaState) (k : PartValue) (grown kept : List Fields) (before : ℕ) (places : List ℕ)
+    (answered : Result HistoryChange Fault) (result : Result ChangeValue Fault) →
+    KeepAnswer before places answered grown result kept
     → (answered ≡ Err NoMemory → IsHistoryGrowth s.history k.history) → result ≡ Err NoMemory → IsGrowthBeforeFault s k
 unfolding IsGrowthBeforeFault
 kept_growth s k grown kept before places (Ok change) result keeps growth is = absurd (let e = sym keeps.0 ∙ is in cc)
@@ -57,17 +72,20 @@ kept_growth s k grown kept before places (Err fault) result keeps growth is =
     let same : fault ≡ NoMemory = cc in
     inr (growth (ap (λ x. Err x) same))
 
-pub joined : (s o t : ReplicaState) → IsHistoryJoin s.history o.history t.history → IsUnion (holds s.markers) (holds o.markers) (holds t.markers) → IsJoin s o t
+pub joined : (s o t : ReplicaState) → IsHistoryJoin s.history o.history t.history →
+    IsUnion (holds s.markers) (holds o.markers) (holds t.markers) → IsJoin s o t
 joined s o t h union = record { history = h; markers = (union-sets s.markers o.markers t.markers).1 union }
 
 within-all : (ms ns : List Fields) → All (Contains ns) ms ↔ AreWithin ms ns
 within-all ms ns = (
   λ all m at. subst (Contains ns) at.2 (all at.0 m at.1),
-  λ within i any lt. within (get_or ms i any) (Contains-from_place ms i (get_or ms i any) (slice_get-get_or ms i any lt)),
+  λ within i any lt. within (get_or ms i any)
+      (Contains-from_place ms i (get_or ms i any) (slice_get-get_or ms i any lt)),
 )
 
 -- where the history is below, the store's answer is the whole answer
-pub below-both : (s t : ReplicaState) (answer : Bool) → BelowHistory s.history t.history → IsTrue answer ↔ All (Contains t.markers) s.markers → IsTrue answer ↔ Below s t
+pub below-both : (s t : ReplicaState) (answer : Bool) → BelowHistory s.history t.history →
+    IsTrue answer ↔ All (Contains t.markers) s.markers → IsTrue answer ↔ Below s t
 below-both s t answer history store = (
   λ is. record { history = history; markers = (within-all s.markers t.markers).0 (store.0 is) },
   λ below. store.1 ((within-all s.markers t.markers).1 below.markers),

@@ -15,7 +15,8 @@ use Rattle.hg_history.proofs.OpenLemmas.{own-same}
 use Rattle.hg_replica.specs.State.{ReplicaState, IsValid}
 use Rattle.hg_replica.specs.Answer.{OpenAnswer}
 
-module _ (s : State) (roots : List Root) (text : List ℕ) (valid : IsValidHistory s) (are : AreRoots s roots) (written : IsWritten roots text) where
+module _ (s : State) (roots : List Root) (text : List ℕ) (valid : IsValidHistory s) (are : AreRoots s roots)
+    (written : IsWritten roots text) where
   -- each root is a changeset's id, and not public
   its_node : (r : Root) → Contains roots r → IsNode r.1 × (r.0 ≢ Public)
   its_node r at =
@@ -29,7 +30,8 @@ module _ (s : State) (roots : List Root) (text : List ℕ) (valid : IsValidHisto
 
   pub read_fault : (error : RootsError) → IsReading text (Err error) → error ≡ NoMemory
   read_fault (BadLine n) h = absurd (let e : Ok written.0 ≡ Err (BadLine n) = sym says ∙ h in let none : ⊥ = cc in none)
-  read_fault (BadPhase n) h = absurd (let e : Ok written.0 ≡ Err (BadPhase n) = sym says ∙ h in let none : ⊥ = cc in none)
+  read_fault (BadPhase n) h =
+      absurd (let e : Ok written.0 ≡ Err (BadPhase n) = sym says ∙ h in let none : ⊥ = cc in none)
   read_fault NoMemory h = refl
 
   pub read_same : (read : List Root) → IsReading text (Ok read) → AreSameRoots read roots
@@ -41,9 +43,12 @@ module _ (s : State) (roots : List Root) (text : List ℕ) (valid : IsValidHisto
         λ at. subst (λ rs. Contains rs r) is (same.1 (at, (its_node r at).1)),
       )
 
-pub own-same-replica : (s t : ReplicaState) (roots read : List Root) (text : List ℕ) → IsValid s → AreRoots s.history roots → IsWritten roots text → IsReading text (Ok read)
+pub own-same-replica : (s t : ReplicaState) (roots read : List Root) (text : List ℕ) → IsValid s →
+    AreRoots s.history roots → IsWritten roots text → IsReading text (Ok read)
     → OpenAnswer (changesets s.history) read s.markers (Ok t) → t ≡ s
 unfolding OpenAnswer
 own-same-replica s t roots read text valid are written h opened =
-    let history = own-same s.history t.history roots read valid are (read_same s.history roots text valid are written read h) opened.0 in
+    let history =
+    own-same s.history t.history roots read valid are (read_same s.history roots text valid are written read h)
+    opened.0 in
     λ i. record { history = history i; markers = opened.1 i }

@@ -16,7 +16,8 @@ pub record ChangeValue : Type 0 where
 abbrev pub history_change : ChangeValue → HistoryChange
 history_change change = record { added = change.added; lowered = change.lowered }
 
--- the change tells the nodes that were added, in their order, those held before whose phase went down, and the places of the markers that stand after those held before
+-- the change tells the nodes that were added, in their order, those held before whose phase went down, and the places
+-- of the markers that stand after those held before
 pub record TellsChange (s : ReplicaState) (change : ChangeValue) (t : ReplicaState) : Type 0 where
   pub history : TellsHistory s.history (history_change change) t.history
   pub markers : Grows s.markers change.markers t.markers

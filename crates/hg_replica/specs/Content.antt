@@ -1,9 +1,14 @@
--- What a replica contains, free of the order in which it came: for each id the changeset and its phase, and the set of markers.
+-- What a replica contains, free of the order in which it came: for each id the changeset and its phase, and the set of
+-- markers.
 use Rattle.std.specs.Prelude.{Bool}
 use Rattle.hg_marker.specs.Fields.{Fields}
 use Rattle.hg_phases.specs.Content.{content_of as history_content}
 use Rattle.hg_history.specs.declared.fault.Fault.{Fault}
-use Rattle.hg_history.specs.Content.{Content as HistoryContent, IsValidContent as IsValidHistory, ContentBelow as BelowHistory, ContentsJoined as HistoriesJoined, ContentsCollide as HistoriesCollide, ContentCovers as CoversHistory, ContentAdmits as AdmitsHistory, ContentAfter as AfterHistory, IsContentFault as IsHistoryFault}
+use Rattle.hg_history.specs.Content.{Content as HistoryContent, IsValidContent as IsValidHistory}
+use Rattle.hg_history.specs.Content.{ContentBelow as BelowHistory, ContentsJoined as HistoriesJoined}
+use Rattle.hg_history.specs.Content.{ContentsCollide as HistoriesCollide, ContentCovers as CoversHistory}
+use Rattle.hg_history.specs.Content.{ContentAdmits as AdmitsHistory, ContentAfter as AfterHistory}
+use Rattle.hg_history.specs.Content.{IsContentFault as IsHistoryFault}
 use Rattle.hg_obsstore.specs.Sets.{IsWithin, HasAll, IsUnion}
 use Rattle.hg_obsstore.specs.Growth.{holds}
 use Rattle.hg_replica.specs.State.{ReplicaState}
@@ -23,7 +28,8 @@ IsValidContent f = IsValidHistory f.0
 abbrev pub ContentBelow : Content → Content → Type 0
 ContentBelow f g = BelowHistory f.0 g.0 × IsWithin f.1 g.1
 
--- the third holds what either holds, each changeset with the lowest phase that either gives it; under no id do they hold two
+-- the third holds what either holds, each changeset with the lowest phase that either gives it; under no id do they
+-- hold two
 abbrev pub ContentsJoined : Content → Content → Content → Type 0
 ContentsJoined f g j = HistoriesJoined f.0 g.0 j.0 × IsUnion f.1 g.1 j.1
 

@@ -1,4 +1,5 @@
--- Obsolescence and what follows from it, over what a replica contains: which changesets are obsolete, which are unstable and why, and which are in view.
+-- Obsolescence and what follows from it, over what a replica contains: which changesets are obsolete, which are
+-- unstable and why, and which are in view.
 use Rattle.std.specs.Prelude.{◌≡◌, ◌≢◌, ◌%◌, true, Some, Contains}
 use Rattle.hg_changeset.specs.declared.node.Node.{Node}
 use Rattle.hg_phases.specs.declared.phase.Phase.{Phase}
@@ -52,8 +53,10 @@ IsExtinct f n = IsObsolete f n × ¬ (IsSuspended f n)
 
 -- one or more steps lead from n to p, each from a successor of a marker of this kind to its predecessor
 pub data Precedes (f : Content) (Kind : Fields → Type 0) (p : Node) : Node → Type 0 where
-  step : {n : Node} {m : Fields} → IsMarker f m → Kind m → Contains m.successors n → m.predecessor ≡ p → Precedes f Kind p n
-  further : {n : Node} {m : Fields} → IsMarker f m → Kind m → Contains m.successors n → Precedes f Kind p m.predecessor → Precedes f Kind p n
+  step : {n : Node} {m : Fields} → IsMarker f m → Kind m → Contains m.successors n → m.predecessor ≡ p →
+      Precedes f Kind p n
+  further : {n : Node} {m : Fields} → IsMarker f m → Kind m → Contains m.successors n →
+      Precedes f Kind p m.predecessor → Precedes f Kind p n
 
 -- the lowest bit of the flags is set: the successors were written in answer to a predecessor that had become public
 abbrev pub IsBumpedFix : Fields → Type 0

@@ -3,7 +3,8 @@ use Rattle.std.specs.Prelude.{◌≡◌, map, List, [], ◌∷◌, Contains, ◌
 use Rattle.hg_changeset.specs.Contents.{Contents}
 use Rattle.hg_changeset.specs.Changeset.{IsChangeset}
 use Rattle.hg_marker.specs.Fields.{Fields}
-use Rattle.hg_phases.specs.Least.{PartValue as HistoryPart, Covers as CoversHistory, IsAdmitted as IsAdmittedHistory, IsLeast as IsLeastHistory, part_of as history_part_of}
+use Rattle.hg_phases.specs.Least.{PartValue as HistoryPart, Covers as CoversHistory, IsAdmitted as IsAdmittedHistory}
+use Rattle.hg_phases.specs.Least.{IsLeast as IsLeastHistory, part_of as history_part_of}
 use Rattle.hg_replica.specs.State.{ReplicaState, IsValid, AreWithin, Below}
 
 -- what is absorbed: changesets and bounds, which the history takes, and markers
@@ -19,7 +20,8 @@ pub record Covers (t : ReplicaState) (k : PartValue) : Type 0 where
   pub history : CoversHistory t.history k.history
   pub markers : AreWithin k.markers t.markers
 
--- the part can be absorbed: each parent is held or comes earlier, each bound's node is held or comes with it, and no two changesets collide. Any marker may come
+-- the part can be absorbed: each parent is held or comes earlier, each bound's node is held or comes with it, and no
+-- two changesets collide. Any marker may come
 abbrev pub IsAdmitted : ReplicaState → PartValue → Type 0
 IsAdmitted s k = IsAdmittedHistory s.history k.history
 
@@ -27,7 +29,8 @@ IsAdmitted s k = IsAdmittedHistory s.history k.history
 abbrev pub IsMarkerOfOne : List PartValue → Fields → Type 0
 IsMarkerOfOne ks m = (k : PartValue) × Contains ks k × Contains k.markers m
 
--- t is s with the parts: the union of the changesets, for each the lowest of the phases that s and the bounds give it, and the union of the markers
+-- t is s with the parts: the union of the changesets, for each the lowest of the phases that s and the bounds give it,
+-- and the union of the markers
 pub record IsLeast (s : ReplicaState) (ks : List PartValue) (t : ReplicaState) : Type 0 where
   pub history : IsLeastHistory s.history (histories ks) t.history
   pub markers : (m : Fields) → Contains t.markers m ↔ (Contains s.markers m ⊎ IsMarkerOfOne ks m)
@@ -35,14 +38,17 @@ pub record IsLeast (s : ReplicaState) (ks : List PartValue) (t : ReplicaState) :
 -- each part is admitted after those before it, and holds changesets
 abbrev pub AreAdmitted : ReplicaState → List PartValue → Type 0
 AreAdmitted s [] = Unit {0}
-AreAdmitted s (k ∷ ks) = IsAdmitted s k × ((c : Contents) → Contains k.history.changesets c → IsChangeset c) × ((t : ReplicaState) → IsLeast s (k ∷ []) t → AreAdmitted t ks)
+AreAdmitted s (k ∷ ks) =
+    IsAdmitted s k × ((c : Contents) → Contains k.history.changesets c → IsChangeset c)
+    × ((t : ReplicaState) → IsLeast s (k ∷ []) t → AreAdmitted t ks)
 
 -- t is valid, above s and covers the parts, and is below every valid state that is above s and covers them
 pub record IsSmallest (s : ReplicaState) (ks : List PartValue) (t : ReplicaState) : Type 0 where
   pub valid : IsValid t
   pub above : Below s t
   pub covers : (k : PartValue) → Contains ks k → Covers t k
-  pub below_each : (u : ReplicaState) → IsValid u → Below s u → ((k : PartValue) → Contains ks k → Covers u k) → Below t u
+  pub below_each : (u : ReplicaState) → IsValid u → Below s u → ((k : PartValue) → Contains ks k → Covers u k) →
+      Below t u
 
 -- the parts are taken one after the other, each to the least state for it alone
 abbrev pub IsLeastOneByOne : ReplicaState → List PartValue → ReplicaState → Type 0

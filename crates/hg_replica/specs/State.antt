@@ -1,13 +1,17 @@
 -- The state of a replica: a history, which is a graph with a phase for each of its changesets, and a set of markers.
-use Rattle.std.specs.Prelude.{List, Contains}
+use Rattle.std.specs.Prelude.{List, [], Contains}
 use Rattle.hg_marker.specs.Fields.{Fields}
-use Rattle.hg_phases.specs.State.{State, IsValid as IsValidHistory}
+use Rattle.hg_phases.specs.State.{State, state_of, IsValid as IsValidHistory}
 use Rattle.hg_phases.specs.Order.{Below as BelowHistory}
 
 -- the markers are kept as a list, whose order and doubles are no part of the state
 pub record ReplicaState : Type 0 where
   pub history : State
   pub markers : List Fields
+
+-- what a new replica holds
+abbrev pub nothing_held : ReplicaState
+nothing_held = record { history = state_of [] []; markers = [] }
 
 -- a graph, in which no changeset has a lower phase than a parent of it; and any markers
 abbrev pub IsValid : ReplicaState → Type 0

@@ -1,11 +1,11 @@
-//! Where the store finds what names each changeset: hints, which decide how long an answer takes and never what it is. So
-//! they are noted as far as there is memory, and no call is refused for want of it.
+//! Where the store finds what names each changeset: hints, which decide how long an answer takes and never what it is.
+//! So they are noted as far as there is memory, and no call is refused for want of it.
 use hg_changeset::Node;
 use hg_graph::Graph;
 use hg_obsstore::{Hint, Store};
 
-/// Notes the hints that may have changed: of the changesets that the markers from a place on name, and of those that are
-/// new.
+/// Notes the hints that may have changed: of the changesets that the markers from a place on name, and of those that
+/// are new.
 pub(crate) fn note_hints(hints: &mut Vec<Hint>, graph: &Graph, store: &Store, before: usize) {
     if !hints.is_empty() {
         note_named(hints, graph, store, before);

@@ -5,8 +5,8 @@ use hg_marker::Marker;
 use hg_phases::Phase;
 use std::marker::Model;
 
-/// What a replica takes in: changesets, bounds on phases, and markers. A bound `(node, phase)` says that the node and its
-/// ancestors have at most this phase.
+/// What a replica takes in: changesets, bounds on phases, and markers. A bound `(node, phase)` says that the node and
+/// its ancestors have at most this phase.
 #[derive(Drop)]
 pub struct Part {
     pub changesets: Vec<Changeset>,
@@ -23,7 +23,10 @@ impl Model for Part {
 
     ghost coded = { Prim.hlevel (codes, fields_code) };
 
-    ghost view = { λ part. record { history = record { changesets = part.changesets.items; bounds = part.bounds.items }; markers = part.markers.items } };
+    ghost view = { λ part. record {
+      history = record { changesets = part.changesets.items; bounds = part.bounds.items };
+      markers = part.markers.items;
+    } };
 }
 
 /// What a part changed: the nodes that were added, in their order; the nodes held before whose phase went down, in no
@@ -40,5 +43,9 @@ impl Model for Change {
 
     ghost Value = { ChangeValue };
 
-    ghost view = { λ change. record { added = change.added.items; lowered = change.lowered.items; markers = change.markers.items } };
+    ghost view = { λ change. record {
+      added = change.added.items;
+      lowered = change.lowered.items;
+      markers = change.markers.items;
+    } };
 }

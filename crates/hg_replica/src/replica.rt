@@ -2,7 +2,8 @@
 //!
 //! The store comes first in each call that grows both, since what it added is cut off its end again where the history
 //! refuses. So a refusal costs what was taken in, and never a copy.
-ghost use Rattle.std.specs.Prelude.{IfOk, IsErrOf, IsOkAnd, MatchOption, IsTrue, Some, [], length, slice_get, ◌≡◌, ◌≤◌, ◌↔◌};
+ghost use Rattle.std.specs.Prelude.{IfOk, IsErrOf, IsOkAnd, MatchOption, IsTrue, Some, [], length, slice_get, ◌≡◌, ◌≤◌};
+ghost use Rattle.std.specs.Prelude.{◌↔◌};
 ghost use Rattle.hg_phases.specs.State.{Held, changesets, state_of, Holds, IsPhaseOf};
 ghost use Rattle.hg_phases.specs.Roots.{AreRoots};
 ghost use Rattle.hg_obsstore.specs.Markers.{AreApart};
@@ -67,9 +68,9 @@ impl Replica {
         }
     }
 
-    /// The replica of these changesets, in their order and each once, and of this store. Each changeset has the highest phase
-    /// of a listed root that is it or an ancestor of it, in whatever order and however often roots are listed, and is public
-    /// where there is none. Roots that aren't among the changesets say nothing.
+    /// The replica of these changesets, in their order and each once, and of this store. Each changeset has the highest
+    /// phase of a listed root that is it or an ancestor of it, in whatever order and however often roots are listed,
+    /// and is public where there is none. Roots that aren't among the changesets say nothing.
     ///
     /// Refuses as [`absorb`](Replica::absorb) does: the first [`Fault::UnknownParent`] or [`Fault::Collision`].
     pub fn open(changesets: &[Changeset], roots: &Roots, store: Store) -> Result<Replica, Fault>
@@ -90,8 +91,8 @@ impl Replica {
         }
     }
 
-    /// Its roots: exactly the draft and secret changesets none of whose parents has their phase, each once, in the graph's
-    /// order.
+    /// Its roots: exactly the draft and secret changesets none of whose parents has their phase, each once, in the
+    /// graph's order.
     pub fn roots(&self) -> Result<Roots, AllocError>
         ensures roots { IfOk result (AreRoots self.now.history) }
         ensures valid { IsValid self.now }
@@ -138,7 +139,8 @@ impl Replica {
 
     /// The phase of the changeset with this id, if it is held.
     pub fn phase_of(&self, node: Node) -> Result<Option<Phase>, AllocError>
-        ensures phase { IsOkAnd result (λ phase. MatchOption phase (¬ (Holds self.now.history node)) (IsPhaseOf self.now.history node)) }
+        ensures phase { IsOkAnd result
+            (λ phase. MatchOption phase (¬ (Holds self.now.history node)) (IsPhaseOf self.now.history node)) }
         ensures valid { IsValid self.now }
     {
         self.history.phase_of(node)
@@ -146,16 +148,17 @@ impl Replica {
 
     /// The phase of the changeset at a place of the graph, where there is one. It takes no look-up.
     pub fn phase_at(&self, place: usize) -> Option<Phase>
-        ensures { MatchOption result (length self.now.history.held ≤ place) (λ phase. (h : Held) × (slice_get self.now.history.held place ≡ Some h) × (h.phase ≡ phase)) }
+        ensures { MatchOption result (length self.now.history.held ≤ place)
+            (λ phase. (h : Held) × (slice_get self.now.history.held place ≡ Some h) × (h.phase ≡ phase)) }
     {
         self.history.phase_at(place)
     }
 
     /// Takes in a part: the replica goes to the least state above its own that covers the part. What is new stands
     /// last, in the part's order. The first fault is told, of the changesets in their order and then of the bounds in
-    /// theirs; a refusal leaves the replica as it was. Markers come before changesets, so want of memory is told in place of
-    /// a fault only where a marker is new, or where the history grew before the fault was met. What is covered already is
-    /// absorbed without memory.
+    /// theirs; a refusal leaves the replica as it was. Markers come before changesets, so want of memory is told in
+    /// place of a fault only where a marker is new, or where the history grew before the fault was met. What is covered
+    /// already is absorbed without memory.
     pub fn absorb(&mut self, part: &Part) -> Result<Change, Fault>
         ensures answer { AbsorbAnswer self.old part.now result self.new }
         ensures memory { IsErrOf result Fault.NoMemory → IsGrowthBeforeFault self.old part.now }
@@ -173,8 +176,8 @@ impl Replica {
         answer
     }
 
-    /// Takes in a part as [`absorb`](Replica::absorb) does, but moves the changesets and the markers that aren't held in place
-    /// of copying them. The others are dropped, and after a refusal all are.
+    /// Takes in a part as [`absorb`](Replica::absorb) does, but moves the changesets and the markers that aren't held
+    /// in place of copying them. The others are dropped, and after a refusal all are.
     pub fn absorb_owned(&mut self, part: Part) -> Result<Change, Fault>
         ensures answer { AbsorbAnswer self.old part result self.new }
         ensures memory { IsErrOf result Fault.NoMemory → IsGrowthBeforeFault self.old part }
@@ -239,8 +242,8 @@ impl Replica {
     }
 }
 
-// Where the history was changed, tells of the markers too; where it refused, the store forgets those from the place `before`
-// on.
+// Where the history was changed, tells of the markers too; where it refused, the store forgets those from the place
+// `before` on.
 fn keep_or_forget(
     store: &mut Store,
     before: usize,

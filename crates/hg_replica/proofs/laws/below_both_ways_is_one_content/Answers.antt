@@ -12,4 +12,5 @@ pub returns-clause-content : goal.returns-clause-content
 returns-clause-content c s t v w = (content-same s t v w, same_from_content s t v w)
 
 pub returns-clause-unordered : goal.returns-clause-unordered
-returns-clause-unordered c s t u v ks s_valid t_valid v_valid same_below same_above l = least-unordered s t u v ks s_valid t_valid v_valid same_below same_above l
+returns-clause-unordered c s t u v ks s_valid t_valid v_valid same_below same_above l =
+    least-unordered s t u v ks s_valid t_valid v_valid same_below same_above l

@@ -1,4 +1,6 @@
-use Rattle.hg_replica.proofs.ContentLemmas.{content-valid, content-below, below_from_content, content-covers, covers_from_content, content-after, least_from_content, content-fault, join-contents, join_from_content}
+use Rattle.hg_replica.proofs.ContentLemmas.{content-valid, content-below, below_from_content, content-covers}
+use Rattle.hg_replica.proofs.ContentLemmas.{covers_from_content, content-after, least_from_content, content-fault}
+use Rattle.hg_replica.proofs.ContentLemmas.{join-contents, join_from_content}
 use Rattle.hg_replica.proofs.laws.contents_say_what_states_say.Goals as goal
 
 pub returns-clause-valid : goal.returns-clause-valid

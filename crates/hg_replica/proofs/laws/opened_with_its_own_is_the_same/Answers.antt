@@ -12,4 +12,5 @@ unfolding OpenAnswer
 returns-clause-opened c s read fault valid h = own-refused (changesets s.history) valid.graph read fault h
 
 pub returns-clause-same : goal.returns-clause-same
-returns-clause-same c s t roots read text valid are written h opened = own-same-replica s t roots read text valid are written h opened
+returns-clause-same c s t roots read text valid are written h opened =
+    own-same-replica s t roots read text valid are written h opened

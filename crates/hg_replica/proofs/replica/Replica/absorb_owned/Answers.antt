@@ -12,30 +12,49 @@ module _ (c : After-drop-bounds-2) where
   s = record { history = c.self.inside.history; markers = c.self.inside.store }
 
   abbrev k : PartValue
-  k = record { history = record { changesets = c.part.inside.changesets.items; bounds = c.deref.result.now }; markers = c.part.inside.markers.items }
+  k = record {
+    history = record { changesets = c.part.inside.changesets.items; bounds = c.deref.result.now };
+    markers = c.part.inside.markers.items;
+  }
 
   k_is : k ≡ c.args.part
-  k_is = (λ i. record { history = record { changesets = c.part.inside.changesets.items; bounds = c.deref.ensures.value i }; markers = c.part.inside.markers.items }) ∙ c.part.view_is
+  k_is = (λ i.
+      record {
+        history = record { changesets = c.part.inside.changesets.items; bounds = c.deref.ensures.value i };
+        markers = c.part.inside.markers.items;
+      }) ∙ c.part.view_is
 
 pub returns-clause-answer : goal.returns-clause-answer
 returns-clause-answer c =
     let h = c.absorb_owned-absorbed.new.self in
     let kept = c.keep_or_forget-answer.new.store in
-    let answer = kept_answer (s c) (k c) h c.absorb_owned.new.self kept c.len-before.result c.in-Ok.markers.items c.absorb_owned-absorbed.result c.keep_or_forget-answer.result c.keep_or_forget-answer.ensures c.len-before.ensures c.in-Ok.ensures.ok c.in-Ok.ensures.union c.in-Ok.ensures.places c.absorb_owned-absorbed.ensures.answer in
-    subst (λ u. AbsorbAnswer u c.args.part c.keep_or_forget-answer.result (record { history = h; markers = kept })) c.self.view_is
-    (subst (λ x. AbsorbAnswer (s c) x c.keep_or_forget-answer.result (record { history = h; markers = kept })) (k_is c) answer)
+    let answer =
+    kept_answer (s c) (k c) h c.absorb_owned.new.self kept c.len-before.result c.in-Ok.markers.items
+    c.absorb_owned-absorbed.result c.keep_or_forget-answer.result c.keep_or_forget-answer.ensures
+    c.len-before.ensures c.in-Ok.ensures.ok c.in-Ok.ensures.union c.in-Ok.ensures.places
+    c.absorb_owned-absorbed.ensures.answer in
+    subst (λ u. AbsorbAnswer u c.args.part c.keep_or_forget-answer.result (record { history = h; markers = kept }))
+    c.self.view_is
+    (subst (λ x. AbsorbAnswer (s c) x c.keep_or_forget-answer.result (record { history = h; markers = kept })) (k_is c)
+    answer)
 
 pub returns-clause-memory : goal.returns-clause-memory
 returns-clause-memory c is =
-    let growth = kept_growth (s c) (k c) c.absorb_owned.new.self c.keep_or_forget-answer.new.store c.len-before.result c.in-Ok.markers.items c.absorb_owned-absorbed.result c.keep_or_forget-answer.result c.keep_or_forget-answer.ensures c.absorb_owned-absorbed.ensures.memory is in
+    let growth =
+    kept_growth (s c) (k c) c.absorb_owned.new.self c.keep_or_forget-answer.new.store c.len-before.result
+    c.in-Ok.markers.items c.absorb_owned-absorbed.result c.keep_or_forget-answer.result
+    c.keep_or_forget-answer.ensures c.absorb_owned-absorbed.ensures.memory is in
     subst (λ u. IsGrowthBeforeFault u c.args.part) c.self.view_is (subst (IsGrowthBeforeFault (s c)) (k_is c) growth)
 
 pub returns-in-Err-clause-answer : goal.returns-in-Err-clause-answer
 unfolding AbsorbAnswer
-returns-in-Err-clause-answer c = (tt, (λ i. record { history = c.self.inside.history; markers = c.in-Err.ensures.err i }) ∙ c.self.view_is)
+returns-in-Err-clause-answer c =
+    (tt, (λ i. record { history = c.self.inside.history; markers = c.in-Err.ensures.err i }) ∙ c.self.view_is)
 
 pub returns-in-Err-clause-memory : goal.returns-in-Err-clause-memory
 unfolding IsGrowthBeforeFault
 returns-in-Err-clause-memory c =
-    let new = subst (λ ms. new_among c.self.inside.store ms ≢ []) (ap (λ (x : PartValue). x.markers) c.part.view_is) c.in-Err.ensures.memory in
+    let new =
+    subst (λ ms. new_among c.self.inside.store ms ≢ []) (ap (λ (x : PartValue). x.markers) c.part.view_is)
+    c.in-Err.ensures.memory in
     λ e. inl (subst (λ (u : ReplicaState). new_among u.markers c.args.part.markers ≢ []) c.self.view_is new)

@@ -16,8 +16,11 @@ returns-in-Ok-join-clause-answer c =
     let s : ReplicaState = record { history = c.self.inside.history; markers = c.self.inside.store } in
     let o : ReplicaState = record { history = c.other.inside.history; markers = c.other.inside.store } in
     let t : ReplicaState = record { history = c.join-2.new.self; markers = c.join.new.self } in
-    let answer = c.in-Ok-join.ensures.answer in
-    (answer.0, subst (λ u. IsJoin c.args.self.now u t) c.other.view_is (subst (λ u. IsJoin u o t) c.self.view_is (joined s o t answer.1 c.in-Ok.ensures.union)))
+    let answer = c.in-Ok-join.ensures.answer in (
+      answer.0,
+      subst (λ u. IsJoin c.args.self.now u t) c.other.view_is
+          (subst (λ u. IsJoin u o t) c.self.view_is (joined s o t answer.1 c.in-Ok.ensures.union)),
+    )
 
 pub returns-in-Err-join-clause-answer : goal.returns-in-Err-join-clause-answer
 unfolding JoinAnswer
@@ -27,14 +30,17 @@ returns-in-Err-join-clause-answer c =
     let answer = c.in-Err-join.ensures.answer in
     let old = c.self.inside.store in
     let new = new_among old c.other.inside.store in
-    let back : c.truncate.new.self ≡ old = c.truncate.ensures ∙ (λ i. take (c.len-before.ensures i) (c.in-Ok.ensures.ok i)) ∙ take-append_seam old new in (
-      subst (λ u. IsJoinFault c.args.self.now.history u.history fault) c.other.view_is (subst (λ u. IsJoinFault u.history o.history fault) c.self.view_is answer.0),
+    let back : c.truncate.new.self ≡ old =
+    c.truncate.ensures ∙ (λ i. take (c.len-before.ensures i) (c.in-Ok.ensures.ok i)) ∙ take-append_seam old new in (
+      subst (λ u. IsJoinFault c.args.self.now.history u.history fault) c.other.view_is
+          (subst (λ u. IsJoinFault u.history o.history fault) c.self.view_is answer.0),
       (λ i. record { history = answer.1 i; markers = back i }) ∙ c.self.view_is,
     )
 
 pub returns-in-Err-clause-answer : goal.returns-in-Err-clause-answer
 unfolding JoinAnswer
-returns-in-Err-clause-answer c = (tt, (λ i. record { history = c.self.inside.history; markers = c.in-Err.ensures.err i }) ∙ c.self.view_is)
+returns-in-Err-clause-answer c =
+    (tt, (λ i. record { history = c.self.inside.history; markers = c.in-Err.ensures.err i }) ∙ c.self.view_is)
 
 pub returns-in-Err-join-clause-memory : goal.returns-in-Err-join-clause-memory
 unfolding IsGrowthBeforeFault
@@ -42,9 +48,14 @@ returns-in-Err-join-clause-memory c =
     let fault = c.in-Err-join.fault in
     λ e.
     let same : fault ≡ NoMemory = cc in
-    inr (subst (λ (u : ReplicaState). IsHistoryGrowth c.args.self.now.history (history_part_of u.history)) c.other.view_is (subst (λ (u : ReplicaState). IsHistoryGrowth u.history (history_part_of c.other.inside.history)) c.self.view_is (c.in-Err-join.ensures.memory (ap (λ x. Err x) same))))
+    inr (subst (λ (u : ReplicaState). IsHistoryGrowth c.args.self.now.history (history_part_of u.history))
+    c.other.view_is
+    (subst (λ (u : ReplicaState). IsHistoryGrowth u.history (history_part_of c.other.inside.history)) c.self.view_is
+    (c.in-Err-join.ensures.memory (ap (λ x. Err x) same))))
 
 pub returns-in-Err-clause-memory : goal.returns-in-Err-clause-memory
 unfolding IsGrowthBeforeFault
 returns-in-Err-clause-memory c =
-    λ e. inl (subst (λ (u : ReplicaState). new_among c.args.self.now.markers u.markers ≢ []) c.other.view_is (subst (λ (u : ReplicaState). new_among u.markers c.other.inside.store ≢ []) c.self.view_is c.in-Err.ensures.memory))
+    λ e. inl (subst (λ (u : ReplicaState). new_among c.args.self.now.markers u.markers ≢ []) c.other.view_is
+    (subst (λ (u : ReplicaState). new_among u.markers c.other.inside.store ≢ []) c.self.view_is
+    c.in-Err.ensures.memory))
