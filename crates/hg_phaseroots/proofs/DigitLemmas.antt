@@ -1,5 +1,6 @@
 -- The number of the digits so far.
-use Rattle.std.proofs.Common.{◌≡◌, ℕ, ◌+◌, ◌-◌, ◌*◌, ◌^◌, ◌<◌, ◌≤◌, true, List, [], ◌∷◌, ◌++◌, length, refl, ◌∙◌, arith, lit<}
+use Rattle.std.proofs.Common.{◌≡◌, ℕ, ◌+◌, ◌-◌, ◌*◌, ◌^◌, ◌<◌, ◌≤◌, true, List, [], ◌∷◌, ◌++◌, length, refl, ◌∙◌, arith}
+use Rattle.std.proofs.Common.{lit<}
 use Rattle.std.specs.List.{list_all}
 use Rattle.std.specs.Char.{digit_value}
 use Rattle.std.specs.Str.Parse.{digits_value, AllDigits}
@@ -20,7 +21,8 @@ decimal_value c low high = rw (le-ltb c 48 low, lt-ltb c 58 (omega arith)) refl
 pub none_yet : IsNumberSoFar [] 0
 none_yet = record { digits = tt; decimal = refl; number = refl }
 
-pub one_more : (digits : List ℕ) (c n : ℕ) → 48 ≤ c → c ≤ 57 → IsNumberSoFar digits n → IsNumberSoFar (digits ++ c ∷ []) (n * 10 + (c - 48))
+pub one_more : (digits : List ℕ) (c n : ℕ) → 48 ≤ c → c ≤ 57 → IsNumberSoFar digits n
+    → IsNumberSoFar (digits ++ c ∷ []) (n * 10 + (c - 48))
 one_more digits c n low high h =
     let v = decimal_value c low high in
     let below : digit_value c < 10 = rw v (omega arith) in
@@ -33,5 +35,6 @@ one_more digits c n low high h =
 pub small : (digits : List ℕ) (n : ℕ) → length digits < 9 → IsNumberSoFar digits n → n < 100000000
 small digits n lt h =
     let a : n < 10 ^ length digits = rw h.number (digits_value-lt 10 digits h.digits) in
-    let b : 10 ^ length digits ≤ 10 ^ 8 = pow-le-pow_right {n = 10} (lit< tt) {i = length digits} {j = 8} (omega arith) in
+    let b : 10 ^ length digits ≤ 10 ^ 8 = pow-le-pow_right {n = 10} (lit< tt) {i = length digits}
+    {j = 8} (omega arith) in
     omega (arith, a, b)

@@ -1,5 +1,6 @@
 -- Reading line by line.
-use Rattle.std.proofs.Common.{◌≡◌, ℕ, ◌+◌, List, [], ◌∷◌, ◌++◌, Option, Result, Ok, Err, Some, None, append_assoc, append-nil, refl, sym, ap, ◌∙◌}
+use Rattle.std.proofs.Common.{◌≡◌, ℕ, ◌+◌, List, [], ◌∷◌, ◌++◌, Option, Result, Ok, Err, Some, None, append_assoc}
+use Rattle.std.proofs.Common.{append-nil, refl, sym, ap, ◌∙◌}
 use Rattle.hg_phaseroots.specs.declared.error.RootsError.{RootsError}
 use Rattle.hg_phaseroots.specs.Lines.{lines_of}
 use Rattle.hg_phaseroots.specs.Reading.{Root, root_in, then_roots, roots_in, roots_of}
@@ -13,7 +14,8 @@ pub after_none : (r : Result (List Root) RootsError) → r ≡ after_roots [] r
 after_none (Ok more) = refl
 after_none (Err e) = refl
 
-pub after_one_more : (roots : List Root) (root : Root) (r : Result (List Root) RootsError) → after_roots roots (then_roots (Ok (Some root)) r) ≡ after_roots (roots ++ root ∷ []) r
+pub after_one_more : (roots : List Root) (root : Root) (r : Result (List Root) RootsError)
+    → after_roots roots (then_roots (Ok (Some root)) r) ≡ after_roots (roots ++ root ∷ []) r
 after_one_more roots root (Ok more) = ap (λ rs. Ok rs) (sym (append_assoc roots (root ∷ []) more))
 after_one_more roots root (Err e) = refl
 
@@ -21,7 +23,8 @@ after_one_more roots root (Err e) = refl
 abbrev pub IsReadTo : List ℕ → List Root → ℕ → List ℕ → Type 0
 IsReadTo text roots n rest = roots_of text ≡ after_roots roots (roots_in n (lines_of rest))
 
-module _ (text : List ℕ) (roots : List Root) (n : ℕ) (rest line after : List ℕ) (split : lines_of rest ≡ line ∷ lines_of after) (read : IsReadTo text roots n rest) where
+module _ (text : List ℕ) (roots : List Root) (n : ℕ) (rest line after : List ℕ)
+    (split : lines_of rest ≡ line ∷ lines_of after) (read : IsReadTo text roots n rest) where
   pub read_root : (root : Root) → Ok (Some root) ≡ root_in n line → IsReadTo text (roots ++ root ∷ []) (n + 1) after
   read_root root says =
       read ∙ ap (λ ls. after_roots roots (roots_in n ls)) split
@@ -43,5 +46,7 @@ module _ (text : List ℕ) (roots : List Root) (n : ℕ) (rest line after : List
   read_line None says = (roots, read_none says)
   read_line (Some root) says = (roots ++ root ∷ [], read_root root says)
 
-pub read_all : (text : List ℕ) (roots : List Root) (n : ℕ) (rest : List ℕ) → rest ≡ [] → IsReadTo text roots n rest → roots_of text ≡ Ok roots
-read_all text roots n rest e read = read ∙ ap (λ bytes. after_roots roots (roots_in n (lines_of bytes))) e ∙ ap (λ rs. Ok rs) (append-nil roots)
+pub read_all : (text : List ℕ) (roots : List Root) (n : ℕ) (rest : List ℕ) → rest ≡ [] → IsReadTo text roots n rest
+    → roots_of text ≡ Ok roots
+read_all text roots n rest e read = read ∙ ap (λ bytes. after_roots roots (roots_in n (lines_of bytes))) e
+    ∙ ap (λ rs. Ok rs) (append-nil roots)

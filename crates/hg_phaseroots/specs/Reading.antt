@@ -1,5 +1,6 @@
 -- What a text of roots says.
-use Rattle.std.specs.Prelude.{◌≡◌, ℕ, ◌+◌, ◌==◌, List, [], ◌∷◌, length, take, drop, position, Bool, ◌&&◌, nat_le, Option, Some, None, Result, Ok, Err, if◌then◌else◌}
+use Rattle.std.specs.Prelude.{◌≡◌, ℕ, ◌+◌, ◌==◌, List, [], ◌∷◌, length, take, drop, position, Bool, ◌&&◌, nat_le}
+use Rattle.std.specs.Prelude.{Option, Some, None, Result, Ok, Err, if◌then◌else◌}
 use Rattle.std.specs.List.{list_all}
 use Rattle.std.specs.Result.{result_ok}
 use Rattle.std.specs.Str.Parse.{digits_value}
@@ -24,7 +25,8 @@ is_decimal b = nat_le 48 b && nat_le b 57
 
 -- the number that one to nine decimal digits write
 abbrev pub number_of : List ℕ → Option ℕ
-number_of digits = if nat_le 1 (length digits) && nat_le (length digits) 9 && list_all is_decimal digits then Some (digits_value 10 digits) else None
+number_of digits = if nat_le 1 (length digits) && nat_le (length digits) 9 && list_all is_decimal digits then Some
+    (digits_value 10 digits) else None
 
 -- the root of a phase's number and a node; public, 0, is no root
 abbrev pub root_of : ℕ → ℕ → Node → Result (Option Root) RootsError

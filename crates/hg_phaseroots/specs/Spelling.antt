@@ -25,7 +25,8 @@ pub record IsLine (number : ℕ) (node : Node) (line : List ℕ) : Type 0 where
 
 -- what a line with this number lists: 0 is public, which is no root, 1 is draft, and 2 is secret
 abbrev pub IsListed : ℕ → Node → List Root → Type 0
-IsListed number node roots = ((number ≡ 0) × (roots ≡ [])) ⊎ (((number ≡ 1) × (roots ≡ (Draft, node) ∷ [])) ⊎ ((number ≡ 2) × (roots ≡ (Secret, node) ∷ [])))
+IsListed number node roots = ((number ≡ 0) × (roots ≡ []))
+    ⊎ (((number ≡ 1) × (roots ≡ (Draft, node) ∷ [])) ⊎ ((number ≡ 2) × (roots ≡ (Secret, node) ∷ [])))
 
 -- the line lists these roots
 pub record Lists (roots : List Root) (line : List ℕ) : Type 0 where
@@ -37,7 +38,8 @@ pub record Lists (roots : List Root) (line : List ℕ) : Type 0 where
 -- the lines list these roots, in their order
 abbrev pub AreSpelled : List Root → List (List ℕ) → Type 0
 AreSpelled roots [] = roots ≡ []
-AreSpelled roots (line ∷ lines) = (first : List Root) × (others : List Root) × Lists first line × AreSpelled others lines × (roots ≡ first ++ others)
+AreSpelled roots (line ∷ lines) = (first : List Root) × (others : List Root) × Lists first line
+    × AreSpelled others lines × (roots ≡ first ++ others)
 
 -- the text spells these roots, line by line
 abbrev pub IsSpelling : List Root → List ℕ → Type 0

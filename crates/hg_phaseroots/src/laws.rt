@@ -7,7 +7,10 @@ ghost use Rattle.hg_phaseroots.specs.Writing.{AreInOrder, text_of};
 
 /// Roots have one written order, which lists those that aren't public. Read back, their text lists them in that order.
 pub fn roots_read_back()
-    ensures one_order { (roots sorted others : List Root) → AreInOrder roots sorted → AreInOrder roots others → sorted ≡ others }
-    ensures same { (roots sorted : List Root) → AreInOrder roots sorted → (r : Root) → Contains sorted r ↔ (Contains roots r × (r.0 ≢ Public)) }
-    ensures again { (roots sorted : List Root) → ((r : Root) → Contains roots r → IsNode r.1) → AreInOrder roots sorted → roots_of (text_of sorted) ≡ Ok sorted }
+    ensures one_order { (roots sorted others : List Root) → AreInOrder roots sorted → AreInOrder roots others
+        → sorted ≡ others }
+    ensures same { (roots sorted : List Root) → AreInOrder roots sorted → (r : Root) → Contains sorted r
+        ↔ (Contains roots r × (r.0 ≢ Public)) }
+    ensures again { (roots sorted : List Root) → ((r : Root) → Contains roots r → IsNode r.1) → AreInOrder roots sorted
+        → roots_of (text_of sorted) ≡ Ok sorted }
 {}

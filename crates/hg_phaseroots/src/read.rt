@@ -10,7 +10,8 @@ use hg_changeset::Node;
 use hg_phases::{Phase, Roots};
 use std::alloc::{AllocError, Global};
 
-/// Reads roots: the nodes and phases that the lines list, in their order. A line with 0 is accepted and lists nothing; the
+/// Reads roots: the nodes and phases that the lines list, in their order. A line with 0 is accepted and lists nothing;
+/// the
 /// last line may lack its line feed.
 ///
 /// Refuses with the first line at fault: [`RootsError::BadLine`] where it isn't one to nine decimal digits, a space and
@@ -18,7 +19,8 @@ use std::alloc::{AllocError, Global};
 /// lines are checked before any memory is taken.
 pub fn read_roots(alloc: Global, text: &[u8]) -> Result<Roots, RootsError>
     // What is spelled so is read, unless memory runs out, and nothing else is.
-    ensures only { (roots : List Root) → IsSpelling roots text.now → MatchResult result (λ read. read ≡ roots) (λ error. error ≡ RootsError.NoMemory) }
+    ensures only { (roots : List Root) → IsSpelling roots text.now
+        → MatchResult result (λ read. read ≡ roots) (λ error. error ≡ RootsError.NoMemory) }
     ensures found { IfOk result (λ roots. IsSpelling roots text.now) }
 
     // The fault is the one that there is, and where there is one it is told: want of memory never stands for it.

@@ -12,16 +12,19 @@ use hg_phases::{Phase, Roots};
 use std::alloc::{AllocError, Global};
 use std::collections::BTreeSet;
 
-/// The text of roots: a line for each, draft ones first, then secret ones, each in ascending order of ids and once. Public
+/// The text of roots: a line for each, draft ones first, then secret ones, each in ascending order of ids and once.
+/// Public
 /// ones have no line.
 pub fn roots_text(roots: &Roots) -> Result<Vec<u8>, AllocError>
     ensures written { IfOk result (λ text. IsWritten roots.now text.items) }
 
     // It is a spelling of the roots in that order.
-    ensures spells { IfOk result (λ text. (sorted : List Root) → AreInOrder roots.now sorted → IsSpelling sorted text.items) }
+    ensures spells { IfOk result (λ text. (sorted : List Root) → AreInOrder roots.now sorted
+        → IsSpelling sorted text.items) }
 
     // Read back, the text lists the roots in that order.
-    ensures reads_back { IfOk result (λ text. (sorted : List Root) → AreInOrder roots.now sorted → roots_of text.items ≡ Ok sorted) }
+    ensures reads_back { IfOk result (λ text. (sorted : List Root) → AreInOrder roots.now sorted
+        → roots_of text.items ≡ Ok sorted) }
 {
     let alloc = roots.allocator();
     let drafts = nodes_with(alloc, roots.as_slice(), Phase::Draft)?;

@@ -52,7 +52,8 @@ fn sorted_and_once(rt: HostRuntime) {
     ];
     let text = roots_text(&listed(&rt, alloc, &roots)).expect(&rt, "a text");
     let expected =
-        b"1 1111111111111111111111111111111111111111\n1 2222222222222222222222222222222222222222\n2 1111111111111111111111111111111111111111\n";
+        b"1 1111111111111111111111111111111111111111\n1 2222222222222222222222222222222222222222\n\
+        2 1111111111111111111111111111111111111111\n";
     assert!(rt; text.as_slice() == expected.as_slice());
     let none = roots_text(&listed(&rt, alloc, &[])).expect(&rt, "a text");
     assert!(rt; none.is_empty());
@@ -63,7 +64,8 @@ fn spellings(rt: HostRuntime) {
     let alloc = rt.alloc();
     let node = Node::from_hex(DIGITS).expect(&rt, "an id");
     let text =
-        b"000000002 B80DE5D138758541C5F05265AD144AB9FA86D1DB\n0 b80de5d138758541c5f05265ad144ab9fa86d1db\n1 b80de5d138758541c5f05265ad144ab9fa86d1db";
+        b"000000002 B80DE5D138758541C5F05265AD144AB9FA86D1DB\n0 b80de5d138758541c5f05265ad144ab9fa86d1db\n\
+        1 b80de5d138758541c5f05265ad144ab9fa86d1db";
     let expected = [(Phase::Secret, node), (Phase::Draft, node)];
     assert!(rt; read(&rt, alloc, text).as_slice() == expected.as_slice());
     assert!(rt; read(&rt, alloc, b"").is_empty());

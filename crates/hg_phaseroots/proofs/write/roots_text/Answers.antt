@@ -8,19 +8,24 @@ use Rattle.hg_phaseroots.proofs.write.roots_text.Goals as goal
 
 module _ (c : goal.After-drop-drafts-2) where
   draft : AreListed c.args.roots.now Draft c.in_ok-drafts.drafts.keys
-  draft = subst (λ rs. AreListed rs Draft c.in_ok-drafts.drafts.keys) c.as_slice.ensures (record { ascending = c.in_ok-write_lines.ensures.ascending; same = c.in_ok-drafts.ensures })
+  draft = subst (λ rs. AreListed rs Draft c.in_ok-drafts.drafts.keys) c.as_slice.ensures
+      (record { ascending = c.in_ok-write_lines.ensures.ascending; same = c.in_ok-drafts.ensures })
 
   secret : AreListed c.args.roots.now Secret c.in_ok-secrets.secrets.keys
-  secret = subst (λ rs. AreListed rs Secret c.in_ok-secrets.secrets.keys) c.as_slice-2.ensures (record { ascending = c.in_ok-write_lines-2.ensures.ascending; same = c.in_ok-secrets.ensures })
+  secret = subst (λ rs. AreListed rs Secret c.in_ok-secrets.secrets.keys) c.as_slice-2.ensures
+      (record { ascending = c.in_ok-write_lines-2.ensures.ascending; same = c.in_ok-secrets.ensures })
 
 pub returns-clause-written : goal.returns-clause-written
 returns-clause-written c =
-    is_written c.args.roots.now c.in_ok-drafts.drafts.keys c.in_ok-secrets.secrets.keys c.new-text.result.items c.write_lines.new.text.items c.write_lines-2.new.text.items (draft c) (secret c)
+    is_written c.args.roots.now c.in_ok-drafts.drafts.keys c.in_ok-secrets.secrets.keys c.new-text.result.items
+    c.write_lines.new.text.items c.write_lines-2.new.text.items (draft c) (secret c)
     c.new-text.ensures.items c.in_ok-write_lines.ensures.written c.in_ok-write_lines-2.ensures.written
 
-read_back : (c : goal.After-drop-drafts-2) (sorted : List Root) → AreInOrder c.args.roots.now sorted → roots_of c.write_lines-2.new.text.items ≡ Ok sorted
+read_back : (c : goal.After-drop-drafts-2) (sorted : List Root) → AreInOrder c.args.roots.now sorted
+    → roots_of c.write_lines-2.new.text.items ≡ Ok sorted
 read_back c =
-    is_read_back c.args.roots.now c.in_ok-drafts.drafts.keys c.in_ok-secrets.secrets.keys c.new-text.result.items c.write_lines.new.text.items c.write_lines-2.new.text.items (draft c) (secret c)
+    is_read_back c.args.roots.now c.in_ok-drafts.drafts.keys c.in_ok-secrets.secrets.keys c.new-text.result.items
+    c.write_lines.new.text.items c.write_lines-2.new.text.items (draft c) (secret c)
     c.new-text.ensures.items c.in_ok-write_lines.ensures.written c.in_ok-write_lines-2.ensures.written
     c.in_ok-write_lines.ensures.ids c.in_ok-write_lines-2.ensures.ids
 
