@@ -295,14 +295,15 @@ not-too-large m e =
 pub small-or-large : (m : MessageValue) → IsMessage m → is_too_large m ≡ true → ⊥
 small-or-large m h e = true≢false (sym e ∙ rw (le-ltb count_limit (length m.changesets) h.changesets, le-ltb count_limit (length m.bounds) h.bounds, le-ltb count_limit (length (store_spelling m.markers)) h.store) refl)
 
--- to find and to copy is to offer
-pub find-then-copy : (s : ReplicaState) (common : List Node) (found : MessageValue) (r : Result MessageValue OfferRefusal) → FindAnswer s common (Ok found) → CopyAnswer found r → OfferAnswer s common r
-find-then-copy s common found (Ok m) h k = (h.0, subst (IsOffer s common) (sym k.1) h.1)
-find-then-copy s common found (Err (UnknownCommon n)) h k = absurd k
-find-then-copy s common found (Err TooLarge) h k = (h.0, (found, h.1, k))
-find-then-copy s common found (Err NoMemory) h k = h.0
+-- to find and to copy is to offer, where there is a changeset
+pub find-then-copy : (s : ReplicaState) (common : List Node) (found : MessageValue) (r : Result MessageValue OfferRefusal) → (changesets s.history ≢ [])
+    → FindAnswer s common (Ok found) → CopyAnswer found r → OfferAnswer s common r
+find-then-copy s common found (Ok m) some h k = (h.0, subst (IsOffer s common) (sym k.1) h.1)
+find-then-copy s common found (Err (UnknownCommon n)) some h k = absurd k
+find-then-copy s common found (Err TooLarge) some h k = (h.0, (found, h.1, k))
+find-then-copy s common found (Err NoMemory) some h k = (h.0, some)
 
 pub find-refused : (s : ReplicaState) (common : List Node) (refusal : OfferRefusal) → FindAnswer s common (Err refusal) → OfferAnswer s common (Err refusal)
 find-refused s common (UnknownCommon n) h = h
 find-refused s common TooLarge h = absurd h
-find-refused s common NoMemory h = h.0
+find-refused s common NoMemory h = h

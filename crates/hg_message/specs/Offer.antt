@@ -1,5 +1,5 @@
 -- What a replica offers to one that has some common nodes: first over what it contains, free of order, and then in which order it stands.
-use Rattle.std.specs.Prelude.{◌≡◌, ℕ, true, List, ◌++◌, map, take, slice_get, Some, Contains, ◌↔◌, Result, Ok, Err}
+use Rattle.std.specs.Prelude.{◌≡◌, ◌≢◌, ℕ, true, List, [], ◌++◌, map, take, slice_get, Some, Contains, ◌↔◌, Result, Ok, Err}
 use Rattle.std.specs.List.Sorted.{IsStrictlySortedBy}
 use Rattle.hg_changeset.specs.declared.node.Node.{Node}
 use Rattle.hg_changeset.specs.Node.{node_cmp}
@@ -91,9 +91,9 @@ pub record IsOffer (s : ReplicaState) (common : List Node) (m : MessageValue) : 
 abbrev pub IsFirstUnknown : Content → List Node → Node → Type 0
 IsFirstUnknown f common n = (i : ℕ) × (slice_get common i ≡ Some n) × ¬ (IsHeld f.0 n) × AreHeld f (take i common)
 
--- the answer to `offer`; memory can be wanting only where each common node is held
+-- the answer to `offer`; memory can be wanting only where each common node is held, and there is a changeset
 abbrev pub OfferAnswer : ReplicaState → List Node → Result MessageValue OfferRefusal → Type 0
 OfferAnswer s common (Ok m) = AreHeld (content_of s) common × IsOffer s common m
 OfferAnswer s common (Err (UnknownCommon n)) = IsFirstUnknown (content_of s) common n
 OfferAnswer s common (Err TooLarge) = AreHeld (content_of s) common × ((m : MessageValue) × IsOffer s common m × (is_too_large m ≡ true))
-OfferAnswer s common (Err NoMemory) = AreHeld (content_of s) common
+OfferAnswer s common (Err NoMemory) = AreHeld (content_of s) common × (changesets s.history ≢ [])

@@ -1,5 +1,5 @@
 //! Messages.
-ghost use Rattle.std.specs.Prelude.{◌≡◌, ◌<◌, IfOk, IsErrOf, Ok, length, not, nat_lt};
+ghost use Rattle.std.specs.Prelude.{◌≡◌, ◌<◌, [], IfOk, IsErrOf, Ok, length, not, nat_lt};
 ghost use Rattle.hg_marker.specs.Reading.{Gives};
 ghost use Rattle.hg_obsstore.specs.Spelling.{store_spelling};
 ghost use Rattle.hg_message.specs.Value.{MessageValue, IsMessage, count_limit, message_of};
@@ -107,6 +107,13 @@ impl Message {
             bounds,
             markers,
         })
+    }
+
+    // The message that says nothing. It takes no memory.
+    pub(crate) fn nothing(alloc: Global) -> Message
+        ensures { result ≡ record { changesets = []; bounds = []; markers = [] } }
+    {
+        Message::of_parts(Vec::new(alloc), Vec::new(alloc), Vec::new(alloc))
     }
 
     // The message of parts that were read.

@@ -17,11 +17,13 @@ use std::alloc::Global;
 ///
 /// Common changesets have their phases told too, since they may have moved. Refuses with the first [`OfferRefusal`] that
 /// applies, in the order in which they are numbered. An offer is found first and copied then, as [`Outgoing`] does: want of
-/// memory is told of one that would be too large only where memory ran out before it was found.
+/// memory is told of one that would be too large only where memory ran out before it was found. Of an empty replica it is
+/// never told.
 pub fn offer(alloc: Global, replica: &Replica, common: &[Node]) -> Result<Message, OfferRefusal>
     ensures { OfferAnswer replica.now common.now result }
 {
     match Outgoing::above(alloc, replica, common) {
+        Ok(_) if replica.graph().is_empty() => Ok(Message::nothing(alloc)),
         Ok(found) => found.message(),
         Err(refusal) => Err(refusal),
     }
