@@ -8,7 +8,8 @@ use Rattle.std.proofs.lemmas.List.Elements.{All-contains, All-from_recursion}
 use Rattle.hg_changeset.specs.declared.node.Node.{Node}
 use Rattle.hg_changeset.specs.Node.{node_cmp}
 use Rattle.hg_changeset.proofs.NodeLemmas.{node_cmp_total, node_cmp_exact, greater_is_less}
-use Rattle.hg_changeset.proofs.ListLemmas.{Contains-none, Contains-first, Contains-later, Contains-one, Contains-cons_cases}
+use Rattle.hg_changeset.proofs.ListLemmas.{Contains-none, Contains-first, Contains-later, Contains-one}
+use Rattle.hg_changeset.proofs.ListLemmas.{Contains-cons_cases}
 use Rattle.hg_graph.specs.Graph.{nodes}
 use Rattle.hg_phases.specs.declared.phase.Phase.TheVariants.{Public, Draft}
 use Rattle.hg_phases.specs.State.{changesets}
@@ -25,7 +26,10 @@ use Rattle.hg_message.proofs.OfferLemmas.{is-offer}
 
 pub all_by_members : {X : Type 0} (P : X → Type 0) (xs : List X) → ((x : X) → Contains xs x → P x) → AllByRecursion P xs
 all_by_members P [] each = tt
-all_by_members P (x ∷ xs) each = (each x (Contains-first x xs), all_by_members P xs (λ n at. each n (Contains-later x xs n at)))
+all_by_members P (x ∷ xs) each = (
+  each x (Contains-first x xs),
+  all_by_members P xs (λ n at. each n (Contains-later x xs n at)),
+)
 
 -- the nodes ascending, with one more
 record Put (k : Node) (xs : List Node) : Type 0 where
@@ -35,7 +39,18 @@ record Put (k : Node) (xs : List Node) : Type 0 where
 
 put : (k : Node) (xs : List Node) → IsStrictlySortedBy node_cmp xs → Put k xs
 unfolding IsStrictlySortedBy
-put k [] up = record { list = k ∷ []; ascending = (tt, tt); members = λ n. (λ h. inl (Contains-one k n h), λ h. elim h [ inl e ↦ subst (Contains (k ∷ [])) e (Contains-first k []) | inr at ↦ absurd (Contains-none n at) ]) }
+put k [] up = record {
+  list = k ∷ [];
+  ascending = (tt, tt);
+  members = λ n. (
+    λ h. inl (Contains-one k n h),
+    λ h. elim h [
+      | inl e ↦ subst (Contains (k ∷ [])) e (Contains-first k [])
+      | inr at ↦
+          absurd (Contains-none n at)
+    ],
+  );
+}
 put k (x ∷ xs) up = by (node_cmp k x) refl (put k xs up.1)
   where
     above : (n : Node) → Contains xs n → node_cmp x n ≡ Less
@@ -44,17 +59,46 @@ put k (x ∷ xs) up = by (node_cmp k x) refl (put k xs up.1)
     by : (o : Ordering) → node_cmp k x ≡ o → Put k xs → Put k (x ∷ xs)
     by Less e rest = record {
       list = k ∷ (x ∷ xs);
-      ascending = ((e, all_by_members (λ n. node_cmp k n ≡ Less) xs (λ n at. node_cmp_total.trans k x n e (above n at))), up);
-      members = λ n. (Contains-cons_cases k (x ∷ xs) n, λ h. elim h [ inl is ↦ subst (Contains (k ∷ (x ∷ xs))) is (Contains-first k (x ∷ xs)) | inr at ↦ Contains-later k (x ∷ xs) n at ]);
+      ascending = (
+        (
+          e,
+          all_by_members (λ n. node_cmp k n ≡ Less) xs
+              (λ n at. node_cmp_total.trans k x n e (above n at)),
+        ),
+        up,
+      );
+      members = λ n. (
+        Contains-cons_cases k (x ∷ xs) n,
+        λ h. elim h [
+          | inl is ↦ subst (Contains (k ∷ (x ∷ xs))) is (Contains-first k (x ∷ xs))
+          | inr at ↦
+              Contains-later k (x ∷ xs) n at
+        ],
+      );
     }
     by Equal e rest = record {
       list = x ∷ xs;
       ascending = up;
-      members = λ n. (λ h. inr h, λ h. elim h [ inl is ↦ subst (Contains (x ∷ xs)) (sym (node_cmp_exact k x e) ∙ is) (Contains-first x xs) | inr at ↦ at ]);
+      members = λ n. (
+        λ h. inr h,
+        λ h. elim h [
+          | inl is ↦ subst (Contains (x ∷ xs)) (sym (node_cmp_exact k x e) ∙ is)
+              (Contains-first x xs)
+          | inr at ↦ at
+        ],
+      );
     }
     by Greater e rest = record {
       list = x ∷ rest.list;
-      ascending = (all_by_members (λ n. node_cmp x n ≡ Less) rest.list (λ n at. elim ((rest.members n).0 at) [ inl is ↦ subst (λ y. node_cmp x y ≡ Less) is (greater_is_less k x e) | inr there ↦ above n there ]), rest.ascending);
+      ascending = (
+        all_by_members (λ n. node_cmp x n ≡ Less) rest.list
+            (λ n at. elim ((rest.members n).0 at) [
+              | inl is ↦ subst (λ y. node_cmp x y ≡ Less) is
+                  (greater_is_less k x e)
+              | inr there ↦ above n there
+            ]),
+        rest.ascending,
+      );
       members = λ n. (
         λ h. elim (Contains-cons_cases x rest.list n h) [
           | inl is ↦ inr (subst (Contains (x ∷ xs)) is (Contains-first x xs))
@@ -85,14 +129,20 @@ ascending_of (x ∷ xs) =
       list = one.list;
       ascending = one.ascending;
       members = λ n. (
-        λ h. elim ((one.members n).0 h) [ inl is ↦ subst (Contains (x ∷ xs)) is (Contains-first x xs) | inr at ↦ Contains-later x xs n ((rest.members n).0 at) ],
-        λ h. (one.members n).1 (elim (Contains-cons_cases x xs n h) [ inl is ↦ inl is | inr at ↦ inr ((rest.members n).1 at) ]),
+        λ h. elim ((one.members n).0 h) [
+          | inl is ↦ subst (Contains (x ∷ xs)) is (Contains-first x xs)
+          | inr at ↦
+              Contains-later x xs n ((rest.members n).0 at)
+        ],
+        λ h. (one.members n).1
+            (elim (Contains-cons_cases x xs n h) [ inl is ↦ inl is | inr at ↦ inr ((rest.members n).1 at) ]),
       );
     }
 
 -- ---- heads
 
-heads-exist : (s : ReplicaState) → IsValid s → (P : Node → Type 0) → ((n : Node) → P n → IsHeld (content_of s).0 n) → ((heads : List Node) → AreHeads (content_of s) P heads → ⊥) → ⊥
+heads-exist : (s : ReplicaState) → IsValid s → (P : Node → Type 0) → ((n : Node) → P n → IsHeld (content_of s).0 n)
+    → ((heads : List Node) → AreHeads (content_of s) P heads → ⊥) → ⊥
 heads-exist s valid P held none =
     let ns = nodes (changesets s.history) in
     those-exist (IsHead (content_of s) P) ns (λ found are.
@@ -106,7 +156,8 @@ heads-exist s valid P held none =
       ascending = up.ascending;
     }))
 
-pub offer-exists : (s : ReplicaState) (common : List Node) → IsValid s → ((m : MessageValue) → IsOffer s common m → ⊥) → ⊥
+pub offer-exists : (s : ReplicaState) (common : List Node) → IsValid s → ((m : MessageValue) → IsOffer s common m → ⊥)
+    → ⊥
 offer-exists s common valid none =
     let f = content_of s in
     those-exist (IsOutgoing f common) (changesets s.history) (λ cs out.
@@ -115,4 +166,11 @@ offer-exists s common valid none =
     heads-exist s valid (IsServedAs f Draft) (λ n h. (h.1.0, h.1.1)) (λ draft draft_heads.
     let bounds = bounds_in Public public ++ bounds_in Draft draft in
     none (record { changesets = cs; bounds = bounds; markers = ms })
-    (is-offer s valid common cs bounds ms out (record { public = public; draft = draft; public_heads = public_heads; draft_heads = draft_heads; both = refl }) relevant)))))
+    (is-offer s valid common cs bounds ms out
+    (record {
+      public = public;
+      draft = draft;
+      public_heads = public_heads;
+      draft_heads = draft_heads;
+      both = refl;
+    }) relevant)))))

@@ -5,6 +5,7 @@ pub mod BoundLemmas
 pub mod StoreLemmas
 pub mod LayoutLemmas
 pub mod MessageLemmas
+pub mod FirstFaultLemmas
 pub mod WritingLemmas
 pub mod SpellingLemmas
 pub mod ThoseLemmas

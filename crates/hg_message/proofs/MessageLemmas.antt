@@ -1,12 +1,14 @@
 -- A message is read from its spellings and from nothing else.
-use Rattle.std.proofs.Common.{◌≡◌, ℕ, Bool, true, false, eqb, cond, List, [], ◌∷◌, ◌++◌, length, Result, Ok, Err, refl, sym, ap, subst, ◌∙◌, arith}
+use Rattle.std.proofs.Common.{◌≡◌, ℕ, Bool, true, false, eqb, cond, List, [], ◌∷◌, ◌++◌, length, Result, Ok, Err, refl}
+use Rattle.std.proofs.Common.{sym, ap, subst, ◌∙◌, arith}
 use Rattle.std.specs.Result.{IfOk}
 use Rattle.std.proofs.lemmas.Bool.{eqb-true}
 use Rattle.std.proofs.lemmas.List.{append-nil, append_cancel_right, nil_from_length}
 use Rattle.hex.specs.Hex.{IsBytes}
 use Rattle.hg_marker.specs.declared.error.ReadError.{ReadError}
 use Rattle.hg_marker.specs.Reading.{number, byte, Gives}
-use Rattle.hg_marker.proofs.Formats.{IsFormat, Sequence, sequence, byte_format, IsByte, number_format, IsNumber, ok_is, wants_format, Wanted, says_format, SaysOnly}
+use Rattle.hg_marker.proofs.Formats.{IsFormat, Sequence, sequence, byte_format, IsByte, number_format, IsNumber, ok_is}
+use Rattle.hg_marker.proofs.Formats.{wants_format, Wanted, says_format, SaysOnly}
 use Rattle.hg_message.specs.declared.error.MessageFault.{MessageFault}
 use Rattle.hg_message.specs.declared.error.MessageFault.TheVariants.{BadMagic, BadVersion, Trailing}
 use Rattle.hg_message.specs.Value.{MessageValue}
@@ -20,9 +22,12 @@ use Rattle.hg_message.proofs.BoundLemmas.{bound_format}
 use Rattle.hg_message.proofs.StoreLemmas.{IsStoreField, store_format}
 
 abbrev Parts : MessageValue → List ℕ → Type 0
-Parts = Sequence IsNumber (λ magic. Sequence (Wanted (eqb magic magic_number)) (λ _. Sequence IsByte (λ version. Sequence (Wanted (eqb version 1)) (λ _.
-    Sequence IsNumber (λ count. Sequence (AreCounted IsRecord count) (λ changesets. Sequence IsNumber (λ entries. Sequence (AreCounted IsBound entries) (λ bounds.
-    Sequence IsNumber (λ len. Sequence (IsStoreField len) (λ markers. SaysOnly (record { changesets = changesets; bounds = bounds; markers = markers })))))))))))
+Parts = Sequence IsNumber (λ magic. Sequence (Wanted (eqb magic magic_number))
+    (λ _. Sequence IsByte (λ version. Sequence (Wanted (eqb version 1)) (λ _.
+    Sequence IsNumber (λ count. Sequence (AreCounted IsRecord count)
+    (λ changesets. Sequence IsNumber (λ entries. Sequence (AreCounted IsBound entries) (λ bounds.
+    Sequence IsNumber (λ len. Sequence (IsStoreField len) (λ markers. SaysOnly
+    (record { changesets = changesets; bounds = bounds; markers = markers })))))))))))
 
 to_spelling : (m : MessageValue) (bytes : List ℕ) → Parts m bytes → IsMessageSpelling m bytes
 to_spelling m bytes a =
@@ -39,14 +44,21 @@ to_spelling m bytes a =
     let magic_is : spelled a.first ≡ spelled magic_number = ap spelled (eqb-true _ _ b.first_spells.0) in
     let version_is : c.front ≡ 1 ∷ [] = c.first_spells.same ∙ ap (λ (v : ℕ). v ∷ []) (eqb-true _ _ d.first_spells.0) in
     let tail : k.back ≡ l.front = eq_then l.parts refl l.rest_spells.1 ∙ append-nil l.front in
-    let whole = eq_then a.parts (a.first_spells.same ∙ magic_is) (eq_then b.parts b.first_spells.1 (eq_then c.parts version_is (eq_then d.parts d.first_spells.1
-    (eq_then e.parts (e.first_spells.same ∙ ap spelled (sym f.first_spells.len)) (eq_then f.parts refl (eq_then g.parts (g.first_spells.same ∙ ap spelled (sym h.first_spells.len)) (eq_then h.parts refl
+    let whole = eq_then a.parts (a.first_spells.same ∙ magic_is)
+    (eq_then b.parts b.first_spells.1 (eq_then c.parts version_is (eq_then d.parts d.first_spells.1
+    (eq_then e.parts (e.first_spells.same ∙ ap spelled (sym f.first_spells.len))
+    (eq_then f.parts refl (eq_then g.parts (g.first_spells.same ∙ ap spelled (sym h.first_spells.len))
+    (eq_then h.parts refl
     (eq_then k.parts (k.first_spells.same ∙ ap spelled (sym l.first_spells.len)) tail)))))))) in
     let spells : IsMessageSpelling made bytes = record {
       records = f.front;
       entries = h.front;
       store = l.front;
-      counts = (omega (arith, f.first_spells.len, e.first_spells.below), omega (arith, h.first_spells.len, g.first_spells.below), omega (arith, l.first_spells.len, k.first_spells.below));
+      counts = (
+        omega (arith, f.first_spells.len, e.first_spells.below),
+        omega (arith, h.first_spells.len, g.first_spells.below),
+        omega (arith, l.first_spells.len, k.first_spells.below),
+      );
       changesets = f.first_spells.each;
       bounds = h.first_spells.each;
       markers = l.first_spells.spells;
@@ -136,9 +148,18 @@ from_spelling m bytes s =
 message_format : (total : ℕ) → IsFormat (parts_at total) IsMessageSpelling
 unfolding parts_at
 message_format total =
-    retold (sequence (whole_format total number number_format) (λ magic. sequence (wants_format (eqb magic magic_number) BadMagic) (λ _. sequence (whole_format total byte byte_format) (λ version. sequence (wants_format (eqb version 1) BadVersion) (λ _.
-    sequence (whole_format total number number_format) (λ count. sequence (counted_format (record_at total) (record_format total) 0 count) (λ changesets. sequence (whole_format total number number_format) (λ entries. sequence (counted_format (λ _. bound_at total) (λ _. bound_format total) 0 entries) (λ bounds.
-    sequence (whole_format total number number_format) (λ len. sequence (here_format total (store_in len) (store_format len)) (λ markers. says_format (record { changesets = changesets; bounds = bounds; markers = markers }))))))))))))
+    retold (sequence (whole_format total number number_format)
+    (λ magic. sequence (wants_format (eqb magic magic_number) BadMagic)
+    (λ _. sequence (whole_format total byte byte_format)
+    (λ version. sequence (wants_format (eqb version 1) BadVersion) (λ _.
+    sequence (whole_format total number number_format) (λ count. sequence
+    (counted_format (record_at total) (record_format total) 0 count)
+    (λ changesets. sequence (whole_format total number number_format)
+    (λ entries. sequence (counted_format (λ _. bound_at total) (λ _. bound_format total) 0 entries)
+    (λ bounds.
+    sequence (whole_format total number number_format) (λ len. sequence
+    (here_format total (store_in len) (store_format len))
+    (λ markers. says_format (record { changesets = changesets; bounds = bounds; markers = markers }))))))))))))
     to_spelling from_spelling
 
 abbrev read_as : MessageValue → Result MessageValue MessageFault
@@ -148,7 +169,8 @@ ended_ok : (b : Bool) (x y : MessageValue) → cond b (read_as x) (Err Trailing)
 ended_ok true x y e = (refl, cc)
 ended_ok false x y e = absurd cc
 
-all_read : (bytes : List ℕ) (m : MessageValue) → IsBytes bytes → (read : Result (MessageValue × List ℕ) MessageFault) → parts_at (length bytes) bytes ≡ read → ended read ≡ Ok m → IsMessageSpelling m bytes
+all_read : (bytes : List ℕ) (m : MessageValue) → IsBytes bytes → (read : Result (MessageValue × List ℕ) MessageFault)
+    → parts_at (length bytes) bytes ≡ read → ended read ≡ Ok m → IsMessageSpelling m bytes
 all_read bytes m fits (Err d) e h = absurd cc
 all_read bytes m fits (Ok x) e h =
     let g = ended_ok (eqb (length x.1) 0) x.0 m h in
@@ -158,20 +180,27 @@ all_read bytes m fits (Ok x) e h =
     subst (λ (n : MessageValue). IsMessageSpelling n bytes) g.1 (subst (IsMessageSpelling x.0) same t.spells)
 
 -- what is read as a message is spelled so
-pub read_is_spelled : (bytes : List ℕ) (m : MessageValue) → IsBytes bytes → message_at bytes ≡ Ok m → IsMessageSpelling m bytes
+pub read_is_spelled : (bytes : List ℕ) (m : MessageValue) → IsBytes bytes → message_at bytes ≡ Ok m
+    → IsMessageSpelling m bytes
 read_is_spelled bytes m fits h = all_read bytes m fits (parts_at (length bytes) bytes) refl h
 
 -- what is spelled so is read as the message
 pub spelled_is_read : (bytes : List ℕ) (m : MessageValue) → IsMessageSpelling m bytes → message_at bytes ≡ Ok m
-spelled_is_read bytes m s = ap ended (ap (parts_at (length bytes)) (sym (append-nil bytes)) ∙ (message_format (length bytes)).again m bytes [] s)
+spelled_is_read bytes m s = ap ended (ap (parts_at (length bytes)) (sym (append-nil bytes))
+    ∙ (message_format (length bytes)).again m bytes [] s)
 
-pub is_found : (bytes : List ℕ) (r : Result MessageValue (ReadError MessageFault)) → IsBytes bytes → Gives (λ m. m) r (message_at bytes) → IfOk r (λ m. IsMessageSpelling m bytes)
+pub is_found : (bytes : List ℕ) (r : Result MessageValue (ReadError MessageFault)) → IsBytes bytes
+    → Gives (λ m. m) r (message_at bytes) → IfOk r (λ m. IsMessageSpelling m bytes)
 is_found bytes (Err e) fits given = tt
 is_found bytes (Ok m) fits given = read_is_spelled bytes m fits given
 
 -- no spelling begins another, and none has two meanings
-pub one_spelling : (m n : MessageValue) (a b x y : List ℕ) → IsMessageSpelling m a → IsMessageSpelling n b → a ++ x ≡ b ++ y → (a ≡ b) × (m ≡ n)
+pub one_spelling : (m n : MessageValue) (a b x y : List ℕ) → IsMessageSpelling m a → IsMessageSpelling n b
+    → a ++ x ≡ b ++ y → (a ≡ b) × (m ≡ n)
 one_spelling m n a b x y s t e =
-    let same = ok_is MessageFault (m, x) (n, y) (sym ((message_format 0).again m a x s) ∙ ap (parts_at 0) e ∙ (message_format 0).again n b y t) in
-    let rest : x ≡ y = ap (λ (q : MessageValue × List ℕ). q.1) same in
-    (append_cancel_right a b x (e ∙ ap (λ (z : List ℕ). b ++ z) (sym rest)), ap (λ (q : MessageValue × List ℕ). q.0) same)
+    let same = ok_is MessageFault (m, x) (n, y) (sym ((message_format 0).again m a x s) ∙ ap (parts_at 0) e
+    ∙ (message_format 0).again n b y t) in
+    let rest : x ≡ y = ap (λ (q : MessageValue × List ℕ). q.1) same in (
+      append_cancel_right a b x (e ∙ ap (λ (z : List ℕ). b ++ z) (sym rest)),
+      ap (λ (q : MessageValue × List ℕ). q.0) same,
+    )

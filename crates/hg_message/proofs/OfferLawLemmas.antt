@@ -1,5 +1,6 @@
 -- What holds of every offer, by what it says and how it stands.
-use Rattle.std.proofs.Common.{◌≡◌, ◌≢◌, ◌≤◌, List, ◌++◌, Some, Contains, ◌↔◌, inl, inr, refl, sym, ap, subst, ◌∙◌, arith}
+use Rattle.std.proofs.Common.{◌≡◌, ◌≢◌, ◌≤◌, List, ◌++◌, Some, Contains, ◌↔◌, inl, inr, refl, sym, ap, subst, ◌∙◌}
+use Rattle.std.proofs.Common.{arith}
 use Rattle.std.specs.Cmp.{both_ways}
 use Rattle.std.specs.BTreeSet.{BTreeSet}
 use Rattle.std.specs.List.Sorted.{IsStrictlySortedBy}
@@ -25,7 +26,8 @@ use Rattle.hg_replica.specs.Evolution.{IsMarker, IsServed}
 use Rattle.hg_replica.proofs.MarkerLemmas.{holds-from, in_from_holds}
 use Rattle.hg_message.specs.Value.{MessageValue}
 use Rattle.hg_message.specs.Part.{draft_bounds, part_of}
-use Rattle.hg_message.specs.Offer.{IsOutgoing, IsServedAs, SaysOffer, SayTheSame, AreHeads, bounds_in, AreOfferedBounds, IsOffer}
+use Rattle.hg_message.specs.Offer.{IsOutgoing, IsServedAs, SaysOffer, SayTheSame, AreHeads, bounds_in, AreOfferedBounds}
+use Rattle.hg_message.specs.Offer.{IsOffer}
 use Rattle.hg_message.proofs.ThoseLemmas.{those-once}
 
 pub relevant-held : (H : Fields → Type 0) (N : Node → Type 0) (m : Fields) → IsRelevant H N m → H m
@@ -46,7 +48,8 @@ module _ (f : Content) (common : List Node) (m : MessageValue) (says : SaysOffer
   pub served-bounds : (b : Node × Phase) → Contains m.bounds b → IsServed f b.0
   served-bounds b at = ((says.bounds b).0 at).0.0
 
-  kept-bounds : (b : Node × Phase) → Contains (m.bounds ++ draft_bounds m.changesets) b → (h : Held) × (f.0 b.0 ≡ Some h) × (rank h.phase ≤ rank b.1)
+  kept-bounds : (b : Node × Phase) → Contains (m.bounds ++ draft_bounds m.changesets) b
+      → (h : Held) × (f.0 b.0 ≡ Some h) × (rank h.phase ≤ rank b.1)
   kept-bounds b at = elim (Contains-append_cases m.bounds (draft_bounds m.changesets) b at) [
     | inl told ↦
         let h = ((says.bounds b).0 told).0.1 in
@@ -73,22 +76,27 @@ module _ (f : Content) (common : List Node) (m : MessageValue) (says : SaysOffer
 
 -- ---- what is offered of one content says the same
 
-pub offers-say_the_same : (f : Content) (common : List Node) (m n : MessageValue) → SaysOffer f common m → SaysOffer f common n → SayTheSame m n
+pub offers-say_the_same : (f : Content) (common : List Node) (m n : MessageValue) → SaysOffer f common m
+    → SaysOffer f common n → SayTheSame m n
 offers-say_the_same f common m n a b = record {
   changesets = λ c. (λ h. (b.changesets c).1 ((a.changesets c).0 h), λ h. (a.changesets c).1 ((b.changesets c).0 h));
   bounds = λ x. (λ h. (b.bounds x).1 ((a.bounds x).0 h), λ h. (a.bounds x).1 ((b.bounds x).0 h));
   markers = λ k. (λ h. (b.markers k).1 ((a.markers k).0 h), λ h. (a.markers k).1 ((b.markers k).0 h));
 }
 
-same-bounds : (m n : MessageValue) → SayTheSame m n → (b : Node × Phase) → Contains (n.bounds ++ draft_bounds n.changesets) b → Contains (m.bounds ++ draft_bounds m.changesets) b
+same-bounds : (m n : MessageValue) → SayTheSame m n → (b : Node × Phase)
+    → Contains (n.bounds ++ draft_bounds n.changesets) b → Contains (m.bounds ++ draft_bounds m.changesets) b
 same-bounds m n same b at = elim (Contains-append_cases n.bounds (draft_bounds n.changesets) b at) [
   | inl told ↦ Contains-append_left m.bounds (draft_bounds m.changesets) b ((same.bounds b).1 told)
   | inr draft ↦
       let c = Contains-map_from (λ (x : Contents). (node_of x, Draft)) n.changesets b draft in
-      Contains-append_right m.bounds (draft_bounds m.changesets) b (subst (Contains (draft_bounds m.changesets)) c.2 (Contains-map (λ (x : Contents). (node_of x, Draft)) m.changesets c.0 ((same.changesets c.0).1 c.1)))
+      Contains-append_right m.bounds (draft_bounds m.changesets) b
+      (subst (Contains (draft_bounds m.changesets)) c.2 (Contains-map
+      (λ (x : Contents). (node_of x, Draft)) m.changesets c.0 ((same.changesets c.0).1 c.1)))
 ]
 
-covered-same : (f : Content) (m n : MessageValue) → SayTheSame m n → ContentCovers f (part_of m) → ContentCovers f (part_of n)
+covered-same : (f : Content) (m n : MessageValue) → SayTheSame m n → ContentCovers f (part_of m)
+    → ContentCovers f (part_of n)
 covered-same f m n same covers = (
   record {
     holds = λ c at. covers.0.holds c ((same.changesets c).1 at);
@@ -98,7 +106,8 @@ covered-same f m n same covers = (
 )
 
 -- what covers the part of one covers that of the other
-pub same-covered : (m n : MessageValue) → SayTheSame m n → (f : Content) → ContentCovers f (part_of m) ↔ ContentCovers f (part_of n)
+pub same-covered : (m n : MessageValue) → SayTheSame m n → (f : Content)
+    → ContentCovers f (part_of m) ↔ ContentCovers f (part_of n)
 same-covered m n same f = (
   covered-same f m n same,
   covered-same f n m (record {
@@ -111,27 +120,35 @@ same-covered m n same f = (
 -- ---- an offer is one
 
 -- an ascending list is told by its members
-sorted-once : (xs ys : List Node) → IsStrictlySortedBy node_cmp xs → IsStrictlySortedBy node_cmp ys → ((n : Node) → Contains xs n ↔ Contains ys n) → xs ≡ ys
+sorted-once : (xs ys : List Node) → IsStrictlySortedBy node_cmp xs → IsStrictlySortedBy node_cmp ys
+    → ((n : Node) → Contains xs n ↔ Contains ys n) → xs ≡ ys
 sorted-once xs ys a b same =
     let s : BTreeSet Node = record { keys = xs } in
     let t : BTreeSet Node = record { keys = ys } in
     let in_s = btree_set_contains_iff node_cmp_total node_cmp_exact s in
     let in_t = btree_set_contains_iff node_cmp_total node_cmp_exact t in
-    btree_set_from_contains node_cmp_total s t a b (λ n. both_ways _ _ (λ h. (in_t n).1 ((same n).0 ((in_s n).0 h))) (λ h. (in_s n).1 ((same n).1 ((in_t n).0 h)))) node_cmp_exact
+    btree_set_from_contains node_cmp_total s t a b (λ n. both_ways _ _ (λ h. (in_t n).1 ((same n).0 ((in_s n).0 h)))
+    (λ h. (in_s n).1 ((same n).1 ((in_t n).0 h)))) node_cmp_exact
 
 heads-once : (f : Content) (P : Node → Type 0) (xs ys : List Node) → AreHeads f P xs → AreHeads f P ys → xs ≡ ys
-heads-once f P xs ys a b = sorted-once xs ys a.ascending b.ascending (λ n. (λ h. (b.exact n).1 ((a.exact n).0 h), λ h. (a.exact n).1 ((b.exact n).0 h)))
+heads-once f P xs ys a b = sorted-once xs ys a.ascending b.ascending
+    (λ n. (λ h. (b.exact n).1 ((a.exact n).0 h), λ h. (a.exact n).1 ((b.exact n).0 h)))
 
 bounds-once : (f : Content) (xs ys : List (Node × Phase)) → AreOfferedBounds f xs → AreOfferedBounds f ys → xs ≡ ys
 bounds-once f xs ys a b =
     a.both
-    ∙ ap (λ ns. bounds_in Public ns ++ bounds_in Draft a.draft) (heads-once f (IsServedAs f Public) a.public b.public a.public_heads b.public_heads)
-    ∙ ap (λ ns. bounds_in Public b.public ++ bounds_in Draft ns) (heads-once f (IsServedAs f Draft) a.draft b.draft a.draft_heads b.draft_heads)
+    ∙ ap (λ ns. bounds_in Public ns ++ bounds_in Draft a.draft)
+    (heads-once f (IsServedAs f Public) a.public b.public a.public_heads b.public_heads)
+    ∙ ap (λ ns. bounds_in Public b.public ++ bounds_in Draft ns)
+    (heads-once f (IsServedAs f Draft) a.draft b.draft a.draft_heads b.draft_heads)
     ∙ sym b.both
 
-pub offer-once : (s : ReplicaState) (common : List Node) (m n : MessageValue) → IsOffer s common m → IsOffer s common n → m ≡ n
+pub offer-once : (s : ReplicaState) (common : List Node) (m n : MessageValue) → IsOffer s common m
+    → IsOffer s common n → m ≡ n
 offer-once s common m n a b i = record {
-  changesets = (those-once (IsOutgoing (content_of s) common) (changesets s.history) m.changesets n.changesets a.changesets b.changesets) i;
+  changesets = (those-once (IsOutgoing (content_of s) common)
+      (changesets s.history) m.changesets n.changesets a.changesets b.changesets) i;
   bounds = (bounds-once (content_of s) m.bounds n.bounds a.bounds b.bounds) i;
-  markers = (those-once (IsRelevant (IsMarker (content_of s)) (IsServed (content_of s))) s.markers m.markers n.markers a.markers b.markers) i;
+  markers = (those-once (IsRelevant (IsMarker (content_of s)) (IsServed (content_of s))) s.markers m.markers n.markers
+      a.markers b.markers) i;
 }

@@ -1,11 +1,14 @@
 -- What the parts of an offer are.
-use Rattle.std.proofs.Common.{◌≡◌, ◌≢◌, ℕ, ◌+◌, ◌-◌, ◌<◌, ◌≤◌, zero, suc, Bool, true, false, true≢false, ◌||◌, nat_lt, Result, Ok, Err, List, [], ◌∷◌, ◌++◌, length, take, get_or, slice_get, Some, Contains, ◌↔◌, inl, inr, refl, sym, ap, subst, ◌∙◌, arith, length-append}
+use Rattle.std.proofs.Common.{◌≡◌, ◌≢◌, ℕ, ◌+◌, ◌-◌, ◌<◌, ◌≤◌, zero, suc, Bool, true, false, true≢false, ◌||◌, nat_lt}
+use Rattle.std.proofs.Common.{Result, Ok, Err, List, [], ◌∷◌, ◌++◌, length, take, get_or, slice_get, Some, Contains}
+use Rattle.std.proofs.Common.{◌↔◌, inl, inr, refl, sym, ap, subst, ◌∙◌, arith, length-append}
 use Rattle.std.specs.List.Sorted.{IsStrictlySortedBy}
 use Rattle.std.proofs.lemmas.Bool.{cases_lt, cases_eq, le-ltb, ltb-false}
 use Rattle.std.proofs.lemmas.Map.Keys.{below_from_sorted, sorted_from_strictly_increasing}
 use Rattle.std.proofs.lemmas.List.{get_or_default, take_all}
 use Rattle.std.proofs.lemmas.Option.{same_Some, slice_get_within}
-use Rattle.std.proofs.lemmas.List.Elements.{Contains-append_left, Contains-append_right, Contains-append_cases, Contains-get_or}
+use Rattle.std.proofs.lemmas.List.Elements.{Contains-append_left, Contains-append_right, Contains-append_cases}
+use Rattle.std.proofs.lemmas.List.Elements.{Contains-get_or}
 use Rattle.hg_changeset.specs.declared.node.Node.{Node}
 use Rattle.hg_changeset.specs.Node.{node_cmp}
 use Rattle.hg_changeset.specs.Contents.{Contents}
@@ -20,7 +23,8 @@ use Rattle.hg_phases.specs.declared.phase.Phase.TheVariants.{Public, Draft, Secr
 use Rattle.hg_phases.specs.State.{changesets}
 use Rattle.hg_marker.specs.Fields.{Fields}
 use Rattle.hg_history.specs.Content.{IsHeld}
-use Rattle.hg_history.proofs.ContentLemmas.{content-changeset, changeset_in_content, node_in_content, leads_from_reach, reach_from_leads}
+use Rattle.hg_history.proofs.ContentLemmas.{content-changeset, changeset_in_content, node_in_content, leads_from_reach}
+use Rattle.hg_history.proofs.ContentLemmas.{reach_from_leads}
 use Rattle.hg_obsstore.specs.Markers.{ArePlaces}
 use Rattle.hg_relevant.specs.Relevant.{IsRelevant}
 use Rattle.hg_relevant.specs.Relevant.IsRelevant.{direct, further}
@@ -37,28 +41,38 @@ use Rattle.hg_message.specs.declared.refusal.OfferRefusal.TheVariants.{UnknownCo
 use Rattle.hg_message.specs.Value.{MessageValue, IsMessage, count_limit, is_too_large}
 use Rattle.hg_message.specs.Outgoing.{ArePlacesOf, CopyAnswer, FindAnswer}
 use Rattle.hg_message.specs.Those.{AreThose}
-use Rattle.hg_message.specs.Offer.{AreHeld, IsCommon, IsOutgoing, IsServedAs, IsHead, IsOfferedBound, IsOfferedMarker, AreHeads, bounds_in, AreOfferedBounds, IsOffer, OfferAnswer}
+use Rattle.hg_message.specs.Offer.{AreHeld, IsCommon, IsOutgoing, IsServedAs, IsHead, IsOfferedBound, IsOfferedMarker}
+use Rattle.hg_message.specs.Offer.{AreHeads, bounds_in, AreOfferedBounds, IsOffer, OfferAnswer}
 use Rattle.hg_message.proofs.OfferLawLemmas.{relevant-held}
 use Rattle.hg_message.proofs.ThoseLemmas.{those-member, those-next, those-none, those-past}
 
 -- ---- relevance
 
-relevant-along : (H K : Fields → Type 0) (M N : Node → Type 0) → ((m : Fields) → H m → K m) → ((n : Node) → M n → N n) → (m : Fields) → IsRelevant H M m → IsRelevant K N m
+relevant-along : (H K : Fields → Type 0) (M N : Node → Type 0) → ((m : Fields) → H m → K m) → ((n : Node) → M n → N n)
+    → (m : Fields) → IsRelevant H M m → IsRelevant K N m
 relevant-along H K M N held named m (direct {n = n} one h touches) = direct (named n one) (held m h) touches
-relevant-along H K M N held named m (further {before = b} r h touches) = further (relevant-along H K M N held named b r) (held m h) touches
+relevant-along H K M N held named m (further {before = b} r h touches) =
+    further (relevant-along H K M N held named b r) (held m h) touches
 
 -- what is relevant to a list of what is served, among the markers of the store
-pub relevant-offered : (s : ReplicaState) (served : List Node) → ((n : Node) → Contains served n ↔ IsServed (content_of s) n) → (m : Fields) → IsRelevant (Contains s.markers) (Contains served) m ↔ IsOfferedMarker (content_of s) m
+pub relevant-offered : (s : ReplicaState) (served : List Node)
+    → ((n : Node) → Contains served n ↔ IsServed (content_of s) n) → (m : Fields)
+    → IsRelevant (Contains s.markers) (Contains served) m ↔ IsOfferedMarker (content_of s) m
 relevant-offered s served are m = (
-  relevant-along (Contains s.markers) (IsMarker (content_of s)) (Contains served) (IsServed (content_of s)) (holds-from s.markers) (λ n. (are n).0) m,
-  relevant-along (IsMarker (content_of s)) (Contains s.markers) (IsServed (content_of s)) (Contains served) (in_from_holds s.markers) (λ n. (are n).1) m,
+  relevant-along (Contains s.markers) (IsMarker (content_of s)) (Contains served) (IsServed (content_of s))
+      (holds-from s.markers) (λ n. (are n).0) m,
+  relevant-along (IsMarker (content_of s)) (Contains s.markers) (IsServed (content_of s)) (Contains served)
+      (in_from_holds s.markers) (λ n. (are n).1) m,
 )
 
 -- the places that are told of a store are those of what is offered
-pub places-offered : (s : ReplicaState) (served : List Node) (store : List Fields) (places : List ℕ) → ((n : Node) → Contains served n ↔ IsServed (content_of s) n) → store ≡ s.markers
-    → ArePlaces (IsRelevant (Contains store) (Contains served)) store places → ArePlaces (IsOfferedMarker (content_of s)) s.markers places
+pub places-offered : (s : ReplicaState) (served : List Node) (store : List Fields) (places : List ℕ)
+    → ((n : Node) → Contains served n ↔ IsServed (content_of s) n) → store ≡ s.markers
+    → ArePlaces (IsRelevant (Contains store) (Contains served)) store places
+    → ArePlaces (IsOfferedMarker (content_of s)) s.markers places
 places-offered s served store places are here all =
-    let listed = subst (λ (ms : List Fields). ArePlaces (IsRelevant (Contains ms) (Contains served)) ms places) here all in
+    let listed = subst (λ (ms : List Fields). ArePlaces (IsRelevant (Contains ms) (Contains served)) ms places) here
+    all in
     record {
       ascending = listed.ascending;
       exact = λ k. (
@@ -70,7 +84,8 @@ places-offered s served store places are here all =
 -- ---- what stands at ascending places
 
 -- the places so far are below the bound, and the others aren't
-pub record ArePicked {X : Type 0} (P : X → Type 0) (xs : List X) (places : List ℕ) (i : ℕ) (found : List X) : Type 0 where
+pub record ArePicked {X : Type 0} (P : X → Type 0) (xs : List X) (places : List ℕ) (i : ℕ)
+    (found : List X) : Type 0 where
   pub bound : ℕ
   pub within : bound ≤ length xs
   pub before : (k : ℕ) → k < i → k < length places → get_or places k 0 < bound
@@ -82,7 +97,13 @@ strict a b le ne = elim (cases_lt a b) [ inl lt ↦ lt | inr ge ↦ let e : a �
 
 module _ {X : Type 0} (P : X → Type 0) (xs : List X) (places : List ℕ) (are : ArePlacesOf P xs places) where
   picked_none : ArePicked P xs places 0 []
-  picked_none = record { bound = 0; within = omega arith; before = λ k l w. absurd (omega (arith, l)); after = λ k l w. omega arith; those = refl }
+  picked_none = record {
+    bound = 0;
+    within = omega arith;
+    before = λ k l w. absurd (omega (arith, l));
+    after = λ k l w. omega arith;
+    those = refl;
+  }
 
   rising : (i k : ℕ) → i < k → k < length places → get_or places i 0 < get_or places k 0
   rising i k l w = below_from_sorted places i k 0 (sorted_from_strictly_increasing places are.ascending) l w
@@ -91,32 +112,37 @@ module _ {X : Type 0} (P : X → Type 0) (xs : List X) (places : List ℕ) (are 
   read j h = get_or_default places h.0 0 j h.1 ∙ h.2
 
   -- what stands between the bound and the next place isn't among the places
-  between : (i : ℕ) (copies : List X) → i < length places → (c : ArePicked P xs places i copies) → (j : ℕ) (x : X) → c.bound ≤ j → j < get_or places i 0 → slice_get xs j ≡ Some x → ¬ (P x)
+  between : (i : ℕ) (copies : List X) → i < length places → (c : ArePicked P xs places i copies) → (j : ℕ) (x : X)
+      → c.bound ≤ j → j < get_or places i 0 → slice_get xs j ≡ Some x → ¬ (P x)
   between i copies l c j x le lt at p =
       let in' = (are.exact j).1 (x, at, p) in
       let q = read j in' in
       elim (cases_lt in'.0 i) [
         | inl early ↦ let b = c.before in'.0 early in'.1 in omega (arith, b, le, q)
         | inr late ↦ elim (cases_eq i in'.0) [
-          | inl e ↦ let r : get_or places i 0 ≡ get_or places in'.0 0 = ap (λ (k : ℕ). get_or places k 0) e in omega (arith, q, r, lt)
+          | inl e ↦ let r : get_or places i 0 ≡ get_or places in'.0 0 = ap (λ (k : ℕ). get_or places k 0) e in
+              omega (arith, q, r, lt)
           | inr other ↦ let up = rising i in'.0 (strict i in'.0 late other) in'.1 in omega (arith, up, lt, q)
         ]
       ]
 
   -- nor is anything from the bound on, after the last place
-  beyond : (i : ℕ) (copies : List X) → length places ≤ i → (c : ArePicked P xs places i copies) → (j : ℕ) (x : X) → c.bound ≤ j → slice_get xs j ≡ Some x → ¬ (P x)
+  beyond : (i : ℕ) (copies : List X) → length places ≤ i → (c : ArePicked P xs places i copies) → (j : ℕ) (x : X)
+      → c.bound ≤ j → slice_get xs j ≡ Some x → ¬ (P x)
   beyond i copies ended c j x le at p =
       let in' = (are.exact j).1 (x, at, p) in
       let b = c.before in'.0 (omega (arith, ended, in'.1)) in'.1 in
       omega (arith, b, le, read j in')
 
-  picked_more : (i : ℕ) (copies : List X) (m : X) → i < length places → slice_get xs (get_or places i 0) ≡ Some m → ArePicked P xs places i copies → ArePicked P xs places (i + 1) (copies ++ m ∷ [])
+  picked_more : (i : ℕ) (copies : List X) (m : X) → i < length places → slice_get xs (get_or places i 0) ≡ Some m
+      → ArePicked P xs places i copies → ArePicked P xs places (i + 1) (copies ++ m ∷ [])
   picked_more i copies m l at c =
       let p = get_or places i 0 in
       let le = c.after i (omega arith) l in
       let within = slice_get_within xs p m at in
       let up_to : c.bound + (p - c.bound) ≡ p = omega (arith, le) in
-      let past = those-past P xs copies c.bound (p - c.bound) (omega (arith, up_to, within)) (λ j x from to. between i copies l c j x from (omega (arith, to, up_to))) c.those in
+      let past = those-past P xs copies c.bound (p - c.bound) (omega (arith, up_to, within))
+      (λ j x from to. between i copies l c j x from (omega (arith, to, up_to))) c.those in
       let here = (are.exact p).0 (Contains-get_or places i 0 l) in
       let so : P m = subst P (same_Some here.0 m (sym here.1 ∙ at)) here.2 in
       record {
@@ -124,7 +150,8 @@ module _ {X : Type 0} (P : X → Type 0) (xs : List X) (places : List ℕ) (are 
         within = omega (arith, within);
         before = λ k lt w. elim (cases_lt k i) [
           | inl early ↦ let b = c.before k early w in omega (arith, b, le)
-          | inr late ↦ let e : k ≡ i = omega (arith, lt, late) in let r : get_or places k 0 ≡ get_or places i 0 = ap (λ (n : ℕ). get_or places n 0) e in omega (arith, r)
+          | inr late ↦ let e : k ≡ i = omega (arith, lt, late) in
+              let r : get_or places k 0 ≡ get_or places i 0 = ap (λ (n : ℕ). get_or places n 0) e in omega (arith, r)
         ];
         after = λ k from w. let up = rising i k (omega (arith, from)) w in omega (arith, up);
         those = those-next P xs copies p m at (subst (λ n. AreThose P (take n xs) copies) up_to past) so;
@@ -133,11 +160,14 @@ module _ {X : Type 0} (P : X → Type 0) (xs : List X) (places : List ℕ) (are 
   picked_all : (i : ℕ) (copies : List X) → length places ≤ i → ArePicked P xs places i copies → AreThose P xs copies
   picked_all i copies ended c =
       let up_to : c.bound + (length xs - c.bound) ≡ length xs = omega (arith, c.within) in
-      let past = those-past P xs copies c.bound (length xs - c.bound) (omega (arith, up_to)) (λ j x from to at. beyond i copies ended c j x from at) c.those in
-      subst (λ ys. AreThose P ys copies) (take_all (length xs) xs (omega arith)) (subst (λ n. AreThose P (take n xs) copies) up_to past)
+      let past = those-past P xs copies c.bound (length xs - c.bound) (omega (arith, up_to))
+      (λ j x from to at. beyond i copies ended c j x from at) c.those in
+      subst (λ ys. AreThose P ys copies) (take_all (length xs) xs (omega arith))
+      (subst (λ n. AreThose P (take n xs) copies) up_to past)
 
   -- as far as the first places
-  picked_first : (i : ℕ) → i ≤ length places → ArePicked P xs places i (picked xs (take i places)) × (length (picked xs (take i places)) ≡ i)
+  picked_first : (i : ℕ) → i ≤ length places → ArePicked P xs places i (picked xs (take i places))
+      × (length (picked xs (take i places)) ≡ i)
   picked_first zero l = (picked_none, refl)
   picked_first (suc i) l =
       let lt : i < length places = omega (arith, l) in
@@ -145,58 +175,84 @@ module _ {X : Type 0} (P : X → Type 0) (xs : List X) (places : List ℕ) (are 
       let here = (are.exact (get_or places i 0)).0 (Contains-get_or places i 0 lt) in
       let so_far = picked_first i (omega (arith, l)) in
       let more = picked-some xs places i lt here.0 here.1 in
-      subst (λ (n : ℕ). ArePicked P xs places n (picked xs (take n places)) × (length (picked xs (take n places)) ≡ n)) next (
-        subst (ArePicked P xs places (i + 1)) (sym more) (picked_more i (picked xs (take i places)) here.0 lt here.1 so_far.0),
+      subst (λ (n : ℕ). ArePicked P xs places n (picked xs (take n places))
+      × (length (picked xs (take n places)) ≡ n)) next (
+        subst (ArePicked P xs places (i + 1)) (sym more) (picked_more i
+            (picked xs (take i places)) here.0 lt here.1 so_far.0),
         ap length more ∙ omega (arith, length-append (picked xs (take i places)) (here.0 ∷ []), so_far.1),
       )
 
   pub picked-those : AreThose P xs (picked xs places)
-  picked-those = subst (λ (ps : List ℕ). AreThose P xs (picked xs ps)) (take_all (length places) places (omega arith)) (picked_all (length places) (picked xs (take (length places) places)) (omega arith) (picked_first (length places) (omega arith)).0)
+  picked-those = subst (λ (ps : List ℕ). AreThose P xs (picked xs ps)) (take_all (length places) places (omega arith))
+      (picked_all (length places) (picked xs (take (length places) places)) (omega arith)
+      (picked_first (length places) (omega arith)).0)
 
   pub picked-length : length (picked xs places) ≡ length places
-  picked-length = ap (λ (ps : List ℕ). length (picked xs ps)) (sym (take_all (length places) places (omega arith))) ∙ (picked_first (length places) (omega arith)).1
+  picked-length = ap (λ (ps : List ℕ). length (picked xs ps)) (sym (take_all (length places) places (omega arith)))
+      ∙ (picked_first (length places) (omega arith)).1
 
 -- ---- what is said
 
 module _ (s : ReplicaState) (valid : IsValid s) (common : List Node) where
-  outgoing-said : (cs : List Contents) → AreThose (IsOutgoing (content_of s) common) (changesets s.history) cs → (c : Contents) → Contains cs c ↔ IsOutgoing (content_of s) common c
+  outgoing-said : (cs : List Contents) → AreThose (IsOutgoing (content_of s) common) (changesets s.history) cs
+      → (c : Contents) → Contains cs c ↔ IsOutgoing (content_of s) common c
   outgoing-said cs are c =
       let told = those-member (IsOutgoing (content_of s) common) (changesets s.history) cs are c in
       (λ h. (told.0 h).1, λ h. told.1 ((changeset_in_content s.history valid.graph (node_of c) c h.0).0, h))
 
-  markers-said : (ms : List Fields) → AreThose (IsOfferedMarker (content_of s)) s.markers ms → (m : Fields) → Contains ms m ↔ IsOfferedMarker (content_of s) m
+  markers-said : (ms : List Fields) → AreThose (IsOfferedMarker (content_of s)) s.markers ms → (m : Fields)
+      → Contains ms m ↔ IsOfferedMarker (content_of s) m
   markers-said ms are m =
-      let told = those-member (IsOfferedMarker (content_of s)) s.markers ms are m in
-      (λ h. (told.0 h).1, λ h. told.1 (in_from_holds s.markers m (relevant-held (IsMarker (content_of s)) (IsServed (content_of s)) m h), h))
+      let told = those-member (IsOfferedMarker (content_of s)) s.markers ms are m in (
+        λ h. (told.0 h).1,
+        λ h. told.1 (
+          in_from_holds s.markers m
+              (relevant-held (IsMarker (content_of s)) (IsServed (content_of s)) m h),
+          h,
+        ),
+      )
 
 -- what is secret isn't served
 never-secret : (f : Content) (n : Node) → ¬ (IsServedAs f Secret n)
 never-secret f n h = h.0.1 h.1
 
 module _ (f : Content) (bounds : List (Node × Phase)) (are : AreOfferedBounds f bounds) where
-  from_heads : (phase : Phase) (heads : List Node) (b : Node × Phase) → AreHeads f (IsServedAs f phase) heads → Contains (bounds_in phase heads) b → IsOfferedBound f b
+  from_heads : (phase : Phase) (heads : List Node) (b : Node × Phase) → AreHeads f (IsServedAs f phase) heads
+      → Contains (bounds_in phase heads) b → IsOfferedBound f b
   from_heads phase heads b exact h =
       let n = Contains-map_from (λ (x : Node). (x, phase)) heads b h in
       subst (IsOfferedBound f) n.2 ((exact.exact n.0).0 n.1)
 
   to_bound : (n : Node) (phase : Phase) → IsHead f (IsServedAs f phase) n → Contains bounds (n, phase)
-  to_bound n Public h = subst (λ bs. Contains bs (n, Public)) (sym are.both) (Contains-append_left (bounds_in Public are.public) (bounds_in Draft are.draft) (n, Public) (Contains-map (λ (x : Node). (x, Public)) are.public n ((are.public_heads.exact n).1 h)))
-  to_bound n Draft h = subst (λ bs. Contains bs (n, Draft)) (sym are.both) (Contains-append_right (bounds_in Public are.public) (bounds_in Draft are.draft) (n, Draft) (Contains-map (λ (x : Node). (x, Draft)) are.draft n ((are.draft_heads.exact n).1 h)))
+  to_bound n Public h = subst (λ bs. Contains bs (n, Public)) (sym are.both)
+      (Contains-append_left (bounds_in Public are.public) (bounds_in Draft are.draft) (n, Public)
+      (Contains-map (λ (x : Node). (x, Public)) are.public n ((are.public_heads.exact n).1 h)))
+  to_bound n Draft h = subst (λ bs. Contains bs (n, Draft)) (sym are.both)
+      (Contains-append_right (bounds_in Public are.public) (bounds_in Draft are.draft) (n, Draft)
+      (Contains-map (λ (x : Node). (x, Draft)) are.draft n ((are.draft_heads.exact n).1 h)))
   to_bound n Secret h = absurd (never-secret f n h.0)
 
   pub bounds-said : (b : Node × Phase) → Contains bounds b ↔ IsOfferedBound f b
   bounds-said b = (
-    λ h. elim (Contains-append_cases (bounds_in Public are.public) (bounds_in Draft are.draft) b (subst (λ bs. Contains bs b) are.both h)) [
-      | inl at ↦ from_heads Public are.public b are.public_heads at
-      | inr at ↦ from_heads Draft are.draft b are.draft_heads at
-    ],
+    λ h. elim (Contains-append_cases (bounds_in Public are.public) (bounds_in Draft are.draft) b
+        (subst (λ bs. Contains bs b) are.both h)) [
+          | inl at ↦ from_heads Public are.public b are.public_heads at
+          | inr at ↦ from_heads Draft are.draft b are.draft_heads at
+        ],
     λ h. to_bound b.0 b.1 h,
   )
 
-pub is-offer : (s : ReplicaState) → IsValid s → (common : List Node) (cs : List Contents) (bounds : List (Node × Phase)) (ms : List Fields) → AreThose (IsOutgoing (content_of s) common) (changesets s.history) cs
-    → AreOfferedBounds (content_of s) bounds → AreThose (IsOfferedMarker (content_of s)) s.markers ms → IsOffer s common (record { changesets = cs; bounds = bounds; markers = ms })
+pub is-offer : (s : ReplicaState) → IsValid s → (common : List Node) (cs : List Contents)
+    (bounds : List (Node × Phase)) (ms : List Fields) → AreThose (IsOutgoing (content_of s) common)
+    (changesets s.history) cs
+    → AreOfferedBounds (content_of s) bounds → AreThose (IsOfferedMarker (content_of s)) s.markers ms
+    → IsOffer s common (record { changesets = cs; bounds = bounds; markers = ms })
 is-offer s valid common cs bounds ms out heads rel = record {
-  says = record { changesets = outgoing-said s valid common cs out; bounds = bounds-said (content_of s) bounds heads; markers = markers-said s valid common ms rel };
+  says = record {
+    changesets = outgoing-said s valid common cs out;
+    bounds = bounds-said (content_of s) bounds heads;
+    markers = markers-said s valid common ms rel;
+  };
   changesets = out;
   bounds = heads;
   markers = rel;
@@ -206,7 +262,8 @@ is-offer s valid common cs bounds ms out heads rel = record {
 
 module _ (s : ReplicaState) (valid : IsValid s) (none : changesets s.history ≡ []) where
   not-held : (n : Node) → ¬ (IsHeld (content_of s).0 n)
-  not-held n held = let at = node_in_content s.history valid.graph n held in absurd (Contains-none n (subst (λ (cs : List Contents). Contains (nodes cs) n) none at))
+  not-held n held = let at = node_in_content s.history valid.graph n held in
+      absurd (Contains-none n (subst (λ (cs : List Contents). Contains (nodes cs) n) none at))
 
   not-served : (n : Node) → ¬ (IsServed (content_of s) n)
   not-served n h = not-held h.0.0 h.0.1.0
@@ -217,7 +274,10 @@ module _ (s : ReplicaState) (valid : IsValid s) (none : changesets s.history ≡
 
   no-heads : (phase : Phase) → AreHeads (content_of s) (IsServedAs (content_of s) phase) []
   unfolding IsStrictlySortedBy
-  no-heads phase = record { exact = λ n. ((λ h. absurd (Contains-none n h)), λ h. absurd (not-served n h.0.0)); ascending = tt }
+  no-heads phase = record {
+    exact = λ n. ((λ h. absurd (Contains-none n h)), λ h. absurd (not-served n h.0.0));
+    ascending = tt;
+  }
 
   pub nothing-offered : (common : List Node) → IsOffer s common (record { changesets = []; bounds = []; markers = [] })
   nothing-offered common = is-offer s valid common [] [] []
@@ -228,37 +288,61 @@ module _ (s : ReplicaState) (valid : IsValid s) (none : changesets s.history ≡
 -- ---- heads
 
 -- heads among what is so at places, Q, which is what P says of ids
-pub heads-are : (s : ReplicaState) → IsValid s → (P Q : Node → Type 0) → ((n : Node) → P n → IsHeld (content_of s).0 n) → (heads : List Node) → ((n : Node) → Q n ↔ P n)
-    → ((n : Node) → Contains heads n ↔ IsHeadAmong (changesets s.history) Q n) → IsStrictlySortedBy node_cmp heads → AreHeads (content_of s) P heads
+pub heads-are : (s : ReplicaState) → IsValid s → (P Q : Node → Type 0)
+    → ((n : Node) → P n → IsHeld (content_of s).0 n) → (heads : List Node) → ((n : Node) → Q n ↔ P n)
+    → ((n : Node) → Contains heads n ↔ IsHeadAmong (changesets s.history) Q n) → IsStrictlySortedBy node_cmp heads
+    → AreHeads (content_of s) P heads
 heads-are s valid P Q held heads are exact ascending = record {
   exact = λ n. (
     λ h. let x = (exact n).0 h in (
       (are n).0 x.0,
-      λ d p leads. x.2 d ((are d).1 p) (reach_from_leads s.history valid.graph n d (node_in_content s.history valid.graph d (held d p)) leads),
+      λ d p leads. x.2 d ((are d).1 p) (reach_from_leads s.history valid.graph n d
+          (node_in_content s.history valid.graph d (held d p)) leads),
     ),
-    λ h. (exact n).1 ((are n).1 h.0, node_in_content s.history valid.graph n (held n h.0), λ d at reach. h.1 d ((are d).0 at) (leads_from_reach s.history valid.graph n d reach)),
+    λ h. (exact n).1 (
+      (are n).1 h.0,
+      node_in_content s.history valid.graph n (held n h.0),
+      λ d at reach. h.1 d ((are d).0 at) (leads_from_reach s.history valid.graph n d reach),
+    ),
   );
   ascending = ascending;
 }
 
 -- ---- what is common
 
-pub common-are : (s : ReplicaState) → IsValid s → (common : List Node) → AreHeld (content_of s) common → (n : Node) → IsAncestorOfOne (changesets s.history) common n ↔ IsCommon (content_of s) common n
+pub common-are : (s : ReplicaState) → IsValid s → (common : List Node) → AreHeld (content_of s) common → (n : Node)
+    → IsAncestorOfOne (changesets s.history) common n ↔ IsCommon (content_of s) common n
 common-are s valid common held n = (
   λ h. (h.0, h.1, leads_from_reach s.history valid.graph n h.0 h.2),
-  λ h. (h.0, h.1, reach_from_leads s.history valid.graph n h.0 (node_in_content s.history valid.graph h.0 (held h.0 h.1)) h.2),
+  λ h. (
+    h.0,
+    h.1,
+    reach_from_leads s.history valid.graph n h.0
+        (node_in_content s.history valid.graph h.0 (held h.0 h.1)) h.2,
+  ),
 )
 
 -- a changeset of the graph that is served and isn't common is outgoing
-pub outgoing-at : (s : ReplicaState) → IsValid s → (common : List Node) (i : ℕ) (c : Contents) → slice_get (changesets s.history) i ≡ Some c → (IsServed (content_of s) (node_of c) × ¬ (IsCommon (content_of s) common (node_of c))) ↔ IsOutgoing (content_of s) common c
+pub outgoing-at : (s : ReplicaState) → IsValid s → (common : List Node) (i : ℕ) (c : Contents)
+    → slice_get (changesets s.history) i ≡ Some c
+    → (IsServed (content_of s) (node_of c) × ¬ (IsCommon (content_of s) common (node_of c)))
+    ↔ IsOutgoing (content_of s) common c
 outgoing-at s valid common i c at = (
-  λ h. (content-changeset s.history valid.graph (node_of c) c (Contains-from_place (changesets s.history) i c at) refl, h.0, h.1),
+  λ h. (
+    content-changeset s.history valid.graph (node_of c) c
+        (Contains-from_place (changesets s.history) i c at) refl,
+    h.0,
+    h.1,
+  ),
   λ h. (h.1, h.2),
 )
 
 -- what the marks at its place tell
-pub outgoing-marked : (s : ReplicaState) → IsValid s → (common : List Node) → AreHeld (content_of s) common → (served known : List Bool) → ((n : Node) → IsMarkedNode (changesets s.history) served n ↔ IsServed (content_of s) n)
-    → ((n : Node) → IsMarkedNode (changesets s.history) known n ↔ IsAncestorOfOne (changesets s.history) common n) → (i : ℕ) → i < length served → i < length known → (c : Contents) → slice_get (changesets s.history) i ≡ Some c
+pub outgoing-marked : (s : ReplicaState) → IsValid s → (common : List Node) → AreHeld (content_of s) common
+    → (served known : List Bool)
+    → ((n : Node) → IsMarkedNode (changesets s.history) served n ↔ IsServed (content_of s) n)
+    → ((n : Node) → IsMarkedNode (changesets s.history) known n ↔ IsAncestorOfOne (changesets s.history) common n)
+    → (i : ℕ) → i < length served → i < length known → (c : Contents) → slice_get (changesets s.history) i ≡ Some c
     → ((get_or served i false ≡ true) × ¬ (get_or known i false ≡ true)) ↔ IsOutgoing (content_of s) common c
 outgoing-marked s valid common held served known is_served is_known i l k c at =
     let cs = changesets s.history in
@@ -289,21 +373,34 @@ not-too-large m e =
     let more = nat_lt count_limit (length m.bounds) in
     let counts = or_false (many || more) (nat_lt count_limit (length (store_spelling m.markers))) e in
     let both = or_false many more counts.0 in
-    record { changesets = ltb-false count_limit (length m.changesets) both.0; bounds = ltb-false count_limit (length m.bounds) both.1; store = ltb-false count_limit (length (store_spelling m.markers)) counts.1 }
+    record {
+      changesets = ltb-false count_limit (length m.changesets) both.0;
+      bounds = ltb-false count_limit (length m.bounds) both.1;
+      store =
+          ltb-false count_limit (length (store_spelling m.markers)) counts.1;
+    }
 
 -- no message is too large
 pub small-or-large : (m : MessageValue) → IsMessage m → is_too_large m ≡ true → ⊥
-small-or-large m h e = true≢false (sym e ∙ rw (le-ltb count_limit (length m.changesets) h.changesets, le-ltb count_limit (length m.bounds) h.bounds, le-ltb count_limit (length (store_spelling m.markers)) h.store) refl)
+small-or-large m h e =
+    true≢false (sym e ∙ rw (
+      le-ltb count_limit (length m.changesets) h.changesets,
+      le-ltb count_limit (length m.bounds) h.bounds,
+      le-ltb count_limit (length (store_spelling m.markers)) h.store,
+    )
+    refl)
 
 -- to find and to copy is to offer, where there is a changeset
-pub find-then-copy : (s : ReplicaState) (common : List Node) (found : MessageValue) (r : Result MessageValue OfferRefusal) → (changesets s.history ≢ [])
+pub find-then-copy : (s : ReplicaState) (common : List Node) (found : MessageValue)
+    (r : Result MessageValue OfferRefusal) → (changesets s.history ≢ [])
     → FindAnswer s common (Ok found) → CopyAnswer found r → OfferAnswer s common r
 find-then-copy s common found (Ok m) some h k = (h.0, subst (IsOffer s common) (sym k.1) h.1)
 find-then-copy s common found (Err (UnknownCommon n)) some h k = absurd k
 find-then-copy s common found (Err TooLarge) some h k = (h.0, (found, h.1, k))
 find-then-copy s common found (Err NoMemory) some h k = (h.0, some)
 
-pub find-refused : (s : ReplicaState) (common : List Node) (refusal : OfferRefusal) → FindAnswer s common (Err refusal) → OfferAnswer s common (Err refusal)
+pub find-refused : (s : ReplicaState) (common : List Node) (refusal : OfferRefusal)
+    → FindAnswer s common (Err refusal) → OfferAnswer s common (Err refusal)
 find-refused s common (UnknownCommon n) h = h
 find-refused s common TooLarge h = absurd h
 find-refused s common NoMemory h = h

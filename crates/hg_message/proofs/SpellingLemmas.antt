@@ -20,17 +20,20 @@ said_once m n bytes e f = same (sym e ∙ f)
     same e = cc
 
 -- bytes that say a message have no fault
-pub said_is_not_refused : (m : MessageValue) (fault : MessageFault) (bytes : List ℕ) → message_at bytes ≡ Ok m → message_at bytes ≡ Err fault → ⊥
+pub said_is_not_refused : (m : MessageValue) (fault : MessageFault) (bytes : List ℕ) → message_at bytes ≡ Ok m
+    → message_at bytes ≡ Err fault → ⊥
 said_is_not_refused m fault bytes e f = apart (sym e ∙ f)
   where
     apart : ◌≡◌ {A = Result MessageValue MessageFault} (Ok m) (Err fault) → ⊥
     apart e = cc
 
 -- bytes say a message or have a fault
-pub said_or_refused : (bytes : List ℕ) → ((m : MessageValue) → message_at bytes ≡ Ok m → ⊥) → ((fault : MessageFault) → message_at bytes ≡ Err fault → ⊥) → ⊥
+pub said_or_refused : (bytes : List ℕ) → ((m : MessageValue) → message_at bytes ≡ Ok m → ⊥)
+    → ((fault : MessageFault) → message_at bytes ≡ Err fault → ⊥) → ⊥
 said_or_refused bytes unsaid unrefused = by_answer (message_at bytes) unsaid unrefused
   where
-    by_answer : (r : Result MessageValue MessageFault) → ((m : MessageValue) → r ≡ Ok m → ⊥) → ((fault : MessageFault) → r ≡ Err fault → ⊥) → ⊥
+    by_answer : (r : Result MessageValue MessageFault) → ((m : MessageValue) → r ≡ Ok m → ⊥)
+        → ((fault : MessageFault) → r ≡ Err fault → ⊥) → ⊥
     by_answer (Ok m) unsaid unrefused = unsaid m refl
     by_answer (Err fault) unsaid unrefused = unrefused fault refl
 

@@ -1,5 +1,6 @@
 -- What an offer leaves where it is taken in.
-use Rattle.std.proofs.Common.{◌≡◌, ℕ, zero, suc, ◌<◌, ◌≤◌, ◌+◌, inl, inr, List, length, Some, refl, sym, ap, subst, ◌∙◌, arith}
+use Rattle.std.proofs.Common.{◌≡◌, ℕ, zero, suc, ◌<◌, ◌≤◌, ◌+◌, inl, inr, List, length, Some, refl, sym, ap, subst, ◌∙◌}
+use Rattle.std.proofs.Common.{arith}
 use Rattle.std.proofs.lemmas.Bool.{cases_lt, cases_eq, or_right}
 use Rattle.std.proofs.lemmas.Option.{same_Some}
 use Rattle.std.proofs.lemmas.List.Elements.{Contains-append_left}
@@ -27,7 +28,8 @@ use Rattle.hg_message.specs.Offer.{AreHeld, IsCommon, IsHead, IsServedAs, IsOffe
 use Rattle.hg_message.specs.Taken.{DontCollide, HoldsServed}
 use Rattle.hg_message.proofs.AdmittedLemmas.{offer-admitted, known}
 
-module _ (s : ReplicaState) (valid : IsValid s) (common : List Node) (m : MessageValue) (offer : IsOffer s common m) (g : Content) (vg : IsValidContent g) (has : AreHeld g common) (free : DontCollide (content_of s) g) where
+module _ (s : ReplicaState) (valid : IsValid s) (common : List Node) (m : MessageValue) (offer : IsOffer s common m)
+    (g : Content) (vg : IsValidContent g) (has : AreHeld g common) (free : DontCollide (content_of s) g) where
   -- the ancestors of the common nodes are held too
   common_held : (n k : Node) → Leads (content_of s).0 n k → IsHeld g.0 k → IsHeld g.0 n
   common_held n k itself held = held
@@ -47,7 +49,8 @@ module _ (s : ReplicaState) (valid : IsValid s) (common : List Node) (m : Messag
     vf = content-valid s valid
 
     -- what is served is held afterwards
-    served_held : (n : Node) (h : Held) → (content_of s).0 n ≡ Some h → IsServed (content_of s) n → IsHeldAs after.0 n h.changeset
+    served_held : (n : Node) (h : Held) → (content_of s).0 n ≡ Some h → IsServed (content_of s) n
+        → IsHeldAs after.0 n h.changeset
     served_held n h e served = elim (known s valid common m offer g has_common free n h e served) [
       | inl held ↦ (taken.0.union n h.changeset).1 (inl (held.0, held.1, sym (free n h held.0 e held.1)))
       | inr out ↦ (taken.0.union n h.changeset).1 (inr ((offer.says.changesets h.changeset).1 out, (vf.named n h e).0))
@@ -62,15 +65,19 @@ module _ (s : ReplicaState) (valid : IsValid s) (common : List Node) (m : Messag
         below (leads_served a p r parent) x.1 (subst (λ (c : Contents). IsParent c p) (sym x.2) is)
 
     -- a bound of the offer is kept
-    bound_kept : (d : Node) (phase : Phase) → IsHead (content_of s) (IsServedAs (content_of s) phase) d → (n : Node) (k : Held) → after.0 n ≡ Some k → Leads (content_of s).0 n d → rank k.phase ≤ rank phase
+    bound_kept : (d : Node) (phase : Phase) → IsHead (content_of s) (IsServedAs (content_of s) phase) d
+        → (n : Node) (k : Held) → after.0 n ≡ Some k → Leads (content_of s).0 n d → rank k.phase ≤ rank phase
     bound_kept d phase head n k at leads =
         let all = contents_absorbed g.0 after.0 (part_of m).history vg taken.0 in
-        let told = Contains-append_left m.bounds (draft_bounds m.changesets) (d, phase) ((offer.says.bounds (d, phase)).1 head) in
+        let told = Contains-append_left m.bounds (draft_bounds m.changesets) (d, phase)
+        ((offer.says.bounds (d, phase)).1 head) in
         (all.covers.0.bounded (d, phase) told).1 n k at (leads_served n d leads head.0.0)
 
     -- a served changeset is a head where no later one with its phase is a descendant
-    last_head : (phase : Phase) (n d : Node) (p : ℕ) → IsAt (changesets s.history) d p → IsServedAs (content_of s) phase d → Leads (content_of s).0 n d
-        → ((e : Node) (q : ℕ) → IsAt (changesets s.history) e q → p < q → IsServedAs (content_of s) phase e → Leads (content_of s).0 n e → ⊥) → IsHead (content_of s) (IsServedAs (content_of s) phase) d
+    last_head : (phase : Phase) (n d : Node) (p : ℕ) → IsAt (changesets s.history) d p
+        → IsServedAs (content_of s) phase d → Leads (content_of s).0 n d
+        → ((e : Node) (q : ℕ) → IsAt (changesets s.history) e q → p < q → IsServedAs (content_of s) phase e
+        → Leads (content_of s).0 n e → ⊥) → IsHead (content_of s) (IsServedAs (content_of s) phase) d
     last_head phase n d p at_p so leads later = (
       so,
       λ e so_e up.
@@ -85,11 +92,14 @@ module _ (s : ReplicaState) (valid : IsValid s) (common : List Node) (m : Messag
     )
 
     -- so there is a head above each, which has a bound: what stands last
-    none_above : (n : Node) (phase : Phase) (k : Held) → after.0 n ≡ Some k → rank phase < rank k.phase → (j : ℕ) (d : Node) (p : ℕ) → IsAt (changesets s.history) d p → length (changesets s.history) ≤ p + j
+    none_above : (n : Node) (phase : Phase) (k : Held) → after.0 n ≡ Some k → rank phase < rank k.phase
+        → (j : ℕ) (d : Node) (p : ℕ) → IsAt (changesets s.history) d p → length (changesets s.history) ≤ p + j
         → IsServedAs (content_of s) phase d → Leads (content_of s).0 n d → ⊥
-    none_above n phase k at high zero d p at_p far so leads = omega (arith, placed_within (changesets s.history) d p at_p, far)
+    none_above n phase k at high zero d p at_p far so leads =
+        omega (arith, placed_within (changesets s.history) d p at_p, far)
     none_above n phase k at high (suc j) d p at_p far so leads =
-        let head = last_head phase n d p at_p so leads (λ e q at_q lt so_e up. none_above n phase k at high j e q at_q (omega arith) so_e up) in
+        let head = last_head phase n d p at_p so leads (λ e q at_q lt so_e up. none_above n phase k at high j e q at_q
+        (omega arith) so_e up) in
         omega (arith, bound_kept d phase head n k at leads, high)
 
     served_low : (n : Node) → IsServed (content_of s) n → IsBelowAt ((content_of s).0 n) (after.0 n)
@@ -101,7 +111,8 @@ module _ (s : ReplicaState) (valid : IsValid s) (common : List Node) (m : Messag
           elim (cases_lt (rank h.phase) (rank x.0.phase)) [
             | inl high ↦
                 let q = place_from_Holds (changesets s.history) n (node_in_content s.history valid.graph n (h, e)) in
-                absurd (none_above n h.phase x.0 x.1 high (length (changesets s.history)) n q.0 q.1 (omega arith) (served, (h, e, refl)) itself)
+                absurd (none_above n h.phase x.0 x.1 high (length (changesets s.history)) n q.0 q.1 (omega arith)
+                (served, (h, e, refl)) itself)
             | inr le ↦ le
           ],
         )
@@ -109,9 +120,11 @@ module _ (s : ReplicaState) (valid : IsValid s) (common : List Node) (m : Messag
     pub taken-served : HoldsServed (content_of s) after
     taken-served = record {
       changesets = served_low;
-      markers = λ k relevant. ap (λ (u : Fields → _). u k) taken.1 ∙ or_right _ _ (holds-from m.markers k ((offer.says.markers k).1 relevant));
+      markers = λ k relevant. ap (λ (u : Fields → _). u k) taken.1
+          ∙ or_right _ _ (holds-from m.markers k ((offer.says.markers k).1 relevant));
     }
 
 -- what is held stays held
-pub common_later : (common : List Node) (g later : Content) → AreHeld g common → ContentBelow g later → AreHeld later common
+pub common_later : (common : List Node) (g later : Content) → AreHeld g common → ContentBelow g later
+    → AreHeld later common
 common_later common g later has up k at = let h = has k at in let l = up.0 k h.0 h.1 in (l.0, l.1)

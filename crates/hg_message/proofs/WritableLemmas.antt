@@ -28,7 +28,8 @@ module _ (s : ReplicaState) (valid : IsValid s) (markers : All IsMarker s.marker
       let named = (content-valid s valid).named n h e in
       (subst IsNode named.0 named.1.node, named.1)
 
-  pub offer-writable : (common : List Node) (m : MessageValue) → IsOffer s common m → is_too_large m ≡ false → IsWritable m
+  pub offer-writable : (common : List Node) (m : MessageValue) → IsOffer s common m → is_too_large m ≡ false
+      → IsWritable m
   offer-writable common m offer e = record {
     message = not-too-large m e;
     changesets = all_by_members IsChangeset m.changesets (λ c at.
@@ -38,9 +39,12 @@ module _ (s : ReplicaState) (valid : IsValid s) (markers : All IsMarker s.marker
         let held = ((offer.says.bounds b).0 at).0.1 in
         record { is_node = (held_is b.0 held.0 held.1).0 });
     markers = all_by_members IsMarker m.markers (λ k at.
-        All-contains IsMarker s.markers k markers (in_from_holds s.markers k (relevant-held (IsHeldMarker (content_of s)) (IsServed (content_of s)) k ((offer.says.markers k).0 at))));
+        All-contains IsMarker s.markers k markers (in_from_holds s.markers k
+        (relevant-held (IsHeldMarker (content_of s)) (IsServed (content_of s)) k ((offer.says.markers k).0 at))));
   }
 
   -- and is read back from its bytes
-  pub offer-read : (common : List Node) (m : MessageValue) → IsOffer s common m → is_too_large m ≡ false → message_at (message_spelling m) ≡ Ok m
-  offer-read common m offer e = spelling_is_read m (message_spelling m) (writable_spells m (offer-writable common m offer e))
+  pub offer-read : (common : List Node) (m : MessageValue) → IsOffer s common m → is_too_large m ≡ false
+      → message_at (message_spelling m) ≡ Ok m
+  offer-read common m offer e = spelling_is_read m (message_spelling m)
+      (writable_spells m (offer-writable common m offer e))

@@ -13,7 +13,8 @@ use Rattle.hg_marker.proofs.MarkerLemmas.{is_spelling}
 use Rattle.hg_obsstore.specs.Spelling.{IsStoreSpelling, store_spelling}
 use Rattle.hg_obsstore.proofs.FormatLemmas.{written_spells}
 use Rattle.hg_message.specs.Value.{MessageValue, IsMessage}
-use Rattle.hg_message.specs.Spelling.{InOrder, HasNode, IsRecord, IsBound, IsWritable, IsMessageSpelling, record_spelling, bound_layout, message_spelling}
+use Rattle.hg_message.specs.Spelling.{InOrder, HasNode, IsRecord, IsBound, IsWritable, IsMessageSpelling}
+use Rattle.hg_message.specs.Spelling.{record_spelling, bound_layout, message_spelling}
 
 -- parents in normal form stay as they are
 normal_again : (c : Contents) → IsNormal c.first c.second → c ≡ changeset_of c.first c.second c.text
@@ -41,12 +42,15 @@ record_spells c h = record {
   layout = refl;
 }
 
-each_spells : {A : Type 0} (S : A → List _ → Type 0) (f : A → List _) (P : A → Type 0) → ((x : A) → P x → S x (f x)) → (xs : List A) → AllByRecursion P xs → InOrder S xs (flat_map f xs)
+each_spells : {A : Type 0} (S : A → List _ → Type 0) (f : A → List _) (P : A → Type 0) → ((x : A) → P x → S x (f x))
+    → (xs : List A) → AllByRecursion P xs → InOrder S xs (flat_map f xs)
 each_spells S f P one [] h = refl
 each_spells S f P one (x ∷ xs) h = (f x, flat_map f xs, one x h.0, each_spells S f P one xs h.1, refl)
 
 -- what is written spells the message
-pub message_spells : (m : MessageValue) → IsMessage m → AllByRecursion IsChangeset m.changesets → AllByRecursion HasNode m.bounds → IsStoreSpelling m.markers (store_spelling m.markers) → IsMessageSpelling m (message_spelling m)
+pub message_spells : (m : MessageValue) → IsMessage m → AllByRecursion IsChangeset m.changesets
+    → AllByRecursion HasNode m.bounds → IsStoreSpelling m.markers (store_spelling m.markers)
+    → IsMessageSpelling m (message_spelling m)
 message_spells m few changesets bounds markers = record {
   records = flat_map record_spelling m.changesets;
   entries = flat_map bound_layout m.bounds;
@@ -63,16 +67,25 @@ each_marker [] h = tt
 each_marker (m ∷ ms) h = (is_spelling m h.0, each_marker ms h.1)
 
 pub writable_spells : (m : MessageValue) → IsWritable m → IsMessageSpelling m (message_spelling m)
-writable_spells m h = message_spells m h.message h.changesets h.bounds (written_spells m.markers (each_marker m.markers h.markers))
+writable_spells m h = message_spells m h.message h.changesets h.bounds
+    (written_spells m.markers (each_marker m.markers h.markers))
 
 -- ---- a loop that writes the bounds, one after the other
 
-pub writes_on : {A : Type 0} (f : A → List ℕ) (xs : List A) (i : ℕ) (d : A) (before out next : List ℕ) → i < length xs → out ≡ before ++ flat_map f (take i xs) → next ≡ out ++ f (get_or xs i d) → next ≡ before ++ flat_map f (take (i + 1) xs)
+pub writes_on : {A : Type 0} (f : A → List ℕ) (xs : List A) (i : ℕ) (d : A) (before out next : List ℕ) → i < length xs
+    → out ≡ before ++ flat_map f (take i xs) → next ≡ out ++ f (get_or xs i d)
+    → next ≡ before ++ flat_map f (take (i + 1) xs)
 writes_on f xs i d before out next lt so_far e =
-    e ∙ ap (λ (bytes : List ℕ). bytes ++ f (get_or xs i d)) so_far ∙ flat_map_more f before (take i xs) (get_or xs i d) ∙ ap (λ (ys : List _). before ++ flat_map f ys) (sym (take_more xs i d lt))
+    e ∙ ap (λ (bytes : List ℕ). bytes ++ f (get_or xs i d)) so_far
+    ∙ flat_map_more f before (take i xs) (get_or xs i d) ∙ ap (λ (ys : List _). before ++ flat_map f ys)
+    (sym (take_more xs i d lt))
 
-pub AllByRecursion-push : {A : Type 0} (P : A → Type 0) (xs : List A) (x : A) → AllByRecursion P xs → P x → AllByRecursion P (xs ++ x ∷ [])
-AllByRecursion-push P xs x each one = recursion_from_All P (xs ++ x ∷ []) (All-push P xs x (All-from_recursion P xs each) one)
+pub AllByRecursion-push : {A : Type 0} (P : A → Type 0) (xs : List A) (x : A) → AllByRecursion P xs → P x
+    → AllByRecursion P (xs ++ x ∷ [])
+AllByRecursion-push P xs x each one = recursion_from_All P (xs ++ x ∷ [])
+    (All-push P xs x (All-from_recursion P xs each) one)
 
-pub each_goes_on : {A : Type 0} (P : A → Type 0) (xs : List A) (i : ℕ) (d : A) → i < length xs → AllByRecursion P (take i xs) → P (get_or xs i d) → AllByRecursion P (take (i + 1) xs)
-each_goes_on P xs i d lt so_far one = rw (take_more xs i d lt) (AllByRecursion-push P (take i xs) (get_or xs i d) so_far one)
+pub each_goes_on : {A : Type 0} (P : A → Type 0) (xs : List A) (i : ℕ) (d : A) → i < length xs
+    → AllByRecursion P (take i xs) → P (get_or xs i d) → AllByRecursion P (take (i + 1) xs)
+each_goes_on P xs i d lt so_far one = rw (take_more xs i d lt)
+    (AllByRecursion-push P (take i xs) (get_or xs i d) so_far one)

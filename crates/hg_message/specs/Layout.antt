@@ -31,17 +31,21 @@ abbrev pub markers_in : Layout → Result (List Fields) MessageFault
 markers_in l = last_of (told_in l.start (store_at l.store.now)) l.rest.now
 
 -- the first of what was read, and then the others
-abbrev pub with_read : {A B : Type 0} → Result (A × List ℕ) MessageFault → (A → Result B MessageFault) → Result B MessageFault
+abbrev pub with_read : {A B : Type 0} → Result (A × List ℕ) MessageFault → (A → Result B MessageFault)
+    → Result B MessageFault
 with_read (Ok x) f = f x.0
 with_read (Err fault) f = Err fault
 
-abbrev pub with_markers : List Contents → List (Node × Phase) → Result (List Fields) MessageFault → Result MessageValue MessageFault
-with_markers changesets bounds (Ok markers) = Ok (record { changesets = changesets; bounds = bounds; markers = markers })
+abbrev pub with_markers : List Contents → List (Node × Phase) → Result (List Fields) MessageFault
+    → Result MessageValue MessageFault
+with_markers changesets bounds (Ok markers) =
+    Ok (record { changesets = changesets; bounds = bounds; markers = markers })
 with_markers changesets bounds (Err fault) = Err fault
 
 -- the message that the parts say
 abbrev pub said : Layout → Result MessageValue MessageFault
-said l = with_read (records_in l) (λ changesets. with_read (bounds_in l) (λ bounds. with_markers changesets bounds (markers_in l)))
+said l = with_read (records_in l) (λ changesets. with_read (bounds_in l)
+    (λ bounds. with_markers changesets bounds (markers_in l)))
 
 -- records and bounds were read, and the store is no longer than its length tells, and has a place
 pub record IsLayout (l : Layout) : Type 0 where

@@ -7,6 +7,7 @@ pub mod Record
 pub mod RecordView
 pub mod Bound
 pub mod Message
+pub mod FirstFault
 pub mod Layout
 pub mod Spelling
 pub mod Part

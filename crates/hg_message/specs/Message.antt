@@ -6,7 +6,8 @@ use Rattle.hg_obsstore.specs.declared.fault.StoreFault.{StoreFault}
 use Rattle.hg_obsstore.specs.declared.fault.StoreFault.TheVariants as store
 use Rattle.hg_obsstore.specs.Faults.{store_at}
 use Rattle.hg_message.specs.declared.error.MessageFault.{MessageFault}
-use Rattle.hg_message.specs.declared.error.MessageFault.TheVariants.{Truncated, BadMagic, BadVersion, BadMarker, Trailing}
+use Rattle.hg_message.specs.declared.error.MessageFault.TheVariants.{Truncated, BadMagic, BadVersion, BadMarker}
+use Rattle.hg_message.specs.declared.error.MessageFault.TheVariants.{Trailing}
 use Rattle.hg_message.specs.Place.{here, whole}
 use Rattle.hg_message.specs.Counted.{counted}
 use Rattle.hg_message.specs.Record.{record_at}

@@ -1,5 +1,7 @@
--- What a replica offers to one that has some common nodes: first over what it contains, free of order, and then in which order it stands.
-use Rattle.std.specs.Prelude.{◌≡◌, ◌≢◌, ℕ, true, List, [], ◌++◌, map, take, slice_get, Some, Contains, ◌↔◌, Result, Ok, Err}
+-- What a replica offers to one that has some common nodes: first over what it contains, free of order, and then in
+-- which order it stands.
+use Rattle.std.specs.Prelude.{◌≡◌, ◌≢◌, ℕ, true, List, [], ◌++◌, map, take, slice_get, Some, Contains, ◌↔◌, Result, Ok}
+use Rattle.std.specs.Prelude.{Err}
 use Rattle.std.specs.List.Sorted.{IsStrictlySortedBy}
 use Rattle.hg_changeset.specs.declared.node.Node.{Node}
 use Rattle.hg_changeset.specs.Node.{node_cmp}
@@ -95,5 +97,6 @@ IsFirstUnknown f common n = (i : ℕ) × (slice_get common i ≡ Some n) × ¬ (
 abbrev pub OfferAnswer : ReplicaState → List Node → Result MessageValue OfferRefusal → Type 0
 OfferAnswer s common (Ok m) = AreHeld (content_of s) common × IsOffer s common m
 OfferAnswer s common (Err (UnknownCommon n)) = IsFirstUnknown (content_of s) common n
-OfferAnswer s common (Err TooLarge) = AreHeld (content_of s) common × ((m : MessageValue) × IsOffer s common m × (is_too_large m ≡ true))
+OfferAnswer s common (Err TooLarge) = AreHeld (content_of s) common
+    × ((m : MessageValue) × IsOffer s common m × (is_too_large m ≡ true))
 OfferAnswer s common (Err NoMemory) = AreHeld (content_of s) common × (changesets s.history ≢ [])

@@ -29,7 +29,8 @@ FindAnswer s common (Err (UnknownCommon n)) = IsFirstUnknown (content_of s) comm
 FindAnswer s common (Err TooLarge) = ⊥
 FindAnswer s common (Err NoMemory) = AreHeld (content_of s) common × (changesets s.history ≢ [])
 
--- the answer to a call that makes something of what was found: what is too large is told so, and memory can be wanting only for what isn't
+-- the answer to a call that makes something of what was found: what is too large is told so, and memory can be wanting
+-- only for what isn't
 abbrev pub MakeAnswer : {A : Type 0} → MessageValue → (A → Type 0) → Result A OfferRefusal → Type 0
 MakeAnswer found P (Ok x) = (is_too_large found ≡ false) × P x
 MakeAnswer found P (Err (UnknownCommon n)) = ⊥

@@ -14,4 +14,7 @@ draft_bounds changesets = map (λ c. (node_of c, Draft)) changesets
 
 -- the changesets, the bounds and then a draft bound for each changeset, and the markers
 abbrev pub part_of : MessageValue → PartValue
-part_of m = record { history = record { changesets = m.changesets; bounds = m.bounds ++ draft_bounds m.changesets }; markers = m.markers }
+part_of m = record {
+  history = record { changesets = m.changesets; bounds = m.bounds ++ draft_bounds m.changesets };
+  markers = m.markers;
+}

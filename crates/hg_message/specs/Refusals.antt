@@ -5,7 +5,9 @@ use Rattle.hg_obsstore.specs.Refusals.{store_fault_text}
 use Rattle.hg_message.specs.declared.error.MessageError.{MessageError}
 use Rattle.hg_message.specs.declared.error.MessageError.TheVariants.{TooLarge}
 use Rattle.hg_message.specs.declared.error.MessageFault.{MessageFault}
-use Rattle.hg_message.specs.declared.error.MessageFault.TheVariants.{Truncated, BadMagic, BadVersion, HashMismatch, BadParents, BadPhase, BadMarker, Trailing, TextTooLong}
+use Rattle.hg_message.specs.declared.error.MessageFault.TheVariants.{Truncated, BadMagic, BadVersion, HashMismatch}
+use Rattle.hg_message.specs.declared.error.MessageFault.TheVariants.{BadParents, BadPhase, BadMarker, Trailing}
+use Rattle.hg_message.specs.declared.error.MessageFault.TheVariants.{TextTooLong}
 
 -- the number of a refusal of `Message::new`
 abbrev pub message_error_number : MessageError → ℕ
@@ -35,6 +37,7 @@ message_fault_text BadVersion = codes "BadVersion"
 message_fault_text (HashMismatch index) = codes "HashMismatch in record " ++ decimal index
 message_fault_text (BadParents index) = codes "BadParents in record " ++ decimal index
 message_fault_text BadPhase = codes "BadPhase"
-message_fault_text (BadMarker place cause) = codes "BadMarker at " ++ decimal place ++ codes ": " ++ store_fault_text cause
+message_fault_text (BadMarker place cause) = codes "BadMarker at " ++ decimal place ++ codes ": " ++ store_fault_text
+    cause
 message_fault_text Trailing = codes "Trailing"
 message_fault_text (TextTooLong index) = codes "TextTooLong in record " ++ decimal index

@@ -1,5 +1,5 @@
--- Messages are equal where they hold the same changesets, bounds and markers, in the same order: the test that `==` makes
--- decides it.
+-- Messages are equal where they hold the same changesets, bounds and markers, in the same order: the test that `==`
+-- makes decides it.
 use Rattle.std.specs.Prelude.{◌≡◌, Bool, ◌&&◌, nat_eq}
 use Rattle.std.proofs.Common.{ap}
 use Rattle.std.proofs.lemmas.Bool.Decides.{Decides-and, Decides-like}
@@ -21,7 +21,8 @@ same_bound x y = node_eq x.0 y.0 && nat_eq (rank x.1) (rank y.1)
 
 -- the same changesets, bounds and markers
 unfoldable pub same_message : MessageValue → MessageValue → Bool
-same_message m n = pointwise same_contents m.changesets n.changesets && (pointwise same_bound m.bounds n.bounds && same_markers m.markers n.markers)
+same_message m n = pointwise same_contents m.changesets n.changesets &&
+    (pointwise same_bound m.bounds n.bounds && same_markers m.markers n.markers)
 
 rank_decides : (j k : Phase) → Decides (nat_eq (rank j) (rank k)) (j ≡ k)
 rank_decides j k = (
@@ -39,9 +40,18 @@ pub message_decides : (m n : MessageValue) → Decides (same_message m n) (m ≡
 unfolding same_message
 message_decides m n = Decides-like (same_message m n)
     (λ h i. record { changesets = h.0 i; bounds = h.1.0 i; markers = h.1.1 i })
-    (λ e. (ap (λ (x : MessageValue). x.changesets) e, (ap (λ (x : MessageValue). x.bounds) e, ap (λ (x : MessageValue). x.markers) e)))
-    (Decides-and (pointwise same_contents m.changesets n.changesets) (pointwise same_bound m.bounds n.bounds && same_markers m.markers n.markers) (pointwise_decides contents_decides m.changesets n.changesets)
-    (Decides-and (pointwise same_bound m.bounds n.bounds) (same_markers m.markers n.markers) (pointwise_decides bound_decides m.bounds n.bounds) (markers_decides m.markers n.markers)))
+    (λ e. (
+      ap (λ (x : MessageValue). x.changesets) e,
+      (
+        ap (λ (x : MessageValue). x.bounds) e,
+        ap (λ (x : MessageValue). x.markers) e,
+      ),
+    ))
+    (Decides-and (pointwise same_contents m.changesets n.changesets)
+    (pointwise same_bound m.bounds n.bounds && same_markers m.markers n.markers)
+    (pointwise_decides contents_decides m.changesets n.changesets)
+    (Decides-and (pointwise same_bound m.bounds n.bounds) (same_markers m.markers n.markers)
+    (pointwise_decides bound_decides m.bounds n.bounds) (markers_decides m.markers n.markers)))
 
 pub message_equivalence : IsEquivalence same_message
 message_equivalence = decided same_message message_decides

@@ -48,7 +48,8 @@ InOrder S (x ∷ xs) bytes = (front : List ℕ) × (back : List ℕ) × S x fron
 -- the magic, the version, the records behind their count, the bounds behind theirs, and the store behind its length
 abbrev pub message_layout : ℕ → List ℕ → ℕ → List ℕ → List ℕ → List ℕ
 message_layout count records entries bounds store =
-    number magic_number ++ (1 ∷ (number count ++ (records ++ (number entries ++ (bounds ++ (number (length store) ++ store))))))
+    number magic_number ++
+    (1 ∷ (number count ++ (records ++ (number entries ++ (bounds ++ (number (length store) ++ store))))))
 
 -- the bytes spell the message
 pub record IsMessageSpelling (m : MessageValue) (bytes : List ℕ) : Type 0 where
@@ -68,7 +69,8 @@ record_spelling c = record_layout (node_of c) c.first c.second c.text
 -- the one spelling that is written
 abbrev pub message_spelling : MessageValue → List ℕ
 message_spelling m =
-    message_layout (length m.changesets) (flat_map record_spelling m.changesets) (length m.bounds) (flat_map bound_layout m.bounds) (store_spelling m.markers)
+    message_layout (length m.changesets) (flat_map record_spelling m.changesets) (length m.bounds)
+    (flat_map bound_layout m.bounds) (store_spelling m.markers)
 
 -- the bound is of a node id
 pub record HasNode (bound : Node × Phase) : Type 0 where

@@ -26,7 +26,8 @@ pub record IsMessage (m : MessageValue) : Type 0 where
 
 -- one of these numbers is too large
 abbrev pub is_too_large : MessageValue → Bool
-is_too_large m = nat_lt count_limit (length m.changesets) || nat_lt count_limit (length m.bounds) || nat_lt count_limit (length (store_spelling m.markers))
+is_too_large m = nat_lt count_limit (length m.changesets) || nat_lt count_limit
+    (length m.bounds) || nat_lt count_limit (length (store_spelling m.markers))
 
 -- the message of these, or that they are too many
 abbrev pub message_of : MessageValue → Result MessageValue MessageError

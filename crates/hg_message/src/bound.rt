@@ -46,7 +46,8 @@ fn read_bound(total: usize, bytes: &[u8]) -> Result<((Node, Phase), &[u8]), Mess
 /// The bytes after so many bounds. It takes no memory.
 pub(crate) fn skip_bounds(total: usize, count: u32, bytes: &[u8]) -> Result<&[u8], MessageFault>
     ensures { MatchResult result
-        (λ rest. (bounds : List (Node × Phase)) × (counted (λ _. bound_at total) 0 count bytes.now ≡ Ok (bounds, rest.now)))
+        (λ rest. (bounds : List (Node × Phase))
+        × (counted (λ _. bound_at total) 0 count bytes.now ≡ Ok (bounds, rest.now)))
         (λ fault. counted (λ _. bound_at total) 0 count bytes.now ≡ Err fault) }
 {
     let mut rest = bytes;
@@ -66,7 +67,8 @@ pub(crate) fn read_bounds(
     count: u32,
     bytes: &[u8],
 ) -> Result<Vec<(Node, Phase)>, AllocError>
-    ensures read { IfOk result (λ bounds. first_of (counted (λ _. bound_at total) 0 count bytes.now) ≡ Ok bounds.items) }
+    ensures read { IfOk result
+        (λ bounds. first_of (counted (λ _. bound_at total) 0 count bytes.now) ≡ Ok bounds.items) }
     ensures memory { OnErr result (0 < count) }
 {
     let mut bounds = Vec::with_capacity(alloc, count as usize)?;

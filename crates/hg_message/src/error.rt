@@ -1,6 +1,7 @@
 //! Why there is no message, and why bytes are none.
 ghost use Rattle.std.specs.Prelude.{◌≡◌, Some};
-ghost use Rattle.hg_message.specs.Refusals.{message_error_number, message_error_name, message_fault_number, message_fault_text};
+ghost use Rattle.hg_message.specs.Refusals.{message_error_number, message_error_name, message_fault_number};
+ghost use Rattle.hg_message.specs.Refusals.{message_fault_text};
 
 use hg_obsstore::StoreFault;
 use std::error::Error;

@@ -7,7 +7,8 @@ ghost use Rattle.hg_phases.specs.State.{changesets};
 ghost use Rattle.hg_replica.specs.State.{IsValid};
 ghost use Rattle.hg_replica.specs.Content.{content_of};
 ghost use Rattle.hg_replica.specs.Evolution.{HasPhase, IsServed};
-ghost use Rattle.hg_message.specs.Offer.{AreHeads, AreHeld, AreOfferedBounds, IsFirstUnknown, IsOfferedMarker, IsOutgoing, IsServedAs, bounds_in};
+ghost use Rattle.hg_message.specs.Offer.{AreHeads, AreHeld, AreOfferedBounds, IsFirstUnknown, IsOfferedMarker};
+ghost use Rattle.hg_message.specs.Offer.{IsOutgoing, IsServedAs, bounds_in};
 ghost use Rattle.hg_message.specs.Outgoing.{ArePlacesOf, AreServed};
 
 use hg_changeset::Node;
@@ -19,7 +20,8 @@ use std::alloc::{AllocError, Global};
 
 /// The first of the nodes that isn't held.
 pub(crate) fn first_unknown(replica: &Replica, nodes: &[Node]) -> Option<Node>
-    ensures { MatchOption result (AreHeld (content_of replica.now) nodes.now) (IsFirstUnknown (content_of replica.now) nodes.now) }
+    ensures { MatchOption result (AreHeld (content_of replica.now) nodes.now)
+        (IsFirstUnknown (content_of replica.now) nodes.now) }
 {
     let graph = replica.graph();
     for node in nodes {
@@ -39,7 +41,8 @@ pub(crate) fn outgoing_places(
 ) -> Result<Vec<usize>, AllocError>
     requires served { AreServed replica.now served.now }
     requires common { AreHeld (content_of replica.now) common.now }
-    ensures places { IfOk result (λ found. ArePlacesOf (IsOutgoing (content_of replica.now) common.now) (changesets replica.now.history) found.items) }
+    ensures places { IfOk result (λ found. ArePlacesOf (IsOutgoing (content_of replica.now) common.now)
+        (changesets replica.now.history) found.items) }
     ensures valid { IsValid replica.now }
 {
     let graph = replica.graph();
@@ -60,7 +63,8 @@ pub(crate) fn relevant_places(
     served: &[bool],
 ) -> Result<Vec<usize>, AllocError>
     requires { AreServed replica.now served.now }
-    ensures { IfOk result (λ found. ArePlaces (IsOfferedMarker (content_of replica.now)) replica.now.markers found.items) }
+    ensures { IfOk result
+        (λ found. ArePlaces (IsOfferedMarker (content_of replica.now)) replica.now.markers found.items) }
 {
     let nodes = replica.graph().marked(served)?;
     let hints = marked_hints(alloc, replica, served)?;
@@ -103,7 +107,8 @@ fn heads_in(
     phase: Phase,
 ) -> Result<Vec<Node>, AllocError>
     requires { AreServed replica.now served.now }
-    ensures { IfOk result (λ heads. AreHeads (content_of replica.now) (IsServedAs (content_of replica.now) phase) heads.items) }
+    ensures { IfOk result (λ heads. AreHeads (content_of replica.now)
+        (IsServedAs (content_of replica.now) phase) heads.items) }
 {
     let marks = marks_in(alloc, replica, served, phase)?;
     replica.graph().marked_heads(&marks)
@@ -118,7 +123,8 @@ fn marks_in(
 ) -> Result<Vec<bool>, AllocError>
     requires { length marks.now ≡ length (changesets replica.now.history) }
     ensures len { IfOk result (λ found. length found.items ≡ length (changesets replica.now.history)) }
-    ensures exact { IfOk result (λ found. (n : Node) → IsMarkedNode (changesets replica.now.history) found.items n ↔ (IsMarkedNode (changesets replica.now.history) marks.now n × HasPhase (content_of replica.now) n phase)) }
+    ensures exact { IfOk result (λ found. (n : Node) → IsMarkedNode (changesets replica.now.history) found.items n
+        ↔ (IsMarkedNode (changesets replica.now.history) marks.now n × HasPhase (content_of replica.now) n phase)) }
 {
     let graph = replica.graph();
     let mut found = Vec::with_capacity(alloc, graph.len())?;

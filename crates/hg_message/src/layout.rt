@@ -24,8 +24,8 @@ pub(crate) const MAGIC: u32 = 0x4847_4658;
 /// The version that is written.
 pub(crate) const VERSION: u8 = 1;
 
-/// The parts of a message where they stand in its bytes. Records and bounds are whole and without fault, the store wasn't
-/// looked at yet.
+/// The parts of a message where they stand in its bytes. Records and bounds are whole and without fault, the store
+/// wasn't looked at yet.
 #[derive(Clone, Copy)]
 pub(crate) struct Layout<'a> {
     // How many bytes the message has.

@@ -30,7 +30,7 @@ pub use hg_marker::{Marker, MarkerFault, ReadError};
 pub use hg_obsstore::StoreFault;
 pub use hg_phases::Phase;
 pub use hg_replica::Part;
-pub use laws::spelling_laws;
+pub use laws::{first_fault_laws, spelling_laws};
 pub use message::Message;
 pub use offer_laws::{
     an_offer_is_one, offers_above_what_is_held_are_taken, offers_are_admitted, offers_are_covered,

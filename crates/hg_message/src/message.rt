@@ -23,8 +23,8 @@ use std::marker::Model;
 /// The most records and bounds of a message, and the most bytes of its store.
 pub(crate) const COUNT_LIMIT: usize = 4_294_967_295;
 
-/// What one replica tells another: changesets, bounds on phases, and obsolescence markers, each in their order and as often
-/// as they came.
+/// What one replica tells another: changesets, bounds on phases, and obsolescence markers, each in their order and as
+/// often as they came.
 pub struct Message {
     changesets: Vec<Changeset>,
     bounds: Vec<(Node, Phase)>,
@@ -51,9 +51,14 @@ impl Model for Message {
 
     ghost coded = { Prim.hlevel (codes, fields_code) };
 
-    ghost view = { λ m. record { changesets = m.changesets.items; bounds = m.bounds.items; markers = m.markers.items } };
+    ghost view = { λ m. record {
+      changesets = m.changesets.items;
+      bounds = m.bounds.items;
+      markers = m.markers.items;
+    } };
 
-    ghost invariant = { λ m. IsMessage (record { changesets = m.changesets.items; bounds = m.bounds.items; markers = m.markers.items }) };
+    ghost invariant = { λ m. IsMessage
+        (record { changesets = m.changesets.items; bounds = m.bounds.items; markers = m.markers.items }) };
 }
 
 impl PartialEq for Message {
@@ -97,7 +102,8 @@ impl Message {
         bounds: Vec<(Node, Phase)>,
         markers: Vec<Marker>,
     ) -> Result<Message, MessageError>
-        ensures { result ≡ message_of (record { changesets = changesets.items; bounds = bounds.items; markers = markers.items }) }
+        ensures { result ≡ message_of
+            (record { changesets = changesets.items; bounds = bounds.items; markers = markers.items }) }
     {
         if changesets.len() > COUNT_LIMIT || bounds.len() > COUNT_LIMIT || !fit(&markers) {
             return Err(MessageError::TooLarge);
@@ -122,7 +128,8 @@ impl Message {
         bounds: Vec<(Node, Phase)>,
         markers: Vec<Marker>,
     ) -> Message
-        requires { IsMessage (record { changesets = changesets.items; bounds = bounds.items; markers = markers.items }) }
+        requires { IsMessage
+            (record { changesets = changesets.items; bounds = bounds.items; markers = markers.items }) }
         ensures { result ≡ record { changesets = changesets.items; bounds = bounds.items; markers = markers.items } }
     {
         Message {
@@ -169,8 +176,8 @@ impl Message {
         })
     }
 
-    /// What a replica takes in: the changesets, the bounds and then a draft bound for each changeset, since what is passed on
-    /// is no longer secret, and the markers.
+    /// What a replica takes in: the changesets, the bounds and then a draft bound for each changeset, since what is
+    /// passed on is no longer secret, and the markers.
     pub fn part(&self) -> Result<Part, AllocError>
         ensures { IfOk result (λ part. part ≡ part_of self.now) }
     {

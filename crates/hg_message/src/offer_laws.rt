@@ -8,54 +8,70 @@ ghost use Rattle.hg_phases.specs.declared.phase.Phase.TheVariants.{Secret as sec
 ghost use Rattle.hg_phases.specs.State.{Held, state_of};
 ghost use Rattle.hg_history.specs.Content.{IsHeld};
 ghost use Rattle.hg_replica.specs.State.{ReplicaState, IsValid, IsSameState};
-ghost use Rattle.hg_replica.specs.Content.{Content, content_of, IsValidContent, ContentBelow, ContentCovers, ContentAdmits, ContentAfter};
+ghost use Rattle.hg_replica.specs.Content.{Content, content_of, IsValidContent, ContentBelow, ContentCovers};
+ghost use Rattle.hg_replica.specs.Content.{ContentAdmits, ContentAfter};
 ghost use Rattle.hg_replica.specs.Evolution.{HasPhase, IsHidden, IsServed};
 ghost use Rattle.hg_message.specs.Value.{MessageValue};
 ghost use Rattle.hg_message.specs.Part.{part_of};
 ghost use Rattle.hg_message.specs.Offer.{AreHeld, IsCommon, IsOffer, SaysOffer, SayTheSame};
 ghost use Rattle.hg_message.specs.Taken.{DontCollide, HoldsServed};
 
-/// No changeset that is secret or hidden stands in an offer, neither as a record nor as a bound: all of them are served.
+/// No changeset that is secret or hidden stands in an offer, neither as a record nor as a bound: all of them are
+/// served.
 pub fn offers_hold_what_is_served()
-    ensures changesets { (f : Content) (common : List Node) (m : MessageValue) → SaysOffer f common m → (c : Contents) → Contains m.changesets c → IsServed f (node_of c) }
-    ensures bounds { (f : Content) (common : List Node) (m : MessageValue) → SaysOffer f common m → (b : Node × Phase) → Contains m.bounds b → IsServed f b.0 }
+    ensures changesets { (f : Content) (common : List Node) (m : MessageValue) → SaysOffer f common m → (c : Contents)
+        → Contains m.changesets c → IsServed f (node_of c) }
+    ensures bounds { (f : Content) (common : List Node) (m : MessageValue) → SaysOffer f common m → (b : Node × Phase)
+        → Contains m.bounds b → IsServed f b.0 }
     ensures secret { (f : Content) (n : Node) → HasPhase f n secret_phase → ¬ (IsServed f n) }
     ensures hidden { (f : Content) (n : Node) → IsHidden f n → ¬ (IsServed f n) }
 {}
 
 /// An offer says no more than the replica that makes it: the replica covers its part already.
 pub fn offers_are_covered()
-    ensures { (f : Content) (common : List Node) (m : MessageValue) → IsValidContent f → SaysOffer f common m → ContentCovers f (part_of m) }
+    ensures { (f : Content) (common : List Node) (m : MessageValue) → IsValidContent f → SaysOffer f common m
+        → ContentCovers f (part_of m) }
 {}
 
-/// States that are below each other offer the same, in whatever order each keeps what it holds: what covers the part of one
-/// offer covers that of the other.
+/// States that are below each other offer the same, in whatever order each keeps what it holds: what covers the part of
+/// one offer covers that of the other.
 pub fn states_of_one_content_offer_the_same()
-    ensures same { (s t : ReplicaState) (common : List Node) (m n : MessageValue) → IsValid s → IsValid t → IsSameState s t → IsOffer s common m → IsOffer t common n → SayTheSame m n }
-    ensures covered { (m n : MessageValue) → SayTheSame m n → (f : Content) → ContentCovers f (part_of m) ↔ ContentCovers f (part_of n) }
+    ensures same { (s t : ReplicaState) (common : List Node) (m n : MessageValue) → IsValid s → IsValid t
+        → IsSameState s t → IsOffer s common m → IsOffer t common n → SayTheSame m n }
+    ensures covered { (m n : MessageValue) → SayTheSame m n → (f : Content)
+        → ContentCovers f (part_of m) ↔ ContentCovers f (part_of n) }
 {}
 
 /// A state has one offer above some common nodes.
 pub fn an_offer_is_one()
-    ensures once { (s : ReplicaState) (common : List Node) (m n : MessageValue) → IsOffer s common m → IsOffer s common n → m ≡ n }
-    ensures exists { (s : ReplicaState) (common : List Node) → IsValid s → ((m : MessageValue) → IsOffer s common m → ⊥) → ⊥ }
+    ensures once { (s : ReplicaState) (common : List Node) (m n : MessageValue) → IsOffer s common m
+        → IsOffer s common n → m ≡ n }
+    ensures exists { (s : ReplicaState) (common : List Node) → IsValid s
+        → ((m : MessageValue) → IsOffer s common m → ⊥) → ⊥ }
 {}
 
 /// An offer's part is admitted wherever the common nodes and their ancestors are held, and no id stands for another
 /// changeset: so at an empty replica where there are no common nodes.
 pub fn offers_are_admitted()
-    ensures above { (s : ReplicaState) (common : List Node) (m : MessageValue) (g : Content) → IsValid s → IsOffer s common m
+    ensures above { (s : ReplicaState) (common : List Node) (m : MessageValue) (g : Content) → IsValid s
+        → IsOffer s common m
         → ((n : Node) → IsCommon (content_of s) common n → IsHeld g.0 n)
-        → ((n : Node) (h k : Held) → (content_of s).0 n ≡ Some h → g.0 n ≡ Some k → h.changeset ≡ k.changeset) → ContentAdmits g (part_of m) }
-    ensures empty { (s : ReplicaState) (m : MessageValue) → IsValid s → IsOffer s [] m → ContentAdmits (content_of (record { history = state_of [] []; markers = [] })) (part_of m) }
+        → ((n : Node) (h k : Held) → (content_of s).0 n ≡ Some h → g.0 n ≡ Some k → h.changeset ≡ k.changeset)
+        → ContentAdmits g (part_of m) }
+    ensures empty { (s : ReplicaState) (m : MessageValue) → IsValid s → IsOffer s [] m
+        → ContentAdmits (content_of (record { history = state_of [] []; markers = [] })) (part_of m) }
 {}
 
-/// An offer above common nodes that a replica holds is admitted there, then and at any later time, since what is held stays
-/// held. Once it is taken in, the replica holds all that was served when the offer was made, at phases no higher, with the
-/// markers relevant to it. No id may stand for two changesets.
+/// An offer above common nodes that a replica holds is admitted there, then and at any later time, since what is held
+/// stays held. Once it is taken in, the replica holds all that was served when the offer was made, at phases no higher,
+/// with the markers relevant to it. No id may stand for two changesets.
 pub fn offers_above_what_is_held_are_taken()
-    ensures admitted { (s : ReplicaState) (common : List Node) (m : MessageValue) (g later : Content) → IsValid s → IsOffer s common m
-        → AreHeld g common → ContentBelow g later → IsValidContent later → DontCollide (content_of s) later → ContentAdmits later (part_of m) }
-    ensures taken { (s : ReplicaState) (common : List Node) (m : MessageValue) (g later after : Content) → IsValid s → IsOffer s common m
-        → AreHeld g common → ContentBelow g later → IsValidContent later → DontCollide (content_of s) later → ContentAfter later (part_of m) after → HoldsServed (content_of s) after }
+    ensures admitted { (s : ReplicaState) (common : List Node) (m : MessageValue) (g later : Content) → IsValid s
+        → IsOffer s common m
+        → AreHeld g common → ContentBelow g later → IsValidContent later → DontCollide (content_of s) later
+        → ContentAdmits later (part_of m) }
+    ensures taken { (s : ReplicaState) (common : List Node) (m : MessageValue) (g later after : Content) → IsValid s
+        → IsOffer s common m
+        → AreHeld g common → ContentBelow g later → IsValidContent later → DontCollide (content_of s) later
+        → ContentAfter later (part_of m) after → HoldsServed (content_of s) after }
 {}

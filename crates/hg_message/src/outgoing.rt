@@ -1,7 +1,7 @@
 //! What goes out to another replica: found first, and copied or written then.
 //!
-//! To find it takes memory, for marks and for a queue. Whether it is too large shows as soon as it is found, without memory
-//! and before anything is copied or written: from there on want of memory never stands for what is too large.
+//! To find it takes memory, for marks and for a queue. Whether it is too large shows as soon as it is found, without
+//! memory and before anything is copied or written: from there on want of memory never stands for what is too large.
 ghost use Rattle.std.specs.Prelude.{◌≡◌, ◌<◌, ◌≤◌, IfOk, MatchOption, [], true, false, length};
 ghost use Rattle.hg_obsstore.specs.Places.{picked};
 ghost use Rattle.hg_obsstore.specs.Spelling.{IsStoreSpelling, store_spelling};
@@ -24,8 +24,8 @@ use hg_view::served_marks;
 use std::alloc::{AllocError, Global};
 use std::marker::Model;
 
-/// What a replica [`offer`](crate::offer)s, found and neither copied nor written yet: which of its changesets and markers, and which bounds.
-/// Contracts see the message that it says.
+/// What a replica [`offer`](crate::offer)s, found and neither copied nor written yet: which of its changesets and
+/// markers, and which bounds. Contracts see the message that it says.
 pub struct Outgoing<'a> {
     replica: &'a Replica,
     // The places of the changesets in the graph, and of the markers in the store, ascending.
@@ -64,7 +64,8 @@ impl<'a> Model for Outgoing<'a> {
       markers = picked o.replica.now.markers o.markers.items;
     } };
 
-    ghost invariant = { λ o. length (picked (changesets_of o.replica.now.history) o.changesets.items) ≡ length o.changesets.items };
+    ghost invariant = { λ o. length (picked (changesets_of o.replica.now.history) o.changesets.items)
+        ≡ length o.changesets.items };
 }
 
 impl<'a> Outgoing<'a> {
@@ -104,8 +105,8 @@ impl<'a> Outgoing<'a> {
         Ok(self.copied()?)
     }
 
-    /// The bytes of the message, written straight from the replica: no changeset and no marker is copied. They are written
-    /// once, into room that is taken at once.
+    /// The bytes of the message, written straight from the replica: no changeset and no marker is copied. They are
+    /// written once, into room that is taken at once.
     ///
     /// Refuses [`OfferRefusal::TooLarge`] alone, before it takes any memory: want of memory never stands for it.
     pub fn to_bytes(&self) -> Result<Vec<u8>, OfferRefusal>
@@ -120,7 +121,8 @@ impl<'a> Outgoing<'a> {
 
     // How many bytes its markers take as they are written, where it isn't too large.
     fn store_len(&self) -> Option<usize>
-        ensures len { MatchOption result (is_too_large self.now ≡ true) (λ len. (is_too_large self.now ≡ false) × (len ≡ length (store_spelling self.now.markers))) }
+        ensures len { MatchOption result (is_too_large self.now ≡ true)
+            (λ len. (is_too_large self.now ≡ false) × (len ≡ length (store_spelling self.now.markers))) }
         ensures spells { IsStoreSpelling self.now.markers (store_spelling self.now.markers) }
     {
         let fitting = fitting_len(self.replica.store(), &self.markers);
@@ -197,7 +199,8 @@ fn find<'a>(
 
 // How many bytes the markers at the places take as they are written, where four bytes can tell it.
 fn fitting_len(store: &Store, places: &[usize]) -> Option<usize>
-    ensures len { MatchOption result (count_limit < length (store_spelling (picked store.now places.now))) (λ len. (len ≤ count_limit) × (len ≡ length (store_spelling (picked store.now places.now)))) }
+    ensures len { MatchOption result (count_limit < length (store_spelling (picked store.now places.now)))
+        (λ len. (len ≤ count_limit) × (len ≡ length (store_spelling (picked store.now places.now)))) }
     ensures spells { IsStoreSpelling (picked store.now places.now) (store_spelling (picked store.now places.now)) }
 {
     match markers_len_at(store, places) {

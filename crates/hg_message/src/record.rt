@@ -63,7 +63,8 @@ fn skip_record(total: usize, index: u32, bytes: &[u8]) -> Result<&[u8], MessageF
 /// The bytes after so many records. It takes no memory.
 pub(crate) fn skip_records(total: usize, count: u32, bytes: &[u8]) -> Result<&[u8], MessageFault>
     ensures { MatchResult result
-        (λ rest. (changesets : List Contents) × (counted (record_at total) 0 count bytes.now ≡ Ok (changesets, rest.now)))
+        (λ rest. (changesets : List Contents)
+        × (counted (record_at total) 0 count bytes.now ≡ Ok (changesets, rest.now)))
         (λ fault. counted (record_at total) 0 count bytes.now ≡ Err fault) }
 {
     let mut rest = bytes;
@@ -105,7 +106,8 @@ pub(crate) fn read_records(
     bytes: &[u8],
 ) -> Result<Vec<Changeset>, AllocError>
     requires { IsRead (counted (record_at total) 0 count bytes.now) }
-    ensures read { IfOk result (λ changesets. first_of (counted (record_at total) 0 count bytes.now) ≡ Ok changesets.items) }
+    ensures read { IfOk result
+        (λ changesets. first_of (counted (record_at total) 0 count bytes.now) ≡ Ok changesets.items) }
     ensures memory { OnErr result (0 < count) }
 {
     let mut changesets = Vec::with_capacity(alloc, count as usize)?;

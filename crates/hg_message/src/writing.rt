@@ -6,7 +6,8 @@ ghost use Rattle.hg_changeset.specs.Changeset.{IsChangeset};
 ghost use Rattle.hg_obsstore.specs.Places.{picked};
 ghost use Rattle.hg_message.specs.Value.{IsMessage, count_limit};
 ghost use Rattle.hg_message.specs.Message.{magic_number};
-ghost use Rattle.hg_message.specs.Spelling.{IsMessageSpelling, number, message_spelling, record_spelling, bound_layout, HasNode};
+ghost use Rattle.hg_message.specs.Spelling.{IsMessageSpelling, number, message_spelling, record_spelling, bound_layout};
+ghost use Rattle.hg_message.specs.Spelling.{HasNode};
 
 use crate::bound::phase_number;
 use crate::layout::{MAGIC, VERSION};
@@ -34,8 +35,11 @@ pub(crate) fn write_message(
     markers: &[Marker],
 ) -> Result<Vec<u8>, AllocError>
     requires { IsMessage (record { changesets = changesets.now; bounds = bounds.now; markers = markers.now }) }
-    ensures written { IfOk result (λ bytes. bytes.items ≡ message_spelling (record { changesets = changesets.now; bounds = bounds.now; markers = markers.now })) }
-    ensures spells { IfOk result (λ bytes. IsMessageSpelling (record { changesets = changesets.now; bounds = bounds.now; markers = markers.now }) bytes.items) }
+    ensures written { IfOk result (λ bytes. bytes.items ≡ message_spelling
+        (record { changesets = changesets.now; bounds = bounds.now; markers = markers.now })) }
+    ensures spells { IfOk result
+        (λ bytes. IsMessageSpelling
+        (record { changesets = changesets.now; bounds = bounds.now; markers = markers.now }) bytes.items) }
 {
     let store_len = markers_len(markers).unwrap();
     let count = changesets.len();
@@ -78,7 +82,8 @@ pub(crate) fn write_bounds_and_len(
 ) -> Result<(), AllocError>
     requires bounds { length bounds.now ≤ count_limit }
     requires store { store_len ≤ count_limit }
-    ensures written { OnOk result (out.new.items ≡ out.old.items ++ (number (length bounds.now) ++ (flat_map bound_layout bounds.now ++ number store_len))) }
+    ensures written { OnOk result (out.new.items ≡ out.old.items ++
+        (number (length bounds.now) ++ (flat_map bound_layout bounds.now ++ number store_len))) }
     ensures nodes { OnOk result (AllByRecursion HasNode bounds.now) }
 {
     write_number(out, bounds.len() as u32)?;
@@ -132,7 +137,8 @@ pub(crate) fn write_records_at(
     graph: &Graph,
     places: &[usize],
 ) -> Result<(), AllocError>
-    ensures written { OnOk result (out.new.items ≡ out.old.items ++ flat_map record_spelling (picked graph.now places.now)) }
+    ensures written { OnOk result (out.new.items ≡ out.old.items ++ flat_map record_spelling
+        (picked graph.now places.now)) }
     ensures changesets { OnOk result (AllByRecursion IsChangeset (picked graph.now places.now)) }
 {
     for place in places {

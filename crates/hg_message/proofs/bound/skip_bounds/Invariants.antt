@@ -8,4 +8,6 @@ use Rattle.hg_message.proofs.bound.skip_bounds.Given as goal
 
 -- some bounds, with what is left to check, are all that there is
 abbrev pub invariant-loop : goal.invariant-loop
-invariant-loop l = (front : List (Node × Phase)) × (with_front front (counted (λ _. bound_at l.total) l.counter (l.count - l.counter) l.rest) ≡ counted (λ _. bound_at l.total) 0 l.count l.bytes)
+invariant-loop l = (front : List (Node × Phase))
+    × (with_front front (counted (λ _. bound_at l.total) l.counter (l.count - l.counter) l.rest) ≡ counted
+    (λ _. bound_at l.total) 0 l.count l.bytes)

@@ -13,8 +13,11 @@ loop-place-preserved c =
     elim c.match-get.branch [
       | in-Some+in_ok-copy-in-Some+in_ok-push-in-Some w ↦
           let x = w.in-Some.marker.now in
-          ap (λ v. v.items) w.copies-is ∙ w.in_ok-push-in-Some.ensures.items ∙ ap (λ y. copies ++ y ∷ []) w.in_ok-copy-in-Some.ensures
-          ∙ ap (λ ys. ys ++ x ∷ []) c.loop-place.invariant ∙ sym (picked-some xs places i c.loop-place-test.true x (sym c.get.ensures ∙ ap option_copied w.in-Some.is))
+          ap (λ v. v.items) w.copies-is ∙ w.in_ok-push-in-Some.ensures.items
+          ∙ ap (λ y. copies ++ y ∷ []) w.in_ok-copy-in-Some.ensures
+          ∙ ap (λ ys. ys ++ x ∷ []) c.loop-place.invariant ∙ sym
+          (picked-some xs places i c.loop-place-test.true x (sym c.get.ensures ∙ ap option_copied w.in-Some.is))
       | in-None w ↦
-          ap (λ v. v.items) w.copies-is ∙ c.loop-place.invariant ∙ sym (picked-none xs places i c.loop-place-test.true (sym c.get.ensures ∙ ap option_copied w.in-None.is))
+          ap (λ v. v.items) w.copies-is ∙ c.loop-place.invariant
+          ∙ sym (picked-none xs places i c.loop-place-test.true (sym c.get.ensures ∙ ap option_copied w.in-None.is))
     ]

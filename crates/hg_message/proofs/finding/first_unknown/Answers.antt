@@ -23,9 +23,11 @@ loop-node-preserved c = λ k h.
     let first : Node = record { 0 = [] } in
     let n = get_or nodes i first in
     let here : Holds c.graph-graph.result.now n = c.contains.ensures.0 c.if-not-contains.false in
-    elim ((Contains-taken nodes i n k c.loop-node-test.true (get_or_default nodes i n first c.loop-node-test.true)).0 h) [
+    elim ((Contains-taken nodes i n k c.loop-node-test.true (get_or_default nodes i n first c.loop-node-test.true)).0
+    h) [
       | inl old ↦ c.loop-node.invariant k old
-      | inr e ↦ subst (IsHeld (content_of s).0) e (content-node s.history c.graph-graph.ensures.valid.graph n (subst (λ (cs : List Contents). Holds cs n) c.graph-graph.ensures.graph here))
+      | inr e ↦ subst (IsHeld (content_of s).0) e (content-node s.history c.graph-graph.ensures.valid.graph n
+          (subst (λ (cs : List Contents). Holds cs n) c.graph-graph.ensures.graph here))
     ]
 
 pub returns-then-not-contains : goal.returns-then-not-contains
@@ -37,9 +39,12 @@ returns-then-not-contains c =
     let n = get_or nodes i first in (
       i,
       slice_get-get_or nodes i first c.loop-node-test.true,
-      λ held. true≢false (sym (c.contains.ensures.1 (subst (λ (cs : List Contents). Holds cs n) (sym c.graph-graph.ensures.graph) (node_in_content s.history c.graph-graph.ensures.valid.graph n held))) ∙ c.if-not-contains.true),
+      λ held. true≢false (sym
+          (c.contains.ensures.1 (subst (λ (cs : List Contents). Holds cs n) (sym c.graph-graph.ensures.graph)
+          (node_in_content s.history c.graph-graph.ensures.valid.graph n held))) ∙ c.if-not-contains.true),
       c.loop-node.invariant,
     )
 
 pub returns : goal.returns
-returns c = subst (AreHeld (content_of c.args.replica.now)) (take_all c.loop-node.node-index c.args.nodes.now c.loop-node-test.false) c.loop-node.invariant
+returns c = subst (AreHeld (content_of c.args.replica.now))
+    (take_all c.loop-node.node-index c.args.nodes.now c.loop-node-test.false) c.loop-node.invariant

@@ -17,14 +17,19 @@ returns c =
     let f = content_of s in
     let cs = changesets s.history in
     let marks = c.deref.result.now in
-    let told : (n : Node) → IsMarkedNode cs marks n ↔ (IsMarkedNode cs c.args.served.now n × HasPhase f n c.args.phase) =
-    subst (λ (ms : List Bool). (n : Node) → IsMarkedNode cs ms n ↔ (IsMarkedNode cs c.args.served.now n × HasPhase f n c.args.phase)) (sym c.deref.ensures.value) c.in_ok-marks.ensures.exact in
+    let told : (n : Node)
+    → IsMarkedNode cs marks n ↔ (IsMarkedNode cs c.args.served.now n × HasPhase f n c.args.phase) =
+    subst (λ (ms : List Bool). (n : Node) → IsMarkedNode cs ms n
+    ↔ (IsMarkedNode cs c.args.served.now n × HasPhase f n c.args.phase))
+    (sym c.deref.ensures.value) c.in_ok-marks.ensures.exact in
     let are : (n : Node) → IsMarkedNode cs marks n ↔ IsServedAs f c.args.phase n = λ n. (
       λ h. let x = (told n).0 h in ((c.requires.exact n).0 x.0, x.1),
       λ h. (told n).1 ((c.requires.exact n).1 h.0, h.1),
     ) in
     IfOk-weaker c.marked_heads.result _ _
-    (λ heads is. heads-are s c.graph.ensures.valid (IsServedAs f c.args.phase) (IsMarkedNode cs marks) (λ n h. (h.1.0, h.1.1)) heads.items are
-    (subst (λ (ds : List Contents). (n : Node) → Contains heads.items n ↔ IsHeadAmong ds (IsMarkedNode ds marks) n) c.graph.ensures.graph is.0)
+    (λ heads is. heads-are s c.graph.ensures.valid (IsServedAs f c.args.phase) (IsMarkedNode cs marks)
+    (λ n h. (h.1.0, h.1.1)) heads.items are
+    (subst (λ (ds : List Contents). (n : Node) → Contains heads.items n ↔ IsHeadAmong ds (IsMarkedNode ds marks) n)
+    c.graph.ensures.graph is.0)
     is.1)
     (if_ok_both _ _ c.marked_heads.result c.marked_heads.ensures.exact c.marked_heads.ensures.ascending)

@@ -15,7 +15,9 @@ pub loop-place-init : goal.loop-place-init
 loop-place-init c =
     let s = c.args.replica.now in
     let cs = changesets s.history in
-    subst (TellsFirst cs (λ n. IsMarkedNode cs c.args.marks.now n × HasPhase (content_of s) n c.args.phase) 0) (sym c.in_ok-found.ensures.items) (tells_none cs (λ n. IsMarkedNode cs c.args.marks.now n × HasPhase (content_of s) n c.args.phase))
+    subst (TellsFirst cs (λ n. IsMarkedNode cs c.args.marks.now n × HasPhase (content_of s) n c.args.phase) 0)
+    (sym c.in_ok-found.ensures.items)
+    (tells_none cs (λ n. IsMarkedNode cs c.args.marks.now n × HasPhase (content_of s) n c.args.phase))
 
 pub loop-place-preserved : goal.loop-place-preserved
 loop-place-preserved c =
@@ -24,24 +26,37 @@ loop-place-preserved c =
     let graph : IsGraph cs = c.graph-graph.ensures.valid.graph in
     let i = c.loop-place.place in
     let marks = c.args.marks.now in
-    let told : (n : Node) → IsAt cs n i → (c.if-marks-place.push ≡ true) ↔ (IsMarkedNode cs marks n × HasPhase (content_of s) n c.args.phase) = λ n at.
+    let told : (n : Node) → IsAt cs n i → (c.if-marks-place.push ≡ true)
+    ↔ (IsMarkedNode cs marks n × HasPhase (content_of s) n c.args.phase) = λ n at.
     let mark = mark_at cs graph marks i n c.loop-place-test.true at in
     elim c.if-marks-place.branch [
       | then-marks-place w ↦
           let so = w.has_phase_at.ensures n at in
           (λ h. (mark.0 w.if-marks-place.true, so.0 (sym w.push-is ∙ h)), λ h. w.push-is ∙ so.1 h.1)
-      | else-marks-place w ↦
-          (λ h. absurd (true≢false (sym h ∙ w.push-is ∙ w.if-marks-place.false)), λ h. absurd (true≢false (sym (mark.1 h.0) ∙ w.if-marks-place.false)))
+      | else-marks-place w ↦ (
+        λ h. absurd (true≢false (sym h ∙ w.push-is ∙ w.if-marks-place.false)),
+        λ h. absurd (true≢false (sym (mark.1 h.0) ∙ w.if-marks-place.false)),
+      )
     ] in
-    subst (TellsFirst cs (λ n. IsMarkedNode cs marks n × HasPhase (content_of s) n c.args.phase) (i + 1)) (sym c.in_ok-push.ensures.items)
-    (tells_more cs (λ n. IsMarkedNode cs marks n × HasPhase (content_of s) n c.args.phase) i c.loop-place.found.items c.if-marks-place.push c.loop-place.invariant told)
+    subst (TellsFirst cs (λ n. IsMarkedNode cs marks n × HasPhase (content_of s) n c.args.phase) (i + 1))
+    (sym c.in_ok-push.ensures.items)
+    (tells_more cs (λ n. IsMarkedNode cs marks n × HasPhase (content_of s) n c.args.phase) i c.loop-place.found.items
+    c.if-marks-place.push c.loop-place.invariant told)
 
 pub returns-clause-len : goal.returns-clause-len
-returns-clause-len c = omega (arith, c.loop-place.invariant.len, c.loop-place.auto.place-end, c.loop-place-test.false, c.requires)
+returns-clause-len c = omega (
+  arith,
+  c.loop-place.invariant.len,
+  c.loop-place.auto.place-end,
+  c.loop-place-test.false,
+  c.requires,
+)
 
 pub returns-clause-exact : goal.returns-clause-exact
 returns-clause-exact c n =
     let s = c.args.replica.now in
     let cs = changesets s.history in
-    let told = tells_all cs (λ m. IsMarkedNode cs c.args.marks.now m × HasPhase (content_of s) m c.args.phase) c.loop-place.place c.loop-place.found.items (omega (arith, c.loop-place-test.false, c.requires)) c.loop-place.invariant n in
+    let told = tells_all cs (λ m. IsMarkedNode cs c.args.marks.now m × HasPhase (content_of s) m c.args.phase)
+    c.loop-place.place c.loop-place.found.items (omega (arith, c.loop-place-test.false, c.requires))
+    c.loop-place.invariant n in
     (λ h. (told.0 h).1, λ h. told.1 (Contains-from_place (nodes cs) h.0.0 n h.0.1, h))

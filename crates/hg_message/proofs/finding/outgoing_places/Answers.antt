@@ -1,4 +1,5 @@
-use Rattle.std.proofs.Common.{◌≡◌, ◌<◌, ◌↔◌, ℕ, List, true, false, true≢false, get_or, length, slice_get, Some, sym, subst, arith, ap, ◌∙◌}
+use Rattle.std.proofs.Common.{◌≡◌, ◌<◌, ◌↔◌, ℕ, List, true, false, true≢false, get_or, length, slice_get, Some, sym}
+use Rattle.std.proofs.Common.{subst, arith, ap, ◌∙◌}
 use Rattle.std.proofs.lemmas.List.{get_or_read}
 use Rattle.std.proofs.lemmas.Option.{slice_get_within}
 use Rattle.hg_changeset.specs.declared.node.Node.{Node}
@@ -12,7 +13,10 @@ use Rattle.hg_replica.specs.Content.{content_of}
 use Rattle.hg_message.specs.Offer.{IsOutgoing}
 use Rattle.hg_message.proofs.OfferLemmas.{outgoing-marked}
 use Rattle.hg_message.proofs.finding.outgoing_places.Goals as goal
-use Rattle.hg_message.proofs.finding.outgoing_places.Goals.{then-served-place+then-not-index+in_ok-push, else-served-place, else-served-place-via-then-served-place+else-not-index, else-served-place-via-else-served-place}
+use Rattle.hg_message.proofs.finding.outgoing_places.Goals.{then-served-place+then-not-index+in_ok-push}
+use Rattle.hg_message.proofs.finding.outgoing_places.Goals.{else-served-place}
+use Rattle.hg_message.proofs.finding.outgoing_places.Goals.{else-served-place-via-then-served-place+else-not-index}
+use Rattle.hg_message.proofs.finding.outgoing_places.Goals.{else-served-place-via-else-served-place}
 
 pub loop-place-preserved : goal.loop-place-preserved
 loop-place-preserved c =
@@ -24,19 +28,30 @@ loop-place-preserved c =
     let Q : ℕ → Type 0 = λ k. (x : Contents) × (slice_get cs k ≡ Some x) × IsOutgoing (content_of s) common x in
     let so_far = c.loop-place.found.items in
     let is_known : (n : Node) → IsMarkedNode cs known n ↔ IsAncestorOfOne cs common n =
-    subst (λ (ds : List Contents). (n : Node) → IsMarkedNode ds known n ↔ IsAncestorOfOne ds common n) c.graph-graph.ensures.graph c.in_ok-known.ensures.marked in
-    let within : i < length known = omega (arith, c.loop-place-test.true, c.requires.served.len, c.in_ok-known.ensures.len, ap length c.graph-graph.ensures.graph) in
-    let told = outgoing-marked s c.graph-graph.ensures.valid common c.requires.common c.args.served.now known c.requires.served.exact is_known i c.loop-place-test.true within in
+    subst (λ (ds : List Contents). (n : Node) → IsMarkedNode ds known n ↔ IsAncestorOfOne ds common n)
+    c.graph-graph.ensures.graph c.in_ok-known.ensures.marked in
+    let within : i < length known = omega (
+      arith,
+      c.loop-place-test.true,
+      c.requires.served.len,
+      c.in_ok-known.ensures.len,
+      ap length c.graph-graph.ensures.graph,
+    ) in
+    let told = outgoing-marked s c.graph-graph.ensures.valid common c.requires.common c.args.served.now known
+    c.requires.served.exact is_known i c.loop-place-test.true within in
     let there = slice_get_some cs i (omega (arith, c.loop-place-test.true, c.requires.served.len)) in
     elim c.if-served-place.branch [
       | then-served-place+then-not-index+in_ok-push w ↦
           let read = get_or_read known i w.index.result.now within w.index.ensures false in
           let not : ¬ (get_or known i false ≡ true) = λ h. true≢false (sym h ∙ sym read ∙ w.if-not-index.true) in
-          rw (w.found-is, w.in_ok-push.ensures.items) (one_more Q so_far i c.loop-place.invariant (there.0, there.1, (told there.0 there.1).0 (w.if-served-place.true, not)))
+          rw (w.found-is, w.in_ok-push.ensures.items) (one_more Q so_far i c.loop-place.invariant
+          (there.0, there.1, (told there.0 there.1).0 (w.if-served-place.true, not)))
       | else-served-place w ↦ rw w.found-is (no_more Q so_far i c.loop-place.invariant (λ q.
           let marks = (told q.0 q.1).1 q.2 in
           elim w.else-served-place.branch [
-            | else-served-place-via-then-served-place+else-not-index v ↦ marks.1 (sym (get_or_read known i v.index.result.now within v.index.ensures false) ∙ v.if-not-index.false)
+            | else-served-place-via-then-served-place+else-not-index v ↦
+                marks.1 (sym (get_or_read known i v.index.result.now within v.index.ensures false)
+                ∙ v.if-not-index.false)
             | else-served-place-via-else-served-place v ↦ true≢false (sym marks.0 ∙ v.if-served-place.false)
           ]))
     ]
@@ -45,5 +60,6 @@ pub returns-clause-places : goal.returns-clause-places
 returns-clause-places c =
     let s = c.args.replica.now in
     let cs = changesets s.history in
-    all_listed (λ k. (x : Contents) × (slice_get cs k ≡ Some x) × IsOutgoing (content_of s) c.args.common.now x) c.loop-place.found.items c.loop-place.place c.loop-place.invariant
+    all_listed (λ k. (x : Contents) × (slice_get cs k ≡ Some x) × IsOutgoing (content_of s) c.args.common.now x)
+    c.loop-place.found.items c.loop-place.place c.loop-place.invariant
     (λ k q. omega (arith, slice_get_within cs k q.0 q.1, c.requires.served.len, c.loop-place-test.false))

@@ -7,4 +7,6 @@ use Rattle.hg_message.specs.Offer.{IsOutgoing}
 use Rattle.hg_message.proofs.finding.outgoing_places.Given as goal
 
 abbrev pub invariant-loop-place : goal.invariant-loop-place
-invariant-loop-place l = ListsAll (λ i. (i < l.place) × ((c : Contents) × (slice_get (changesets l.replica.history) i ≡ Some c) × IsOutgoing (content_of l.replica) l.common c)) l.found.items
+invariant-loop-place l =
+    ListsAll (λ i. (i < l.place) × ((c : Contents) × (slice_get (changesets l.replica.history) i ≡ Some c)
+    × IsOutgoing (content_of l.replica) l.common c)) l.found.items

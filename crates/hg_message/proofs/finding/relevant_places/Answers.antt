@@ -19,9 +19,12 @@ returns c =
     let s = c.args.replica.now in
     let cs = changesets s.history in
     let nodes = c.in_ok-nodes.nodes.items in
-    let select = subst (λ (ds : List Contents). Selects ds (IsMarkedNode ds c.args.served.now) nodes) c.graph.ensures.graph c.in_ok-nodes.ensures in
-    let are : (n : Node) → Contains nodes n ↔ IsServed (content_of s) n = λ n. along (marked-are cs c.args.served.now nodes select n) (c.requires.exact n) in
+    let select = subst (λ (ds : List Contents). Selects ds (IsMarkedNode ds c.args.served.now) nodes)
+    c.graph.ensures.graph c.in_ok-nodes.ensures in
+    let are : (n : Node) → Contains nodes n ↔ IsServed (content_of s) n =
+    λ n. along (marked-are cs c.args.served.now nodes select n) (c.requires.exact n) in
     IfOk-weaker c.relevant_near.result _ _
     (λ places all. places-offered s nodes c.store.result.now places.items are c.store.ensures
-    (subst (λ (ns : List Node). ArePlaces (IsRelevant (Contains c.store.result.now) (Contains ns)) c.store.result.now places.items) c.deref.ensures.value all))
+    (subst (λ (ns : List Node). ArePlaces (IsRelevant (Contains c.store.result.now) (Contains ns)) c.store.result.now
+    places.items) c.deref.ensures.value all))
     c.relevant_near.ensures

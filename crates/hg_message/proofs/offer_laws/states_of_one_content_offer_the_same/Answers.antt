@@ -6,7 +6,8 @@ use Rattle.hg_message.proofs.OfferLawLemmas.{offers-say_the_same, same-covered}
 use Rattle.hg_message.proofs.offer_laws.states_of_one_content_offer_the_same.Goals as goal
 
 pub returns-clause-same : goal.returns-clause-same
-returns-clause-same c = λ s t common m n v w same a b. offers-say_the_same (content_of s) common m n a.says (subst (λ (f : Content). SaysOffer f common n) (sym (content-same s t v w same)) b.says)
+returns-clause-same c = λ s t common m n v w same a b. offers-say_the_same (content_of s) common m n a.says
+    (subst (λ (f : Content). SaysOffer f common n) (sym (content-same s t v w same)) b.says)
 
 pub returns-clause-covered : goal.returns-clause-covered
 returns-clause-covered c = same-covered

@@ -7,16 +7,20 @@ use Rattle.hg_message.proofs.OfferLemmas.{is-offer, picked-those, picked-length}
 use Rattle.hg_message.proofs.outgoing.find.Goals as goal
 
 pub outgoing_places-requires-clause-served : goal.outgoing_places-requires-clause-served
-outgoing_places-requires-clause-served c = subst (AreServed c.args.replica.now) (sym c.deref.ensures.value) (record { len = c.in_ok-served.ensures.len; exact = c.in_ok-served.ensures.exact })
+outgoing_places-requires-clause-served c = subst (AreServed c.args.replica.now) (sym c.deref.ensures.value)
+    (record { len = c.in_ok-served.ensures.len; exact = c.in_ok-served.ensures.exact })
 
 pub head_bounds-requires : goal.head_bounds-requires
-head_bounds-requires c = subst (AreServed c.args.replica.now) (sym c.deref-2.ensures.value) (record { len = c.in_ok-served.ensures.len; exact = c.in_ok-served.ensures.exact })
+head_bounds-requires c = subst (AreServed c.args.replica.now) (sym c.deref-2.ensures.value)
+    (record { len = c.in_ok-served.ensures.len; exact = c.in_ok-served.ensures.exact })
 
 pub relevant_places-requires : goal.relevant_places-requires
-relevant_places-requires c = subst (AreServed c.args.replica.now) (sym c.deref-3.ensures.value) (record { len = c.in_ok-served.ensures.len; exact = c.in_ok-served.ensures.exact })
+relevant_places-requires c = subst (AreServed c.args.replica.now) (sym c.deref-3.ensures.value)
+    (record { len = c.in_ok-served.ensures.len; exact = c.in_ok-served.ensures.exact })
 
 pub invariant_of-result : goal.invariant_of-result
-invariant_of-result c = picked-length (IsOutgoing (content_of c.args.replica.now) c.args.common.now) (changesets c.args.replica.now.history) c.in_ok-changesets.changesets.items c.in_ok-changesets.ensures.places
+invariant_of-result c = picked-length (IsOutgoing (content_of c.args.replica.now) c.args.common.now)
+    (changesets c.args.replica.now.history) c.in_ok-changesets.changesets.items c.in_ok-changesets.ensures.places
 
 pub returns : goal.returns
 returns c =
@@ -24,6 +28,7 @@ returns c =
     let f = content_of s in
     let common = c.args.common.now in
     is-offer s c.in_ok-changesets.ensures.valid common _ c.in_ok-bounds.bounds.items _
-    (picked-those (IsOutgoing f common) (changesets s.history) c.in_ok-changesets.changesets.items c.in_ok-changesets.ensures.places)
+    (picked-those (IsOutgoing f common) (changesets s.history) c.in_ok-changesets.changesets.items
+    c.in_ok-changesets.ensures.places)
     c.in_ok-bounds.ensures
     (picked-those (IsOfferedMarker f) s.markers c.in_ok-markers.markers.items c.in_ok-markers.ensures)

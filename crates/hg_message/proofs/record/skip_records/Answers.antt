@@ -10,14 +10,26 @@ loop-index-init c = ([], starts (record_at c.args.total) c.args.count c.args.byt
 
 pub returns-in-Err : goal.returns-in-Err
 returns-in-Err c =
-    breaks_off (record_at c.args.total) c.args.count c.loop-index.index c.loop-index.invariant.0 c.loop-index.rest.now (counted (record_at c.args.total) 0 c.args.count c.args.bytes.now) c.in-Err.fault c.loop-index-test.true
-    (left_err (record_at c.args.total c.loop-index.index c.loop-index.rest.now) c.in-Err.fault c.in-Err.ensures) c.loop-index.invariant.1
+    breaks_off (record_at c.args.total) c.args.count c.loop-index.index c.loop-index.invariant.0 c.loop-index.rest.now
+    (counted (record_at c.args.total) 0 c.args.count c.args.bytes.now) c.in-Err.fault c.loop-index-test.true
+    (left_err (record_at c.args.total c.loop-index.index c.loop-index.rest.now) c.in-Err.fault c.in-Err.ensures)
+    c.loop-index.invariant.1
 
 pub loop-index-preserved : goal.loop-index-preserved
 loop-index-preserved c =
-    let read = left_ok (record_at c.args.total c.loop-index.index c.loop-index.rest.now) c.in-Ok.after.now c.in-Ok.ensures in
-    (c.loop-index.invariant.0 ++ read.0 ∷ [], goes_on (record_at c.args.total) c.args.count c.loop-index.index c.loop-index.invariant.0 c.loop-index.rest.now (counted (record_at c.args.total) 0 c.args.count c.args.bytes.now) read.0 c.in-Ok.after.now c.loop-index-test.true read.1 c.loop-index.invariant.1)
+    let read = left_ok (record_at c.args.total c.loop-index.index c.loop-index.rest.now) c.in-Ok.after.now
+    c.in-Ok.ensures in (
+      c.loop-index.invariant.0 ++ read.0 ∷ [],
+      goes_on (record_at c.args.total) c.args.count c.loop-index.index
+          c.loop-index.invariant.0 c.loop-index.rest.now (counted
+          (record_at c.args.total) 0 c.args.count c.args.bytes.now) read.0 c.in-Ok.after.now c.loop-index-test.true
+          read.1 c.loop-index.invariant.1,
+    )
 
 pub returns : goal.returns
-returns c =
-    (c.loop-index.invariant.0, is_done (record_at c.args.total) c.args.count c.loop-index.index c.loop-index.invariant.0 c.loop-index.rest.now (counted (record_at c.args.total) 0 c.args.count c.args.bytes.now) c.loop-index-test.false c.loop-index.invariant.1)
+returns c = (
+  c.loop-index.invariant.0,
+  is_done (record_at c.args.total) c.args.count c.loop-index.index
+      c.loop-index.invariant.0 c.loop-index.rest.now (counted
+      (record_at c.args.total) 0 c.args.count c.args.bytes.now) c.loop-index-test.false c.loop-index.invariant.1,
+)

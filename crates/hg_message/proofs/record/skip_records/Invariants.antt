@@ -7,4 +7,6 @@ use Rattle.hg_message.proofs.record.skip_records.Given as goal
 
 -- some changesets, with what is left to check, are all that there is
 abbrev pub invariant-loop-index : goal.invariant-loop-index
-invariant-loop-index l = (front : List Contents) × (with_front front (counted (record_at l.total) l.index (l.count - l.index) l.rest) ≡ counted (record_at l.total) 0 l.count l.bytes)
+invariant-loop-index l = (front : List Contents)
+    × (with_front front (counted (record_at l.total) l.index (l.count - l.index) l.rest) ≡ counted
+    (record_at l.total) 0 l.count l.bytes)

@@ -4,4 +4,6 @@ use Rattle.hg_changeset.specs.Contents.{Contents}
 use Rattle.hg_message.proofs.writing.records_len.Given as goal
 
 abbrev pub invariant-loop-changeset : goal.invariant-loop-changeset
-invariant-loop-changeset l = (l.len ≡ sum_by (λ (c : Contents). 64 + length c.text) (take l.changeset-index l.changesets)) × (l.len ≤ 1048640 * l.changeset-index)
+invariant-loop-changeset l =
+    (l.len ≡ sum_by (λ (c : Contents). 64 + length c.text) (take l.changeset-index l.changesets))
+    × (l.len ≤ 1048640 * l.changeset-index)

@@ -18,12 +18,18 @@ loop-place-preserved c =
     elim c.match-changeset_at.branch [
       | in-Some w ↦
           let x = w.in-Some.changeset.now in
-          let more : picked cs (take (i + 1) places) ≡ so_far ++ x ∷ [] = picked-some cs places i c.loop-place-test.true x (sym c.changeset_at.ensures ∙ ap option_copied w.in-Some.is) in
+          let more : picked cs (take (i + 1) places) ≡ so_far ++ x ∷ [] =
+          picked-some cs places i c.loop-place-test.true x
+          (sym c.changeset_at.ensures ∙ ap option_copied w.in-Some.is) in
           let sum = ap (sum_by size) more ∙ sum_by_push size so_far x in
-          let text : length w.text.result.now ≡ length x.text = ap length w.text.ensures.text in
-          (omega (arith, w.len-is, c.loop-place.invariant.0, sum, text), omega (arith, w.len-is, c.loop-place.invariant.1, w.text.ensures.within))
+          let text : length w.text.result.now ≡ length x.text = ap length w.text.ensures.text in (
+            omega (arith, w.len-is, c.loop-place.invariant.0, sum, text),
+            omega (arith, w.len-is, c.loop-place.invariant.1, w.text.ensures.within),
+          )
       | in-None w ↦
-          let same : picked cs (take (i + 1) places) ≡ so_far = picked-none cs places i c.loop-place-test.true (sym c.changeset_at.ensures ∙ ap option_copied w.in-None.is) in
+          let same : picked cs (take (i + 1) places) ≡ so_far =
+          picked-none cs places i c.loop-place-test.true (sym c.changeset_at.ensures
+          ∙ ap option_copied w.in-None.is) in
           let sum = ap (sum_by size) same in
           (w.len-is ∙ c.loop-place.invariant.0 ∙ sym sum, omega (arith, w.len-is, c.loop-place.invariant.1))
     ]

@@ -5,4 +5,6 @@ use Rattle.hg_obsstore.specs.Places.{picked}
 use Rattle.hg_message.proofs.writing.records_len_at.Given as goal
 
 abbrev pub invariant-loop-place : goal.invariant-loop-place
-invariant-loop-place l = (l.len ≡ sum_by (λ (c : Contents). 64 + length c.text) (picked l.graph (take l.place-index l.places))) × (l.len ≤ 1048640 * l.place-index)
+invariant-loop-place l =
+    (l.len ≡ sum_by (λ (c : Contents). 64 + length c.text) (picked l.graph (take l.place-index l.places)))
+    × (l.len ≤ 1048640 * l.place-index)

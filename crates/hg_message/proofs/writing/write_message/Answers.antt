@@ -7,6 +7,12 @@ use Rattle.hg_message.proofs.writing.write_message.Goals as goal
 
 pub returns-clause-spells : goal.returns-clause-spells
 returns-clause-spells c =
-    let m : MessageValue = record { changesets = c.args.changesets.now; bounds = c.args.bounds.now; markers = c.args.markers.now } in
+    let m : MessageValue = record {
+      changesets = c.args.changesets.now;
+      bounds = c.args.bounds.now;
+      markers = c.args.markers.now;
+    } in
     let written : c.write_markers.new.out.items ≡ message_spelling m = grind (arith, common_steps) in
-    subst (IsMessageSpelling m) (sym written) (message_spells m c.requires c.in_ok-write_records.ensures.changesets c.in_ok-write_bounds_and_len.ensures.nodes c.markers_len.ensures.spells)
+    subst (IsMessageSpelling m) (sym written)
+    (message_spells m c.requires c.in_ok-write_records.ensures.changesets
+    c.in_ok-write_bounds_and_len.ensures.nodes c.markers_len.ensures.spells)

@@ -22,11 +22,22 @@ loop-place-preserved c =
     elim c.match-changeset_at.branch [
       | in-Some+in_ok-write_record-in-Some w ↦
           let x = w.in-Some.changeset.now in
-          let more : picked cs (take (i + 1) places) ≡ so_far ++ x ∷ [] = picked-some cs places i c.loop-place-test.true x (sym c.changeset_at.ensures ∙ ap option_copied w.in-Some.is) in (
-            ap (λ v. v.items) w.out-is ∙ w.in_ok-write_record-in-Some.ensures.written ∙ ap (λ (bytes : List ℕ). bytes ++ record_spelling x) c.loop-place.invariant.0 ∙ flat_map_more record_spelling before so_far x ∙ ap onto (sym more),
-            subst (AllByRecursion IsChangeset) (sym more) (AllByRecursion-push IsChangeset so_far x c.loop-place.invariant.1 w.in_ok-write_record-in-Some.ensures.changeset),
+          let more : picked cs (take (i + 1) places) ≡ so_far ++ x ∷ [] =
+          picked-some cs places i c.loop-place-test.true x
+          (sym c.changeset_at.ensures ∙ ap option_copied w.in-Some.is) in (
+            ap (λ v. v.items) w.out-is ∙ w.in_ok-write_record-in-Some.ensures.written
+                ∙ ap (λ (bytes : List ℕ). bytes ++ record_spelling x) c.loop-place.invariant.0
+                ∙ flat_map_more record_spelling before so_far x ∙ ap onto (sym more),
+            subst (AllByRecursion IsChangeset) (sym more)
+                (AllByRecursion-push IsChangeset so_far x c.loop-place.invariant.1
+                w.in_ok-write_record-in-Some.ensures.changeset),
           )
       | in-None w ↦
-          let same : picked cs (take (i + 1) places) ≡ so_far = picked-none cs places i c.loop-place-test.true (sym c.changeset_at.ensures ∙ ap option_copied w.in-None.is) in
-          (ap (λ v. v.items) w.out-is ∙ c.loop-place.invariant.0 ∙ ap onto (sym same), subst (AllByRecursion IsChangeset) (sym same) c.loop-place.invariant.1)
+          let same : picked cs (take (i + 1) places) ≡ so_far =
+          picked-none cs places i c.loop-place-test.true (sym c.changeset_at.ensures
+          ∙ ap option_copied w.in-None.is) in (
+            ap (λ v. v.items) w.out-is ∙ c.loop-place.invariant.0
+                ∙ ap onto (sym same),
+            subst (AllByRecursion IsChangeset) (sym same) c.loop-place.invariant.1,
+          )
     ]

@@ -6,4 +6,6 @@ use Rattle.hg_message.specs.Spelling.{record_spelling}
 use Rattle.hg_message.proofs.writing.write_records_at.Given as goal
 
 abbrev pub invariant-loop-place : goal.invariant-loop-place
-invariant-loop-place l = (l.out.items ≡ l.fn.out.items ++ flat_map record_spelling (picked l.graph (take l.place-index l.places))) × AllByRecursion IsChangeset (picked l.graph (take l.place-index l.places))
+invariant-loop-place l =
+    (l.out.items ≡ l.fn.out.items ++ flat_map record_spelling (picked l.graph (take l.place-index l.places)))
+    × AllByRecursion IsChangeset (picked l.graph (take l.place-index l.places))

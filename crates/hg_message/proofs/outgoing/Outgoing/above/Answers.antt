@@ -8,5 +8,8 @@ pub returns-in-None : goal.returns-in-None
 returns-in-None c =
     let s = c.args.replica.now in
     let common = c.args.common.now in
-    let none : changesets s.history ≡ [] = sym c.graph.ensures.graph ∙ c.is_empty.ensures.0 c.if-is_empty.true in
-    (c.in-None.ensures, subst (IsOffer s common) (sym c.nothing.ensures) (nothing-offered s c.graph.ensures.valid none common))
+    let none : changesets s.history ≡ [] = sym c.graph.ensures.graph ∙ c.is_empty.ensures.0 c.if-is_empty.true in (
+      c.in-None.ensures,
+      subst (IsOffer s common) (sym c.nothing.ensures)
+          (nothing-offered s c.graph.ensures.valid none common),
+    )

@@ -16,7 +16,11 @@ returns-clause-spells c =
     let s = c.self.inside.replica.now in
     let written : c.write_markers_at.new.out.items ≡ message_spelling m = grind (arith, common_steps) in
     let out : AllByRecursion IsChangeset m.changesets = rw (← c.self.view_is) (
-    subst (λ (places : List ℕ). AllByRecursion IsChangeset (picked (changesets s.history) places)) c.deref-2.ensures.value
-    (subst (λ (cs : List Contents). AllByRecursion IsChangeset (picked cs c.deref-2.result.now)) c.graph-graph.ensures.graph c.in_ok-write_records_at.ensures.changesets)) in
-    let bounds : AllByRecursion HasNode m.bounds = rw (← c.self.view_is) (subst (AllByRecursion HasNode) c.deref-3.ensures.value c.in_ok-write_bounds_and_len.ensures.nodes) in
-    subst (IsMessageSpelling m) (sym written) (message_spells m (not-too-large m c.requires.small) out bounds c.requires.markers)
+    subst (λ (places : List ℕ). AllByRecursion IsChangeset (picked (changesets s.history) places))
+    c.deref-2.ensures.value
+    (subst (λ (cs : List Contents). AllByRecursion IsChangeset (picked cs c.deref-2.result.now))
+    c.graph-graph.ensures.graph c.in_ok-write_records_at.ensures.changesets)) in
+    let bounds : AllByRecursion HasNode m.bounds = rw (← c.self.view_is)
+    (subst (AllByRecursion HasNode) c.deref-3.ensures.value c.in_ok-write_bounds_and_len.ensures.nodes) in
+    subst (IsMessageSpelling m) (sym written) (message_spells m
+    (not-too-large m c.requires.small) out bounds c.requires.markers)
