@@ -1,4 +1,6 @@
+pub mod EndingLemmas
 pub mod InputLemmas
+pub mod LabelLemmas
 pub mod LineLemmas
 pub mod NameLemmas
 pub mod ScriptLemmas

@@ -24,18 +24,19 @@ use Rattle.hg_script.specs.Events.{AreIds}
 use Rattle.hg_script.specs.Names.{AreDistinct, value_of, Binds}
 use Rattle.hg_script.specs.Scripts.{bound_to}
 
+unequal_by : (r : Bool) (xs ys : List ℕ) → bytes_eq xs ys ≡ false → bytes_eq ys xs ≡ r → bytes_eq ys xs ≡ false
+unequal_by true xs ys d e = e ∙ sym ((bytes_eq-Decides xs ys).1 (sym ((bytes_eq-Decides ys xs).0 e))) ∙ d
+unequal_by false xs ys d e = e
+
+-- which of two texts comes first makes no difference
+pub unequal : (xs ys : List ℕ) → bytes_eq xs ys ≡ false → bytes_eq ys xs ≡ false
+unequal xs ys d = unequal_by (bytes_eq ys xs) xs ys d refl
+
 -- a name that isn't bs is equal to no key that bs is equal to
 apart : (bs cs ks : List ℕ) → bytes_eq bs cs ≡ false → is_eq (slice_cmp nat_cmp bs ks) ≡ true → is_eq (slice_cmp nat_cmp cs ks) ≡ false
 apart bs cs ks differ same =
     let at : bs ≡ ks = (bytes_eq-Decides bs ks).0 (sym (is_eq-slice_cmp bs ks) ∙ same) in
-    is_eq-slice_cmp cs ks ∙ subst (λ l. bytes_eq cs l ≡ false) at (symmetric bs cs differ)
-  where
-    by : (r : Bool) (xs ys : List ℕ) → bytes_eq xs ys ≡ false → bytes_eq ys xs ≡ r → bytes_eq ys xs ≡ false
-    by true xs ys d e = e ∙ sym ((bytes_eq-Decides xs ys).1 (sym ((bytes_eq-Decides ys xs).0 e))) ∙ d
-    by false xs ys d e = e
-
-    symmetric : (xs ys : List ℕ) → bytes_eq xs ys ≡ false → bytes_eq ys xs ≡ false
-    symmetric xs ys d = by (bytes_eq ys xs) xs ys d refl
+    is_eq-slice_cmp cs ks ∙ subst (λ l. bytes_eq cs l ≡ false) at (unequal bs cs differ)
 
 module _ {V : Type 0} where
   others_stay : (bs : List ℕ) (m n : BTreeMap (Vec ℕ Global) V) → KeepsOthers (eq_by_cmp (λ (x y : Vec ℕ Global). slice_cmp nat_cmp x.items y.items)) (λ k. is_eq (slice_cmp nat_cmp bs k.items)) m.entries n.entries

@@ -1,5 +1,5 @@
 -- Single events, single commands, and whole scripts as one run.
-use Rattle.std.proofs.Common.{◌≡◌, ℕ, List, [], ◌∷◌, ◌≤◌, length, Option, Some, None, Result, Ok, Err, OnOk, IfOk, IfErr, IfSome, refl, sym, ap, subst, ◌∙◌}
+use Rattle.std.proofs.Common.{◌≡◌, ℕ, List, [], ◌∷◌, Option, Some, None, IsSome, refl, sym, ap, subst, ◌∙◌}
 use Rattle.std.specs.declared.vec.Vec.{Vec}
 use Rattle.std.specs.declared.alloc.Global.{Global}
 use mathlib.Core.Logic.{⊎_elim}
@@ -13,18 +13,11 @@ use Rattle.hg_world.specs.declared.event.EventRefusal.{EventRefusal}
 use Rattle.hg_world.specs.declared.event.Answer.TheVariants.{Accepted, Offered, Refused}
 use Rattle.hg_peer.specs.declared.refusal.PeerRefusal.{PeerRefusal}
 use Rattle.hg_peer.specs.Words.{peer_state, peer_words}
-use Rattle.hg_script.specs.declared.command.Command.TheVariants.{Pull}
+use Rattle.hg_script.specs.declared.command.Command.TheVariants.{Pull, Report, Agree}
 use Rattle.hg_script.specs.declared.fleet.Fleet.{Fleet}
-use Rattle.hg_script.specs.declared.fault.RunFault.{RunFault}
 use Rattle.hg_script.specs.Commands.{Text, Word}
-use Rattle.hg_script.specs.Events.{Trace, PeerEvent, PeerAnswer, no_trace, joined, Ran, IsTold, IsFaultAt, IsLeftBy, AreCommonAt, taken, HasTaken}
-use Rattle.hg_script.specs.Endings.{IsScriptOf, IsLeftWorld}
-use Rattle.hg_script.specs.Limits.{script_limit}
-use Rattle.hg_script.specs.Scripts.{places, IsDone, IsRunOf, DoesWords, DoesLines}
-
--- a fault that changed nothing
-pub left_unchanged : (number : ℕ) (old new : Snapshot ReplicaState) (fault : RunFault) → new ≡ old → IsFaultAt number fault → IsLeftBy number old fault new
-left_unchanged number old new fault e h = (h, (no_trace, e))
+use Rattle.hg_script.specs.Events.{Trace, PeerEvent, PeerAnswer, no_trace, joined, Ran, IsTold, AreCommonAt, taken, HasTaken}
+use Rattle.hg_script.specs.Scripts.{places, node_named, IsDone, DoesWords, DoesLines}
 
 -- two runs, one after the other, are one
 abbrev pub Compose : Type 0
@@ -97,27 +90,14 @@ pulled old to from giver taker common answer mid new at_from at_to heads told (p
   },
 )
 
-pub left_after : (number : ℕ) (old mid new : Snapshot ReplicaState) (event : PeerEvent) (answer : PeerAnswer) (fault : RunFault)
-    → (part : Option PartValue) × Happens peer_state peer_words old event answer part mid → IsLeftBy number mid fault new → IsLeftBy number old fault new
-left_after number old mid new event answer fault (part, h) (is, left) = (is, (before event answer part left.0, (mid, h, left.1)))
+-- an event, and then what came after it without an event
+pub ran_after : (old mid new : Snapshot ReplicaState) (event : PeerEvent) (answer : PeerAnswer) → (part : Option PartValue) × Happens peer_state peer_words old event answer part mid → new ≡ mid → (t : Trace) × Ran old t new
+ran_after old mid new event answer (part, h) same = (one event answer part, (mid, h, same))
 
--- ---- reports
+-- ---- commands that ask for no event
 
-pub told_done : {T E : Type 0} (r : Result T E) (P : Type 0) → P → OnOk r P
-told_done (Ok x) P h = h
-told_done (Err e) P h = tt
+pub reported : (f : Fleet) (at : Word) → IsSome (node_named f at.now) → IsDone f (Report at) f
+reported f at there = (no_trace, record { asked = (there, refl); ran = refl; told = tt; named = (refl, refl, refl) })
 
-pub told_left : {T : Type 0} (number : ℕ) (w : Snapshot ReplicaState) (r : Result T RunFault) → IfErr r (IsFaultAt number) → IfErr r (λ fault. IsLeftBy number w fault w)
-told_left number w (Ok x) h = tt
-told_left number w (Err fault) h = (h, (no_trace, refl))
-
--- ---- whole scripts
-
--- the text that was read is the script
-pub script_of : (known : Option Text) (items text : Text) → text ≡ items → length items ≤ script_limit → IfSome known (λ bytes. bytes ≡ items) → IsScriptOf known text
-script_of None items text e limit whole = (subst (λ (t : Text). length t ≤ script_limit) (sym e) limit, tt)
-script_of (Some bytes) items text e limit whole = (subst (λ (t : Text). length t ≤ script_limit) (sym e) limit, whole ∙ sym e)
-
-pub worlds_of : {E : Type 0} (known : Option Text) (text : Text) (r : Result (Snapshot ReplicaState) E) → IsScriptOf known text → IfOk r (IsRunOf text) → IfOk r (IsLeftWorld known)
-worlds_of known text (Ok world) script h = (text, script, h)
-worlds_of known text (Err e) script h = tt
+pub agreed : (f : Fleet) (one other : Word) → IsSome (node_named f one.now) → IsSome (node_named f other.now) → IsDone f (Agree one other) f
+agreed f one other there too = (no_trace, record { asked = (there, too, refl); ran = refl; told = tt; named = (refl, refl, refl) })

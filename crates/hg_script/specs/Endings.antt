@@ -1,10 +1,154 @@
--- What a whole script leaves.
-use Rattle.std.specs.Prelude.{◌≡◌, ◌≤◌, length, Option, IfSome}
+-- What ends a script before its last line is done: at which line, and by which fault.
+use Rattle.std.specs.Prelude.{ℕ, ◌≡◌, ◌⊎◌, ◌≤◌, ◌<◌, ◌+◌, List, [], ◌∷◌, ◌++◌, length, map, count_by, slice_get, false}
+use Rattle.std.specs.Prelude.{IsTrue, Option, Some, None, IsSome, IfSome, Ok, Err}
+use Rattle.std.specs.Str.Lines.{lines}
+use Rattle.hg_changeset.specs.declared.node.Node.{Node}
+use Rattle.hg_graph.specs.Graph.{nodes}
 use Rattle.hg_replica.specs.State.{ReplicaState}
+use Rattle.hg_replica.specs.Least.{PartValue}
+use Rattle.hg_rewrite.specs.declared.op.Op.{Op}
 use Rattle.hg_world.specs.Runs.{Snapshot}
-use Rattle.hg_script.specs.Commands.{Text}
-use Rattle.hg_script.specs.Limits.{script_limit}
-use Rattle.hg_script.specs.Scripts.{IsRunOf}
+use Rattle.hg_peer.specs.Peers.{Decides}
+use Rattle.hg_script.specs.declared.command.Command.{Command}
+use Rattle.hg_script.specs.declared.command.Command.TheVariants.{Node as node, Operation as operation, Offer, Take}
+use Rattle.hg_script.specs.declared.command.Command.TheVariants.{Pull, Report, Agree}
+use Rattle.hg_script.specs.declared.operation.Operation.{Operation}
+use Rattle.hg_script.specs.declared.fault.LineFault.{LineFault}
+use Rattle.hg_script.specs.declared.fault.LineFault.TheVariants.{TooLong, UnknownCommand, WordCount, BadName, BadPhase}
+use Rattle.hg_script.specs.declared.fault.LineFault.TheVariants.{UnknownName, NameTaken}
+use Rattle.hg_script.specs.declared.fault.RunFault.{RunFault}
+use Rattle.hg_script.specs.declared.fault.RunFault.TheVariants.{Line, ScriptTooLong, Read, Write, NoMemory}
+use Rattle.hg_script.specs.declared.fleet.Fleet.{Fleet}
+use Rattle.hg_script.specs.Commands.{Text, Word, texts, CommandAnswer}
+use Rattle.hg_script.specs.Events.{Trace, Ran, Meaning, HasUnknown, AreIds, IsOperation, old_labels, new_labels}
+use Rattle.hg_script.specs.Limits.{line_limit, script_limit}
+use Rattle.hg_script.specs.Names.{AreDistinct}
+use Rattle.hg_script.specs.Scripts.{places, ids, numbers, node_named, message_named, may_be_bound, DoesLines}
+use Rattle.hg_script.specs.Scripts.{IsNewFleet, IsRunOf}
+use Rattle.hg_script.specs.Words.{has_node, words_of}
+
+-- ---- faults of names
+
+-- a name that the command uses stands for nothing: that of a node, an old label, or that of a message which it takes
+abbrev pub UsesUnknown : Fleet → Command → Type 0
+UsesUnknown f (node at) = ⊥
+UsesUnknown f (operation at op) = (node_named f at.now ≡ None) ⊎ HasUnknown (ids f) (old_labels op)
+UsesUnknown f (Offer at message labels) = (node_named f at.now ≡ None) ⊎ HasUnknown (ids f) (texts labels.now)
+UsesUnknown f (Take at message) = (node_named f at.now ≡ None) ⊎ (message_named f message.now ≡ None)
+UsesUnknown f (Pull to from) = (node_named f to.now ≡ None) ⊎ (node_named f from.now ≡ None)
+UsesUnknown f (Report at) = node_named f at.now ≡ None
+UsesUnknown f (Agree one other) = (node_named f one.now ≡ None) ⊎ (node_named f other.now ≡ None)
+
+-- the node decides the operation and doesn't refuse it, and a new label isn't free to name what it is to make there
+pub record MakesUnderTaken (f : Fleet) (at : Text) (op : Operation) : Type 0 where
+  pub asked : Op
+  pub meant : IsOperation (ids f) op asked
+  pub state : ReplicaState
+  pub held : node_named f at ≡ Some state
+  pub part : PartValue
+  pub decided : Decides state asked part
+  pub taken : may_be_bound (ids f) (new_labels op) (nodes part.history.changesets) ≡ false
+
+-- what the command uses is there, and a name that it gives is taken: that of a node or a message is bound, or a new
+-- label of an operation that isn't refused names another id, or would name two
+abbrev pub GivesTaken : Fleet → Command → Type 0
+GivesTaken f (node at) = IsSome (places f at.now)
+GivesTaken f (operation at op) = MakesUnderTaken f at.now op
+GivesTaken f (Offer at message labels) =
+    IsSome (places f at.now) × ((common : List Node) × AreIds (ids f) labels.now common)
+    × IsSome (numbers f message.now)
+GivesTaken f _ = ⊥
+
+-- what was decided of the operation in this state: its part, or that it is refused
+abbrev pub IsDecided : ReplicaState → Op → Option PartValue → Type 0
+IsDecided state op None = (part : PartValue) → ¬ (Decides state op part)
+IsDecided state op (Some part) = Decides state op part
+
+-- no label would name another id than the one that the operation makes in this state, where it isn't refused
+abbrev pub AreLabelsFree : Meaning Node → List Text → ReplicaState → Op → Type 0
+AreLabelsFree names labels state op =
+    (part : PartValue) → Decides state op part → IsTrue (may_be_bound names labels (nodes part.history.changesets))
+
+-- the operation isn't refused, and the labels aren't free to name what it makes, or one of them comes twice; or want of
+-- memory
+abbrev pub IsTakenFault : ℕ → Meaning Node → List Word → ReplicaState → Op → RunFault → Type 0
+IsTakenFault number names labels state op (Line told fault) =
+    (told ≡ number) × (fault ≡ NameTaken)
+    × ((part : PartValue) × Decides state op part
+    × ((may_be_bound names (texts labels) (nodes part.history.changesets) ≡ false) ⊎ ¬ (AreDistinct labels)))
+IsTakenFault number names labels state op ScriptTooLong = ⊥
+IsTakenFault number names labels state op Read = ⊥
+IsTakenFault number names labels state op Write = ⊥
+IsTakenFault number names labels state op NoMemory = Unit {0}
+
+-- there is no node at the place
+abbrev pub IsNodeFault : ℕ → Fleet → ℕ → RunFault → Type 0
+IsNodeFault number f place fault = (fault ≡ Line number UnknownName) × (slice_get f.world.nodes place ≡ None)
+
+-- which fault the names of a command show
+abbrev pub IsNameFault : Fleet → Command → LineFault → Type 0
+IsNameFault f command UnknownName = UsesUnknown f command
+IsNameFault f command NameTaken = GivesTaken f command
+IsNameFault f command _ = ⊥
+
+-- how the command of the line with this number can end the script
+abbrev pub IsCommandFault : ℕ → Fleet → Command → RunFault → Type 0
+IsCommandFault number f command (Line told fault) = (told ≡ number) × IsNameFault f command fault
+IsCommandFault number f command ScriptTooLong = ⊥
+IsCommandFault number f command Read = ⊥
+IsCommandFault number f command Write = Unit {0}
+IsCommandFault number f command NoMemory = Unit {0}
+
+-- the command ended the script so, and what the world did until then is a run
+abbrev pub IsLeftBy : ℕ → Fleet → Command → RunFault → Fleet → Type 0
+IsLeftBy number old command fault new =
+    IsCommandFault number old command fault × ((t : Trace) × Ran old.world t new.world)
+
+-- ---- faults of lines
+
+-- the line isn't too long, and its words are these
+abbrev pub HasWords : Text → List Word → Type 0
+HasWords line words = (length line ≤ line_limit) × (map (λ w. w.now) words ≡ words_of line)
+
+-- the words of the line are this command
+abbrev pub Says : Text → Command → Type 0
+Says line command = (words : List Word) × HasWords line words × CommandAnswer words (Ok (Some command))
+
+-- what is wrong with the line: its length, its words, or the names of its command
+abbrev pub IsLineFault : Fleet → Text → LineFault → Type 0
+IsLineFault f line TooLong = line_limit < length line
+IsLineFault f line UnknownName = (command : Command) × Says line command × UsesUnknown f command
+IsLineFault f line NameTaken = (command : Command) × Says line command × GivesTaken f command
+IsLineFault f line fault = (words : List Word) × HasWords line words × CommandAnswer words (Err fault)
+
+-- how the line with this number can end the script: by a fault of its own, by a write fault of its command, or for want
+-- of memory
+abbrev pub EndsAt : ℕ → Fleet → Text → RunFault → Type 0
+EndsAt number f line (Line told fault) = (told ≡ number) × IsLineFault f line fault
+EndsAt number f line ScriptTooLong = ⊥
+EndsAt number f line Read = ⊥
+EndsAt number f line Write = (command : Command) × Says line command
+EndsAt number f line NoMemory = length line ≤ line_limit
+
+-- ---- whole scripts
+
+-- the lines before one were done, and this one ended the script; lines count from 1
+pub record StopsAmong (old : Fleet) (all : List Text) (fault : RunFault) : Type 0 where
+  pub before : List Text
+  pub line : Text
+  pub after : List Text
+  pub divided : all ≡ before ++ line ∷ after
+  pub trace : Trace
+  pub mid : Fleet
+  pub did : DoesLines old before trace mid
+  pub ends : EndsAt (length before + 1) mid line fault
+
+-- the script was stopped at a line by this fault, from a new fleet on, with a peer for each line whose first word is
+-- `node`
+pub record IsStoppedBy (text : Text) (fault : RunFault) : Type 0 where
+  pub start : Fleet
+  pub is_new : IsNewFleet (count_by has_node (lines text)) start
+  pub stops : StopsAmong start (lines text) fault
 
 -- the script that was read: no longer than a script may be, and what the reader had where that is known
 abbrev pub IsScriptOf : Option Text → Text → Type 0
@@ -13,3 +157,11 @@ IsScriptOf known text = (length text ≤ script_limit) × IfSome known (λ bytes
 -- the world is as the script leaves it
 abbrev pub IsLeftWorld : Option Text → Snapshot ReplicaState → Type 0
 IsLeftWorld known world = (text : Text) × IsScriptOf known text × IsRunOf text world
+
+-- the script was stopped by this fault: at a line, or while it was read
+abbrev pub IsStop : Option Text → RunFault → Type 0
+IsStop known (Line number fault) = (text : Text) × IsScriptOf known text × IsStoppedBy text (Line number fault)
+IsStop known ScriptTooLong = IfSome known (λ bytes. script_limit < length bytes)
+IsStop known Read = Unit {0}
+IsStop known Write = (text : Text) × IsScriptOf known text × IsStoppedBy text Write
+IsStop known NoMemory = Unit {0}

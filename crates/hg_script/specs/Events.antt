@@ -1,11 +1,13 @@
 -- What the commands of a script ask of its world.
-use Rattle.std.specs.Prelude.{ℕ, ◌≡◌, List, [], ◌∷◌, ◌++◌, map, slice_get, Option, Some, IsSome}
+use Rattle.std.specs.Prelude.{ℕ, ◌≡◌, ◌⊎◌, List, [], ◌∷◌, ◌++◌, map, slice_get, Option, Some, None, IsSome}
 use Rattle.std.specs.declared.vec.Vec.{Vec}
 use Rattle.std.specs.declared.alloc.Global.{Global}
 use Rattle.std.specs.List.{AllByRecursion}
+use Rattle.std.specs.Option.{option_and_then}
 use Rattle.hg_changeset.specs.declared.node.Node.{Node}
 use Rattle.hg_changeset.specs.EntryValue.{EntryValue}
 use Rattle.hg_changeset.specs.Node.{null_node}
+use Rattle.hg_graph.specs.Graph.{nodes}
 use Rattle.hg_history.specs.declared.fault.Fault.{Fault}
 use Rattle.hg_history.specs.Fault.{number as fault_number}
 use Rattle.hg_replica.specs.State.{ReplicaState}
@@ -13,7 +15,7 @@ use Rattle.hg_replica.specs.Least.{PartValue}
 use Rattle.hg_replica.specs.Change.{ChangeValue}
 use Rattle.hg_rewrite.specs.declared.op.Op.{Op}
 use Rattle.hg_rewrite.specs.declared.op.Op.TheVariants as asks
-use Rattle.hg_world.specs.Runs.{Snapshot, Runs}
+use Rattle.hg_world.specs.Runs.{Snapshot, Runs, place_of}
 use Rattle.hg_world.specs.declared.event.Event.{Event}
 use Rattle.hg_world.specs.declared.event.Event.TheVariants as event
 use Rattle.hg_world.specs.declared.event.EventRefusal.{EventRefusal}
@@ -24,16 +26,19 @@ use Rattle.hg_peer.specs.declared.refusal.PeerRefusal.{PeerRefusal}
 use Rattle.hg_peer.specs.Refusals.{peer_refusal_number}
 use Rattle.hg_peer.specs.Words.{peer_words, peer_state}
 use Rattle.hg_discovery.specs.Between.{AreHeadsInCommon}
+use Rattle.hg_script.specs.declared.fault.LineFault.TheVariants.{UnknownName}
 use Rattle.hg_script.specs.declared.fault.RunFault.{RunFault}
 use Rattle.hg_script.specs.declared.fault.RunFault.TheVariants.{Line, ScriptTooLong, Read, Write, NoMemory}
 use Rattle.hg_script.specs.declared.command.Command.{Command}
 use Rattle.hg_script.specs.declared.command.Command.TheVariants.{Node as node, Operation as operation, Offer, Take, Pull, Report, Agree}
 use Rattle.hg_script.specs.declared.operation.Operation.{Operation}
 use Rattle.hg_script.specs.declared.operation.Operation.TheVariants.{Commit, Amend, Split, Fold, Prune, Relocate, Advance}
+use Rattle.hg_script.specs.declared.operation.Names.{Names}
 use Rattle.hg_script.specs.declared.operation.Parents.{Parents}
 use Rattle.hg_script.specs.declared.operation.Parents.TheVariants.{NoParent, One, Two}
-use Rattle.hg_script.specs.Commands.{Text, Word}
+use Rattle.hg_script.specs.Commands.{Text, Word, parent_words, texts}
 use Rattle.hg_script.specs.Entries.{entry_of, IsPruneOf}
+use Rattle.hg_script.specs.Names.{value_of}
 
 abbrev pub PeerEvent : Type 0
 PeerEvent = Event Op (Vec Node Global)
@@ -75,23 +80,57 @@ IsTold (Refused refusal) = HasNumber refusal
 abbrev pub AreTold : List PeerAnswer → Type 0
 AreTold answers = AllByRecursion IsTold answers
 
--- what can end a script at the line with this number
-abbrev pub IsFaultAt : ℕ → RunFault → Type 0
-IsFaultAt number (Line told fault) = told ≡ number
-IsFaultAt number ScriptTooLong = ⊥
-IsFaultAt number Read = ⊥
-IsFaultAt number Write = Unit {0}
-IsFaultAt number NoMemory = Unit {0}
+-- the ids of the changesets that the accepted parts bring, in order
+abbrev pub brought : List (Option PartValue) → List Node
+brought [] = []
+brought (None ∷ parts) = brought parts
+brought (Some part ∷ parts) = nodes part.history.changesets ++ brought parts
 
--- the line ended the script by a fault of its own, a write fault or want of memory; what the world did until then is a run
-abbrev pub IsLeftBy : ℕ → Snapshot ReplicaState → RunFault → Snapshot ReplicaState → Type 0
-IsLeftBy number old fault new = IsFaultAt number fault × ((t : Trace) × Ran old t new)
+-- ---- what can end a script at an event
+
+-- there is no such node, or no such message
+abbrev pub IsAbsence : EventRefusal PeerRefusal Fault → Type 0
+IsAbsence NoNode = Unit {0}
+IsAbsence NoMessage = Unit {0}
+IsAbsence (ByActor refusal) = ⊥
+IsAbsence (ByState fault) = ⊥
+
+-- the message that the event takes isn't there
+abbrev pub LacksMessage : Snapshot ReplicaState → PeerEvent → Type 0
+LacksMessage world (event.Local at op) = ⊥
+LacksMessage world (event.Offer at ask) = ⊥
+LacksMessage world (event.Take at message) = slice_get world.messages message ≡ None
+
+-- there is no node at the event's place, or no message that it takes
+abbrev pub IsNowhere : Snapshot ReplicaState → PeerEvent → Type 0
+IsNowhere world asked = (slice_get world.nodes (place_of asked) ≡ None) ⊎ LacksMessage world asked
+
+-- `unknown name` at the line with this number, where this is so; or a write fault, or want of memory
+abbrev pub IsUnknownWhere : ℕ → Type 0 → RunFault → Type 0
+IsUnknownWhere number P (Line told fault) = (told ≡ number) × (fault ≡ UnknownName) × P
+IsUnknownWhere number P ScriptTooLong = ⊥
+IsUnknownWhere number P Read = ⊥
+IsUnknownWhere number P Write = Unit {0}
+IsUnknownWhere number P NoMemory = Unit {0}
 
 -- ---- operations
 
 -- what names stand for
 abbrev pub Meaning : Type 0 → Type 0
 Meaning V = Text → Option V
+
+-- the state of the node that a name stands for, if there is one
+abbrev pub node_at : Snapshot ReplicaState → Meaning ℕ → Text → Option ReplicaState
+node_at world places name = option_and_then (slice_get world.nodes) (places name)
+
+-- the bytes of the message that a name stands for
+abbrev pub message_at : Snapshot ReplicaState → Meaning ℕ → Text → Option (List ℕ)
+message_at world numbers name = option_and_then (slice_get world.messages) (numbers name)
+
+-- one of the labels stands for nothing
+abbrev pub HasUnknown : Meaning Node → List Text → Type 0
+HasUnknown ids [] = ⊥
+HasUnknown ids (label ∷ labels) = (ids label ≡ None) ⊎ HasUnknown ids labels
 
 -- each of the labels names the id at its place
 abbrev pub AreIds : Meaning Node → List Word → List Node → Type 0
@@ -116,11 +155,25 @@ IsOperation ids (Relocate old new parents) op =
     (n : Node) × (p : Node) × (q : Node) × (ids old.now ≡ Some n) × AreParentIds ids parents p q × (op ≡ asks.Relocate n p q (entry_of new.now))
 IsOperation ids (Advance label phase) op = (n : Node) × (ids label.now ≡ Some n) × (op ≡ asks.Advance n phase)
 
+-- the labels of what is to be there already
+abbrev pub old_labels : Operation → List Text
+old_labels (Commit new is_secret parents) = parent_words parents
+old_labels (Amend old new) = old.now ∷ []
+old_labels (Split old new) = old.now ∷ []
+old_labels (Fold new old) = texts old.now
+old_labels (Prune old) = old.now ∷ []
+old_labels (Relocate old new parents) = old.now ∷ parent_words parents
+old_labels (Advance label phase) = label.now ∷ []
+
+-- one of the labels stands for nothing: so they can end the script
+abbrev pub IsUnresolved : Names → List Text → RunFault → Type 0
+IsUnresolved names labels = IsUnknownWhere names.number (HasUnknown (value_of names.labels.now) labels)
+
 -- the new labels, in the order in which the operation makes their changesets
 abbrev pub new_labels : Operation → List Text
 new_labels (Commit new is_secret parents) = new.now ∷ []
 new_labels (Amend old new) = new.now ∷ []
-new_labels (Split old new) = map (λ w. w.now) new.now
+new_labels (Split old new) = texts new.now
 new_labels (Fold new old) = new.now ∷ []
 new_labels (Prune old) = []
 new_labels (Relocate old new parents) = new.now ∷ []
@@ -138,6 +191,12 @@ taken taker (Refused refusal ∷ answers) = []
 -- the world ran what the taker takes, and it was done or refused by a printed number
 abbrev pub HasTaken : Snapshot ReplicaState → ℕ → PeerAnswer → Snapshot ReplicaState → Type 0
 HasTaken old taker answer new = (t : Trace) × (t.events ≡ taken taker (answer ∷ [])) × Ran old t new × AreTold t.answers
+
+-- how what the taker takes of an offer can end the script
+abbrev pub IsTakeFault : ℕ → Snapshot ReplicaState → ℕ → PeerAnswer → RunFault → Type 0
+IsTakeFault number world taker answer fault =
+    (message : ℕ) × (answer ≡ Offered message)
+    × IsUnknownWhere number (IsNowhere world (event.Take taker message)) fault
 
 -- the heads of what the peer at one place has in common with the peer at another
 abbrev pub AreCommonAt : Snapshot ReplicaState → ℕ → ℕ → List Node → Type 0
@@ -157,5 +216,6 @@ AreEventsOf world places ids numbers (Take at message) answers events =
 AreEventsOf world places ids numbers (Pull to from) answers events =
     (giver : ℕ) × (taker : ℕ) × (common : Vec Node Global) × (places from.now ≡ Some giver) × (places to.now ≡ Some taker)
     × AreCommonAt world taker giver common.items × (events ≡ event.Offer giver common ∷ taken taker answers)
-AreEventsOf world places ids numbers (Report at) answers events = events ≡ []
-AreEventsOf world places ids numbers (Agree one other) answers events = events ≡ []
+AreEventsOf world places ids numbers (Report at) answers events = IsSome (node_at world places at.now) × (events ≡ [])
+AreEventsOf world places ids numbers (Agree one other) answers events =
+    IsSome (node_at world places one.now) × IsSome (node_at world places other.now) × (events ≡ [])

@@ -1,21 +1,26 @@
 -- What the lines of a script do to a fleet: to its world, and to the names.
-use Rattle.std.specs.Prelude.{ℕ, ◌≡◌, ◌⊎◌, ◌≤◌, List, [], ◌∷◌, length, map, count_by, Some, None, Ok}
+use Rattle.std.specs.Prelude.{ℕ, ◌≡◌, ◌⊎◌, ◌≤◌, List, [], ◌∷◌, length, map, count_by, Bool, true, ◌&&◌, IsTrue, Option}
+use Rattle.std.specs.Prelude.{Some, None, Ok}
 use Rattle.std.specs.declared.vec.Vec.{Vec}
 use Rattle.std.specs.declared.alloc.Global.{Global}
 use Rattle.std.specs.BTreeMap.{BTreeMap, btree_map_len}
 use Rattle.std.specs.Map.{update}
+use Rattle.std.specs.Option.{option_map_or}
 use Rattle.std.specs.Str.{bytes_eq}
 use Rattle.std.specs.Str.Lines.{lines}
 use Rattle.hg_changeset.specs.declared.node.Node.{Node}
+use Rattle.hg_changeset.specs.Node.{node_eq}
 use Rattle.hg_replica.specs.State.{ReplicaState}
 use Rattle.hg_world.specs.Runs.{Snapshot, AllEmpty}
 use Rattle.hg_world.specs.declared.event.Answer.TheVariants.{Accepted, Offered, Refused}
 use Rattle.hg_peer.specs.Words.{peer_state}
 use Rattle.hg_script.specs.declared.command.Command.{Command}
-use Rattle.hg_script.specs.declared.command.Command.TheVariants.{Node as node, Operation as operation, Offer, Take, Pull, Report, Agree}
+use Rattle.hg_script.specs.declared.command.Command.TheVariants.{Node as node, Operation as operation, Offer, Take}
+use Rattle.hg_script.specs.declared.command.Command.TheVariants.{Pull, Report, Agree}
 use Rattle.hg_script.specs.declared.fleet.Fleet.{Fleet}
 use Rattle.hg_script.specs.Commands.{Text, Word, CommandAnswer}
-use Rattle.hg_script.specs.Events.{Trace, no_trace, joined, Ran, AreTold, PeerAnswer, Meaning, new_labels, AreEventsOf}
+use Rattle.hg_script.specs.Events.{Trace, no_trace, joined, Ran, AreTold, PeerAnswer, Meaning, brought, node_at}
+use Rattle.hg_script.specs.Events.{message_at, new_labels, AreEventsOf}
 use Rattle.hg_script.specs.Limits.{line_limit}
 use Rattle.hg_script.specs.Names.{value_of, Binds}
 use Rattle.hg_script.specs.Words.{has_node, words_of}
@@ -30,6 +35,34 @@ ids f = value_of f.labels
 
 abbrev pub numbers : Fleet → Meaning ℕ
 numbers f = value_of f.messages
+
+-- the state of the node with this name, if there is one
+abbrev pub node_named : Fleet → Text → Option ReplicaState
+node_named f name = node_at f.world (places f) name
+
+-- the bytes of the message with this name
+abbrev pub message_named : Fleet → Text → Option (List ℕ)
+message_named f name = message_at f.world (numbers f) name
+
+-- ---- new labels
+
+-- the label names nothing yet, or this id
+abbrev pub may_name : Meaning Node → Text → Node → Bool
+may_name names label n = option_map_or (λ m. node_eq m n) (names label) true
+
+-- each label in turn may name the id at its place, also after those before it do: no label that is bound names another
+-- id, and none that is given twice names two
+abbrev pub may_be_bound : Meaning Node → List Text → List Node → Bool
+may_be_bound names [] nodes = true
+may_be_bound names (label ∷ labels) [] = true
+may_be_bound names (label ∷ labels) (n ∷ nodes) =
+    may_name names label n && may_be_bound (update bytes_eq names label (Some n)) labels nodes
+
+-- each label may name the id at its place
+abbrev pub each_may_name : Meaning Node → List Text → List Node → Bool
+each_may_name names [] nodes = true
+each_may_name names (label ∷ labels) [] = true
+each_may_name names (label ∷ labels) (n ∷ nodes) = may_name names label n && each_may_name names labels nodes
 
 -- each label names the id at its place
 abbrev pub bound_to : Meaning Node → List Text → List Node → Meaning Node
@@ -52,12 +85,14 @@ IsKept old name (Offered number ∷ answers) new = Binds old name number new
 IsKept old name (Refused refusal ∷ answers) new = new ≡ old
 
 -- the names after a command: a node has the next place, the new labels of an operation name what it added, and a message
--- that was offered has its number. The names of nodes and messages are new
+-- that was offered has its number. The names of nodes and messages are new, and the labels were free to name what the
+-- operation brought
 abbrev pub AreNamed : Fleet → Command → Trace → Fleet → Type 0
 AreNamed old (node at) t new =
     (places old at.now ≡ None) × Binds old.nodes at.now (btree_map_len old.nodes) new.nodes × (new.labels ≡ old.labels) × (new.messages ≡ old.messages)
 AreNamed old (operation at op) t new =
-    (new.nodes ≡ old.nodes) × AreLabelled old.labels (new_labels op) t.answers new.labels × (new.messages ≡ old.messages)
+    (new.nodes ≡ old.nodes) × IsTrue (may_be_bound (ids old) (new_labels op) (brought t.parts))
+    × AreLabelled old.labels (new_labels op) t.answers new.labels × (new.messages ≡ old.messages)
 AreNamed old (Offer at message labels) t new =
     (new.nodes ≡ old.nodes) × (new.labels ≡ old.labels) × (numbers old message.now ≡ None) × IsKept old.messages message.now t.answers new.messages
 AreNamed old (Take at message) t new = (new.nodes ≡ old.nodes) × (new.labels ≡ old.labels) × (new.messages ≡ old.messages)
@@ -104,7 +139,8 @@ pub record IsNewFleet (count : ℕ) (f : Fleet) : Type 0 where
   pub no_label : (name : Text) → ids f name ≡ None
   pub no_number : (name : Text) → numbers f name ≡ None
 
--- the script leaves the world so: its lines were done from a new fleet on, with a peer for each line whose first word is `node`, and all events together are one run of the world
+-- the script leaves the world so: its lines were done from a new fleet on, with a peer for each line whose first word
+-- is `node`, and all events together are one run of the world
 pub record IsRunOf (text : Text) (world : Snapshot ReplicaState) : Type 0 where
   pub start : Fleet
   pub is_new : IsNewFleet (count_by has_node (lines text)) start

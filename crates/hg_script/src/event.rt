@@ -3,7 +3,7 @@ ghost use Rattle.std.specs.Prelude.{◌≡◌, Option, IfOk, IfErr, OnErr};
 ghost use Rattle.hg_replica.specs.Least.{PartValue};
 ghost use Rattle.hg_world.specs.Runs.{Happens};
 ghost use Rattle.hg_peer.specs.Words.{peer_state, peer_words};
-ghost use Rattle.hg_script.specs.Events.{IsTold, IsLeftBy};
+ghost use Rattle.hg_script.specs.Events.{IsTold, IsNowhere, IsUnknownWhere};
 
 use crate::fault::RunFault;
 use crate::output::print_refused;
@@ -33,7 +33,8 @@ pub fn run_event<W: Write>(
 ) -> Result<PeerAnswer, RunFault>
     ensures told { IfOk result IsTold }
     ensures happens { IfOk result (λ answer. (part : Option PartValue) × Happens peer_state peer_words world.old event answer part world.new) }
-    ensures left { IfErr result (λ fault. IsLeftBy number world.old fault world.new) }
+    ensures fault { IfErr result (IsUnknownWhere number (IsNowhere world.old event)) }
+    ensures unchanged { OnErr result (world.new ≡ world.old) }
 {
     let answer = run_one(world, event)?;
     match &answer {

@@ -1,8 +1,15 @@
 //! What a script has made so far: a world of peers, and the names of these, of changesets and of messages.
-ghost use Rattle.std.specs.Prelude.{◌≡◌, ◌<◌, ◌∷◌, [], ℕ, List, Some, map, IfOk, IfErr, OnOk, OnErr, slice_get};
-ghost use Rattle.hg_script.specs.Events.{AreCommonAt, HasTaken, IsFaultAt, IsLeftBy};
+ghost use Rattle.std.specs.Prelude.{◌≡◌, ◌&&◌, ◌<◌, ◌∷◌, [], ◌⊎◌, ℕ, List, Some, None, map, IfOk, IfErr, OnOk, OnErr};
+ghost use Rattle.std.specs.Prelude.{is_none, slice_get};
+ghost use Rattle.std.specs.List.{list_all};
+ghost use Rattle.hg_graph.specs.Graph.{nodes};
+ghost use Rattle.hg_script.specs.Commands.{texts};
+ghost use Rattle.hg_script.specs.Endings.{AreLabelsFree, IsCommandFault, IsDecided, IsLeftBy, IsNodeFault};
+ghost use Rattle.hg_script.specs.Endings.{IsTakenFault};
+ghost use Rattle.hg_script.specs.Events.{AreCommonAt, HasTaken, IsTakeFault};
 ghost use Rattle.hg_script.specs.Names.{value_of};
-ghost use Rattle.hg_script.specs.Scripts.{AreLabelled, IsDone, IsKept, IsNewFleet, bound_to, places};
+ghost use Rattle.hg_script.specs.Scripts.{AreLabelled, IsDone, IsKept, IsNewFleet, bound_to, each_may_name, ids};
+ghost use Rattle.hg_script.specs.Scripts.{may_name, places};
 
 use crate::command::Command;
 use crate::event::{PeerAnswer, run_event};
@@ -15,8 +22,8 @@ use hg_changeset::{Changeset, Node};
 use hg_discovery::heads_in_common;
 use hg_join::{JoinState, NoMemory};
 use hg_peer::Peer;
-use hg_replica::Replica;
-use hg_rewrite::{Op, Refusal, decide};
+use hg_replica::{Part, Replica};
+use hg_rewrite::{Op, decide};
 use hg_world::{Answer, Event, World};
 use std::alloc::Global;
 use std::collections::BTreeMap;
@@ -83,7 +90,7 @@ impl Fleet {
         writer: &mut W,
     ) -> Result<(), RunFault>
         ensures ok { OnOk result (IsDone self.old command.entry self.new) }
-        ensures err { IfErr result (λ fault. IsLeftBy number self.old.world fault self.new.world) }
+        ensures err { IfErr result (λ fault. IsLeftBy number self.old command.entry fault self.new) }
     {
         match command {
             Command::Node(at) => self.add_node(number, at),
@@ -101,7 +108,7 @@ impl Fleet {
     // A new node has the next place.
     fn add_node(&mut self, number: usize, at: &[u8]) -> Result<(), RunFault>
         ensures ok { OnOk result (IsDone self.old (Command.Node at.entry) self.new) }
-        ensures err { IfErr result (λ fault. IsLeftBy number self.old.world fault self.new.world) }
+        ensures err { IfErr result (λ fault. IsLeftBy number self.old (Command.Node at.entry) fault self.new) }
     {
         let place = self.nodes.len();
         if bound(&self.nodes, at).is_some() {
@@ -121,7 +128,9 @@ impl Fleet {
         writer: &mut W,
     ) -> Result<(), RunFault>
         ensures ok { OnOk result (IsDone self.old (Command.Operation at.entry operation.entry) self.new) }
-        ensures err { IfErr result (λ fault. IsLeftBy number self.old.world fault self.new.world) }
+        ensures err {
+            IfErr result (λ fault. IsLeftBy number self.old (Command.Operation at.entry operation.entry) fault self.new)
+        }
     {
         let names = Names {
             alloc: self.alloc,
@@ -131,7 +140,8 @@ impl Fleet {
         let op = operation.resolve(&names)?;
         let place = self.place(number, at)?;
         let labels = operation.new_labels(self.alloc)?;
-        self.check_labels(number, place, &op, &labels)?;
+        let replica = self.replica(number, place)?;
+        self.check_labels(number, replica, &op, &labels)?;
         let event = Event::Local { at: place, op };
         let answer = run_event(self.alloc, number, &mut self.world, event, writer)?;
         label(self.alloc, &mut self.labels, &labels, &answer)?;
@@ -143,27 +153,26 @@ impl Fleet {
     fn check_labels(
         &self,
         number: usize,
-        place: usize,
+        replica: &Replica,
         op: &Op,
         labels: &[&[u8]],
     ) -> Result<(), RunFault>
-        ensures { IfErr result (IsFaultAt number) }
+        ensures free { OnOk result (AreLabelsFree (ids self.now) (texts labels.now) replica.now op.now) }
+        ensures err { IfErr result (IsTakenFault number (ids self.now) labels.now replica.now op.now) }
     {
         let are_distinct = are_distinct(self.alloc, labels)?;
         if are_distinct && are_unbound(&self.labels, labels) {
             return Ok(());
         }
-        let replica = self.replica(number, place)?;
-        match decide(self.alloc, replica, op) {
-            Ok(part) => {
-                if are_distinct && may_bind(&self.labels, labels, &part.changesets) {
-                    Ok(())
-                } else {
-                    Err(RunFault::Line(number, LineFault::NameTaken))
+        let made = decided(self.alloc, replica, op)?;
+        match made {
+            Some(part) => {
+                if !are_free(&self.labels, labels, are_distinct, &part) {
+                    return Err(RunFault::Line(number, LineFault::NameTaken));
                 }
+                Ok(())
             }
-            Err(Refusal::NoMemory) => Err(RunFault::NoMemory),
-            Err(_) => Ok(()),
+            None => Ok(()),
         }
     }
 
@@ -178,7 +187,10 @@ impl Fleet {
         writer: &mut W,
     ) -> Result<(), RunFault>
         ensures ok { OnOk result (IsDone self.old (Command.Offer at.entry message.entry labels.entry) self.new) }
-        ensures err { IfErr result (λ fault. IsLeftBy number self.old.world fault self.new.world) }
+        ensures err {
+            IfErr result (λ fault.
+                IsLeftBy number self.old (Command.Offer at.entry message.entry labels.entry) fault self.new)
+        }
     {
         let names = Names {
             alloc: self.alloc,
@@ -207,7 +219,9 @@ impl Fleet {
         writer: &mut W,
     ) -> Result<(), RunFault>
         ensures ok { OnOk result (IsDone self.old (Command.Take at.entry message.entry) self.new) }
-        ensures err { IfErr result (λ fault. IsLeftBy number self.old.world fault self.new.world) }
+        ensures err {
+            IfErr result (λ fault. IsLeftBy number self.old (Command.Take at.entry message.entry) fault self.new)
+        }
     {
         let at = self.place(number, at)?;
         let message = match bound(&self.messages, message) {
@@ -228,7 +242,9 @@ impl Fleet {
         writer: &mut W,
     ) -> Result<(), RunFault>
         ensures ok { OnOk result (IsDone self.old (Command.Pull to.entry from.entry) self.new) }
-        ensures err { IfErr result (λ fault. IsLeftBy number self.old.world fault self.new.world) }
+        ensures err {
+            IfErr result (λ fault. IsLeftBy number self.old (Command.Pull to.entry from.entry) fault self.new)
+        }
     {
         let giver = self.place(number, from)?;
         let taker = self.place(number, to)?;
@@ -245,7 +261,11 @@ impl Fleet {
     // The heads of what the taker has in common with the giver.
     fn common(&self, number: usize, taker: usize, giver: usize) -> Result<Vec<Node>, RunFault>
         ensures ok { IfOk result (λ heads. AreCommonAt self.now.world taker giver heads.items) }
-        ensures err { IfErr result (IsFaultAt number) }
+        ensures err {
+            IfErr result (λ fault.
+                (fault ≡ RunFault.NoMemory)
+                ⊎ (IsNodeFault number self.now taker fault ⊎ IsNodeFault number self.now giver fault))
+        }
     {
         let asker = self.replica(number, taker)?;
         let other = self.replica(number, giver)?;
@@ -263,7 +283,8 @@ impl Fleet {
         other: &[u8],
         writer: &mut W,
     ) -> Result<(), RunFault>
-        ensures { IfErr result (IsFaultAt number) }
+        ensures ok { OnOk result (IsDone self.now (Command.Agree one.entry other.entry) self.now) }
+        ensures err { IfErr result (IsCommandFault number self.now (Command.Agree one.entry other.entry)) }
     {
         let first = self.replica(number, self.place(number, one)?)?;
         let second = self.replica(number, self.place(number, other)?)?;
@@ -282,7 +303,8 @@ impl Fleet {
     }
 
     fn report<W: Write>(&self, number: usize, at: &[u8], writer: &mut W) -> Result<(), RunFault>
-        ensures { IfErr result (IsFaultAt number) }
+        ensures ok { OnOk result (IsDone self.now (Command.Report at.entry) self.now) }
+        ensures err { IfErr result (IsCommandFault number self.now (Command.Report at.entry)) }
     {
         let replica = self.replica(number, self.place(number, at)?)?;
         print_report(self.alloc, at, replica, writer)
@@ -291,7 +313,10 @@ impl Fleet {
     // The place of the node with this name.
     fn place(&self, number: usize, at: &[u8]) -> Result<usize, RunFault>
         ensures ok { IfOk result (λ place. places self.now at.now ≡ Some place) }
-        ensures err { IfErr result (IsFaultAt number) }
+        ensures err {
+            IfErr result (λ fault.
+                (fault ≡ RunFault.Line number LineFault.UnknownName) × (places self.now at.now ≡ None))
+        }
     {
         match bound(&self.nodes, at) {
             Some(place) => Ok(place),
@@ -302,7 +327,7 @@ impl Fleet {
     // The replica of the node at a place.
     fn replica(&self, number: usize, place: usize) -> Result<&Replica, RunFault>
         ensures ok { IfOk result (λ replica. slice_get self.now.world.nodes place ≡ Some replica.now) }
-        ensures err { IfErr result (IsFaultAt number) }
+        ensures err { IfErr result (IsNodeFault number self.now place) }
     {
         match self.world.state(place) {
             Some(peer) => Ok(peer.replica()),
@@ -311,34 +336,53 @@ impl Fleet {
     }
 }
 
+// The part of the operation, if it isn't refused. Want of memory, which has no number, is no refusal.
+fn decided(alloc: Global, replica: &Replica, op: &Op) -> Result<Option<Part>, RunFault>
+    ensures ok { IfOk result (IsDecided replica.now op.now) }
+    ensures err { IfErr result (λ fault. fault ≡ RunFault.NoMemory) }
+{
+    match decide(alloc, replica, op) {
+        Ok(part) => Ok(Some(part)),
+        Err(refusal) => match refusal.number() {
+            Some(_) => Ok(None),
+            None => Err(RunFault::NoMemory),
+        },
+    }
+}
+
+// Whether the labels, all different or not, may name the changesets of the part.
+fn are_free(names: &BTreeMap<Vec<u8>, Node>, labels: &[&[u8]], are_distinct: bool, part: &Part) -> bool
+    ensures {
+        result ≡ (are_distinct
+            && each_may_name (value_of names.now) (texts labels.now) (nodes part.now.history.changesets))
+    }
+{
+    are_distinct && may_bind(names, labels, &part.changesets)
+}
+
 // Whether each label names nothing yet.
-fn are_unbound(names: &BTreeMap<Vec<u8>, Node>, labels: &[&[u8]]) -> bool {
-    for label in labels {
-        if bound(names, *label).is_some() {
+fn are_unbound(names: &BTreeMap<Vec<u8>, Node>, labels: &[&[u8]]) -> bool
+    ensures { result ≡ list_all (λ w. is_none (value_of names.now w.now)) labels.now }
+{
+    labels.iter().all(|label| bound(names, *label).is_none())
+}
+
+// Whether each label names nothing yet or the changeset that it is to name.
+fn may_bind(names: &BTreeMap<Vec<u8>, Node>, labels: &[&[u8]], changesets: &[Changeset]) -> bool
+    ensures { result ≡ each_may_name (value_of names.now) (texts labels.now) (nodes changesets.now) }
+{
+    for (label, changeset) in labels.iter().zip(changesets) {
+        if !may_name(names, *label, changeset.node()) {
             return false;
         }
     }
     true
 }
 
-// Whether each label names nothing yet or the changeset that it is to name. The changesets of an operation have ids of
-// their own, so a label that comes twice would name two.
-fn may_bind(names: &BTreeMap<Vec<u8>, Node>, labels: &[&[u8]], changesets: &[Changeset]) -> bool {
-    for (place, changeset) in changesets.iter().enumerate() {
-        match labels.get(place) {
-            Some(label) => {
-                if !may_name(names, *label, changeset.node()) {
-                    return false;
-                }
-            }
-            None => return false,
-        }
-    }
-    true
-}
-
 // Whether the label names nothing yet, or this node.
-fn may_name(names: &BTreeMap<Vec<u8>, Node>, label: &[u8], node: Node) -> bool {
+fn may_name(names: &BTreeMap<Vec<u8>, Node>, label: &[u8], node: Node) -> bool
+    ensures { result ≡ may_name (value_of names.now) label.now node }
+{
     match bound(names, label) {
         Some(named) => named == node,
         None => true,
@@ -410,7 +454,8 @@ fn take_offered<W: Write>(
     writer: &mut W,
 ) -> Result<(), RunFault>
     ensures ok { OnOk result (HasTaken world.old at answer.now world.new) }
-    ensures err { IfErr result (λ fault. IsLeftBy number world.old fault world.new) }
+    ensures err { IfErr result (IsTakeFault number world.old at answer.now) }
+    ensures unchanged { OnErr result (world.new ≡ world.old) }
 {
     match answer {
         Answer::Offered(message) => {

@@ -1,7 +1,8 @@
 //! Operations of a script: by labels, and what they ask of a replica once the labels stand for ids.
-ghost use Rattle.std.specs.Prelude.{◌≡◌, ◌⊎◌, map, Some, IfOk, IfErr};
+ghost use Rattle.std.specs.Prelude.{◌≡◌, ◌∷◌, [], map, Some, IfOk, IfErr};
+ghost use Rattle.hg_script.specs.Commands.{parent_words, texts};
 ghost use Rattle.hg_script.specs.Entries.{entry_of};
-ghost use Rattle.hg_script.specs.Events.{AreIds, AreParentIds, IsOperation, IsFaultAt, new_labels};
+ghost use Rattle.hg_script.specs.Events.{AreIds, AreParentIds, IsOperation, IsUnresolved, new_labels, old_labels};
 ghost use Rattle.hg_script.specs.Names.{value_of};
 
 use crate::fault::{LineFault, RunFault};
@@ -75,7 +76,7 @@ impl<'a> Operation<'a> {
     /// What the operation asks of a replica. All its labels but the new ones have to be bound.
     pub fn resolve(self, names: &Names) -> Result<Op, RunFault>
         ensures ok { IfOk result (IsOperation (value_of names.now.labels.now) self.entry) }
-        ensures err { IfErr result (IsFaultAt names.now.number) }
+        ensures err { IfErr result (IsUnresolved names.now (old_labels self.entry)) }
     {
         match self {
             Operation::Commit {
@@ -106,7 +107,7 @@ impl Names<'_> {
     // The id that a label names.
     fn node(&self, label: &[u8]) -> Result<Node, RunFault>
         ensures ok { IfOk result (λ node. value_of self.now.labels.now label.now ≡ Some node) }
-        ensures err { IfErr result (IsFaultAt self.now.number) }
+        ensures err { IfErr result (IsUnresolved self.now (label.now ∷ [])) }
     {
         match bound(self.labels, label) {
             Some(node) => Ok(node),
@@ -117,7 +118,7 @@ impl Names<'_> {
     // The ids that the labels of parents name, and the null id for each that is absent.
     fn parents(&self, labels: Parents<'_>) -> Result<(Node, Node), RunFault>
         ensures ok { IfOk result (λ ps. AreParentIds (value_of self.now.labels.now) labels.entry ps.0 ps.1) }
-        ensures err { IfErr result (IsFaultAt self.now.number) }
+        ensures err { IfErr result (IsUnresolved self.now (parent_words labels.entry)) }
     {
         match labels {
             Parents::NoParent => Ok((Node::NULL, Node::NULL)),
@@ -128,7 +129,7 @@ impl Names<'_> {
 
     fn commit(&self, new: &[u8], secret: bool, parents: Parents<'_>) -> Result<Op, RunFault>
         ensures ok { IfOk result (IsOperation (value_of self.now.labels.now) (Operation.Commit new.entry secret parents.entry)) }
-        ensures err { IfErr result (IsFaultAt self.now.number) }
+        ensures err { IfErr result (IsUnresolved self.now (parent_words parents.entry)) }
     {
         let (p, q) = self.parents(parents)?;
         Ok(Op::Commit {
@@ -141,7 +142,7 @@ impl Names<'_> {
 
     fn amend(&self, old: &[u8], new: &[u8]) -> Result<Op, RunFault>
         ensures ok { IfOk result (IsOperation (value_of self.now.labels.now) (Operation.Amend old.entry new.entry)) }
-        ensures err { IfErr result (IsFaultAt self.now.number) }
+        ensures err { IfErr result (IsUnresolved self.now (old.now ∷ [])) }
     {
         Ok(Op::Amend {
             node: self.node(old)?,
@@ -151,7 +152,7 @@ impl Names<'_> {
 
     fn split(&self, old: &[u8], new: &[&[u8]]) -> Result<Op, RunFault>
         ensures ok { IfOk result (IsOperation (value_of self.now.labels.now) (Operation.Split old.entry new.entry)) }
-        ensures err { IfErr result (IsFaultAt self.now.number) }
+        ensures err { IfErr result (IsUnresolved self.now (old.now ∷ [])) }
     {
         Ok(Op::Split {
             node: self.node(old)?,
@@ -161,7 +162,7 @@ impl Names<'_> {
 
     fn fold(&self, new: &[u8], old: &[&[u8]]) -> Result<Op, RunFault>
         ensures ok { IfOk result (IsOperation (value_of self.now.labels.now) (Operation.Fold new.entry old.entry)) }
-        ensures err { IfErr result (IsFaultAt self.now.number) }
+        ensures err { IfErr result (IsUnresolved self.now (texts old.now)) }
     {
         Ok(Op::Fold {
             nodes: self.nodes(old)?,
@@ -172,7 +173,7 @@ impl Names<'_> {
     // The user and the date of a prune are those of an entry.
     fn prune(&self, old: &[u8]) -> Result<Op, RunFault>
         ensures ok { IfOk result (IsOperation (value_of self.now.labels.now) (Operation.Prune old.entry)) }
-        ensures err { IfErr result (IsFaultAt self.now.number) }
+        ensures err { IfErr result (IsUnresolved self.now (old.now ∷ [])) }
     {
         Ok(Op::Prune {
             node: self.node(old)?,
@@ -184,7 +185,7 @@ impl Names<'_> {
 
     fn relocate(&self, old: &[u8], new: &[u8], parents: Parents<'_>) -> Result<Op, RunFault>
         ensures ok { IfOk result (IsOperation (value_of self.now.labels.now) (Operation.Relocate old.entry new.entry parents.entry)) }
-        ensures err { IfErr result (IsFaultAt self.now.number) }
+        ensures err { IfErr result (IsUnresolved self.now (old.now ∷ parent_words parents.entry)) }
     {
         let node = self.node(old)?;
         let (p, q) = self.parents(parents)?;
@@ -198,7 +199,7 @@ impl Names<'_> {
 
     fn advance(&self, label: &[u8], phase: Phase) -> Result<Op, RunFault>
         ensures ok { IfOk result (IsOperation (value_of self.now.labels.now) (Operation.Advance label.entry phase)) }
-        ensures err { IfErr result (IsFaultAt self.now.number) }
+        ensures err { IfErr result (IsUnresolved self.now (label.now ∷ [])) }
     {
         Ok(Op::Advance {
             node: self.node(label)?,
@@ -209,7 +210,7 @@ impl Names<'_> {
     /// The ids that labels name.
     pub fn nodes(&self, labels: &[&[u8]]) -> Result<Vec<Node>, RunFault>
         ensures ok { IfOk result (λ nodes. AreIds (value_of self.now.labels.now) labels.now nodes.items) }
-        ensures err { IfErr result (IsFaultAt self.now.number) }
+        ensures err { IfErr result (IsUnresolved self.now (texts labels.now)) }
     {
         let mut nodes = Vec::new(self.alloc);
         for label in labels {

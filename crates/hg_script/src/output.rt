@@ -1,6 +1,6 @@
 //! Printing: one write for each line, its LF included.
 ghost use Rattle.std.specs.Prelude.{◌≡◌, ◌⊎◌, IfErr, OnOk, IsSome};
-ghost use Rattle.hg_script.specs.Events.{HasNumber, IsFaultAt};
+ghost use Rattle.hg_script.specs.Events.{HasNumber, IsAbsence, IsUnknownWhere};
 
 use crate::fault::{LineFault, RunFault};
 use hg_history::Fault;
@@ -53,7 +53,7 @@ pub fn print_refused<W: Write>(
     refusal: &EventRefusal<PeerRefusal, Fault>,
 ) -> Result<(), RunFault>
     ensures ok { OnOk result (HasNumber refusal.now) }
-    ensures err { IfErr result (IsFaultAt line) }
+    ensures err { IfErr result (IsUnknownWhere line (IsAbsence refusal.now)) }
 {
     match refusal {
         EventRefusal::ByActor(refusal) => {

@@ -1,10 +1,10 @@
 //! A script from its first line to its last.
-ghost use Rattle.std.specs.Prelude.{◌≡◌, ◌≤◌, ◌<◌, ◌+◌, IfOk, OnOk};
+ghost use Rattle.std.specs.Prelude.{◌≡◌, ◌≤◌, ◌<◌, ◌+◌, ◌⊎◌, IfOk, IfErr, OnOk};
 ghost use Rattle.std.specs.Str.Lines.{lines};
 ghost use Rattle.hg_replica.specs.State.{ReplicaState};
 ghost use Rattle.hg_world.specs.Runs.{Snapshot};
 ghost use Rattle.hg_script.specs.Events.{Trace};
-ghost use Rattle.hg_script.specs.Endings.{IsLeftWorld};
+ghost use Rattle.hg_script.specs.Endings.{EndsAt, IsLeftWorld, IsStop, IsStoppedBy, StopsAmong};
 ghost use Rattle.hg_script.specs.Limits.{script_limit};
 ghost use Rattle.hg_script.specs.Scripts.{DoesLine, DoesLines, IsRunOf};
 
@@ -31,6 +31,7 @@ pub fn run_script<R: CountedRead, W: Write>(
     writer: &mut W,
 ) -> Result<(), RunFault>
     ensures ran { OnOk result ((world : Snapshot ReplicaState) × IsLeftWorld (R.remaining reader.old) world) }
+    ensures stopped { IfErr result (IsStop (R.remaining reader.old)) }
     ensures reads { R.reads reader.new ≤ R.reads reader.old + (script_limit + 1) }
 {
     run_fleet(alloc, reader, writer)?;
@@ -46,6 +47,7 @@ pub fn run_fleet<R: CountedRead, W: Write>(
     writer: &mut W,
 ) -> Result<World<Peer>, RunFault>
     ensures ran { IfOk result (IsLeftWorld (R.remaining reader.old)) }
+    ensures stopped { IfErr result (IsStop (R.remaining reader.old)) }
     ensures reads { R.reads reader.new ≤ R.reads reader.old + (script_limit + 1) }
 {
     let text = read_script(alloc, reader)?;
@@ -58,7 +60,8 @@ pub fn run_counted<R: Read + Drop, W: Write>(
     reader: R,
     writer: &mut W,
 ) -> Result<(), RunFault>
-    ensures { OnOk result ((world : Snapshot ReplicaState) × IsLeftWorld (R.remaining reader) world) }
+    ensures ran { OnOk result ((world : Snapshot ReplicaState) × IsLeftWorld (R.remaining reader) world) }
+    ensures stopped { IfErr result (IsStop (R.remaining reader)) }
 {
     count_and_run::<R, W, Brand>(alloc, reader, writer, Blank::new(1))
 }
@@ -72,14 +75,16 @@ fn count_and_run<R: Read + Drop, W: Write, L: Ledger>(
     requires name { blank.name ≡ L.name }
     requires parts { blank.parts ≡ L.parts }
     requires some { 0 < blank.parts }
-    ensures { OnOk result ((world : Snapshot ReplicaState) × IsLeftWorld (R.remaining reader) world) }
+    ensures ran { OnOk result ((world : Snapshot ReplicaState) × IsLeftWorld (R.remaining reader) world) }
+    ensures stopped { IfErr result (IsStop (R.remaining reader)) }
 {
     let mut counted = Counted::<R, L>::new(reader, blank);
     run_script(alloc, &mut counted, writer)
 }
 
 fn run_text<W: Write>(alloc: Global, text: &[u8], writer: &mut W) -> Result<World<Peer>, RunFault>
-    ensures { IfOk result (IsRunOf text.now) }
+    ensures ran { IfOk result (IsRunOf text.now) }
+    ensures stopped { IfErr result (λ fault. (fault ≡ RunFault.NoMemory) ⊎ IsStoppedBy text.now fault) }
 {
     let mut fleet = Fleet::new(alloc, count_nodes(text))?;
     runs_compose::<Peer>();
@@ -93,13 +98,14 @@ fn run_lines<W: Write>(
     text: &[u8],
     writer: &mut W,
 ) -> Result<(), RunFault>
-    ensures { OnOk result ((t : Trace) × DoesLines fleet.old (lines text.now) t fleet.new) }
+    ensures done { OnOk result ((t : Trace) × DoesLines fleet.old (lines text.now) t fleet.new) }
+    ensures stopped { IfErr result (StopsAmong fleet.old (lines text.now)) }
 {
     let mut rest = text;
     let mut number = 0usize;
     while !rest.is_empty() {
         let (line, after) = cut_line(rest);
-        number = number.saturating_add(1);
+        number += 1;
         run_line(alloc, fleet, number, line, writer)?;
         rest = after;
     }
@@ -113,7 +119,8 @@ fn run_line<W: Write>(
     line: &[u8],
     writer: &mut W,
 ) -> Result<(), RunFault>
-    ensures { OnOk result ((t : Trace) × DoesLine fleet.old line.now t fleet.new) }
+    ensures done { OnOk result ((t : Trace) × DoesLine fleet.old line.now t fleet.new) }
+    ensures stopped { IfErr result (EndsAt number fleet.old line.now) }
 {
     if !is_short(line) {
         return Err(RunFault::Line(number, LineFault::TooLong));

@@ -1,8 +1,31 @@
 use Rattle.std.proofs.Common.{map, refl, ap, ◌∙◌, inl}
+use Rattle.std.proofs.lemmas.Result.{err_from_is_err_and}
 use Rattle.hg_script.specs.Commands.{Word}
+use Rattle.hg_script.specs.Endings.{HasWords, Says}
 use Rattle.hg_script.specs.Events.{no_trace}
+use Rattle.hg_script.proofs.EndingLemmas.{command_ends, over_limit, words_fault}
 use Rattle.hg_script.proofs.script.run_line.Goals as goal
 
-pub returns-in-Ok-None : goal.returns-in-Ok-None
-returns-in-Ok-None g c =
+pub returns-then-not-is_short-clause-stopped : goal.returns-then-not-is_short-clause-stopped
+returns-then-not-is_short-clause-stopped g c = (refl, over_limit _ _ _ c.is_short.ensures.1 c.if-not-is_short.true)
+
+pub returns-in_err-words-clause-stopped : goal.returns-in_err-words-clause-stopped
+returns-in_err-words-clause-stopped g c =
+    let p = err_from_is_err_and c.from_residual.result c.from_residual.ensures.1 in
+    rw (p.1, p.2) (c.is_short.ensures.0 c.if-not-is_short.false)
+
+pub returns-in-Ok-None-clause-done : goal.returns-in-Ok-None-clause-done
+returns-in-Ok-None-clause-done g c =
     (no_trace, (c.is_short.ensures.0 c.if-not-is_short.false, (c.deref.result.now, ap (map (λ (w : Word). w.now)) c.deref.ensures.value ∙ c.in_ok-words.ensures, inl (rw c.in-Ok-None.field-0-is at c.in-Ok-None.ensures, refl, refl))))
+
+pub returns-in-Err-clause-stopped : goal.returns-in-Err-clause-stopped
+returns-in-Err-clause-stopped g c =
+    let has : HasWords c.args.line.now c.deref.result.now = (c.is_short.ensures.0 c.if-not-is_short.false, ap (map (λ (w : Word). w.now)) c.deref.ensures.value ∙ c.in_ok-words.ensures) in
+    (refl, words_fault _ _ c.deref.result.now _ has c.in-Err.ensures)
+
+pub returns-in_err-execute-clause-stopped : goal.returns-in_err-execute-clause-stopped
+returns-in_err-execute-clause-stopped g c =
+    let p = err_from_is_err_and c.from_residual-in_err-execute.result c.from_residual-in_err-execute.ensures.1 in
+    let has : HasWords c.args.line.now c.deref.result.now = (c.is_short.ensures.0 c.if-not-is_short.false, ap (map (λ (w : Word). w.now)) c.deref.ensures.value ∙ c.in_ok-words.ensures) in
+    let says : Says c.args.line.now c.in-Ok-Some.command = (c.deref.result.now, has, rw c.in-Ok-Some.field-0-is at c.in-Ok-Some.ensures) in
+    rw (p.1, p.2) (command_ends _ _ _ c.in-Ok-Some.command _ says c.in_err-execute.ensures.err.0)

@@ -1,4 +1,4 @@
-use Rattle.std.proofs.Common.{ℕ, refl, sym, subst, ◌∙◌}
+use Rattle.std.proofs.Common.{ℕ, refl, sym, ap, subst, ◌∙◌, is_some, Option}
 use Rattle.std.proofs.lemmas.Result.{err_from_is_err_and}
 use Rattle.hg_script.specs.Events.{no_trace}
 use Rattle.hg_script.specs.Names.{Binds}
@@ -6,7 +6,8 @@ use Rattle.hg_script.proofs.NameLemmas.{unbound}
 use Rattle.hg_script.proofs.fleet.Fleet.add_node.Goals as goal
 
 pub returns-then-is_some-clause-err : goal.returns-then-is_some-clause-err
-returns-then-is_some-clause-err c = (refl, (no_trace, refl))
+returns-then-is_some-clause-err c =
+    ((refl, ap (λ (o : Option ℕ). is_some o) (sym c.bound.ensures) ∙ sym c.is_some.ensures ∙ c.if-is_some.true), (no_trace, refl))
 
 pub returns-in_err-bind-clause-err : goal.returns-in_err-bind-clause-err
 returns-in_err-bind-clause-err c =

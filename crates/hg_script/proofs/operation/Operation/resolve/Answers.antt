@@ -1,6 +1,6 @@
-use Rattle.std.proofs.Common.{sym, subst, IfOk}
+use Rattle.std.proofs.Common.{sym, subst, IfOk, IfErr}
 use Rattle.hg_script.specs.declared.operation.Operation.{Operation}
-use Rattle.hg_script.specs.Events.{IsOperation}
+use Rattle.hg_script.specs.Events.{IsOperation, IsUnresolved, old_labels}
 use Rattle.hg_script.specs.Names.{value_of}
 use Rattle.hg_script.proofs.operation.Operation.resolve.Goals as goal
 
@@ -9,3 +9,6 @@ returns-in-Split-clause-ok c = subst (λ (o : Operation). IfOk c.split.result (I
 
 pub returns-in-Fold-clause-ok : goal.returns-in-Fold-clause-ok
 returns-in-Fold-clause-ok c = subst (λ (o : Operation). IfOk c.fold.result (IsOperation (value_of c.args.names.now.labels.now) o)) (sym c.in-Fold.is) c.fold.ensures.ok
+
+pub returns-in-Fold-clause-err : goal.returns-in-Fold-clause-err
+returns-in-Fold-clause-err c = subst (λ (o : Operation). IfErr c.fold.result (IsUnresolved c.args.names.now (old_labels o))) (sym c.in-Fold.is) c.fold.ensures.err
