@@ -15,6 +15,7 @@ use Rattle.hg_phases.specs.State.{State, IsValid, state_of, changesets}
 use Rattle.hg_phases.specs.Least.{PartValue, IsAdmitted, IsLeast}
 use Rattle.hg_phases.specs.Log.{IsLog, restored}
 use Rattle.hg_phases.proofs.PlaceLemmas.{changesets-held_of}
+use Rattle.hg_phases.specs.RootPlaces.{AreRootPlaces}
 use Rattle.hg_phases.proofs.LogLemmas.{fresh_log}
 use Rattle.hg_history.specs.declared.fault.Fault.{Fault}
 use Rattle.hg_history.specs.declared.fault.Fault.TheVariants.{UnknownParent, Collision, UnknownBound, NullBound, NoMemory}
@@ -58,6 +59,13 @@ module _ (held : List Contents) (had : List Phase) (part : List Contents) (befor
   begun_phases =
       let a = some_added held had part added cs ks begun.done in
       ap (λ n. take n ks) begun.first ∙ phases_kept held had part a.0 cs ks a.1 begun.len
+
+  -- the roots of what was held first
+  pub rooted_after : (places : List ℕ) → AreRootPlaces held had places → AreRootPlaces (take before cs) (take before ks) places
+  rooted_after places are = subst (λ ls. AreRootPlaces (take before cs) ls places) (sym begun_phases) (subst (λ ds. AreRootPlaces ds had places) (sym begun_front) are)
+
+  pub rooted_before : (places : List ℕ) → AreRootPlaces (take before cs) (take before ks) places → AreRootPlaces held had places
+  rooted_before places are = subst (λ ls. AreRootPlaces held ls places) begun_phases (subst (λ ds. AreRootPlaces ds (take before ks) places) begun_front are)
 
 -- what a call that adds leaves can be gone on with
 module _ (held : List Contents) (had : List Phase) (part : List Contents) (added : Result Unit Fault) (cs : List Contents) (ks : List Phase) (answer : AddAllAnswer held had part added cs ks) where

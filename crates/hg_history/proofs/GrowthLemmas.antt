@@ -1,7 +1,7 @@
 -- What grows before any fault of a part is met.
 use Rattle.std.proofs.Common.{◌≡◌, ℕ, zero, suc, ◌<◌, ◌≤◌, List, [], ◌++◌, length, map, take, slice_get, Some, Contains, Result, Ok, Err, ◌⊎◌, inl, inr, sym, ap, subst, ◌∙◌, arith}
 use Rattle.std.proofs.lemmas.Bool.{cases_eq}
-use Rattle.std.proofs.lemmas.List.{append-nil}
+use Rattle.std.proofs.lemmas.List.{append-nil, length-append}
 use Rattle.std.proofs.lemmas.List.Elements.{Contains-append_left, Contains-append_cases}
 use Rattle.std.proofs.lemmas.Option.{same_Some, slice_get_within}
 use Rattle.hg_changeset.specs.declared.node.Node.{Node}
@@ -19,6 +19,7 @@ use Rattle.hg_phases.specs.Log.{HasLogged}
 use Rattle.hg_phases.proofs.PlaceLemmas.{changesets-held_of}
 use Rattle.hg_history.specs.declared.fault.Fault.{Fault}
 use Rattle.hg_history.specs.declared.fault.Fault.TheVariants.{UnknownParent, Collision, UnknownBound, NullBound, NoMemory}
+use Rattle.hg_history.specs.Change.{unheld}
 use Rattle.hg_history.specs.Answer.{IsFineUpTo, AreHeldUpTo, AreKnownUpTo, IsFirstNew, HasHigher, IsGrowthBeforeFault, IsRefusal}
 use Rattle.hg_history.specs.Steps.{AddAllAnswer, IsAdded, IsBoundFault}
 use Rattle.hg_history.proofs.AddLemmas.{Holds-same}
@@ -133,16 +134,31 @@ module _ (held : List Contents) (had : List Phase) (part : List Contents) (bound
     ]
 
     -- where something was logged, some bound's node went down
-    pub growth-logged : AreHeldUpTo cs bounds (length bounds) → (start log end : List LoweredPlace) (mid : List Phase) (before : ℕ) → start ≡ []
-        → HasHigher (state_of cs ks) bounds ⊎ ((mid ≡ ks) × (log ≡ start)) → HasHigher (state_of cs mid) bounds ⊎ (end ≡ log) → HasLogged end before
+    growth-moved : AreHeldUpTo cs bounds (length bounds) → (start log end : List LoweredPlace) (mid : List Phase) → start ≡ []
+        → HasHigher (state_of cs ks) bounds ⊎ ((mid ≡ ks) × (log ≡ start)) → HasHigher (state_of cs mid) bounds ⊎ (end ≡ log) → ¬ (end ≡ [])
         → IsGrowthBeforeFault (state_of held had) (record { changesets = part; bounds = bounds })
-    growth-logged there start log end mid before fresh public draft logged = growth-after there (elim public [
+    growth-moved there start log end mid fresh public draft logged = growth-after there (elim public [
       | inl higher ↦ higher
       | inr same ↦ elim draft [
         | inl higher ↦ subst (λ xs. HasHigher (state_of cs xs) bounds) same.0 higher
-        | inr still ↦ absurd (let none = ap length (still ∙ same.1 ∙ fresh) in omega (arith, logged.1.1, none))
+        | inr still ↦ absurd (logged (still ∙ same.1 ∙ fresh))
       ]
     ])
+
+    pub growth-logged : AreHeldUpTo cs bounds (length bounds) → (start log end : List LoweredPlace) (mid : List Phase) (before : ℕ) → start ≡ []
+        → HasHigher (state_of cs ks) bounds ⊎ ((mid ≡ ks) × (log ≡ start)) → HasHigher (state_of cs mid) bounds ⊎ (end ≡ log) → HasLogged end before
+        → IsGrowthBeforeFault (state_of held had) (record { changesets = part; bounds = bounds })
+    growth-logged there start log end mid before fresh public draft logged =
+        growth-moved there start log end mid fresh public draft (λ e. let none = ap length e in omega (arith, logged.1.1, none))
+
+    -- where something was logged or added
+    pub growth-any : AreHeldUpTo cs bounds (length bounds) → (start log end : List LoweredPlace) (mid : List Phase) (before : ℕ) → before ≡ length held → start ≡ []
+        → HasHigher (state_of cs ks) bounds ⊎ ((mid ≡ ks) × (log ≡ start)) → HasHigher (state_of cs mid) bounds ⊎ (end ≡ log) → ¬ ((end ≡ []) × (before ≡ length cs))
+        → IsGrowthBeforeFault (state_of held had) (record { changesets = part; bounds = bounds })
+    growth-any there start log end mid before first fresh public draft some = elim (cases_eq before (length cs)) [
+      | inl e ↦ growth-moved there start log end mid fresh public draft (λ none. some (none, e))
+      | inr ne ↦ growth-longer (omega (arith, ap length a.appended, length-append held (unheld held (take (length part) part)), first, ne))
+    ]
 
     -- where the draft bounds want memory, some bound's node was above already
     pub growth-draft : AreHeldUpTo cs bounds (length bounds) → (start log : List LoweredPlace) (mid : List Phase) → HasHigher (state_of cs ks) bounds ⊎ ((mid ≡ ks) × (log ≡ start)) → HasHigher (state_of cs mid) bounds

@@ -8,4 +8,3 @@ pub mod FirstFaultLemmas
 pub mod GrowthLemmas
 pub mod JoinLemmas
 pub mod OpenLemmas
-pub mod RootLemmas

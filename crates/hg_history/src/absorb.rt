@@ -1,9 +1,10 @@
 //! Absorbing changesets and bounds, which together are a part.
 //!
-//! Everything is looked up before any phase goes down: the changesets are added one by one, copied or moved, as secret, then each bound's
-//! node is found, then the public bounds are lowered to, and then the draft ones, so that each place goes down once.
-//! Secret bounds say nothing more. A refusal takes back what was done: the log of what was lowered restores the phases,
-//! and what was added stands last, so it is cut off. Nothing costs more than the part and what it lowers.
+//! Everything is looked up before any phase goes down: the changesets are added one by one, copied or moved, as secret,
+//! then each bound's node is found, then the public bounds are lowered to, and then the draft ones, so that each place
+//! goes down once. Secret bounds say nothing more. The roots are updated last, which is the last growth that can be
+//! refused. A refusal takes back what was done: the log of what was lowered restores the phases, and what was added stands
+//! last, so it is cut off; the roots haven't moved yet. Nothing costs more than the part and what it lowers.
 ghost use Rattle.std.specs.Prelude.{Ok, OnOk, OnErr, IfOk, IfErr, IsErrOf, MatchResult, length, take, drop, [], ◌∷◌, ◌++◌, ◌+◌, ◌-◌, ◌≤◌, ◌<◌, ◌⊎◌, List, ◌≡◌};
 ghost use Rattle.hg_changeset.specs.declared.node.Node.{Node};
 ghost use Rattle.hg_changeset.specs.Contents.{Contents};
@@ -14,6 +15,7 @@ ghost use Rattle.hg_phases.specs.State.{state_of, IsValid};
 ghost use Rattle.hg_phases.specs.Kept.{phases_at, kept_state, before_last, phases_before, IsLogOf};
 ghost use Rattle.hg_phases.specs.Log.{IsLog};
 ghost use Rattle.hg_phases.specs.Lowered.{IsAbove};
+ghost use Rattle.hg_phases.specs.RootPlaces.{AreKept, AreRootPlaces};
 ghost use Rattle.hg_history.specs.Answer.{AbsorbAnswer, AreHeldUpTo, IsAbsorbed, IsGrowthBeforeFault, HasHigher, IsRefusal};
 ghost use Rattle.hg_history.specs.Steps.{AddAllAnswer, IsAnswered, IsBegun, CanTakeBack, OneAdded, IsBoundFault, IsBoundAt, OneLowered, IsLoweredTo};
 
@@ -21,71 +23,104 @@ use crate::change::Change;
 use crate::fault::Fault;
 use hg_changeset::{Changeset, Node};
 use hg_graph::{Added, Graph, GraphError};
-use hg_phases::{LoweringLog, Phase, PhaseMap};
+use hg_phases::{LoweringLog, Phase, PhaseMap, PhaseRoots};
 use std::alloc::{AllocError, Global};
 
 /// Takes the part in, or leaves everything as it was.
 pub(crate) fn absorb_or_undo(
     graph: &mut Graph,
-    phases: &mut PhaseMap,
+    kept: &mut PhaseRoots,
     alloc: Global,
     changesets: &[Changeset],
     bounds: &[(Node, Phase)],
 ) -> Result<Change, Fault>
-    requires len { length (phases_at graph.old phases.old) ≡ length graph.old }
-    requires valid { IsValid (kept_state graph.old phases.old) }
-    ensures inside { (length (phases_at graph.new phases.new) ≡ length graph.new) × IsValid (kept_state graph.new phases.new) }
-    ensures answer { AbsorbAnswer (kept_state graph.old phases.old) (record { changesets = changesets.now; bounds = bounds.now }) result (kept_state graph.new phases.new) }
-    ensures memory { IsErrOf result Fault.NoMemory → IsGrowthBeforeFault (kept_state graph.old phases.old) (record { changesets = changesets.now; bounds = bounds.now }) }
+    requires kept { AreKept graph.old kept.old }
+    requires valid { IsValid (kept_state graph.old kept.old.phases) }
+    ensures inside { AreKept graph.new kept.new × IsValid (kept_state graph.new kept.new.phases) }
+    ensures answer { AbsorbAnswer (kept_state graph.old kept.old.phases) (record { changesets = changesets.now; bounds = bounds.now }) result (kept_state graph.new kept.new.phases) }
+    ensures memory { IsErrOf result Fault.NoMemory → IsGrowthBeforeFault (kept_state graph.old kept.old.phases) (record { changesets = changesets.now; bounds = bounds.now }) }
 {
     let before = graph.len();
-    let added = add_changesets(graph, phases, changesets);
-    settle_or_undo(graph, phases, alloc, before, added, bounds)
+    let added = add_changesets(graph, &mut kept.phases, changesets);
+    take_bounds_or_undo(graph, kept, alloc, before, added, bounds)
 }
 
 /// Takes the part in, whose changesets are moved, or leaves everything as it was.
 pub(crate) fn absorb_owned_or_undo(
     graph: &mut Graph,
-    phases: &mut PhaseMap,
+    kept: &mut PhaseRoots,
     alloc: Global,
     changesets: Vec<Changeset>,
     bounds: &[(Node, Phase)],
 ) -> Result<Change, Fault>
-    requires len { length (phases_at graph.old phases.old) ≡ length graph.old }
-    requires valid { IsValid (kept_state graph.old phases.old) }
-    ensures inside { (length (phases_at graph.new phases.new) ≡ length graph.new) × IsValid (kept_state graph.new phases.new) }
-    ensures answer { AbsorbAnswer (kept_state graph.old phases.old) (record { changesets = changesets.items; bounds = bounds.now }) result (kept_state graph.new phases.new) }
-    ensures memory { IsErrOf result Fault.NoMemory → IsGrowthBeforeFault (kept_state graph.old phases.old) (record { changesets = changesets.items; bounds = bounds.now }) }
+    requires kept { AreKept graph.old kept.old }
+    requires valid { IsValid (kept_state graph.old kept.old.phases) }
+    ensures inside { AreKept graph.new kept.new × IsValid (kept_state graph.new kept.new.phases) }
+    ensures answer { AbsorbAnswer (kept_state graph.old kept.old.phases) (record { changesets = changesets.items; bounds = bounds.now }) result (kept_state graph.new kept.new.phases) }
+    ensures memory { IsErrOf result Fault.NoMemory → IsGrowthBeforeFault (kept_state graph.old kept.old.phases) (record { changesets = changesets.items; bounds = bounds.now }) }
 {
     let before = graph.len();
-    let added = add_owned_changesets(graph, phases, changesets);
-    settle_or_undo(graph, phases, alloc, before, added, bounds)
+    let added = add_owned_changesets(graph, &mut kept.phases, changesets);
+    take_bounds_or_undo(graph, kept, alloc, before, added, bounds)
 }
 
 // Takes the bounds in, where all changesets were added, or takes back what was done. Before them there were `before`
-// changesets.
-fn settle_or_undo(
+// changesets, whose roots are kept.
+fn take_bounds_or_undo(
     graph: &mut Graph,
-    phases: &mut PhaseMap,
+    kept: &mut PhaseRoots,
     alloc: Global,
     before: usize,
     added: Result<(), Fault>,
     bounds: &[(Node, Phase)],
 ) -> Result<Change, Fault>
-    requires len { length (phases_at graph.old phases.old) ≡ length graph.old }
-    requires valid { IsValid (kept_state graph.old phases.old) }
+    requires len { length (phases_at graph.old kept.old.phases) ≡ length graph.old }
+    requires valid { IsValid (kept_state graph.old kept.old.phases) }
     requires within { before ≤ length graph.old }
-    ensures inside { (held : List Contents) (had : List Phase) (part : List Contents) → IsBegun held had part before added graph.old (phases_at graph.old phases.old) → (length (phases_at graph.new phases.new) ≡ length graph.new) × IsValid (kept_state graph.new phases.new) }
-    ensures answer { (held : List Contents) (had : List Phase) (part : List Contents) → IsBegun held had part before added graph.old (phases_at graph.old phases.old) → AbsorbAnswer (state_of held had) (record { changesets = part; bounds = bounds.now }) result (kept_state graph.new phases.new) }
-    ensures memory { (held : List Contents) (had : List Phase) (part : List Contents) → IsBegun held had part before added graph.old (phases_at graph.old phases.old) → IsErrOf result Fault.NoMemory → IsGrowthBeforeFault (state_of held had) (record { changesets = part; bounds = bounds.now }) }
+    requires rooted { AreRootPlaces (take before graph.old) (take before (phases_at graph.old kept.old.phases)) kept.old.roots.keys }
+    ensures inside { (held : List Contents) (had : List Phase) (part : List Contents) → IsBegun held had part before added graph.old (phases_at graph.old kept.old.phases) → AreKept graph.new kept.new × IsValid (kept_state graph.new kept.new.phases) }
+    ensures answer { (held : List Contents) (had : List Phase) (part : List Contents) → IsBegun held had part before added graph.old (phases_at graph.old kept.old.phases) → AbsorbAnswer (state_of held had) (record { changesets = part; bounds = bounds.now }) result (kept_state graph.new kept.new.phases) }
+    ensures memory { (held : List Contents) (had : List Phase) (part : List Contents) → IsBegun held had part before added graph.old (phases_at graph.old kept.old.phases) → IsErrOf result Fault.NoMemory → IsGrowthBeforeFault (state_of held had) (record { changesets = part; bounds = bounds.now }) }
 {
     let mut log = LoweringLog::new(alloc);
-    match settle_logged(graph, phases, &mut log, alloc, before, added, bounds) {
+    match take_bounds_and_update(graph, kept, &mut log, alloc, before, added, bounds) {
         Ok(change) => Ok(change),
         Err(fault) => {
-            take_back(graph, phases, &mut log, before);
+            take_back(graph, &mut kept.phases, &mut log, before);
             Err(fault)
         }
+    }
+}
+
+// Takes the bounds in, logs what goes down, and updates the roots. After a fault what was done can be taken back, and the
+// roots are those of before.
+fn take_bounds_and_update(
+    graph: &Graph,
+    kept: &mut PhaseRoots,
+    log: &mut LoweringLog,
+    alloc: Global,
+    before: usize,
+    added: Result<(), Fault>,
+    bounds: &[(Node, Phase)],
+) -> Result<Change, Fault>
+    requires len { length (phases_at graph.now kept.old.phases) ≡ length graph.now }
+    requires valid { IsValid (kept_state graph.now kept.old.phases) }
+    requires within { before ≤ length graph.now }
+    requires fresh { log.old ≡ [] }
+    requires rooted { AreRootPlaces (take before graph.now) (take before (phases_at graph.now kept.old.phases)) kept.old.roots.keys }
+    ensures back { CanTakeBack graph.now (phases_at graph.now kept.old.phases) graph.now kept.new.phases log.new }
+    ensures kept { OnOk result (AreKept graph.now kept.new) }
+    ensures rooted { OnErr result (AreRootPlaces (take before graph.now) (take before (phases_at graph.now kept.old.phases)) kept.new.roots.keys) }
+    ensures absorbed { (held : List Contents) (had : List Phase) (part : List Contents) → IsBegun held had part before added graph.now (phases_at graph.now kept.old.phases) → IfOk result (λ change. IsAbsorbed (state_of held had) (record { changesets = part; bounds = bounds.now }) change (kept_state graph.now kept.new.phases)) }
+    ensures refusal { (held : List Contents) (had : List Phase) (part : List Contents) → IsBegun held had part before added graph.now (phases_at graph.now kept.old.phases) → MatchResult result (λ _. Unit {0}) (IsRefusal held (record { changesets = part; bounds = bounds.now })) }
+    ensures memory { (held : List Contents) (had : List Phase) (part : List Contents) → IsBegun held had part before added graph.now (phases_at graph.now kept.old.phases) → IsErrOf result Fault.NoMemory → IsGrowthBeforeFault (state_of held had) (record { changesets = part; bounds = bounds.now }) }
+{
+    match take_bounds_logged(graph, &mut kept.phases, log, alloc, before, added, bounds) {
+        Ok(change) => {
+            kept.update(graph, log, before)?;
+            Ok(change)
+        }
+        Err(fault) => Err(fault),
     }
 }
 
@@ -108,7 +143,7 @@ pub(crate) fn take_back(
 
 // Takes the bounds in, where all changesets were added, and logs what goes down. After a fault what was done can be taken
 // back.
-fn settle_logged(
+fn take_bounds_logged(
     graph: &Graph,
     phases: &mut PhaseMap,
     log: &mut LoweringLog,
@@ -125,6 +160,7 @@ fn settle_logged(
     ensures absorbed { (held : List Contents) (had : List Phase) (part : List Contents) → IsBegun held had part before added graph.now (phases_at graph.now phases.old) → IfOk result (λ change. IsAbsorbed (state_of held had) (record { changesets = part; bounds = bounds.now }) change (kept_state graph.now phases.new)) }
     ensures refusal { (held : List Contents) (had : List Phase) (part : List Contents) → IsBegun held had part before added graph.now (phases_at graph.now phases.old) → MatchResult result (λ _. Unit {0}) (IsRefusal held (record { changesets = part; bounds = bounds.now })) }
     ensures memory { (held : List Contents) (had : List Phase) (part : List Contents) → IsBegun held had part before added graph.now (phases_at graph.now phases.old) → IsErrOf result Fault.NoMemory → IsGrowthBeforeFault (state_of held had) (record { changesets = part; bounds = bounds.now }) }
+    ensures growth { (held : List Contents) (had : List Phase) (part : List Contents) → IsBegun held had part before added graph.now (phases_at graph.now phases.old) → OnOk result (¬ ((log.new ≡ []) × (before ≡ length graph.now)) → IsGrowthBeforeFault (state_of held had) (record { changesets = part; bounds = bounds.now })) }
 {
     match added {
         Ok(()) => {}

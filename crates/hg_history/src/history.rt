@@ -12,10 +12,9 @@ use crate::absorb::{absorb_or_undo, absorb_owned_or_undo};
 use crate::change::Change;
 use crate::fault::Fault;
 use crate::join::{is_below, join_or_undo};
-use crate::roots::roots_of;
 use hg_changeset::{Changeset, Node};
 use hg_graph::Graph;
-use hg_phases::{Phase, PhaseMap, Roots};
+use hg_phases::{Phase, PhaseRoots, Roots};
 use std::alloc::{AllocError, Global};
 use std::marker::Model;
 
@@ -23,20 +22,20 @@ use std::marker::Model;
 #[derive(Drop)]
 pub struct History {
     graph: Graph,
-    phases: PhaseMap,
+    kept: PhaseRoots,
     alloc: Global,
 }
 
 impl Model for History {
-    ghost use Rattle.std.specs.Prelude.{◌≡◌, length};
     ghost use Rattle.hg_phases.specs.State.{State, IsValid};
-    ghost use Rattle.hg_phases.specs.Kept.{phases_at, kept_state};
+    ghost use Rattle.hg_phases.specs.Kept.{kept_state};
+    ghost use Rattle.hg_phases.specs.RootPlaces.{AreKept};
 
     ghost Value = { State };
 
-    ghost view = { λ history. kept_state history.graph history.phases };
+    ghost view = { λ history. kept_state history.graph history.kept.phases };
 
-    ghost invariant = { λ history. (length (phases_at history.graph history.phases) ≡ length history.graph) × IsValid (kept_state history.graph history.phases) };
+    ghost invariant = { λ history. AreKept history.graph history.kept × IsValid (kept_state history.graph history.kept.phases) };
 }
 
 impl History {
@@ -46,7 +45,7 @@ impl History {
     {
         History {
             graph: Graph::new(alloc),
-            phases: PhaseMap::new(alloc),
+            kept: PhaseRoots::new(alloc),
             alloc,
         }
     }
@@ -65,17 +64,17 @@ impl History {
             Ok(_) => {}
             Err(fault) => return Err(fault),
         }
-        history.phases = PhaseMap::open(alloc, &history.graph, roots)?;
+        history.kept = PhaseRoots::open(alloc, &history.graph, roots)?;
         Ok(history)
     }
 
     /// Its roots: exactly the draft and secret changesets none of whose parents has their phase, each once, in the graph's
-    /// order.
+    /// order. They are kept, so no other changeset is looked at.
     pub fn roots(&self) -> Result<Roots, AllocError>
         ensures roots { IfOk result (AreRoots self.now) }
         ensures valid { IsValid self.now }
     {
-        roots_of(&self.graph, &self.phases, self.alloc)
+        self.kept.roots(&self.graph)
     }
 
     /// An equal history, in the same order.
@@ -84,7 +83,7 @@ impl History {
     {
         Ok(History {
             graph: self.graph.copy()?,
-            phases: self.phases.copy()?,
+            kept: self.kept.copy()?,
             alloc: self.alloc,
         })
     }
@@ -102,7 +101,7 @@ impl History {
         ensures phase { IsOkAnd result (λ phase. MatchOption phase (¬ (Holds self.now node)) (IsPhaseOf self.now node)) }
         ensures valid { IsValid self.now }
     {
-        self.phases.phase_of(&self.graph, node)
+        self.kept.phase_of(&self.graph, node)
     }
 
     /// The phase of the changeset at a place of the graph, where there is one. It takes no look-up.
@@ -110,7 +109,7 @@ impl History {
         ensures { MatchOption result (length self.now.held ≤ place) (λ phase. (h : Held) × (slice_get self.now.held place ≡ Some h) × (h.phase ≡ phase)) }
     {
         if place < self.graph.len() {
-            Some(self.phases.at(&self.graph, place))
+            Some(self.kept.at(&self.graph, place))
         } else {
             None
         }
@@ -133,7 +132,7 @@ impl History {
     {
         absorb_or_undo(
             &mut self.graph,
-            &mut self.phases,
+            &mut self.kept,
             self.alloc,
             changesets,
             bounds,
@@ -154,7 +153,7 @@ impl History {
     {
         absorb_owned_or_undo(
             &mut self.graph,
-            &mut self.phases,
+            &mut self.kept,
             self.alloc,
             changesets,
             bounds,
@@ -174,10 +173,10 @@ impl History {
     {
         join_or_undo(
             &mut self.graph,
-            &mut self.phases,
+            &mut self.kept,
             self.alloc,
             &other.graph,
-            &other.phases,
+            &other.kept.phases,
         )
     }
 
@@ -187,6 +186,11 @@ impl History {
         ensures valid { IsValid self.now }
         ensures other_valid { IsValid other.now }
     {
-        is_below(&self.graph, &self.phases, &other.graph, &other.phases)
+        is_below(
+            &self.graph,
+            &self.kept.phases,
+            &other.graph,
+            &other.kept.phases,
+        )
     }
 }

@@ -3,7 +3,8 @@
 //! The other is taken in as a part: its changesets, and for each of them a bound, its phase. They are gone through in the
 //! other's order, so the parents of each are there when it comes: a new one is copied, as secret, and stands last. Then
 //! each is lowered to its phase, the public ones first, which lowers hardly anything else, since its parents stand no
-//! higher in the other. A refusal takes back what was done, as in `absorb`. So a call costs about both sides once.
+//! higher in the other, and the roots are updated. A refusal takes back what was done, as in `absorb`. So a call costs
+//! about both sides once.
 ghost use Rattle.std.specs.Prelude.{◌≡◌, ◌↔◌, ◌⊎◌, List, Some, IsTrue, OnOk, OnErr, IfErr, IsErrOf, length, slice_get, [], ◌∷◌};
 ghost use Rattle.hg_phases.specs.declared.phase.Phase.{Phase};
 ghost use Rattle.hg_phases.specs.State.{IsValid};
@@ -11,6 +12,7 @@ ghost use Rattle.hg_phases.specs.Kept.{phases_at, kept_state, phases_before};
 ghost use Rattle.hg_phases.specs.Least.{IsLeast, part_of};
 ghost use Rattle.hg_phases.specs.Log.{IsLog};
 ghost use Rattle.hg_phases.specs.Order.{Below};
+ghost use Rattle.hg_phases.specs.RootPlaces.{AreKept, AreRootPlaces};
 ghost use Rattle.hg_history.specs.Answer.{AreHeldUpTo, HasHigher, IsGrowthBeforeFault};
 ghost use Rattle.hg_history.specs.Join.{IsJoinFault, JoinAnswer, IsHeldAsLow};
 ghost use Rattle.hg_history.specs.Steps.{AddAllAnswer, CanTakeBack, IsLoweredTo};
@@ -19,33 +21,64 @@ use crate::absorb::{add_one, lower_bound, take_back};
 use crate::fault::Fault;
 use hg_changeset::Changeset;
 use hg_graph::Graph;
-use hg_phases::{LoweringLog, Phase, PhaseMap};
+use hg_phases::{LoweringLog, Phase, PhaseMap, PhaseRoots};
 use std::alloc::{AllocError, Global};
 
 /// Joins the other in, or leaves everything as it was.
 pub(crate) fn join_or_undo(
     graph: &mut Graph,
-    phases: &mut PhaseMap,
+    kept: &mut PhaseRoots,
     alloc: Global,
     other: &Graph,
     other_phases: &PhaseMap,
 ) -> Result<(), Fault>
-    requires len { length (phases_at graph.old phases.old) ≡ length graph.old }
-    requires valid { IsValid (kept_state graph.old phases.old) }
+    requires kept { AreKept graph.old kept.old }
+    requires valid { IsValid (kept_state graph.old kept.old.phases) }
     requires other_len { length (phases_at other.now other_phases.now) ≡ length other.now }
     requires other_valid { IsValid (kept_state other.now other_phases.now) }
-    ensures inside { (length (phases_at graph.new phases.new) ≡ length graph.new) × IsValid (kept_state graph.new phases.new) }
-    ensures answer { JoinAnswer (kept_state graph.old phases.old) (kept_state other.now other_phases.now) result (kept_state graph.new phases.new) }
-    ensures memory { IsErrOf result Fault.NoMemory → IsGrowthBeforeFault (kept_state graph.old phases.old) (part_of (kept_state other.now other_phases.now)) }
+    ensures inside { AreKept graph.new kept.new × IsValid (kept_state graph.new kept.new.phases) }
+    ensures answer { JoinAnswer (kept_state graph.old kept.old.phases) (kept_state other.now other_phases.now) result (kept_state graph.new kept.new.phases) }
+    ensures memory { IsErrOf result Fault.NoMemory → IsGrowthBeforeFault (kept_state graph.old kept.old.phases) (part_of (kept_state other.now other_phases.now)) }
 {
     let before = graph.len();
     let mut log = LoweringLog::new(alloc);
-    match join_logged(graph, phases, &mut log, other, other_phases) {
+    match join_and_update(graph, kept, &mut log, other, other_phases) {
         Ok(()) => Ok(()),
         Err(fault) => {
-            take_back(graph, phases, &mut log, before);
+            take_back(graph, &mut kept.phases, &mut log, before);
             Err(fault)
         }
+    }
+}
+
+// Joins the other in, logs what goes down, and updates the roots. After a fault what was done can be taken back, and the
+// roots are those of before.
+fn join_and_update(
+    graph: &mut Graph,
+    kept: &mut PhaseRoots,
+    log: &mut LoweringLog,
+    other: &Graph,
+    other_phases: &PhaseMap,
+) -> Result<(), Fault>
+    requires kept { AreKept graph.old kept.old }
+    requires valid { IsValid (kept_state graph.old kept.old.phases) }
+    requires other_len { length (phases_at other.now other_phases.now) ≡ length other.now }
+    requires other_valid { IsValid (kept_state other.now other_phases.now) }
+    requires fresh { log.old ≡ [] }
+    ensures back { CanTakeBack graph.old (phases_at graph.old kept.old.phases) graph.new kept.new.phases log.new }
+    ensures kept { OnOk result (AreKept graph.new kept.new) }
+    ensures rooted { OnErr result (AreRootPlaces graph.old (phases_at graph.old kept.old.phases) kept.new.roots.keys) }
+    ensures joined { OnOk result (IsLeast (kept_state graph.old kept.old.phases) (part_of (kept_state other.now other_phases.now) ∷ []) (kept_state graph.new kept.new.phases)) }
+    ensures fault { IfErr result (IsJoinFault (kept_state graph.old kept.old.phases) (kept_state other.now other_phases.now)) }
+    ensures memory { IsErrOf result Fault.NoMemory → IsGrowthBeforeFault (kept_state graph.old kept.old.phases) (part_of (kept_state other.now other_phases.now)) }
+{
+    let before = graph.len();
+    match join_logged(graph, &mut kept.phases, log, other, other_phases) {
+        Ok(()) => {
+            kept.update(graph, log, before)?;
+            Ok(())
+        }
+        Err(fault) => Err(fault),
     }
 }
 
@@ -67,6 +100,7 @@ fn join_logged(
     ensures joined { OnOk result (IsLeast (kept_state graph.old phases.old) (part_of (kept_state other.now other_phases.now) ∷ []) (kept_state graph.new phases.new)) }
     ensures fault { IfErr result (IsJoinFault (kept_state graph.old phases.old) (kept_state other.now other_phases.now)) }
     ensures memory { IsErrOf result Fault.NoMemory → IsGrowthBeforeFault (kept_state graph.old phases.old) (part_of (kept_state other.now other_phases.now)) }
+    ensures growth { OnOk result (¬ ((log.new ≡ []) × (length graph.old ≡ length graph.new)) → IsGrowthBeforeFault (kept_state graph.old phases.old) (part_of (kept_state other.now other_phases.now))) }
 {
     match add_all(graph, phases, other) {
         Ok(()) => {}

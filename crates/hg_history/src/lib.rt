@@ -14,7 +14,6 @@ mod fault;
 mod history;
 mod join;
 mod laws;
-mod roots;
 
 pub use change::Change;
 pub use fault::Fault;

@@ -1,4 +1,4 @@
-use Rattle.std.proofs.Common.{◌≡◌, ◌∙◌, [], ◌∷◌, length, ap, subst, arith}
+use Rattle.std.proofs.Common.{◌≡◌, ◌∙◌, [], ◌∷◌, length, inl, inr, refl, ap, subst, arith}
 use Rattle.hg_phases.specs.declared.phase.Phase.TheVariants.{Public, Draft}
 use Rattle.hg_phases.specs.State.{state_of}
 use Rattle.hg_phases.specs.Least.{IsLeast}
@@ -8,7 +8,7 @@ use Rattle.hg_phases.proofs.PlaceLemmas.{graph_of_state}
 use Rattle.hg_history.specs.declared.fault.Fault.TheVariants.{NoMemory}
 use Rattle.hg_history.specs.Answer.{IsGrowthBeforeFault}
 use Rattle.hg_history.proofs.AbsorbLemmas.{back_added, back_lowered, least-absorbed}
-use Rattle.hg_history.proofs.GrowthLemmas.{growth-adding, growth-after, growth-draft, refused_along}
+use Rattle.hg_history.proofs.GrowthLemmas.{growth-adding, growth-after, growth-any, growth-draft, refused_along}
 use Rattle.hg_history.proofs.JoinLemmas.{bounds_held, fault_joined, part_is}
 use Rattle.hg_history.proofs.join.join_logged.Goals as goal
 
@@ -80,3 +80,11 @@ returns-clause-joined c =
     let len : length new ≡ length cs = c.lower_to_each-2.ensures.len ∙ c.lower_to_each.ensures.len ∙ a.len in
     subst (λ k. IsLeast (state_of held had) (k ∷ []) (state_of cs new)) (part_is c.args.other.now c.args.other_phases.now c.requires.other_len)
     (least-absorbed held had c.args.other.now _ cs ks a c.requires.len there c.lower_to_each.new.phases new c.in_ok-lower_to_each.ensures.lowered c.in_ok-lower_to_each-2.ensures.lowered len)
+
+pub returns-clause-growth : goal.returns-clause-growth
+returns-clause-growth c some =
+    subst (IsGrowthBeforeFault (state_of c.args.graph.now c.args.phases.now)) (part_is c.args.other.now c.args.other_phases.now c.requires.other_len)
+    (growth-any c.args.graph.now c.args.phases.now c.args.other.now _ c.requires.len c.add_all.new.graph c.add_all.new.phases c.in-Ok.ensures
+    (bounds_held c.args.other.now c.args.other_phases.now c.requires.other_len c.args.graph.now c.args.phases.now c.add_all.new.graph c.add_all.new.phases c.in-Ok.ensures)
+    c.args.log.now c.lower_to_each.new.log c.lower_to_each-2.new.log c.lower_to_each.new.phases (length c.args.graph.now) refl c.requires.fresh
+    c.lower_to_each.ensures.still (elim c.lower_to_each-2.ensures.still [ inl higher ↦ inl higher | inr same ↦ inr same.1 ]) some)

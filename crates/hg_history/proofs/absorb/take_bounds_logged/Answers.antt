@@ -8,8 +8,8 @@ use Rattle.hg_history.specs.Change.{ListsLowered}
 use Rattle.hg_history.specs.declared.fault.Fault.TheVariants.{NoMemory}
 use Rattle.hg_history.proofs.AddLemmas.{IsAdded-start, front_kept, phases_kept, graph_added}
 use Rattle.hg_history.proofs.AbsorbLemmas.{begun_all, begun_fault, back_added, back_lowered, admitted, least-absorbed, in_order, told_at_state, bound_first}
-use Rattle.hg_history.proofs.GrowthLemmas.{add_refusal, bound_wants_none, growth-adding, growth-after, growth-draft, growth-longer, growth-logged, refused_along}
-use Rattle.hg_history.proofs.absorb.settle_logged.Goals as goal
+use Rattle.hg_history.proofs.GrowthLemmas.{add_refusal, bound_wants_none, growth-adding, growth-after, growth-any, growth-draft, growth-longer, growth-logged, refused_along}
+use Rattle.hg_history.proofs.absorb.take_bounds_logged.Goals as goal
 
 pub returns-in-Err-clause-back : goal.returns-in-Err-clause-back
 returns-in-Err-clause-back c =
@@ -111,3 +111,8 @@ returns-clause-absorbed c held had part begun =
       added = c.in_ok-added.ensures.nodes ∙ ap (λ n. drop n (nodes cs)) before ∙ told_at_state held had part bounds cs ks a begun.len there;
       lowered = subst (λ ds. ListsLowered (state_of ds had) (state_of cs new) c.in_ok-lowered.lowered.items) graph_is (subst (λ xs. ListsLowered (state_of (take c.args.before cs) xs) (state_of cs new) c.in_ok-lowered.lowered.items) phases_are down);
     }
+
+pub returns-clause-growth : goal.returns-clause-growth
+returns-clause-growth c held had part begun some =
+    growth-any held had part c.args.bounds.now begun.len c.args.graph.now c.args.phases.now (begun_all held had part c.args.before c.args.added c.args.graph.now c.args.phases.now begun _ c.in-Ok.is) c.in-Ok-check_bounds.ensures.held c.args.log.now c.lower_to.new.log c.lower_to-2.new.log c.lower_to.new.phases c.args.before begun.first c.requires.fresh
+    c.lower_to.ensures.still (elim c.lower_to-2.ensures.still [ inl higher ↦ inl higher | inr same ↦ inr same.1 ]) some
