@@ -23,7 +23,8 @@ use Rattle.hg_peer.specs.OfferLaws.{part_offered, bytes_say_offer}
 use Rattle.hg_peer.specs.Words.{peer_state, peer_words}
 use Rattle.hg_peer.specs.Taken.{IsAboveHeld}
 
-module _ (now : Snapshot ReplicaState) (place number : ℕ) (h : IsAboveHeld now place number) (least : AllLeast peer_state h.earlier h.events h.parts now) where
+module _ (now : Snapshot ReplicaState) (place number : ℕ) (h : IsAboveHeld now place number)
+    (least : AllLeast peer_state h.earlier h.since.events h.since.parts now) where
   there_valid : IsValidContent (content_of h.node)
   there_valid =
       let l = least place h.before h.was in
@@ -32,45 +33,67 @@ module _ (now : Snapshot ReplicaState) (place number : ℕ) (h : IsAboveHeld now
   there_held : AreHeld (content_of h.node) h.common.items
   there_held =
       let l = least place h.before h.was in
-      let up : ContentBelow (content_of h.before) (content_of h.node) = subst (λ (s : ReplicaState). ContentBelow (content_of h.before) (content_of s)) (same_Some l.0 h.node (sym l.1 ∙ h.there)) l.2.above in
+      let up : ContentBelow (content_of h.before) (content_of h.node) =
+      subst (λ (s : ReplicaState). ContentBelow (content_of h.before) (content_of s))
+      (same_Some l.0 h.node (sym l.1 ∙ h.there)) l.2.above in
       common_later h.common.items (content_of h.before) (content_of h.node) h.held up
 
   -- the part of the message, whoever reads it
-  part_is : (bytes : List ℕ) (part : PartValue) → slice_get now.messages number ≡ Some bytes → SpellsPart bytes part → part_of h.offered.message ≡ part
+  part_is : (bytes : List ℕ) (part : PartValue) → slice_get now.messages number ≡ Some bytes → SpellsPart bytes part →
+      part_of h.offered.message ≡ part
   part_is bytes part at spells =
       let same : bytes ≡ h.bytes = same_Some bytes h.bytes (sym at ∙ h.message) in
       part_offered h.maker h.common h.bytes part h.offered (subst (λ (b : List ℕ). SpellsPart b part) same spells)
 
-  admitted : (bytes : List ℕ) (part : PartValue) → slice_get now.messages number ≡ Some bytes → SpellsPart bytes part → ContentAdmits (content_of h.node) part
+  admitted : (bytes : List ℕ) (part : PartValue) → slice_get now.messages number ≡ Some bytes → SpellsPart bytes part →
+      ContentAdmits (content_of h.node) part
   admitted bytes part at spells =
-      subst (ContentAdmits (content_of h.node)) (part_is bytes part at spells) (taken-admitted h.maker h.offered.valid h.common.items h.offered.message h.offered.offered (content_of h.node) there_valid there_held h.free)
+      subst (ContentAdmits (content_of h.node)) (part_is bytes part at spells)
+      (taken-admitted h.maker h.offered.valid h.common.items h.offered.message h.offered.offered (content_of h.node)
+      there_valid there_held h.free)
 
-  reason : (refusal : EventRefusal PeerRefusal Fault) → IsReason peer_state peer_words now.messages h.node (Take place number) refusal → IsMemory peer_state peer_words refusal
+  reason : (refusal : EventRefusal PeerRefusal Fault) →
+      IsReason peer_state peer_words now.messages h.node (Take place number) refusal →
+      IsMemory peer_state peer_words refusal
   reason NoNode r = absurd r
   reason NoMessage r = absurd (none-some h.bytes (sym r ∙ h.message))
   reason (ByActor refusal) r = elim r.2 [
     | inl against ↦
         let same : h.bytes ≡ r.0 = same_Some h.bytes r.0 (sym h.message ∙ r.1) in
-        absurd (spelled_not_refused r.0 (part_of h.offered.message) refusal (subst (λ (b : List ℕ). SpellsPart b (part_of h.offered.message)) same (h.offered.message, bytes_say_offer h.maker h.common h.bytes h.offered, refl)) against)
+        absurd (spelled_not_refused r.0 (part_of h.offered.message) refusal
+        (subst (λ (b : List ℕ). SpellsPart b (part_of h.offered.message)) same
+        (h.offered.message, bytes_say_offer h.maker h.common h.bytes h.offered, refl)) against)
     | inr memory ↦ memory
   ]
   reason (ByState fault) r = elim r.4 [
-    | inl is ↦ absurd (admitted_faultless (content_of h.node).0 r.2.history fault there_valid (admitted r.0 r.2 r.1 r.3) is)
+    | inl is ↦
+        absurd (admitted_faultless (content_of h.node).0 r.2.history fault there_valid (admitted r.0 r.2 r.1 r.3) is)
     | inr memory ↦ memory
   ]
 
-  pub only_memory : (refusal : EventRefusal PeerRefusal Fault) (new : Snapshot ReplicaState) → Refuses peer_state peer_words now (Take place number) refusal new → IsMemory peer_state peer_words refusal
+  pub only_memory : (refusal : EventRefusal PeerRefusal Fault) (new : Snapshot ReplicaState) →
+      Refuses peer_state peer_words now (Take place number) refusal new → IsMemory peer_state peer_words refusal
   only_memory refusal new r = elim r.0 [
     | inl gone ↦ absurd (none-some h.node (sym gone.1 ∙ h.there))
-    | inr w ↦ reason refusal (subst (λ (s : ReplicaState). IsReason peer_state peer_words now.messages s (Take place number) refusal) (same_Some w.0 h.node (sym w.1 ∙ h.there)) w.2)
+    | inr w ↦
+        reason refusal
+        (subst (λ (s : ReplicaState). IsReason peer_state peer_words now.messages s (Take place number) refusal)
+        (same_Some w.0 h.node (sym w.1 ∙ h.there)) w.2)
   ]
 
-  pub taken_there : (change : ChangeValue) (part : PartValue) (new : Snapshot ReplicaState) → Accepts peer_state peer_words now (Take place number) change part new → (next : ReplicaState) × (slice_get new.nodes place ≡ Some next) × HoldsServed (content_of h.maker) (content_of next)
+  pub taken_there : (change : ChangeValue) (part : PartValue) (new : Snapshot ReplicaState) →
+      Accepts peer_state peer_words now (Take place number) change part new →
+      (next : ReplicaState) × (slice_get new.nodes place ≡ Some next)
+      × HoldsServed (content_of h.maker) (content_of next)
   taken_there change part new a =
       let same : a.0 ≡ h.node = same_Some a.0 h.node (sym a.2 ∙ h.there) in
-      let after : ContentAfter (content_of h.node) part (content_of a.1) = subst (λ (s : ReplicaState). ContentAfter (content_of s) part (content_of a.1)) same a.4.after in
-      let told : ContentAfter (content_of h.node) (part_of h.offered.message) (content_of a.1) = subst (λ (p : PartValue). ContentAfter (content_of h.node) p (content_of a.1)) (sym (part_is a.3.0 part a.3.1 a.3.2)) after in (
+      let after : ContentAfter (content_of h.node) part (content_of a.1) =
+      subst (λ (s : ReplicaState). ContentAfter (content_of s) part (content_of a.1)) same a.4.after in
+      let told : ContentAfter (content_of h.node) (part_of h.offered.message) (content_of a.1) =
+      subst (λ (p : PartValue). ContentAfter (content_of h.node) p (content_of a.1))
+      (sym (part_is a.3.0 part a.3.1 a.3.2)) after in (
         a.1,
         ap (λ (nodes : List ReplicaState). slice_get nodes place) a.5 ∙ get_set_same now.nodes place a.0 a.1 a.2,
-        taken-served h.maker h.offered.valid h.common.items h.offered.message h.offered.offered (content_of h.node) there_valid there_held h.free (content_of a.1) told,
+        taken-served h.maker h.offered.valid h.common.items h.offered.message h.offered.offered (content_of h.node)
+            there_valid there_held h.free (content_of a.1) told,
       )

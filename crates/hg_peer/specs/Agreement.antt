@@ -6,7 +6,8 @@ use Rattle.hg_phases.specs.declared.phase.Phase.{Phase}
 use Rattle.hg_marker.specs.Fields.{Fields}
 use Rattle.hg_history.specs.Content.{IsHeldAs}
 use Rattle.hg_replica.specs.Content.{Content}
-use Rattle.hg_replica.specs.Evolution.{HasPhase, IsMarker, IsObsolete, IsOrphan, IsSuspended, IsExtinct, IsPhaseDivergent, IsVisible}
+use Rattle.hg_replica.specs.Evolution.{HasPhase, IsMarker, IsObsolete, IsOrphan, IsSuspended, IsExtinct}
+use Rattle.hg_replica.specs.Evolution.{IsPhaseDivergent, IsVisible}
 use Rattle.hg_instab.specs.Instabilities.{IsContentDivergent}
 
 -- the same changesets, phases, markers and instabilities, and the same visible set

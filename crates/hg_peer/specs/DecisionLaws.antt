@@ -24,13 +24,15 @@ use Rattle.hg_peer.specs.Peers.{Decides, IsAgainstOperation, IsMemory}
 
 -- ---- a part and a refusal exclude each other, and one of them is due
 
-pub decided_not_refused : (s : ReplicaState) (op : Op) (p : PartValue) (refusal : PeerRefusal) → IsValidContent (content_of s) → Decides s op p → IsAgainstOperation s op refusal → ⊥
+pub decided_not_refused : (s : ReplicaState) (op : Op) (p : PartValue) (refusal : PeerRefusal) →
+    IsValidContent (content_of s) → Decides s op p → IsAgainstOperation s op refusal → ⊥
 decided_not_refused s op p (Rewrite refusal) v h k = none_refused (refusals s op) refusal h.1 k
 decided_not_refused s op p (Offer refusal) v h k = k
 decided_not_refused s op p (Message fault) v h k = k
 decided_not_refused s op p NoMemory v h k = k
 
-pub memory_not_against_operation : (s : ReplicaState) (op : Op) (refusal : PeerRefusal) → IsMemory refusal → IsAgainstOperation s op refusal → ⊥
+pub memory_not_against_operation : (s : ReplicaState) (op : Op) (refusal : PeerRefusal) → IsMemory refusal →
+    IsAgainstOperation s op refusal → ⊥
 memory_not_against_operation s op (Rewrite refusal) h k = cc
 memory_not_against_operation s op (Offer refusal) h k = k
 memory_not_against_operation s op (Message fault) h k = k
@@ -55,7 +57,9 @@ module _ (s t : State) (e : history_content s ≡ history_content t) where
 
   parents_same : (n : Node) → parents_in s n ≡ parents_in t n
   unfolding parents_in
-  parents_same n = ap (λ (f : Node → Option Held). option_map_or (λ (h : Held). (h.changeset.first, h.changeset.second)) (f n) (null_node, null_node)) e
+  parents_same n =
+      ap (λ (f : Node → Option Held). option_map_or (λ (h : Held). (h.changeset.first, h.changeset.second)) (f n)
+      (null_node, null_node)) e
 
   first_same : (ns : List Node) → parents_of_first s ns ≡ parents_of_first t ns
   first_same [] = refl
@@ -79,7 +83,8 @@ module _ (s t : State) (e : history_content s ≡ history_content t) where
   bounds_same (Split node es) = rw (ids_same (Split node es), phase_same node) refl
   bounds_same (Fold nodes entry) = rw (ids_same (Fold nodes entry), phase_same (last nodes.items)) refl
   bounds_same (Prune node user secs offset) = refl
-  bounds_same (Relocate node p q entry) = rw (ids_same (Relocate node p q entry), phase_same node, phase_same p, phase_same q) refl
+  bounds_same (Relocate node p q entry) =
+      rw (ids_same (Relocate node p q entry), phase_same node, phase_same p, phase_same q) refl
   bounds_same (Advance node phase) = refl
 
   metadata_same : (op : Op) → metadata s op ≡ metadata t op
@@ -91,9 +96,16 @@ module _ (s t : State) (e : history_content s ≡ history_content t) where
   metadata_same (Relocate node p q entry) = refl
   metadata_same (Advance node phase) = refl
 
-part_same : (s t : ReplicaState) → history_content s.history ≡ history_content t.history → (op : Op) → part_of s op ≡ part_of t op
+part_same : (s t : ReplicaState) → history_content s.history ≡ history_content t.history → (op : Op) →
+    part_of s op ≡ part_of t op
 unfolding part_of
-part_same s t e op = rw (base_same s.history t.history e op, bounds_same s.history t.history e op, metadata_same s.history t.history e op) refl
+part_same s t e op =
+    rw (
+      base_same s.history t.history e op,
+      bounds_same s.history t.history e op,
+      metadata_same s.history t.history e op,
+    ) refl
 
-pub decided_once : (s t : ReplicaState) (op : Op) (p q : PartValue) → IsValidContent (content_of s) → content_of s ≡ content_of t → Decides s op p → Decides t op q → p ≡ q
+pub decided_once : (s t : ReplicaState) (op : Op) (p q : PartValue) → IsValidContent (content_of s) →
+    content_of s ≡ content_of t → Decides s op p → Decides t op q → p ≡ q
 decided_once s t op p q v e h k = h.2 ∙ part_same s t (ap (λ (f : Content). f.0) e) op ∙ sym k.2

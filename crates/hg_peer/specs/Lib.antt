@@ -1,9 +1,10 @@
-pub mod Refusals
-pub mod Peers
-pub mod DecisionLaws
-pub mod OfferLaws
-pub mod BytesLaws
-pub mod Words
 pub mod Agreement
+pub mod BytesLaws
+pub mod DecisionLaws
+pub mod Laws
+pub mod OfferLaws
+pub mod Peers
+pub mod Refusals
 pub mod Secrets
 pub mod Taken
+pub mod Words

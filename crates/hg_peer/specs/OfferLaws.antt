@@ -25,45 +25,65 @@ use Rattle.hg_peer.specs.Peers.{Offers, IsAgainstOffer, SpellsPart, IsMemory}
 
 -- ---- one offer, and its bytes say it
 
-pub offered_once : (s : ReplicaState) (common : Vec Node Global) (bytes others : List ℕ) → IsValidContent (content_of s) → Offers s common bytes → Offers s common others → bytes ≡ others
-offered_once s common bytes others v h k = h.written ∙ ap message_spelling (offer-once s common.items h.message k.message h.offered k.offered) ∙ sym k.written
+pub offered_once : (s : ReplicaState) (common : Vec Node Global) (bytes others : List ℕ) →
+    IsValidContent (content_of s) → Offers s common bytes → Offers s common others → bytes ≡ others
+offered_once s common bytes others v h k =
+    h.written ∙ ap message_spelling (offer-once s common.items h.message k.message h.offered k.offered) ∙ sym k.written
 
-pub bytes_say_offer : (s : ReplicaState) (common : Vec Node Global) (bytes : List ℕ) (h : Offers s common bytes) → message_at bytes ≡ Ok h.message
+pub bytes_say_offer : (s : ReplicaState) (common : Vec Node Global) (bytes : List ℕ) (h : Offers s common bytes) →
+    message_at bytes ≡ Ok h.message
 bytes_say_offer s common bytes h = subst (λ (b : List ℕ). message_at b ≡ Ok h.message) (sym h.written) h.writable.1
 
-pub offered_spelled : (s : ReplicaState) (common : Vec Node Global) (bytes : List ℕ) → IsValidContent (content_of s) → Offers s common bytes → (p : PartValue) × SpellsPart bytes p
+pub offered_spelled : (s : ReplicaState) (common : Vec Node Global) (bytes : List ℕ) → IsValidContent (content_of s) →
+    Offers s common bytes → (p : PartValue) × SpellsPart bytes p
 offered_spelled s common bytes v h = (part_of h.message, (h.message, bytes_say_offer s common bytes h, refl))
 
 -- the part that is read of an offer's bytes is that of the offer
-pub part_offered : (s : ReplicaState) (common : Vec Node Global) (bytes : List ℕ) (p : PartValue) (h : Offers s common bytes) → SpellsPart bytes p → part_of h.message ≡ p
-part_offered s common bytes p h k = ap part_of (said_once h.message k.0 bytes (bytes_say_offer s common bytes h) k.1) ∙ sym k.2
+pub part_offered : (s : ReplicaState) (common : Vec Node Global) (bytes : List ℕ) (p : PartValue)
+    (h : Offers s common bytes) → SpellsPart bytes p → part_of h.message ≡ p
+part_offered s common bytes p h k =
+    ap part_of (said_once h.message k.0 bytes (bytes_say_offer s common bytes h) k.1) ∙ sym k.2
 
 -- ---- no more than the state says, and the same for one content
 
-pub offered_covered : (s : ReplicaState) (common : Vec Node Global) (bytes : List ℕ) (p : PartValue) → IsValidContent (content_of s) → Offers s common bytes → SpellsPart bytes p → ContentCovers (content_of s) p
-offered_covered s common bytes p v h k = subst (ContentCovers (content_of s)) (part_offered s common bytes p h k) (offer-covered (content_of s) common.items h.message h.offered.says v)
+pub offered_covered : (s : ReplicaState) (common : Vec Node Global) (bytes : List ℕ) (p : PartValue) →
+    IsValidContent (content_of s) → Offers s common bytes → SpellsPart bytes p → ContentCovers (content_of s) p
+offered_covered s common bytes p v h k =
+    subst (ContentCovers (content_of s)) (part_offered s common bytes p h k)
+    (offer-covered (content_of s) common.items h.message h.offered.says v)
 
-pub offered_alike : (s t : ReplicaState) (common : Vec Node Global) (bytes others : List ℕ) (p q : PartValue) → IsValidContent (content_of s) → content_of s ≡ content_of t → Offers s common bytes → Offers t common others → SpellsPart bytes p → SpellsPart others q →
+pub offered_alike : (s t : ReplicaState) (common : Vec Node Global) (bytes others : List ℕ) (p q : PartValue) →
+    IsValidContent (content_of s) → content_of s ≡ content_of t → Offers s common bytes → Offers t common others →
+    SpellsPart bytes p → SpellsPart others q →
     SaySame IsValidContent ContentCovers p q
 offered_alike s t common bytes others p q v e h k x y c w =
     let one : part_of h.message ≡ p = part_offered s common bytes p h x in
     let two : part_of k.message ≡ q = part_offered t common others q k y in
-    let says : SaysOffer (content_of s) common.items k.message = subst (λ (f : Content). SaysOffer f common.items k.message) (sym e) k.offered.says in
-    let same : SayTheSame h.message k.message = offers-say_the_same (content_of s) common.items h.message k.message h.offered.says says in
-    let moved : ContentCovers c p ↔ ContentCovers c (part_of k.message) = subst (λ (r : PartValue). ContentCovers c r ↔ ContentCovers c (part_of k.message)) one (same-covered h.message k.message same c) in
+    let says : SaysOffer (content_of s) common.items k.message =
+    subst (λ (f : Content). SaysOffer f common.items k.message) (sym e) k.offered.says in
+    let same : SayTheSame h.message k.message =
+    offers-say_the_same (content_of s) common.items h.message k.message h.offered.says says in
+    let moved : ContentCovers c p ↔ ContentCovers c (part_of k.message) =
+    subst (λ (r : PartValue). ContentCovers c r ↔ ContentCovers c (part_of k.message)) one
+    (same-covered h.message k.message same c) in
     subst (λ (r : PartValue). ContentCovers c p ↔ ContentCovers c r) two moved
 
 -- ---- an offer and a refusal exclude each other
 
-pub offered_not_refused : (s : ReplicaState) (common : Vec Node Global) (bytes : List ℕ) (refusal : PeerRefusal) → IsValidContent (content_of s) → Offers s common bytes → IsAgainstOffer s common refusal → ⊥
+pub offered_not_refused : (s : ReplicaState) (common : Vec Node Global) (bytes : List ℕ) (refusal : PeerRefusal) →
+    IsValidContent (content_of s) → Offers s common bytes → IsAgainstOffer s common refusal → ⊥
 offered_not_refused s common bytes (Rewrite refusal) v h k = k
-offered_not_refused s common bytes (Offer (UnknownCommon node)) v h k = k.2 (h.held node (Contains-from_place common.items k.0 node k.1))
-offered_not_refused s common bytes (Offer TooLarge) v h k = small-or-large k.1.0 (subst IsMessage (offer-once s common.items h.message k.1.0 h.offered k.1.1) h.writable.0) k.1.2
+offered_not_refused s common bytes (Offer (UnknownCommon node)) v h k =
+    k.2 (h.held node (Contains-from_place common.items k.0 node k.1))
+offered_not_refused s common bytes (Offer TooLarge) v h k =
+    small-or-large k.1.0 (subst IsMessage (offer-once s common.items h.message k.1.0 h.offered k.1.1) h.writable.0)
+    k.1.2
 offered_not_refused s common bytes (Offer offer.NoMemory) v h k = k
 offered_not_refused s common bytes (Message fault) v h k = k
 offered_not_refused s common bytes NoMemory v h k = k
 
-pub memory_not_against_offer : (s : ReplicaState) (common : Vec Node Global) (refusal : PeerRefusal) → IsMemory refusal → IsAgainstOffer s common refusal → ⊥
+pub memory_not_against_offer : (s : ReplicaState) (common : Vec Node Global) (refusal : PeerRefusal) →
+    IsMemory refusal → IsAgainstOffer s common refusal → ⊥
 memory_not_against_offer s common (Rewrite refusal) h k = k
 memory_not_against_offer s common (Offer refusal) h k = cc
 memory_not_against_offer s common (Message fault) h k = k

@@ -55,7 +55,8 @@ pub record Offers (s : ReplicaState) (common : Vec Node Global) (bytes : List �
 abbrev pub IsAgainstOffer : ReplicaState → Vec Node Global → PeerRefusal → Type 0
 IsAgainstOffer s common (Rewrite refusal) = ⊥
 IsAgainstOffer s common (Offer (UnknownCommon node)) = IsFirstUnknown (content_of s) common.items node
-IsAgainstOffer s common (Offer TooLarge) = AreHeld (content_of s) common.items × ((m : MessageValue) × IsOffer s common.items m × (is_too_large m ≡ true))
+IsAgainstOffer s common (Offer TooLarge) =
+    AreHeld (content_of s) common.items × ((m : MessageValue) × IsOffer s common.items m × (is_too_large m ≡ true))
 IsAgainstOffer s common (Offer offer.NoMemory) = ⊥
 IsAgainstOffer s common (Message fault) = ⊥
 IsAgainstOffer s common NoMemory = ⊥

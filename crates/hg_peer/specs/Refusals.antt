@@ -1,5 +1,7 @@
--- Why a peer refuses: the numbers and texts, and which refusal of a peer tells which of its crates.
+-- Why a peer and a world of peers refuse: the numbers and texts, and which refusal of a peer tells which of its crates.
 use Rattle.std.specs.Prelude.{ℕ, List, Option, Some, None, codes}
+use Rattle.hg_history.specs.declared.fault.Fault.{Fault}
+use Rattle.hg_history.specs.Fault.{number as fault_number}
 use Rattle.hg_marker.specs.declared.error.ReadError.{ReadError}
 use Rattle.hg_marker.specs.declared.error.ReadError.TheVariants as reading
 use Rattle.hg_rewrite.specs.declared.refusal.Refusal.{Refusal}
@@ -10,10 +12,13 @@ use Rattle.hg_message.specs.declared.refusal.OfferRefusal.TheVariants as offer
 use Rattle.hg_message.specs.declared.error.MessageFault.{MessageFault}
 use Rattle.hg_message.specs.OfferRefusals.{offer_refusal_number, offer_refusal_name}
 use Rattle.hg_message.specs.Refusals.{message_fault_number, message_fault_text}
+use Rattle.hg_world.specs.declared.event.EventRefusal.{EventRefusal}
+use Rattle.hg_world.specs.declared.event.EventRefusal.TheVariants.{NoNode, NoMessage, ByActor, ByState}
 use Rattle.hg_peer.specs.declared.refusal.PeerRefusal.{PeerRefusal}
 use Rattle.hg_peer.specs.declared.refusal.PeerRefusal.TheVariants.{Rewrite, Offer, Message, NoMemory}
 
--- the number that a user reads, which is that of the operation's refusal, of the offer's or of the message's fault; want of memory has none
+-- the number that a user reads, which is that of the operation's refusal, of the offer's or of the message's fault;
+-- want of memory has none
 abbrev pub peer_refusal_number : PeerRefusal → Option ℕ
 peer_refusal_number (Rewrite refusal) = refusal_number refusal
 peer_refusal_number (Offer refusal) = offer_refusal_number refusal
@@ -26,6 +31,13 @@ peer_refusal_text (Rewrite refusal) = refusal_name refusal
 peer_refusal_text (Offer refusal) = offer_refusal_name refusal
 peer_refusal_text (Message fault) = message_fault_text fault
 peer_refusal_text NoMemory = codes "NoMemory"
+
+-- the number of a refused event: that of the missing thing, or of the peer's refusal or the part's fault
+abbrev pub event_refusal_number : EventRefusal PeerRefusal Fault → Option ℕ
+event_refusal_number NoNode = Some 1
+event_refusal_number NoMessage = Some 2
+event_refusal_number (ByActor refusal) = peer_refusal_number refusal
+event_refusal_number (ByState fault) = fault_number fault
 
 -- how a peer tells that an operation is refused
 abbrev pub rewrite_refusal : Refusal → PeerRefusal

@@ -8,31 +8,32 @@
 //! # What holds
 //!
 //! **For every list of local operations, offers, losses, repeats and late or reordered deliveries among any number of
-//! peers, each peer's state is the least valid state covering every operation and message it accepted; so peers that cover
-//! each other's contributions agree on changesets, phases, markers, every instability and the visible set; and no message
-//! holds a changeset that was secret at its maker.**
+//! peers, each peer's state is the least valid state covering every operation and message it accepted; so peers that
+//! cover each other's contributions agree on changesets, phases, markers, every instability and the visible set; and no
+//! message holds a changeset that was secret at its maker.**
 //!
 //! | In the sentence | What it means | Where it is said |
 //! |---|---|---|
 //! | every list | any list of [`Event`](hg_world::Event)s, in one call or in several | [`World::run`](hg_world::World::run), [`runs_compose`](hg_world::runs_compose) |
 //! | losses, repeats, late or reordered deliveries | a message that nobody takes is lost; any peer may take any message of the pool at any time, and again | [`World::run`](hg_world::World::run) |
 //! | is the least valid state covering | it is valid, covers each accepted part, and is below each valid state that does so | [`states_are_least`](hg_world::states_are_least) |
-//! | | by the formula: the changesets and markers of the parts, and for each changeset the lowest phase that a bound gives it | [`peers_are_least`] |
+//! | | by the formula: the changesets and markers of the parts, and for each changeset the lowest phase that a bound gives it; from a new world on, those and nothing else | [`peers_are_least`], `specs/Laws.antt` |
 //! | every operation and message it accepted | those that were answered [`Accepted`](hg_world::Answer::Accepted); the part of an operation is that of the table of operations, at the state in which it was decided | [`World::run`](hg_world::World::run), `specs/Peers.antt` |
 //! | cover each other's contributions | the state of each covers each part that the other accepted | [`covering_peers_agree`] |
 //! | agree on changesets, phases, markers, every instability and the visible set | the sets of obsolete, orphan, suspended, extinct, phase-divergent and content-divergent changesets are among them | [`covering_peers_agree`], `specs/Agreement.antt` |
 //! | no message holds | neither as a record nor as a bound; a marker may name any id | [`no_message_holds_a_secret`] |
 //! | secret at its maker | in the state that the Offer read | [`no_message_holds_a_secret`], `specs/Secrets.antt` |
 //!
-//! The laws speak of runs by the definition `Runs`, and the contract of [`World::run`](hg_world::World::run) says that what
-//! happened is one.
+//! The laws speak of the trace of a run: its events, what each was answered, and the part that each brought. The
+//! contract of [`World::run`](hg_world::World::run) says that what happened has one. Each law is a word of
+//! `specs/Laws.antt`.
 //!
 //! # The premises
 //!
 //! - The world began new, where a law says so: each of its peers was empty, and its pool too.
 //! - Nothing raises a phase, and nothing is taken away: no operation does either.
-//! - Two changesets under one id never stand in one state: the part that would bring the second is refused by the id, as
-//!   [`Fault::Collision`](hg_history::Fault::Collision).
+//! - Two changesets under one id never stand in one state: the part that would bring the second is refused by the id,
+//!   as [`Fault::Collision`](hg_history::Fault::Collision).
 //! - Where memory is wanting, nothing changes.
 //! - Nothing is said of arrival: no message need ever be taken, and peers need not come to cover each other.
 #![tactic(auto)]
@@ -46,4 +47,4 @@ pub use laws::{
     peers_are_least,
 };
 pub use peer::Peer;
-pub use refusal::PeerRefusal;
+pub use refusal::{Numbered, PeerRefusal};

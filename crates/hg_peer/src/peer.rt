@@ -1,12 +1,18 @@
 //! A replica that decides, offers and reads.
-ghost use Rattle.std.specs.Prelude.{◌≡◌, ◌⊎◌, Ok, IfOk, IfErr, IsErrOf};
-ghost use Rattle.hg_history.specs.ContentLaws.{contents_stay_covered, contents_again, contents_swap, covered_admitted, admitted_faultless, memory_faultless};
-ghost use Rattle.hg_history.specs.JoinedLaws.{joins_commute, joins_itself, joined_apart, collided_for_good, memory_apart};
-ghost use Rattle.hg_obsstore.specs.Sets.{stays_within, union_commutes, union_idempotent, union_again, union_swap};
-ghost use Rattle.hg_obsstore.specs.Growth.{holds};
-ghost use Rattle.hg_replica.specs.ContentLaws.{replicas_ordered, replicas_absorbed, replicas_associate, replicas_least};
+ghost use Rattle.std.specs.Prelude.{◌≡◌, ◌↔◌, ◌⊎◌, Ok, IsTrue, IsOkAnd, IfOk, IfErr, OnOk, OnErr, IsErrOf};
 ghost use Rattle.hg_join.specs.Order.{IsDue};
-ghost use Rattle.hg_replica.specs.Content.{content_of, ContentAdmits};
+ghost use Rattle.hg_replica.specs.Answer.{IsGrowthBeforeFault};
+ghost use Rattle.hg_replica.specs.Change.{TellsChange};
+ghost use Rattle.hg_replica.specs.Content.{content_of, IsValidContent, ContentBelow, ContentsJoined, ContentsCollide};
+ghost use Rattle.hg_replica.specs.Content.{ContentAdmits, ContentAfter, IsContentFault};
+ghost use Rattle.hg_replica.specs.ContentLaws.{replicas_ordered, replicas_stay_covered, replicas_absorbed};
+ghost use Rattle.hg_replica.specs.ContentLaws.{replicas_admit};
+ghost use Rattle.hg_replica.specs.ContentLaws.{replicas_faultless, replicas_admit_covered, replicas_apart};
+ghost use Rattle.hg_replica.specs.ContentLaws.{replicas_collide_for_good, replicas_memory_faultless};
+ghost use Rattle.hg_replica.specs.ContentLaws.{replicas_memory_apart, replicas_commute, replicas_associate};
+ghost use Rattle.hg_replica.specs.ContentLaws.{replicas_join_themselves, replicas_least, replicas_again, replicas_swap};
+ghost use Rattle.hg_replica.specs.Least.{part_of as part_of_replica};
+ghost use Rattle.hg_replica.specs.Words.{replica_words};
 ghost use Rattle.hg_rewrite.specs.Memory.{MayWantMemory};
 ghost use Rattle.hg_message.specs.Value.{MessageValue};
 ghost use Rattle.hg_message.specs.Message.{message_at};
@@ -14,9 +20,12 @@ ghost use Rattle.hg_message.specs.Offer.{AreHeld};
 ghost use Rattle.hg_message.specs.Part.{part_of as message_part};
 ghost use Rattle.hg_message.specs.Spelling.{message_spelling};
 ghost use Rattle.hg_peer.specs.declared.refusal.PeerRefusal.TheVariants.{NoMemory as OutOfMemory};
-ghost use Rattle.hg_peer.specs.Peers.{Decides as DecidesPart, IsAgainstOperation, Offers as OffersBytes, IsAgainstOffer, IsAgainstWriting, SpellsPart, IsAgainstBytes as AgainstBytes, IsMemory, CanBeWritten};
+ghost use Rattle.hg_peer.specs.Peers.{Decides as DecidesPart, IsAgainstOperation, Offers as OffersBytes};
+ghost use Rattle.hg_peer.specs.Peers.{IsAgainstOffer, IsAgainstWriting, SpellsPart, IsAgainstBytes as AgainstBytes};
+ghost use Rattle.hg_peer.specs.Peers.{IsMemory, CanBeWritten};
 ghost use Rattle.hg_peer.specs.DecisionLaws.{decided_once, decided_not_refused, memory_not_against_operation};
-ghost use Rattle.hg_peer.specs.OfferLaws.{offered_once, offered_not_refused, offered_spelled, offered_covered, offered_alike, memory_not_against_offer};
+ghost use Rattle.hg_peer.specs.OfferLaws.{offered_once, offered_not_refused, offered_spelled, offered_covered};
+ghost use Rattle.hg_peer.specs.OfferLaws.{offered_alike, memory_not_against_offer};
 ghost use Rattle.hg_peer.specs.BytesLaws.{spelled_once, spelled_not_refused, memory_not_against_bytes};
 
 use crate::refusal::PeerRefusal;
@@ -71,65 +80,65 @@ impl JoinState for Peer {
 
     type Fault = Fault;
 
-    ghost Content = { ⟦<Replica as JoinState>⟧.Content };
+    ghost Content = { replica_words.Content };
 
-    ghost content = { ⟦<Replica as JoinState>⟧.content };
+    ghost content = { replica_words.content };
 
-    ghost IsValid = { ⟦<Replica as JoinState>⟧.IsValid };
+    ghost IsValid = { replica_words.IsValid };
 
-    ghost Below = { ⟦<Replica as JoinState>⟧.Below };
+    ghost Below = { replica_words.Below };
 
-    ghost Joined = { ⟦<Replica as JoinState>⟧.Joined };
+    ghost Joined = { replica_words.Joined };
 
-    ghost Collides = { ⟦<Replica as JoinState>⟧.Collides };
+    ghost Collides = { replica_words.Collides };
 
-    ghost PartContent = { ⟦<Replica as JoinState>⟧.PartContent };
+    ghost PartContent = { replica_words.PartContent };
 
-    ghost part_content = { ⟦<Replica as JoinState>⟧.part_content };
+    ghost part_content = { replica_words.part_content };
 
-    ghost Covers = { ⟦<Replica as JoinState>⟧.Covers };
+    ghost Covers = { replica_words.Covers };
 
-    ghost Admits = { ⟦<Replica as JoinState>⟧.Admits };
+    ghost Admits = { replica_words.Admits };
 
-    ghost After = { ⟦<Replica as JoinState>⟧.After };
+    ghost After = { replica_words.After };
 
-    ghost IsFirstFault = { ⟦<Replica as JoinState>⟧.IsFirstFault };
+    ghost IsFirstFault = { replica_words.IsFirstFault };
 
-    ghost Tells = { ⟦<Replica as JoinState>⟧.Tells };
+    ghost Tells = { replica_words.Tells };
 
-    ghost IsWantOfMemory = { ⟦<Replica as JoinState>⟧.IsWantOfMemory };
+    ghost IsWantOfMemory = { replica_words.IsWantOfMemory };
 
     ghost ordered = { replicas_ordered };
 
-    ghost stays_covered = { λ a b p v w up c. (contents_stay_covered a.0 b.0 p.history v w up.0 c.0, stays_within a.1 b.1 (holds p.markers) tt tt up.1 c.1) };
+    ghost stays_covered = { replicas_stay_covered };
 
     ghost absorbed = { replicas_absorbed };
 
-    ghost after_is_admitted = { λ a b p v h. h.0.admitted };
+    ghost after_is_admitted = { replicas_admit };
 
-    ghost faultless = { λ a p. admitted_faultless a.0 p.history };
+    ghost faultless = { replicas_faultless };
 
-    ghost covered_is_admitted = { λ a p v c. covered_admitted a.0 p.history v c.0 };
+    ghost covered_is_admitted = { replicas_admit_covered };
 
-    ghost apart = { λ a b c fault v w j. joined_apart a.0 b.0 c.0 fault j.0 };
+    ghost apart = { replicas_apart };
 
-    ghost collides_for_good = { λ a b c fault u v w p q. collided_for_good a.0 b.0 c.0 fault p.0 q.0 };
+    ghost collides_for_good = { replicas_collide_for_good };
 
-    ghost memory_is_no_fault = { λ a p fault v. memory_faultless a.0 p.history fault };
+    ghost memory_is_no_fault = { replicas_memory_faultless };
 
-    ghost memory_is_no_collision = { λ a b fault v w. memory_apart a.0 b.0 fault };
+    ghost memory_is_no_collision = { replicas_memory_apart };
 
-    ghost commutes = { λ a b c v w. (λ h. (joins_commute a.0 b.0 c.0 h.0, union_commutes a.1 b.1 c.1 h.1), λ h. (joins_commute b.0 a.0 c.0 h.0, union_commutes b.1 a.1 c.1 h.1)) };
+    ghost commutes = { replicas_commute };
 
     ghost associates = { replicas_associate };
 
-    ghost idempotent = { λ a v. (joins_itself a.0, union_idempotent a.1) };
+    ghost idempotent = { replicas_join_themselves };
 
     ghost least = { replicas_least };
 
-    ghost again = { λ a b p v c h i. (contents_again a.0 b.0 p.history v c.0 h.0 i, union_again a.1 b.1 (holds p.markers) tt c.1 h.1 i) };
+    ghost again = { replicas_again };
 
-    ghost swap = { λ a x xy y yx p q v h1 h2 h3 h4 i. (contents_swap a.0 x.0 xy.0 y.0 yx.0 p.history q.history v h1.0 h2.0 h3.0 h4.0 i, union_swap a.1 x.1 xy.1 y.1 yx.1 (holds p.markers) (holds q.markers) tt h1.1 h2.1 h3.1 h4.1 i) };
+    ghost swap = { replicas_swap };
 
     fn copy(&self) -> Result<Peer, NoMemory> {
         Ok(Peer {
@@ -137,19 +146,56 @@ impl JoinState for Peer {
         })
     }
 
-    fn absorb(&mut self, part: &Part) -> Result<Change, Fault> {
+    fn absorb(&mut self, part: &Part) -> Result<Change, Fault>
+        ensures after { OnOk result (ContentAfter (content_of self.old) part.now (content_of self.new)) }
+        ensures change { IfOk result (λ change. TellsChange self.old change self.new) }
+        ensures valid { OnOk result (IsValidContent (content_of self.old)) }
+        ensures fault { IfErr result (λ fault. IsContentFault (content_of self.old) part.now fault
+            ⊎ (fault ≡ Fault.NoMemory)) }
+        ensures err { OnErr result (self.new ≡ self.old) }
+
+        // Want of memory is told only where something grows before a fault is met.
+        ensures memory { IsErrOf result Fault.NoMemory → IsGrowthBeforeFault self.old part.now }
+    {
         JoinState::absorb(&mut self.replica, part)
     }
 
-    fn absorb_owned(&mut self, part: Part) -> Result<Change, Fault> {
+    fn absorb_owned(&mut self, part: Part) -> Result<Change, Fault>
+        ensures after { OnOk result (ContentAfter (content_of self.old) part (content_of self.new)) }
+        ensures change { IfOk result (λ change. TellsChange self.old change self.new) }
+        ensures valid { OnOk result (IsValidContent (content_of self.old)) }
+        ensures fault { IfErr result (λ fault. IsContentFault (content_of self.old) part fault
+            ⊎ (fault ≡ Fault.NoMemory)) }
+        ensures err { OnErr result (self.new ≡ self.old) }
+
+        // Want of memory is told only where something grows before a fault is met.
+        ensures memory { IsErrOf result Fault.NoMemory → IsGrowthBeforeFault self.old part }
+    {
         JoinState::absorb_owned(&mut self.replica, part)
     }
 
-    fn join(&mut self, other: &Peer) -> Result<(), Fault> {
+    fn join(&mut self, other: &Peer) -> Result<(), Fault>
+        ensures joined { OnOk result
+            (ContentsJoined (content_of self.old) (content_of other.now) (content_of self.new)) }
+        ensures valid { OnOk result (IsValidContent (content_of self.old)) }
+        ensures other_valid { OnOk result (IsValidContent (content_of other.now)) }
+        ensures fault { IfErr result
+            (λ fault. ContentsCollide (content_of self.old) (content_of other.now) fault ⊎ (fault ≡ Fault.NoMemory)) }
+        ensures err { OnErr result (self.new ≡ self.old) }
+
+        // Want of memory is told only where something grows before a fault is met.
+        ensures memory { IsErrOf result Fault.NoMemory → IsGrowthBeforeFault self.old (part_of_replica other.now) }
+    {
         JoinState::join(&mut self.replica, &other.replica)
     }
 
-    fn below(&self, other: &Peer) -> Result<bool, NoMemory> {
+    fn below(&self, other: &Peer) -> Result<bool, NoMemory>
+        // It takes no memory, so it is never refused.
+        ensures answer { IsOkAnd result
+            (λ answer. IsTrue answer ↔ ContentBelow (content_of self.now) (content_of other.now)) }
+        ensures valid { IsValidContent (content_of self.now) }
+        ensures other_valid { IsValidContent (content_of other.now) }
+    {
         self.replica.below(&other.replica)
     }
 }

@@ -1,17 +1,20 @@
-//! Why a peer refuses.
-ghost use Rattle.std.specs.Prelude.{◌≡◌, Some};
+//! Why a peer refuses, and a world of peers.
+ghost use Rattle.std.specs.Prelude.{◌≡◌, ℕ, Option, Some};
 ghost use Rattle.hg_peer.specs.declared.refusal.PeerRefusal.TheVariants.{NoMemory as OutOfMemory};
-ghost use Rattle.hg_peer.specs.Refusals.{peer_refusal_number, peer_refusal_text, rewrite_refusal, offer_refusal, message_refusal};
+ghost use Rattle.hg_peer.specs.Refusals.{peer_refusal_number, peer_refusal_text, rewrite_refusal, offer_refusal};
+ghost use Rattle.hg_peer.specs.Refusals.{message_refusal};
 
+use hg_history::Fault;
 use hg_marker::ReadError;
 use hg_message::{MessageFault, OfferRefusal};
 use hg_rewrite::Refusal;
+use hg_world::EventRefusal;
 use std::alloc::AllocError;
 use std::error::Error;
 use std::fmt;
 
-/// Why a peer refuses an operation, an offer or bytes. Want of memory is [`NoMemory`](PeerRefusal::NoMemory) for each of
-/// them.
+/// Why a peer refuses an operation, an offer or bytes. Want of memory is [`NoMemory`](PeerRefusal::NoMemory) for each
+/// of them.
 #[derive(Clone, Copy, PartialEq, Eq, Debug)]
 pub enum PeerRefusal {
     /// The operation is refused.
@@ -25,8 +28,8 @@ pub enum PeerRefusal {
 }
 
 impl PeerRefusal {
-    /// The number that a user reads: that of the operation's refusal, of the offer's, or of the message's fault. Want of
-    /// memory has none.
+    /// The number that a user reads: that of the operation's refusal, of the offer's, or of the message's fault. Want
+    /// of memory has none.
     pub fn number(self) -> Option<u8>
         ensures { result ≡ peer_refusal_number self }
     {
@@ -35,6 +38,33 @@ impl PeerRefusal {
             PeerRefusal::Offer(refusal) => refusal.number(),
             PeerRefusal::Message(fault) => Some(fault.number()),
             PeerRefusal::NoMemory => None,
+        }
+    }
+}
+
+/// A refusal that a user reads by a number.
+pub trait Numbered {
+    /// Its number, if it has one.
+    ghost number_of: { Self → Option ℕ };
+
+    /// The number that a user reads, if it has one.
+    fn number(&self) -> Option<u8>
+        ensures { result ≡ number_of self.now };
+}
+
+/// Of a refused event of peers: 1 where the world has no such node, 2 where it has no such message, and else that of
+/// the peer's refusal or of the part's fault. Want of memory has none.
+impl Numbered for EventRefusal<PeerRefusal, Fault> {
+    ghost use Rattle.hg_peer.specs.Refusals.{event_refusal_number};
+
+    ghost number_of = { event_refusal_number };
+
+    fn number(&self) -> Option<u8> {
+        match self {
+            EventRefusal::NoNode => Some(1),
+            EventRefusal::NoMessage => Some(2),
+            EventRefusal::ByActor(refusal) => refusal.number(),
+            EventRefusal::ByState(fault) => fault.number(),
         }
     }
 }

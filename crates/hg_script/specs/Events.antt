@@ -12,19 +12,17 @@ use Rattle.hg_history.specs.declared.fault.Fault.{Fault}
 use Rattle.hg_history.specs.Fault.{number as fault_number}
 use Rattle.hg_replica.specs.State.{ReplicaState}
 use Rattle.hg_replica.specs.Least.{PartValue}
-use Rattle.hg_replica.specs.Change.{ChangeValue}
 use Rattle.hg_rewrite.specs.declared.op.Op.{Op}
 use Rattle.hg_rewrite.specs.declared.op.Op.TheVariants as asks
-use Rattle.hg_world.specs.Runs.{Snapshot, Runs, place_of}
-use Rattle.hg_world.specs.declared.event.Event.{Event}
+use Rattle.hg_world.specs.Runs.{Snapshot, place_of}
+use Rattle.hg_world.specs.Runs as worlds
 use Rattle.hg_world.specs.declared.event.Event.TheVariants as event
 use Rattle.hg_world.specs.declared.event.EventRefusal.{EventRefusal}
 use Rattle.hg_world.specs.declared.event.EventRefusal.TheVariants.{NoNode, NoMessage, ByActor, ByState}
-use Rattle.hg_world.specs.declared.event.Answer.{Answer}
 use Rattle.hg_world.specs.declared.event.Answer.TheVariants.{Accepted, Offered, Refused}
 use Rattle.hg_peer.specs.declared.refusal.PeerRefusal.{PeerRefusal}
 use Rattle.hg_peer.specs.Refusals.{peer_refusal_number}
-use Rattle.hg_peer.specs.Words.{peer_words, peer_state}
+use Rattle.hg_peer.specs.Words as peers
 use Rattle.hg_discovery.specs.Between.{AreHeadsInCommon}
 use Rattle.hg_script.specs.declared.fault.LineFault.TheVariants.{UnknownName}
 use Rattle.hg_script.specs.declared.fault.RunFault.{RunFault}
@@ -41,28 +39,26 @@ use Rattle.hg_script.specs.Entries.{entry_of, IsPruneOf}
 use Rattle.hg_script.specs.Names.{value_of}
 
 abbrev pub PeerEvent : Type 0
-PeerEvent = Event Op (Vec Node Global)
+PeerEvent = peers.PeerEvent
 
 abbrev pub PeerAnswer : Type 0
-PeerAnswer = Answer ChangeValue PeerRefusal Fault
+PeerAnswer = peers.PeerAnswer
 
 -- ---- runs of a world of peers
 
--- events of a world, what each was answered, and the part that each brought, if it brought one
-pub record Trace : Type 0 where
-  pub events : List PeerEvent
-  pub answers : List PeerAnswer
-  pub parts : List (Option PartValue)
+-- events of the world, what each was answered, and the part that each brought, if it brought one
+abbrev pub Trace : Type 0
+Trace = peers.PeerTrace
 
 abbrev pub no_trace : Trace
-no_trace = record { events = []; answers = []; parts = [] }
+no_trace = worlds.no_trace
 
 abbrev pub joined : Trace → Trace → Trace
-joined t u = record { events = t.events ++ u.events; answers = t.answers ++ u.answers; parts = t.parts ++ u.parts }
+joined t u = worlds.joined t u
 
 -- the world's events were answered so, with these parts
 abbrev pub Ran : Snapshot ReplicaState → Trace → Snapshot ReplicaState → Type 0
-Ran old t new = Runs peer_state peer_words old t.events t.answers t.parts new
+Ran old t new = peers.PeersRan old t new
 
 -- the refusal has a number, which is printed. Want of memory has none, and what a script names is there
 abbrev pub HasNumber : EventRefusal PeerRefusal Fault → Type 0

@@ -1,5 +1,7 @@
 -- What is at a place, and what absorbing a part there leaves.
-use Rattle.std.proofs.Common.{◌≡◌, ◌⊎◌, ℕ, zero, suc, ◌<◌, Some, List, [], ◌∷◌, ◌++◌, length, vec_len, get_or, Result, Ok, Err, IfOk, IfErr, OnOk, OnErr, MatchResult, slice_get, slice_set, refl, sym, ap, ◌∙◌, arith}
+use Rattle.std.proofs.Common.{◌≡◌, ◌⊎◌, ℕ, zero, suc, ◌<◌, Some, List, [], ◌∷◌, ◌++◌, length, vec_len, get_or, Result}
+use Rattle.std.proofs.Common.{Ok, Err, IfOk, IfErr, OnOk, OnErr, MatchResult, slice_get, slice_set, refl, sym, ap, ◌∙◌}
+use Rattle.std.proofs.Common.{arith}
 use Rattle.std.proofs.lemmas.List.{set-get_or, length-map, map-append}
 use Rattle.std.proofs.lemmas.Option.{slice_get_read, get_or_from_slice_get, slice_get-map}
 use Rattle.hg_join.specs.declared.state.JoinState.{Ghosts as StateWords}
@@ -24,13 +26,20 @@ set_what_was : {X : Type 0} (xs : List X) (i : ℕ) (x y : X) → slice_get xs i
 set_what_was xs i x y h e = ap (slice_set xs i) (e ∙ sym (get_or_from_slice_get xs i x x h)) ∙ set-get_or xs i x
 
 module _ {S P C F : Type 0} (J : StateWords S P C F) where
-  pub absorbed_there : (nodes : List S) (at : ℕ) (node next : S) (part : P) (r : Result C F) → slice_get nodes at ≡ Some node →
-      OnOk r (J.After (J.content node) (J.part_content part) (J.content next)) → IfOk r (λ change. J.Tells node change next) →
-      IfErr r (λ fault. J.IsFirstFault (J.content node) (J.part_content part) fault ⊎ J.IsWantOfMemory fault) → OnErr r (next ≡ node) →
-      (x : S) × (slice_get nodes at ≡ Some x) × MatchResult r (λ change. (y : S) × Absorbs J x part change y × (slice_set nodes at next ≡ slice_set nodes at y))
-      (λ fault. (J.IsFirstFault (J.content x) (J.part_content part) fault ⊎ J.IsWantOfMemory fault) × (slice_set nodes at next ≡ nodes))
-  absorbed_there nodes at node next part (Ok change) there after tells fault same = (node, there, (next, record { after = after; tells = tells }, refl))
-  absorbed_there nodes at node next part (Err e) there after tells fault same = (node, there, (fault, set_what_was nodes at node next there same))
+  pub absorbed_there : (nodes : List S) (at : ℕ) (node next : S) (part : P) (r : Result C F) →
+      slice_get nodes at ≡ Some node →
+      OnOk r (J.After (J.content node) (J.part_content part) (J.content next)) →
+      IfOk r (λ change. J.Tells node change next) →
+      IfErr r (λ fault. J.IsFirstFault (J.content node) (J.part_content part) fault ⊎ J.IsWantOfMemory fault) →
+      OnErr r (next ≡ node) →
+      (x : S) × (slice_get nodes at ≡ Some x)
+      × MatchResult r (λ change. (y : S) × Absorbs J x part change y × (slice_set nodes at next ≡ slice_set nodes at y))
+      (λ fault. (J.IsFirstFault (J.content x) (J.part_content part) fault ⊎ J.IsWantOfMemory fault)
+      × (slice_set nodes at next ≡ nodes))
+  absorbed_there nodes at node next part (Ok change) there after tells fault same =
+      (node, there, (next, record { after = after; tells = tells }, refl))
+  absorbed_there nodes at node next part (Err e) there after tells fault same =
+      (node, there, (fault, set_what_was nodes at node next there same))
 
 -- a place within the list has an element
 pub some_at : {X : Type 0} (xs : List X) (i : ℕ) → i < length xs → (x : X) × (slice_get xs i ≡ Some x)
@@ -38,22 +47,27 @@ some_at [] i h = absurd (omega arith)
 some_at (x ∷ xs) zero h = (x, refl)
 some_at (x ∷ xs) (suc i) h = some_at xs i (omega arith)
 
-pub message_at : (messages : List (Vec ℕ Global)) (i : ℕ) (m : Vec ℕ Global) (bytes : List ℕ) → i < length messages → m ≡ get_or messages i m → bytes ≡ m.items → slice_get (bytes_of messages) i ≡ Some bytes
+pub message_at : (messages : List (Vec ℕ Global)) (i : ℕ) (m : Vec ℕ Global) (bytes : List ℕ) → i < length messages →
+    m ≡ get_or messages i m → bytes ≡ m.items → slice_get (bytes_of messages) i ≡ Some bytes
 message_at messages i m bytes h read e =
-    slice_get-map (λ (m : Vec ℕ Global). m.items) messages i ∙ ap (option_map (λ (m : Vec ℕ Global). m.items)) (read_at messages i m h read) ∙ ap Some (sym e)
+    slice_get-map (λ (m : Vec ℕ Global). m.items) messages i ∙ ap (option_map (λ (m : Vec ℕ Global). m.items))
+    (read_at messages i m h read) ∙ ap Some (sym e)
 
 pub length_bytes : (v : Vec (Vec ℕ Global) Global) → vec_len v ≡ length (bytes_of v.items)
 length_bytes v = v.ok.0 ∙ sym (length-map v.items (λ (m : Vec ℕ Global). m.items))
 
-pub pushed : (v w : Vec (Vec ℕ Global) Global) (m : Vec ℕ Global) → w.items ≡ v.items ++ m ∷ [] → bytes_of w.items ≡ bytes_of v.items ++ m.items ∷ []
+pub pushed : (v w : Vec (Vec ℕ Global) Global) (m : Vec ℕ Global) → w.items ≡ v.items ++ m ∷ [] →
+    bytes_of w.items ≡ bytes_of v.items ++ m.items ∷ []
 pushed v w m e = ap bytes_of e ∙ map-append (λ (m : Vec ℕ Global). m.items) v.items (m ∷ [])
 
-pub get_set_same : {X : Type 0} (xs : List X) (i : ℕ) (x y : X) → slice_get xs i ≡ Some x → slice_get (slice_set xs i y) i ≡ Some y
+pub get_set_same : {X : Type 0} (xs : List X) (i : ℕ) (x y : X) → slice_get xs i ≡ Some x →
+    slice_get (slice_set xs i y) i ≡ Some y
 get_set_same [] i x y h = cc
 get_set_same (z ∷ xs) zero x y h = refl
 get_set_same (z ∷ xs) (suc i) x y h = get_set_same xs i x y h
 
-pub get_set_other : {X : Type 0} (xs : List X) (i j : ℕ) (y : X) → (i ≡ j → ⊥) → slice_get (slice_set xs i y) j ≡ slice_get xs j
+pub get_set_other : {X : Type 0} (xs : List X) (i j : ℕ) (y : X) → (i ≡ j → ⊥) →
+    slice_get (slice_set xs i y) j ≡ slice_get xs j
 get_set_other [] i j y ne = refl
 get_set_other (z ∷ xs) zero zero y ne = absurd (ne refl)
 get_set_other (z ∷ xs) zero (suc j) y ne = refl

@@ -1,3 +1,5 @@
+pub mod Alike
+pub mod Laws
+pub mod Made
 pub mod Runs
 pub mod Texts
-pub mod Told

@@ -1,14 +1,14 @@
 //! Nodes that exchange messages, in one process, and what holds of them whatever is lost, late, repeated or reordered.
 //!
 //! A [`World`] has nodes, each with a state that acts ([`Actor`](hg_join::Actor)), and a pool of every message that was
-//! ever offered. It is given a list of [`Event`]s and gives an [`Answer`] for each: a node does an operation of its own,
-//! offers what it holds, or takes a message of the pool. A message that nobody takes is lost. Any node may take any
-//! message, late, again, and before older ones, so whatever a network does to messages is a list of events.
+//! ever offered. It is given a list of [`Event`]s and gives an [`Answer`] for each: a node does an operation of its
+//! own, offers what it holds, or takes a message of the pool. A message that nobody takes is lost. Any node may take
+//! any message, late, again, and before older ones, so whatever a network does to messages is a list of events.
 //!
 //! # What a run is
 //!
-//! The contract of [`World::run`] says that what happened is a run, by the definition `Runs` of `specs/Runs.antt`. Each
-//! event has one of three outcomes, by `Happens`:
+//! The contract of [`World::run`] says that what happened is a run (`HasRun` of `specs/Runs.antt`): the events happen
+//! one after the other (`Runs`), each with one of three outcomes (`Happens`):
 //!
 //! - It is accepted: the node at its place absorbs the part that it decided, or that the message spells. No other node
 //!   changes, and no message.
@@ -18,11 +18,12 @@
 //!
 //! What each node accepted is not kept anywhere. The contract gives it as a list of its own, `parts`, with one part or
 //! none for each event, and says that afterwards each node is the least valid state above what it was that covers the
-//! parts that it accepted (`AllLeast`).
+//! parts that it accepted (`AllLeast`). Events, answers and parts together are the run's `Trace`.
 //!
 //! # What follows
 //!
-//! Each of these functions has an empty body, and its contract is a law of all runs, at any states that act.
+//! Each of these functions has an empty body, and its contract is a law of all runs, at any states that act. What each
+//! word of it says stands in `specs/Laws.antt`.
 //!
 //! | Law | What it says |
 //! |---|---|
@@ -37,7 +38,8 @@
 //!
 //! No message need ever be taken, and nodes need not come to cover each other. Where there is an event, memory may run
 //! out: in [`World::run`] before the first event, and else within one, which is then refused as that node's refusals
-//! say. No contract can tell such an answer from one that need not have been, so that is for tests.
+//! say. No contract can tell such an answer from one that need not have been, so that is for tests: a run that always
+//! gave up before its first event would meet these contracts.
 #![tactic(auto)]
 
 mod event;

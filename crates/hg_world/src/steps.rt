@@ -1,5 +1,6 @@
 //! One event after another, over nodes and messages that have room.
-ghost use Rattle.std.specs.Prelude.{◌≡◌, ◌⊎◌, ◌+◌, ◌<◌, ◌≤◌, ℕ, Option, Some, List, [], length, IfOk, OnErr, MatchResult, vec_len, vec_capacity, slice_get, slice_set};
+ghost use Rattle.std.specs.Prelude.{◌≡◌, ◌⊎◌, ◌+◌, ◌<◌, ◌≤◌, ℕ, Option, Some, List, [], length, IfOk, OnErr};
+ghost use Rattle.std.specs.Prelude.{MatchResult, vec_len, vec_capacity, slice_get, slice_set};
 ghost use Rattle.hg_world.specs.Runs.{snapshot, Absorbs, Happens, Runs, AllValid};
 ghost use Rattle.hg_world.specs.declared.event.Event.{Event};
 
@@ -10,7 +11,11 @@ use std::alloc::Global;
 /// The node at a place absorbs a part, which is moved into it.
 fn absorb_at<S: Actor>(nodes: &mut [S], at: usize, part: S::Part) -> Result<S::Change, S::Fault>
     requires { at < length nodes.old }
-    ensures { (node : S) × (slice_get nodes.old at ≡ Some node) × MatchResult result (λ change. (next : S) × Absorbs S.JoinState node part change next × (nodes.new ≡ slice_set nodes.old at next)) (λ fault. (S.IsFirstFault (S.content node) (S.part_content part) fault ⊎ S.IsWantOfMemory fault) × (nodes.new ≡ nodes.old)) }
+    ensures { (node : S) × (slice_get nodes.old at ≡ Some node)
+        × MatchResult result (λ change. (next : S) × Absorbs S.JoinState node part change next
+        × (nodes.new ≡ slice_set nodes.old at next))
+        (λ fault. (S.IsFirstFault (S.content node) (S.part_content part) fault ⊎ S.IsWantOfMemory fault)
+        × (nodes.new ≡ nodes.old)) }
 {
     nodes[at].absorb_owned(part)
 }
@@ -24,7 +29,9 @@ fn decide_at<S: Actor>(
 ) -> Answer<S::Change, S::Refusal, S::Fault>
     requires within { at < length nodes.old }
     requires valid { AllValid S.JoinState (record { nodes = nodes.old; messages = [] }) }
-    ensures { (messages : List (List ℕ)) → (part : Option S.Part) × Happens S.JoinState S.Actor.own (record { nodes = nodes.old; messages = messages }) (Event.Local at op.now) result part (record { nodes = nodes.new; messages = messages }) }
+    ensures { (messages : List (List ℕ)) → (part : Option S.Part)
+        × Happens S.JoinState S.Actor.own (record { nodes = nodes.old; messages = messages }) (Event.Local at op.now)
+        result part (record { nodes = nodes.new; messages = messages }) }
 {
     match nodes[at].decide(alloc, op) {
         Ok(decided) => match absorb_at(nodes, at, decided) {
@@ -44,7 +51,8 @@ fn take_at<S: Actor>(
     message: usize,
 ) -> Answer<S::Change, S::Refusal, S::Fault>
     requires { at < length nodes.old }
-    ensures { (part : Option S.Part) × Happens S.JoinState S.Actor.own (snapshot nodes.old messages.now) (Event.Take at message) result part (snapshot nodes.new messages.now) }
+    ensures { (part : Option S.Part) × Happens S.JoinState S.Actor.own (snapshot nodes.old messages.now)
+        (Event.Take at message) result part (snapshot nodes.new messages.now) }
 {
     if message >= messages.len() {
         return Answer::Refused(EventRefusal::NoMessage);
@@ -69,7 +77,8 @@ fn offer_at<S: Actor>(
 ) -> Answer<S::Change, S::Refusal, S::Fault>
     requires within { at < length nodes.now }
     requires room { vec_len messages.old < vec_capacity messages.old }
-    ensures happens { (part : Option S.Part) × Happens S.JoinState S.Actor.own (snapshot nodes.now messages.old.items) (Event.Offer at ask.now) result part (snapshot nodes.now messages.new.items) }
+    ensures happens { (part : Option S.Part) × Happens S.JoinState S.Actor.own (snapshot nodes.now messages.old.items)
+        (Event.Offer at ask.now) result part (snapshot nodes.now messages.new.items) }
     ensures len { vec_len messages.new ≤ vec_len messages.old + 1 }
     ensures capacity { vec_capacity messages.old ≤ vec_capacity messages.new }
 {
@@ -92,7 +101,8 @@ fn happen<S: Actor>(
 ) -> Answer<S::Change, S::Refusal, S::Fault>
     requires valid { AllValid S.JoinState (snapshot nodes.old messages.old.items) }
     requires room { vec_len messages.old < vec_capacity messages.old }
-    ensures happens { (part : Option S.Part) × Happens S.JoinState S.Actor.own (snapshot nodes.old messages.old.items) event.now result part (snapshot nodes.new messages.new.items) }
+    ensures happens { (part : Option S.Part) × Happens S.JoinState S.Actor.own (snapshot nodes.old messages.old.items)
+        event.now result part (snapshot nodes.new messages.new.items) }
     ensures len { vec_len messages.new ≤ vec_len messages.old + 1 }
     ensures capacity { vec_capacity messages.old ≤ vec_capacity messages.new }
 {
@@ -114,7 +124,9 @@ pub fn run_all<S: Actor>(
     events: &[Event<S::Op, S::Ask>],
 ) -> Result<Vec<Answer<S::Change, S::Refusal, S::Fault>>, NoMemory>
     requires { AllValid S.JoinState (snapshot nodes.old messages.old.items) }
-    ensures ran { IfOk result (λ answers. (parts : List (Option S.Part)) × Runs S.JoinState S.Actor.own (snapshot nodes.old messages.old.items) events.now answers.items parts (snapshot nodes.new messages.new.items)) }
+    ensures ran { IfOk result (λ answers. (parts : List (Option S.Part))
+        × Runs S.JoinState S.Actor.own (snapshot nodes.old messages.old.items) events.now answers.items parts
+        (snapshot nodes.new messages.new.items)) }
     ensures count { IfOk result (λ answers. vec_len answers ≡ length events.now) }
     ensures unchanged { OnErr result (snapshot nodes.new messages.new.items ≡ snapshot nodes.old messages.old.items) }
     ensures memory { OnErr result (0 < length events.now) }

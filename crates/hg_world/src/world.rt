@@ -1,7 +1,7 @@
 //! A world of nodes, with the pool of all that was offered.
-ghost use Rattle.std.specs.Prelude.{◌≡◌, ◌<◌, Option, List, [], length, IfOk, OnErr, vec_len, slice_get};
+ghost use Rattle.std.specs.Prelude.{◌≡◌, ◌<◌, [], length, IfOk, OnErr, vec_len, slice_get};
 ghost use Rattle.std.specs.Option.{option_copied};
-ghost use Rattle.hg_world.specs.Runs.{Runs, AllEmpty, AllLeast, AllValid};
+ghost use Rattle.hg_world.specs.Runs.{HasRun, AllEmpty, AllValid};
 
 use crate::event::{Answer, Event};
 use crate::steps::run_all;
@@ -68,7 +68,8 @@ impl<S: Actor> World<S> {
         &mut self,
         events: &[Event<S::Op, S::Ask>],
     ) -> Result<Vec<Answer<S::Change, S::Refusal, S::Fault>>, NoMemory>
-        ensures ran { IfOk result (λ answers. (parts : List (Option S.Part)) × Runs S.JoinState S.Actor.own self.old events.now answers.items parts self.new × AllLeast S.JoinState self.old events.now parts self.new) }
+        ensures ran { IfOk result
+            (λ answers. HasRun S.JoinState S.Actor.own self.old events.now answers.items self.new) }
         ensures count { IfOk result (λ answers. vec_len answers ≡ length events.now) }
         ensures unchanged { OnErr result (self.new ≡ self.old) }
         ensures memory { OnErr result (0 < length events.now) }

@@ -4,9 +4,11 @@ use Rattle.hg_peer.proofs.AgreeLemmas.{one_agrees}
 use Rattle.hg_peer.proofs.laws.covering_peers_agree.Goals as goal
 
 pub returns-clause-sets : goal.returns-clause-sets
-returns-clause-sets c old new events answers parts a b first second e h at_a at_b covers_b covers_a =
-    one_agrees (content_of first) (content_of second) (c.covering_nodes_agree.ensures old new events answers parts a b first second e h at_a at_b covers_b covers_a)
+returns-clause-sets c old new t a b first second e h at_a at_b covers_b covers_a =
+    one_agrees (content_of first) (content_of second)
+    (c.covering_nodes_agree.ensures old new t a b first second e h at_a at_b covers_b covers_a)
 
 pub returns-clause-state : goal.returns-clause-state
-returns-clause-state c old new events answers parts a b first second e h at_a at_b v w covers_b covers_a =
-    same_from_content first second v w (c.covering_nodes_agree.ensures old new events answers parts a b first second e h at_a at_b covers_b covers_a)
+returns-clause-state c old new t a b first second e h at_a at_b v w covers_b covers_a =
+    same_from_content first second v w
+    (c.covering_nodes_agree.ensures old new t a b first second e h at_a at_b covers_b covers_a)

@@ -23,7 +23,7 @@ returns-clause-ran g c =
     let d = c.in_ok-run_lines.ensures.done in
     let start = c.in_ok-fleet.fleet in
     let end = c.run_lines.new.fleet in
-    let ran = does_lines_ran (λ old mid new t u first second. c.runs_compose.ensures old mid new t.events u.events t.answers u.answers t.parts u.parts first second) start (lines c.args.text.now) d.0 end d.1 in
+    let ran = does_lines_ran c.runs_compose.ensures start (lines c.args.text.now) d.0 end d.1 in
     record {
       start = start;
       is_new = subst (λ (n : ℕ). IsNewFleet n start) c.count_nodes.ensures c.in_ok-fleet.ensures.new;

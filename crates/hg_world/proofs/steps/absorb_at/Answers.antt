@@ -6,5 +6,6 @@ use Rattle.hg_world.proofs.steps.absorb_at.Goals as goal
 pub returns : goal.returns
 returns g c =
     let e = c.absorb_owned.ensures in
-    absorbed_there g.S.JoinState c.args.nodes.now c.args.at (get_or c.args.nodes.now c.args.at c.index-nodes-at.result) c.absorb_owned.new.self c.args.part c.absorb_owned.result
+    absorbed_there g.S.JoinState c.args.nodes.now c.args.at (get_or c.args.nodes.now c.args.at c.index-nodes-at.result)
+    c.absorb_owned.new.self c.args.part c.absorb_owned.result
     (slice_get-get_or c.args.nodes.now c.args.at c.index-nodes-at.result c.requires) e.after e.change e.fault e.err

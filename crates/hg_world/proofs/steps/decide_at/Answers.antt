@@ -8,8 +8,21 @@ pub returns-in-Ok-absorb_at : goal.returns-in-Ok-absorb_at
 returns-in-Ok-absorb_at g c =
     let h = c.in-Ok-absorb_at.ensures in
     let there = slice_get-get_or c.args.nodes.now c.args.at c.index-nodes-at.result c.requires.within in
-    let same = one_at c.args.nodes.now c.args.at (get_or c.args.nodes.now c.args.at c.index-nodes-at.result) h.0 there h.1 in
-    λ messages. (Some c.in-Ok.decided, (h.0, h.2.0, h.1, subst (λ (s : g.row.S.Denot). g.S.Actor.Decides s c.args.op.now c.in-Ok.decided) same c.in-Ok.ensures.ok, h.2.1, h.2.2, refl))
+    let same =
+    one_at c.args.nodes.now c.args.at (get_or c.args.nodes.now c.args.at c.index-nodes-at.result) h.0 there h.1 in
+    λ messages. (
+      Some c.in-Ok.decided,
+      (
+        h.0,
+        h.2.0,
+        h.1,
+        subst (λ (s : g.row.S.Denot). g.S.Actor.Decides s c.args.op.now c.in-Ok.decided) same
+            c.in-Ok.ensures.ok,
+        h.2.1,
+        h.2.2,
+        refl,
+      ),
+    )
 
 pub returns-in-Err-absorb_at : goal.returns-in-Err-absorb_at
 returns-in-Err-absorb_at g c =
@@ -17,17 +30,31 @@ returns-in-Err-absorb_at g c =
     let laws = g.met.S.JoinState in
     let h = c.in-Err-absorb_at.ensures in
     let there = slice_get-get_or c.args.nodes.now c.args.at c.index-nodes-at.result c.requires.within in
-    let same = one_at c.args.nodes.now c.args.at (get_or c.args.nodes.now c.args.at c.index-nodes-at.result) h.0 there h.1 in
-    let decided : g.S.Actor.Decides h.0 c.args.op.now c.in-Ok.decided = subst (λ (s : g.row.S.Denot). g.S.Actor.Decides s c.args.op.now c.in-Ok.decided) same c.in-Ok.ensures.ok in
+    let same =
+    one_at c.args.nodes.now c.args.at (get_or c.args.nodes.now c.args.at c.index-nodes-at.result) h.0 there h.1 in
+    let decided : g.S.Actor.Decides h.0 c.args.op.now c.in-Ok.decided =
+    subst (λ (s : g.row.S.Denot). g.S.Actor.Decides s c.args.op.now c.in-Ok.decided) same c.in-Ok.ensures.ok in
     let valid : J.IsValid (J.content h.0) = c.requires.valid c.args.at h.0 h.1 in
-    let admitted : J.Admits (J.content h.0) (J.part_content c.in-Ok.decided) = subst (λ (s : g.row.S.Denot). J.Admits (J.content s) (J.part_content c.in-Ok.decided)) same c.in-Ok.ensures.admitted in
+    let admitted : J.Admits (J.content h.0) (J.part_content c.in-Ok.decided) =
+    subst (λ (s : g.row.S.Denot). J.Admits (J.content s) (J.part_content c.in-Ok.decided)) same
+    c.in-Ok.ensures.admitted in
     let memory : J.IsWantOfMemory c.in-Err-absorb_at.fault = elim h.2.0 [
-      | inl fault ↦ absurd (laws.faultless (J.content h.0) (J.part_content c.in-Ok.decided) c.in-Err-absorb_at.fault valid admitted fault)
+      | inl fault ↦
+          absurd (laws.faultless (J.content h.0) (J.part_content c.in-Ok.decided) c.in-Err-absorb_at.fault valid
+          admitted fault)
       | inr memory ↦ memory
     ] in
-    λ messages. (None, (inr (h.0, h.1, (c.in-Ok.decided, decided, memory)), ap (λ (ns : List g.row.S.Denot). let w : Snapshot g.row.S.Denot = record { nodes = ns; messages = messages } in w) h.2.1))
+    λ messages. (
+      None,
+      (
+        inr (h.0, h.1, (c.in-Ok.decided, decided, memory)),
+        ap (λ (ns : List g.row.S.Denot). let w : Snapshot g.row.S.Denot = record { nodes = ns; messages = messages } in
+            w) h.2.1,
+      ),
+    )
 
 pub returns-in-Err : goal.returns-in-Err
 returns-in-Err g c =
     let there = slice_get-get_or c.args.nodes.now c.args.at c.index-nodes-at.result c.requires.within in
-    λ messages. (None, (inr (get_or c.args.nodes.now c.args.at c.index-nodes-at.result, there, c.in-Err.ensures.err), refl))
+    λ messages.
+    (None, (inr (get_or c.args.nodes.now c.args.at c.index-nodes-at.result, there, c.in-Err.ensures.err), refl))

@@ -13,4 +13,5 @@ pub returns-in-Ok-clause-memory : goal.returns-in-Ok-clause-memory
 returns-in-Ok-clause-memory c e = (c.in-Ok.message, c.in-Ok.ensures.exact)
 
 pub returns-in-Err-clause-memory : goal.returns-in-Err-clause-memory
-returns-in-Err-clause-memory c = read-memory (message_at c.args.bytes.now) c.in-Err.error c.into.result c.into.ensures c.in-Err.ensures.exact
+returns-in-Err-clause-memory c =
+    read-memory (message_at c.args.bytes.now) c.in-Err.error c.into.result c.into.ensures c.in-Err.ensures.exact

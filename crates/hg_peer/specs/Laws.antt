@@ -1,0 +1,87 @@
+-- What holds of every run of peers.
+use Rattle.std.specs.Prelude.{◌≡◌, ◌+◌, ℕ, Some, List, [], length, slice_get}
+use Rattle.hg_history.specs.declared.fault.Fault.{Fault}
+use Rattle.hg_replica.specs.State.{ReplicaState, IsValid, IsSameState, nothing_held}
+use Rattle.hg_replica.specs.Least.{PartValue, AreAdmitted, IsLeast}
+use Rattle.hg_replica.specs.Change.{ChangeValue}
+use Rattle.hg_replica.specs.Content.{content_of}
+use Rattle.hg_message.specs.Taken.{HoldsServed}
+use Rattle.hg_world.specs.declared.event.Event.TheVariants.{Take}
+use Rattle.hg_world.specs.declared.event.EventRefusal.{EventRefusal}
+use Rattle.hg_world.specs.Runs.{AllEmpty, AllValid, CoversAllOf, Accepts, Refuses, IsMemory}
+use Rattle.hg_peer.specs.declared.refusal.PeerRefusal.{PeerRefusal}
+use Rattle.hg_peer.specs.Words.{peer_state, peer_words, PeerWorld, PeerTrace, PeersRan, accepted_by}
+use Rattle.hg_peer.specs.Agreement.{Agree}
+use Rattle.hg_peer.specs.Secrets.{IsMadeWithoutSecrets}
+use Rattle.hg_peer.specs.Taken.{IsAboveHeld}
+
+-- ---- what peers hold
+
+-- the state is the least one by the formula: what it was, with the parts, each of which is admitted after those before
+-- it
+abbrev pub IsLeastByFormula : ReplicaState → List PartValue → ReplicaState → Type 0
+IsLeastByFormula before parts after = AreAdmitted before parts × IsLeast before parts after
+
+-- after any run each peer is what it was, with the parts that it accepted
+abbrev pub EachPeerIsLeast : Type 0
+EachPeerIsLeast =
+    (old new : PeerWorld) (t : PeerTrace) (place : ℕ) (before after : ReplicaState) → AllValid peer_state old →
+    PeersRan old t new → slice_get old.nodes place ≡ Some before → slice_get new.nodes place ≡ Some after →
+    IsValid before → IsValid after → IsLeastByFormula before (accepted_by t place) after
+
+-- after any run of a new world each peer is the parts that it accepted, and nothing else
+abbrev pub EachPeerIsLeastOfAll : Type 0
+EachPeerIsLeastOfAll =
+    (old new : PeerWorld) (t : PeerTrace) (place : ℕ) (after : ReplicaState) → AllEmpty peer_state old →
+    PeersRan old t new → slice_get new.nodes place ≡ Some after → IsValid after →
+    IsLeastByFormula nothing_held (accepted_by t place) after
+
+-- ---- where peers agree
+
+-- after any run of a new world, peers that cover each other's accepted parts agree on every set
+abbrev pub CoveringPeersAgree : Type 0
+CoveringPeersAgree =
+    (old new : PeerWorld) (t : PeerTrace) (a b : ℕ) (first second : ReplicaState) → AllEmpty peer_state old →
+    PeersRan old t new → slice_get new.nodes a ≡ Some first → slice_get new.nodes b ≡ Some second →
+    CoversAllOf peer_state t b first → CoversAllOf peer_state t a second →
+    Agree (content_of first) (content_of second)
+
+-- and are in one state
+abbrev pub CoveringPeersAreInOneState : Type 0
+CoveringPeersAreInOneState =
+    (old new : PeerWorld) (t : PeerTrace) (a b : ℕ) (first second : ReplicaState) → AllEmpty peer_state old →
+    PeersRan old t new → slice_get new.nodes a ≡ Some first → slice_get new.nodes b ≡ Some second →
+    IsValid first → IsValid second → CoversAllOf peer_state t b first → CoversAllOf peer_state t a second →
+    IsSameState first second
+
+-- ---- what messages hold
+
+-- no message that a run adds holds what was secret at its maker
+abbrev pub NoAddedMessageHoldsASecret : Type 0
+NoAddedMessageHoldsASecret =
+    (old new : PeerWorld) (t : PeerTrace) (place : ℕ) (bytes : List ℕ) → PeersRan old t new →
+    slice_get new.messages (length old.messages + place) ≡ Some bytes →
+    IsMadeWithoutSecrets old t (length old.messages + place) bytes
+
+-- where the pool began empty, none in it does
+abbrev pub NoMessageHoldsASecret : Type 0
+NoMessageHoldsASecret =
+    (old new : PeerWorld) (t : PeerTrace) (number : ℕ) (bytes : List ℕ) → old.messages ≡ [] → PeersRan old t new →
+    slice_get new.messages number ≡ Some bytes → IsMadeWithoutSecrets old t number bytes
+
+-- ---- messages above what is held
+
+-- they are refused for want of memory alone
+abbrev pub AboveHeldIsRefusedForMemoryAlone : Type 0
+AboveHeldIsRefusedForMemoryAlone =
+    (now new : PeerWorld) (place number : ℕ) (refusal : EventRefusal PeerRefusal Fault) → IsAboveHeld now place number →
+    Refuses peer_state peer_words now (Take place number) refusal new → IsMemory peer_state peer_words refusal
+
+-- and once one is accepted, the peer holds all that was served at its maker
+abbrev pub AboveHeldBringsWhatWasServed : Type 0
+AboveHeldBringsWhatWasServed =
+    (now new : PeerWorld) (place number : ℕ) (change : ChangeValue) (part : PartValue) →
+    (h : IsAboveHeld now place number) →
+    Accepts peer_state peer_words now (Take place number) change part new →
+    (next : ReplicaState) × (slice_get new.nodes place ≡ Some next)
+    × HoldsServed (content_of h.maker) (content_of next)
