@@ -1,5 +1,6 @@
 -- The laws of what prices decide, offer and read.
-use Rattle.std.specs.Prelude.{◌≡◌, ℕ, ◌%◌, ◌*◌, Bool, true, false, cond, Option, Some, None, List, [], ◌∷◌, ◌++◌, length, ⊤, refl}
+use Rattle.std.specs.Prelude.{◌≡◌, ℕ, ◌%◌, ◌*◌, Bool, true, false, cond, Option, Some, None, List, [], ◌∷◌, ◌++◌}
+use Rattle.std.specs.Prelude.{length, ⊤, refl}
 use Rattle.std.specs.Ordering.{nat_cmp, is_eq}
 use Rattle.std.specs.FinMap.{nat_cmp-IsAntisymmetric}
 use Rattle.std.proofs.Common.{arith, sym, ◌∙◌, ap, subst}
@@ -7,7 +8,8 @@ use Rattle.std.proofs.lemmas.Map.Views.{tells_apart}
 use Rattle.hg_join.specs.Order.{SaySame, IsDue}
 use Rattle.hg_join.specs.Lows.{IsAsLow, given, lowest_given, LowsCover}
 use Rattle.hg_join.specs.LowLaws.{as_low_same, lower_least}
-use Rattle.hg_join_tests.specs.Quotes.{Lowers, IsAgainstQuote, quote_of, quotes_of, bytes_of, AreBytesOf, IsAgainstBytesOf, IsNoMemory}
+use Rattle.hg_join_tests.specs.Quotes.{Lowers, IsAgainstQuote, quote_of, quotes_of, bytes_of, AreBytesOf}
+use Rattle.hg_join_tests.specs.Quotes.{IsAgainstBytesOf, IsNoMemory}
 use Rattle.hg_join_tests.specs.declared.prices.PriceRefusal.{PriceRefusal}
 use Rattle.hg_join_tests.specs.declared.prices.PriceRefusal.TheVariants.{NotLower, OddBytes}
 
@@ -16,7 +18,8 @@ use Rattle.hg_join_tests.specs.declared.prices.PriceRefusal.TheVariants.{NotLowe
 pub quote_is_due : (prices : List (ℕ × ℕ)) (quote : ℕ × ℕ) → IsDue (Lowers prices quote) (IsAgainstQuote prices quote)
 quote_is_due prices quote f g = f (quote ∷ []) ((λ known. g NotLower (known, refl)), refl)
 
-pub memory_is_not_known : (prices : List (ℕ × ℕ)) (quote : ℕ × ℕ) (refusal : PriceRefusal) → IsNoMemory refusal → IsAgainstQuote prices quote refusal → ⊥
+pub memory_is_not_known : (prices : List (ℕ × ℕ)) (quote : ℕ × ℕ) (refusal : PriceRefusal) → IsNoMemory refusal →
+    IsAgainstQuote prices quote refusal → ⊥
 memory_is_not_known prices quote refusal h k = let e : refusal ≡ NotLower = k.1 in cc
 
 -- ---- bytes
@@ -40,41 +43,57 @@ pub length_bytes : (p : List (ℕ × ℕ)) → length (bytes_of p) ≡ 2 * lengt
 length_bytes [] = refl
 length_bytes (x ∷ p) = omega (arith, length_bytes p)
 
-pub spelled_is_even : (bytes : List ℕ) (p : List (ℕ × ℕ)) (refusal : PriceRefusal) → AreBytesOf bytes p → IsAgainstBytesOf bytes refusal → ⊥
-spelled_is_even bytes p refusal h k = let odd : length bytes % 2 ≡ 1 = k.0 in omega (arith, ap length h, length_bytes p, odd)
+pub spelled_is_even : (bytes : List ℕ) (p : List (ℕ × ℕ)) (refusal : PriceRefusal) → AreBytesOf bytes p →
+    IsAgainstBytesOf bytes refusal → ⊥
+spelled_is_even bytes p refusal h k =
+    let odd : length bytes % 2 ≡ 1 = k.0 in omega (arith, ap length h, length_bytes p, odd)
 
 pub bytes_are_due : (bytes : List ℕ) → IsDue (AreBytesOf bytes) (IsAgainstBytesOf bytes)
 bytes_are_due [] f g = f [] refl
 bytes_are_due (x ∷ []) f g = g OddBytes (refl, refl)
-bytes_are_due (x ∷ y ∷ rest) f g = bytes_are_due rest (λ p h. f ((x, y) ∷ p) (ap (λ (zs : List ℕ). x ∷ y ∷ zs) h)) (λ refusal h. let odd : length rest % 2 ≡ 1 = h.0 in g refusal (omega arith, h.1))
+bytes_are_due (x ∷ y ∷ rest) f g =
+    bytes_are_due rest (λ p h. f ((x, y) ∷ p) (ap (λ (zs : List ℕ). x ∷ y ∷ zs) h))
+    (λ refusal h. let odd : length rest % 2 ≡ 1 = h.0 in g refusal (omega arith, h.1))
 
-pub memory_is_not_odd : (bytes : List ℕ) (refusal : PriceRefusal) → IsNoMemory refusal → IsAgainstBytesOf bytes refusal → ⊥
+pub memory_is_not_odd : (bytes : List ℕ) (refusal : PriceRefusal) → IsNoMemory refusal →
+    IsAgainstBytesOf bytes refusal → ⊥
 memory_is_not_odd bytes refusal h k = let e : refusal ≡ OddBytes = k.1 in cc
 
 -- ---- offers
 
 -- what one quote gives to a key is as low as its price there
-given_as_low : (b : Bool) (price : ℕ) (there : Option ℕ) → (b ≡ true → there ≡ Some price) → IsAsLow (cond b (Some price) None) there
+given_as_low : (b : Bool) (price : ℕ) (there : Option ℕ) → (b ≡ true → there ≡ Some price) →
+    IsAsLow (cond b (Some price) None) there
 given_as_low true price there h = subst (IsAsLow (Some price)) (sym (h refl)) (as_low_same (Some price))
 given_as_low false price there h = tt
 
 module _ (price : ℕ → Option ℕ) where
-  quote_as_low : (item k : ℕ) (p : Option ℕ) (quotes : List (ℕ × ℕ)) → price item ≡ p → IsAsLow (lowest_given nat_cmp quotes k) (price k) → IsAsLow (lowest_given nat_cmp (quote_of item p ++ quotes) k) (price k)
+  quote_as_low : (item k : ℕ) (p : Option ℕ) (quotes : List (ℕ × ℕ)) → price item ≡ p →
+      IsAsLow (lowest_given nat_cmp quotes k) (price k) →
+      IsAsLow (lowest_given nat_cmp (quote_of item p ++ quotes) k) (price k)
   quote_as_low item k None quotes e h = h
   quote_as_low item k (Some low) quotes e h =
-      lower_least (given nat_cmp (item, low) k) (lowest_given nat_cmp quotes k) (price k) (given_as_low (is_eq (nat_cmp k item)) low (price k) (λ same. ap price (tells_apart nat_cmp-IsAntisymmetric k item same) ∙ e)) h
+      lower_least (given nat_cmp (item, low) k) (lowest_given nat_cmp quotes k) (price k)
+      (given_as_low (is_eq (nat_cmp k item)) low (price k)
+      (λ same. ap price (tells_apart nat_cmp-IsAntisymmetric k item same) ∙ e)) h
 
   quotes_as_low : (items : List ℕ) (k : ℕ) → IsAsLow (lowest_given nat_cmp (quotes_of price items) k) (price k)
   quotes_as_low [] k = tt
   quotes_as_low (item ∷ items) k = quote_as_low item k (price item) (quotes_of price items) refl (quotes_as_low items k)
 
   -- the quotes of prices say no more than the prices
-  pub quotes_are_covered : (items bytes : List ℕ) (p : List (ℕ × ℕ)) → AreBytesOf bytes (quotes_of price items) → AreBytesOf bytes p → LowsCover nat_cmp price p
-  quotes_are_covered items bytes p h k = subst (LowsCover nat_cmp price) (spelled_tell bytes (quotes_of price items) p h k) (quotes_as_low items)
+  pub quotes_are_covered : (items bytes : List ℕ) (p : List (ℕ × ℕ)) → AreBytesOf bytes (quotes_of price items) →
+      AreBytesOf bytes p → LowsCover nat_cmp price p
+  quotes_are_covered items bytes p h k =
+      subst (LowsCover nat_cmp price) (spelled_tell bytes (quotes_of price items) p h k) (quotes_as_low items)
 
 -- equal prices are quoted alike
-pub quotes_say_same : (f g : ℕ → Option ℕ) (items bytes others : List ℕ) (p q : List (ℕ × ℕ)) → f ≡ g → AreBytesOf bytes (quotes_of f items) → AreBytesOf others (quotes_of g items) → AreBytesOf bytes p → AreBytesOf others q →
+pub quotes_say_same : (f g : ℕ → Option ℕ) (items bytes others : List ℕ) (p q : List (ℕ × ℕ)) → f ≡ g →
+    AreBytesOf bytes (quotes_of f items) → AreBytesOf others (quotes_of g items) → AreBytesOf bytes p →
+    AreBytesOf others q →
     SaySame (λ _. ⊤) (LowsCover nat_cmp) p q
 quotes_say_same f g items bytes others p q e h k x y =
-    let same : p ≡ q = sym (spelled_tell bytes (quotes_of f items) p h x) ∙ ap (λ (price : ℕ → Option ℕ). quotes_of price items) e ∙ spelled_tell others (quotes_of g items) q k y in
+    let same : p ≡ q =
+    sym (spelled_tell bytes (quotes_of f items) p h x) ∙ ap (λ (price : ℕ → Option ℕ). quotes_of price items) e
+    ∙ spelled_tell others (quotes_of g items) q k y in
     λ c v. (λ covers. subst (LowsCover nat_cmp c) same covers, λ covers. subst (LowsCover nat_cmp c) (sym same) covers)

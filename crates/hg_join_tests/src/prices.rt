@@ -3,9 +3,12 @@ ghost use Rattle.std.specs.Prelude.{◌≡◌, ℕ, Option, List, ⊤, IfOk, IfE
 ghost use Rattle.std.specs.Ordering.{nat_cmp};
 ghost use Rattle.std.proofs.Common.{sym, ◌∙◌};
 ghost use Rattle.hg_join.specs.Lows.{LowsBelow, LowsJoined, LowsCover, LowsAfter, lows_of};
-ghost use Rattle.hg_join.specs.LowLaws.{lows_ordered, lows_commute, lows_associate, lows_idempotent, lows_least, lows_stay_covered, lows_absorbed, lows_again, lows_swap};
-ghost use Rattle.hg_join_tests.specs.Quotes.{Lowers, IsAgainstQuote, Quotes as AreQuoted, quotes_of, AreBytesOf, IsAgainstBytesOf, IsNoMemory};
-ghost use Rattle.hg_join_tests.specs.QuoteLaws.{memory_is_not_known, spelled_tell, spelled_is_even, memory_is_not_odd, quotes_are_covered, quotes_say_same};
+ghost use Rattle.hg_join.specs.LowLaws.{lows_ordered, lows_commute, lows_associate, lows_idempotent, lows_least};
+ghost use Rattle.hg_join.specs.LowLaws.{lows_stay_covered, lows_absorbed, lows_again, lows_swap};
+ghost use Rattle.hg_join_tests.specs.Quotes.{Lowers, IsAgainstQuote, Quotes as AreQuoted, quotes_of, AreBytesOf};
+ghost use Rattle.hg_join_tests.specs.Quotes.{IsAgainstBytesOf, IsNoMemory};
+ghost use Rattle.hg_join_tests.specs.QuoteLaws.{memory_is_not_known, spelled_tell, spelled_is_even, memory_is_not_odd};
+ghost use Rattle.hg_join_tests.specs.QuoteLaws.{quotes_are_covered, quotes_say_same};
 ghost use Rattle.hg_join_tests.specs.declared.prices.PriceRefusal.TheVariants.{NoMemory as OutOfMemory};
 
 use hg_join::{Actor, JoinState, LowMap, NoMemory};
@@ -201,7 +204,8 @@ impl Actor for Prices {
 
     ghost offered_is_covered = { λ s items bytes p v. quotes_are_covered (lows_of nat_cmp s) items.items bytes p };
 
-    ghost offered_alike = { λ s t items bytes others p q v. quotes_say_same (lows_of nat_cmp s) (lows_of nat_cmp t) items.items bytes others p q };
+    ghost offered_alike = { λ s t items bytes others p q v. quotes_say_same (lows_of nat_cmp s) (lows_of nat_cmp t)
+        items.items bytes others p q };
 
     ghost spelled_once = { spelled_tell };
 

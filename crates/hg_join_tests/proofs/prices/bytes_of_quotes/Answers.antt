@@ -15,6 +15,10 @@ loop-item-preserved c =
     elim c.match-get.branch [
       | in-Some+in_ok-push+in_ok-push-2 w ↦
           ap (λ (v : Vec ℕ Global). v.items) w.bytes-is
-          ∙ bytes-next_priced price xs i old c.loop-item-test.true c.loop-item.invariant w.in-Some.price w.push.new.self.items w.push-in-Some.new.self.items (sym c.get.ensures ∙ w.in-Some.is) w.in_ok-push.ensures.items w.in_ok-push-2.ensures.items
-      | in_default w ↦ ap (λ (v : Vec ℕ Global). v.items) w.bytes-is ∙ bytes-next_unpriced price xs i old c.loop-item-test.true c.loop-item.invariant (sym c.get.ensures ∙ w.in_default.is)
+          ∙ bytes-next_priced price xs i old c.loop-item-test.true c.loop-item.invariant w.in-Some.price
+          w.push.new.self.items w.push-in-Some.new.self.items (sym c.get.ensures ∙ w.in-Some.is)
+          w.in_ok-push.ensures.items w.in_ok-push-2.ensures.items
+      | in_default w ↦ ap (λ (v : Vec ℕ Global). v.items) w.bytes-is
+          ∙ bytes-next_unpriced price xs i old c.loop-item-test.true c.loop-item.invariant
+          (sym c.get.ensures ∙ w.in_default.is)
     ]
