@@ -9,3 +9,5 @@ mod joining;
 mod opening;
 #[cfg(test)]
 mod parts;
+#[cfg(test)]
+mod rooting;
