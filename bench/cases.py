@@ -124,6 +124,25 @@ def published(size):
         yield f"phase A {label(number)} public"
 
 
+def alternating_published(size):
+    """One node and commits without parents, each with a secret child, made public one by one."""
+    yield "node A"
+    for number in range(0, size, 2):
+        yield f"commit A {label(number)} draft"
+        yield f"commit A {label(number + 1)} secret {label(number)}"
+    for number in range(size):
+        yield f"phase A {label(number)} public"
+
+
+def roots_published(size):
+    """One node and commits without parents, made public one by one in an order that looks like chance."""
+    yield from roots(size)
+    numbers = list(range(size))
+    random.Random(1).shuffle(numbers)
+    for number in numbers:
+        yield f"phase A {label(number)} public"
+
+
 def commits_on_an_obsolete_parent(size):
     """One node and commits on a parent that was amended, but is visible for what stands on it."""
     yield "node A"
@@ -312,6 +331,8 @@ CASES = [
     ("old roots relocated onto the newest", relocations, SMALL, lambda size: 0),
     ("a stack evolved", evolved_stack, (2_500, 5_000, 10_000), lambda size: 0),
     ("a chain published one by one", published, SMALL, lambda size: 0),
+    ("alternating phases published one by one", alternating_published, SMALL, lambda size: 0),
+    ("roots published one by one, scattered", roots_published, SMALL, lambda size: 0),
     ("commits on an obsolete parent", commits_on_an_obsolete_parent, SIZES, lambda size: 0),
     ("commits in a chain, and a report", chain_with_report, SIZES, lambda size: size + 2),
     ("commits in a chain, and 1,000 reports of an empty node", chain_with_empty_reports, SIZES, lambda size: 2_000),
