@@ -1,4 +1,5 @@
-//! The states that this crate brings, a state of a caller's own, and functions over any state; each growth refused in turn.
+//! The states that this crate brings, a state of a caller's own, and functions over any state; each growth refused in
+//! turn.
 ghost use Rattle.std.specs.Prelude.{◌≡◌, ◌≢◌, ℕ, ⊤, IsTrue, IfSome};
 ghost use Rattle.std.proofs.Common.{refl, sym, ◌∙◌};
 
@@ -50,11 +51,20 @@ impl JoinState for Constant {
 
     ghost IsWantOfMemory = { λ fault. ⊥ };
 
-    ghost ordered = { record { reflexive = λ a v. refl; transitive = λ a b c u v w p q. p ∙ q; antisymmetric = λ a b v w p q. p } };
+    ghost ordered = { record {
+      reflexive = λ a v. refl;
+      transitive = λ a b c u v w p q. p ∙ q;
+      antisymmetric = λ a b v w p q. p;
+    } };
 
     ghost stays_covered = { λ a b p v w up c. c ∙ up };
 
-    ghost absorbed = { λ a b p v h. record { valid = tt; above = sym h.1; covers = (h.0 ∙ sym h.1, tt); least = λ other w up c. h.1 ∙ up } };
+    ghost absorbed = { λ a b p v h. record {
+      valid = tt;
+      above = sym h.1;
+      covers = (h.0 ∙ sym h.1, tt);
+      least = λ other w up c. h.1 ∙ up;
+    } };
 
     ghost after_is_admitted = { λ a b p v h. h.0 };
 
@@ -72,11 +82,19 @@ impl JoinState for Constant {
 
     ghost commutes = { λ a b c v w. (λ h. (sym h.0, h.1 ∙ sym h.0), λ h. (sym h.0, h.1 ∙ sym h.0)) };
 
-    ghost associates = { λ a b c abc u v w. (λ h. (b, (h.2.0 ∙ h.1.1 ∙ sym h.1.0, refl), (h.1.0, h.2.1 ∙ h.1.1)), λ h. (a, (sym h.1.1 ∙ h.2.0, refl), (h.1.0 ∙ sym h.1.1 ∙ h.2.0, h.2.1))) };
+    ghost associates = { λ a b c abc u v w. (
+      λ h. (b, (h.2.0 ∙ h.1.1 ∙ sym h.1.0, refl), (h.1.0, h.2.1 ∙ h.1.1)),
+      λ h. (a, (sym h.1.1 ∙ h.2.0, refl), (h.1.0 ∙ sym h.1.1 ∙ h.2.0, h.2.1)),
+    ) };
 
     ghost idempotent = { λ a v. (refl, refl) };
 
-    ghost least = { λ a b c v w h. record { valid = tt; above_first = sym h.1; above_second = h.0 ∙ sym h.1; least = λ other x p q. h.1 ∙ p } };
+    ghost least = { λ a b c v w h. record {
+      valid = tt;
+      above_first = sym h.1;
+      above_second = h.0 ∙ sym h.1;
+      least = λ other x p q. h.1 ∙ p;
+    } };
 
     ghost again = { λ a b p v c h. h.1 };
 

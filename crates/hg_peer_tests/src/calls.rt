@@ -1,10 +1,12 @@
 //! Single calls of a peer: the bytes that it offers and reads, and how its refusals read.
 use hg_changeset::Node;
+use hg_history::Fault;
 use hg_join::Actor;
 use hg_message::{MessageFault, OfferRefusal};
-use hg_peer::{Peer, PeerRefusal};
+use hg_peer::{Numbered, Peer, PeerRefusal};
 use hg_replica::Replica;
 use hg_rewrite::Refusal;
+use hg_world::EventRefusal;
 
 /// A message of nothing: the magic, version 1, no records, no bounds, and a store of 1 byte, which is its version 0.
 const NOTHING: &[u8] = b"HGFX\x01\0\0\0\0\0\0\0\0\0\0\0\x01\0";
@@ -42,4 +44,19 @@ fn refusals_show_their_numbers_and_names(rt: HostRuntime) {
         &rt, "memory",
     );
     assert_eq!(rt; text.as_str(), "Count TooLarge Trailing NoMemory");
+}
+
+#[test]
+fn refused_events_show_their_numbers(rt: HostRuntime) {
+    let refusals: [EventRefusal<PeerRefusal, Fault>; 5] = [
+        EventRefusal::NoNode,
+        EventRefusal::NoMessage,
+        EventRefusal::ByActor(PeerRefusal::Rewrite(Refusal::Count)),
+        EventRefusal::ByState(Fault::NullBound),
+        EventRefusal::ByState(Fault::NoMemory),
+    ];
+    let [node, message, actor, state, memory] = refusals;
+    assert_eq!(rt; [node.number(), message.number()], [Some(1), Some(2)]);
+    assert_eq!(rt; [actor.number(), state.number()], [Some(6), Some(4)]);
+    assert_eq!(rt; memory.number(), None);
 }

@@ -18,8 +18,7 @@ type PeerAnswer = Answer<Change, PeerRefusal, Fault>;
 const A: &[u8] = b"f96ca39738e6588d0bf7020cd1d44a23774c1b77";
 
 /// What an answer tells: how many changesets were added and lowered and how many markers are new, which number a
-/// message
-/// has, or why the event was refused.
+/// message has, or why the event was refused.
 #[derive(Clone, Copy, Debug, PartialEq, Eq)]
 enum Outcome {
     Changed(usize, usize, usize),

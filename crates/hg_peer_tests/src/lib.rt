@@ -9,3 +9,5 @@ mod exchanges;
 mod heard;
 #[cfg(test)]
 mod schedules;
+#[cfg(test)]
+mod states;

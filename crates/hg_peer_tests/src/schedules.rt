@@ -56,8 +56,7 @@ impl Schedule {
     }
 
     /// Runs one event. An accepted one is heard, an offered message is kept; `None` where an answer is none of those
-    /// that
-    /// the states before allow, or memory ran out.
+    /// that the states before allow, or memory ran out.
     fn run(&mut self, event: PeerEvent) -> Option<()> {
         let part = self.part_of(&event);
         let bytes = self.bytes_of(&event);
@@ -214,7 +213,7 @@ impl Schedule {
     }
 
     /// So many times an operation of one peer, its offer of all that it serves, and any message at any peer.
-    fn run_told(&mut self, count: usize) -> Option<()> {
+    fn run_exchanges(&mut self, count: usize) -> Option<()> {
         for number in 0..count {
             let at = self.dice.roll(PEERS);
             let op = self.some_rewrite(at, number)?;
@@ -279,7 +278,7 @@ fn each_peer_has_what_a_plain_list_of_parts_gives(rt: HostRuntime) {
 fn peers_that_took_everything_agree(rt: HostRuntime) {
     let mut schedule = Schedule::new(rt.alloc(), 41).expect(&rt, "memory");
     schedule
-        .run_told(200)
+        .run_exchanges(200)
         .expect(&rt, "answers that the states allow");
     for at in 0..PEERS {
         schedule

@@ -8,8 +8,7 @@ use hg_replica::{Fault, Replica};
 use std::alloc::Global;
 
 // Each changeset has the highest listed phase of its own and its ancestors', in either order, and is public without
-// one.
-// A root that isn't held is dropped.
+// one. A root that isn't held is dropped.
 #[test]
 fn the_highest_listed_phase_counts(rt: HostRuntime) {
     let alloc = rt.alloc();

@@ -4,6 +4,8 @@
 #[cfg(test)]
 mod exchange;
 #[cfg(test)]
+mod labels;
+#[cfg(test)]
 mod streams;
 #[cfg(test)]
 mod tests;

@@ -1,0 +1,67 @@
+//! Peers as states that join: what copying, absorbing and joining leave, and how a fault is told.
+use hg_changeset::{Changeset, Node};
+use hg_history::Fault;
+use hg_join::JoinState;
+use hg_peer::Peer;
+use hg_phases::Phase;
+use hg_replica::{Part, Replica};
+use std::alloc::Global;
+
+/// An id that no changeset here has.
+const ONES: Node = Node([0x11; 20]);
+
+/// The part of one draft changeset under this parent. `None` where memory ran out.
+fn child_of(alloc: Global, parent: Node) -> Option<Part> {
+    let text = Vec::from_slice(alloc, b"text").ok()?;
+    let changeset = Changeset::new(parent, Node::NULL, text).ok()?;
+    let bounds = [(changeset.node(), Phase::Draft)].to_vec(alloc).ok()?;
+    let mut changesets = Vec::new(alloc);
+    changesets.push(changeset).ok()?;
+    Some(Part {
+        changesets,
+        bounds,
+        markers: Vec::new(alloc),
+    })
+}
+
+/// How many changesets a peer holds.
+fn count(peer: &Peer) -> usize {
+    peer.replica().graph().len()
+}
+
+#[test]
+fn a_copy_that_absorbed_is_above_and_is_joined(rt: HostRuntime) {
+    let alloc = rt.alloc();
+    let mut peer = Peer::new(Replica::new(alloc));
+    let part = child_of(alloc, Node::NULL).expect(&rt, "memory");
+    let mut copy = peer.copy().expect(&rt, "memory");
+    let change = copy.absorb(&part).expect(&rt, "a change");
+    assert_eq!(rt; (change.added.len(), count(&copy), count(&peer)), (1, 1, 0));
+    assert_eq!(rt; peer.below(&copy), Ok(true));
+    assert_eq!(rt; copy.below(&peer), Ok(false));
+    assert_eq!(rt; peer.join(&copy), Ok(()));
+    assert_eq!(rt; copy.below(&peer), Ok(true));
+}
+
+#[test]
+fn an_unknown_parent_is_told_and_changes_nothing(rt: HostRuntime) {
+    let alloc = rt.alloc();
+    let mut peer = Peer::new(Replica::new(alloc));
+    let part = child_of(alloc, ONES).expect(&rt, "memory");
+    assert!(rt; peer.absorb(&part).err() == Some(Fault::UnknownParent(ONES)));
+    assert!(rt; peer.absorb_owned(part).err() == Some(Fault::UnknownParent(ONES)));
+    assert_eq!(rt; count(&peer), 0);
+}
+
+#[test]
+fn refused_growth_of_a_peer_changes_nothing(rt: HostRuntime) {
+    let alloc = rt.alloc();
+    let mut peer = Peer::new(Replica::new(alloc));
+    let Some(part) = child_of(alloc, Node::NULL) else {
+        return;
+    };
+    match peer.absorb(&part) {
+        Ok(change) => assert_eq!(rt; (change.added.len(), count(&peer)), (1, 1)),
+        Err(fault) => assert_eq!(rt; (fault, count(&peer)), (Fault::NoMemory, 0)),
+    }
+}
