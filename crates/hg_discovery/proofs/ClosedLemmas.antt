@@ -9,7 +9,8 @@ use Rattle.hg_discovery.specs.Answers.{IsDecided}
 use Rattle.hg_discovery.proofs.UnderLemmas.{not_both_uc, not_both_um, three, under_then, parent_under}
 
 -- what an answer leaves is closed
-pub decided_closed : (ps : List ParentPlaces) (k : ℕ) (said : Bool) (old new : List Status) → length old ≡ length ps → IsInOrder ps → IsClosed ps old → IsDecided ps k said old new → IsClosed ps new
+pub decided_closed : (ps : List ParentPlaces) (k : ℕ) (said : Bool) (old new : List Status) → length old ≡ length ps
+    → IsInOrder ps → IsClosed ps old → IsDecided ps k said old new → IsClosed ps new
 decided_closed ps place said old new len order closed d = record {
   common = λ j k q h. elim ((d.common j).0 h) [
     | inl o ↦ (d.common k).1 (inl (closed.common j k q o))

@@ -1,5 +1,7 @@
 -- How many rounds a discovery takes.
-use Rattle.std.proofs.Common.{◌≡◌, ◌≢◌, ◌↔◌, ◌⊎◌, ℕ, zero, suc, ◌<◌, ◌≤◌, ◌+◌, ◌-◌, ◌*◌, inl, inr, Bool, List, [], ◌∷◌, ◌++◌, length, get_or, set, slice_get, Some, Contains, IsTrue, refl, sym, ap, subst, ◌∙◌, arith}
+use Rattle.std.proofs.Common.{◌≡◌, ◌≢◌, ◌↔◌, ◌⊎◌, ℕ, zero, suc, ◌<◌, ◌≤◌, ◌+◌, ◌-◌, ◌*◌, inl, inr, Bool, List, [], ◌∷◌}
+use Rattle.std.proofs.Common.{◌++◌, length, get_or, set, slice_get, Some, Contains, IsTrue, refl, sym, ap, subst, ◌∙◌}
+use Rattle.std.proofs.Common.{arith}
 use Rattle.std.specs.Bool.{◌==◌}
 use Rattle.std.proofs.lemmas.Bool.{cases_order}
 use Rattle.std.proofs.lemmas.List.{length-set}
@@ -32,17 +34,23 @@ some_undecided (Common ∷ ds) e (suc k) h = some_undecided ds e k h
 some_undecided (Missing ∷ ds) e zero h = let c : Missing ≡ Undecided = same_Some Missing Undecided h in cc
 some_undecided (Missing ∷ ds) e (suc k) h = some_undecided ds e k h
 
-fewer : (old new : List Status) → length new ≡ length old → ((k : ℕ) → Is new Undecided k → Is old Undecided k) → undecided new ≤ undecided old
+fewer : (old new : List Status) → length new ≡ length old → ((k : ℕ) → Is new Undecided k → Is old Undecided k)
+    → undecided new ≤ undecided old
 fewer [] [] len within = omega arith
 fewer [] (d ∷ new) len within = absurd (omega (arith, len))
 fewer (d ∷ old) [] len within = absurd (omega (arith, len))
-fewer (Undecided ∷ old) (Undecided ∷ new) len within = let le = fewer old new (omega (arith, len)) (λ k. within (suc k)) in omega (arith, le)
-fewer (Undecided ∷ old) (Common ∷ new) len within = let le = fewer old new (omega (arith, len)) (λ k. within (suc k)) in omega (arith, le)
-fewer (Undecided ∷ old) (Missing ∷ new) len within = let le = fewer old new (omega (arith, len)) (λ k. within (suc k)) in omega (arith, le)
-fewer (Common ∷ old) (Undecided ∷ new) len within = let c : Common ≡ Undecided = same_Some Common Undecided (within zero refl) in cc
+fewer (Undecided ∷ old) (Undecided ∷ new) len within = let le =
+    fewer old new (omega (arith, len)) (λ k. within (suc k)) in omega (arith, le)
+fewer (Undecided ∷ old) (Common ∷ new) len within = let le = fewer old new (omega (arith, len))
+    (λ k. within (suc k)) in omega (arith, le)
+fewer (Undecided ∷ old) (Missing ∷ new) len within = let le =
+    fewer old new (omega (arith, len)) (λ k. within (suc k)) in omega (arith, le)
+fewer (Common ∷ old) (Undecided ∷ new) len within = let c : Common ≡ Undecided =
+    same_Some Common Undecided (within zero refl) in cc
 fewer (Common ∷ old) (Common ∷ new) len within = fewer old new (omega (arith, len)) (λ k. within (suc k))
 fewer (Common ∷ old) (Missing ∷ new) len within = fewer old new (omega (arith, len)) (λ k. within (suc k))
-fewer (Missing ∷ old) (Undecided ∷ new) len within = let c : Missing ≡ Undecided = same_Some Missing Undecided (within zero refl) in cc
+fewer (Missing ∷ old) (Undecided ∷ new) len within = let c : Missing ≡ Undecided =
+    same_Some Missing Undecided (within zero refl) in cc
 fewer (Missing ∷ old) (Common ∷ new) len within = fewer old new (omega (arith, len)) (λ k. within (suc k))
 fewer (Missing ∷ old) (Missing ∷ new) len within = fewer old new (omega (arith, len)) (λ k. within (suc k))
 
@@ -51,7 +59,8 @@ not_counted Undecided ds ne = absurd (ne refl)
 not_counted Common ds ne = refl
 not_counted Missing ds ne = refl
 
-pub one_less : (ds : List Status) (k : ℕ) (d : Status) → d ≢ Undecided → Is ds Undecided k → undecided ds ≡ suc (undecided (set ds k d))
+pub one_less : (ds : List Status) (k : ℕ) (d : Status) → d ≢ Undecided → Is ds Undecided k
+    → undecided ds ≡ suc (undecided (set ds k d))
 one_less [] k d ne h = absurd (none-some Undecided h)
 one_less (Undecided ∷ ds) zero d ne h = ap suc (sym (not_counted d ds ne))
 one_less (Common ∷ ds) zero d ne h = let c : Common ≡ Undecided = same_Some Common Undecided h in cc
@@ -65,7 +74,9 @@ abbrev AreApart : List Spot → Type 0
 AreApart xs = (i j : ℕ) (x y : Spot) → slice_get xs i ≡ Some x → slice_get xs j ≡ Some y → x.place ≡ y.place → i ≡ j
 
 -- those who were asked about were undecided, and aren't any more
-decided_count : (xs : List Spot) (old new : List Status) → length new ≡ length old → AreApart xs → ((i : ℕ) (x : Spot) → slice_get xs i ≡ Some x → Is old Undecided x.place) → ((i : ℕ) (x : Spot) → slice_get xs i ≡ Some x → Is new Undecided x.place → ⊥)
+decided_count : (xs : List Spot) (old new : List Status) → length new ≡ length old → AreApart xs
+    → ((i : ℕ) (x : Spot) → slice_get xs i ≡ Some x → Is old Undecided x.place)
+    → ((i : ℕ) (x : Spot) → slice_get xs i ≡ Some x → Is new Undecided x.place → ⊥)
     → ((k : ℕ) → Is new Undecided k → Is old Undecided k) → undecided new + length xs ≤ undecided old
 decided_count [] old new len apart was not_now within = let le = fewer old new len within in omega (arith, le)
 decided_count (x ∷ xs) old new len apart was not_now within =
@@ -75,7 +86,8 @@ decided_count (x ∷ xs) old new len apart was not_now within =
     let rest = decided_count xs mid new (len ∙ sym (length-set old x.place Common))
     (λ i j y z at_y at_z e. let same : suc i ≡ suc j = apart (suc i) (suc j) y z at_y at_z e in omega (arith, same))
     (λ i y at_y.
-    let ne : y.place ≢ x.place = λ (e : y.place ≡ x.place). let bad : suc i ≡ zero = apart (suc i) zero y x at_y refl e in omega (arith, bad) in
+    let ne : y.place ≢ x.place = λ (e : y.place ≡ x.place). let bad : suc i ≡ zero =
+    apart (suc i) zero y x at_y refl e in omega (arith, bad) in
     get-set_other old x.place y.place Common ne ∙ was (suc i) y at_y)
     (λ i. not_now (suc i))
     (λ k h.
@@ -85,25 +97,34 @@ decided_count (x ∷ xs) old new len apart was not_now within =
 
 -- ---- a sample has no doubles
 
-ascending_apart : (xs : List Spot) → IsAscending xs → (i j : ℕ) (x : Spot) → slice_get xs i ≡ Some x → slice_get xs j ≡ Some x → i < j → ⊥
+ascending_apart : (xs : List Spot) → IsAscending xs → (i j : ℕ) (x : Spot) → slice_get xs i ≡ Some x
+    → slice_get xs j ≡ Some x → i < j → ⊥
 ascending_apart xs up i j x at_i at_j lt =
     let less = up i j x lt (slice_get_within xs j x at_j) in
     let first = get_or_from_slice_get xs i x x at_i in
     let second = get_or_from_slice_get xs j x x at_j in
     same_not_less (get_or xs i x).node (get_or xs j x).node (ap (λ (y : Spot). y.node) (first ∙ sym second)) less
 
-ascending_once : (xs : List Spot) → IsAscending xs → (i j : ℕ) (x : Spot) → slice_get xs i ≡ Some x → slice_get xs j ≡ Some x → i ≡ j
+ascending_once : (xs : List Spot) → IsAscending xs → (i j : ℕ) (x : Spot) → slice_get xs i ≡ Some x
+    → slice_get xs j ≡ Some x → i ≡ j
 ascending_once xs up i j x at_i at_j = elim (cases_order i j) [
   | inl e ↦ e
-  | inr o ↦ elim o [ inl l ↦ absurd (ascending_apart xs up i j x at_i at_j l) | inr l ↦ absurd (ascending_apart xs up j i x at_j at_i l) ]
+  | inr o ↦ elim o [
+    | inl l ↦ absurd (ascending_apart xs up i j x at_i at_j l)
+    | inr l ↦
+        absurd (ascending_apart xs up j i x at_j at_i l)
+  ]
 ]
 
-append_cases : (xs ys : List Spot) (i : ℕ) (x : Spot) → slice_get (xs ++ ys) i ≡ Some x → (slice_get xs i ≡ Some x) ⊎ ((j : ℕ) × (i ≡ length xs + j) × (slice_get ys j ≡ Some x))
+append_cases : (xs ys : List Spot) (i : ℕ) (x : Spot) → slice_get (xs ++ ys) i ≡ Some x
+    → (slice_get xs i ≡ Some x) ⊎ ((j : ℕ) × (i ≡ length xs + j) × (slice_get ys j ≡ Some x))
 append_cases [] ys i x h = inr (i, omega arith, h)
 append_cases (z ∷ xs) ys zero x h = inl h
-append_cases (z ∷ xs) ys (suc i) x h = elim (append_cases xs ys i x h) [ inl a ↦ inl a | inr b ↦ inr (b.0, omega (arith, b.1), b.2) ]
+append_cases (z ∷ xs) ys (suc i) x h = elim (append_cases xs ys i x h)
+    [ inl a ↦ inl a | inr b ↦ inr (b.0, omega (arith, b.1), b.2) ]
 
-append_once : (xs ys : List Spot) → IsAscending xs → IsAscending ys → ((x : Spot) → Contains xs x → Contains ys x → ⊥) → (i j : ℕ) (x : Spot) → slice_get (xs ++ ys) i ≡ Some x → slice_get (xs ++ ys) j ≡ Some x → i ≡ j
+append_once : (xs ys : List Spot) → IsAscending xs → IsAscending ys → ((x : Spot) → Contains xs x → Contains ys x → ⊥)
+    → (i j : ℕ) (x : Spot) → slice_get (xs ++ ys) i ≡ Some x → slice_get (xs ++ ys) j ≡ Some x → i ≡ j
 append_once xs ys up_x up_y never i j x at_i at_j = elim (append_cases xs ys i x at_i) [
   | inl a ↦ elim (append_cases xs ys j x at_j) [
     | inl b ↦ ascending_once xs up_x i j x a b
@@ -124,12 +145,15 @@ asked_apart s known i j x y at_x at_y e =
     let same : x ≡ y = known.spots.apart x y spot_x spot_y e in
     let in_x = (get-take all 200 i x (subst (λ zs. slice_get zs i ≡ Some x) sample.first at_x)).1 in
     let in_y = (get-take all 200 j y (subst (λ zs. slice_get zs j ≡ Some y) sample.first at_y)).1 in
-    append_once sample.heads sample.others sample.heads_are.0 sample.others_are.0 (λ z h o. ((sample.others_are.1 z).0 o).1 ((sample.heads_are.1 z).0 h)) i j x in_x (subst (λ z. slice_get all j ≡ Some z) (sym same) in_y)
+    append_once sample.heads sample.others sample.heads_are.0 sample.others_are.0
+    (λ z h o. ((sample.others_are.1 z).0 o).1 ((sample.heads_are.1 z).0 h)) i j x in_x
+    (subst (λ z. slice_get all j ≡ Some z) (sym same) in_y)
 
 -- ---- a round
 
 -- 200 are decided, or all
-pub round_count : (s t : Search) (answers : List Bool) → IsSearch s → IsRound s answers t → undecided t.decided ≤ undecided s.decided - 200
+pub round_count : (s t : Search) (answers : List Bool) → IsSearch s → IsRound s answers t
+    → undecided t.decided ≤ undecided s.decided - 200
 round_count s t answers known round =
     let len = told_length s.parents s.asked answers s.decided t.decided round.told in
     let within = undecided_before s.parents s.asked answers s.decided t.decided round.told in
@@ -149,16 +173,23 @@ round_count s t answers known round =
       ]
     ]
   where
-    count : length t.decided ≡ length s.decided → ((k : ℕ) → Is t.decided Undecided k → Is s.decided Undecided k) → ((i : ℕ) (x : Spot) → slice_get s.asked i ≡ Some x → Is t.decided Undecided x.place → ⊥) → undecided t.decided + length s.asked ≤ undecided s.decided
+    count : length t.decided ≡ length s.decided → ((k : ℕ) → Is t.decided Undecided k → Is s.decided Undecided k)
+        → ((i : ℕ) (x : Spot) → slice_get s.asked i ≡ Some x → Is t.decided Undecided x.place → ⊥)
+        → undecided t.decided + length s.asked ≤ undecided s.decided
     count len within decided =
-        decided_count s.asked s.decided t.decided len (asked_apart s known) (λ i x at. (sample_member s s.asked known.sample x (Contains-from_place s.asked i x at)).1) decided within
+        decided_count s.asked s.decided t.decided len (asked_apart s known)
+        (λ i x at. (sample_member s s.asked known.sample x (Contains-from_place s.asked i x at)).1) decided within
 
 -- done is where nothing is counted
-pub done_count : (s : Search) → IsSearch s → (b : Bool) → b ≡ (length s.asked == 0) → IsTrue b ↔ (undecided s.decided ≡ 0)
-done_count s known b is = let all = done_is s known b is in ((λ t. none_undecided s.decided (all.0 t)), (λ zero_is. all.1 (some_undecided s.decided zero_is)))
+pub done_count : (s : Search) → IsSearch s → (b : Bool) → b ≡ (length s.asked == 0)
+    → IsTrue b ↔ (undecided s.decided ≡ 0)
+done_count s known b is = let all = done_is s known b is in
+    ((λ t. none_undecided s.decided (all.0 t)), (λ zero_is. all.1 (some_undecided s.decided zero_is)))
 
-pub rounds_count : (rounds : List (List Bool)) (s t : Search) → IsSearch s → AreRounds s rounds t → undecided t.decided ≤ undecided s.decided - 200 * length rounds
-rounds_count [] s t known e = let same : undecided t.decided ≡ undecided s.decided = ap (λ (u : Search). undecided u.decided) e in omega (arith, same)
+pub rounds_count : (rounds : List (List Bool)) (s t : Search) → IsSearch s → AreRounds s rounds t
+    → undecided t.decided ≤ undecided s.decided - 200 * length rounds
+rounds_count [] s t known e = let same : undecided t.decided ≡ undecided s.decided =
+    ap (λ (u : Search). undecided u.decided) e in omega (arith, same)
 rounds_count (answers ∷ rest) s t known run =
     let one = round_count s run.0 answers known run.1 in
     let more = rounds_count rest run.0 t run.1.search run.2 in

@@ -1,5 +1,6 @@
 -- Tests of what is decided.
-use Rattle.std.proofs.Common.{◌≡◌, ℕ, ◌<◌, Bool, true, false, List, length, get_or, Some, refl, sym, ap, ◌∙◌, true≢false, subst}
+use Rattle.std.proofs.Common.{◌≡◌, ℕ, ◌<◌, Bool, true, false, List, length, get_or, Some, refl, sym, ap, ◌∙◌}
+use Rattle.std.proofs.Common.{true≢false, subst}
 use Rattle.std.proofs.lemmas.Option.{slice_get-get_or, get_or_from_slice_get}
 use mathlib.Core.Bool.{beq}
 use denote.Enum.Bare.{sameb}
@@ -25,10 +26,12 @@ same_itself Common = refl
 same_itself Missing = refl
 
 -- what was read at a place
-pub read_so : (ds : List Status) (k : ℕ) (d e : Status) (b : Bool) → k < length ds → b ≡ sameb the_type (get_or ds k d) e → b ≡ true → Is ds e k
+pub read_so : (ds : List Status) (k : ℕ) (d e : Status) (b : Bool) → k < length ds
+    → b ≡ sameb the_type (get_or ds k d) e → b ≡ true → Is ds e k
 read_so ds k d e b l is t = slice_get-get_or ds k d l ∙ ap (λ x. Some x) (same (get_or ds k d) e (sym is ∙ t))
 
-pub read_not_so : (ds : List Status) (k : ℕ) (d e : Status) (b : Bool) → b ≡ sameb the_type (get_or ds k d) e → b ≡ false → Is ds e k → ⊥
+pub read_not_so : (ds : List Status) (k : ℕ) (d e : Status) (b : Bool) → b ≡ sameb the_type (get_or ds k d) e
+    → b ≡ false → Is ds e k → ⊥
 read_not_so ds k d e b is f h =
     let at : get_or ds k d ≡ e = get_or_from_slice_get ds k e d h in
     true≢false (sym (is ∙ ap (λ x. sameb the_type x e) at ∙ same_itself e) ∙ f)

@@ -1,9 +1,13 @@
 -- The next sample.
-use Rattle.std.proofs.Common.{◌≡◌, ◌↔◌, ◌⊎◌, ℕ, zero, suc, ◌<◌, ◌≤◌, ◌+◌, min, inl, inr, Bool, true, false, ◌&&◌, List, [], ◌∷◌, ◌++◌, append_assoc, length, length-append, get_or, filter, take, replicate, slice_get, Option, Some, None, Contains, IsTrue, refl, sym, ap, subst, ◌∙◌, arith, cond, true≢false, eq-eqb, eqb-true}
+use Rattle.std.proofs.Common.{◌≡◌, ◌↔◌, ◌⊎◌, ℕ, zero, suc, ◌<◌, ◌≤◌, ◌+◌, min, inl, inr, Bool, true, false, ◌&&◌, List}
+use Rattle.std.proofs.Common.{[], ◌∷◌, ◌++◌, append_assoc, length, length-append, get_or, filter, take, replicate}
+use Rattle.std.proofs.Common.{slice_get, Option, Some, None, Contains, IsTrue, refl, sym, ap, subst, ◌∙◌, arith, cond}
+use Rattle.std.proofs.Common.{true≢false, eq-eqb, eqb-true}
 use Rattle.std.specs.Bool.{◌==◌}
 use Rattle.std.proofs.lemmas.Bool.{cases_eq}
 use Rattle.std.proofs.lemmas.List.{length-replicate, length-take, take_all, take-append-le, append-nil}
-use Rattle.std.proofs.lemmas.List.Elements.{filter_more, Contains-append_left, Contains-append_right, Contains-append_cases}
+use Rattle.std.proofs.lemmas.List.Elements.{filter_more, Contains-append_left, Contains-append_right}
+use Rattle.std.proofs.lemmas.List.Elements.{Contains-append_cases}
 use Rattle.std.proofs.lemmas.List.Kept.{AllPairs-filter}
 use Rattle.std.proofs.lemmas.Option.{same_Some, slice_get_within}
 use Rattle.std.specs.declared.cmp.Ordering.TheVariants.{Less}
@@ -11,7 +15,8 @@ use Rattle.hg_changeset.specs.Node.{node_cmp}
 use Rattle.hg_graph.specs.declared.graph.ParentPlaces.{ParentPlaces}
 use Rattle.hg_graph.proofs.GraphLemmas.{get-take, Contains-from_place, place_from_Contains}
 use Rattle.hg_graph.proofs.MarkLemmas.{unmarked}
-use Rattle.hg_changeset.proofs.ListLemmas.{Contains-cons_cases, Contains-first, Contains-later, Contains-none, slice_get_some}
+use Rattle.hg_changeset.proofs.ListLemmas.{Contains-cons_cases, Contains-first, Contains-later, Contains-none}
+use Rattle.hg_changeset.proofs.ListLemmas.{slice_get_some}
 use Rattle.hg_discovery.specs.declared.status.Status.{Status}
 use Rattle.hg_discovery.specs.declared.status.Status.TheVariants.{Undecided, Common, Missing}
 use Rattle.hg_discovery.specs.declared.status.Spot.{Spot}
@@ -24,11 +29,13 @@ use Rattle.hg_discovery.proofs.UnderLemmas.{parent_under, child_on_way}
 -- ---- marks
 
 -- the marks of the parents of the changesets before the place i
-pub record IsCoveredTo (ps : List ParentPlaces) (ds : List Status) (d : Status) (i : ℕ) (marks : List Bool) : Type 0 where
+pub record IsCoveredTo (ps : List ParentPlaces) (ds : List Status) (d : Status) (i : ℕ)
+    (marks : List Bool) : Type 0 where
   pub len : length marks ≡ length ds
   pub each : (k : ℕ) → k < length ds → IsMarked marks k ↔ ((j : ℕ) × (j < i) × IsParentAt ps j k × Is ds d j)
 
-pub MarksPlace-then : (P Q R : ℕ → Type 0) (a b c : List Bool) → MarksPlace P a b → MarksPlace Q b c → ((k : ℕ) → R k ↔ (P k ⊎ Q k)) → MarksPlace R a c
+pub MarksPlace-then : (P Q R : ℕ → Type 0) (a b c : List Bool) → MarksPlace P a b → MarksPlace Q b c
+    → ((k : ℕ) → R k ↔ (P k ⊎ Q k)) → MarksPlace R a c
 MarksPlace-then P Q R a b c first next joins = record {
   len = next.len ∙ first.len;
   each = λ k l.
@@ -54,7 +61,8 @@ module _ (ps : List ParentPlaces) (ds : List Status) (d : Status) where
     each = λ k l. (λ m. absurd (unmarked n k m), λ h. absurd (omega (arith, h.1)));
   }
 
-  pub IsCoveredTo-other : (i : ℕ) (marks : List Bool) → IsCoveredTo ps ds d i marks → (Is ds d i → ⊥) → IsCoveredTo ps ds d (i + 1) marks
+  pub IsCoveredTo-other : (i : ℕ) (marks : List Bool) → IsCoveredTo ps ds d i marks → (Is ds d i → ⊥)
+      → IsCoveredTo ps ds d (i + 1) marks
   IsCoveredTo-other i marks c never = record {
     len = c.len;
     each = λ k l. (
@@ -66,7 +74,8 @@ module _ (ps : List ParentPlaces) (ds : List Status) (d : Status) where
     );
   }
 
-  pub IsCoveredTo-so : (i : ℕ) (marks new : List Bool) (p : ParentPlaces) → IsCoveredTo ps ds d i marks → slice_get ps i ≡ Some p → Is ds d i → MarksPlace (IsOneOf p) marks new → IsCoveredTo ps ds d (i + 1) new
+  pub IsCoveredTo-so : (i : ℕ) (marks new : List Bool) (p : ParentPlaces) → IsCoveredTo ps ds d i marks
+      → slice_get ps i ≡ Some p → Is ds d i → MarksPlace (IsOneOf p) marks new → IsCoveredTo ps ds d (i + 1) new
   IsCoveredTo-so i marks new p c at so also = record {
     len = also.len ∙ c.len;
     each = λ k l.
@@ -85,7 +94,8 @@ module _ (ps : List ParentPlaces) (ds : List Status) (d : Status) where
         );
   }
 
-  pub IsCoveredTo-end : (i : ℕ) (marks : List Bool) → length ps ≤ i → IsCoveredTo ps ds d i marks → AreCovered ps ds d marks
+  pub IsCoveredTo-end : (i : ℕ) (marks : List Bool) → length ps ≤ i → IsCoveredTo ps ds d i marks
+      → AreCovered ps ds d marks
   IsCoveredTo-end i marks le c = record {
     len = c.len;
     each = λ k l. (
@@ -101,20 +111,25 @@ take_front zero xs ys = refl
 take_front (suc n) [] ys = refl
 take_front (suc n) (x ∷ xs) ys = ap (λ zs. x ∷ zs) (take_front n xs ys)
 
-module _ (test : Spot → Bool) (limit : ℕ) (old xs : List Spot) (i : ℕ) (d : Spot) (lt : i < length xs) (found : List Spot) (inv : found ≡ take limit (old ++ filter test (take i xs))) where
+module _ (test : Spot → Bool) (limit : ℕ) (old xs : List Spot) (i : ℕ) (d : Spot) (lt : i < length xs)
+    (found : List Spot) (inv : found ≡ take limit (old ++ filter test (take i xs))) where
   more : filter test (take (i + 1) xs) ≡ filter test (take i xs) ++ cond (test (get_or xs i d)) (get_or xs i d ∷ []) []
   more = filter_more test xs i d lt
 
   abbrev seen : List Spot
   seen = old ++ filter test (take i xs)
 
-  pub pick_push : length found < limit → test (get_or xs i d) ≡ true → found ++ get_or xs i d ∷ [] ≡ take limit (old ++ filter test (take (i + 1) xs))
+  pub pick_push : length found < limit → test (get_or xs i d) ≡ true
+      → found ++ get_or xs i d ∷ [] ≡ take limit (old ++ filter test (take (i + 1) xs))
   pick_push short t =
       let x = get_or xs i d in
       let long : length found ≡ min limit (length seen) = ap length inv ∙ length-take limit seen in
       let all : found ≡ seen = inv ∙ take_all limit seen (omega (arith, long, short)) in
-      let whole : take limit (seen ++ x ∷ []) ≡ seen ++ x ∷ [] = take_all limit (seen ++ x ∷ []) (omega (arith, length-append seen (x ∷ []), long, short)) in
-      let grown : old ++ filter test (take (i + 1) xs) ≡ seen ++ x ∷ [] = ap (λ zs. old ++ zs) (more ∙ ap (λ b. filter test (take i xs) ++ cond b (x ∷ []) []) t) ∙ sym (append_assoc old (filter test (take i xs)) (x ∷ [])) in
+      let whole : take limit (seen ++ x ∷ []) ≡ seen ++ x ∷ [] =
+      take_all limit (seen ++ x ∷ []) (omega (arith, length-append seen (x ∷ []), long, short)) in
+      let grown : old ++ filter test (take (i + 1) xs) ≡ seen ++ x ∷ [] =
+      ap (λ zs. old ++ zs) (more ∙ ap (λ b. filter test (take i xs) ++ cond b (x ∷ []) []) t)
+      ∙ sym (append_assoc old (filter test (take i xs)) (x ∷ [])) in
       ap (λ zs. zs ++ x ∷ []) all ∙ sym whole ∙ sym (ap (take limit) grown)
 
   pub pick_skip : (test (get_or xs i d) ≡ true → ⊥) → found ≡ take limit (old ++ filter test (take (i + 1) xs))
@@ -122,13 +137,16 @@ module _ (test : Spot → Bool) (limit : ℕ) (old xs : List Spot) (i : ℕ) (d 
     where
       by : (b : Bool) → test (get_or xs i d) ≡ b → found ≡ take limit (old ++ filter test (take (i + 1) xs))
       by true e = absurd (never e)
-      by false e = inv ∙ ap (λ zs. take limit (old ++ zs)) (sym (append-nil (filter test (take i xs))) ∙ sym (more ∙ ap (λ b. filter test (take i xs) ++ cond b (get_or xs i d ∷ []) []) e))
+      by false e = inv ∙ ap (λ zs. take limit (old ++ zs)) (sym (append-nil (filter test (take i xs)))
+          ∙ sym (more ∙ ap (λ b. filter test (take i xs) ++ cond b (get_or xs i d ∷ []) []) e))
 
   pub pick_full : limit ≤ length found → found ≡ take limit (old ++ filter test (take (i + 1) xs))
   pick_full full =
       let rest = cond (test (get_or xs i d)) (get_or xs i d ∷ []) [] in
       let long : length found ≡ min limit (length seen) = ap length inv ∙ length-take limit seen in
-      inv ∙ sym (take-append-le limit seen rest (omega (arith, long, full))) ∙ ap (take limit) (append_assoc old (filter test (take i xs)) rest) ∙ ap (λ zs. take limit (old ++ zs)) (sym more)
+      inv ∙ sym (take-append-le limit seen rest (omega (arith, long, full)))
+      ∙ ap (take limit) (append_assoc old (filter test (take i xs)) rest)
+      ∙ ap (λ zs. take limit (old ++ zs)) (sym more)
 
 -- ---- the test
 
@@ -171,7 +189,8 @@ both_of false false h = absurd (true≢false (sym h))
 
 module _ (ds : List Status) (marks : List Bool) (d : Status) (b : Bool) (x : Spot) where
   pub picked : Is ds d x.place → slice_get marks x.place ≡ Some b → is_picked ds marks d b x ≡ true
-  picked so mark = (λ i. is_decided (so i) d && is_mark (mark i) b) ∙ (λ i. same_decided_itself d i && is_mark_itself b i)
+  picked so mark = (λ i. is_decided (so i) d && is_mark (mark i) b)
+      ∙ (λ i. same_decided_itself d i && is_mark_itself b i)
 
   pub from_picked : is_picked ds marks d b x ≡ true → Is ds d x.place × (slice_get marks x.place ≡ Some b)
   from_picked h =
@@ -180,29 +199,38 @@ module _ (ds : List Status) (marks : List Bool) (d : Status) (b : Bool) (x : Spo
 
 -- ---- what a filter keeps
 
-kept_by : {X : Type 0} (test : X → Bool) (x : X) (xs : List X) (y : X) → (Contains xs y → Contains (filter test xs) y) → IsTrue (test y) → (b : Bool) → test x ≡ b → (x ≡ y) ⊎ Contains xs y → Contains (filter test (x ∷ xs)) y
-kept_by test x xs y rest t true e (inl is) = rw e (subst (Contains (x ∷ filter test xs)) is (Contains-first x (filter test xs)))
+kept_by : {X : Type 0} (test : X → Bool) (x : X) (xs : List X) (y : X) → (Contains xs y → Contains (filter test xs) y)
+    → IsTrue (test y) → (b : Bool) → test x ≡ b → (x ≡ y) ⊎ Contains xs y → Contains (filter test (x ∷ xs)) y
+kept_by test x xs y rest t true e (inl is) =
+    rw e (subst (Contains (x ∷ filter test xs)) is (Contains-first x (filter test xs)))
 kept_by test x xs y rest t true e (inr later) = rw e (Contains-later x (filter test xs) y (rest later))
 kept_by test x xs y rest t false e (inl is) = absurd (true≢false (sym t ∙ sym (ap test is) ∙ e))
 kept_by test x xs y rest t false e (inr later) = rw e (rest later)
 
-pub kept : {X : Type 0} (test : X → Bool) (xs : List X) (y : X) → Contains xs y → IsTrue (test y) → Contains (filter test xs) y
+pub kept : {X : Type 0} (test : X → Bool) (xs : List X) (y : X) → Contains xs y → IsTrue (test y)
+    → Contains (filter test xs) y
 kept test [] y h t = absurd (Contains-none y h)
-kept test (x ∷ xs) y h t = kept_by test x xs y (λ later. kept test xs y later t) t (test x) refl (Contains-cons_cases x xs y h)
+kept test (x ∷ xs) y h t = kept_by test x xs y (λ later. kept test xs y later t) t (test x) refl
+    (Contains-cons_cases x xs y h)
 
-passed_by : {X : Type 0} (test : X → Bool) (x : X) (xs : List X) (y : X) → (Contains (filter test xs) y → Contains xs y × IsTrue (test y)) → (b : Bool) → test x ≡ b → Contains (filter test (x ∷ xs)) y → Contains (x ∷ xs) y × IsTrue (test y)
+passed_by : {X : Type 0} (test : X → Bool) (x : X) (xs : List X) (y : X)
+    → (Contains (filter test xs) y → Contains xs y × IsTrue (test y)) → (b : Bool) → test x ≡ b
+    → Contains (filter test (x ∷ xs)) y → Contains (x ∷ xs) y × IsTrue (test y)
 passed_by test x xs y rest true e g = elim (Contains-cons_cases x (filter test xs) y (rw e at g)) [
   | inl is ↦ (subst (Contains (x ∷ xs)) is (Contains-first x xs), subst (λ z. IsTrue (test z)) is e)
   | inr r ↦ let p = rest r in (Contains-later x xs y p.0, p.1)
 ]
 passed_by test x xs y rest false e g = let p = rest (rw e at g) in (Contains-later x xs y p.0, p.1)
 
-pub passed : {X : Type 0} (test : X → Bool) (xs : List X) (y : X) → Contains (filter test xs) y → Contains xs y × IsTrue (test y)
+pub passed : {X : Type 0} (test : X → Bool) (xs : List X) (y : X) → Contains (filter test xs) y
+    → Contains xs y × IsTrue (test y)
 passed test [] y h = absurd (Contains-none y h)
 passed test (x ∷ xs) y h = passed_by test x xs y (passed test xs y) (test x) refl h
 
-shorter : {X : Type 0} (test : X → Bool) (x : X) (xs : List X) (b : Bool) → test x ≡ b → length (filter test xs) ≤ length xs → length (filter test (x ∷ xs)) ≤ length (x ∷ xs)
-shorter test x xs true e le = rw e (let grown : length (x ∷ filter test xs) ≤ length (x ∷ xs) = omega (arith, le) in grown)
+shorter : {X : Type 0} (test : X → Bool) (x : X) (xs : List X) (b : Bool) → test x ≡ b
+    → length (filter test xs) ≤ length xs → length (filter test (x ∷ xs)) ≤ length (x ∷ xs)
+shorter test x xs true e le = rw e (let grown : length (x ∷ filter test xs) ≤ length (x ∷ xs) = omega (arith, le) in
+    grown)
 shorter test x xs false e le = rw e (let grown : length (filter test xs) ≤ length (x ∷ xs) = omega (arith, le) in grown)
 
 pub short_filter : {X : Type 0} (test : X → Bool) (xs : List X) → length (filter test xs) ≤ length xs
@@ -219,15 +247,20 @@ Contains-take n xs x h =
 abbrev Before : Spot → Spot → Type 0
 Before x y = node_cmp x.node y.node ≡ Less
 
-module _ (s : Search) (so : Status) (marks : List Bool) (order : IsInOrder s.parents) (spots : AreSpots s.decided s.spots) (covered : AreCovered s.parents s.decided so marks) (convex : (k m j : ℕ) → IsUnder s.parents k m → IsUnder s.parents m j → Is s.decided so k → Is s.decided so j → Is s.decided so m) where
+module _ (s : Search) (so : Status) (marks : List Bool) (order : IsInOrder s.parents)
+    (spots : AreSpots s.decided s.spots) (covered : AreCovered s.parents s.decided so marks)
+    (convex : (k m j : ℕ) → IsUnder s.parents k m → IsUnder s.parents m j → Is s.decided so k → Is s.decided so j
+    → Is s.decided so m) where
   clear_is_head : (x : Spot) → IsSo s so x → slice_get marks x.place ≡ Some false → IsHead s so x
   clear_is_head x is clear = (
     is,
     λ j at_j under. elim (child_on_way s.parents x.place j under) [
       | inl e ↦ sym e
       | inr c ↦
-          let at_c : Is s.decided so c.0 = convex x.place c.0 j (parent_under s.parents c.0 x.place c.1) c.2 is.1 at_j in
-          absurd (true≢false (same_Some true false (sym ((covered.each x.place (spots.within x is.0)).1 (c.0, c.1, at_c)) ∙ clear)))
+          let at_c : Is s.decided so c.0 = convex x.place c.0 j
+          (parent_under s.parents c.0 x.place c.1) c.2 is.1 at_j in
+          absurd (true≢false (same_Some true false
+          (sym ((covered.each x.place (spots.within x is.0)).1 (c.0, c.1, at_c)) ∙ clear)))
     ],
   )
 
@@ -255,7 +288,8 @@ module _ (s : Search) (so : Status) (marks : List Bool) (order : IsInOrder s.par
     ),
   )
     where
-      by : (x : Spot) → IsHead s so x → (b : Bool) → slice_get marks x.place ≡ Some b → is_picked s.decided marks so false x ≡ true
+      by : (x : Spot) → IsHead s so x → (b : Bool) → slice_get marks x.place ≡ Some b
+          → is_picked s.decided marks so false x ≡ true
       by x head true e = absurd (marked_is_no_head x head.0.0 e head)
       by x head false e = picked s.decided marks so false x head.0.1 e
 
@@ -273,7 +307,8 @@ module _ (s : Search) (so : Status) (marks : List Bool) (order : IsInOrder s.par
     ),
   )
     where
-      by : (x : Spot) → IsSo s so x → ¬ (IsHead s so x) → (b : Bool) → slice_get marks x.place ≡ Some b → is_picked s.decided marks so true x ≡ true
+      by : (x : Spot) → IsSo s so x → ¬ (IsHead s so x) → (b : Bool) → slice_get marks x.place ≡ Some b
+          → is_picked s.decided marks so true x ≡ true
       by x is not_head true e = picked s.decided marks so true x is.1 e
       by x is not_head false e = absurd (not_head (clear_is_head x is e))
 
@@ -288,22 +323,27 @@ sample_member s xs sample x h =
     ]
 
 -- where the sample isn't full, nothing else is undecided
-pub short_sample : (s : Search) (xs : List Spot) → IsSample s xs → length xs < 200 → (x : Spot) → IsSo s Undecided x → (Contains xs x → ⊥) → ⊥
+pub short_sample : (s : Search) (xs : List Spot) → IsSample s xs → length xs < 200 → (x : Spot) → IsSo s Undecided x
+    → (Contains xs x → ⊥) → ⊥
 short_sample s xs sample short x so out =
     let all = sample.heads ++ sample.others in
     let long : length xs ≡ min 200 (length all) = ap length sample.first ∙ length-take 200 all in
     let whole : xs ≡ all = sample.first ∙ take_all 200 all (omega (arith, long, short)) in
     let out_of_all : Contains all x → ⊥ = λ (h : Contains all x). out (subst (λ zs. Contains zs x) (sym whole) h) in
-    let not_head : ¬ (IsHead s Undecided x) = λ (h : IsHead s Undecided x). out_of_all (Contains-append_left sample.heads sample.others x ((sample.heads_are.1 x).1 h)) in
+    let not_head : ¬ (IsHead s Undecided x) = λ (h : IsHead s Undecided x). out_of_all
+    (Contains-append_left sample.heads sample.others x ((sample.heads_are.1 x).1 h)) in
     out_of_all (Contains-append_right sample.heads sample.others x ((sample.others_are.1 x).1 (so, not_head)))
 
-pub done_is : (s : Search) → IsSearch s → (b : Bool) → b ≡ (length s.asked == 0) → IsTrue b ↔ ((k : ℕ) → Is s.decided Undecided k → ⊥)
+pub done_is : (s : Search) → IsSearch s → (b : Bool) → b ≡ (length s.asked == 0)
+    → IsTrue b ↔ ((k : ℕ) → Is s.decided Undecided k → ⊥)
 done_is s known b is = (
   λ t k h.
       let empty : length s.asked ≡ 0 = eqb-true (length s.asked) 0 (sym is ∙ t) in
       let x = known.spots.found k (inl h) in
-      short_sample s s.asked known.sample (omega (arith, empty)) x.0 (x.1, subst (Is s.decided Undecided) (sym x.2) h) (λ inside. omega (arith, inside.1, empty)),
-  λ none. is ∙ eq-eqb (length s.asked) 0 (by s.asked (λ x h. let so = sample_member s s.asked known.sample x h in none x.place so.1)),
+      short_sample s s.asked known.sample (omega (arith, empty)) x.0 (x.1, subst (Is s.decided Undecided) (sym x.2) h)
+      (λ inside. omega (arith, inside.1, empty)),
+  λ none. is ∙ eq-eqb (length s.asked) 0
+      (by s.asked (λ x h. let so = sample_member s s.asked known.sample x h in none x.place so.1)),
 )
   where
     by : (xs : List Spot) → ((x : Spot) → Contains xs x → ⊥) → length xs ≡ 0

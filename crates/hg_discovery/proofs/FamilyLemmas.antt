@@ -1,5 +1,6 @@
 -- The children of each changeset.
-use Rattle.std.proofs.Common.{◌≡◌, ◌↔◌, ◌⊎◌, ℕ, ◌<◌, ◌≤◌, ◌+◌, inl, inr, Bool, List, [], ◌∷◌, ◌++◌, length, length-append, set, slice_get, Some, Contains, IsTrue, refl, sym, ap, subst, ◌∙◌, arith}
+use Rattle.std.proofs.Common.{◌≡◌, ◌↔◌, ◌⊎◌, ℕ, ◌<◌, ◌≤◌, ◌+◌, inl, inr, Bool, List, [], ◌∷◌, ◌++◌, length}
+use Rattle.std.proofs.Common.{length-append, set, slice_get, Some, Contains, IsTrue, refl, sym, ap, subst, ◌∙◌, arith}
 use Rattle.std.proofs.lemmas.Bool.{cases_eq}
 use Rattle.std.proofs.lemmas.List.{length-set}
 use Rattle.std.proofs.lemmas.Option.{none-some, same_Some, slice_get_within}
@@ -21,13 +22,21 @@ use Rattle.hg_discovery.proofs.WalkLemmas.{append_place, append_behind}
 pub record IsFamilyTo (cs : List Contents) (i : ℕ) (children : List ℕ) (left : List Stretch) : Type 0 where
   pub len : length left ≡ i
   pub within : (k : ℕ) (s : Stretch) → slice_get left k ≡ Some s → s.to ≤ length children
-  pub exact : (k : ℕ) (s : Stretch) (j : ℕ) → slice_get left k ≡ Some s → Stands children s.from s.to j ↔ IsParentPlace cs j k
+  pub exact : (k : ℕ) (s : Stretch) (j : ℕ) → slice_get left k ≡ Some s
+      → Stands children s.from s.to j ↔ IsParentPlace cs j k
 
 module _ (cs : List Contents) where
   pub IsFamilyTo-start : IsFamilyTo cs 0 [] []
-  IsFamilyTo-start = record { len = refl; within = λ k s h. absurd (none-some s h); exact = λ k s j h. absurd (none-some s h) }
+  IsFamilyTo-start = record {
+    len = refl;
+    within = λ k s h. absurd (none-some s h);
+    exact = λ k s j h. absurd (none-some s h);
+  }
 
-  pub IsFamilyTo-push : (i : ℕ) (children : List ℕ) (left : List Stretch) (more : List ℕ) (one : Stretch) → IsFamilyTo cs i children left → ((j : ℕ) → Contains more j ↔ IsParentPlace cs j i) → one.from ≡ length children → one.to ≡ length (children ++ more) → IsFamilyTo cs (i + 1) (children ++ more) (left ++ one ∷ [])
+  pub IsFamilyTo-push : (i : ℕ) (children : List ℕ) (left : List Stretch) (more : List ℕ) (one : Stretch)
+      → IsFamilyTo cs i children left → ((j : ℕ) → Contains more j ↔ IsParentPlace cs j i)
+      → one.from ≡ length children → one.to ≡ length (children ++ more)
+      → IsFamilyTo cs (i + 1) (children ++ more) (left ++ one ∷ [])
   IsFamilyTo-push i children left more one f told from to = record {
     len = length-append left (one ∷ []) ∙ ap (λ n. n + 1) f.len;
     within = λ k s h. elim (slice_get-push_cases left one k s h) [
@@ -39,22 +48,26 @@ module _ (cs : List Contents) where
         λ t. (f.exact k s j old).0 (shorter s (f.within k s old) j t),
         λ p. let t = (f.exact k s j old).1 p in (t.0, t.1, t.2, slice_get-append children more t.0 j t.3),
       )
-      | inr last ↦ subst (λ (x : Stretch). Stands (children ++ more) x.from x.to j ↔ IsParentPlace cs j k) last.1 (subst (λ m. Stands (children ++ more) one.from one.to j ↔ IsParentPlace cs j m) (sym (last.0 ∙ f.len)) (
-        λ t. (told j).0 (append_behind children more t.0 j (omega (arith, from, t.1)) t.3),
-        λ p.
-            let m = place_from_Contains more j ((told j).1 p) in
-            let r = append_place children more m.0 j m.1 in
-            (r.0, omega (arith, from, r.1), omega (arith, to, slice_get_within (children ++ more) r.0 j r.2), r.2),
-      ))
+      | inr last ↦ subst (λ (x : Stretch). Stands (children ++ more) x.from x.to j ↔ IsParentPlace cs j k) last.1
+          (subst (λ m. Stands (children ++ more) one.from one.to j ↔ IsParentPlace cs j m) (sym (last.0 ∙ f.len)) (
+            λ t. (told j).0 (append_behind children more t.0 j (omega (arith, from, t.1)) t.3),
+            λ p.
+                let m = place_from_Contains more j ((told j).1 p) in
+                let r = append_place children more m.0 j m.1 in
+                (r.0, omega (arith, from, r.1), omega (arith, to, slice_get_within (children ++ more) r.0 j r.2), r.2),
+          ))
     ];
   }
     where
-      shorter : (s : Stretch) → s.to ≤ length children → (j : ℕ) → Stands (children ++ more) s.from s.to j → Stands children s.from s.to j
+      shorter : (s : Stretch) → s.to ≤ length children → (j : ℕ) → Stands (children ++ more) s.from s.to j
+          → Stands children s.from s.to j
       shorter s le j t =
           let at = slice_get_some children t.0 (omega (arith, t.2, le)) in
           (t.0, t.1, t.2, at.1 ∙ sym (slice_get-append children more t.0 at.0 at.1) ∙ t.3)
 
-  pub IsFamilyTo-end : (i : ℕ) (children : List ℕ) (left : List Stretch) → length cs ≡ i → IsFamilyTo cs i children left → (ps : List ParentPlaces) (ds : List Status) → IsShapeOf cs ps → IsFamily ps ds children left
+  pub IsFamilyTo-end : (i : ℕ) (children : List ℕ) (left : List Stretch) → length cs ≡ i
+      → IsFamilyTo cs i children left → (ps : List ParentPlaces) (ds : List Status) → IsShapeOf cs ps
+      → IsFamily ps ds children left
   IsFamilyTo-end i children left all f ps ds shape = record {
     len = f.len ∙ sym all ∙ sym shape.len;
     within = f.within;
@@ -63,7 +76,9 @@ module _ (cs : List Contents) where
   }
 
 -- what is decided may be left out
-pub IsFamily-later : (ps : List ParentPlaces) (old new : List Status) (children : List ℕ) (left : List Stretch) → ((k : ℕ) → Is new Undecided k → Is old Undecided k) → IsFamily ps old children left → IsFamily ps new children left
+pub IsFamily-later : (ps : List ParentPlaces) (old new : List Status) (children : List ℕ) (left : List Stretch)
+    → ((k : ℕ) → Is new Undecided k → Is old Undecided k) → IsFamily ps old children left
+    → IsFamily ps new children left
 IsFamily-later ps old new children left before f = record {
   len = f.len;
   within = f.within;
@@ -89,7 +104,8 @@ module _ (children : List ℕ) (s : Stretch) (ds : List Status) where
       from = omega (arith, p.from);
       edge = inr (omega (arith, lt));
       kept = λ j h u. let t = p.kept j h u in elim (cases_eq t.0 i) [
-        | inl e ↦ absurd (never (subst (Is ds Undecided) (same_Some j k (sym (subst (λ m. slice_get children m ≡ Some j) e t.3) ∙ at)) u))
+        | inl e ↦ absurd (never
+            (subst (Is ds Undecided) (same_Some j k (sym (subst (λ m. slice_get children m ≡ Some j) e t.3) ∙ at)) u))
         | inr ne ↦ (t.0, omega (arith, t.1, ne), t.2, t.3)
       ];
     }
@@ -110,7 +126,9 @@ module _ (children : List ℕ) (s : Stretch) (ds : List Status) where
 
 -- ---- a question
 
-module _ (ps : List ParentPlaces) (ds : List Status) (children : List ℕ) (left : List Stretch) (f : IsFamily ps ds children left) (k : ℕ) (s : Stretch) (at : slice_get left k ≡ Some s) (r : ℕ) (first : IsFirstLeft children s ds r) where
+module _ (ps : List ParentPlaces) (ds : List Status) (children : List ℕ) (left : List Stretch)
+    (f : IsFamily ps ds children left) (k : ℕ) (s : Stretch) (at : slice_get left k ≡ Some s) (r : ℕ)
+    (first : IsFirstLeft children s ds r) where
   pub asked_family : IsFamily ps ds children (set left k (record { from = r; to = s.to }))
   asked_family = record {
     len = length-set left k new ∙ f.len;
@@ -119,11 +137,13 @@ module _ (ps : List ParentPlaces) (ds : List Status) (children : List ℕ) (left
       | inr ne ↦ f.within q t (sym (get-set_other left k q new ne) ∙ h)
     ];
     sound = λ q t j h stands. elim (cases_eq q k) [
-      | inl e ↦ subst (IsParentAt ps j) (sym e) (f.sound k s j at (first.part j (subst (λ (u : Stretch). Stands children u.from u.to j) (sym (is q t h e)) stands)))
+      | inl e ↦ subst (IsParentAt ps j) (sym e) (f.sound k s j at
+          (first.part j (subst (λ (u : Stretch). Stands children u.from u.to j) (sym (is q t h e)) stands)))
       | inr ne ↦ f.sound q t j (sym (get-set_other left k q new ne) ∙ h) stands
     ];
     complete = λ q t j h parent u. elim (cases_eq q k) [
-      | inl e ↦ subst (λ (v : Stretch). Stands children v.from v.to j) (is q t h e) (first.kept j (f.complete k s j at (subst (IsParentAt ps j) e parent) u) u)
+      | inl e ↦ subst (λ (v : Stretch). Stands children v.from v.to j) (is q t h e)
+          (first.kept j (f.complete k s j at (subst (IsParentAt ps j) e parent) u) u)
       | inr ne ↦ f.complete q t j (sym (get-set_other left k q new ne) ∙ h) parent u
     ];
   }
@@ -132,7 +152,8 @@ module _ (ps : List ParentPlaces) (ds : List Status) (children : List ℕ) (left
       new = record { from = r; to = s.to }
 
       is : (q : ℕ) (t : Stretch) → slice_get (set left k new) q ≡ Some t → q ≡ k → new ≡ t
-      is q t h e = same_Some new t (sym (get-set_same left k new (slice_get_within left k s at)) ∙ subst (λ m. slice_get (set left k new) m ≡ Some t) e h)
+      is q t h e = same_Some new t (sym (get-set_same left k new (slice_get_within left k s at))
+          ∙ subst (λ m. slice_get (set left k new) m ≡ Some t) e h)
 
   pub asked_child : (b : Bool) → (IsTrue b ↔ (r < s.to)) → IsTrue b ↔ HasChild ps ds k
   asked_child b less = (

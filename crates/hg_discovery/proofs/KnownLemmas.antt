@@ -1,5 +1,6 @@
 -- The other side's answers, one more at a time.
-use Rattle.std.proofs.Common.{◌↔◌, ℕ, ◌+◌, ◌<◌, inl, inr, Bool, List, [], ◌∷◌, ◌++◌, length, length-append, take, get_or, IsTrue, refl, sym, subst, arith, ◌≡◌}
+use Rattle.std.proofs.Common.{◌↔◌, ℕ, ◌+◌, ◌<◌, inl, inr, Bool, List, [], ◌∷◌, ◌++◌, length, length-append, take}
+use Rattle.std.proofs.Common.{get_or, IsTrue, refl, sym, subst, arith, ◌≡◌}
 use Rattle.std.proofs.lemmas.List.{take_more}
 use Rattle.std.proofs.lemmas.Option.{none-some, slice_get_within}
 use Rattle.hg_changeset.specs.declared.node.Node.{Node}
@@ -14,7 +15,9 @@ use Rattle.hg_replica.specs.Evolution.{IsServed}
 pub known_none : (P : Node → Type 0) → AreAnswers P [] []
 known_none P = (refl, λ i n b at at_b. absurd (none-some n at))
 
-pub known_more : (P : Node → Type 0) (ns : List Node) (answers : List Bool) (i : ℕ) (d : Node) (b : Bool) → i < length ns → (IsTrue b ↔ P (get_or ns i d)) → AreAnswers P (take i ns) answers → AreAnswers P (take (i + 1) ns) (answers ++ b ∷ [])
+pub known_more : (P : Node → Type 0) (ns : List Node) (answers : List Bool) (i : ℕ) (d : Node) (b : Bool)
+    → i < length ns → (IsTrue b ↔ P (get_or ns i d)) → AreAnswers P (take i ns) answers
+    → AreAnswers P (take (i + 1) ns) (answers ++ b ∷ [])
 known_more P ns answers i d b lt told before =
     let n = get_or ns i d in
     subst (λ ms. AreAnswers P ms (answers ++ b ∷ [])) (sym (take_more ns i d lt)) (
@@ -32,6 +35,8 @@ known_more P ns answers i d b lt told before =
     )
 
 -- marks that are the same mark what is served
-pub served_as : (s : ReplicaState) (marks same : List Bool) → same ≡ marks → ((n : Node) → IsMarkedNode (changesets s.history) marks n ↔ IsServed (content_of s) n)
+pub served_as : (s : ReplicaState) (marks same : List Bool) → same ≡ marks
+    → ((n : Node) → IsMarkedNode (changesets s.history) marks n ↔ IsServed (content_of s) n)
     → (n : Node) → IsMarkedNode (changesets s.history) same n ↔ IsServed (content_of s) n
-served_as s marks same e h = subst (λ (ms : List Bool). (n : Node) → IsMarkedNode (changesets s.history) ms n ↔ IsServed (content_of s) n) (sym e) h
+served_as s marks same e h = subst (λ (ms : List Bool). (n : Node)
+    → IsMarkedNode (changesets s.history) ms n ↔ IsServed (content_of s) n) (sym e) h

@@ -1,5 +1,6 @@
 -- What is logged, and how it is taken back.
-use Rattle.std.proofs.Common.{◌≡◌, ◌⊎◌, ℕ, zero, suc, ◌≤◌, ◌+◌, inl, inr, List, [], ◌∷◌, length, set, slice_get, Some, Contains, refl, sym, subst, ◌∙◌, arith}
+use Rattle.std.proofs.Common.{◌≡◌, ◌⊎◌, ℕ, zero, suc, ◌≤◌, ◌+◌, inl, inr, List, [], ◌∷◌, length, set, slice_get, Some}
+use Rattle.std.proofs.Common.{Contains, refl, sym, subst, ◌∙◌, arith}
 use Rattle.std.proofs.lemmas.Bool.{cases_eq}
 use Rattle.std.proofs.lemmas.List.{length-set}
 use Rattle.std.proofs.lemmas.List.Elements.{Contains-append_left, Contains-append_right, Contains-append_cases}
@@ -15,7 +16,8 @@ use Rattle.hg_discovery.specs.Log.{Grows, IsLogged, KeepsLog}
 pub nothing_logged : (ds : List Status) → IsLogged ds ds []
 nothing_logged ds = record { len = refl; changed = λ k. inl refl; was = λ k h. absurd (Contains-none k h) }
 
-pub Grows-log : (P : ℕ → Type 0) (d : Status) (old new : List Status) (log next : List ℕ) → Grows P d old log new next → KeepsLog old log new next
+pub Grows-log : (P : ℕ → Type 0) (d : Status) (old new : List Status) (log next : List ℕ) → Grows P d old log new next
+    → KeepsLog old log new next
 Grows-log P d old new log next g base l = record {
   len = g.len ∙ l.len;
   changed = λ k. elim (g.changed k) [
@@ -36,7 +38,8 @@ Grows-log P d old new log next g base l = record {
 
 -- ---- taken back
 
-pub same_list : {X : Type 0} (xs ys : List X) → length xs ≡ length ys → ((k : ℕ) → slice_get xs k ≡ slice_get ys k) → xs ≡ ys
+pub same_list : {X : Type 0} (xs ys : List X) → length xs ≡ length ys → ((k : ℕ) → slice_get xs k ≡ slice_get ys k)
+    → xs ≡ ys
 same_list [] [] len same = refl
 same_list [] (y ∷ ys) len same = absurd (omega (arith, len))
 same_list (x ∷ xs) [] len same = absurd (omega (arith, len))
@@ -54,14 +57,20 @@ module _ (base : List Status) (log : List ℕ) where
   pub IsTakenBack-start : (now : List Status) → IsLogged base now log → IsTakenBack base log 0 now
   IsTakenBack-start now l = record {
     len = l.len;
-    rest = λ k. elim (l.changed k) [ inl s ↦ inl s | inr h ↦ let m = place_from_Contains log k h.1 in inr (m.0, omega arith, m.1) ];
+    rest = λ k. elim (l.changed k) [
+      | inl s ↦ inl s
+      | inr h ↦ let m = place_from_Contains log k h.1 in
+          inr (m.0, omega arith, m.1)
+    ];
   }
 
-  pub IsTakenBack-step : (i : ℕ) (now : List Status) (p : ℕ) → slice_get log i ≡ Some p → Is base Undecided p → IsTakenBack base log i now → IsTakenBack base log (i + 1) (set now p Undecided)
+  pub IsTakenBack-step : (i : ℕ) (now : List Status) (p : ℕ) → slice_get log i ≡ Some p → Is base Undecided p
+      → IsTakenBack base log i now → IsTakenBack base log (i + 1) (set now p Undecided)
   IsTakenBack-step i now p at was t = record {
     len = length-set now p Undecided ∙ t.len;
     rest = λ k. elim (cases_eq k p) [
-      | inl e ↦ inl (subst (λ q. slice_get (set now p Undecided) q ≡ slice_get base q) (sym e) (get-set_same now p Undecided (omega (arith, t.len, slice_get_within base p Undecided was)) ∙ sym was))
+      | inl e ↦ inl (subst (λ q. slice_get (set now p Undecided) q ≡ slice_get base q) (sym e)
+          (get-set_same now p Undecided (omega (arith, t.len, slice_get_within base p Undecided was)) ∙ sym was))
       | inr ne ↦ elim (t.rest k) [
         | inl s ↦ inl (get-set_other now p k Undecided ne ∙ s)
         | inr m ↦ elim (cases_eq m.0 i) [
@@ -73,4 +82,6 @@ module _ (base : List Status) (log : List ℕ) where
   }
 
   pub IsTakenBack-end : (i : ℕ) (now : List Status) → length log ≤ i → IsTakenBack base log i now → now ≡ base
-  IsTakenBack-end i now le t = same_list now base t.len (λ k. elim (t.rest k) [ inl s ↦ s | inr m ↦ absurd (omega (arith, le, m.1, slice_get_within log m.0 k m.2)) ])
+  IsTakenBack-end i now le t =
+      same_list now base t.len
+      (λ k. elim (t.rest k) [ inl s ↦ s | inr m ↦ absurd (omega (arith, le, m.1, slice_get_within log m.0 k m.2)) ])

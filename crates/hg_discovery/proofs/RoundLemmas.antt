@@ -1,5 +1,6 @@
 -- Whole discoveries.
-use Rattle.std.proofs.Common.{◌≡◌, ◌↔◌, ℕ, inl, inr, Bool, true, false, List, [], ◌∷◌, length, slice_get, Some, Contains, refl, sym, ap, subst, ◌∙◌, arith, true≢false}
+use Rattle.std.proofs.Common.{◌≡◌, ◌↔◌, ℕ, inl, inr, Bool, true, false, List, [], ◌∷◌, length, slice_get, Some}
+use Rattle.std.proofs.Common.{Contains, refl, sym, ap, subst, ◌∙◌, arith, true≢false}
 use Rattle.std.proofs.lemmas.Option.{same_Some, slice_get_within, slice_get-map}
 use Rattle.std.specs.Option.{option_map}
 use Rattle.hg_changeset.specs.declared.node.Node.{Node}
@@ -38,7 +39,8 @@ module _ (cs : List Contents) (ps : List ParentPlaces) (shape : IsShapeOf cs ps)
   abbrev pub Stands : (Node → Type 0) → ℕ → Type 0
   Stands P k = (n : Node) × IsAt cs n k × P n
 
-  pub stands_below : (P : Node → Type 0) → ((c : Contents) (p : Node) → Contains cs c → IsParent c p → P (node_of c) → P p) → (k j : ℕ) → IsUnder ps k j → Stands P j → Stands P k
+  pub stands_below : (P : Node → Type 0) → ((c : Contents) (p : Node) → Contains cs c → IsParent c p → P (node_of c)
+      → P p) → (k j : ℕ) → IsUnder ps k j → Stands P j → Stands P k
   stands_below P parent k j itself h = h
   stands_below P parent k j (below {p = m} u q) h =
       let r = (shape.parents j m).0 q in
@@ -67,28 +69,39 @@ module _ (s : State) (start : Search) (is : IsStart s start) where
     abbrev Held : ℕ → Type 0
     Held k = Stands (changesets s) start.parents is.shape (Holds theirs) k
 
-    held_after : (rounds : List Round) (a t : Search) → a.parents ≡ start.parents → a.spots ≡ start.spots → IsSearch a → AreTrueRounds a rounds t → ((r : Round) → Contains rounds r → AreWithin r.theirs theirs)
+    held_after : (rounds : List Round) (a t : Search) → a.parents ≡ start.parents → a.spots ≡ start.spots → IsSearch a
+        → AreTrueRounds a rounds t → ((r : Round) → Contains rounds r → AreWithin r.theirs theirs)
         → ((k : ℕ) → Is a.decided Common k → Held k) → (k : ℕ) → Is t.decided Common k → Held k
     held_after [] a t ps spots known e grow was k h = was k (subst (λ (u : Search). Is u.decided Common k) e h)
     held_after (r ∷ rs) a t ps spots known run grow was k h =
         let round = run.1 in
-        let told : AreTold start.parents a.asked r.answers a.decided run.0.decided = subst (λ qs. AreTold qs a.asked r.answers a.decided run.0.decided) ps round.told in
-        held_after rs run.0 t (round.parents ∙ ps) (round.spots ∙ spots) round.search run.3 (λ q h. grow q (Contains-later r rs q h))
-        (all_common start.parents Held (stands_below (changesets s) start.parents is.shape (Holds theirs) (parent_held (changesets s) theirs graph free)) a.asked r.answers a.decided run.0.decided told
+        let told : AreTold start.parents a.asked r.answers a.decided run.0.decided =
+        subst (λ qs. AreTold qs a.asked r.answers a.decided run.0.decided) ps round.told in
+        held_after rs run.0 t (round.parents ∙ ps) (round.spots ∙ spots) round.search run.3
+        (λ q h. grow q (Contains-later r rs q h))
+        (all_common start.parents Held (stands_below (changesets s) start.parents is.shape (Holds theirs)
+        (parent_held (changesets s) theirs graph free)) a.asked r.answers a.decided run.0.decided told
         (λ i x at b.
-        let spot : Contains start.spots x = subst (λ xs. Contains xs x) spots (asked_spot a known i x at) in
-        (x.node, spot_at x spot, held_more r.theirs theirs (grow r (Contains-first r rs)) x.node (run.2 i x.node (node_at a.asked i x at) b)))
+        let spot : Contains start.spots x = subst (λ xs. Contains xs x) spots (asked_spot a known i x at) in (
+          x.node,
+          spot_at x spot,
+          held_more r.theirs theirs (grow r (Contains-first r rs)) x.node
+              (run.2 i x.node (node_at a.asked i x at) b),
+        ))
         was) k h
 
-    pub held_by_both : (rounds : List Round) (t : Search) (ours : List Contents) → AreTrueRounds start rounds t → AreWithin (changesets s) ours → ((r : Round) → Contains rounds r → AreWithin r.theirs theirs)
+    pub held_by_both : (rounds : List Round) (t : Search) (ours : List Contents) → AreTrueRounds start rounds t
+        → AreWithin (changesets s) ours → ((r : Round) → Contains rounds r → AreWithin r.theirs theirs)
         → (n : Node) → IsCommon t n → Holds ours n × Holds theirs n
     held_by_both rounds t ours run ours_grow grow n common =
         let spots : t.spots ≡ start.spots = kept rounds start t run in
         let x = common.0 in
         let at : IsAt (changesets s) x.node x.place = spot_at x (subst (λ xs. Contains xs x) spots common.1.0) in
-        let held = held_after rounds start t refl refl is.search run grow (λ k h. absurd (is.nothing_common k h)) x.place common.1.1 in
+        let held = held_after rounds start t refl refl is.search run grow
+        (λ k h. absurd (is.nothing_common k h)) x.place common.1.1 in
         let same : held.0 ≡ n = same_Some held.0 x.node (sym held.1 ∙ at) ∙ common.2 in (
-          held_more (changesets s) ours ours_grow n (subst (Holds (changesets s)) common.2 (Contains-from_place (nodes (changesets s)) x.place x.node at)),
+          held_more (changesets s) ours ours_grow n (subst (Holds (changesets s)) common.2
+              (Contains-from_place (nodes (changesets s)) x.place x.node at)),
           subst (Holds theirs) same held.2,
         )
       where
@@ -98,21 +111,30 @@ module _ (s : State) (start : Search) (is : IsStart s start) where
 
   -- ---- the other side stands still
 
-  module _ (P : Node → Type 0) (parent_so : (c : Contents) (p : Node) → Contains (changesets s) c → IsParent c p → P (node_of c) → P p) where
+  module _ (P : Node → Type 0) (parent_so : (c : Contents) (p : Node) → Contains (changesets s) c → IsParent c p
+      → P (node_of c) → P p) where
     abbrev Served : ℕ → Type 0
     Served k = Is start.decided Undecided k × Stands (changesets s) start.parents is.shape P k
 
     abbrev Unserved : ℕ → Type 0
     Unserved k = Served k → ⊥
 
-    undecided_below : (k j : ℕ) → IsUnder start.parents k j → Is start.decided Undecided j → Is start.decided Undecided k
-    undecided_below k j u h = elim (three start.decided k (omega (arith, under_before start.parents is.search.in_order k j u, slice_get_within start.decided j Undecided h))) [
-      | inl e ↦ e
-      | inr e ↦ elim e [
-        | inl c ↦ absurd (is.nothing_common k c)
-        | inr m ↦ absurd (not_both_um start.decided j h (above_missing start.parents start.decided is.search.closed k j u m))
-      ]
-    ]
+    undecided_below : (k j : ℕ) → IsUnder start.parents k j → Is start.decided Undecided j
+        → Is start.decided Undecided k
+    undecided_below k j u h =
+        elim (three start.decided k
+        (omega (
+          arith,
+          under_before start.parents is.search.in_order k j u,
+          slice_get_within start.decided j Undecided h,
+        ))) [
+          | inl e ↦ e
+          | inr e ↦ elim e [
+            | inl c ↦ absurd (is.nothing_common k c)
+            | inr m ↦ absurd (not_both_um start.decided j h
+                (above_missing start.parents start.decided is.search.closed k j u m))
+          ]
+        ]
 
     served_below : (k j : ℕ) → IsUnder start.parents k j → Served j → Served k
     served_below k j u h = (
@@ -130,24 +152,34 @@ module _ (s : State) (start : Search) (is : IsStart s start) where
     fits_start : Fits start
     fits_start = ((λ k h. absurd (is.nothing_common k h)), (λ k h served_k. not_both_um start.decided k served_k.0 h))
 
-    fits_after : (rounds : List (List Bool)) (a t : Search) → a.parents ≡ start.parents → a.spots ≡ start.spots → IsSearch a → AreAnsweredRounds P a rounds t → Fits a → (t.spots ≡ start.spots) × (length t.decided ≡ length a.decided) × Fits t
-    fits_after [] a t ps spots known e fits = subst (λ (u : Search). (u.spots ≡ start.spots) × (length u.decided ≡ length a.decided) × Fits u) (sym e) (spots, refl, fits)
+    fits_after : (rounds : List (List Bool)) (a t : Search) → a.parents ≡ start.parents → a.spots ≡ start.spots
+        → IsSearch a → AreAnsweredRounds P a rounds t → Fits a
+        → (t.spots ≡ start.spots) × (length t.decided ≡ length a.decided) × Fits t
+    fits_after [] a t ps spots known e fits = subst (λ (u : Search). (u.spots ≡ start.spots)
+        × (length u.decided ≡ length a.decided) × Fits u) (sym e) (spots, refl, fits)
     fits_after (answers ∷ rest) a t ps spots known run fits =
         let round = run.1 in
-        let told : AreTold start.parents a.asked answers a.decided run.0.decided = subst (λ qs. AreTold qs a.asked answers a.decided run.0.decided) ps round.told in
-        let spot = λ (i : ℕ) (x : Spot) (at : slice_get a.asked i ≡ Some x). subst (λ xs. Contains xs x) spots (asked_spot a known i x at) in
+        let told : AreTold start.parents a.asked answers a.decided run.0.decided =
+        subst (λ qs. AreTold qs a.asked answers a.decided run.0.decided) ps round.told in
+        let spot = λ (i : ℕ) (x : Spot) (at : slice_get a.asked i ≡ Some x). subst (λ xs. Contains xs x) spots
+        (asked_spot a known i x at) in
         let common = all_common start.parents Served served_below a.asked answers a.decided run.0.decided told
-        (λ i x at b. ((is.undecided x.place).1 (x, spot i x at, refl), (x.node, spot_at x (spot i x at), (run.2.1 i x.node true (node_at a.asked i x at) b).0 refl)))
+        (λ i x at b. (
+          (is.undecided x.place).1 (x, spot i x at, refl),
+          (x.node, spot_at x (spot i x at), (run.2.1 i x.node true (node_at a.asked i x at) b).0 refl),
+        ))
         fits.0 in
         let missing = all_missing start.parents Unserved unserved_above a.asked answers a.decided run.0.decided told
         (λ i x at b served_x.
         let same : served_x.1.0 ≡ x.node = same_Some served_x.1.0 x.node (sym served_x.1.1 ∙ spot_at x (spot i x at)) in
         true≢false (sym ((run.2.1 i x.node false (node_at a.asked i x at) b).1 (subst P same served_x.1.2))))
         fits.1 in
-        let after = fits_after rest run.0 t (round.parents ∙ ps) (round.spots ∙ spots) round.search run.3 (common, missing) in
+        let after = fits_after rest run.0 t (round.parents ∙ ps) (round.spots ∙ spots) round.search run.3
+        (common, missing) in
         (after.0, after.1 ∙ told_length start.parents a.asked answers a.decided run.0.decided told, after.2)
 
-    pub common_is_served : (rounds : List (List Bool)) (t : Search) → AreAnsweredRounds P start rounds t → ((k : ℕ) → Is t.decided Undecided k → ⊥)
+    pub common_is_served : (rounds : List (List Bool)) (t : Search) → AreAnsweredRounds P start rounds t
+        → ((k : ℕ) → Is t.decided Undecided k → ⊥)
         → (n : Node) → IsCommon t n ↔ (Holds (changesets s) n × (IsPhaseOf s n Secret → ⊥) × P n)
     common_is_served rounds t run done n =
         let after = fits_after rounds start t refl refl is.search run fits_start in (
@@ -157,7 +189,8 @@ module _ (s : State) (start : Search) (is : IsStart s start) where
               let shared = (is.spots x).0 spot in
               let at = after.2.0 x.place common.1.1 in
               let same : at.1.0 ≡ x.node = same_Some at.1.0 x.node (sym at.1.1 ∙ shared.0) in (
-                subst (Holds (changesets s)) common.2 (Contains-from_place (nodes (changesets s)) x.place x.node shared.0),
+                subst (Holds (changesets s)) common.2 (Contains-from_place
+                    (nodes (changesets s)) x.place x.node shared.0),
                 subst (λ m. IsPhaseOf s m Secret → ⊥) common.2 shared.1,
                 subst P (same ∙ common.2) at.1.2,
               ),
@@ -166,7 +199,8 @@ module _ (s : State) (start : Search) (is : IsStart s start) where
               let x : Spot = record { node = n; place = place.0 } in
               let spot : Contains start.spots x = (is.spots x).1 (place.1, h.1) in
               let und = (is.undecided place.0).1 (x, spot, refl) in
-              elim (three t.decided place.0 (omega (arith, after.1, slice_get_within start.decided place.0 Undecided und))) [
+              elim (three t.decided place.0
+              (omega (arith, after.1, slice_get_within start.decided place.0 Undecided und))) [
                 | inl u ↦ absurd (done place.0 u)
                 | inr e ↦ elim e [
                   | inl c ↦ (x, (subst (λ xs. Contains xs x) (sym after.0) spot, c), refl)

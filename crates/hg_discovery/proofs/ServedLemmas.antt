@@ -21,20 +21,26 @@ use Rattle.hg_discovery.specs.Rounds.{AreKnownRounds, AreFree, IsCommon, undecid
 use Rattle.hg_discovery.proofs.CountLemmas.{some_undecided}
 use Rattle.hg_discovery.proofs.RoundLemmas.{common_is_served}
 
-module _ (ours theirs : ReplicaState) (valid : IsValid theirs) (free : AreFree (changesets ours.history) (changesets theirs.history)) where
+module _ (ours theirs : ReplicaState) (valid : IsValid theirs)
+    (free : AreFree (changesets ours.history) (changesets theirs.history)) where
   served_held : (n : Node) → IsServed (content_of theirs) n → Holds (changesets theirs.history) n
   served_held n served =
       let v = served.0 in
       let held = node_in_content theirs.history valid.graph v.0 v.1.0 in
       Holds-reaching (changesets theirs.history) (reach_from_leads theirs.history valid.graph n v.0 held v.2)
 
-  parent_served : (c : Contents) (p : Node) → Contains (changesets ours.history) c → IsParent c p → IsServed (content_of theirs) (node_of c) → IsServed (content_of theirs) p
+  parent_served : (c : Contents) (p : Node) → Contains (changesets ours.history) c → IsParent c p
+      → IsServed (content_of theirs) (node_of c) → IsServed (content_of theirs) p
   parent_served c p at is served =
       let d = Holds-changeset (changesets theirs.history) (node_of c) (served_held (node_of c) served) in
       let h = content-changeset theirs.history valid.graph (node_of c) d.0 d.1 d.2 in
       let same : c ≡ h.0.changeset = free c d.0 at d.1 (sym d.2) ∙ sym h.2 in
-      served-above (content_of theirs) p (node_of c) (content-valid theirs valid) served (below itself h.1 (subst (λ e. IsParent e p) same is))
+      served-above (content_of theirs) p (node_of c) (content-valid theirs valid) served
+      (below itself h.1 (subst (λ e. IsParent e p) same is))
 
-  pub common_is_known : (start t : Search) (rounds : List (List Bool)) → IsStart ours.history start → AreKnownRounds (content_of theirs) start rounds t → undecided t.decided ≡ 0
-      → (n : Node) → IsCommon t n ↔ (Holds (changesets ours.history) n × (IsPhaseOf ours.history n Secret → ⊥) × IsServed (content_of theirs) n)
-  common_is_known start t rounds is run done = common_is_served ours.history start is (IsServed (content_of theirs)) parent_served rounds t run (some_undecided t.decided done)
+  pub common_is_known : (start t : Search) (rounds : List (List Bool)) → IsStart ours.history start
+      → AreKnownRounds (content_of theirs) start rounds t → undecided t.decided ≡ 0
+      → (n : Node) → IsCommon t n ↔ (Holds (changesets ours.history) n × (IsPhaseOf ours.history n Secret → ⊥)
+      × IsServed (content_of theirs) n)
+  common_is_known start t rounds is run done = common_is_served ours.history start is
+      (IsServed (content_of theirs)) parent_served rounds t run (some_undecided t.decided done)

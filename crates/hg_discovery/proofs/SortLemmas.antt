@@ -1,5 +1,6 @@
 -- Spots in the order of their ids.
-use Rattle.std.proofs.Common.{◌≡◌, ◌↔◌, ℕ, Bool, true, false, List, [], ◌∷◌, get_or, Contains, refl, sym, ap, subst, ◌∙◌, arith, ◌&&◌, true≢false, eqb-true}
+use Rattle.std.proofs.Common.{◌≡◌, ◌↔◌, ℕ, Bool, true, false, List, [], ◌∷◌, get_or, Contains, refl, sym, ap, subst}
+use Rattle.std.proofs.Common.{◌∙◌, arith, ◌&&◌, true≢false, eqb-true}
 use lib.Dec.{eqb}
 use Rattle.std.specs.List.{AllPairs}
 use Rattle.std.specs.List.Sorted.{IsStrictlySortedBy}
@@ -27,7 +28,8 @@ spot_cmp x y = ordering_then (node_cmp x.node y.node) (nat_cmp x.place y.place)
 pub pairs : (xs : List Spot) → IsStrictlySortedBy spot_cmp xs → AllPairs (λ x y. spot_cmp x y ≡ Less) xs
 unfolding IsStrictlySortedBy
 pairs [] h = λ i j d lt within. absurd (omega (arith, within))
-pairs (x ∷ xs) h = AllPairs-cons (λ y z. spot_cmp y z ≡ Less) x xs (All-from_recursion (λ y. spot_cmp x y ≡ Less) xs h.0) (pairs xs h.1)
+pairs (x ∷ xs) h = AllPairs-cons (λ y z. spot_cmp y z ≡ Less) x xs
+    (All-from_recursion (λ y. spot_cmp x y ≡ Less) xs h.0) (pairs xs h.1)
 
 not_below_itself : (p q : ℕ) → q ≡ p → nat_cmp p q ≡ Less → ⊥
 not_below_itself p q e l =
@@ -35,20 +37,23 @@ not_below_itself p q e l =
     let other : nat_cmp p p ≡ ordering_reverse Less = nat_cmp_total.antisymm p p ∙ ap ordering_reverse itself in
     cc (sym itself ∙ other)
 
-by_node : (o : Ordering) (x y : Spot) → node_cmp x.node y.node ≡ o → (x.node ≡ y.node → y.place ≡ x.place) → ordering_then o (nat_cmp x.place y.place) ≡ Less → o ≡ Less
+by_node : (o : Ordering) (x y : Spot) → node_cmp x.node y.node ≡ o → (x.node ≡ y.node → y.place ≡ x.place)
+    → ordering_then o (nat_cmp x.place y.place) ≡ Less → o ≡ Less
 by_node Less x y e same h = refl
 by_node Equal x y e same h = absurd (not_below_itself x.place y.place (same (node_cmp_exact x.node y.node e)) h)
 by_node Greater x y e same h = h
 
 -- no two spots of a graph have one id
-pub ascending_spots : (s : State) → IsGraph (changesets s) → (xs : List Spot) → ((x : Spot) → Contains xs x ↔ IsShared s x) → IsStrictlySortedBy spot_cmp xs → IsAscending xs
+pub ascending_spots : (s : State) → IsGraph (changesets s) → (xs : List Spot)
+    → ((x : Spot) → Contains xs x ↔ IsShared s x) → IsStrictlySortedBy spot_cmp xs → IsAscending xs
 ascending_spots s graph xs shared sorted i j d lt within =
     let x = get_or xs i d in
     let y = get_or xs j d in
     let at_x = ((shared x).0 (Contains-get_or xs i d (omega (arith, lt, within)))).0 in
     let at_y = ((shared y).0 (Contains-get_or xs j d within)).0 in
     let less = pairs xs sorted i j d lt within in
-    let place = λ (e : x.node ≡ y.node). same_place (nodes (changesets s)) x.node x.place y.place graph.distinct at_x (subst (λ n. IsAt (changesets s) n y.place) (sym e) at_y) in
+    let place = λ (e : x.node ≡ y.node). same_place (nodes (changesets s)) x.node x.place y.place graph.distinct at_x
+    (subst (λ n. IsAt (changesets s) n y.place) (sym e) at_y) in
     by_node (node_cmp x.node y.node) x y refl place less
 
 -- the derived test

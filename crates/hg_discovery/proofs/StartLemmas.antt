@@ -1,5 +1,6 @@
 -- Where a discovery begins.
-use Rattle.std.proofs.Common.{◌≡◌, ◌↔◌, ℕ, zero, suc, ◌<◌, ◌≤◌, ◌+◌, inl, inr, List, [], ◌∷◌, ◌++◌, length, set, take, get_or, replicate, slice_get, Some, Contains, refl, sym, ap, subst, ◌∙◌, arith}
+use Rattle.std.proofs.Common.{◌≡◌, ◌↔◌, ℕ, zero, suc, ◌<◌, ◌≤◌, ◌+◌, inl, inr, List, [], ◌∷◌, ◌++◌, length, set, take}
+use Rattle.std.proofs.Common.{get_or, replicate, slice_get, Some, Contains, refl, sym, ap, subst, ◌∙◌, arith}
 use Rattle.std.proofs.lemmas.Bool.{cases_eq}
 use Rattle.std.proofs.lemmas.List.{length-replicate, length-set, length-map, take_more}
 use Rattle.std.proofs.lemmas.List.Elements.{Contains-push, Contains-push_cases, Contains-append_left}
@@ -39,7 +40,8 @@ none_shared s x = ((λ h. let far : h.0 < 0 = h.1 in absurd (omega arith)), (λ 
 pub one_spot : (x y : Spot) → x.node ≡ y.node → x.place ≡ y.place → x ≡ y
 one_spot x y n p i = record { node = n i; place = p i }
 
-module _ (s : State) (i : ℕ) (n : Node) (xs : List Spot) (at : IsAt (changesets s) n i) (before : AreSharedTo s i xs) where
+module _ (s : State) (i : ℕ) (n : Node) (xs : List Spot) (at : IsAt (changesets s) n i)
+    (before : AreSharedTo s i xs) where
   abbrev here : Spot
   here = record { node = n; place = i }
 
@@ -53,7 +55,8 @@ module _ (s : State) (i : ℕ) (n : Node) (xs : List Spot) (at : IsAt (changeset
       | inr e ↦ subst (λ (y : Spot). IsShared s y × (y.place < i + 1)) e ((at, open_one), omega arith)
     ],
     λ h. elim (cases_eq x.place i) [
-      | inl e ↦ subst (Contains (xs ++ here ∷ [])) (one_spot here x (sym (at_here x h.0.0 e)) (sym e)) (Contains-push xs here)
+      | inl e ↦ subst (Contains (xs ++ here ∷ [])) (one_spot here x (sym (at_here x h.0.0 e)) (sym e))
+          (Contains-push xs here)
       | inr ne ↦ Contains-append_left xs (here ∷ []) x ((before x).1 (h.0, omega (arith, h.1)))
     ],
   )
@@ -67,14 +70,24 @@ module _ (s : State) (i : ℕ) (n : Node) (xs : List Spot) (at : IsAt (changeset
     ],
   )
 
-pub shared_all : (s : State) (i : ℕ) (xs : List Spot) → length (changesets s) ≤ i → AreSharedTo s i xs → (x : Spot) → Contains xs x ↔ IsShared s x
+pub shared_all : (s : State) (i : ℕ) (xs : List Spot) → length (changesets s) ≤ i → AreSharedTo s i xs → (x : Spot)
+    → Contains xs x ↔ IsShared s x
 shared_all s i xs le all x = (
   λ h. ((all x).0 h).0,
-  λ h. (all x).1 (h, omega (arith, le, slice_get_within (nodes (changesets s)) x.place x.node h.0, length-map (changesets s) node_of)),
+  λ h. (all x).1 (
+    h,
+    omega (
+      arith,
+      le,
+      slice_get_within (nodes (changesets s)) x.place x.node h.0,
+      length-map (changesets s) node_of,
+    ),
+  ),
 )
 
 -- the phase by the content
-pub phase_in_content : (s : State) → IsGraph (changesets s) → (n : Node) (k : Phase) → ((h : Held) × (content_of s n ≡ Some h) × (h.phase ≡ k)) ↔ IsPhaseOf s n k
+pub phase_in_content : (s : State) → IsGraph (changesets s) → (n : Node) (k : Phase)
+    → ((h : Held) × (content_of s n ≡ Some h) × (h.phase ≡ k)) ↔ IsPhaseOf s n k
 phase_in_content s graph n k = (
   λ h. let at = held_in_content s n h.0 h.1 in (h.0, at.0, at.1, h.2),
   λ h. (h.0, content-held s graph n h.0 h.1 h.2, h.3),
@@ -95,11 +108,17 @@ all_missing_at (suc n) (suc k) d h = all_missing_at n k d h
 pub AreUndecidedTo-start : (n : ℕ) → AreUndecidedTo n [] (replicate n Missing)
 AreUndecidedTo-start n = record {
   length_is = length-replicate n Missing;
-  undecided = λ k. (λ h. let e : Undecided ≡ Missing = all_missing_at n k Undecided h in cc, λ h. let far : h.1.0 < 0 = h.1.1 in absurd (omega arith));
+  undecided = λ k. (
+    λ h. let e : Undecided ≡ Missing = all_missing_at n k Undecided h in
+        cc,
+    λ h. let far : h.1.0 < 0 = h.1.1 in absurd (omega arith),
+  );
   nothing_common = λ k h. let e : Common ≡ Missing = all_missing_at n k Common h in cc;
 }
 
-pub AreUndecidedTo-more : (n i : ℕ) (all : List Spot) (d : Spot) (ds : List Status) → i < length all → (get_or all i d).place < n → AreUndecidedTo n (take i all) ds → AreUndecidedTo n (take (i + 1) all) (set ds (get_or all i d).place Undecided)
+pub AreUndecidedTo-more : (n i : ℕ) (all : List Spot) (d : Spot) (ds : List Status) → i < length all
+    → (get_or all i d).place < n → AreUndecidedTo n (take i all) ds
+    → AreUndecidedTo n (take (i + 1) all) (set ds (get_or all i d).place Undecided)
 AreUndecidedTo-more n i all d ds lt within u =
     let x = get_or all i d in
     let more : take (i + 1) all ≡ take i all ++ x ∷ [] = take_more all i d lt in
@@ -111,10 +130,12 @@ AreUndecidedTo-more n i all d ds lt within u =
       undecided = λ k. (
         λ h. elim (cases_eq k x.place) [
           | inl e ↦ (x, Contains-push (take i all) x, sym e)
-          | inr ne ↦ let y = (u.undecided k).0 (sym (get-set_other ds x.place k Undecided ne) ∙ h) in (y.0, Contains-append_left (take i all) (x ∷ []) y.0 y.1, y.2)
+          | inr ne ↦ let y = (u.undecided k).0 (sym (get-set_other ds x.place k Undecided ne) ∙ h) in
+              (y.0, Contains-append_left (take i all) (x ∷ []) y.0 y.1, y.2)
         ],
         λ h. elim (cases_eq k x.place) [
-          | inl e ↦ subst (Is (set ds x.place Undecided) Undecided) (sym e) (get-set_same ds x.place Undecided (omega (arith, u.length_is, within_x)))
+          | inl e ↦ subst (Is (set ds x.place Undecided) Undecided) (sym e)
+              (get-set_same ds x.place Undecided (omega (arith, u.length_is, within_x)))
           | inr ne ↦ get-set_other ds x.place k Undecided ne ∙ elim (Contains-push_cases (take i all) x h.0 h.1) [
             | inl old ↦ (u.undecided k).1 (h.0, old, h.2)
             | inr e ↦ absurd (ne (sym h.2 ∙ ap (λ (y : Spot). y.place) (sym e)))
@@ -122,25 +143,35 @@ AreUndecidedTo-more n i all d ds lt within u =
         ],
       );
       nothing_common = λ k h. elim (cases_eq k x.place) [
-        | inl e ↦ let c : Undecided ≡ Common = same_Some Undecided Common (sym (get-set_same ds x.place Undecided (omega (arith, u.length_is, within_x))) ∙ subst (Is (set ds x.place Undecided) Common) e h) in cc
+        | inl e ↦ let c : Undecided ≡ Common = same_Some Undecided Common
+            (sym (get-set_same ds x.place Undecided (omega (arith, u.length_is, within_x)))
+            ∙ subst (Is (set ds x.place Undecided) Common) e h) in cc
         | inr ne ↦ u.nothing_common k (sym (get-set_other ds x.place k Undecided ne) ∙ h)
       ];
     }
 
 -- ---- what the first sample needs
 
-module _ (s : State) (valid : IsValid s) (ps : List ParentPlaces) (shape : IsShapeOf (changesets s) ps) (xs : List Spot) (shared : (x : Spot) → Contains xs x ↔ IsShared s x) where
+module _ (s : State) (valid : IsValid s) (ps : List ParentPlaces) (shape : IsShapeOf (changesets s) ps)
+    (xs : List Spot) (shared : (x : Spot) → Contains xs x ↔ IsShared s x) where
   pub in_order : IsInOrder ps
   in_order j k q = parent_first (changesets s) valid.graph j k ((shape.parents j k).0 q)
 
   pub shared_within : (x : Spot) → Contains xs x → x.place < length ps
-  shared_within x h = omega (arith, shape.len, length-map (changesets s) node_of, slice_get_within (nodes (changesets s)) x.place x.node ((shared x).0 h).0)
+  shared_within x h = omega (
+    arith,
+    shape.len,
+    length-map (changesets s) node_of,
+    slice_get_within (nodes (changesets s)) x.place x.node ((shared x).0 h).0,
+  )
 
   -- the child of a secret one is secret
-  secret_child : (c : Contents) (p : Node) → Contains (changesets s) c → IsParent c p → IsPhaseOf s p Secret → IsPhaseOf s (node_of c) Secret
+  secret_child : (c : Contents) (p : Node) → Contains (changesets s) c → IsParent c p → IsPhaseOf s p Secret
+      → IsPhaseOf s (node_of c) Secret
   secret_child c p at is secret =
       let child = held_with s c at in
-      let le = valid.phases child.0 secret.0 child.1 secret.1 (subst (λ n. IsParent child.0.changeset n) (sym secret.2) (subst (λ e. IsParent e p) (sym child.2) is)) in
+      let le = valid.phases child.0 secret.0 child.1 secret.1
+      (subst (λ n. IsParent child.0.changeset n) (sym secret.2) (subst (λ e. IsParent e p) (sym child.2) is)) in
       let two : rank secret.0.phase ≡ 2 = ap rank secret.3 in
       (child.0, child.1, ap node_of child.2, top child.0.phase (omega (arith, le, two)))
     where
@@ -149,19 +180,31 @@ module _ (s : State) (valid : IsValid s) (ps : List ParentPlaces) (shape : IsSha
       top Draft le = absurd (omega (arith, le))
       top Secret le = refl
 
-      held_with : (t : State) (d : Contents) → Contains (changesets t) d → (h : Held) × Contains t.held h × (h.changeset ≡ d)
+      held_with : (t : State) (d : Contents) → Contains (changesets t) d
+          → (h : Held) × Contains t.held h × (h.changeset ≡ d)
       held_with t d h = Contains-map_from (λ (y : Held). y.changeset) t.held d h
 
-  module _ (ds : List Status) (len : length ds ≡ length ps) (undecided : (k : ℕ) → Is ds Undecided k ↔ ((x : Spot) × Contains xs x × (x.place ≡ k))) (nothing : (k : ℕ) → Is ds Common k → ⊥) where
+  module _ (ds : List Status) (len : length ds ≡ length ps) (undecided : (k : ℕ)
+      → Is ds Undecided k ↔ ((x : Spot) × Contains xs x × (x.place ≡ k))) (nothing : (k : ℕ) → Is ds Common k → ⊥) where
     undecided_parent : (j k : ℕ) → IsParentAt ps j k → Is ds Undecided j → Is ds Undecided k
     undecided_parent j k q h =
         let r = (shape.parents j k).0 q in
         let x = (undecided j).0 h in
         let shared_x = (shared x.0).0 x.1 in
         let at_j : IsAt (changesets s) (node_of r.0) j = IsAt-from (changesets s) j r.0 (node_of r.0) r.2 refl in
-        let same : x.0.node ≡ node_of r.0 = same_Some x.0.node (node_of r.0) (sym (subst (IsAt (changesets s) x.0.node) x.2 shared_x.0) ∙ at_j) in
+        let same : x.0.node ≡ node_of r.0 = same_Some x.0.node (node_of r.0)
+        (sym (subst (IsAt (changesets s) x.0.node) x.2 shared_x.0) ∙ at_j) in
         let y : Spot = record { node = r.1; place = k } in
-        (undecided k).1 (y, (shared y).1 (r.4, λ (secret : IsPhaseOf s r.1 Secret). shared_x.1 (subst (λ n. IsPhaseOf s n Secret) (sym same) (secret_child r.0 r.1 (Contains-from_place (changesets s) j r.0 r.2) r.3 secret))), refl)
+        (undecided k).1 (
+          y,
+          (shared y).1 (
+            r.4,
+            λ (secret : IsPhaseOf s r.1 Secret). shared_x.1
+                (subst (λ n. IsPhaseOf s n Secret) (sym same) (secret_child r.0 r.1
+                (Contains-from_place (changesets s) j r.0 r.2) r.3 secret)),
+          ),
+          refl,
+        )
 
     pub closed_start : IsClosed ps ds
     closed_start = record {
@@ -175,12 +218,15 @@ module _ (s : State) (valid : IsValid s) (ps : List ParentPlaces) (shape : IsSha
     pub spots_start : IsAscending xs → AreSpots ds xs
     spots_start ascending = record {
       ascending = ascending;
-      apart = λ x y hx hy e. one_spot x y (same_Some x.node y.node (sym (subst (IsAt (changesets s) x.node) e ((shared x).0 hx).0) ∙ ((shared y).0 hy).0)) e;
+      apart = λ x y hx hy e. one_spot x y (same_Some x.node y.node
+          (sym (subst (IsAt (changesets s) x.node) e ((shared x).0 hx).0) ∙ ((shared y).0 hy).0)) e;
       within = λ x h. omega (arith, len, shared_within x h);
       found = λ k h. elim h [ inl u ↦ (undecided k).0 u | inr c ↦ absurd (nothing k c) ];
     }
 
-pub shape_end : (cs : List Contents) (ps : List ParentPlaces) (i : ℕ) → IsGraph cs → length ps ≡ i → length cs ≡ i → ((j : ℕ) (p : ParentPlaces) → slice_get ps j ≡ Some p → (k : ℕ) → IsOneOf p k ↔ IsParentPlace cs j k) → IsShapeOf cs ps
+pub shape_end : (cs : List Contents) (ps : List ParentPlaces) (i : ℕ) → IsGraph cs → length ps ≡ i → length cs ≡ i
+    → ((j : ℕ) (p : ParentPlaces) → slice_get ps j ≡ Some p → (k : ℕ) → IsOneOf p k ↔ IsParentPlace cs j k)
+    → IsShapeOf cs ps
 shape_end cs ps i graph len all each = record {
   len = len ∙ sym all;
   parents = λ j k. (

@@ -1,5 +1,6 @@
 -- Ancestors by places, and what is decided of them.
-use Rattle.std.proofs.Common.{◌≡◌, ◌⊎◌, ℕ, ◌<◌, ◌≤◌, inl, inr, List, length, slice_get, Some, refl, sym, subst, ◌∙◌, arith}
+use Rattle.std.proofs.Common.{◌≡◌, ◌⊎◌, ℕ, ◌<◌, ◌≤◌, inl, inr, List, length, slice_get, Some, refl, sym, subst, ◌∙◌}
+use Rattle.std.proofs.Common.{arith}
 use Rattle.std.proofs.lemmas.Option.{same_Some, slice_get_within}
 use Rattle.hg_graph.specs.declared.graph.ParentPlaces.{ParentPlaces}
 use Rattle.hg_changeset.proofs.ListLemmas.{slice_get_some}
@@ -19,7 +20,8 @@ not_both_um ds k a b = let e : Undecided ≡ Missing = same_Some Undecided Missi
 pub not_both_cm : (ds : List Status) (k : ℕ) → Is ds Common k → Is ds Missing k → ⊥
 not_both_cm ds k a b = let e : Common ≡ Missing = same_Some Common Missing (sym a ∙ b) in cc
 
-one_of : (ds : List Status) (k : ℕ) (d : Status) → slice_get ds k ≡ Some d → Is ds Undecided k ⊎ (Is ds Common k ⊎ Is ds Missing k)
+one_of : (ds : List Status) (k : ℕ) (d : Status) → slice_get ds k ≡ Some d
+    → Is ds Undecided k ⊎ (Is ds Common k ⊎ Is ds Missing k)
 one_of ds k Undecided e = inl e
 one_of ds k Common e = inr (inl e)
 one_of ds k Missing e = inr (inr e)
@@ -44,7 +46,8 @@ under_before ps order k j (below {p = p} u q) =
     omega arith
 
 -- the way up from an ancestor begins with a child of it
-pub child_on_way : (ps : List ParentPlaces) (k j : ℕ) → IsUnder ps k j → (k ≡ j) ⊎ ((c : ℕ) × IsParentAt ps c k × IsUnder ps c j)
+pub child_on_way : (ps : List ParentPlaces) (k j : ℕ) → IsUnder ps k j
+    → (k ≡ j) ⊎ ((c : ℕ) × IsParentAt ps c k × IsUnder ps c j)
 child_on_way ps k j itself = inl refl
 child_on_way ps k j (below {p = p} u q) = elim (child_on_way ps k p u) [
   | inl e ↦ inr (j, subst (λ m. IsParentAt ps j m) (sym e) q, itself)
@@ -66,7 +69,8 @@ module _ (ps : List ParentPlaces) (ds : List Status) (closed : IsClosed ps ds) w
   above_missing k j (below {p = p} u q) h = closed.missing j p q (above_missing k p u h)
 
   -- an undecided one's parent isn't missing, and its child isn't common
-  pub between : length ds ≡ length ps → IsInOrder ps → (k m j : ℕ) → IsUnder ps k m → IsUnder ps m j → Is ds Undecided k → Is ds Undecided j → Is ds Undecided m
+  pub between : length ds ≡ length ps → IsInOrder ps → (k m j : ℕ) → IsUnder ps k m → IsUnder ps m j
+      → Is ds Undecided k → Is ds Undecided j → Is ds Undecided m
   between len order k m j low high at_k at_j =
       let le : m ≤ j = under_before ps order m j high in
       elim (three ds m (omega (arith, slice_get_within ds j Undecided at_j))) [

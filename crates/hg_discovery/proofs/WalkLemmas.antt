@@ -1,5 +1,7 @@
 -- Walks that decide what they come to.
-use Rattle.std.proofs.Common.{◌≡◌, ◌≢◌, ◌⊎◌, ℕ, zero, suc, ◌≤◌, ◌<◌, ◌+◌, inl, inr, true, false, List, [], ◌∷◌, ◌++◌, append_assoc, length, length-append, set, get_or, slice_get, Some, Contains, refl, sym, ap, subst, ◌∙◌, arith, true≢false}
+use Rattle.std.proofs.Common.{◌≡◌, ◌≢◌, ◌⊎◌, ℕ, zero, suc, ◌≤◌, ◌<◌, ◌+◌, inl, inr, true, false, List, [], ◌∷◌, ◌++◌}
+use Rattle.std.proofs.Common.{append_assoc, length, length-append, set, get_or, slice_get, Some, Contains, refl, sym}
+use Rattle.std.proofs.Common.{ap, subst, ◌∙◌, arith, true≢false}
 use Rattle.std.proofs.lemmas.Bool.{cases_eq}
 use Rattle.std.proofs.lemmas.List.{length-set, append-nil}
 use Rattle.std.proofs.lemmas.List.Elements.{Contains-append_left, Contains-append_right, Contains-append_cases}
@@ -21,11 +23,13 @@ use Rattle.hg_discovery.proofs.CountLemmas.{one_less}
 
 -- ---- places behind
 
-pub append_place : {X : Type 0} (xs ys : List X) (i : ℕ) (x : X) → slice_get ys i ≡ Some x → (m : ℕ) × (length xs ≤ m) × (slice_get (xs ++ ys) m ≡ Some x)
+pub append_place : {X : Type 0} (xs ys : List X) (i : ℕ) (x : X) → slice_get ys i ≡ Some x
+    → (m : ℕ) × (length xs ≤ m) × (slice_get (xs ++ ys) m ≡ Some x)
 append_place [] ys i x h = (i, omega arith, h)
 append_place (y ∷ xs) ys i x h = let r = append_place xs ys i x h in (suc r.0, omega (arith, r.1), r.2)
 
-pub append_behind : {X : Type 0} (xs ys : List X) (m : ℕ) (x : X) → length xs ≤ m → slice_get (xs ++ ys) m ≡ Some x → Contains ys x
+pub append_behind : {X : Type 0} (xs ys : List X) (m : ℕ) (x : X) → length xs ≤ m → slice_get (xs ++ ys) m ≡ Some x
+    → Contains ys x
 append_behind [] ys m x le h = Contains-from_place ys m x h
 append_behind (y ∷ xs) ys zero x le h = absurd (omega (arith, le))
 append_behind (y ∷ xs) ys (suc m) x le h = append_behind xs ys m x (omega (arith, le)) h
@@ -43,23 +47,31 @@ module _ (d : Status) where
     count = refl;
   }
 
-  pub Grows-one : d ≢ Undecided → (p : ℕ) (old : List Status) (log : List ℕ) → Is old Undecided p → Grows (λ k. p ≡ k) d old log (set old p d) (log ++ p ∷ [])
+  pub Grows-one : d ≢ Undecided → (p : ℕ) (old : List Status) (log : List ℕ) → Is old Undecided p
+      → Grows (λ k. p ≡ k) d old log (set old p d) (log ++ p ∷ [])
   Grows-one decided p old log at = record {
     more = p ∷ [];
     longer = refl;
     len = length-set old p d;
     changed = λ k. elim (cases_eq k p) [
-      | inl e ↦ inr (subst (Is old Undecided) (sym e) at, subst (Is (set old p d) d) (sym e) now, sym e, subst (Contains (p ∷ [])) (sym e) (Contains-first p []))
+      | inl e ↦ inr (
+        subst (Is old Undecided) (sym e) at,
+        subst (Is (set old p d) d) (sym e) now,
+        sym e,
+        subst (Contains (p ∷ [])) (sym e) (Contains-first p []),
+      )
       | inr ne ↦ inl (get-set_other old p k d ne)
     ];
-    logged = λ k h. let e : p ≡ k = Contains-one p k h in (subst (Is old Undecided) e at, subst (Is (set old p d) d) e now, e);
+    logged = λ k h. let e : p ≡ k = Contains-one p k h in
+        (subst (Is old Undecided) e at, subst (Is (set old p d) d) e now, e);
     count = omega (arith, one_less old p d decided at, length-append log (p ∷ []));
   }
     where
       now : Is (set old p d) d p
       now = get-set_same old p d (slice_get_within old p Undecided at)
 
-  pub Grows-wider : (P Q : ℕ → Type 0) (a b : List Status) (k l : List ℕ) → ((q : ℕ) → P q → Q q) → Grows P d a k b l → Grows Q d a k b l
+  pub Grows-wider : (P Q : ℕ → Type 0) (a b : List Status) (k l : List ℕ) → ((q : ℕ) → P q → Q q) → Grows P d a k b l
+      → Grows Q d a k b l
   Grows-wider P Q a b k l wide g = record {
     more = g.more;
     longer = g.longer;
@@ -72,13 +84,24 @@ module _ (d : Status) where
   pub Grows-so : (P : ℕ → Type 0) (a b : List Status) (k l : List ℕ) → Grows P d a k b l → (q : ℕ) → Is a d q → Is b d q
   Grows-so P a b k l g q h = elim (g.changed q) [ inl s ↦ s ∙ h | inr f ↦ f.1 ]
 
-  pub Grows-kept : (P : ℕ → Type 0) (a b : List Status) (k l : List ℕ) → Grows P d a k b l → (e : Status) (q : ℕ) → e ≢ Undecided → Is a e q → Is b e q
-  Grows-kept P a b k l g e q ne h = elim (g.changed q) [ inl s ↦ s ∙ h | inr f ↦ absurd (ne (same_Some e Undecided (sym h ∙ f.0))) ]
+  pub Grows-kept : (P : ℕ → Type 0) (a b : List Status) (k l : List ℕ) → Grows P d a k b l → (e : Status) (q : ℕ)
+      → e ≢ Undecided → Is a e q → Is b e q
+  Grows-kept P a b k l g e q ne h = elim (g.changed q) [
+    | inl s ↦ s ∙ h
+    | inr f ↦
+        absurd (ne (same_Some e Undecided (sym h ∙ f.0)))
+  ]
 
-  pub Grows-from : (P : ℕ → Type 0) (a b : List Status) (k l : List ℕ) → Grows P d a k b l → (e : Status) (q : ℕ) → e ≢ d → Is b e q → Is a e q
-  Grows-from P a b k l g e q ne h = elim (g.changed q) [ inl s ↦ sym s ∙ h | inr f ↦ absurd (ne (same_Some e d (sym h ∙ f.1))) ]
+  pub Grows-from : (P : ℕ → Type 0) (a b : List Status) (k l : List ℕ) → Grows P d a k b l → (e : Status) (q : ℕ)
+      → e ≢ d → Is b e q → Is a e q
+  Grows-from P a b k l g e q ne h = elim (g.changed q) [
+    | inl s ↦ sym s ∙ h
+    | inr f ↦
+        absurd (ne (same_Some e d (sym h ∙ f.1)))
+  ]
 
-  pub Grows-then : (P : ℕ → Type 0) (a b c : List Status) (k l m : List ℕ) → Grows P d a k b l → Grows P d b l c m → Grows P d a k c m
+  pub Grows-then : (P : ℕ → Type 0) (a b c : List Status) (k l m : List ℕ) → Grows P d a k b l → Grows P d b l c m
+      → Grows P d a k c m
   Grows-then P a b c k l m first second = record {
     more = first.more ++ second.more;
     longer = second.longer ∙ ap (λ xs. xs ++ second.more) first.longer ∙ append_assoc k first.more second.more;
@@ -100,7 +123,8 @@ module _ (d : Status) where
       before : (q : ℕ) → Is b Undecided q → Is a Undecided q
       before q u = elim (first.changed q) [ inl s ↦ sym s ∙ u | inr h ↦ h.0 ]
 
-  pub AreTaken-then : (P Q R : ℕ → Type 0) (a b c : List Status) (k l m : List ℕ) → Grows P d a k b l → Grows Q d b l c m → AreTaken P d a b → AreTaken Q d b c → ((q : ℕ) → R q → P q ⊎ Q q) → AreTaken R d a c
+  pub AreTaken-then : (P Q R : ℕ → Type 0) (a b c : List Status) (k l m : List ℕ) → Grows P d a k b l
+      → Grows Q d b l c m → AreTaken P d a b → AreTaken Q d b c → ((q : ℕ) → R q → P q ⊎ Q q) → AreTaken R d a c
   AreTaken-then P Q R a b c k l m first second one two joins q r u = elim (joins q r) [
     | inl p ↦ Grows-so Q b c l m second q (one q p u)
     | inr x ↦ elim (first.changed q) [ inl same ↦ two q x (same ∙ u) | inr h ↦ Grows-so Q b c l m second q h.1 ]
@@ -109,14 +133,18 @@ module _ (d : Status) where
 -- ---- a walk
 
 -- E leads from what is decided to what is decided with it; what was logged from the place `next` on waits for it
-pub record IsWalked (d : Status) (E : ℕ → ℕ → Type 0) (P : ℕ → Type 0) (place : ℕ) (old : List Status) (start : List ℕ) (now : List Status) (log : List ℕ) (next : ℕ) : Type 0 where
+pub record IsWalked (d : Status) (E : ℕ → ℕ → Type 0) (P : ℕ → Type 0) (place : ℕ) (old : List Status)
+    (start : List ℕ) (now : List Status) (log : List ℕ) (next : ℕ) : Type 0 where
   pub grows : Grows P d old start now log
   pub begun : Is now d place
   pub from : length start ≤ next
   pub followed : (j k : ℕ) → E j k → Is now d j → Is now d k ⊎ ((i : ℕ) × (next ≤ i) × (slice_get log i ≡ Some j))
 
-module _ (d : Status) (E : ℕ → ℕ → Type 0) (P : ℕ → Type 0) (place : ℕ) (old : List Status) (start : List ℕ) (closed : (j k : ℕ) → E j k → Is old d j → Is old d k) where
-  pub IsWalked-start : (now : List Status) (log : List ℕ) → Is old Undecided place → P place → Grows (λ k. place ≡ k) d old start now log → AreTaken (λ k. place ≡ k) d old now → IsWalked d E P place old start now log (length start)
+module _ (d : Status) (E : ℕ → ℕ → Type 0) (P : ℕ → Type 0) (place : ℕ) (old : List Status) (start : List ℕ)
+    (closed : (j k : ℕ) → E j k → Is old d j → Is old d k) where
+  pub IsWalked-start : (now : List Status) (log : List ℕ) → Is old Undecided place → P place
+      → Grows (λ k. place ≡ k) d old start now log → AreTaken (λ k. place ≡ k) d old now
+      → IsWalked d E P place old start now log (length start)
   IsWalked-start now log at p g taken = record {
     grows = Grows-wider d (λ k. place ≡ k) P old now start log (λ k e. subst P e p) g;
     begun = taken place refl at;
@@ -130,17 +158,25 @@ module _ (d : Status) (E : ℕ → ℕ → Type 0) (P : ℕ → Type 0) (place :
     ];
   }
 
-  pub IsWalked-end : (now : List Status) (log : List ℕ) (next : ℕ) → IsWalked d E P place old start now log next → length log ≤ next → (j k : ℕ) → E j k → Is now d j → Is now d k
-  IsWalked-end now log next w le j k e h = elim (w.followed j k e h) [ inl so ↦ so | inr p ↦ absurd (omega (arith, le, p.1, slice_get_within log p.0 j p.2)) ]
+  pub IsWalked-end : (now : List Status) (log : List ℕ) (next : ℕ) → IsWalked d E P place old start now log next
+      → length log ≤ next → (j k : ℕ) → E j k → Is now d j → Is now d k
+  IsWalked-end now log next w le j k e h = elim (w.followed j k e h)
+      [ inl so ↦ so | inr p ↦ absurd (omega (arith, le, p.1, slice_get_within log p.0 j p.2)) ]
 
-  module _ (step : (j k : ℕ) → E j k → P j → P k) (free : (j k : ℕ) → E j k → Is old Undecided j → Is old d k ⊎ Is old Undecided k) (now : List Status) (log : List ℕ) (next : ℕ) (w : IsWalked d E P place old start now log next) (one : ℕ) (at : slice_get log next ≡ Some one) where
+  module _ (step : (j k : ℕ) → E j k → P j → P k) (free : (j k : ℕ) → E j k → Is old Undecided j
+      → Is old d k ⊎ Is old Undecided k) (now : List Status) (log : List ℕ) (next : ℕ)
+      (w : IsWalked d E P place old start now log next) (one : ℕ) (at : slice_get log next ≡ Some one) where
     pub waited : Is old Undecided one × Is now d one × P one
-    waited = w.grows.logged one (append_behind start w.grows.more next one w.from (subst (λ xs. slice_get xs next ≡ Some one) w.grows.longer at))
+    waited = w.grows.logged one (append_behind start w.grows.more next one w.from
+        (subst (λ xs. slice_get xs next ≡ Some one) w.grows.longer at))
 
-    pub IsWalked-grows : (new : List Status) (after : List ℕ) → Grows (E one) d now log new after → Grows P d old start new after
-    IsWalked-grows new after g = Grows-then d P old now new start log after w.grows (Grows-wider d (E one) P now new log after (λ k e. step one k e waited.2) g)
+    pub IsWalked-grows : (new : List Status) (after : List ℕ) → Grows (E one) d now log new after
+        → Grows P d old start new after
+    IsWalked-grows new after g = Grows-then d P old now new start log after w.grows
+        (Grows-wider d (E one) P now new log after (λ k e. step one k e waited.2) g)
 
-    pub IsWalked-step : (new : List Status) (after : List ℕ) → Grows (E one) d now log new after → AreTaken (E one) d now new → IsWalked d E P place old start new after (next + 1)
+    pub IsWalked-step : (new : List Status) (after : List ℕ) → Grows (E one) d now log new after
+        → AreTaken (E one) d now new → IsWalked d E P place old start new after (next + 1)
     IsWalked-step new after g taken = record {
       grows = IsWalked-grows new after g;
       begun = kept place w.begun;
@@ -149,14 +185,24 @@ module _ (d : Status) (E : ℕ → ℕ → Type 0) (P : ℕ → Type 0) (place :
         | inl same ↦ elim (w.followed j k e (sym same ∙ h)) [
           | inl so ↦ inl (kept k so)
           | inr p ↦ elim (cases_eq p.0 next) [
-            | inl is ↦ inl (reached k (subst (λ q. E q k) (same_Some j one (sym (subst (λ m. slice_get log m ≡ Some j) is p.2) ∙ at)) e))
-            | inr ne ↦ inr (p.0, omega (arith, p.1, ne), subst (λ xs. slice_get xs p.0 ≡ Some j) (sym g.longer) (slice_get-append log g.more p.0 j p.2))
+            | inl is ↦ inl (reached k
+                (subst (λ q. E q k) (same_Some j one (sym (subst (λ m. slice_get log m ≡ Some j) is p.2) ∙ at)) e))
+            | inr ne ↦ inr (
+              p.0,
+              omega (arith, p.1, ne),
+              subst (λ xs. slice_get xs p.0 ≡ Some j) (sym g.longer)
+                  (slice_get-append log g.more p.0 j p.2),
+            )
           ]
         ]
         | inr q ↦
             let m = place_from_Contains g.more j q.3 in
             let r = append_place log g.more m.0 j m.1 in
-            inr (r.0, omega (arith, r.1, slice_get_within log next one at), subst (λ xs. slice_get xs r.0 ≡ Some j) (sym g.longer) r.2)
+            inr (
+              r.0,
+              omega (arith, r.1, slice_get_within log next one at),
+              subst (λ xs. slice_get xs r.0 ≡ Some j) (sym g.longer) r.2,
+            )
       ];
     }
       where
@@ -180,7 +226,8 @@ ToChild ps j k = IsParentAt ps k j
 abbrev pub Below : List ParentPlaces → ℕ → ℕ → Type 0
 Below ps place k = IsUnder ps k place
 
-module _ (ps : List ParentPlaces) (old : List Status) (len : length old ≡ length ps) (order : IsInOrder ps) (closed : IsClosed ps old) where
+module _ (ps : List ParentPlaces) (old : List Status) (len : length old ≡ length ps) (order : IsInOrder ps)
+    (closed : IsClosed ps old) where
   pub up_free : (j k : ℕ) → IsParentAt ps j k → Is old Undecided j → Is old Common k ⊎ Is old Undecided k
   up_free j k q u = elim (three old k (omega (arith, slice_get_within old j Undecided u, order j k q))) [
     | inl v ↦ inr v
@@ -193,7 +240,8 @@ module _ (ps : List ParentPlaces) (old : List Status) (len : length old ≡ leng
     | inr e ↦ elim e [ inl c ↦ absurd (not_both_uc old j u (closed.common k j q c)) | inr m ↦ inl m ]
   ]
 
-under_step : (ps : List ParentPlaces) (j k : ℕ) → IsParentAt ps j k → (place : ℕ) → IsUnder ps j place → IsUnder ps k place
+under_step : (ps : List ParentPlaces) (j k : ℕ) → IsParentAt ps j k → (place : ℕ) → IsUnder ps j place
+    → IsUnder ps k place
 under_step ps j k q place itself = below itself q
 under_step ps j k q place (below {p = p} u r) = below (under_step ps j k q p u) r
 
@@ -203,43 +251,58 @@ up_step ps place j k q u = under_step ps j k q place u
 pub down_step : (ps : List ParentPlaces) (place j k : ℕ) → IsParentAt ps k j → IsUnder ps place j → IsUnder ps place k
 down_step ps place j k q u = below u q
 
-reach_up : (ps : List ParentPlaces) (Q : ℕ → Type 0) → ((j k : ℕ) → IsParentAt ps j k → Q j → Q k) → (k j : ℕ) → IsUnder ps k j → Q j → Q k
+reach_up : (ps : List ParentPlaces) (Q : ℕ → Type 0) → ((j k : ℕ) → IsParentAt ps j k → Q j → Q k) → (k j : ℕ)
+    → IsUnder ps k j → Q j → Q k
 reach_up ps Q step k j itself h = h
 reach_up ps Q step k j (below {p = p} u q) h = reach_up ps Q step k p u (step j p q h)
 
-reach_down : (ps : List ParentPlaces) (Q : ℕ → Type 0) → ((j k : ℕ) → IsParentAt ps k j → Q j → Q k) → (k j : ℕ) → IsUnder ps k j → Q k → Q j
+reach_down : (ps : List ParentPlaces) (Q : ℕ → Type 0) → ((j k : ℕ) → IsParentAt ps k j → Q j → Q k) → (k j : ℕ)
+    → IsUnder ps k j → Q k → Q j
 reach_down ps Q step k j itself h = h
 reach_down ps Q step k j (below {p = p} u q) h = step p j q (reach_down ps Q step k p u h)
 
-module _ (ps : List ParentPlaces) (place : ℕ) (old : List Status) (start : List ℕ) (closed : IsClosed ps old) (now : List Status) (log : List ℕ) (next : ℕ) (le : length log ≤ next) where
-  pub walked_common : IsWalked Common (ToParent ps) (Below ps place) place old start now log next → IsDecided ps place true old now
+module _ (ps : List ParentPlaces) (place : ℕ) (old : List Status) (start : List ℕ) (closed : IsClosed ps old)
+    (now : List Status) (log : List ℕ) (next : ℕ) (le : length log ≤ next) where
+  pub walked_common : IsWalked Common (ToParent ps) (Below ps place) place old start now log next
+      → IsDecided ps place true old now
   walked_common w = record {
     len = w.grows.len;
     common = λ j. (
       λ h. elim (w.grows.changed j) [ inl s ↦ inl (sym s ∙ h) | inr q ↦ inr (refl, q.0, q.2) ],
       λ h. elim h [
         | inl o ↦ Grows-so Common (Below ps place) old now start log w.grows j o
-        | inr u ↦ reach_up ps (Is now Common) (IsWalked-end Common (ToParent ps) (Below ps place) place old start closed.common now log next w le) j place u.2 w.begun
+        | inr u ↦ reach_up ps (Is now Common) (IsWalked-end Common (ToParent ps)
+            (Below ps place) place old start closed.common now log next w le) j place u.2 w.begun
       ],
     );
     missing = λ j. (
       λ h. inl (Grows-from Common (Below ps place) old now start log w.grows Missing j (λ e. cc) h),
-      λ h. elim h [ inl o ↦ Grows-kept Common (Below ps place) old now start log w.grows Missing j (λ e. cc) o | inr u ↦ absurd (true≢false u.0) ],
+      λ h. elim h [
+        | inl o ↦ Grows-kept Common (Below ps place) old now start log w.grows Missing j
+            (λ e. cc) o
+        | inr u ↦ absurd (true≢false u.0)
+      ],
     );
   }
 
-  pub walked_missing : IsWalked Missing (ToChild ps) (IsUnder ps place) place old start now log next → IsDecided ps place false old now
+  pub walked_missing : IsWalked Missing (ToChild ps) (IsUnder ps place) place old start now log next
+      → IsDecided ps place false old now
   walked_missing w = record {
     len = w.grows.len;
     common = λ j. (
       λ h. inl (Grows-from Missing (IsUnder ps place) old now start log w.grows Common j (λ e. cc) h),
-      λ h. elim h [ inl o ↦ Grows-kept Missing (IsUnder ps place) old now start log w.grows Common j (λ e. cc) o | inr u ↦ absurd (true≢false (sym u.0)) ],
+      λ h. elim h [
+        | inl o ↦ Grows-kept Missing (IsUnder ps place) old now start log w.grows Common j
+            (λ e. cc) o
+        | inr u ↦ absurd (true≢false (sym u.0))
+      ],
     );
     missing = λ j. (
       λ h. elim (w.grows.changed j) [ inl s ↦ inl (sym s ∙ h) | inr q ↦ inr (refl, q.0, q.2) ],
       λ h. elim h [
         | inl o ↦ Grows-so Missing (IsUnder ps place) old now start log w.grows j o
-        | inr u ↦ reach_down ps (Is now Missing) (IsWalked-end Missing (ToChild ps) (IsUnder ps place) place old start (λ p k q m. closed.missing k p q m) now log next w le) place j u.2 w.begun
+        | inr u ↦ reach_down ps (Is now Missing) (IsWalked-end Missing (ToChild ps) (IsUnder ps place) place old start
+            (λ p k q m. closed.missing k p q m) now log next w le) place j u.2 w.begun
       ],
     );
   }
@@ -259,12 +322,17 @@ module _ (cs : List ℕ) (from i x : ℕ) (at : slice_get cs i ≡ Some x) (le :
     | inr ne ↦ inl (h.0, h.1, omega (arith, h.2, ne), h.3)
   ]
 
-  module _ (d : Status) (a b c : List Status) (k l m : List ℕ) (first : Grows (Stands cs from i) d a k b l) (second : Grows (λ q. x ≡ q) d b l c m) where
+  module _ (d : Status) (a b c : List Status) (k l m : List ℕ) (first : Grows (Stands cs from i) d a k b l)
+      (second : Grows (λ q. x ≡ q) d b l c m) where
     pub stretch_grows : Grows (Stands cs from (i + 1)) d a k c m
-    stretch_grows = Grows-then d (Stands cs from (i + 1)) a b c k l m (Grows-wider d (Stands cs from i) (Stands cs from (i + 1)) a b k l stands_more first) (Grows-wider d (λ q. x ≡ q) (Stands cs from (i + 1)) b c l m stands_one second)
+    stretch_grows = Grows-then d (Stands cs from (i + 1)) a b c k l m
+        (Grows-wider d (Stands cs from i) (Stands cs from (i + 1)) a b k l stands_more first)
+        (Grows-wider d (λ q. x ≡ q) (Stands cs from (i + 1)) b c l m stands_one second)
 
-    pub stretch_taken : AreTaken (Stands cs from i) d a b → AreTaken (λ q. x ≡ q) d b c → AreTaken (Stands cs from (i + 1)) d a c
-    stretch_taken one two = AreTaken-then d (Stands cs from i) (λ q. x ≡ q) (Stands cs from (i + 1)) a b c k l m first second one two stands_cases
+    pub stretch_taken : AreTaken (Stands cs from i) d a b → AreTaken (λ q. x ≡ q) d b c
+        → AreTaken (Stands cs from (i + 1)) d a c
+    stretch_taken one two = AreTaken-then d (Stands cs from i) (λ q. x ≡ q)
+        (Stands cs from (i + 1)) a b c k l m first second one two stands_cases
 
 pub stands_in : (cs : List ℕ) (from i to k : ℕ) → i ≤ to → Stands cs from i k → Stands cs from to k
 stands_in cs from i to k le h = (h.0, h.1, omega (arith, h.2, le), h.3)
@@ -279,35 +347,48 @@ module _ (d : Status) (ps : List ParentPlaces) (one : ℕ) (a b : List Status) (
     pub parents_taken : AreTaken (IsOneOf p) d a b → AreTaken (ToParent ps one) d a b
     parents_taken taken q h u = taken q (subst (λ x. IsOneOf x q) (same_Some h.0 p (sym h.1 ∙ at)) h.2) u
 
-  module _ (base : List Status) (children : List ℕ) (left : List Stretch) (family : IsFamily ps base children left) (s : Stretch) (at : slice_get left one ≡ Some s) where
+  module _ (base : List Status) (children : List ℕ) (left : List Stretch) (family : IsFamily ps base children left)
+      (s : Stretch) (at : slice_get left one ≡ Some s) where
     pub children_grow : Grows (Stands children s.from s.to) d a k b l → Grows (ToChild ps one) d a k b l
-    children_grow g = Grows-wider d (Stands children s.from s.to) (ToChild ps one) a b k l (λ q h. family.sound one s q at h) g
+    children_grow g = Grows-wider d (Stands children s.from s.to) (ToChild ps one) a b k l
+        (λ q h. family.sound one s q at h) g
 
-    pub children_taken : ((q : ℕ) → Is a Undecided q → Is base Undecided q) → AreTaken (Stands children s.from s.to) d a b → AreTaken (ToChild ps one) d a b
+    pub children_taken : ((q : ℕ) → Is a Undecided q → Is base Undecided q)
+        → AreTaken (Stands children s.from s.to) d a b → AreTaken (ToChild ps one) d a b
     children_taken before taken q h u = taken q (family.complete one s q at h (before q u)) u
 
-pub undecided_still : (d : Status) (P : ℕ → Type 0) (a b : List Status) (k l : List ℕ) → Grows P d a k b l → (q : ℕ) → Is b Undecided q → Is a Undecided q
+pub undecided_still : (d : Status) (P : ℕ → Type 0) (a b : List Status) (k l : List ℕ) → Grows P d a k b l → (q : ℕ)
+    → Is b Undecided q → Is a Undecided q
 undecided_still d P a b k l g q u = elim (g.changed q) [ inl s ↦ sym s ∙ u | inr h ↦ h.0 ]
 
 -- what was read at an index
 pub read : {X : Type 0} (xs : List X) (i : ℕ) (x : X) → i < length xs → x ≡ get_or xs i x → slice_get xs i ≡ Some x
 read xs i x l e = slice_get-get_or xs i x l ∙ ap (λ y. Some y) (sym e)
 
-module _ (ps : List ParentPlaces) (old : List Status) (len : length old ≡ length ps) (order : IsInOrder ps) (closed : IsClosed ps old) (place : ℕ) (start : List ℕ) (now : List Status) (log : List ℕ) (next one : ℕ) (at : slice_get log next ≡ Some one) where
+module _ (ps : List ParentPlaces) (old : List Status) (len : length old ≡ length ps) (order : IsInOrder ps)
+    (closed : IsClosed ps old) (place : ℕ) (start : List ℕ) (now : List Status) (log : List ℕ) (next one : ℕ)
+    (at : slice_get log next ≡ Some one) where
   module _ (w : IsWalked Common (ToParent ps) (Below ps place) place old start now log next) where
     pub up_within : one < length ps
     up_within =
-        let was = waited Common (ToParent ps) (Below ps place) place old start closed.common (up_step ps place) (up_free ps old len order closed) now log next w one at in
+        let was = waited Common (ToParent ps) (Below ps place) place old start closed.common (up_step ps place)
+        (up_free ps old len order closed) now log next w one at in
         omega (arith, len, slice_get_within old one Undecided was.0)
 
-    module _ (p : ParentPlaces) (at_one : slice_get ps one ≡ Some p) (new : List Status) (after : List ℕ) (g : Grows (IsOneOf p) Common now log new after) where
+    module _ (p : ParentPlaces) (at_one : slice_get ps one ≡ Some p) (new : List Status) (after : List ℕ)
+        (g : Grows (IsOneOf p) Common now log new after) where
       pub up_grows : Grows (Below ps place) Common old start new after
-      up_grows = IsWalked-grows Common (ToParent ps) (Below ps place) place old start closed.common (up_step ps place) (up_free ps old len order closed) now log next w one at new after (parents_grow Common ps one now new log after p at_one g)
+      up_grows = IsWalked-grows Common (ToParent ps) (Below ps place) place old start closed.common (up_step ps place)
+          (up_free ps old len order closed) now log next w one at new after
+          (parents_grow Common ps one now new log after p at_one g)
 
-      pub up_walked : AreTaken (IsOneOf p) Common now new → IsWalked Common (ToParent ps) (Below ps place) place old start new after (next + 1)
+      pub up_walked : AreTaken (IsOneOf p) Common now new → IsWalked Common (ToParent ps)
+          (Below ps place) place old start new after (next + 1)
       up_walked taken =
-          IsWalked-step Common (ToParent ps) (Below ps place) place old start closed.common (up_step ps place) (up_free ps old len order closed) now log next w one at new after
-          (parents_grow Common ps one now new log after p at_one g) (parents_taken Common ps one now new log after p at_one taken)
+          IsWalked-step Common (ToParent ps) (Below ps place) place old start closed.common (up_step ps place)
+          (up_free ps old len order closed) now log next w one at new after
+          (parents_grow Common ps one now new log after p at_one g)
+          (parents_taken Common ps one now new log after p at_one taken)
 
   module _ (w : IsWalked Missing (ToChild ps) (IsUnder ps place) place old start now log next) where
     down_closed : (j k : ℕ) → IsParentAt ps k j → Is old Missing j → Is old Missing k
@@ -315,15 +396,23 @@ module _ (ps : List ParentPlaces) (old : List Status) (len : length old ≡ leng
 
     pub down_within : one < length ps
     down_within =
-        let was = waited Missing (ToChild ps) (IsUnder ps place) place old start down_closed (down_step ps place) (down_free ps old len order closed) now log next w one at in
+        let was = waited Missing (ToChild ps) (IsUnder ps place) place old start down_closed (down_step ps place)
+        (down_free ps old len order closed) now log next w one at in
         omega (arith, len, slice_get_within old one Undecided was.0)
 
-    module _ (children : List ℕ) (left : List Stretch) (family : IsFamily ps old children left) (s : Stretch) (at_one : slice_get left one ≡ Some s) (new : List Status) (after : List ℕ) (g : Grows (Stands children s.from s.to) Missing now log new after) where
+    module _ (children : List ℕ) (left : List Stretch) (family : IsFamily ps old children left) (s : Stretch)
+        (at_one : slice_get left one ≡ Some s) (new : List Status) (after : List ℕ)
+        (g : Grows (Stands children s.from s.to) Missing now log new after) where
       pub down_grows : Grows (IsUnder ps place) Missing old start new after
-      down_grows = IsWalked-grows Missing (ToChild ps) (IsUnder ps place) place old start down_closed (down_step ps place) (down_free ps old len order closed) now log next w one at new after (children_grow Missing ps one now new log after old children left family s at_one g)
-
-      pub down_walked : AreTaken (Stands children s.from s.to) Missing now new → IsWalked Missing (ToChild ps) (IsUnder ps place) place old start new after (next + 1)
-      down_walked taken =
-          IsWalked-step Missing (ToChild ps) (IsUnder ps place) place old start down_closed (down_step ps place) (down_free ps old len order closed) now log next w one at new after
+      down_grows = IsWalked-grows Missing (ToChild ps) (IsUnder ps place) place old start down_closed
+          (down_step ps place) (down_free ps old len order closed) now log next w one at new after
           (children_grow Missing ps one now new log after old children left family s at_one g)
-          (children_taken Missing ps one now new log after old children left family s at_one (undecided_still Missing (IsUnder ps place) old now start log w.grows) taken)
+
+      pub down_walked : AreTaken (Stands children s.from s.to) Missing now new
+          → IsWalked Missing (ToChild ps) (IsUnder ps place) place old start new after (next + 1)
+      down_walked taken =
+          IsWalked-step Missing (ToChild ps) (IsUnder ps place) place old start down_closed (down_step ps place)
+          (down_free ps old len order closed) now log next w one at new after
+          (children_grow Missing ps one now new log after old children left family s at_one g)
+          (children_taken Missing ps one now new log after old children left family s at_one
+          (undecided_still Missing (IsUnder ps place) old now start log w.grows) taken)

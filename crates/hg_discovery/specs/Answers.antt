@@ -9,7 +9,8 @@ use Rattle.hg_discovery.specs.declared.error.DiscoveryError.TheVariants.{WrongCo
 use Rattle.hg_discovery.specs.Under.{IsUnder}
 use Rattle.hg_discovery.specs.Search.{Search, Is, IsSearch}
 
--- a yes for the changeset at k makes it and its undecided ancestors common, a no makes it and its undecided descendants missing
+-- a yes for the changeset at k makes it and its undecided ancestors common, a no makes it and its undecided descendants
+-- missing
 pub record IsDecided (ps : List ParentPlaces) (k : ℕ) (said : Bool) (old new : List Status) : Type 0 where
   pub len : length new ≡ length old
   pub common : (j : ℕ) → Is new Common j ↔ (Is old Common j ⊎ ((said ≡ true) × Is old Undecided j × IsUnder ps j k))
@@ -22,7 +23,8 @@ IsTold ps k said old new = (Is old Undecided k × IsDecided ps k said old new) �
 -- the answers count in the order of the sample
 abbrev pub AreTold : List ParentPlaces → List Spot → List Bool → List Status → List Status → Type 0
 AreTold ps [] [] old new = new ≡ old
-AreTold ps (x ∷ xs) (said ∷ answers) old new = (mid : List Status) × IsTold ps x.place said old mid × AreTold ps xs answers mid new
+AreTold ps (x ∷ xs) (said ∷ answers) old new = (mid : List Status) × IsTold ps x.place said old mid
+    × AreTold ps xs answers mid new
 AreTold ps [] (said ∷ answers) old new = ⊥
 AreTold ps (x ∷ xs) [] old new = ⊥
 

@@ -6,11 +6,13 @@ use Rattle.hg_discovery.specs.Search.{Is}
 use Rattle.hg_discovery.specs.Rounds.{undecided}
 
 -- some undecided places of which P holds are decided so now, and logged; all else is as it was
-pub record Grows (P : ℕ → Type 0) (d : Status) (old : List Status) (log : List ℕ) (new : List Status) (next : List ℕ) : Type 0 where
+pub record Grows (P : ℕ → Type 0) (d : Status) (old : List Status) (log : List ℕ) (new : List Status)
+    (next : List ℕ) : Type 0 where
   pub more : List ℕ
   pub longer : next ≡ log ++ more
   pub len : length new ≡ length old
-  pub changed : (k : ℕ) → (slice_get new k ≡ slice_get old k) ⊎ (Is old Undecided k × Is new d k × P k × Contains more k)
+  pub changed : (k : ℕ) → (slice_get new k ≡ slice_get old k)
+      ⊎ (Is old Undecided k × Is new d k × P k × Contains more k)
   pub logged : (k : ℕ) → Contains more k → Is old Undecided k × Is new d k × P k
   pub count : undecided new + length next ≡ undecided old + length log
 

@@ -24,11 +24,13 @@ AreTrue cs ns answers = (i : ℕ) (n : Node) → slice_get ns i ≡ Some n → s
 -- these rounds lead from s to t, and each yes was true when it was given
 abbrev pub AreTrueRounds : Search → List Round → Search → Type 0
 AreTrueRounds s [] t = t ≡ s
-AreTrueRounds s (r ∷ rs) t = (mid : Search) × IsRound s r.answers mid × AreTrue r.theirs (nodes_of s.asked) r.answers × AreTrueRounds mid rs t
+AreTrueRounds s (r ∷ rs) t = (mid : Search) × IsRound s r.answers mid × AreTrue r.theirs (nodes_of s.asked) r.answers
+    × AreTrueRounds mid rs t
 
 -- one answer for each node, and yes exactly where P holds of it
 abbrev pub AreAnswers : (Node → Type 0) → List Node → List Bool → Type 0
-AreAnswers P ns answers = (length answers ≡ length ns) × ((i : ℕ) (n : Node) (answer : Bool) → slice_get ns i ≡ Some n → slice_get answers i ≡ Some answer → IsTrue answer ↔ P n)
+AreAnswers P ns answers = (length answers ≡ length ns) × ((i : ℕ) (n : Node) (answer : Bool) → slice_get ns i ≡ Some n
+    → slice_get answers i ≡ Some answer → IsTrue answer ↔ P n)
 
 -- the answers say which of the nodes are served
 abbrev pub AreKnown : Content → List Node → List Bool → Type 0
@@ -37,7 +39,8 @@ AreKnown f ns answers = AreAnswers (IsServed f) ns answers
 -- these answers lead from s to t, and each says whether P holds
 abbrev pub AreAnsweredRounds : (Node → Type 0) → Search → List (List Bool) → Search → Type 0
 AreAnsweredRounds P s [] t = t ≡ s
-AreAnsweredRounds P s (answers ∷ rest) t = (mid : Search) × IsRound s answers mid × AreAnswers P (nodes_of s.asked) answers × AreAnsweredRounds P mid rest t
+AreAnsweredRounds P s (answers ∷ rest) t = (mid : Search) × IsRound s answers mid
+    × AreAnswers P (nodes_of s.asked) answers × AreAnsweredRounds P mid rest t
 
 -- these answers lead from s to t, and each says what is served, while the other side stands still
 abbrev pub AreKnownRounds : Content → Search → List (List Bool) → Search → Type 0

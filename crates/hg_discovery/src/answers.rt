@@ -29,7 +29,8 @@ pub(crate) fn known_by(
     nodes: &[Node],
 ) -> Result<Vec<bool>, AllocError>
     requires len { length served.now ≡ length (changesets replica.now.history) }
-    requires exact { (n : Node) → IsMarkedNode (changesets replica.now.history) served.now n ↔ IsServed (content_of replica.now) n }
+    requires exact { (n : Node) → IsMarkedNode (changesets replica.now.history) served.now n
+        ↔ IsServed (content_of replica.now) n }
     ensures { IfOk result (λ answers. AreKnown (content_of replica.now) nodes.now answers.items) }
 {
     let graph = replica.graph();

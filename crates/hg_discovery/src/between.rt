@@ -11,8 +11,8 @@ use hg_replica::Replica;
 use hg_view::served_marks;
 use std::alloc::Global;
 
-/// The heads of what the asker has in common with the other replica, ascending: it asks in rounds, and the other tells which
-/// of the asked changesets it serves. It is refused for want of memory alone.
+/// The heads of what the asker has in common with the other replica, ascending: it asks in rounds, and the other tells
+/// which of the asked changesets it serves. It is refused for want of memory alone.
 pub fn heads_in_common(
     alloc: Global,
     asker: &Replica,

@@ -59,9 +59,21 @@ impl Model for Discovery {
 
     ghost coded = { Prim.hlevel codes };
 
-    ghost view = { λ d. record { parents = d.parents.items; spots = d.spots.items; decided = d.decided.items; asked = d.asked.items } };
+    ghost view = { λ d. record {
+      parents = d.parents.items;
+      spots = d.spots.items;
+      decided = d.decided.items;
+      asked = d.asked.items;
+    } };
 
-    ghost invariant = { λ d. IsSearch (record { parents = d.parents.items; spots = d.spots.items; decided = d.decided.items; asked = d.asked.items }) × IsFamily d.parents.items d.decided.items d.family.children.items d.family.left.items × AreDecidedTo d.decided.items d.spots.items d.from };
+    ghost invariant = { λ d. IsSearch
+        (record {
+          parents = d.parents.items;
+          spots = d.spots.items;
+          decided = d.decided.items;
+          asked = d.asked.items;
+        }) × IsFamily d.parents.items d.decided.items d.family.children.items
+        d.family.left.items × AreDecidedTo d.decided.items d.spots.items d.from };
 }
 
 impl Discovery {
@@ -86,8 +98,8 @@ impl Discovery {
         })
     }
 
-    /// The changesets to ask about: the first 200 of the heads of the undecided ones and then of the others, each ascending.
-    /// They are the same until answers come, and none when done.
+    /// The changesets to ask about: the first 200 of the heads of the undecided ones and then of the others, each
+    /// ascending. They are the same until answers come, and none when done.
     pub fn sample(&self) -> Result<Vec<Node>, AllocError>
         ensures sample { IfOk result (λ ns. ns.items ≡ nodes_of self.now.asked) }
         ensures search { IsSearch self.now }
@@ -95,10 +107,10 @@ impl Discovery {
         nodes(self.alloc, &self.asked)
     }
 
-    /// Takes the answers to the sample, in its order: a yes makes the changeset and its undecided ancestors common, a no makes
-    /// it and its undecided descendants missing. What an earlier answer decided stays so. Then the next sample is drawn; each
-    /// round decides 200 changesets at least, or all. Refuses with [`DiscoveryError::WrongCount`] where there aren't as many
-    /// answers as were asked for. A refusal changes nothing.
+    /// Takes the answers to the sample, in its order: a yes makes the changeset and its undecided ancestors common, a
+    /// no makes it and its undecided descendants missing. What an earlier answer decided stays so. Then the next sample
+    /// is drawn; each round decides 200 changesets at least, or all. Refuses with [`DiscoveryError::WrongCount`] where
+    /// there aren't as many answers as were asked for. A refusal changes nothing.
     pub fn answer(&mut self, answers: &[bool]) -> Result<(), DiscoveryError>
         ensures answer { AnswerAnswer self.old answers.now result self.new }
         ensures fewer { OnOk result (undecided self.new.decided ≤ undecided self.old.decided - 200) }
@@ -159,12 +171,19 @@ fn next_sample(
     decided: &mut [Status],
     from: &mut usize,
 ) -> Result<Vec<Spot>, AllocError>
-    requires search { IsSearch (record { parents = parents.now; spots = spots.now; decided = decided.old; asked = asked.now }) }
+    requires search { IsSearch
+        (record { parents = parents.now; spots = spots.now; decided = decided.old; asked = asked.now }) }
     requires family { IsFamily parents.now decided.old family.old.children.items family.old.left.items }
     requires from { AreDecidedTo decided.old spots.now from.old }
     requires answers { length answers.now ≡ length asked.now }
     ensures told { IfOk result (λ xs. AreTold parents.now asked.now answers.now decided.old decided.new) }
-    ensures search { IfOk result (λ xs. IsSearch (record { parents = parents.now; spots = spots.now; decided = decided.new; asked = xs.items })) }
+    ensures search { IfOk result
+        (λ xs. IsSearch (record {
+          parents = parents.now;
+          spots = spots.now;
+          decided = decided.new;
+          asked = xs.items;
+        })) }
     ensures err { OnErr result (decided.new ≡ decided.old) }
     ensures family { IsFamily parents.now decided.new family.new.children.items family.new.left.items }
     ensures from { AreDecidedTo decided.new spots.now from.new }

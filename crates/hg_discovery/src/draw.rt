@@ -1,5 +1,6 @@
 //! The next sample.
-ghost use Rattle.std.specs.Prelude.{◌≡◌, ℕ, ◌≤◌, ◌<◌, ◌++◌, [], Bool, List, Some, length, slice_get, take, filter, vec_len, All, OnOk, IfOk, Contains};
+ghost use Rattle.std.specs.Prelude.{◌≡◌, ℕ, ◌≤◌, ◌<◌, ◌++◌, [], Bool, List, Some, length, slice_get, take, filter};
+ghost use Rattle.std.specs.Prelude.{vec_len, All, OnOk, IfOk, Contains};
 ghost use Rattle.std.specs.Vec.{vec_capacity};
 ghost use Rattle.hg_graph.specs.declared.graph.ParentPlaces.{ParentPlaces};
 ghost use Rattle.hg_discovery.specs.declared.status.Spot.{Spot};
@@ -19,8 +20,8 @@ use std::alloc::{AllocError, Global};
 // How many changesets a round asks about.
 pub(crate) const SAMPLE: usize = 200;
 
-// The first of the undecided changesets: the heads among them, and then the others. No spot before the index is undecided.
-// There is room for all of them.
+// The first of the undecided changesets: the heads among them, and then the others. No spot before the index is
+// undecided. There is room for all of them.
 pub(crate) fn sample(
     family: &mut Family,
     spots: &[Spot],
@@ -34,16 +35,20 @@ pub(crate) fn sample(
     requires decided { AreDecidedTo decided.now spots.now from }
     requires empty { found.items ≡ [] }
     requires room { 200 ≤ vec_capacity found }
-    ensures sample { (ps : List ParentPlaces) → IsInOrder ps → IsClosed ps decided.now → IsFamily ps decided.now family.old.children.items family.old.left.items → IsSample (record { parents = ps; spots = spots.now; decided = decided.now; asked = result.items }) result.items }
-    ensures family { KeepsFamily decided.now family.old.children.items family.old.left.items family.new.children.items family.new.left.items }
+    ensures sample { (ps : List ParentPlaces) → IsInOrder ps → IsClosed ps decided.now
+        → IsFamily ps decided.now family.old.children.items family.old.left.items
+        → IsSample (record { parents = ps; spots = spots.now; decided = decided.now; asked = result.items })
+        result.items }
+    ensures family { KeepsFamily decided.now family.old.children.items family.old.left.items family.new.children.items
+        family.new.left.items }
 {
     draw(spots, decided, family, from, false, &mut found);
     draw(spots, decided, family, from, true, &mut found);
     found
 }
 
-// Adds the undecided ones of the spots from the index on that have an undecided child, or those that have none, until there
-// are enough.
+// Adds the undecided ones of the spots from the index on that have an undecided child, or those that have none, until
+// there are enough.
 fn draw(
     spots: &[Spot],
     decided: &[Status],
@@ -56,10 +61,14 @@ fn draw(
     requires fits { FitsChildren family.old.children.items family.old.left.items }
     requires decided { AreDecidedTo decided.now spots.now from }
     requires room { 200 ≤ vec_capacity found.old }
-    ensures family { KeepsFamily decided.now family.old.children.items family.old.left.items family.new.children.items family.new.left.items }
+    ensures family { KeepsFamily decided.now family.old.children.items family.old.left.items family.new.children.items
+        family.new.left.items }
     ensures len { length family.new.left.items ≡ length family.old.left.items }
     ensures fits { FitsChildren family.new.children.items family.new.left.items }
-    ensures drawn { (ps : List ParentPlaces) → IsFamily ps decided.now family.old.children.items family.old.left.items → length decided.now ≡ length ps → (marks : List Bool) → AreCovered ps decided.now Undecided marks → vec_len found.old ≤ 200 → found.new.items ≡ take 200 (found.old.items ++ filter (is_picked decided.now marks Undecided covered) spots.now) }
+    ensures drawn { (ps : List ParentPlaces) → IsFamily ps decided.now family.old.children.items family.old.left.items
+        → length decided.now ≡ length ps → (marks : List Bool) → AreCovered ps decided.now Undecided marks
+        → vec_len found.old ≤ 200 → found.new.items ≡ take 200
+        (found.old.items ++ filter (is_picked decided.now marks Undecided covered) spots.now) }
     ensures room { 200 ≤ vec_capacity found.new }
 {
     for i in from..spots.len() {
@@ -76,10 +85,13 @@ fn draw(
 fn is_next(spot: Spot, decided: &[Status], family: &mut Family, covered: bool) -> bool
     requires place { spot.place < length family.old.left.items }
     requires fits { FitsChildren family.old.children.items family.old.left.items }
-    ensures family { KeepsFamily decided.now family.old.children.items family.old.left.items family.new.children.items family.new.left.items }
+    ensures family { KeepsFamily decided.now family.old.children.items family.old.left.items family.new.children.items
+        family.new.left.items }
     ensures len { length family.new.left.items ≡ length family.old.left.items }
     ensures fits { FitsChildren family.new.children.items family.new.left.items }
-    ensures next { (ps : List ParentPlaces) → IsFamily ps decided.now family.old.children.items family.old.left.items → length decided.now ≡ length ps → (marks : List Bool) → AreCovered ps decided.now Undecided marks → result ≡ is_picked decided.now marks Undecided covered spot }
+    ensures next { (ps : List ParentPlaces) → IsFamily ps decided.now family.old.children.items family.old.left.items
+        → length decided.now ≡ length ps → (marks : List Bool) → AreCovered ps decided.now Undecided marks
+        → result ≡ is_picked decided.now marks Undecided covered spot }
 {
     if !is_undecided(spot.place, decided) {
         return false;
@@ -116,7 +128,10 @@ pub(crate) fn common_heads(
     requires in_order { IsInOrder parents.now }
     requires closed { IsClosed parents.now decided.now }
     requires spots { AreSpots decided.now spots.now }
-    ensures { IfOk result (λ xs. Lists (IsHead (record { parents = parents.now; spots = spots.now; decided = decided.now; asked = xs.items }) Common) xs.items) }
+    ensures { IfOk result
+        (λ xs. Lists (IsHead
+        (record { parents = parents.now; spots = spots.now; decided = decided.now; asked = xs.items }) Common)
+        xs.items) }
 {
     let covered = covered(alloc, parents, decided, Status::Common)?;
     let mut found = Vec::new(alloc);
@@ -184,7 +199,9 @@ fn pick(
     requires len { length marks.now ≡ length decided.now }
     requires within { All (λ x. x.place < length decided.now) spots.now }
     requires limit { vec_len found.old ≤ limit }
-    ensures { OnOk result (found.new.items ≡ take limit (found.old.items ++ filter (is_picked decided.now marks.now so covered) spots.now)) }
+    ensures { OnOk result
+        (found.new.items ≡ take limit (found.old.items ++ filter
+        (is_picked decided.now marks.now so covered) spots.now)) }
 {
     for spot in spots {
         if found.len() < limit && decided[spot.place] == so && marks[spot.place] == covered {

@@ -38,7 +38,8 @@ impl Drop for Family {
 
 // All children of each changeset of a graph.
 pub(crate) fn family_of(alloc: Global, graph: &Graph) -> Result<Family, AllocError>
-    ensures { IfOk result (λ family. (ps : List ParentPlaces) (ds : List Status) → IsShapeOf graph.now ps → IsFamily ps ds family.children.items family.left.items) }
+    ensures { IfOk result (λ family. (ps : List ParentPlaces) (ds : List Status) → IsShapeOf graph.now ps
+        → IsFamily ps ds family.children.items family.left.items) }
 {
     let mut children = Vec::new(alloc);
     let mut left = Vec::with_capacity(alloc, graph.len())?;
@@ -51,15 +52,17 @@ pub(crate) fn family_of(alloc: Global, graph: &Graph) -> Result<Family, AllocErr
     Ok(Family { children, left })
 }
 
-// Whether a child of the changeset is undecided. The decided ones that come first are left out from then on: so all such
-// questions together cost what the questions and the links are.
+// Whether a child of the changeset is undecided. The decided ones that come first are left out from then on: so all
+// such questions together cost what the questions and the links are.
 pub(crate) fn has_undecided_child(family: &mut Family, place: usize, decided: &[Status]) -> bool
     requires place { place < length family.old.left.items }
     requires fits { FitsChildren family.old.children.items family.old.left.items }
-    ensures family { KeepsFamily decided.now family.old.children.items family.old.left.items family.new.children.items family.new.left.items }
+    ensures family { KeepsFamily decided.now family.old.children.items family.old.left.items family.new.children.items
+        family.new.left.items }
     ensures len { length family.new.left.items ≡ length family.old.left.items }
     ensures fits { FitsChildren family.new.children.items family.new.left.items }
-    ensures child { (ps : List ParentPlaces) → IsFamily ps decided.now family.old.children.items family.old.left.items → IsTrue result ↔ HasChild ps decided.now place }
+    ensures child { (ps : List ParentPlaces) → IsFamily ps decided.now family.old.children.items family.old.left.items
+        → IsTrue result ↔ HasChild ps decided.now place }
 {
     let stretch = family.left[place];
     let from = first_undecided(&family.children, stretch, decided);

@@ -10,27 +10,33 @@ ghost use Rattle.hg_replica.specs.Content.{content_of};
 ghost use Rattle.hg_replica.specs.Evolution.{IsServed};
 ghost use Rattle.hg_discovery.specs.Search.{Search, IsSearch};
 ghost use Rattle.hg_discovery.specs.Start.{IsStart};
-ghost use Rattle.hg_discovery.specs.Rounds.{Round, AreTrueRounds, AreKnownRounds, AreRounds, AreWithin, AreFree, IsCommon, undecided};
+ghost use Rattle.hg_discovery.specs.Rounds.{Round, AreTrueRounds, AreKnownRounds, AreRounds, AreWithin, AreFree};
+ghost use Rattle.hg_discovery.specs.Rounds.{IsCommon, undecided};
 
 /// Where each yes was true when it was given, each common changeset is held by both sides, whatever either does between
 /// answers: both only grow, and hold no two changesets of one id.
 pub fn what_is_common_is_held_by_both()
-    ensures { (s : State) (start : Search) → IsStart s start → (theirs : List Contents) → IsGraph theirs → AreFree (changesets s) theirs
-        → (rounds : List Round) (t : Search) (ours : List Contents) → AreTrueRounds start rounds t → AreWithin (changesets s) ours → ((r : Round) → Contains rounds r → AreWithin r.theirs theirs)
+    ensures { (s : State) (start : Search) → IsStart s start → (theirs : List Contents) → IsGraph theirs
+        → AreFree (changesets s) theirs
+        → (rounds : List Round) (t : Search) (ours : List Contents) → AreTrueRounds start rounds t
+        → AreWithin (changesets s) ours → ((r : Round) → Contains rounds r → AreWithin r.theirs theirs)
         → (n : Node) → IsCommon t n → Holds ours n × Holds theirs n }
 {}
 
-/// Where the other side stands still and its answers are those of its [`known`](crate::known()), what is common when nothing
-/// is undecided any more is exactly what the asker held at the start, wasn't secret there, and is served by the other side.
-/// The two hold no two changesets of one id.
+/// Where the other side stands still and its answers are those of its [`known`](crate::known()), what is common when
+/// nothing is undecided any more is exactly what the asker held at the start, wasn't secret there, and is served by the
+/// other side. The two hold no two changesets of one id.
 pub fn what_is_common_is_what_is_served()
-    ensures { (ours theirs : ReplicaState) (start t : Search) (rounds : List (List Bool)) → IsValid ours → IsValid theirs → AreFree (changesets ours.history) (changesets theirs.history)
+    ensures { (ours theirs : ReplicaState) (start t : Search) (rounds : List (List Bool)) → IsValid ours
+        → IsValid theirs → AreFree (changesets ours.history) (changesets theirs.history)
         → IsStart ours.history start → AreKnownRounds (content_of theirs) start rounds t → undecided t.decided ≡ 0
-        → (n : Node) → IsCommon t n ↔ (Holds (changesets ours.history) n × ¬ (IsPhaseOf ours.history n Secret) × IsServed (content_of theirs) n) }
+        → (n : Node) → IsCommon t n ↔ (Holds (changesets ours.history) n × ¬ (IsPhaseOf ours.history n Secret)
+        × IsServed (content_of theirs) n) }
 {}
 
-/// Each round decides 200 of the undecided changesets at least, or all of them: so n of them take at most n / 200 rounds,
-/// rounded up.
+/// Each round decides 200 of the undecided changesets at least, or all of them: so n of them take at most n / 200
+/// rounds, rounded up.
 pub fn rounds_are_few()
-    ensures { (s t : Search) (rounds : List (List Bool)) → IsSearch s → AreRounds s rounds t → undecided t.decided ≤ undecided s.decided - 200 * length rounds }
+    ensures { (s t : Search) (rounds : List (List Bool)) → IsSearch s → AreRounds s rounds t
+        → undecided t.decided ≤ undecided s.decided - 200 * length rounds }
 {}

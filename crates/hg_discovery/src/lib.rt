@@ -1,13 +1,13 @@
 //! Discovery: which changesets two replicas have in common, asked in rounds.
 //!
-//! The asker's changesets that aren't secret begin as undecided. Each round asks about a sample of them: their heads, and
-//! then others. A yes makes a changeset and its ancestors common, a no makes it and its descendants missing. So what is
-//! undecided never has a decided changeset between two of its own, and a head is one without undecided children. An answer is
-//! spread by a walk that stops at what is decided, so all answers together cost what they decide. A sample is drawn from the
-//! first undecided changeset on, in the order of ids, and ends where it is full.
+//! The asker's changesets that aren't secret begin as undecided. Each round asks about a sample of them: their heads,
+//! and then others. A yes makes a changeset and its ancestors common, a no makes it and its descendants missing. So
+//! what is undecided never has a decided changeset between two of its own, and a head is one without undecided
+//! children. An answer is spread by a walk that stops at what is decided, so all answers together cost what they
+//! decide. A sample is drawn from the first undecided changeset on, in the order of ids, and ends where it is full.
 //!
-//! The asker calls [`Discovery`], and the other side answers by [`known`]. Both may go on in the meantime. Where both stand in
-//! one process, [`heads_in_common`] does all of it.
+//! The asker calls [`Discovery`], and the other side answers by [`known`]. Both may go on in the meantime. Where both
+//! stand in one process, [`heads_in_common`] does all of it.
 #![tactic(auto)]
 
 mod answers;

@@ -1,7 +1,7 @@
 //! What one round's answers decide.
 //!
-//! An answer is spread by a walk: places that it has decided are logged, and the log is what waits for the walk, too. So it
-//! costs what it decides; and where memory is refused, what the log names becomes undecided again.
+//! An answer is spread by a walk: places that it has decided are logged, and the log is what waits for the walk, too.
+//! So it costs what it decides; and where memory is refused, what the log names becomes undecided again.
 ghost use Rattle.std.specs.Prelude.{◌≡◌, ◌≢◌, ℕ, ◌≤◌, ◌<◌, true, false, List, Some, length, Contains, OnOk};
 ghost use Rattle.hg_discovery.specs.declared.status.Status.TheVariants.{Undecided, Common, Missing};
 ghost use Rattle.hg_discovery.specs.Under.{IsInOrder, IsOneOf, IsParentAt};
@@ -167,8 +167,10 @@ fn decide_children(
     log: &mut Vec<usize>,
 ) -> Result<(), AllocError>
     requires { stretch.to ≤ length children.now }
-    ensures grows { Grows (Stands children.now stretch.from stretch.to) Missing decided.old log.old.items decided.new log.new.items }
-    ensures taken { OnOk result (AreTaken (Stands children.now stretch.from stretch.to) Missing decided.old decided.new) }
+    ensures grows { Grows (Stands children.now stretch.from stretch.to) Missing decided.old log.old.items decided.new
+        log.new.items }
+    ensures taken { OnOk result
+        (AreTaken (Stands children.now stretch.from stretch.to) Missing decided.old decided.new) }
 {
     for i in stretch.from..stretch.to {
         decide(children[i], Status::Missing, decided, log)?;

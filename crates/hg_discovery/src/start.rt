@@ -63,7 +63,8 @@ pub(crate) fn undecided(
 ) -> Result<Vec<Status>, AllocError>
     requires { (x : Spot) → Contains spots.now x → x.place < len }
     ensures len { IfOk result (λ ds. length ds.items ≡ len) }
-    ensures undecided { IfOk result (λ ds. (k : ℕ) → Is ds.items Undecided k ↔ ((x : Spot) × Contains spots.now x × (x.place ≡ k))) }
+    ensures undecided { IfOk result (λ ds. (k : ℕ) → Is ds.items Undecided k
+        ↔ ((x : Spot) × Contains spots.now x × (x.place ≡ k))) }
     ensures nothing_common { IfOk result (λ ds. (k : ℕ) → Is ds.items Common k → ⊥) }
 {
     let mut decided = vec![in alloc; Status::Missing; len]?;

@@ -19,9 +19,12 @@ loop-node-preserved c =
     let is = c.requires.exact n in
     let told = rw c.graph-graph.ensures.graph at c.is_marked.ensures in
     subst (AreKnown f (take (i + 1) c.args.nodes.now)) (sym c.in_ok-push.ensures.items)
-    (known_more (IsServed f) c.args.nodes.now c.loop-node.answers.items i (record { 0 = [] }) c.is_marked.result c.loop-node-test.true ((λ h. is.0 (told.0 h)), (λ h. told.1 (is.1 h))) c.loop-node.invariant)
+    (known_more (IsServed f) c.args.nodes.now c.loop-node.answers.items i
+    (record { 0 = [] }) c.is_marked.result c.loop-node-test.true
+    ((λ h. is.0 (told.0 h)), (λ h. told.1 (is.1 h))) c.loop-node.invariant)
 
 pub returns : goal.returns
 returns c =
-    let all : take c.loop-node.node-index c.args.nodes.now ≡ c.args.nodes.now = take_all c.loop-node.node-index c.args.nodes.now (omega (arith, c.loop-node-test.false)) in
+    let all : take c.loop-node.node-index c.args.nodes.now ≡ c.args.nodes.now =
+    take_all c.loop-node.node-index c.args.nodes.now (omega (arith, c.loop-node-test.false)) in
     rw all at c.loop-node.invariant

@@ -13,6 +13,9 @@ known_by-requires-clause-exact c = served_as c.args.other.now _ _ c.deref.ensure
 pub loop-alloc-preserved : goal.loop-alloc-preserved
 loop-alloc-preserved c =
     let answers = c.in_ok-answers.answers.items in
-    let round = subst (λ (said : List Bool). IsRound c.loop-alloc.discovery said c.answer.new.self) c.deref-in-loop-alloc-2.ensures.value c.in_ok-answer.ensures.answer.1 in
-    let known = subst (λ (ns : List Node). AreKnown (content_of c.args.other.now) ns answers) (c.deref-in-loop-alloc.ensures.value ∙ c.in_ok-asked.ensures.sample) c.in_ok-answers.ensures in
-    IsAskedSoFar-round c.args.asker.now c.args.other.now c.loop-alloc.discovery c.answer.new.self answers c.loop-alloc.invariant round known
+    let round = subst (λ (said : List Bool). IsRound c.loop-alloc.discovery said c.answer.new.self)
+    c.deref-in-loop-alloc-2.ensures.value c.in_ok-answer.ensures.answer.1 in
+    let known = subst (λ (ns : List Node). AreKnown (content_of c.args.other.now) ns answers)
+    (c.deref-in-loop-alloc.ensures.value ∙ c.in_ok-asked.ensures.sample) c.in_ok-answers.ensures in
+    IsAskedSoFar-round c.args.asker.now c.args.other.now c.loop-alloc.discovery c.answer.new.self answers
+    c.loop-alloc.invariant round known

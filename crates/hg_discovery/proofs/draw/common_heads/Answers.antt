@@ -22,6 +22,11 @@ returns c =
     let test = is_picked ds marks Common false in
     let heads : List Spot = filter test spots in
     let all : c.pick.new.found.items ≡ heads =
-    c.in_ok-pick.ensures ∙ ap (λ ms. take (length spots) (c.new-found.result.items ++ filter (is_picked ds ms Common false) spots)) c.deref.ensures.value
-    ∙ ap (λ zs. take (length spots) (zs ++ heads)) c.new-found.ensures.items ∙ take_all (length spots) heads (short_filter test spots) in
-    subst (Lists (IsHead s Common)) (sym all) (heads_are s Common marks c.requires.in_order c.requires.spots c.in_ok-covered.ensures (λ k m j low high at_k at_j. under_common ps ds c.requires.closed m j high at_j))
+    c.in_ok-pick.ensures
+    ∙ ap (λ ms. take (length spots) (c.new-found.result.items ++ filter (is_picked ds ms Common false) spots))
+    c.deref.ensures.value
+    ∙ ap (λ zs. take (length spots) (zs ++ heads)) c.new-found.ensures.items
+    ∙ take_all (length spots) heads (short_filter test spots) in
+    subst (Lists (IsHead s Common)) (sym all)
+    (heads_are s Common marks c.requires.in_order c.requires.spots c.in_ok-covered.ensures
+    (λ k m j low high at_k at_j. under_common ps ds c.requires.closed m j high at_j))

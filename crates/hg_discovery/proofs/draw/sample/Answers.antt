@@ -21,8 +21,14 @@ returns-clause-sample c ps order closed f =
     let others : List Spot = filter (is_picked ds marks.0 Undecided true) spots in
     let convex = λ (k m j : ℕ). between ps ds closed len order k m j in
     let none : vec_len c.args.found ≤ 200 = omega (arith, c.args.found.ok.0, ap length c.requires.empty) in
-    let first : c.draw.new.found.items ≡ take 200 heads = c.draw.ensures.drawn ps f len marks.0 marks.1 none ∙ ap (λ zs. take 200 (zs ++ heads)) c.requires.empty in
-    let short : vec_len c.draw.new.found ≤ 200 = omega (arith, c.draw.new.found.ok.0, ap length first, length-take 200 heads) in
+    let first : c.draw.new.found.items ≡ take 200 heads = c.draw.ensures.drawn ps f len marks.0 marks.1 none
+    ∙ ap (λ zs. take 200 (zs ++ heads)) c.requires.empty in
+    let short : vec_len c.draw.new.found ≤ 200 = omega (
+      arith,
+      c.draw.new.found.ok.0,
+      ap length first,
+      length-take 200 heads,
+    ) in
     record {
       heads = heads;
       others = others;

@@ -15,8 +15,11 @@ loop-place-preserved c =
     let longer : grown.items ≡ children ++ more = c.in_ok-extend_from_slice.ensures.items in
     let from : one.from ≡ length children = c.len-from.ensures ∙ c.loop-place.children.ok.0 in
     let to : one.to ≡ length (children ++ more) = c.len-to.ensures ∙ grown.ok.0 ∙ ap length longer in
-    rw longer (rw c.in_ok-push.ensures.items (IsFamilyTo-push cs i children left more one c.loop-place.invariant c.children.ensures.exact from to))
+    rw longer (rw c.in_ok-push.ensures.items
+    (IsFamilyTo-push cs i children left more one c.loop-place.invariant c.children.ensures.exact from to))
 
 pub returns : goal.returns
 returns c ps ds shape =
-    IsFamilyTo-end c.args.graph.now c.loop-place.place c.loop-place.children.items c.loop-place.left.items (omega (arith, c.loop-place.auto.place-end, c.loop-place-test.false, c.len-place-end.ensures.len)) c.loop-place.invariant ps ds shape
+    IsFamilyTo-end c.args.graph.now c.loop-place.place c.loop-place.children.items c.loop-place.left.items
+    (omega (arith, c.loop-place.auto.place-end, c.loop-place-test.false, c.len-place-end.ensures.len))
+    c.loop-place.invariant ps ds shape

@@ -8,7 +8,8 @@ returns-clause-family c ps f =
     let family = c.args.family.now in
     let s = c.index-stretch.result.now in
     let at = read family.left.items c.args.place s c.requires.place c.index-stretch.ensures in
-    asked_family ps c.args.decided.now family.children.items family.left.items f c.args.place s at c.first_undecided-from.result (rw c.deref.ensures.value at c.first_undecided-from.ensures)
+    asked_family ps c.args.decided.now family.children.items family.left.items f c.args.place s at
+    c.first_undecided-from.result (rw c.deref.ensures.value at c.first_undecided-from.ensures)
 
 pub returns-clause-child : goal.returns-clause-child
 returns-clause-child c ps f =
@@ -17,4 +18,5 @@ returns-clause-child c ps f =
     let r = c.first_undecided-from.result in
     let at = read family.left.items c.args.place s c.requires.place c.index-stretch.ensures in
     let less : IsTrue (nat_lt r s.to) ↔ (r < s.to) = search rules in
-    asked_child ps c.args.decided.now family.children.items family.left.items f c.args.place s at r (rw c.deref.ensures.value at c.first_undecided-from.ensures) (nat_lt r s.to) less
+    asked_child ps c.args.decided.now family.children.items family.left.items f c.args.place s at r
+    (rw c.deref.ensures.value at c.first_undecided-from.ensures) (nat_lt r s.to) less

@@ -6,7 +6,8 @@ use Rattle.hg_discovery.specs.Search.{Is}
 use Rattle.hg_discovery.proofs.DecidedLemmas.{read_so, read_not_so}
 use Rattle.hg_discovery.proofs.WalkLemmas.{Grows-one}
 use Rattle.hg_discovery.proofs.spread.decide.Goals as goal
-use Rattle.hg_discovery.proofs.spread.decide.Goals.{else-one-decided-via-then-one-decided+else-eq, else-one-decided-via-else-one-decided}
+use Rattle.hg_discovery.proofs.spread.decide.Goals.{else-one-decided-via-then-one-decided+else-eq}
+use Rattle.hg_discovery.proofs.spread.decide.Goals.{else-one-decided-via-else-one-decided}
 
 pub returns-in_ok-push-clause-grows : goal.returns-in_ok-push-clause-grows
 returns-in_ok-push-clause-grows c =
@@ -24,6 +25,8 @@ returns-else-one-decided-clause-taken c k e u =
     let old = c.args.decided.now in
     let at : Is old Undecided c.args.one = subst (Is old Undecided) (sym e) u in
     elim c.else-one-decided.branch [
-      | else-one-decided-via-then-one-decided+else-eq w ↦ absurd (read_not_so old c.args.one Undecided Undecided w.eq.result w.eq.ensures w.if-eq.false at)
-      | else-one-decided-via-else-one-decided w ↦ let far = w.if-one-decided.false in absurd (omega (arith, slice_get_within old c.args.one Undecided at, far))
+      | else-one-decided-via-then-one-decided+else-eq w ↦ absurd
+          (read_not_so old c.args.one Undecided Undecided w.eq.result w.eq.ensures w.if-eq.false at)
+      | else-one-decided-via-else-one-decided w ↦ let far = w.if-one-decided.false in
+          absurd (omega (arith, slice_get_within old c.args.one Undecided at, far))
     ]

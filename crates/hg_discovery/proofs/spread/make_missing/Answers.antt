@@ -4,7 +4,8 @@ use Rattle.hg_discovery.specs.Under.{IsUnder, itself}
 use Rattle.hg_discovery.specs.Family.{Stands}
 use Rattle.hg_discovery.specs.Log.{Grows, AreTaken}
 use Rattle.hg_discovery.proofs.LogLemmas.{Grows-log}
-use Rattle.hg_discovery.proofs.WalkLemmas.{IsWalked-start, ToChild, read, down_within, down_grows, down_walked, walked_missing}
+use Rattle.hg_discovery.proofs.WalkLemmas.{IsWalked-start, ToChild, read, down_within, down_grows, down_walked}
+use Rattle.hg_discovery.proofs.WalkLemmas.{walked_missing}
 use Rattle.hg_discovery.proofs.spread.make_missing.Goals as goal
 
 pub returns-in_err-decide-clause-log : goal.returns-in_err-decide-clause-log
@@ -15,52 +16,80 @@ loop-next-init c =
     let ps = c.args.parents.now in
     let start = c.args.log.now in
     let next : c.len-next.result ≡ length start.items = c.len-next.ensures ∙ start.ok.0 in
-    rw next (IsWalked-start Missing (ToChild ps) (IsUnder ps c.args.place) c.args.place c.args.decided.now start.items (λ p k q m. c.requires.closed.missing k p q m) c.decide.new.decided c.decide.new.log.items c.requires.undecided itself c.decide.ensures.grows c.in_ok-decide.ensures.taken)
+    rw next (IsWalked-start Missing (ToChild ps) (IsUnder ps c.args.place) c.args.place c.args.decided.now start.items
+    (λ p k q m. c.requires.closed.missing k p q m) c.decide.new.decided c.decide.new.log.items
+    c.requires.undecided itself c.decide.ensures.grows c.in_ok-decide.ensures.taken)
 
 pub index-requires-in-loop-next : goal.index-requires-in-loop-next
 index-requires-in-loop-next c =
     let log = c.loop-next.log in
-    let at = read log.items c.loop-next.next c.index.result.now (omega (arith, c.loop-next-test.true, c.len.ensures, log.ok.0)) c.index.ensures in
-    let l = down_within c.args.parents.now c.args.decided.now c.requires.len c.requires.in_order c.requires.closed c.args.place c.args.log.now.items c.loop-next.decided log.items c.loop-next.next c.index.result.now at c.loop-next.invariant in
+    let at = read log.items c.loop-next.next c.index.result.now
+    (omega (arith, c.loop-next-test.true, c.len.ensures, log.ok.0)) c.index.ensures in
+    let l = down_within c.args.parents.now c.args.decided.now c.requires.len c.requires.in_order c.requires.closed
+    c.args.place c.args.log.now.items c.loop-next.decided log.items c.loop-next.next c.index.result.now at
+    c.loop-next.invariant in
     omega (arith, l, c.requires.family.len, c.args.family.now.left.ok.0)
 
 pub decide_children-requires : goal.decide_children-requires
 decide_children-requires c =
     let log = c.loop-next.log in
-    let at = read log.items c.loop-next.next c.index.result.now (omega (arith, c.loop-next-test.true, c.len.ensures, log.ok.0)) c.index.ensures in
+    let at = read log.items c.loop-next.next c.index.result.now
+    (omega (arith, c.loop-next-test.true, c.len.ensures, log.ok.0)) c.index.ensures in
     let left = c.args.family.now.left in
-    let l = down_within c.args.parents.now c.args.decided.now c.requires.len c.requires.in_order c.requires.closed c.args.place c.args.log.now.items c.loop-next.decided log.items c.loop-next.next c.index.result.now at c.loop-next.invariant in
-    let one = read left.items c.index.result.now c.index-in-loop-next.result.now (omega (arith, l, c.requires.family.len)) c.index-in-loop-next.ensures in
+    let l = down_within c.args.parents.now c.args.decided.now c.requires.len c.requires.in_order c.requires.closed
+    c.args.place c.args.log.now.items c.loop-next.decided log.items c.loop-next.next c.index.result.now at
+    c.loop-next.invariant in
+    let one = read left.items c.index.result.now c.index-in-loop-next.result.now
+    (omega (arith, l, c.requires.family.len)) c.index-in-loop-next.ensures in
     rw c.deref.ensures.value (c.requires.family.within _ _ one)
 
 pub returns-in_err-decide_children-clause-log : goal.returns-in_err-decide_children-clause-log
 returns-in_err-decide_children-clause-log c =
     let log = c.loop-next.log in
-    let at = read log.items c.loop-next.next c.index.result.now (omega (arith, c.loop-next-test.true, c.len.ensures, log.ok.0)) c.index.ensures in
+    let at = read log.items c.loop-next.next c.index.result.now
+    (omega (arith, c.loop-next-test.true, c.len.ensures, log.ok.0)) c.index.ensures in
     let left = c.args.family.now.left in
-    let l = down_within c.args.parents.now c.args.decided.now c.requires.len c.requires.in_order c.requires.closed c.args.place c.args.log.now.items c.loop-next.decided log.items c.loop-next.next c.index.result.now at c.loop-next.invariant in
-    let one = read left.items c.index.result.now c.index-in-loop-next.result.now (omega (arith, l, c.requires.family.len)) c.index-in-loop-next.ensures in
+    let l = down_within c.args.parents.now c.args.decided.now c.requires.len c.requires.in_order c.requires.closed
+    c.args.place c.args.log.now.items c.loop-next.decided log.items c.loop-next.next c.index.result.now at
+    c.loop-next.invariant in
+    let one = read left.items c.index.result.now c.index-in-loop-next.result.now
+    (omega (arith, l, c.requires.family.len)) c.index-in-loop-next.ensures in
     let s = c.index-in-loop-next.result.now in
-    let first : Grows (Stands c.args.family.now.children.items s.from s.to) Missing c.loop-next.decided log.items c.decide_children.new.decided c.decide_children.new.log.items = rw c.deref.ensures.value at c.decide_children.ensures.grows in
+    let first : Grows (Stands c.args.family.now.children.items s.from s.to) Missing c.loop-next.decided log.items
+    c.decide_children.new.decided c.decide_children.new.log.items =
+    rw c.deref.ensures.value at c.decide_children.ensures.grows in
     Grows-log (IsUnder c.args.parents.now c.args.place) Missing _ _ _ _
-    (down_grows c.args.parents.now c.args.decided.now c.requires.len c.requires.in_order c.requires.closed c.args.place c.args.log.now.items c.loop-next.decided log.items c.loop-next.next c.index.result.now at c.loop-next.invariant c.args.family.now.children.items left.items c.requires.family s one _ _ first)
+    (down_grows c.args.parents.now c.args.decided.now c.requires.len c.requires.in_order c.requires.closed
+    c.args.place c.args.log.now.items c.loop-next.decided log.items c.loop-next.next c.index.result.now at
+    c.loop-next.invariant c.args.family.now.children.items left.items c.requires.family s one _ _ first)
 
 pub loop-next-preserved : goal.loop-next-preserved
 loop-next-preserved c =
     let log = c.loop-next.log in
-    let at = read log.items c.loop-next.next c.index.result.now (omega (arith, c.loop-next-test.true, c.len.ensures, log.ok.0)) c.index.ensures in
+    let at = read log.items c.loop-next.next c.index.result.now
+    (omega (arith, c.loop-next-test.true, c.len.ensures, log.ok.0)) c.index.ensures in
     let left = c.args.family.now.left in
-    let l = down_within c.args.parents.now c.args.decided.now c.requires.len c.requires.in_order c.requires.closed c.args.place c.args.log.now.items c.loop-next.decided log.items c.loop-next.next c.index.result.now at c.loop-next.invariant in
-    let one = read left.items c.index.result.now c.index-in-loop-next.result.now (omega (arith, l, c.requires.family.len)) c.index-in-loop-next.ensures in
+    let l = down_within c.args.parents.now c.args.decided.now c.requires.len c.requires.in_order c.requires.closed
+    c.args.place c.args.log.now.items c.loop-next.decided log.items c.loop-next.next c.index.result.now at
+    c.loop-next.invariant in
+    let one = read left.items c.index.result.now c.index-in-loop-next.result.now
+    (omega (arith, l, c.requires.family.len)) c.index-in-loop-next.ensures in
     let s = c.index-in-loop-next.result.now in
-    let first : Grows (Stands c.args.family.now.children.items s.from s.to) Missing c.loop-next.decided log.items c.decide_children.new.decided c.decide_children.new.log.items = rw c.deref.ensures.value at c.decide_children.ensures.grows in
-    let all : AreTaken (Stands c.args.family.now.children.items s.from s.to) Missing c.loop-next.decided c.decide_children.new.decided = rw c.deref.ensures.value at c.in_ok-decide_children.ensures.taken in
-    down_walked c.args.parents.now c.args.decided.now c.requires.len c.requires.in_order c.requires.closed c.args.place c.args.log.now.items c.loop-next.decided log.items c.loop-next.next c.index.result.now at c.loop-next.invariant c.args.family.now.children.items left.items c.requires.family s one _ _ first all
+    let first : Grows (Stands c.args.family.now.children.items s.from s.to) Missing c.loop-next.decided log.items
+    c.decide_children.new.decided c.decide_children.new.log.items =
+    rw c.deref.ensures.value at c.decide_children.ensures.grows in
+    let all : AreTaken (Stands c.args.family.now.children.items s.from s.to) Missing c.loop-next.decided
+    c.decide_children.new.decided = rw c.deref.ensures.value at c.in_ok-decide_children.ensures.taken in
+    down_walked c.args.parents.now c.args.decided.now c.requires.len c.requires.in_order c.requires.closed
+    c.args.place c.args.log.now.items c.loop-next.decided log.items c.loop-next.next c.index.result.now at
+    c.loop-next.invariant c.args.family.now.children.items left.items c.requires.family s one _ _ first all
 
 pub returns-clause-decided : goal.returns-clause-decided
 returns-clause-decided c =
     let log = c.loop-next.log in
-    walked_missing c.args.parents.now c.args.place c.args.decided.now c.args.log.now.items c.requires.closed c.loop-next.decided log.items c.loop-next.next (omega (arith, c.loop-next-test.false, c.len.ensures, log.ok.0)) c.loop-next.invariant
+    walked_missing c.args.parents.now c.args.place c.args.decided.now c.args.log.now.items c.requires.closed
+    c.loop-next.decided log.items c.loop-next.next (omega
+    (arith, c.loop-next-test.false, c.len.ensures, log.ok.0)) c.loop-next.invariant
 
 pub returns-clause-log : goal.returns-clause-log
 returns-clause-log c = Grows-log (IsUnder c.args.parents.now c.args.place) Missing _ _ _ _ c.loop-next.invariant.grows

@@ -5,7 +5,13 @@ use Rattle.hg_discovery.proofs.ToldLemmas.{AreTold-more, told_before, told_close
 use Rattle.hg_discovery.proofs.spread.tell_all.Goals as goal
 
 pub loop-i-init : goal.loop-i-init
-loop-i-init c = record { told = refl; closed = c.requires.closed; family = c.requires.family; len = refl; log = λ base l. l }
+loop-i-init c = record {
+  told = refl;
+  closed = c.requires.closed;
+  family = c.requires.family;
+  len = refl;
+  log = λ base l. l;
+}
 
 pub loop-i-preserved : goal.loop-i-preserved
 loop-i-preserved c =
@@ -18,11 +24,15 @@ loop-i-preserved c =
     let mid = c.loop-i.decided in
     let new = c.tell.new.decided in
     let more_xs : take (i + 1) xs ≡ take i xs ++ x ∷ [] = take_more xs i _ c.loop-i-test.true in
-    let more_bs : take (i + 1) bs ≡ take i bs ++ b ∷ [] = take_more bs i false (omega (arith, c.requires.answers, c.loop-i-test.true)) in
+    let more_bs : take (i + 1) bs ≡ take i bs ++ b ∷ [] = take_more bs i false
+    (omega (arith, c.requires.answers, c.loop-i-test.true)) in
     record {
-      told = rw more_xs (rw more_bs (AreTold-more ps (take i xs) (take i bs) x b c.args.decided.now mid new c.loop-i.invariant.told c.in_ok-tell.ensures.told));
-      closed = told_closed ps x.place b mid new (c.loop-i.invariant.len ∙ c.requires.len) c.requires.in_order c.loop-i.invariant.closed c.in_ok-tell.ensures.told;
-      family = IsFamily-later ps mid new c.args.family.now.children.items c.args.family.now.left.items (told_before ps x.place b mid new c.in_ok-tell.ensures.told) c.loop-i.invariant.family;
+      told = rw more_xs (rw more_bs (AreTold-more ps (take i xs)
+          (take i bs) x b c.args.decided.now mid new c.loop-i.invariant.told c.in_ok-tell.ensures.told));
+      closed = told_closed ps x.place b mid new (c.loop-i.invariant.len ∙ c.requires.len) c.requires.in_order
+          c.loop-i.invariant.closed c.in_ok-tell.ensures.told;
+      family = IsFamily-later ps mid new c.args.family.now.children.items c.args.family.now.left.items
+          (told_before ps x.place b mid new c.in_ok-tell.ensures.told) c.loop-i.invariant.family;
       len = c.tell.ensures.len ∙ c.loop-i.invariant.len;
       log = λ base l. c.tell.ensures.log base (c.loop-i.invariant.log base l);
     }

@@ -1,4 +1,5 @@
-use Rattle.std.proofs.Common.{◌≡◌, ◌↔◌, ◌+◌, ◌++◌, ◌∷◌, [], ◌∙◌, inl, inr, arith, length, length-append, slice_get, Some, ap, sym, subst}
+use Rattle.std.proofs.Common.{◌≡◌, ◌↔◌, ◌+◌, ◌++◌, ◌∷◌, [], ◌∙◌, inl, inr, arith, length, length-append, slice_get}
+use Rattle.std.proofs.Common.{Some, ap, sym, subst}
 use Rattle.hg_graph.specs.declared.graph.ParentPlaces.{ParentPlaces}
 use Rattle.hg_graph.specs.Places.{IsParentPlace}
 use Rattle.hg_changeset.proofs.ListLemmas.{slice_get-push_cases}
@@ -22,10 +23,14 @@ loop-place-preserved c =
         | inr last ↦
             let same : j ≡ i = last.0 ∙ len in
             subst (λ (q : ParentPlaces). IsOneOf q k ↔ IsParentPlace cs j k) last.1
-            (subst (λ m. IsOneOf one k ↔ IsParentPlace cs m k) (sym same) ((λ h. (c.parent_places.ensures.places k).1 h), (λ h. (c.parent_places.ensures.places k).0 h)))
+            (subst (λ m. IsOneOf one k ↔ IsParentPlace cs m k) (sym same)
+            ((λ h. (c.parent_places.ensures.places k).1 h), (λ h. (c.parent_places.ensures.places k).0 h)))
       ];
     }
 
 pub returns : goal.returns
 returns c =
-    shape_end c.args.graph.now c.loop-place.parents.items c.loop-place.place c.len.ensures.graph c.loop-place.invariant.len (omega (arith, c.loop-place.auto.place-end, c.loop-place-test.false, c.len-place-end.ensures.len)) c.loop-place.invariant.each
+    shape_end c.args.graph.now c.loop-place.parents.items c.loop-place.place c.len.ensures.graph
+    c.loop-place.invariant.len
+    (omega (arith, c.loop-place.auto.place-end, c.loop-place-test.false, c.len-place-end.ensures.len))
+    c.loop-place.invariant.each

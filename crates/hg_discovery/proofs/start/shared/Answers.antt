@@ -16,8 +16,10 @@ returns-clause-shared c x =
     let new = c.dedup.new.self.items in
     let is : new ≡ dedup spot_eq sorted = dedup_is _ _ _ c.dedup.ensures.filtered in
     let moved = c.sort_unstable.ensures.permutation in (
-      λ h. (c.in_ok-spots.ensures.shared x).0 (Contains-permutation sorted old x (IsPermutation-sym old sorted moved) (Contains-from_dedup spot_eq sorted x (subst (λ ys. Contains ys x) is h))),
-      λ s. subst (λ ys. Contains ys x) (sym is) (Contains-dedup laws-law same_spot sorted x (Contains-permutation old sorted x moved ((c.in_ok-spots.ensures.shared x).1 s))),
+      λ h. (c.in_ok-spots.ensures.shared x).0 (Contains-permutation sorted old x (IsPermutation-sym old sorted moved)
+          (Contains-from_dedup spot_eq sorted x (subst (λ ys. Contains ys x) is h))),
+      λ s. subst (λ ys. Contains ys x) (sym is) (Contains-dedup laws-law same_spot sorted x
+          (Contains-permutation old sorted x moved ((c.in_ok-spots.ensures.shared x).1 s))),
     )
 
 pub returns-clause-ascending : goal.returns-clause-ascending
@@ -25,5 +27,7 @@ returns-clause-ascending c =
     let sorted = c.sort_unstable.new.self.items in
     let new = c.dedup.new.self.items in
     let is : new ≡ dedup spot_eq sorted = dedup_is _ _ _ c.dedup.ensures.filtered in
-    let strict : IsStrictlySortedBy spot_cmp (dedup spot_eq sorted) = IsStrictlySortedBy-dedup total-law matches_eq-law sorted c.sort_unstable.ensures.sorted in
-    ascending_spots c.args.replica.now.history c.in_ok-spots.ensures.valid.graph new (returns-clause-shared c) (subst (IsStrictlySortedBy spot_cmp) (sym is) strict)
+    let strict : IsStrictlySortedBy spot_cmp (dedup spot_eq sorted) =
+    IsStrictlySortedBy-dedup total-law matches_eq-law sorted c.sort_unstable.ensures.sorted in
+    ascending_spots c.args.replica.now.history c.in_ok-spots.ensures.valid.graph new (returns-clause-shared c)
+    (subst (IsStrictlySortedBy spot_cmp) (sym is) strict)

@@ -7,7 +7,8 @@ use Rattle.hg_graph.proofs.PlaceLemmas.{IsAt-within}
 use Rattle.std.proofs.lemmas.Option.{none-some}
 use Rattle.hg_discovery.proofs.StartLemmas.{phase_in_content, AreSharedTo, shared_push, shared_skip, shared_all}
 use Rattle.hg_discovery.proofs.start.unsorted.Goals as goal
-use Rattle.hg_discovery.proofs.start.unsorted.Goals.{in-Some+then-not-has_phase_at+in_ok-push, in-Some+else-not-has_phase_at, in_default}
+use Rattle.hg_discovery.proofs.start.unsorted.Goals.{in-Some+then-not-has_phase_at+in_ok-push}
+use Rattle.hg_discovery.proofs.start.unsorted.Goals.{in-Some+else-not-has_phase_at, in_default}
 
 pub loop-place-preserved : goal.loop-place-preserved
 loop-place-preserved c =
@@ -16,18 +17,30 @@ loop-place-preserved c =
     let before : AreSharedTo s i c.loop-place.spots.items = c.loop-place.invariant in
     elim c.match-node_at.branch [
       | in-Some+then-not-has_phase_at+in_ok-push w ↦
-          let at : IsAt (changesets s) w.in-Some.node i = subst (λ ds. slice_get (nodes ds) i ≡ Some w.in-Some.node) c.graph-graph.ensures.graph (sym c.node_at.ensures ∙ w.in-Some.is) in
+          let at : IsAt (changesets s) w.in-Some.node i = subst
+          (λ ds. slice_get (nodes ds) i ≡ Some w.in-Some.node) c.graph-graph.ensures.graph
+          (sym c.node_at.ensures ∙ w.in-Some.is) in
           subst (AreSharedTo s (i + 1)) (sym (ap (λ v. v.items) w.spots-is ∙ w.in_ok-push.ensures.items))
-          (shared_push s i w.in-Some.node c.loop-place.spots.items at before (λ h. true≢false (sym ((w.has_phase_at.ensures w.in-Some.node at).1 ((phase_in_content s c.graph-graph.ensures.valid.graph w.in-Some.node Secret).1 h)) ∙ w.if-not-has_phase_at.true)))
+          (shared_push s i w.in-Some.node c.loop-place.spots.items at before
+          (λ h. true≢false (sym ((w.has_phase_at.ensures w.in-Some.node at).1
+          ((phase_in_content s c.graph-graph.ensures.valid.graph w.in-Some.node Secret).1 h))
+          ∙ w.if-not-has_phase_at.true)))
       | in-Some+else-not-has_phase_at w ↦
-          let at : IsAt (changesets s) w.in-Some.node i = subst (λ ds. slice_get (nodes ds) i ≡ Some w.in-Some.node) c.graph-graph.ensures.graph (sym c.node_at.ensures ∙ w.in-Some.is) in
+          let at : IsAt (changesets s) w.in-Some.node i = subst
+          (λ ds. slice_get (nodes ds) i ≡ Some w.in-Some.node) c.graph-graph.ensures.graph
+          (sym c.node_at.ensures ∙ w.in-Some.is) in
           subst (AreSharedTo s (i + 1)) (sym (ap (λ v. v.items) w.spots-is))
-          (shared_skip s i w.in-Some.node c.loop-place.spots.items at before ((phase_in_content s c.graph-graph.ensures.valid.graph w.in-Some.node Secret).0 ((w.has_phase_at.ensures w.in-Some.node at).0 w.if-not-has_phase_at.false)))
+          (shared_skip s i w.in-Some.node c.loop-place.spots.items at before
+          ((phase_in_content s c.graph-graph.ensures.valid.graph w.in-Some.node Secret).0
+          ((w.has_phase_at.ensures w.in-Some.node at).0 w.if-not-has_phase_at.false)))
       | in_default w ↦
-          let there = IsAt-within c.graph-graph.result.now i (omega (arith, c.loop-place-test.true, c.len-place-end.ensures.len)) in
+          let there = IsAt-within c.graph-graph.result.now i (omega
+          (arith, c.loop-place-test.true, c.len-place-end.ensures.len)) in
           absurd (none-some there.0 (sym (sym c.node_at.ensures ∙ w.in_default.is) ∙ there.1))
     ]
 
 pub returns-clause-shared : goal.returns-clause-shared
 returns-clause-shared c =
-    shared_all c.args.replica.now.history c.loop-place.place c.loop-place.spots.items (omega (arith, c.loop-place-test.false, c.len-place-end.ensures.len, ap length c.graph-graph.ensures.graph)) c.loop-place.invariant
+    shared_all c.args.replica.now.history c.loop-place.place c.loop-place.spots.items
+    (omega (arith, c.loop-place-test.false, c.len-place-end.ensures.len, ap length c.graph-graph.ensures.graph))
+    c.loop-place.invariant

@@ -10,6 +10,9 @@ common_heads-requires-clause-in_order c = rw c.deref.ensures.value c.self.invari
 pub returns-clause-heads : goal.returns-clause-heads
 returns-clause-heads c =
     let heads = c.in_ok-heads.heads.items in
-    let lists = rw c.deref.ensures.value at (rw c.deref-2.ensures.value at (rw c.deref-3.ensures.value at c.in_ok-heads.ensures)) in
-    IfOk-weaker c.nodes.result (λ ns. ns.items ≡ nodes_of c.deref-4.result.now) (λ ns. AreCommonHeads c.args.self.now ns.items)
-    (λ ns is. subst (λ (s : Search). AreCommonHeads s ns.items) c.self.view_is (heads, lists, is ∙ ap nodes_of c.deref-4.ensures.value)) c.nodes.ensures
+    let lists = rw c.deref.ensures.value at (rw c.deref-2.ensures.value at
+    (rw c.deref-3.ensures.value at c.in_ok-heads.ensures)) in
+    IfOk-weaker c.nodes.result (λ ns. ns.items ≡ nodes_of c.deref-4.result.now)
+    (λ ns. AreCommonHeads c.args.self.now ns.items)
+    (λ ns is. subst (λ (s : Search). AreCommonHeads s ns.items) c.self.view_is
+    (heads, lists, is ∙ ap nodes_of c.deref-4.ensures.value)) c.nodes.ensures

@@ -9,4 +9,5 @@ pub returns : goal.returns
 returns c =
     let asked = c.self.inside.asked in
     let empty : c.is_empty.result ≡ (length asked.items == 0) = c.is_empty.ensures ∙ ap (λ n. n == 0) asked.ok.0 in
-    subst (λ (s : Search). IsTrue c.is_empty.result ↔ (undecided s.decided ≡ 0)) c.self.view_is (done_count _ c.self.invariant.0 c.is_empty.result empty)
+    subst (λ (s : Search). IsTrue c.is_empty.result ↔ (undecided s.decided ≡ 0)) c.self.view_is
+    (done_count _ c.self.invariant.0 c.is_empty.result empty)

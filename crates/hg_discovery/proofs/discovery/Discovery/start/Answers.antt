@@ -12,8 +12,10 @@ pub undecided-requires : goal.undecided-requires
 undecided-requires c x h =
     let s = c.args.replica.now.history in
     let ps = c.in_ok-parents.parents.items in
-    let shape : IsShapeOf (changesets s) ps = subst (λ cs. IsShapeOf cs ps) c.graph.ensures.graph c.in_ok-parents.ensures in
-    let within = shared_within s c.graph.ensures.valid ps shape c.in_ok-spots.spots.items c.in_ok-spots.ensures.shared x (subst (λ xs. Contains xs x) c.deref.ensures.value h) in
+    let shape : IsShapeOf (changesets s) ps = subst (λ cs. IsShapeOf cs ps) c.graph.ensures.graph
+    c.in_ok-parents.ensures in
+    let within = shared_within s c.graph.ensures.valid ps shape c.in_ok-spots.spots.items c.in_ok-spots.ensures.shared
+    x (subst (λ xs. Contains xs x) c.deref.ensures.value h) in
     omega (arith, within, c.len.ensures, c.in_ok-parents.parents.ok.0)
 
 pub sample-asked-requires-clause-spots : goal.sample-asked-requires-clause-spots
@@ -22,24 +24,42 @@ sample-asked-requires-clause-spots c =
     let ps = c.in_ok-parents.parents.items in
     let xs = c.in_ok-spots.spots.items in
     let ds = c.in_ok-decided.decided.items in
-    let shape : IsShapeOf (changesets s) ps = subst (λ cs. IsShapeOf cs ps) c.graph.ensures.graph c.in_ok-parents.ensures in
-    let len : length ds ≡ length ps = omega (arith, c.in_ok-decided.ensures.len, c.len.ensures, c.in_ok-parents.parents.ok.0) in
-    let undecided : (k : ℕ) → Is ds Undecided k ↔ ((x : Spot) × Contains xs x × (x.place ≡ k)) = subst (λ ys. (k : ℕ) → Is ds Undecided k ↔ ((x : Spot) × Contains ys x × (x.place ≡ k))) c.deref.ensures.value c.in_ok-decided.ensures.undecided in
-    rw c.deref-2.ensures.value (rw c.deref-3.ensures.value (spots_start s c.graph.ensures.valid ps shape xs c.in_ok-spots.ensures.shared ds len undecided c.in_ok-decided.ensures.nothing_common c.in_ok-spots.ensures.ascending))
+    let shape : IsShapeOf (changesets s) ps = subst (λ cs. IsShapeOf cs ps) c.graph.ensures.graph
+    c.in_ok-parents.ensures in
+    let len : length ds ≡ length ps = omega (
+      arith,
+      c.in_ok-decided.ensures.len,
+      c.len.ensures,
+      c.in_ok-parents.parents.ok.0,
+    ) in
+    let undecided : (k : ℕ) → Is ds Undecided k ↔ ((x : Spot) × Contains xs x × (x.place ≡ k)) =
+    subst (λ ys. (k : ℕ) → Is ds Undecided k ↔ ((x : Spot) × Contains ys x × (x.place ≡ k))) c.deref.ensures.value
+    c.in_ok-decided.ensures.undecided in
+    rw c.deref-2.ensures.value
+    (rw c.deref-3.ensures.value
+    (spots_start s c.graph.ensures.valid ps shape xs c.in_ok-spots.ensures.shared ds len undecided
+    c.in_ok-decided.ensures.nothing_common c.in_ok-spots.ensures.ascending))
 
 pub sample-asked-requires-clause-len : goal.sample-asked-requires-clause-len
 sample-asked-requires-clause-len c =
     let s = c.args.replica.now.history in
     let ps = c.in_ok-parents.parents.items in
     let ds = c.in_ok-decided.decided.items in
-    let shape : IsShapeOf c.graph-2.result.now ps = subst (λ cs. IsShapeOf cs ps) (c.graph.ensures.graph ∙ sym c.graph-2.ensures.graph) c.in_ok-parents.ensures in
-    let len : length ds ≡ length ps = omega (arith, c.in_ok-decided.ensures.len, c.len.ensures, c.in_ok-parents.parents.ok.0) in
+    let shape : IsShapeOf c.graph-2.result.now ps = subst (λ cs. IsShapeOf cs ps)
+    (c.graph.ensures.graph ∙ sym c.graph-2.ensures.graph) c.in_ok-parents.ensures in
+    let len : length ds ≡ length ps = omega (
+      arith,
+      c.in_ok-decided.ensures.len,
+      c.len.ensures,
+      c.in_ok-parents.parents.ok.0,
+    ) in
     rw c.deref-3.ensures.value (len ∙ sym (c.in_ok-family.ensures ps ds shape).len)
 
 pub sample-asked-requires-clause-fits : goal.sample-asked-requires-clause-fits
 sample-asked-requires-clause-fits c =
     let ps = c.in_ok-parents.parents.items in
-    let shape : IsShapeOf c.graph-2.result.now ps = subst (λ cs. IsShapeOf cs ps) (c.graph.ensures.graph ∙ sym c.graph-2.ensures.graph) c.in_ok-parents.ensures in
+    let shape : IsShapeOf c.graph-2.result.now ps = subst (λ cs. IsShapeOf cs ps)
+    (c.graph.ensures.graph ∙ sym c.graph-2.ensures.graph) c.in_ok-parents.ensures in
     (c.in_ok-family.ensures ps c.in_ok-decided.decided.items shape).within
 
 pub invariant_of-result : goal.invariant_of-result
@@ -48,19 +68,31 @@ invariant_of-result c =
     let ps = c.in_ok-parents.parents.items in
     let xs = c.in_ok-spots.spots.items in
     let ds = c.in_ok-decided.decided.items in
-    let shape : IsShapeOf (changesets s) ps = subst (λ cs. IsShapeOf cs ps) c.graph.ensures.graph c.in_ok-parents.ensures in
-    let len : length ds ≡ length ps = omega (arith, c.in_ok-decided.ensures.len, c.len.ensures, c.in_ok-parents.parents.ok.0) in
-    let undecided : (k : ℕ) → Is ds Undecided k ↔ ((x : Spot) × Contains xs x × (x.place ≡ k)) = subst (λ ys. (k : ℕ) → Is ds Undecided k ↔ ((x : Spot) × Contains ys x × (x.place ≡ k))) c.deref.ensures.value c.in_ok-decided.ensures.undecided in
+    let shape : IsShapeOf (changesets s) ps = subst (λ cs. IsShapeOf cs ps) c.graph.ensures.graph
+    c.in_ok-parents.ensures in
+    let len : length ds ≡ length ps = omega (
+      arith,
+      c.in_ok-decided.ensures.len,
+      c.len.ensures,
+      c.in_ok-parents.parents.ok.0,
+    ) in
+    let undecided : (k : ℕ) → Is ds Undecided k ↔ ((x : Spot) × Contains xs x × (x.place ≡ k)) =
+    subst (λ ys. (k : ℕ) → Is ds Undecided k ↔ ((x : Spot) × Contains ys x × (x.place ≡ k))) c.deref.ensures.value
+    c.in_ok-decided.ensures.undecided in
     let order : IsInOrder ps = in_order s c.graph.ensures.valid ps shape xs c.in_ok-spots.ensures.shared in
-    let closed : IsClosed ps ds = closed_start s c.graph.ensures.valid ps shape xs c.in_ok-spots.ensures.shared ds len undecided c.in_ok-decided.ensures.nothing_common in
+    let closed : IsClosed ps ds = closed_start s c.graph.ensures.valid ps shape xs c.in_ok-spots.ensures.shared ds len
+    undecided c.in_ok-decided.ensures.nothing_common in
     let before = c.in_ok-family.family in
-    let family : IsFamily ps ds before.children.items before.left.items = c.in_ok-family.ensures ps ds (subst (λ cs. IsShapeOf cs ps) (sym c.graph-2.ensures.graph) shape) in
+    let family : IsFamily ps ds before.children.items before.left.items =
+    c.in_ok-family.ensures ps ds (subst (λ cs. IsShapeOf cs ps) (sym c.graph-2.ensures.graph) shape) in
     let drawn = rw c.deref-2.ensures.value at (rw c.deref-3.ensures.value at c.sample-asked.ensures.sample) in
     let kept = rw c.deref-3.ensures.value at c.sample-asked.ensures.family in
-    let search : IsSearch (record { parents = ps; spots = xs; decided = ds; asked = c.sample-asked.result.items }) = record {
+    let search : IsSearch (record { parents = ps; spots = xs; decided = ds; asked = c.sample-asked.result.items }) =
+    record {
       len = len;
       in_order = order;
-      spots = spots_start s c.graph.ensures.valid ps shape xs c.in_ok-spots.ensures.shared ds len undecided c.in_ok-decided.ensures.nothing_common c.in_ok-spots.ensures.ascending;
+      spots = spots_start s c.graph.ensures.valid ps shape xs c.in_ok-spots.ensures.shared ds len undecided
+          c.in_ok-decided.ensures.nothing_common c.in_ok-spots.ensures.ascending;
       closed = closed;
       sample = drawn ps order closed family;
     } in (
@@ -75,7 +107,9 @@ returns c =
     let ps = c.in_ok-parents.parents.items in
     let xs = c.in_ok-spots.spots.items in
     let ds = c.in_ok-decided.decided.items in
-    let undecided : (k : ℕ) → Is ds Undecided k ↔ ((x : Spot) × Contains xs x × (x.place ≡ k)) = subst (λ ys. (k : ℕ) → Is ds Undecided k ↔ ((x : Spot) × Contains ys x × (x.place ≡ k))) c.deref.ensures.value c.in_ok-decided.ensures.undecided in
+    let undecided : (k : ℕ) → Is ds Undecided k ↔ ((x : Spot) × Contains xs x × (x.place ≡ k)) =
+    subst (λ ys. (k : ℕ) → Is ds Undecided k ↔ ((x : Spot) × Contains ys x × (x.place ≡ k))) c.deref.ensures.value
+    c.in_ok-decided.ensures.undecided in
     record {
       shape = subst (λ cs. IsShapeOf cs ps) c.graph.ensures.graph c.in_ok-parents.ensures;
       spots = c.in_ok-spots.ensures.shared;
