@@ -6,6 +6,8 @@ mod offers;
 #[cfg(test)]
 mod reading;
 #[cfg(test)]
+mod received;
+#[cfg(test)]
 mod rows;
 #[cfg(test)]
 mod writing;

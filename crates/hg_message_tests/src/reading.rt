@@ -141,6 +141,35 @@ fn all_kinds_with_a_byte_turned(rt: HostRuntime) {
     }
 }
 
+// Puts a field in place of the bytes from this place on.
+fn put(bytes: &mut [u8], place: usize, field: &[u8]) {
+    if let Some(end) = place.checked_add(field.len()) {
+        if let Some(old) = bytes.get_mut(place..end) {
+            old.copy_from_slice(field);
+        }
+    }
+}
+
+#[test]
+fn a_field_of_one_changeset_is_at_fault(rt: HostRuntime) {
+    let alloc = rt.alloc();
+    let version = StoreFault::BadVersion(1);
+    let parents = [0x11; 40];
+    let len = [0, 0x10, 0, 1];
+    let phase = [0, 0, 0, 32];
+    let faults: [(usize, &[u8], MessageFault); 4] = [
+        (29, &parents, MessageFault::BadParents(0)),
+        (69, &len, MessageFault::TextTooLong(0)),
+        (77, &phase, MessageFault::BadPhase),
+        (105, &[1], MessageFault::BadMarker(105, version)),
+    ];
+    for (place, field, fault) in faults {
+        let mut bytes = one_changeset(alloc).expect(&rt, "memory");
+        put(&mut bytes, place, field);
+        assert!(rt; fault_of(&rt, alloc, &bytes) == Some(fault), "at {place}");
+    }
+}
+
 #[test]
 fn equal_parents_are_told_before_the_hash(rt: HostRuntime) {
     let alloc = rt.alloc();
