@@ -1,5 +1,5 @@
-//! Cases of messages: what offering, writing, reading and taking in cost. Half of what is offered are changesets, and half
-//! are markers, each of a changeset.
+//! Cases of messages: what offering, writing, reading and taking in cost. Half of what is offered are changesets, and
+//! half are markers, each of a changeset.
 use crate::chain::{chain_on, replica_of};
 use crate::markers::{marker, node};
 use hg_changeset::Node;

@@ -1,5 +1,6 @@
 -- The steps of `absorb` together.
-use Rattle.std.proofs.Common.{◌≡◌, ℕ, List, [], ◌∷◌, ◌++◌, length, take, drop, Contains, Result, Ok, Err, ◌≤◌, ◌⊎◌, inl, inr, refl, sym, ap, subst, ◌∙◌, arith}
+use Rattle.std.proofs.Common.{◌≡◌, ℕ, List, [], ◌∷◌, ◌++◌, length, take, drop, Contains, Result, Ok, Err, ◌≤◌, ◌⊎◌, inl}
+use Rattle.std.proofs.Common.{inr, refl, sym, ap, subst, ◌∙◌, arith}
 use Rattle.std.proofs.Math.Seq.{drop-append_seam}
 use Rattle.std.proofs.lemmas.List.{take_all, map-append, length-append, length-map}
 use Rattle.std.proofs.lemmas.Option.{slice_get_within}
@@ -18,7 +19,8 @@ use Rattle.hg_phases.proofs.PlaceLemmas.{changesets-held_of}
 use Rattle.hg_phases.specs.RootPlaces.{AreRootPlaces}
 use Rattle.hg_phases.proofs.LogLemmas.{fresh_log}
 use Rattle.hg_history.specs.declared.fault.Fault.{Fault}
-use Rattle.hg_history.specs.declared.fault.Fault.TheVariants.{UnknownParent, Collision, UnknownBound, NullBound, NoMemory}
+use Rattle.hg_history.specs.declared.fault.Fault.TheVariants.{UnknownParent, Collision, UnknownBound, NullBound}
+use Rattle.hg_history.specs.declared.fault.Fault.TheVariants.{NoMemory}
 use Rattle.hg_history.specs.Change.{unheld}
 use Rattle.hg_history.specs.Answer.{IsFineUpTo, AreHeldUpTo, IsRefusal, IsFirstUnheld}
 use Rattle.hg_history.specs.Steps.{AddAllAnswer, IsBegun, CanTakeBack, IsAdded, IsBoundFault, IsLoweredTo}
@@ -27,8 +29,10 @@ use Rattle.hg_history.proofs.FirstFaultLemmas.{fine-admitted}
 use Rattle.hg_history.proofs.BoundLemmas.{least-secrets}
 
 -- what was added and lowered can be taken back
-pub back_lowered : (held : List Contents) (had : List Phase) (part : List Contents) (i : ℕ) (cs : List Contents) (ks new : List Phase) (phase : Phase) (log : List LoweredPlace) → length had ≡ length held
-    → IsAdded held had part i cs ks → length new ≡ length ks → IsLog phase ks new log → restored new log ≡ ks → CanTakeBack held had cs new log
+pub back_lowered : (held : List Contents) (had : List Phase) (part : List Contents) (i : ℕ) (cs : List Contents)
+    (ks new : List Phase) (phase : Phase) (log : List LoweredPlace) → length had ≡ length held
+    → IsAdded held had part i cs ks → length new ≡ length ks → IsLog phase ks new log → restored new log ≡ ks
+    → CanTakeBack held had cs new log
 back_lowered held had part i cs ks new phase log len a new_len logged undoes = record {
   len = new_len ∙ a.len;
   valid = subst (λ start. IsValid (state_of cs start)) (sym undoes) a.valid;
@@ -38,12 +42,15 @@ back_lowered held had part i cs ks new phase log len a new_len logged undoes = r
 }
 
 -- what was added can be taken back, before anything went down
-pub back_added : (held : List Contents) (had : List Phase) (part : List Contents) (i : ℕ) (cs : List Contents) (ks : List Phase) (log : List LoweredPlace) → length had ≡ length held
+pub back_added : (held : List Contents) (had : List Phase) (part : List Contents) (i : ℕ) (cs : List Contents)
+    (ks : List Phase) (log : List LoweredPlace) → length had ≡ length held
     → IsAdded held had part i cs ks → log ≡ [] → CanTakeBack held had cs ks log
-back_added held had part i cs ks log len a fresh = back_lowered held had part i cs ks ks Public log len a refl (fresh_log Public ks log fresh) (ap (restored ks) fresh)
+back_added held had part i cs ks log len a fresh =
+    back_lowered held had part i cs ks ks Public log len a refl (fresh_log Public ks log fresh) (ap (restored ks) fresh)
 
 -- what was begun
-module _ (held : List Contents) (had : List Phase) (part : List Contents) (before : ℕ) (added : Result Unit Fault) (cs : List Contents) (ks : List Phase) (begun : IsBegun held had part before added cs ks) where
+module _ (held : List Contents) (had : List Phase) (part : List Contents) (before : ℕ) (added : Result Unit Fault)
+    (cs : List Contents) (ks : List Phase) (begun : IsBegun held had part before added cs ks) where
   pub begun_all : (u : Unit) → added ≡ Ok u → IsAdded held had part (length part) cs ks
   begun_all u is = subst (λ r. AddAllAnswer held had part r cs ks) is begun.done
 
@@ -61,14 +68,21 @@ module _ (held : List Contents) (had : List Phase) (part : List Contents) (befor
       ap (λ n. take n ks) begun.first ∙ phases_kept held had part a.0 cs ks a.1 begun.len
 
   -- the roots of what was held first
-  pub rooted_after : (places : List ℕ) → AreRootPlaces held had places → AreRootPlaces (take before cs) (take before ks) places
-  rooted_after places are = subst (λ ls. AreRootPlaces (take before cs) ls places) (sym begun_phases) (subst (λ ds. AreRootPlaces ds had places) (sym begun_front) are)
+  pub rooted_after : (places : List ℕ) → AreRootPlaces held had places
+      → AreRootPlaces (take before cs) (take before ks) places
+  rooted_after places are =
+      subst (λ ls. AreRootPlaces (take before cs) ls places) (sym begun_phases)
+      (subst (λ ds. AreRootPlaces ds had places) (sym begun_front) are)
 
-  pub rooted_before : (places : List ℕ) → AreRootPlaces (take before cs) (take before ks) places → AreRootPlaces held had places
-  rooted_before places are = subst (λ ls. AreRootPlaces held ls places) begun_phases (subst (λ ds. AreRootPlaces ds (take before ks) places) begun_front are)
+  pub rooted_before : (places : List ℕ) → AreRootPlaces (take before cs) (take before ks) places
+      → AreRootPlaces held had places
+  rooted_before places are =
+      subst (λ ls. AreRootPlaces held ls places) begun_phases
+      (subst (λ ds. AreRootPlaces ds (take before ks) places) begun_front are)
 
 -- what a call that adds leaves can be gone on with
-module _ (held : List Contents) (had : List Phase) (part : List Contents) (added : Result Unit Fault) (cs : List Contents) (ks : List Phase) (answer : AddAllAnswer held had part added cs ks) where
+module _ (held : List Contents) (had : List Phase) (part : List Contents) (added : Result Unit Fault)
+    (cs : List Contents) (ks : List Phase) (answer : AddAllAnswer held had part added cs ks) where
   pub added_len : length ks ≡ length cs
   added_len = (some_added held had part added cs ks answer).1.len
 
@@ -80,7 +94,8 @@ module _ (held : List Contents) (had : List Phase) (part : List Contents) (added
       let a = some_added held had part added cs ks answer in
       omega (arith, ap length a.1.appended, length-append held (unheld held (take a.0 part)))
 
-module _ (held : List Contents) (had : List Phase) (part : List Contents) (bounds : List (Node × Phase)) (cs : List Contents) (ks : List Phase) (a : IsAdded held had part (length part) cs ks) where
+module _ (held : List Contents) (had : List Phase) (part : List Contents) (bounds : List (Node × Phase))
+    (cs : List Contents) (ks : List Phase) (a : IsAdded held had part (length part) cs ks) where
   whole : take (length part) part ≡ part
   whole = take_all (length part) part (omega arith)
 
@@ -91,9 +106,19 @@ module _ (held : List Contents) (had : List Phase) (part : List Contents) (bound
   from n = Holds-same (held ++ part) cs (λ c at. (a.same c).1 (subst (λ xs. Contains (held ++ xs) c) (sym whole) at)) n
 
   unheld_first : (n : Node) → IsFirstUnheld cs bounds n → IsFirstUnheld (held ++ part) bounds n
-  unheld_first n u = record { place = u.place; bound = u.bound; at = u.at; before = λ j b l at. to b.0 (u.before j b l at); node = u.node; unheld = λ h. u.unheld (from n h) }
+  unheld_first n u =
+      record {
+        place = u.place;
+        bound = u.bound;
+        at = u.at;
+        before = λ j b l at. to b.0 (u.before j b l at);
+        node =
+            u.node;
+        unheld = λ h. u.unheld (from n h);
+      }
 
-  pub bound_first : (f : Fault) → IsBoundFault cs bounds f → IsRefusal held (record { changesets = part; bounds = bounds }) f
+  pub bound_first : (f : Fault) → IsBoundFault cs bounds f
+      → IsRefusal held (record { changesets = part; bounds = bounds }) f
   bound_first (UnknownParent p) h = absurd h
   bound_first (Collision n) h = absurd h
   bound_first (UnknownBound n) h = (a.fine, unheld_first n h.0, h.1)
@@ -115,15 +140,18 @@ module _ (held : List Contents) (had : List Phase) (part : List Contents) (bound
 
     pub admitted : IsAdmitted (state_of held had) (record { changesets = part; bounds = bounds })
     admitted = fine-admitted s k (subst (λ ds. IsFineUpTo ds part (length part)) (sym same_then) a.fine)
-        (subst (λ ds. AreHeldUpTo (ds ++ part) bounds (length bounds)) (sym same_then) (λ j b l at. to b.0 (there j b l at)))
+        (subst (λ ds. AreHeldUpTo (ds ++ part) bounds (length bounds)) (sym same_then)
+        (λ j b l at. to b.0 (there j b l at)))
 
-    pub least-absorbed : (mid new : List Phase) → IsLoweredTo cs bounds Public ks mid → IsLoweredTo cs bounds Draft mid new → length new ≡ length cs
+    pub least-absorbed : (mid new : List Phase) → IsLoweredTo cs bounds Public ks mid
+        → IsLoweredTo cs bounds Draft mid new → length new ≡ length cs
         → IsLeast (state_of held had) (record { changesets = part; bounds = bounds } ∷ []) (state_of cs new)
     least-absorbed mid new public draft new_len =
         let one = public (state_of held had) part [] (least-added held had part cs ks len a) in
         let two = draft (state_of held had) part one.0 one.1 in
         least-secrets (state_of held had) part two.0 bounds (state_of cs new)
-        (λ b at. elim (two.2 b at) [ inl x ↦ elim (one.2 b x) [ inl y ↦ absurd (omega (arith, y.1)) | inr y ↦ y ] | inr x ↦ x ])
+        (λ b at. elim (two.2 b at)
+        [ inl x ↦ elim (one.2 b x) [ inl y ↦ absurd (omega (arith, y.1)) | inr y ↦ y ] | inr x ↦ x ])
         (λ b at. by b.1 (λ e. two.3 b (one.4 b at e)) (λ e. two.4 b at e))
         (λ b at. subst (λ ds. Contains (nodes ds) b.0) (sym (changesets-held_of cs new new_len)) (bound_held b at))
         two.1
@@ -134,9 +162,11 @@ module _ (held : List Contents) (had : List Phase) (part : List Contents) (bound
         by Secret p d = inr refl
 
     -- what is new stands last, in the part's order
-    pub in_order : (new : List Phase) → length new ≡ length cs → changesets (state_of cs new) ≡ changesets (state_of held had) ++ unheld (changesets (state_of held had)) part
+    pub in_order : (new : List Phase) → length new ≡ length cs
+        → changesets (state_of cs new) ≡ changesets (state_of held had) ++ unheld (changesets (state_of held had)) part
     in_order new new_len =
-        changesets-held_of cs new new_len ∙ a.appended ∙ ap (λ xs. held ++ unheld held xs) whole ∙ (λ t. same_then_back t ++ unheld (same_then_back t) part)
+        changesets-held_of cs new new_len ∙ a.appended ∙ ap (λ xs. held ++ unheld held xs) whole
+        ∙ (λ t. same_then_back t ++ unheld (same_then_back t) part)
       where
         same_then_back : held ≡ changesets (state_of held had)
         same_then_back = sym (changesets-held_of held had len)
@@ -152,5 +182,6 @@ module _ (held : List Contents) (had : List Phase) (part : List Contents) (bound
         ∙ ap (λ xs. nodes (unheld xs part)) (sym same_then)
 
 -- in the words of states
-pub refusal_at_state : (held : List Contents) (had : List Phase) (k : PartValue) (f : Fault) → length had ≡ length held → IsRefusal held k f → IsRefusal (changesets (state_of held had)) k f
+pub refusal_at_state : (held : List Contents) (had : List Phase) (k : PartValue) (f : Fault) → length had ≡ length held
+    → IsRefusal held k f → IsRefusal (changesets (state_of held had)) k f
 refusal_at_state held had k f len h = subst (λ ds. IsRefusal ds k f) (sym (changesets-held_of held had len)) h

@@ -1,5 +1,6 @@
 -- What a kept list says, its content says, and the other way round.
-use Rattle.std.proofs.Common.{◌≡◌, ℕ, zero, suc, ◌<◌, [], ◌∷◌, take, slice_get, Some, Result, Ok, Err, IfOk, IfErr, OnOk, OnErr, Contains, ◌↔◌, ◌⊎◌, inl, inr, refl, sym, ap, subst, ◌∙◌, arith}
+use Rattle.std.proofs.Common.{◌≡◌, ℕ, zero, suc, ◌<◌, [], ◌∷◌, take, slice_get, Some, Result, Ok, Err, IfOk, IfErr}
+use Rattle.std.proofs.Common.{OnOk, OnErr, Contains, ◌↔◌, ◌⊎◌, inl, inr, refl, sym, ap, subst, ◌∙◌, arith}
 use Rattle.hg_changeset.specs.declared.node.Node.{Node}
 use Rattle.hg_changeset.specs.Contents.{Contents}
 use Rattle.hg_changeset.specs.Changeset.{node_of, IsChangeset}
@@ -14,23 +15,27 @@ use Rattle.hg_phases.specs.Order.{Below}
 use Rattle.hg_phases.specs.Least.{PartValue, Covers, IsAdmitted, IsBoundOfOne, IsChangesetOfOne, IsCandidate, IsLeast}
 use Rattle.hg_phases.proofs.LeastLemmas.{held_from, changeset_from, same_changeset, Holds-taken}
 use Rattle.hg_history.specs.declared.fault.Fault.{Fault}
-use Rattle.hg_history.specs.declared.fault.Fault.TheVariants.{UnknownParent, Collision, UnknownBound, NullBound, NoMemory}
+use Rattle.hg_history.specs.declared.fault.Fault.TheVariants.{UnknownParent, Collision, UnknownBound, NullBound}
+use Rattle.hg_history.specs.declared.fault.Fault.TheVariants.{NoMemory}
 use Rattle.hg_history.specs.Change.{ChangeValue, unheld}
 use Rattle.hg_history.specs.Answer.{IsFirstFault, IsRefusal, AbsorbAnswer}
 use Rattle.hg_history.specs.Join.{TellsChange}
 use Rattle.hg_phases.specs.Content.{content_of}
 use Rattle.hg_phases.proofs.ContentLemmas.{held_in_content, content-held}
-use Rattle.hg_history.specs.Content.{IsHeld, IsHeldAs, Leads, IsGrounded, IsValidContent, ContentBelow, ContentCovers, ContentAdmits, IsContentCandidate, ContentAfter, IsListing, IsContentFault}
+use Rattle.hg_history.specs.Content.{IsHeld, IsHeldAs, Leads, IsGrounded, IsValidContent, ContentBelow, ContentCovers}
+use Rattle.hg_history.specs.Content.{ContentAdmits, IsContentCandidate, ContentAfter, IsListing, IsContentFault}
 use Rattle.hg_history.specs.Content.Leads.{itself, below}
 use Rattle.hg_history.specs.Content.IsGrounded.{grounded}
 
 module _ (s : State) (graph : IsGraph (changesets s)) where
-  pub content-changeset : (n : Node) (c : Contents) → Contains (changesets s) c → node_of c ≡ n → IsHeldAs (content_of s) n c
+  pub content-changeset : (n : Node) (c : Contents) → Contains (changesets s) c → node_of c ≡ n
+      → IsHeldAs (content_of s) n c
   content-changeset n c at e =
       let h = held_from s c at in
       (h.0, content-held s graph n h.0 h.1 (ap node_of h.2 ∙ e), h.2)
 
-  pub changeset_in_content : (n : Node) (c : Contents) → IsHeldAs (content_of s) n c → Contains (changesets s) c × (node_of c ≡ n)
+  pub changeset_in_content : (n : Node) (c : Contents) → IsHeldAs (content_of s) n c
+      → Contains (changesets s) c × (node_of c ≡ n)
   changeset_in_content n c x =
       let h = held_in_content s n x.0 x.1 in
       (subst (Contains (changesets s)) x.2 (changeset_from s x.0 h.0), subst (λ d. node_of d ≡ n) x.2 h.1)
@@ -44,7 +49,8 @@ module _ (s : State) (graph : IsGraph (changesets s)) where
   pub node_in_content : (n : Node) → IsHeld (content_of s) n → Holds s n
   node_in_content n x =
       let h = held_in_content s n x.0 x.1 in
-      subst (λ m. Contains (nodes (changesets s)) m) h.1 (Holds-from (changesets s) x.0.changeset (changeset_from s x.0 h.0))
+      subst (λ m. Contains (nodes (changesets s)) m) h.1
+      (Holds-from (changesets s) x.0.changeset (changeset_from s x.0 h.0))
 
   -- in a graph the parent of a changeset that is held is held
   parent-held : (c : Contents) (p : Node) → Contains (changesets s) c → IsParent c p → Holds s p
@@ -66,12 +72,15 @@ module _ (s : State) (graph : IsGraph (changesets s)) where
       reaches_below (reach_from_leads a p (parent-held h.changeset p at is) r) is at f.1
 
   -- the changesets before a place are grounded, each in those before it
-  place-grounded : (bound i : ℕ) (c : Contents) → i < bound → slice_get (changesets s) i ≡ Some c → IsGrounded (content_of s) (node_of c)
+  place-grounded : (bound i : ℕ) (c : Contents) → i < bound → slice_get (changesets s) i ≡ Some c
+      → IsGrounded (content_of s) (node_of c)
   place-grounded zero i c lt at = absurd (omega arith)
   place-grounded (suc bound) i c lt at = grounded (λ h p e is.
       let f = held_in_content s (node_of c) h e in
-      let same = same_changeset (changesets s) graph c h.changeset (Contains-from_place (changesets s) i c at) (changeset_from s h f.0) (sym f.1) in
-      let d = Holds-changeset (take i (changesets s)) p (graph.parents_first i c at p (subst (λ x. IsParent x p) same is)) in
+      let same = same_changeset (changesets s) graph c h.changeset (Contains-from_place (changesets s) i c at)
+      (changeset_from s h f.0) (sym f.1) in
+      let d = Holds-changeset (take i (changesets s)) p
+      (graph.parents_first i c at p (subst (λ x. IsParent x p) same is)) in
       let place = place_from_Contains (take i (changesets s)) d.0 d.1 in
       let at_d = get-take (changesets s) i place.0 d.0 place.1 in
       let earlier : place.0 < bound = omega (arith, at_d.0) in
@@ -126,7 +135,8 @@ content-covers s k graph covers = record {
       );
 }
 
-pub covers_from_content : (s : State) (k : PartValue) → IsGraph (changesets s) → ContentCovers (content_of s) k → Covers s k
+pub covers_from_content : (s : State) (k : PartValue) → IsGraph (changesets s) → ContentCovers (content_of s) k
+    → Covers s k
 covers_from_content s k graph covers = record {
   holds = λ c at. (changeset_in_content s graph (node_of c) c (covers.holds c at)).0;
   bounded = λ b at.
@@ -139,23 +149,38 @@ covers_from_content s k graph covers = record {
 }
 
 -- to admit is to admit
-pub content-admits : (s : State) (k : PartValue) → IsGraph (changesets s) → ((c : Contents) → Contains k.changesets c → IsChangeset c) → IsAdmitted s k → ContentAdmits (content_of s) k
+pub content-admits : (s : State) (k : PartValue) → IsGraph (changesets s)
+    → ((c : Contents) → Contains k.changesets c → IsChangeset c) → IsAdmitted s k → ContentAdmits (content_of s) k
 content-admits s k graph each admitted = record {
   each = each;
-  parents = λ i c at p is. elim (admitted.parents i c at p is) [ inl x ↦ inl (content-node s graph p x) | inr x ↦ inr (Holds-changeset (take i k.changesets) p x) ];
-  bounds = λ b at. elim (admitted.bounds b at) [ inl x ↦ inl (content-node s graph b.0 x) | inr x ↦ inr (Holds-changeset k.changesets b.0 x) ];
-  apart = λ c d at other e. admitted.apart c d at (elim other [ inl x ↦ inl (changeset_in_content s graph (node_of d) d x).0 | inr x ↦ inr x ]) e;
+  parents = λ i c at p is. elim (admitted.parents i c at p is)
+      [ inl x ↦ inl (content-node s graph p x) | inr x ↦ inr (Holds-changeset (take i k.changesets) p x) ];
+  bounds = λ b at. elim (admitted.bounds b at)
+      [ inl x ↦ inl (content-node s graph b.0 x) | inr x ↦ inr (Holds-changeset k.changesets b.0 x) ];
+  apart = λ c d at other e. admitted.apart c d at
+      (elim other [ inl x ↦ inl (changeset_in_content s graph (node_of d) d x).0 | inr x ↦ inr x ]) e;
 }
 
-pub admits_from_content : (s : State) (k : PartValue) → IsGraph (changesets s) → ContentAdmits (content_of s) k → IsAdmitted s k
+pub admits_from_content : (s : State) (k : PartValue) → IsGraph (changesets s) → ContentAdmits (content_of s) k
+    → IsAdmitted s k
 admits_from_content s k graph admitted = record {
-  parents = λ i c at p is. elim (admitted.parents i c at p is) [ inl x ↦ inl (node_in_content s graph p x) | inr x ↦ inr (subst (λ n. Contains (nodes (take i k.changesets)) n) x.2 (Holds-from (take i k.changesets) x.0 x.1)) ];
-  bounds = λ b at. elim (admitted.bounds b at) [ inl x ↦ inl (node_in_content s graph b.0 x) | inr x ↦ inr (subst (λ n. Contains (nodes k.changesets) n) x.2 (Holds-from k.changesets x.0 x.1)) ];
-  apart = λ c d at other e. admitted.apart c d at (elim other [ inl x ↦ inl (content-changeset s graph (node_of d) d x refl) | inr x ↦ inr x ]) e;
+  parents = λ i c at p is. elim (admitted.parents i c at p is) [
+    | inl x ↦ inl (node_in_content s graph p x)
+    | inr x ↦ inr
+        (subst (λ n. Contains (nodes (take i k.changesets)) n) x.2 (Holds-from (take i k.changesets) x.0 x.1))
+  ];
+  bounds = λ b at. elim (admitted.bounds b at) [
+    | inl x ↦ inl (node_in_content s graph b.0 x)
+    | inr x ↦ inr
+        (subst (λ n. Contains (nodes k.changesets) n) x.2 (Holds-from k.changesets x.0 x.1))
+  ];
+  apart = λ c d at other e. admitted.apart c d at
+      (elim other [ inl x ↦ inl (content-changeset s graph (node_of d) d x refl) | inr x ↦ inr x ]) e;
 }
 
 -- a first fault is one
-pub content-fault : (s : State) (k : PartValue) (fault : Fault) → IsGraph (changesets s) → IsFirstFault (changesets s) k fault → IsContentFault (content_of s) k fault
+pub content-fault : (s : State) (k : PartValue) (fault : Fault) → IsGraph (changesets s)
+    → IsFirstFault (changesets s) k fault → IsContentFault (content_of s) k fault
 content-fault s k fault graph h = (changesets s, content_listing s graph, h)
 
 -- the least state is the content after the part
@@ -165,13 +190,16 @@ module _ (s t : State) (k : PartValue) (valid : IsValid s) (large : IsGraph (cha
     part-changeset c at = (l.union c).1 (inr (k, (0, omega arith, refl), at))
 
     -- what the state held under an id it still does
-    same-then : (n : Node) (h old : Held) → content_of t n ≡ Some h → content_of s n ≡ Some old → old.changeset ≡ h.changeset
+    same-then : (n : Node) (h old : Held) → content_of t n ≡ Some h → content_of s n ≡ Some old
+        → old.changeset ≡ h.changeset
     same-then n h old e at =
         let f = held_in_content t n h e in
         let g = held_in_content s n old at in
-        same_changeset (changesets t) large h.changeset old.changeset (changeset_from t h f.0) ((l.union old.changeset).1 (inl (changeset_from s old g.0))) (f.1 ∙ sym g.1)
+        same_changeset (changesets t) large h.changeset old.changeset (changeset_from t h f.0)
+        ((l.union old.changeset).1 (inl (changeset_from s old g.0))) (f.1 ∙ sym g.1)
 
-    candidate-there : (n : Node) (h : Held) (phase : Phase) → content_of t n ≡ Some h → IsCandidate s (k ∷ []) t h.changeset phase → IsContentCandidate (content_of s) k (content_of t) n phase
+    candidate-there : (n : Node) (h : Held) (phase : Phase) → content_of t n ≡ Some h
+        → IsCandidate s (k ∷ []) t h.changeset phase → IsContentCandidate (content_of s) k (content_of t) n phase
     candidate-there n h phase e (inl top) = inl top
     candidate-there n h phase e (inr (inl old)) =
         let f = held_in_content t n h e in
@@ -181,7 +209,8 @@ module _ (s t : State) (k : PartValue) (valid : IsValid s) (large : IsGraph (cha
         let within = subst (λ x. Contains x.bounds b.0) (sym (Contains-one k b.1.0 b.1.1)) b.1.2 in
         inr (inr (b.0, within, leads_from_reach t large n b.0.0 (subst (λ m. Reaches t m b.0.0) f.1 b.2), b.3))
 
-    candidate-back : (n : Node) (h : Held) (phase : Phase) → content_of t n ≡ Some h → IsContentCandidate (content_of s) k (content_of t) n phase → IsCandidate s (k ∷ []) t h.changeset phase
+    candidate-back : (n : Node) (h : Held) (phase : Phase) → content_of t n ≡ Some h
+        → IsContentCandidate (content_of s) k (content_of t) n phase → IsCandidate s (k ∷ []) t h.changeset phase
     candidate-back n h phase e (inl top) = inl top
     candidate-back n h phase e (inr (inl old)) =
         let f = held_in_content s n old.0 old.1 in
@@ -189,7 +218,12 @@ module _ (s t : State) (k : PartValue) (valid : IsValid s) (large : IsGraph (cha
     candidate-back n h phase e (inr (inr b)) =
         let f = held_in_content t n h e in
         let one : IsBoundOfOne (k ∷ []) b.0 = (k, (0, omega arith, refl), b.1) in
-        inr (inr (b.0, one, subst (λ m. Reaches t m b.0.0) (sym f.1) (reach_from_leads t large n b.0.0 (l.bounded b.0 one) b.2), b.3))
+        inr (inr (
+          b.0,
+          one,
+          subst (λ m. Reaches t m b.0.0) (sym f.1) (reach_from_leads t large n b.0.0 (l.bounded b.0 one) b.2),
+          b.3,
+        ))
 
     pub content-after : IsAdmitted s k → ContentAfter (content_of s) k (content_of t)
     content-after admitted = record {
@@ -202,7 +236,8 @@ module _ (s t : State) (k : PartValue) (valid : IsValid s) (large : IsGraph (cha
               | inr new ↦ inr (subst (λ y. Contains y.changesets c) (sym (Contains-one k new.0 new.1)) new.2, f.1)
             ],
         λ h. elim h [
-          | inl old ↦ let f = changeset_in_content s valid.graph n c old in content-changeset t large n c ((l.union c).1 (inl f.0)) f.1
+          | inl old ↦ let f = changeset_in_content s valid.graph n c old in
+              content-changeset t large n c ((l.union c).1 (inl f.0)) f.1
           | inr new ↦ content-changeset t large n c (part-changeset c new.0) new.1
         ],
       );
@@ -221,8 +256,11 @@ module _ (s t : State) (k : PartValue) (valid : IsValid s) (large : IsGraph (cha
         | inr new ↦ inr (k, (0, omega arith, refl), new.0)
       ],
       λ h. elim h [
-        | inl old ↦ (changeset_in_content t large (node_of c) c ((after.union (node_of c) c).1 (inl (content-changeset s valid.graph (node_of c) c old refl)))).0
-        | inr new ↦ (changeset_in_content t large (node_of c) c ((after.union (node_of c) c).1 (inr (subst (λ y. Contains y.changesets c) (sym (Contains-one k new.0 new.1)) new.2, refl)))).0
+        | inl old ↦ (changeset_in_content t large (node_of c) c
+            ((after.union (node_of c) c).1 (inl (content-changeset s valid.graph (node_of c) c old refl)))).0
+        | inr new ↦ (changeset_in_content t large (node_of c) c
+            ((after.union (node_of c) c).1
+            (inr (subst (λ y. Contains y.changesets c) (sym (Contains-one k new.0 new.1)) new.2, refl)))).0
       ],
     )
 
@@ -238,19 +276,29 @@ module _ (s t : State) (k : PartValue) (valid : IsValid s) (large : IsGraph (cha
               node_in_content t large b.0 (x.0, x.1)
         ]
 
-    forth : (h : Held) (phase : Phase) → Contains t.held h → IsCandidate s (k ∷ []) t h.changeset phase → IsContentCandidate (content_of s) k (content_of t) (node_of h.changeset) phase
+    forth : (h : Held) (phase : Phase) → Contains t.held h → IsCandidate s (k ∷ []) t h.changeset phase
+        → IsContentCandidate (content_of s) k (content_of t) (node_of h.changeset) phase
     forth h phase at (inl top) = inl top
-    forth h phase at (inr (inl old)) = inr (inl (old.0, content-held s valid.graph (node_of h.changeset) old.0 old.1 (ap node_of old.2), old.3))
+    forth h phase at (inr (inl old)) =
+        inr (inl (old.0, content-held s valid.graph (node_of h.changeset) old.0 old.1 (ap node_of old.2), old.3))
     forth h phase at (inr (inr b)) =
         let within = subst (λ x. Contains x.bounds b.0) (sym (Contains-one k b.1.0 b.1.1)) b.1.2 in
         inr (inr (b.0, within, leads_from_reach t large (node_of h.changeset) b.0.0 b.2, b.3))
 
-    back : (h : Held) (phase : Phase) → Contains t.held h → IsContentCandidate (content_of s) k (content_of t) (node_of h.changeset) phase → IsCandidate s (k ∷ []) t h.changeset phase
+    back : (h : Held) (phase : Phase) → Contains t.held h
+        → IsContentCandidate (content_of s) k (content_of t) (node_of h.changeset) phase
+        → IsCandidate s (k ∷ []) t h.changeset phase
     back h phase at (inl top) = inl top
     back h phase at (inr (inl old)) =
         let f = held_in_content s (node_of h.changeset) old.0 old.1 in
         let there = (least-union old.0.changeset).1 (inl (changeset_from s old.0 f.0)) in
-        inr (inl (old.0, f.0, same_changeset (changesets t) large h.changeset old.0.changeset (changeset_from t h at) there (sym f.1), old.2))
+        inr (inl (
+          old.0,
+          f.0,
+          same_changeset (changesets t) large h.changeset old.0.changeset (changeset_from t h at)
+              there (sym f.1),
+          old.2,
+        ))
     back h phase at (inr (inr b)) =
         let one : IsBoundOfOne (k ∷ []) b.0 = (k, (0, omega arith, refl), b.1) in
         inr (inr (b.0, one, reach_from_leads t large (node_of h.changeset) b.0.0 (least-bounded b.0 one) b.2, b.3))
@@ -271,12 +319,14 @@ module _ (s t : State) (k : PartValue) (valid : IsValid s) (large : IsGraph (cha
 -- ---- answers, in the words of contents
 
 -- what absorbing leaves is the content after the part
-pub absorbed-content : (s t : State) (k : PartValue) (r : Result ChangeValue Fault) → IsValid s → AbsorbAnswer s k r t → OnOk r (ContentAfter (content_of s) k (content_of t))
+pub absorbed-content : (s t : State) (k : PartValue) (r : Result ChangeValue Fault) → IsValid s → AbsorbAnswer s k r t
+    → OnOk r (ContentAfter (content_of s) k (content_of t))
 absorbed-content s t k (Ok change) valid h = content-after s t k valid h.least.graph h.least h.admitted
 absorbed-content s t k (Err fault) valid h = tt
 
 -- and its refusals are at fault, or for want of memory
-pub refused-content : (s t : State) (k : PartValue) (r : Result ChangeValue Fault) → IsValid s → AbsorbAnswer s k r t → IfErr r (λ fault. IsContentFault (content_of s) k fault ⊎ (fault ≡ NoMemory))
+pub refused-content : (s t : State) (k : PartValue) (r : Result ChangeValue Fault) → IsValid s → AbsorbAnswer s k r t
+    → IfErr r (λ fault. IsContentFault (content_of s) k fault ⊎ (fault ≡ NoMemory))
 refused-content s t k (Ok change) valid h = tt
 refused-content s t k (Err fault) valid h = by fault h.0
   where
@@ -288,8 +338,10 @@ refused-content s t k (Err fault) valid h = by fault h.0
     by NoMemory x = inr refl
 
 -- the change tells what became of the state
-pub told-change : (s t : State) (k : PartValue) (r : Result ChangeValue Fault) → AbsorbAnswer s k r t → IfOk r (λ change. TellsChange s change t)
-told-change s t k (Ok change) h = record { new = unheld (changesets s) k.changesets; order = h.order; added = h.added; lowered = h.lowered }
+pub told-change : (s t : State) (k : PartValue) (r : Result ChangeValue Fault) → AbsorbAnswer s k r t
+    → IfOk r (λ change. TellsChange s change t)
+told-change s t k (Ok change) h =
+    record { new = unheld (changesets s) k.changesets; order = h.order; added = h.added; lowered = h.lowered }
 told-change s t k (Err fault) h = tt
 
 pub unchanged : (s t : State) (k : PartValue) (r : Result ChangeValue Fault) → AbsorbAnswer s k r t → OnErr r (t ≡ s)

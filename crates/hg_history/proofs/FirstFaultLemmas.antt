@@ -1,5 +1,6 @@
 -- Each part is admitted, or has a first fault.
-use Rattle.std.proofs.Common.{◌≡◌, ◌≢◌, ℕ, zero, suc, ◌<◌, ◌≤◌, Bool, true, false, List, [], ◌∷◌, ◌++◌, length, take, slice_get, Some, Contains, ◌⊎◌, inl, inr, refl, sym, ap, subst, ◌∙◌, arith}
+use Rattle.std.proofs.Common.{◌≡◌, ◌≢◌, ℕ, zero, suc, ◌<◌, ◌≤◌, Bool, true, false, List, [], ◌∷◌, ◌++◌, length, take}
+use Rattle.std.proofs.Common.{slice_get, Some, Contains, ◌⊎◌, inl, inr, refl, sym, ap, subst, ◌∙◌, arith}
 use Rattle.std.specs.List.{list_any}
 use Rattle.std.proofs.lemmas.Bool.{cases_eq, cases_order}
 use Rattle.std.proofs.lemmas.List.Elements.{Contains-append_left, Contains-append_right, Contains-append_cases}
@@ -84,8 +85,10 @@ missing_or_not : (cs : List Contents) (c : Contents) → ((p : Node) × IsFirstM
 missing_or_not cs c = elim (there_or_not cs c.first) [
   | inr out ↦ inl (c.first, ((out.0, inl refl), out.1, λ ne. absurd (ne refl)))
   | inl first ↦ elim (there_or_not cs c.second) [
-    | inr out ↦ inl (c.second, ((out.0, inr refl), out.1, λ ne there. elim first [ inl e ↦ absurd (there e) | inr h ↦ h ]))
-    | inl second ↦ inr (λ p is. elim is.1 [ inl e ↦ held p is.0 c.first first e | inr e ↦ held p is.0 c.second second e ])
+    | inr out ↦ inl
+        (c.second, ((out.0, inr refl), out.1, λ ne there. elim first [ inl e ↦ absurd (there e) | inr h ↦ h ]))
+    | inl second ↦ inr
+        (λ p is. elim is.1 [ inl e ↦ held p is.0 c.first first e | inr e ↦ held p is.0 c.second second e ])
   ]
 ]
   where
@@ -97,16 +100,20 @@ missing_or_not cs c = elim (there_or_not cs c.first) [
 
 module _ (held part : List Contents) where
   -- one more changeset is fine
-  fine-more : (i : ℕ) (c : Contents) → slice_get part i ≡ Some c → IsFineUpTo held part i → HoldsParents (held ++ take i part) c × ¬ (Collides (held ++ take i part) c) → IsFineUpTo held part (suc i)
+  fine-more : (i : ℕ) (c : Contents) → slice_get part i ≡ Some c → IsFineUpTo held part i
+      → HoldsParents (held ++ take i part) c × ¬ (Collides (held ++ take i part) c) → IsFineUpTo held part (suc i)
   fine-more i c at before here j d l at_d = elim (cases_eq j i) [
     | inr ne ↦ let less : j < i = omega arith in before j d less at_d
     | inl e ↦
         let d_is : d ≡ c = same_Some d c (sym at_d ∙ ap (slice_get part) e ∙ at) in
-        subst (λ y. HoldsParents (held ++ take y part) d × ¬ (Collides (held ++ take y part) d)) (sym e) (subst (λ x. HoldsParents (held ++ take i part) x × ¬ (Collides (held ++ take i part) x)) (sym d_is) here)
+        subst (λ y. HoldsParents (held ++ take y part) d × ¬ (Collides (held ++ take y part) d)) (sym e)
+        (subst (λ x. HoldsParents (held ++ take i part) x × ¬ (Collides (held ++ take i part) x)) (sym d_is) here)
   ]
 
   -- the changesets are fine, or one of them is the first that isn't
-  changesets_tried : (i : ℕ) → i ≤ length part → IsFineUpTo held part i ⊎ ((f : Fault) × ((bounds : List (Node × Phase)) → IsFirstFault held (record { changesets = part; bounds = bounds }) f))
+  changesets_tried : (i : ℕ) → i ≤ length part → IsFineUpTo held part i
+      ⊎ ((f : Fault)
+      × ((bounds : List (Node × Phase)) → IsFirstFault held (record { changesets = part; bounds = bounds }) f))
   changesets_tried zero le = inl (λ j c l. absurd (omega arith))
   changesets_tried (suc i) le = elim (changesets_tried i (omega arith)) [
     | inr fault ↦ inr fault
@@ -123,7 +130,8 @@ module _ (held part : List Contents) where
   ]
 
 -- the bounds' nodes are held, or one of them is the first that isn't
-bounds_tried : (cs : List Contents) (bounds : List (Node × Phase)) (i : ℕ) → i ≤ length bounds → AreHeldUpTo cs bounds i ⊎ ((n : Node) × IsFirstUnheld cs bounds n)
+bounds_tried : (cs : List Contents) (bounds : List (Node × Phase)) (i : ℕ) → i ≤ length bounds → AreHeldUpTo cs bounds i
+    ⊎ ((n : Node) × IsFirstUnheld cs bounds n)
 bounds_tried cs bounds zero le = inl (λ j b l. absurd (omega arith))
 bounds_tried cs bounds (suc i) le = elim (bounds_tried cs bounds i (omega arith)) [
   | inr fault ↦ inr fault
@@ -152,19 +160,25 @@ among cs ds n h =
 
 module _ (s : State) (k : PartValue) (fine : IsFineUpTo (changesets s) k.changesets (length k.changesets)) where
   -- where one of two changesets comes first, or is held, the other doesn't collide with it
-  apart_at : (i : ℕ) (c d : Contents) → slice_get k.changesets i ≡ Some c → Contains (changesets s ++ take i k.changesets) d → node_of d ≡ node_of c → d ≡ c
+  apart_at : (i : ℕ) (c d : Contents) → slice_get k.changesets i ≡ Some c
+      → Contains (changesets s ++ take i k.changesets) d → node_of d ≡ node_of c → d ≡ c
   apart_at i c d at in_front e = elim (same_contents_or_not d c) [
     | inl is ↦ is
     | inr differ ↦ absurd ((fine i c (slice_get_within k.changesets i c at) at).1 (d, in_front, e, differ))
   ]
 
-  in_front : (i j : ℕ) (c : Contents) → j < i → slice_get k.changesets j ≡ Some c → Contains (changesets s ++ take i k.changesets) c
-  in_front i j c l at = Contains-append_right (changesets s) (take i k.changesets) c (Contains-from_place (take i k.changesets) j c (slice_get-take k.changesets i j c l at))
+  in_front : (i j : ℕ) (c : Contents) → j < i → slice_get k.changesets j ≡ Some c
+      → Contains (changesets s ++ take i k.changesets) c
+  in_front i j c l at =
+      Contains-append_right (changesets s) (take i k.changesets) c
+      (Contains-from_place (take i k.changesets) j c (slice_get-take k.changesets i j c l at))
 
   pub fine-admitted : AreHeldUpTo (changesets s ++ k.changesets) k.bounds (length k.bounds) → IsAdmitted s k
   fine-admitted there = record {
-    parents = λ i c at p is. among (changesets s) (take i k.changesets) p ((fine i c (slice_get_within k.changesets i c at) at).0 p is);
-    bounds = λ b at. let p = place_from_Contains k.bounds b at in among (changesets s) k.changesets b.0 (there p.0 b (slice_get_within k.bounds p.0 b p.1) p.1);
+    parents = λ i c at p is. among (changesets s) (take i k.changesets) p
+        ((fine i c (slice_get_within k.changesets i c at) at).0 p is);
+    bounds = λ b at. let p = place_from_Contains k.bounds b at in
+        among (changesets s) k.changesets b.0 (there p.0 b (slice_get_within k.bounds p.0 b p.1) p.1);
     apart = λ c d at_c at_d e.
         let p = place_from_Contains k.changesets c at_c in
         elim at_d [

@@ -1,5 +1,6 @@
 -- What `absorb` answers.
-use Rattle.std.specs.Prelude.{◌≡◌, ◌≢◌, ◌<◌, ℕ, List, [], ◌∷◌, ◌++◌, take, length, slice_get, Some, Contains, Result, Ok, Err, ◌⊎◌}
+use Rattle.std.specs.Prelude.{◌≡◌, ◌≢◌, ◌<◌, ℕ, List, [], ◌∷◌, ◌++◌, take, length, slice_get, Some, Contains, Result}
+use Rattle.std.specs.Prelude.{Ok, Err, ◌⊎◌}
 use Rattle.hg_changeset.specs.declared.node.Node.{Node}
 use Rattle.hg_changeset.specs.Node.{null_node}
 use Rattle.hg_changeset.specs.Contents.{Contents}
@@ -11,12 +12,14 @@ use Rattle.hg_phases.specs.State.{State, changesets}
 use Rattle.hg_phases.specs.Lowered.{IsAbove}
 use Rattle.hg_phases.specs.Least.{PartValue, IsAdmitted, IsLeast}
 use Rattle.hg_history.specs.declared.fault.Fault.{Fault}
-use Rattle.hg_history.specs.declared.fault.Fault.TheVariants.{UnknownParent, Collision, UnknownBound, NullBound, NoMemory}
+use Rattle.hg_history.specs.declared.fault.Fault.TheVariants.{UnknownParent, Collision, UnknownBound, NullBound}
+use Rattle.hg_history.specs.declared.fault.Fault.TheVariants.{NoMemory}
 use Rattle.hg_history.specs.Change.{ChangeValue, unheld, ListsLowered}
 
 -- each changeset of the part before the place i has its parents held, or before it, and collides with none
 abbrev pub IsFineUpTo : List Contents → List Contents → ℕ → Type 0
-IsFineUpTo held part i = (j : ℕ) (c : Contents) → j < i → slice_get part j ≡ Some c → HoldsParents (held ++ take j part) c × ¬ (Collides (held ++ take j part) c)
+IsFineUpTo held part i = (j : ℕ) (c : Contents) → j < i → slice_get part j ≡ Some c
+    → HoldsParents (held ++ take j part) c × ¬ (Collides (held ++ take j part) c)
 
 -- each bound before the place i has a node among these changesets
 abbrev pub AreHeldUpTo : List Contents → List (Node × Phase) → ℕ → Type 0
@@ -33,10 +36,15 @@ pub record IsFirstUnheld (cs : List Contents) (bounds : List (Node × Phase)) (n
 
 -- the first fault of the part, where these changesets are held: its changesets in their order, then its bounds
 abbrev pub IsFirstFault : List Contents → PartValue → Fault → Type 0
-IsFirstFault held k (UnknownParent p) = (i : ℕ) × (c : Contents) × (slice_get k.changesets i ≡ Some c) × IsFineUpTo held k.changesets i × IsFirstMissing (held ++ take i k.changesets) c p
-IsFirstFault held k (Collision n) = (i : ℕ) × (c : Contents) × (slice_get k.changesets i ≡ Some c) × IsFineUpTo held k.changesets i × HoldsParents (held ++ take i k.changesets) c × Collides (held ++ take i k.changesets) c × (n ≡ node_of c)
-IsFirstFault held k (UnknownBound n) = IsFineUpTo held k.changesets (length k.changesets) × IsFirstUnheld (held ++ k.changesets) k.bounds n × (n ≢ null_node)
-IsFirstFault held k NullBound = IsFineUpTo held k.changesets (length k.changesets) × IsFirstUnheld (held ++ k.changesets) k.bounds null_node
+IsFirstFault held k (UnknownParent p) = (i : ℕ) × (c : Contents) × (slice_get k.changesets i ≡ Some c)
+    × IsFineUpTo held k.changesets i × IsFirstMissing (held ++ take i k.changesets) c p
+IsFirstFault held k (Collision n) = (i : ℕ) × (c : Contents) × (slice_get k.changesets i ≡ Some c)
+    × IsFineUpTo held k.changesets i × HoldsParents (held ++ take i k.changesets) c
+    × Collides (held ++ take i k.changesets) c × (n ≡ node_of c)
+IsFirstFault held k (UnknownBound n) = IsFineUpTo held k.changesets (length k.changesets)
+    × IsFirstUnheld (held ++ k.changesets) k.bounds n × (n ≢ null_node)
+IsFirstFault held k NullBound = IsFineUpTo held k.changesets (length k.changesets)
+    × IsFirstUnheld (held ++ k.changesets) k.bounds null_node
 IsFirstFault held k NoMemory = ⊥
 
 -- the refusal tells the first fault of the part, or that memory was wanting
@@ -63,11 +71,15 @@ pub record IsFirstNew (held part : List Contents) : Type 0 where
 abbrev pub HasHigher : State → List (Node × Phase) → Type 0
 HasHigher s bounds = (b : Node × Phase) × Contains bounds b × IsAbove s b.0 b.1
 
--- where the part is taken in at s, something grows before any fault is met: a changeset comes first that is new, or all changesets and the bounds' nodes are held, and one of these goes down
+-- where the part is taken in at s, something grows before any fault is met: a changeset comes first that is new, or all
+-- changesets and the bounds' nodes are held, and one of these goes down
 unfoldable pub IsGrowthBeforeFault : State → PartValue → Type 0
-IsGrowthBeforeFault s k = IsFirstNew (changesets s) k.changesets ⊎ (AreKnownUpTo (changesets s) k.changesets (length k.changesets) × AreHeldUpTo (changesets s) k.bounds (length k.bounds) × HasHigher s k.bounds)
+IsGrowthBeforeFault s k = IsFirstNew (changesets s) k.changesets
+    ⊎ (AreKnownUpTo (changesets s) k.changesets (length k.changesets)
+    × AreHeldUpTo (changesets s) k.bounds (length k.bounds) × HasHigher s k.bounds)
 
--- the part could be absorbed: the state is the least one above s that covers it, what is new stands last in the part's order, and the change tells it all
+-- the part could be absorbed: the state is the least one above s that covers it, what is new stands last in the part's
+-- order, and the change tells it all
 pub record IsAbsorbed (s : State) (k : PartValue) (change : ChangeValue) (after : State) : Type 0 where
   pub admitted : IsAdmitted s k
   pub least : IsLeast s (k ∷ []) after

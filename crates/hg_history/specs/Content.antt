@@ -29,19 +29,23 @@ pub data Leads (f : Content) (a : Node) : Node → Type 0 where
   itself : Leads f a a
   below : {n p : Node} {h : Held} → Leads f a p → f n ≡ Some h → IsParent h.changeset p → Leads f a n
 
--- parent steps from n come to an end, whichever are taken. So the ancestors of n have an order in which every parent comes first, though the content keeps none
+-- parent steps from n come to an end, whichever are taken. So the ancestors of n have an order in which every parent
+-- comes first, though the content keeps none
 pub data IsGrounded (f : Content) : Node → Type 0 where
-  grounded : {n : Node} → ((h : Held) (p : Node) → f n ≡ Some h → IsParent h.changeset p → IsGrounded f p) → IsGrounded f n
+  grounded : {n : Node} → ((h : Held) (p : Node) → f n ≡ Some h → IsParent h.changeset p → IsGrounded f p)
+      → IsGrounded f n
 
 -- changesets stand under their ids; each parent is held, with a phase no higher; and no parent steps go on without end
 pub record IsValidContent (f : Content) : Type 0 where
   pub named : (n : Node) (h : Held) → f n ≡ Some h → (node_of h.changeset ≡ n) × IsChangeset h.changeset
-  pub parents : (n : Node) (h : Held) (p : Node) → f n ≡ Some h → IsParent h.changeset p → (g : Held) × (f p ≡ Some g) × (rank g.phase ≤ rank h.phase)
+  pub parents : (n : Node) (h : Held) (p : Node) → f n ≡ Some h → IsParent h.changeset p
+      → (g : Held) × (f p ≡ Some g) × (rank g.phase ≤ rank h.phase)
   pub grounded : (n : Node) → IsGrounded f n
 
 -- what a holds b holds as well, the same changeset, with a phase no higher
 abbrev pub IsBelowAt : Option Held → Option Held → Type 0
-IsBelowAt a b = (h : Held) → a ≡ Some h → (g : Held) × (b ≡ Some g) × (g.changeset ≡ h.changeset) × (rank g.phase ≤ rank h.phase)
+IsBelowAt a b = (h : Held) → a ≡ Some h → (g : Held) × (b ≡ Some g) × (g.changeset ≡ h.changeset)
+    × (rank g.phase ≤ rank h.phase)
 
 -- what f holds g holds as well, the same changesets, with phases no higher
 abbrev pub ContentBelow : Content → Content → Type 0
@@ -65,39 +69,49 @@ joined (Some h) (Some g) = Some (record { changeset = h.changeset; phase = lower
 abbrev pub AgreeAt : Option Held → Option Held → Type 0
 AgreeAt a b = (h g : Held) → a ≡ Some h → b ≡ Some g → h.changeset ≡ g.changeset
 
--- under no id two changesets are held, and the third holds what either holds, each with the lowest phase that either gives it
+-- under no id two changesets are held, and the third holds what either holds, each with the lowest phase that either
+-- gives it
 abbrev pub ContentsJoined : Content → Content → Content → Type 0
 ContentsJoined f g j = ((n : Node) → AgreeAt (f n) (g n)) × (j ≡ (λ n. joined (f n) (g n)))
 
 -- the fault names an id under which two changesets are held
 abbrev pub ContentsCollide : Content → Content → Fault → Type 0
-ContentsCollide f g fault = (n : Node) × (h : Held) × (k : Held) × (f n ≡ Some h) × (g n ≡ Some k) × (h.changeset ≢ k.changeset) × (fault ≡ Collision n)
+ContentsCollide f g fault = (n : Node) × (h : Held) × (k : Held) × (f n ≡ Some h) × (g n ≡ Some k)
+    × (h.changeset ≢ k.changeset) × (fault ≡ Collision n)
 
 -- the content holds what the part holds, and keeps its bounds
 pub record ContentCovers (f : Content) (k : PartValue) : Type 0 where
   pub holds : (c : Contents) → Contains k.changesets c → IsHeldAs f (node_of c) c
-  pub bounded : (b : Node × Phase) → Contains k.bounds b → IsHeld f b.0 × ((n : Node) (h : Held) → f n ≡ Some h → Leads f n b.0 → rank h.phase ≤ rank b.1)
+  pub bounded : (b : Node × Phase) → Contains k.bounds b
+      → IsHeld f b.0 × ((n : Node) (h : Held) → f n ≡ Some h → Leads f n b.0 → rank h.phase ≤ rank b.1)
 
 -- held, or the id of one of these changesets
 abbrev pub IsHeldWith : Content → List Contents → Node → Type 0
 IsHeldWith f cs n = IsHeld f n ⊎ ((c : Contents) × Contains cs c × (node_of c ≡ n))
 
--- the part can be absorbed: each parent is held or comes earlier, each bound's node is held or comes with it, and no two changesets collide
+-- the part can be absorbed: each parent is held or comes earlier, each bound's node is held or comes with it, and no
+-- two changesets collide
 pub record ContentAdmits (f : Content) (k : PartValue) : Type 0 where
   pub each : (c : Contents) → Contains k.changesets c → IsChangeset c
-  pub parents : (i : ℕ) (c : Contents) → slice_get k.changesets i ≡ Some c → (p : Node) → IsParent c p → IsHeldWith f (take i k.changesets) p
+  pub parents : (i : ℕ) (c : Contents) → slice_get k.changesets i ≡ Some c → (p : Node) → IsParent c p
+      → IsHeldWith f (take i k.changesets) p
   pub bounds : (b : Node × Phase) → Contains k.bounds b → IsHeldWith f k.changesets b.0
-  pub apart : (c d : Contents) → Contains k.changesets c → IsHeldAs f (node_of d) d ⊎ Contains k.changesets d → node_of c ≡ node_of d → c ≡ d
+  pub apart : (c d : Contents) → Contains k.changesets c → IsHeldAs f (node_of d) d ⊎ Contains k.changesets d
+      → node_of c ≡ node_of d → c ≡ d
 
 -- what may decide the phase under n: secret, the phase there was, and each bound on n or on a descendant of it
 abbrev pub IsContentCandidate : Content → PartValue → Content → Node → Phase → Type 0
 IsContentCandidate f k g n phase =
-    (phase ≡ Secret) ⊎ (((h : Held) × (f n ≡ Some h) × (h.phase ≡ phase)) ⊎ ((b : Node × Phase) × Contains k.bounds b × Leads g n b.0 × (b.1 ≡ phase)))
+    (phase ≡ Secret)
+    ⊎ (((h : Held) × (f n ≡ Some h) × (h.phase ≡ phase))
+    ⊎ ((b : Node × Phase) × Contains k.bounds b × Leads g n b.0 × (b.1 ≡ phase)))
 
--- the part can be absorbed, and g is f with it: the union of the changesets, and for each the lowest of the phases that f and the bounds give it
+-- the part can be absorbed, and g is f with it: the union of the changesets, and for each the lowest of the phases that
+-- f and the bounds give it
 pub record ContentAfter (f : Content) (k : PartValue) (g : Content) : Type 0 where
   pub admitted : ContentAdmits f k
-  pub union : (n : Node) (c : Contents) → IsHeldAs g n c ↔ (IsHeldAs f n c ⊎ (Contains k.changesets c × (node_of c ≡ n)))
+  pub union : (n : Node) (c : Contents)
+      → IsHeldAs g n c ↔ (IsHeldAs f n c ⊎ (Contains k.changesets c × (node_of c ≡ n)))
   pub phases : (n : Node) (h : Held) → g n ≡ Some h → IsLowest (IsContentCandidate f k g n) h.phase
 
 -- exactly the changesets that are held, in whatever order

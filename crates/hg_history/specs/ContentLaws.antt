@@ -1,8 +1,10 @@
 -- The laws of contents.
-use Rattle.std.specs.Prelude.{◌≡◌, ℕ, zero, suc, ◌<◌, ◌≤◌, Option, Some, None, List, [], ◌∷◌, ◌++◌, length, take, slice_get, Contains, ◌⊎◌, refl}
+use Rattle.std.specs.Prelude.{◌≡◌, ℕ, zero, suc, ◌<◌, ◌≤◌, Option, Some, None, List, [], ◌∷◌, ◌++◌, length, take}
+use Rattle.std.specs.Prelude.{slice_get, Contains, ◌⊎◌, refl}
 use Rattle.std.proofs.Common.{arith, sym, ◌∙◌, ap, subst, inl, inr}
 use Rattle.std.specs.Option.{option_map}
-use Rattle.std.proofs.lemmas.Option.{none-some, same_Some, slice_get-map, slice_get_within, slice_get-get_or, get_or_from_slice_get}
+use Rattle.std.proofs.lemmas.Option.{none-some, same_Some, slice_get-map, slice_get_within, slice_get-get_or}
+use Rattle.std.proofs.lemmas.Option.{get_or_from_slice_get}
 use Rattle.std.proofs.lemmas.List.{length-take, get_or-take}
 use Rattle.std.proofs.lemmas.List.Elements.{Contains-append_left, Contains-append_right, Contains-append_cases}
 use Rattle.hg_join.specs.Order.{IsPartialOrder, IsLeastCovering, again_by_least, swap_by_least}
@@ -15,9 +17,12 @@ use Rattle.hg_phases.specs.State.{Held, rank}
 use Rattle.hg_phases.specs.Least.{PartValue}
 use Rattle.hg_phases.proofs.RankLemmas.{rank-apart, rank-top}
 use Rattle.hg_history.specs.declared.fault.Fault.{Fault}
-use Rattle.hg_history.specs.declared.fault.Fault.TheVariants.{UnknownParent, Collision, UnknownBound, NullBound, NoMemory}
+use Rattle.hg_history.specs.declared.fault.Fault.TheVariants.{UnknownParent, Collision, UnknownBound, NullBound}
+use Rattle.hg_history.specs.declared.fault.Fault.TheVariants.{NoMemory}
 use Rattle.hg_history.specs.Answer.{IsFirstUnheld, IsFirstFault}
-use Rattle.hg_history.specs.Content.{Content, IsHeld, IsHeldAs, IsHeldWith, Leads, IsGrounded, IsValidContent, IsBelowAt, ContentBelow, ContentCovers, ContentAdmits, IsContentCandidate, ContentAfter, IsListing, IsContentFault}
+use Rattle.hg_history.specs.Content.{Content, IsHeld, IsHeldAs, IsHeldWith, Leads, IsGrounded, IsValidContent}
+use Rattle.hg_history.specs.Content.{IsBelowAt, ContentBelow, ContentCovers, ContentAdmits, IsContentCandidate}
+use Rattle.hg_history.specs.Content.{ContentAfter, IsListing, IsContentFault}
 use Rattle.hg_history.specs.Content.Leads.{itself, below}
 use Rattle.hg_history.specs.Content.IsGrounded.{grounded}
 
@@ -59,19 +64,22 @@ contents_ordered = record {
 -- ---- ancestors
 
 -- a descendant of n is one of its parents
-pub leads-onward : (f : Content) (n p b : Node) (h : Held) → f n ≡ Some h → IsParent h.changeset p → Leads f n b → Leads f p b
+pub leads-onward : (f : Content) (n p b : Node) (h : Held) → f n ≡ Some h → IsParent h.changeset p → Leads f n b
+    → Leads f p b
 leads-onward f n p b h e is itself = below itself e is
 leads-onward f n p b h e is (below r at up) = below (leads-onward f n p _ h e is r) at up
 
 -- what is led to in a content is led to in one that holds the same changesets and more
-pub leads-within : (f g : Content) → ((n : Node) (h : Held) → f n ≡ Some h → IsHeldAs g n h.changeset) → (a n : Node) → Leads f a n → Leads g a n
+pub leads-within : (f g : Content) → ((n : Node) (h : Held) → f n ≡ Some h → IsHeldAs g n h.changeset) → (a n : Node)
+    → Leads f a n → Leads g a n
 leads-within f g within a n itself = itself
 leads-within f g within a n (below {p = p} {h = h} r at up) =
     let x = within n h at in
     below (leads-within f g within a p r) x.1 (subst (λ c. IsParent c p) (sym x.2) up)
 
 -- an ancestor's phase is no higher
-pub leads-low : (f : Content) → IsValidContent f → (a n : Node) → Leads f a n → (h g : Held) → f a ≡ Some h → f n ≡ Some g → rank h.phase ≤ rank g.phase
+pub leads-low : (f : Content) → IsValidContent f → (a n : Node) → Leads f a n → (h g : Held) → f a ≡ Some h
+    → f n ≡ Some g → rank h.phase ≤ rank g.phase
 leads-low f v a n itself h g at_h at_g =
     let e = ap (λ x. rank x.phase) (same_Some h g (sym at_h ∙ at_g)) in
     omega (arith, e)
@@ -81,11 +89,14 @@ leads-low f v a n (below {p = p} {h = k} r at up) h g at_h at_g =
     let rest = leads-low f v a p r h parent.0 at_h parent.1 in
     omega (arith, k_is, parent.2, rest)
 
-grounded-parent : (f : Content) (n p : Node) (h : Held) → IsGrounded f n → f n ≡ Some h → IsParent h.changeset p → IsGrounded f p
+grounded-parent : (f : Content) (n p : Node) (h : Held) → IsGrounded f n → f n ≡ Some h → IsParent h.changeset p
+    → IsGrounded f p
 grounded-parent f n p h (grounded step) e is = step h p e is
 
 -- what is grounded in a valid content is so in one that holds the same changesets under the ids that the first holds
-pub grounded-within : (f g : Content) → IsValidContent f → ((n : Node) (h k : Held) → f n ≡ Some h → g n ≡ Some k → k.changeset ≡ h.changeset) → (n : Node) → IsGrounded f n → IsHeld f n → IsGrounded g n
+pub grounded-within : (f g : Content) → IsValidContent f
+    → ((n : Node) (h k : Held) → f n ≡ Some h → g n ≡ Some k → k.changeset ≡ h.changeset) → (n : Node) → IsGrounded f n
+    → IsHeld f n → IsGrounded g n
 grounded-within f g v same n (grounded step) held = grounded (λ k p e is.
     let is_parent : IsParent held.0.changeset p = subst (λ c. IsParent c p) (same n held.0 k held.1 e) is in
     let parent = v.parents n held.0 p held.1 is_parent in
@@ -94,7 +105,8 @@ grounded-within f g v same n (grounded step) held = grounded (λ k p e is.
 -- ---- parts
 
 -- a part that is covered still is when the content grows
-pub contents_stay_covered : (a b : Content) (k : PartValue) → IsValidContent a → IsValidContent b → ContentBelow a b → ContentCovers a k → ContentCovers b k
+pub contents_stay_covered : (a b : Content) (k : PartValue) → IsValidContent a → IsValidContent b → ContentBelow a b
+    → ContentCovers a k → ContentCovers b k
 contents_stay_covered a b k v w up covers = record {
   holds = λ c at.
       let h = covers.holds c at in
@@ -113,7 +125,8 @@ contents_stay_covered a b k v w up covers = record {
 }
 
 -- where a changeset of the list's front stands
-placed : (cs : List Contents) (i : ℕ) (c : Contents) → Contains (take i cs) c → (j : ℕ) × (j < i) × (slice_get cs j ≡ Some c)
+placed : (cs : List Contents) (i : ℕ) (c : Contents) → Contains (take i cs) c
+    → (j : ℕ) × (j < i) × (slice_get cs j ≡ Some c)
 placed cs i c at =
     let len = length-take i cs in
     let before : at.0 < i = omega (arith, at.1) in
@@ -129,8 +142,12 @@ place_of cs c at = (at.0, slice_get-get_or cs at.0 c at.1 ∙ ap (λ x. Some x) 
 node-listed : (cs : List Contents) (c : Contents) → Contains cs c → Contains (nodes cs) (node_of c)
 node-listed cs c at =
     let place = place_of cs c at in
-    let at_node : slice_get (nodes cs) place.0 ≡ Some (node_of c) = slice_get-map node_of cs place.0 ∙ ap (option_map node_of) place.1 in
-    (place.0, slice_get_within (nodes cs) place.0 (node_of c) at_node, get_or_from_slice_get (nodes cs) place.0 (node_of c) (node_of c) at_node)
+    let at_node : slice_get (nodes cs) place.0 ≡ Some (node_of c) =
+    slice_get-map node_of cs place.0 ∙ ap (option_map node_of) place.1 in (
+      place.0,
+      slice_get_within (nodes cs) place.0 (node_of c) at_node,
+      get_or_from_slice_get (nodes cs) place.0 (node_of c) (node_of c) at_node,
+    )
 
 module _ (f g : Content) (k : PartValue) (v : IsValidContent f) (after : ContentAfter f k g) where
   open after use {admitted, union, phases}
@@ -147,7 +164,8 @@ module _ (f g : Content) (k : PartValue) (v : IsValidContent f) (after : Content
   came c at = (union (node_of c) c).1 (inr (at, refl))
 
   -- where what is held came from
-  source : (n : Node) (h : Held) → g n ≡ Some h → IsHeldAs f n h.changeset ⊎ (Contains k.changesets h.changeset × (node_of h.changeset ≡ n))
+  source : (n : Node) (h : Held) → g n ≡ Some h → IsHeldAs f n h.changeset
+      ⊎ (Contains k.changesets h.changeset × (node_of h.changeset ≡ n))
   source n h e = (union n h.changeset).0 (h, e, refl)
 
   -- ids that are held, or come with the part, are held
@@ -169,7 +187,8 @@ module _ (f g : Content) (k : PartValue) (v : IsValidContent f) (after : Content
   ]
 
   -- a parent's phase is no higher, whatever decided the child's
-  parent-low : (n p : Node) (h x : Held) → g n ≡ Some h → IsParent h.changeset p → g p ≡ Some x → IsContentCandidate f k g n h.phase → rank x.phase ≤ rank h.phase
+  parent-low : (n p : Node) (h x : Held) → g n ≡ Some h → IsParent h.changeset p → g p ≡ Some x
+      → IsContentCandidate f k g n h.phase → rank x.phase ≤ rank h.phase
   parent-low n p h x e is at (inl top) = subst (λ j. rank x.phase ≤ rank j) (sym top) (rank-top x.phase)
   parent-low n p h x e is at (inr (inl old)) =
       let same = kept-same n old.0 h old.1 e in
@@ -185,7 +204,8 @@ module _ (f g : Content) (k : PartValue) (v : IsValidContent f) (after : Content
   old-grounded n held = grounded-within f g v kept-same n (v.grounded n) held
 
   -- the part's changesets before a place are grounded, each in those before it
-  part-grounded : (bound i : ℕ) (c : Contents) → i < bound → slice_get k.changesets i ≡ Some c → IsGrounded g (node_of c)
+  part-grounded : (bound i : ℕ) (c : Contents) → i < bound → slice_get k.changesets i ≡ Some c
+      → IsGrounded g (node_of c)
   part-grounded zero i c lt at = absurd (omega arith)
   part-grounded (suc bound) i c lt at = grounded (λ h p e is.
       let x = came c (at_place k.changesets i c at) in
@@ -204,7 +224,8 @@ module _ (f g : Content) (k : PartValue) (v : IsValidContent f) (after : Content
     | inr x ↦
         let place = place_of k.changesets h.changeset x.0 in
         let last : place.0 < suc place.0 = omega arith in
-        grounded-parent g n p h (subst (IsGrounded g) x.1 (part-grounded (suc place.0) place.0 h.changeset last place.1)) e is
+        grounded-parent g n p h
+        (subst (IsGrounded g) x.1 (part-grounded (suc place.0) place.0 h.changeset last place.1)) e is
   ])
 
   after-valid : IsValidContent g
@@ -246,7 +267,8 @@ module _ (f g : Content) (k : PartValue) (v : IsValidContent f) (after : Content
       | inr x ↦ let y = covers.holds h.changeset x.0 in (y.0, subst (λ m. u m ≡ Some y.0) x.1 y.1, y.2)
     ]
 
-    low-there : (n : Node) (h x : Held) → u n ≡ Some x → IsContentCandidate f k g n h.phase → rank x.phase ≤ rank h.phase
+    low-there : (n : Node) (h x : Held) → u n ≡ Some x → IsContentCandidate f k g n h.phase
+        → rank x.phase ≤ rank h.phase
     low-there n h x at (inl top) = subst (λ j. rank x.phase ≤ rank j) (sym top) (rank-top x.phase)
     low-there n h x at (inr (inl old)) =
         let y = up n old.0 old.1 in
@@ -264,7 +286,8 @@ module _ (f g : Content) (k : PartValue) (v : IsValidContent f) (after : Content
         (x.0, x.1, x.2, low-there n h x.0 x.1 (phases n h e).0)
 
 -- what a part leaves is the least valid content above that covers it
-pub contents_absorbed : (a b : Content) (k : PartValue) → IsValidContent a → ContentAfter a k b → IsLeastCovering IsValidContent ContentBelow ContentCovers a (k ∷ []) b
+pub contents_absorbed : (a b : Content) (k : PartValue) → IsValidContent a → ContentAfter a k b
+    → IsLeastCovering IsValidContent ContentBelow ContentCovers a (k ∷ []) b
 contents_absorbed a b k v after = record {
   valid = after-valid a b k v after;
   above = after-above a b k v after;
@@ -277,7 +300,8 @@ pub contents_again : (a b : Content) (k : PartValue) → IsValidContent a → Co
 contents_again = again_by_least contents_ordered contents_stay_covered contents_absorbed
 
 -- two parts leave one content, in either order
-pub contents_swap : (a ap apq aq aqp : Content) (p q : PartValue) → IsValidContent a → ContentAfter a p ap → ContentAfter ap q apq → ContentAfter a q aq → ContentAfter aq p aqp → apq ≡ aqp
+pub contents_swap : (a ap apq aq aqp : Content) (p q : PartValue) → IsValidContent a → ContentAfter a p ap
+    → ContentAfter ap q apq → ContentAfter a q aq → ContentAfter aq p aqp → apq ≡ aqp
 contents_swap = swap_by_least contents_ordered contents_stay_covered contents_absorbed
 
 -- a covered part is admitted
@@ -299,29 +323,41 @@ covered_admitted a k v covers = record {
 -- ---- refusals
 
 -- what is held, or among these changesets, is among the listed ones and these
-listed-with : (a : Content) (held cs : List Contents) → IsValidContent a → IsListing a held → (n : Node) → IsHeldWith a cs n → Contains (nodes (held ++ cs)) n
+listed-with : (a : Content) (held cs : List Contents) → IsValidContent a → IsListing a held → (n : Node)
+    → IsHeldWith a cs n → Contains (nodes (held ++ cs)) n
 listed-with a held cs v listing n (inl h) =
     let is = (v.named n h.0 h.1).0 in
     let at = (listing h.0.changeset).1 (h.0, ap a is ∙ h.1, refl) in
-    subst (λ m. Contains (nodes (held ++ cs)) m) is (node-listed (held ++ cs) h.0.changeset (Contains-append_left held cs h.0.changeset at))
+    subst (λ m. Contains (nodes (held ++ cs)) m) is
+    (node-listed (held ++ cs) h.0.changeset (Contains-append_left held cs h.0.changeset at))
 listed-with a held cs v listing n (inr h) =
-    subst (λ m. Contains (nodes (held ++ cs)) m) h.2 (node-listed (held ++ cs) h.0 (Contains-append_right held cs h.0 h.1))
+    subst (λ m. Contains (nodes (held ++ cs)) m) h.2
+    (node-listed (held ++ cs) h.0 (Contains-append_right held cs h.0 h.1))
 
 -- an admitted part has no fault
-pub admitted_faultless : (a : Content) (k : PartValue) (fault : Fault) → IsValidContent a → ContentAdmits a k → IsContentFault a k fault → ⊥
+pub admitted_faultless : (a : Content) (k : PartValue) (fault : Fault) → IsValidContent a → ContentAdmits a k
+    → IsContentFault a k fault → ⊥
 admitted_faultless a k fault v m (held, listing, is) = by fault is
   where
     unheld-none : (n : Node) → IsFirstUnheld (held ++ k.changesets) k.bounds n → ⊥
     unheld-none n first =
         first.unheld (subst (λ m. Contains (nodes (held ++ k.changesets)) m) first.node
-        (listed-with a held k.changesets v listing first.bound.0 (m.bounds first.bound (first.place, slice_get_within k.bounds first.place first.bound first.at, get_or_from_slice_get k.bounds first.place first.bound first.bound first.at))))
+        (listed-with a held k.changesets v listing first.bound.0
+        (m.bounds first.bound (
+          first.place,
+          slice_get_within k.bounds first.place first.bound first.at,
+          get_or_from_slice_get k.bounds first.place first.bound first.bound first.at,
+        ))))
 
     by : (fault : Fault) → IsFirstFault held k fault → ⊥
-    by (UnknownParent p) (i, c, at, fine, missing) = missing.1 (listed-with a held (take i k.changesets) v listing p (m.parents i c at p missing.0))
+    by (UnknownParent p) (i, c, at, fine, missing) =
+        missing.1 (listed-with a held (take i k.changesets) v listing p (m.parents i c at p missing.0))
     by (Collision n) (i, c, at, fine, parents, collides, is_node) =
-        let other : IsHeldAs a (node_of collides.0) collides.0 ⊎ Contains k.changesets collides.0 = elim (Contains-append_cases held (take i k.changesets) collides.0 collides.1) [
+        let other : IsHeldAs a (node_of collides.0) collides.0 ⊎ Contains k.changesets collides.0 =
+        elim (Contains-append_cases held (take i k.changesets) collides.0 collides.1) [
           | inl x ↦ inl ((listing collides.0).0 x)
-          | inr x ↦ let place = placed k.changesets i collides.0 x in inr (at_place k.changesets place.0 collides.0 place.2)
+          | inr x ↦ let place = placed k.changesets i collides.0 x in
+              inr (at_place k.changesets place.0 collides.0 place.2)
         ] in
         collides.3 (sym (m.apart c collides.0 (at_place k.changesets i c at) other (sym collides.2)))
     by (UnknownBound n) (fine, first, known) = unheld-none n first

@@ -7,7 +7,8 @@ use Rattle.hg_phases.specs.declared.phase.Phase.{Phase}
 use Rattle.hg_phases.specs.State.{State, Held, rank, changesets, IsValid}
 use Rattle.hg_phases.specs.Order.{Below}
 use Rattle.hg_history.specs.declared.fault.Fault.{Fault}
-use Rattle.hg_history.specs.declared.fault.Fault.TheVariants.{UnknownParent, Collision, UnknownBound, NullBound, NoMemory}
+use Rattle.hg_history.specs.declared.fault.Fault.TheVariants.{UnknownParent, Collision, UnknownBound, NullBound}
+use Rattle.hg_history.specs.declared.fault.Fault.TheVariants.{NoMemory}
 use Rattle.hg_history.specs.Change.{ChangeValue, ListsLowered}
 
 -- t is above s and o, and what it holds one of them holds, in the same phase: the union, with the lowest phases
@@ -19,7 +20,8 @@ pub record IsJoin (s o t : State) : Type 0 where
 -- the states hold two changesets under the id that is told, or memory was wanting
 abbrev pub IsJoinFault : State → State → Fault → Type 0
 IsJoinFault s o (UnknownParent p) = ⊥
-IsJoinFault s o (Collision n) = (h : Held) × (g : Held) × Contains s.held h × Contains o.held g × (node_of h.changeset ≡ n) × (node_of g.changeset ≡ n) × (h.changeset ≢ g.changeset)
+IsJoinFault s o (Collision n) = (h : Held) × (g : Held) × Contains s.held h × Contains o.held g
+    × (node_of h.changeset ≡ n) × (node_of g.changeset ≡ n) × (h.changeset ≢ g.changeset)
 IsJoinFault s o (UnknownBound n) = ⊥
 IsJoinFault s o NullBound = ⊥
 IsJoinFault s o NoMemory = Unit {0}

@@ -14,7 +14,8 @@ use Rattle.hg_history.specs.Answer.{IsRefusal}
 abbrev pub changesets_alone : List Contents → PartValue
 changesets_alone cs = record { changesets = cs; bounds = [] }
 
--- the answer to `open` with these changesets and listed roots: each changeset once, at its first place, with the highest phase that the roots give it; or the first fault of the changesets as a part
+-- the answer to `open` with these changesets and listed roots: each changeset once, at its first place, with the
+-- highest phase that the roots give it; or the first fault of the changesets as a part
 abbrev pub OpenAnswer : List Contents → List (Phase × Node) → Result State Fault → Type 0
 OpenAnswer part roots (Ok s) = IsAdmitted (state_of [] []) (changesets_alone part) × IsOpened (unheld [] part) roots s
 OpenAnswer part roots (Err fault) = IsRefusal [] (changesets_alone part) fault

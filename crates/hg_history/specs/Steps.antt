@@ -1,5 +1,6 @@
 -- The steps of `absorb`.
-use Rattle.std.specs.Prelude.{◌≡◌, ◌≢◌, ℕ, List, [], ◌∷◌, ◌++◌, length, map, take, slice_get, Some, Contains, Result, Ok, Err, IsErrOf, ◌↔◌, ◌⊎◌}
+use Rattle.std.specs.Prelude.{◌≡◌, ◌≢◌, ℕ, List, [], ◌∷◌, ◌++◌, length, map, take, slice_get, Some, Contains, Result}
+use Rattle.std.specs.Prelude.{Ok, Err, IsErrOf, ◌↔◌, ◌⊎◌}
 use Rattle.hg_changeset.specs.declared.node.Node.{Node}
 use Rattle.hg_changeset.specs.Node.{null_node}
 use Rattle.hg_changeset.specs.Contents.{Contents}
@@ -17,7 +18,8 @@ use Rattle.hg_phases.specs.declared.lowered.LoweredPlace.{LoweredPlace}
 use Rattle.hg_phases.specs.Kept.{phases_at, phases_before, IsLogOf}
 use Rattle.hg_phases.specs.Least.{IsLeast, bound_alone}
 use Rattle.hg_history.specs.declared.fault.Fault.{Fault}
-use Rattle.hg_history.specs.declared.fault.Fault.TheVariants.{UnknownParent, Collision, UnknownBound, NullBound, NoMemory}
+use Rattle.hg_history.specs.declared.fault.Fault.TheVariants.{UnknownParent, Collision, UnknownBound, NullBound}
+use Rattle.hg_history.specs.declared.fault.Fault.TheVariants.{NoMemory}
 use Rattle.hg_history.specs.Change.{unheld}
 use Rattle.hg_history.specs.Answer.{IsFineUpTo, IsFirstUnheld}
 
@@ -40,7 +42,8 @@ OneAdded cs ks c (Ok Known) ds ls = Contains cs c × IsSame cs ks ds ls
 OneAdded cs ks c (Err fault) ds ls = IsAddFault cs c fault × IsSame cs ks ds ls
 
 -- the first i changesets of the part were added, as secret, to those that were held
-pub record IsAdded (held : List Contents) (had : List Phase) (part : List Contents) (i : ℕ) (cs : List Contents) (ks : List Phase) : Type 0 where
+pub record IsAdded (held : List Contents) (had : List Phase) (part : List Contents) (i : ℕ) (cs : List Contents)
+    (ks : List Phase) : Type 0 where
   pub valid : IsValid (state_of cs ks)
   pub len : length ks ≡ length cs
   pub appended : cs ≡ held ++ unheld held (take i part)
@@ -49,25 +52,31 @@ pub record IsAdded (held : List Contents) (had : List Phase) (part : List Conten
   pub fine : IsFineUpTo held part i
 
 -- all changesets of the part were added, or those before the first one at fault
-abbrev pub AddAllAnswer : List Contents → List Phase → List Contents → Result Unit Fault → List Contents → List Phase → Type 0
+abbrev pub AddAllAnswer : List Contents → List Phase → List Contents → Result Unit Fault → List Contents → List Phase
+    → Type 0
 AddAllAnswer held had part (Ok _) ds ls = IsAdded held had part (length part) ds ls
-AddAllAnswer held had part (Err fault) ds ls = (i : ℕ) × (c : Contents) × (slice_get part i ≡ Some c) × IsAdded held had part i ds ls × IsAddFault (held ++ take i part) c fault
+AddAllAnswer held had part (Err fault) ds ls = (i : ℕ) × (c : Contents) × (slice_get part i ≡ Some c)
+    × IsAdded held had part i ds ls × IsAddFault (held ++ take i part) c fault
 
--- an absorption began where these changesets and phases were held, as many as `before` says: it added changesets of the part, all or those before the first one at fault
-pub record IsBegun (held : List Contents) (had : List Phase) (part : List Contents) (before : ℕ) (added : Result Unit Fault) (cs : List Contents) (ks : List Phase) : Type 0 where
+-- an absorption began where these changesets and phases were held, as many as `before` says: it added changesets of the
+-- part, all or those before the first one at fault
+pub record IsBegun (held : List Contents) (had : List Phase) (part : List Contents) (before : ℕ)
+    (added : Result Unit Fault) (cs : List Contents) (ks : List Phase) : Type 0 where
   pub len : length had ≡ length held
   pub valid : IsValid (state_of held had)
   pub first : before ≡ length held
   pub done : AddAllAnswer held had part added cs ks
 
 -- the graph answered this to a changeset that was to be added, and is as it is since
-pub record IsAnswered (cs : List Contents) (c : Contents) (answer : Result Added GraphError) (ds : List Contents) : Type 0 where
+pub record IsAnswered (cs : List Contents) (c : Contents) (answer : Result Added GraphError) (ds : List Contents) : Type
+    0 where
   pub changeset : IsChangeset c
   pub told : AddAnswer cs c answer ds
   pub memory : IsErrOf answer GraphNoMemory → IsNew cs c
 
 -- what was done since can be taken back: the first changesets are the old ones, and the log gives their phases back
-pub record CanTakeBack (cs : List Contents) (ks : List Phase) (ds : List Contents) (kept : List Phase) (log : List LoweredPlace) : Type 0 where
+pub record CanTakeBack (cs : List Contents) (ks : List Phase) (ds : List Contents) (kept : List Phase)
+    (log : List LoweredPlace) : Type 0 where
   pub len : length (phases_at ds kept) ≡ length ds
   pub valid : IsValid (state_of ds (phases_before ds kept log))
   pub logged : IsLogOf ds kept log
@@ -92,12 +101,14 @@ IsBoundAt cs n NoMemory = ⊥
 
 -- the bound was lowered to, if it is of this phase
 abbrev pub OneLowered : List Contents → Node × Phase → Phase → List Phase → List Phase → Type 0
-OneLowered cs b phase old new = ((b.1 ≡ phase) × IsLeast (state_of cs old) (bound_alone b ∷ []) (state_of cs new)) ⊎ ((b.1 ≢ phase) × (new ≡ old))
+OneLowered cs b phase old new = ((b.1 ≡ phase) × IsLeast (state_of cs old) (bound_alone b ∷ []) (state_of cs new))
+    ⊎ ((b.1 ≢ phase) × (new ≡ old))
 
 -- all bounds of this phase were lowered to: what was the least state for some bounds is the least for these as well
 abbrev pub IsLoweredTo : List Contents → List (Node × Phase) → Phase → List Phase → List Phase → Type 0
 IsLoweredTo cs bounds phase old new =
-    (s : State) (p : List Contents) (bs : List (Node × Phase)) → IsLeast s (record { changesets = p; bounds = bs } ∷ []) (state_of cs old)
+    (s : State) (p : List Contents) (bs : List (Node × Phase))
+    → IsLeast s (record { changesets = p; bounds = bs } ∷ []) (state_of cs old)
     → (more : List (Node × Phase)) × IsLeast s (record { changesets = p; bounds = more } ∷ []) (state_of cs new)
     × ((b : Node × Phase) → Contains more b → Contains bs b ⊎ Contains bounds b)
     × ((b : Node × Phase) → Contains bs b → Contains more b)

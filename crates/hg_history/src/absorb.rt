@@ -3,9 +3,10 @@
 //! Everything is looked up before any phase goes down: the changesets are added one by one, copied or moved, as secret,
 //! then each bound's node is found, then the public bounds are lowered to, and then the draft ones, so that each place
 //! goes down once. Secret bounds say nothing more. The roots are updated last, which is the last growth that can be
-//! refused. A refusal takes back what was done: the log of what was lowered restores the phases, and what was added stands
-//! last, so it is cut off; the roots haven't moved yet. Nothing costs more than the part and what it lowers.
-ghost use Rattle.std.specs.Prelude.{Ok, OnOk, OnErr, IfOk, IfErr, IsErrOf, MatchResult, length, take, drop, [], ◌∷◌, ◌++◌, ◌+◌, ◌-◌, ◌≤◌, ◌<◌, ◌⊎◌, List, ◌≡◌};
+//! refused. A refusal takes back what was done: the log of what was lowered restores the phases, and what was added
+//! stands last, so it is cut off; the roots haven't moved yet. Nothing costs more than the part and what it lowers.
+ghost use Rattle.std.specs.Prelude.{Ok, OnOk, OnErr, IfOk, IfErr, IsErrOf, MatchResult, length, take, drop, [], ◌∷◌};
+ghost use Rattle.std.specs.Prelude.{◌++◌, ◌+◌, ◌-◌, ◌≤◌, ◌<◌, ◌⊎◌, List, ◌≡◌};
 ghost use Rattle.hg_changeset.specs.declared.node.Node.{Node};
 ghost use Rattle.hg_changeset.specs.Contents.{Contents};
 ghost use Rattle.hg_graph.specs.Graph.{Holds, nodes};
@@ -16,8 +17,10 @@ ghost use Rattle.hg_phases.specs.Kept.{phases_at, kept_state, before_last, phase
 ghost use Rattle.hg_phases.specs.Log.{IsLog};
 ghost use Rattle.hg_phases.specs.Lowered.{IsAbove};
 ghost use Rattle.hg_phases.specs.RootPlaces.{AreKept, AreRootPlaces};
-ghost use Rattle.hg_history.specs.Answer.{AbsorbAnswer, AreHeldUpTo, IsAbsorbed, IsGrowthBeforeFault, HasHigher, IsRefusal};
-ghost use Rattle.hg_history.specs.Steps.{AddAllAnswer, IsAnswered, IsBegun, CanTakeBack, OneAdded, IsBoundFault, IsBoundAt, OneLowered, IsLoweredTo};
+ghost use Rattle.hg_history.specs.Answer.{AbsorbAnswer, AreHeldUpTo, IsAbsorbed, IsGrowthBeforeFault, HasHigher};
+ghost use Rattle.hg_history.specs.Answer.{IsRefusal};
+ghost use Rattle.hg_history.specs.Steps.{AddAllAnswer, IsAnswered, IsBegun, CanTakeBack, OneAdded, IsBoundFault};
+ghost use Rattle.hg_history.specs.Steps.{IsBoundAt, OneLowered, IsLoweredTo};
 
 use crate::change::Change;
 use crate::fault::Fault;
@@ -37,8 +40,11 @@ pub(crate) fn absorb_or_undo(
     requires kept { AreKept graph.old kept.old }
     requires valid { IsValid (kept_state graph.old kept.old.phases) }
     ensures inside { AreKept graph.new kept.new × IsValid (kept_state graph.new kept.new.phases) }
-    ensures answer { AbsorbAnswer (kept_state graph.old kept.old.phases) (record { changesets = changesets.now; bounds = bounds.now }) result (kept_state graph.new kept.new.phases) }
-    ensures memory { IsErrOf result Fault.NoMemory → IsGrowthBeforeFault (kept_state graph.old kept.old.phases) (record { changesets = changesets.now; bounds = bounds.now }) }
+    ensures answer { AbsorbAnswer (kept_state graph.old kept.old.phases)
+        (record { changesets = changesets.now; bounds = bounds.now }) result (kept_state graph.new kept.new.phases) }
+    ensures memory { IsErrOf result Fault.NoMemory
+        → IsGrowthBeforeFault (kept_state graph.old kept.old.phases)
+        (record { changesets = changesets.now; bounds = bounds.now }) }
 {
     let before = graph.len();
     let added = add_changesets(graph, &mut kept.phases, changesets);
@@ -56,8 +62,11 @@ pub(crate) fn absorb_owned_or_undo(
     requires kept { AreKept graph.old kept.old }
     requires valid { IsValid (kept_state graph.old kept.old.phases) }
     ensures inside { AreKept graph.new kept.new × IsValid (kept_state graph.new kept.new.phases) }
-    ensures answer { AbsorbAnswer (kept_state graph.old kept.old.phases) (record { changesets = changesets.items; bounds = bounds.now }) result (kept_state graph.new kept.new.phases) }
-    ensures memory { IsErrOf result Fault.NoMemory → IsGrowthBeforeFault (kept_state graph.old kept.old.phases) (record { changesets = changesets.items; bounds = bounds.now }) }
+    ensures answer { AbsorbAnswer (kept_state graph.old kept.old.phases)
+        (record { changesets = changesets.items; bounds = bounds.now }) result (kept_state graph.new kept.new.phases) }
+    ensures memory { IsErrOf result Fault.NoMemory
+        → IsGrowthBeforeFault (kept_state graph.old kept.old.phases)
+        (record { changesets = changesets.items; bounds = bounds.now }) }
 {
     let before = graph.len();
     let added = add_owned_changesets(graph, &mut kept.phases, changesets);
@@ -77,10 +86,19 @@ fn take_bounds_or_undo(
     requires len { length (phases_at graph.old kept.old.phases) ≡ length graph.old }
     requires valid { IsValid (kept_state graph.old kept.old.phases) }
     requires within { before ≤ length graph.old }
-    requires rooted { AreRootPlaces (take before graph.old) (take before (phases_at graph.old kept.old.phases)) kept.old.roots.keys }
-    ensures inside { (held : List Contents) (had : List Phase) (part : List Contents) → IsBegun held had part before added graph.old (phases_at graph.old kept.old.phases) → AreKept graph.new kept.new × IsValid (kept_state graph.new kept.new.phases) }
-    ensures answer { (held : List Contents) (had : List Phase) (part : List Contents) → IsBegun held had part before added graph.old (phases_at graph.old kept.old.phases) → AbsorbAnswer (state_of held had) (record { changesets = part; bounds = bounds.now }) result (kept_state graph.new kept.new.phases) }
-    ensures memory { (held : List Contents) (had : List Phase) (part : List Contents) → IsBegun held had part before added graph.old (phases_at graph.old kept.old.phases) → IsErrOf result Fault.NoMemory → IsGrowthBeforeFault (state_of held had) (record { changesets = part; bounds = bounds.now }) }
+    requires rooted { AreRootPlaces (take before graph.old) (take before (phases_at graph.old kept.old.phases))
+        kept.old.roots.keys }
+    ensures inside { (held : List Contents) (had : List Phase) (part : List Contents)
+        → IsBegun held had part before added graph.old (phases_at graph.old kept.old.phases)
+        → AreKept graph.new kept.new × IsValid (kept_state graph.new kept.new.phases) }
+    ensures answer { (held : List Contents) (had : List Phase) (part : List Contents)
+        → IsBegun held had part before added graph.old (phases_at graph.old kept.old.phases)
+        → AbsorbAnswer (state_of held had) (record { changesets = part; bounds = bounds.now }) result
+        (kept_state graph.new kept.new.phases) }
+    ensures memory { (held : List Contents) (had : List Phase) (part : List Contents)
+        → IsBegun held had part before added graph.old (phases_at graph.old kept.old.phases)
+        → IsErrOf result Fault.NoMemory
+        → IsGrowthBeforeFault (state_of held had) (record { changesets = part; bounds = bounds.now }) }
 {
     let mut log = LoweringLog::new(alloc);
     match take_bounds_and_update(graph, kept, &mut log, alloc, before, added, bounds) {
@@ -92,8 +110,8 @@ fn take_bounds_or_undo(
     }
 }
 
-// Takes the bounds in, logs what goes down, and updates the roots. After a fault what was done can be taken back, and the
-// roots are those of before.
+// Takes the bounds in, logs what goes down, and updates the roots. After a fault what was done can be taken back, and
+// the roots are those of before.
 fn take_bounds_and_update(
     graph: &Graph,
     kept: &mut PhaseRoots,
@@ -107,13 +125,25 @@ fn take_bounds_and_update(
     requires valid { IsValid (kept_state graph.now kept.old.phases) }
     requires within { before ≤ length graph.now }
     requires fresh { log.old ≡ [] }
-    requires rooted { AreRootPlaces (take before graph.now) (take before (phases_at graph.now kept.old.phases)) kept.old.roots.keys }
+    requires rooted { AreRootPlaces (take before graph.now) (take before (phases_at graph.now kept.old.phases))
+        kept.old.roots.keys }
     ensures back { CanTakeBack graph.now (phases_at graph.now kept.old.phases) graph.now kept.new.phases log.new }
     ensures kept { OnOk result (AreKept graph.now kept.new) }
-    ensures rooted { OnErr result (AreRootPlaces (take before graph.now) (take before (phases_at graph.now kept.old.phases)) kept.new.roots.keys) }
-    ensures absorbed { (held : List Contents) (had : List Phase) (part : List Contents) → IsBegun held had part before added graph.now (phases_at graph.now kept.old.phases) → IfOk result (λ change. IsAbsorbed (state_of held had) (record { changesets = part; bounds = bounds.now }) change (kept_state graph.now kept.new.phases)) }
-    ensures refusal { (held : List Contents) (had : List Phase) (part : List Contents) → IsBegun held had part before added graph.now (phases_at graph.now kept.old.phases) → MatchResult result (λ _. Unit {0}) (IsRefusal held (record { changesets = part; bounds = bounds.now })) }
-    ensures memory { (held : List Contents) (had : List Phase) (part : List Contents) → IsBegun held had part before added graph.now (phases_at graph.now kept.old.phases) → IsErrOf result Fault.NoMemory → IsGrowthBeforeFault (state_of held had) (record { changesets = part; bounds = bounds.now }) }
+    ensures rooted { OnErr result
+        (AreRootPlaces (take before graph.now) (take before (phases_at graph.now kept.old.phases))
+        kept.new.roots.keys) }
+    ensures absorbed { (held : List Contents) (had : List Phase) (part : List Contents)
+        → IsBegun held had part before added graph.now (phases_at graph.now kept.old.phases)
+        → IfOk result
+        (λ change. IsAbsorbed (state_of held had) (record { changesets = part; bounds = bounds.now }) change
+        (kept_state graph.now kept.new.phases)) }
+    ensures refusal { (held : List Contents) (had : List Phase) (part : List Contents)
+        → IsBegun held had part before added graph.now (phases_at graph.now kept.old.phases)
+        → MatchResult result (λ _. Unit {0}) (IsRefusal held (record { changesets = part; bounds = bounds.now })) }
+    ensures memory { (held : List Contents) (had : List Phase) (part : List Contents)
+        → IsBegun held had part before added graph.now (phases_at graph.now kept.old.phases)
+        → IsErrOf result Fault.NoMemory
+        → IsGrowthBeforeFault (state_of held had) (record { changesets = part; bounds = bounds.now }) }
 {
     match take_bounds_logged(graph, &mut kept.phases, log, alloc, before, added, bounds) {
         Ok(change) => {
@@ -141,8 +171,8 @@ pub(crate) fn take_back(
     graph.truncate(before);
 }
 
-// Takes the bounds in, where all changesets were added, and logs what goes down. After a fault what was done can be taken
-// back.
+// Takes the bounds in, where all changesets were added, and logs what goes down. After a fault what was done can be
+// taken back.
 fn take_bounds_logged(
     graph: &Graph,
     phases: &mut PhaseMap,
@@ -157,10 +187,21 @@ fn take_bounds_logged(
     requires within { before ≤ length graph.now }
     requires fresh { log.old ≡ [] }
     ensures back { CanTakeBack graph.now (phases_at graph.now phases.old) graph.now phases.new log.new }
-    ensures absorbed { (held : List Contents) (had : List Phase) (part : List Contents) → IsBegun held had part before added graph.now (phases_at graph.now phases.old) → IfOk result (λ change. IsAbsorbed (state_of held had) (record { changesets = part; bounds = bounds.now }) change (kept_state graph.now phases.new)) }
-    ensures refusal { (held : List Contents) (had : List Phase) (part : List Contents) → IsBegun held had part before added graph.now (phases_at graph.now phases.old) → MatchResult result (λ _. Unit {0}) (IsRefusal held (record { changesets = part; bounds = bounds.now })) }
-    ensures memory { (held : List Contents) (had : List Phase) (part : List Contents) → IsBegun held had part before added graph.now (phases_at graph.now phases.old) → IsErrOf result Fault.NoMemory → IsGrowthBeforeFault (state_of held had) (record { changesets = part; bounds = bounds.now }) }
-    ensures growth { (held : List Contents) (had : List Phase) (part : List Contents) → IsBegun held had part before added graph.now (phases_at graph.now phases.old) → OnOk result (¬ ((log.new ≡ []) × (before ≡ length graph.now)) → IsGrowthBeforeFault (state_of held had) (record { changesets = part; bounds = bounds.now })) }
+    ensures absorbed { (held : List Contents) (had : List Phase) (part : List Contents)
+        → IsBegun held had part before added graph.now (phases_at graph.now phases.old)
+        → IfOk result
+        (λ change. IsAbsorbed (state_of held had) (record { changesets = part; bounds = bounds.now }) change
+        (kept_state graph.now phases.new)) }
+    ensures refusal { (held : List Contents) (had : List Phase) (part : List Contents)
+        → IsBegun held had part before added graph.now (phases_at graph.now phases.old)
+        → MatchResult result (λ _. Unit {0}) (IsRefusal held (record { changesets = part; bounds = bounds.now })) }
+    ensures memory { (held : List Contents) (had : List Phase) (part : List Contents)
+        → IsBegun held had part before added graph.now (phases_at graph.now phases.old) → IsErrOf result Fault.NoMemory
+        → IsGrowthBeforeFault (state_of held had) (record { changesets = part; bounds = bounds.now }) }
+    ensures growth { (held : List Contents) (had : List Phase) (part : List Contents)
+        → IsBegun held had part before added graph.now (phases_at graph.now phases.old)
+        → OnOk result (¬ ((log.new ≡ []) × (before ≡ length graph.now))
+        → IsGrowthBeforeFault (state_of held had) (record { changesets = part; bounds = bounds.now })) }
 {
     match added {
         Ok(()) => {}
@@ -185,7 +226,8 @@ fn add_changesets(
 ) -> Result<(), Fault>
     requires len { length (phases_at graph.old phases.old) ≡ length graph.old }
     requires valid { IsValid (kept_state graph.old phases.old) }
-    ensures { AddAllAnswer graph.old (phases_at graph.old phases.old) changesets.now result graph.new (phases_at graph.new phases.new) }
+    ensures { AddAllAnswer graph.old (phases_at graph.old phases.old) changesets.now result graph.new
+        (phases_at graph.new phases.new) }
 {
     for changeset in changesets {
         match add_one(graph, phases, changeset) {
@@ -204,7 +246,8 @@ fn add_owned_changesets(
 ) -> Result<(), Fault>
     requires len { length (phases_at graph.old phases.old) ≡ length graph.old }
     requires valid { IsValid (kept_state graph.old phases.old) }
-    ensures { AddAllAnswer graph.old (phases_at graph.old phases.old) changesets.items result graph.new (phases_at graph.new phases.new) }
+    ensures { AddAllAnswer graph.old (phases_at graph.old phases.old) changesets.items result graph.new
+        (phases_at graph.new phases.new) }
 {
     for changeset in changesets {
         match add_owned(graph, phases, changeset) {
@@ -222,7 +265,8 @@ pub(crate) fn add_one(
     changeset: &Changeset,
 ) -> Result<Added, Fault>
     requires { length (phases_at graph.old phases.old) ≡ length graph.old }
-    ensures { OneAdded graph.old (phases_at graph.old phases.old) changeset.now result graph.new (phases_at graph.new phases.new) }
+    ensures { OneAdded graph.old (phases_at graph.old phases.old) changeset.now result graph.new
+        (phases_at graph.new phases.new) }
 {
     let node = changeset.node();
     let answer = graph.add_copy(changeset);
@@ -232,7 +276,8 @@ pub(crate) fn add_one(
 // Moves the changeset in, as secret, unless it is held.
 fn add_owned(graph: &mut Graph, phases: &mut PhaseMap, changeset: Changeset) -> Result<Added, Fault>
     requires { length (phases_at graph.old phases.old) ≡ length graph.old }
-    ensures { OneAdded graph.old (phases_at graph.old phases.old) changeset result graph.new (phases_at graph.new phases.new) }
+    ensures { OneAdded graph.old (phases_at graph.old phases.old) changeset result graph.new
+        (phases_at graph.new phases.new) }
 {
     let node = changeset.node();
     let answer = graph.add(changeset);
@@ -246,9 +291,11 @@ fn admit_added(
     node: Node,
     answer: Result<Added, GraphError>,
 ) -> Result<Added, Fault>
-    requires len { answer ≡ Ok Added.New → length graph.old ≡ length (phases_at (before_last graph.old) phases.old) + 1 }
+    requires len { answer ≡ Ok Added.New
+        → length graph.old ≡ length (phases_at (before_last graph.old) phases.old) + 1 }
     requires added { answer ≡ Ok Added.New → IsAt graph.old node (length graph.old - 1) }
-    ensures { (cs : List Contents) (c : Contents) → IsAnswered cs c answer graph.old → OneAdded cs (phases_at cs phases.old) c result graph.new (phases_at graph.new phases.new) }
+    ensures { (cs : List Contents) (c : Contents) → IsAnswered cs c answer graph.old
+        → OneAdded cs (phases_at cs phases.old) c result graph.new (phases_at graph.new phases.new) }
 {
     match answer {
         Ok(Added::New) => {
@@ -266,8 +313,11 @@ fn admit_added(
 fn admit_or_remove(graph: &mut Graph, phases: &mut PhaseMap, node: Node) -> Result<(), AllocError>
     requires len { length graph.old ≡ length (phases_at (before_last graph.old) phases.old) + 1 }
     requires added { IsAt graph.old node (length graph.old - 1) }
-    ensures admitted { OnOk result ((graph.new ≡ graph.old) × (phases_at graph.new phases.new ≡ phases_at (before_last graph.old) phases.old ++ Phase.Secret ∷ [])) }
-    ensures removed { OnErr result ((graph.new ≡ before_last graph.old) × (phases_at graph.new phases.new ≡ phases_at (before_last graph.old) phases.old)) }
+    ensures admitted { OnOk result ((graph.new ≡ graph.old)
+        × (phases_at graph.new phases.new ≡ phases_at (before_last graph.old) phases.old ++ Phase.Secret ∷ [])) }
+    ensures removed { OnErr result
+        ((graph.new ≡ before_last graph.old)
+        × (phases_at graph.new phases.new ≡ phases_at (before_last graph.old) phases.old)) }
 {
     match phases.admit(graph, node) {
         Ok(()) => Ok(()),
@@ -333,11 +383,14 @@ fn lower_to(
     requires held { AreHeldUpTo graph.now bounds.now (length bounds.now) }
     ensures len { length (phases_at graph.now phases.new) ≡ length (phases_at graph.now phases.old) }
     ensures valid { OnOk result (IsValid (kept_state graph.now phases.new)) }
-    ensures lowered { OnOk result (IsLoweredTo graph.now bounds.now phase (phases_at graph.now phases.old) (phases_at graph.now phases.new)) }
-    ensures logged { (start : List Phase) → IsLog phase start (phases_at graph.now phases.old) log.old → IsLog phase start (phases_at graph.now phases.new) log.new }
+    ensures lowered { OnOk result (IsLoweredTo graph.now bounds.now phase (phases_at graph.now phases.old)
+        (phases_at graph.now phases.new)) }
+    ensures logged { (start : List Phase) → IsLog phase start (phases_at graph.now phases.old) log.old
+        → IsLog phase start (phases_at graph.now phases.new) log.new }
     ensures undoes { phases_before graph.now phases.new log.new ≡ phases_before graph.now phases.old log.old }
     ensures memory { OnErr result (HasHigher (kept_state graph.now phases.old) bounds.now) }
-    ensures still { HasHigher (kept_state graph.now phases.old) bounds.now ⊎ ((phases_at graph.now phases.new ≡ phases_at graph.now phases.old) × (log.new ≡ log.old)) }
+    ensures still { HasHigher (kept_state graph.now phases.old) bounds.now
+        ⊎ ((phases_at graph.now phases.new ≡ phases_at graph.now phases.old) × (log.new ≡ log.old)) }
 {
     for bound in bounds {
         lower_bound(graph, phases, log, *bound, phase)?;
@@ -357,11 +410,14 @@ pub(crate) fn lower_bound(
     requires valid { IsValid (kept_state graph.now phases.old) }
     requires held { Holds graph.now bound.0 }
     ensures len { length (phases_at graph.now phases.new) ≡ length (phases_at graph.now phases.old) }
-    ensures lowered { OnOk result (OneLowered graph.now bound phase (phases_at graph.now phases.old) (phases_at graph.now phases.new)) }
-    ensures logged { (start : List Phase) → IsLog phase start (phases_at graph.now phases.old) log.old → IsLog phase start (phases_at graph.now phases.new) log.new }
+    ensures lowered { OnOk result (OneLowered graph.now bound phase (phases_at graph.now phases.old)
+        (phases_at graph.now phases.new)) }
+    ensures logged { (start : List Phase) → IsLog phase start (phases_at graph.now phases.old) log.old
+        → IsLog phase start (phases_at graph.now phases.new) log.new }
     ensures undoes { phases_before graph.now phases.new log.new ≡ phases_before graph.now phases.old log.old }
     ensures memory { OnErr result (IsAbove (kept_state graph.now phases.old) bound.0 bound.1) }
-    ensures still { IsAbove (kept_state graph.now phases.old) bound.0 bound.1 ⊎ ((phases_at graph.now phases.new ≡ phases_at graph.now phases.old) × (log.new ≡ log.old)) }
+    ensures still { IsAbove (kept_state graph.now phases.old) bound.0 bound.1
+        ⊎ ((phases_at graph.now phases.new ≡ phases_at graph.now phases.old) × (log.new ≡ log.old)) }
 {
     if bound.1 == phase {
         phases.lower_logged(graph, log, bound.0, phase)

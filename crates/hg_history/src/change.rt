@@ -3,8 +3,8 @@
 use hg_changeset::Node;
 use std::marker::Model;
 
-/// What was absorbed changed this: the nodes that were added, in their order, and the nodes held before whose phase went
-/// down, in no promised order.
+/// What was absorbed changed this: the nodes that were added, in their order, and the nodes held before whose phase
+/// went down, in no promised order.
 #[derive(Drop)]
 pub struct Change {
     pub added: Vec<Node>,

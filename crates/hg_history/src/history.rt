@@ -1,5 +1,6 @@
 //! The history: a graph of changesets, with a phase for each.
-ghost use Rattle.std.specs.Prelude.{IfOk, IsErrOf, IsOkAnd, MatchOption, IsTrue, Some, [], length, slice_get, ◌≡◌, ◌≤◌, ◌↔◌};
+ghost use Rattle.std.specs.Prelude.{IfOk, IsErrOf, IsOkAnd, MatchOption, IsTrue, Some, [], length, slice_get, ◌≡◌, ◌≤◌};
+ghost use Rattle.std.specs.Prelude.{◌↔◌};
 ghost use Rattle.hg_phases.specs.State.{Held, changesets, state_of, Holds, IsPhaseOf, IsValid};
 ghost use Rattle.hg_phases.specs.Least.{part_of};
 ghost use Rattle.hg_phases.specs.Order.{Below};
@@ -35,7 +36,8 @@ impl Model for History {
 
     ghost view = { λ history. kept_state history.graph history.kept.phases };
 
-    ghost invariant = { λ history. AreKept history.graph history.kept × IsValid (kept_state history.graph history.kept.phases) };
+    ghost invariant = { λ history. AreKept history.graph history.kept
+        × IsValid (kept_state history.graph history.kept.phases) };
 }
 
 impl History {
@@ -50,9 +52,9 @@ impl History {
         }
     }
 
-    /// The history of these changesets, in their order and each once. Each has the highest phase of a listed root that is it
-    /// or an ancestor of it, in whatever order and however often roots are listed, and is public where there is none. Roots
-    /// that aren't among the changesets say nothing.
+    /// The history of these changesets, in their order and each once. Each has the highest phase of a listed root that
+    /// is it or an ancestor of it, in whatever order and however often roots are listed, and is public where there is
+    /// none. Roots that aren't among the changesets say nothing.
     ///
     /// Refuses as [`absorb`](History::absorb) does: the first [`Fault::UnknownParent`] or [`Fault::Collision`].
     pub fn open(alloc: Global, changesets: &[Changeset], roots: &Roots) -> Result<History, Fault>
@@ -68,8 +70,8 @@ impl History {
         Ok(history)
     }
 
-    /// Its roots: exactly the draft and secret changesets none of whose parents has their phase, each once, in the graph's
-    /// order. They are kept, so no other changeset is looked at.
+    /// Its roots: exactly the draft and secret changesets none of whose parents has their phase, each once, in the
+    /// graph's order. They are kept, so no other changeset is looked at.
     pub fn roots(&self) -> Result<Roots, AllocError>
         ensures roots { IfOk result (AreRoots self.now) }
         ensures valid { IsValid self.now }
@@ -98,7 +100,8 @@ impl History {
 
     /// The phase of the changeset with this id, if it is held.
     pub fn phase_of(&self, node: Node) -> Result<Option<Phase>, AllocError>
-        ensures phase { IsOkAnd result (λ phase. MatchOption phase (¬ (Holds self.now node)) (IsPhaseOf self.now node)) }
+        ensures phase { IsOkAnd result
+            (λ phase. MatchOption phase (¬ (Holds self.now node)) (IsPhaseOf self.now node)) }
         ensures valid { IsValid self.now }
     {
         self.kept.phase_of(&self.graph, node)
@@ -106,7 +109,8 @@ impl History {
 
     /// The phase of the changeset at a place of the graph, where there is one. It takes no look-up.
     pub fn phase_at(&self, place: usize) -> Option<Phase>
-        ensures { MatchOption result (length self.now.held ≤ place) (λ phase. (h : Held) × (slice_get self.now.held place ≡ Some h) × (h.phase ≡ phase)) }
+        ensures { MatchOption result (length self.now.held ≤ place)
+            (λ phase. (h : Held) × (slice_get self.now.held place ≡ Some h) × (h.phase ≡ phase)) }
     {
         if place < self.graph.len() {
             Some(self.kept.at(&self.graph, place))
@@ -116,19 +120,21 @@ impl History {
     }
 
     /// Takes in changesets and bounds on phases: the history goes to the least state above its own that covers them. A
-    /// bound `(node, phase)` says that the node and its ancestors have at most this phase. What is new stands last, in the
-    /// given order. The first fault is told, of the changesets in their order and then of the bounds in theirs; a refusal
-    /// leaves the history as it was. [`Fault::NoMemory`] never stands for a fault that is met before anything grows, and
-    /// what is covered already is absorbed without memory.
+    /// bound `(node, phase)` says that the node and its ancestors have at most this phase. What is new stands last, in
+    /// the given order. The first fault is told, of the changesets in their order and then of the bounds in theirs; a
+    /// refusal leaves the history as it was. [`Fault::NoMemory`] never stands for a fault that is met before anything
+    /// grows, and what is covered already is absorbed without memory.
     pub fn absorb(
         &mut self,
         changesets: &[Changeset],
         bounds: &[(Node, Phase)],
     ) -> Result<Change, Fault>
-        ensures answer { AbsorbAnswer self.old (record { changesets = changesets.now; bounds = bounds.now }) result self.new }
+        ensures answer { AbsorbAnswer self.old (record { changesets = changesets.now; bounds = bounds.now }) result
+            self.new }
         ensures valid { IsValid self.old }
         ensures still_valid { IsValid self.new }
-        ensures memory { IsErrOf result Fault.NoMemory → IsGrowthBeforeFault self.old (record { changesets = changesets.now; bounds = bounds.now }) }
+        ensures memory { IsErrOf result Fault.NoMemory
+            → IsGrowthBeforeFault self.old (record { changesets = changesets.now; bounds = bounds.now }) }
     {
         absorb_or_undo(
             &mut self.graph,
@@ -139,17 +145,19 @@ impl History {
         )
     }
 
-    /// Takes in changesets and bounds on phases as [`absorb`](History::absorb) does, but moves the changesets that aren't held
-    /// in place of copying them. The others are dropped, and after a refusal all are.
+    /// Takes in changesets and bounds on phases as [`absorb`](History::absorb) does, but moves the changesets that
+    /// aren't held in place of copying them. The others are dropped, and after a refusal all are.
     pub fn absorb_owned(
         &mut self,
         changesets: Vec<Changeset>,
         bounds: &[(Node, Phase)],
     ) -> Result<Change, Fault>
-        ensures answer { AbsorbAnswer self.old (record { changesets = changesets.items; bounds = bounds.now }) result self.new }
+        ensures answer { AbsorbAnswer self.old (record { changesets = changesets.items; bounds = bounds.now }) result
+            self.new }
         ensures valid { IsValid self.old }
         ensures still_valid { IsValid self.new }
-        ensures memory { IsErrOf result Fault.NoMemory → IsGrowthBeforeFault self.old (record { changesets = changesets.items; bounds = bounds.now }) }
+        ensures memory { IsErrOf result Fault.NoMemory
+            → IsGrowthBeforeFault self.old (record { changesets = changesets.items; bounds = bounds.now }) }
     {
         absorb_owned_or_undo(
             &mut self.graph,
@@ -162,8 +170,8 @@ impl History {
 
     /// Takes in all that another history holds: the history goes to the least state above both, the union of the
     /// changesets with the lowest phases. Two changesets under one id are refused as a collision; a refusal leaves the
-    /// history as it was. [`Fault::NoMemory`] never stands for a collision that is met before anything grows, and another
-    /// history that is below this one is joined without memory.
+    /// history as it was. [`Fault::NoMemory`] never stands for a collision that is met before anything grows, and
+    /// another history that is below this one is joined without memory.
     pub fn join(&mut self, other: &History) -> Result<(), Fault>
         ensures answer { JoinAnswer self.old other.now result self.new }
         ensures valid { IsValid self.old }

@@ -1,11 +1,12 @@
 //! Joining two histories, and whether one is below the other.
 //!
-//! The other is taken in as a part: its changesets, and for each of them a bound, its phase. They are gone through in the
-//! other's order, so the parents of each are there when it comes: a new one is copied, as secret, and stands last. Then
-//! each is lowered to its phase, the public ones first, which lowers hardly anything else, since its parents stand no
-//! higher in the other, and the roots are updated. A refusal takes back what was done, as in `absorb`. So a call costs
-//! about both sides once.
-ghost use Rattle.std.specs.Prelude.{◌≡◌, ◌↔◌, ◌⊎◌, List, Some, IsTrue, OnOk, OnErr, IfErr, IsErrOf, length, slice_get, [], ◌∷◌};
+//! The other is taken in as a part: its changesets, and for each of them a bound, its phase. They are gone through in
+//! the other's order, so the parents of each are there when it comes: a new one is copied, as secret, and stands last.
+//! Then each is lowered to its phase, the public ones first, which lowers hardly anything else, since its parents stand
+//! no higher in the other, and the roots are updated. A refusal takes back what was done, as in `absorb`. So a call
+//! costs about both sides once.
+ghost use Rattle.std.specs.Prelude.{◌≡◌, ◌↔◌, ◌⊎◌, List, Some, IsTrue, OnOk, OnErr, IfErr, IsErrOf, length, slice_get};
+ghost use Rattle.std.specs.Prelude.{[], ◌∷◌};
 ghost use Rattle.hg_phases.specs.declared.phase.Phase.{Phase};
 ghost use Rattle.hg_phases.specs.State.{IsValid};
 ghost use Rattle.hg_phases.specs.Kept.{phases_at, kept_state, phases_before};
@@ -37,8 +38,10 @@ pub(crate) fn join_or_undo(
     requires other_len { length (phases_at other.now other_phases.now) ≡ length other.now }
     requires other_valid { IsValid (kept_state other.now other_phases.now) }
     ensures inside { AreKept graph.new kept.new × IsValid (kept_state graph.new kept.new.phases) }
-    ensures answer { JoinAnswer (kept_state graph.old kept.old.phases) (kept_state other.now other_phases.now) result (kept_state graph.new kept.new.phases) }
-    ensures memory { IsErrOf result Fault.NoMemory → IsGrowthBeforeFault (kept_state graph.old kept.old.phases) (part_of (kept_state other.now other_phases.now)) }
+    ensures answer { JoinAnswer (kept_state graph.old kept.old.phases) (kept_state other.now other_phases.now) result
+        (kept_state graph.new kept.new.phases) }
+    ensures memory { IsErrOf result Fault.NoMemory
+        → IsGrowthBeforeFault (kept_state graph.old kept.old.phases) (part_of (kept_state other.now other_phases.now)) }
 {
     let before = graph.len();
     let mut log = LoweringLog::new(alloc);
@@ -51,8 +54,8 @@ pub(crate) fn join_or_undo(
     }
 }
 
-// Joins the other in, logs what goes down, and updates the roots. After a fault what was done can be taken back, and the
-// roots are those of before.
+// Joins the other in, logs what goes down, and updates the roots. After a fault what was done can be taken back, and
+// the roots are those of before.
 fn join_and_update(
     graph: &mut Graph,
     kept: &mut PhaseRoots,
@@ -68,9 +71,12 @@ fn join_and_update(
     ensures back { CanTakeBack graph.old (phases_at graph.old kept.old.phases) graph.new kept.new.phases log.new }
     ensures kept { OnOk result (AreKept graph.new kept.new) }
     ensures rooted { OnErr result (AreRootPlaces graph.old (phases_at graph.old kept.old.phases) kept.new.roots.keys) }
-    ensures joined { OnOk result (IsLeast (kept_state graph.old kept.old.phases) (part_of (kept_state other.now other_phases.now) ∷ []) (kept_state graph.new kept.new.phases)) }
-    ensures fault { IfErr result (IsJoinFault (kept_state graph.old kept.old.phases) (kept_state other.now other_phases.now)) }
-    ensures memory { IsErrOf result Fault.NoMemory → IsGrowthBeforeFault (kept_state graph.old kept.old.phases) (part_of (kept_state other.now other_phases.now)) }
+    ensures joined { OnOk result (IsLeast (kept_state graph.old kept.old.phases)
+        (part_of (kept_state other.now other_phases.now) ∷ []) (kept_state graph.new kept.new.phases)) }
+    ensures fault { IfErr result
+        (IsJoinFault (kept_state graph.old kept.old.phases) (kept_state other.now other_phases.now)) }
+    ensures memory { IsErrOf result Fault.NoMemory
+        → IsGrowthBeforeFault (kept_state graph.old kept.old.phases) (part_of (kept_state other.now other_phases.now)) }
 {
     let before = graph.len();
     match join_logged(graph, &mut kept.phases, log, other, other_phases) {
@@ -97,10 +103,14 @@ fn join_logged(
     requires other_valid { IsValid (kept_state other.now other_phases.now) }
     requires fresh { log.old ≡ [] }
     ensures back { CanTakeBack graph.old (phases_at graph.old phases.old) graph.new phases.new log.new }
-    ensures joined { OnOk result (IsLeast (kept_state graph.old phases.old) (part_of (kept_state other.now other_phases.now) ∷ []) (kept_state graph.new phases.new)) }
-    ensures fault { IfErr result (IsJoinFault (kept_state graph.old phases.old) (kept_state other.now other_phases.now)) }
-    ensures memory { IsErrOf result Fault.NoMemory → IsGrowthBeforeFault (kept_state graph.old phases.old) (part_of (kept_state other.now other_phases.now)) }
-    ensures growth { OnOk result (¬ ((log.new ≡ []) × (length graph.old ≡ length graph.new)) → IsGrowthBeforeFault (kept_state graph.old phases.old) (part_of (kept_state other.now other_phases.now))) }
+    ensures joined { OnOk result (IsLeast (kept_state graph.old phases.old)
+        (part_of (kept_state other.now other_phases.now) ∷ []) (kept_state graph.new phases.new)) }
+    ensures fault { IfErr result
+        (IsJoinFault (kept_state graph.old phases.old) (kept_state other.now other_phases.now)) }
+    ensures memory { IsErrOf result Fault.NoMemory
+        → IsGrowthBeforeFault (kept_state graph.old phases.old) (part_of (kept_state other.now other_phases.now)) }
+    ensures growth { OnOk result (¬ ((log.new ≡ []) × (length graph.old ≡ length graph.new))
+        → IsGrowthBeforeFault (kept_state graph.old phases.old) (part_of (kept_state other.now other_phases.now))) }
 {
     match add_all(graph, phases, other) {
         Ok(()) => {}
@@ -115,7 +125,8 @@ fn join_logged(
 fn add_all(graph: &mut Graph, phases: &mut PhaseMap, other: &Graph) -> Result<(), Fault>
     requires len { length (phases_at graph.old phases.old) ≡ length graph.old }
     requires valid { IsValid (kept_state graph.old phases.old) }
-    ensures { AddAllAnswer graph.old (phases_at graph.old phases.old) other.now result graph.new (phases_at graph.new phases.new) }
+    ensures { AddAllAnswer graph.old (phases_at graph.old phases.old) other.now result graph.new
+        (phases_at graph.new phases.new) }
 {
     for place in 0..other.len() {
         match other.changeset_at(place) {
@@ -141,14 +152,19 @@ fn lower_to_each(
     requires len { length (phases_at graph.now phases.old) ≡ length graph.now }
     requires valid { IsValid (kept_state graph.now phases.old) }
     requires other_len { length (phases_at other.now other_phases.now) ≡ length other.now }
-    requires held { AreHeldUpTo graph.now (part_of (kept_state other.now other_phases.now)).bounds (length (part_of (kept_state other.now other_phases.now)).bounds) }
+    requires held { AreHeldUpTo graph.now (part_of (kept_state other.now other_phases.now)).bounds
+        (length (part_of (kept_state other.now other_phases.now)).bounds) }
     ensures len { length (phases_at graph.now phases.new) ≡ length (phases_at graph.now phases.old) }
     ensures valid { OnOk result (IsValid (kept_state graph.now phases.new)) }
-    ensures lowered { OnOk result (IsLoweredTo graph.now (part_of (kept_state other.now other_phases.now)).bounds phase (phases_at graph.now phases.old) (phases_at graph.now phases.new)) }
-    ensures logged { (start : List Phase) → IsLog phase start (phases_at graph.now phases.old) log.old → IsLog phase start (phases_at graph.now phases.new) log.new }
+    ensures lowered { OnOk result (IsLoweredTo graph.now (part_of (kept_state other.now other_phases.now)).bounds phase
+        (phases_at graph.now phases.old) (phases_at graph.now phases.new)) }
+    ensures logged { (start : List Phase) → IsLog phase start (phases_at graph.now phases.old) log.old
+        → IsLog phase start (phases_at graph.now phases.new) log.new }
     ensures undoes { phases_before graph.now phases.new log.new ≡ phases_before graph.now phases.old log.old }
-    ensures memory { OnErr result (HasHigher (kept_state graph.now phases.old) (part_of (kept_state other.now other_phases.now)).bounds) }
-    ensures still { HasHigher (kept_state graph.now phases.old) (part_of (kept_state other.now other_phases.now)).bounds ⊎ ((phases_at graph.now phases.new ≡ phases_at graph.now phases.old) × (log.new ≡ log.old)) }
+    ensures memory { OnErr result
+        (HasHigher (kept_state graph.now phases.old) (part_of (kept_state other.now other_phases.now)).bounds) }
+    ensures still { HasHigher (kept_state graph.now phases.old) (part_of (kept_state other.now other_phases.now)).bounds
+        ⊎ ((phases_at graph.now phases.new ≡ phases_at graph.now phases.old) × (log.new ≡ log.old)) }
 {
     for place in 0..other.len() {
         match other.node_at(place) {

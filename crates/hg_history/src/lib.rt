@@ -1,11 +1,11 @@
 //! A history: a graph of changesets with their phases, and how it grows.
 //!
-//! A history is always a valid state: no changeset has a lower phase than a parent of it. What it takes in are changesets
-//! and bounds on phases. Absorbing them goes to the least valid state above that covers them, so that the same things
-//! lead to the same state in whatever order they come, and however often.
+//! A history is always a valid state: no changeset has a lower phase than a parent of it. What it takes in are
+//! changesets and bounds on phases. Absorbing them goes to the least valid state above that covers them, so that the
+//! same things lead to the same state in whatever order they come, and however often.
 //!
-//! The laws of states are in `hg_phases`; those of their contents, which are free of the order in which a state is kept,
-//! are in `specs/ContentLaws` and `specs/JoinedLaws`, for the state above that joins.
+//! The laws of states are in `hg_phases`; those of their contents, which are free of the order in which a state is
+//! kept, are in `specs/ContentLaws` and `specs/JoinedLaws`, for the state above that joins.
 #![tactic(auto)]
 
 mod absorb;

@@ -1,11 +1,13 @@
 -- The one written spelling, as the form in which texts are kept.
-use Rattle.std.proofs.Common.{◌≡◌, ℕ, suc, ◌+◌, Bool, true, false, cond, eqb, List, [], ◌∷◌, ◌++◌, length, map, Some, refl, sym, ap, subst, ◌∙◌, arith, append_assoc}
+use Rattle.std.proofs.Common.{◌≡◌, ℕ, suc, ◌+◌, Bool, true, false, cond, eqb, List, [], ◌∷◌, ◌++◌, length, map, Some}
+use Rattle.std.proofs.Common.{refl, sym, ap, subst, ◌∙◌, arith, append_assoc}
 use Rattle.std.specs.Prelude.{nat_eq}
 use Rattle.std.specs.List.{list_any, join_with_byte, AllByRecursion}
 use Rattle.std.specs.Ordering.{is_eq}
 use Rattle.std.specs.declared.cmp.Ordering.{Ordering}
 use Rattle.std.specs.declared.cmp.Ordering.TheVariants.{Less, Equal, Greater}
-use Rattle.std.specs.FinMap.{put, find, get, insert, entries, empty, from_entries, entries-insert, entries_sorted, get-from_entries, same_entries_map, slice_cmp-IsAntisymmetric, nat_cmp-IsAntisymmetric}
+use Rattle.std.specs.FinMap.{put, find, get, insert, entries, empty, from_entries, entries-insert, entries_sorted}
+use Rattle.std.specs.FinMap.{get-from_entries, same_entries_map, slice_cmp-IsAntisymmetric, nat_cmp-IsAntisymmetric}
 use Rattle.std.proofs.lemmas.Bool.{or_parts, or_from, not-true, not_from_false, false≢true}
 use Rattle.std.proofs.lemmas.Cmp.{nat_list_cmp_total, tied_itself}
 use Rattle.std.specs.Cmp.Lexicographic.{pointwise, bytes_decides}
@@ -26,10 +28,12 @@ use Rattle.hg_marker.proofs.WritingLemmas.{further, joined-cons}
 
 -- ---- texts that can be written
 
-pub writable_parts : (m : Texts) → is_writable m ≡ true → (has_bad_key (entries m) ≡ false) × (has_bad_value (entries m) ≡ false)
+pub writable_parts : (m : Texts) → is_writable m ≡ true
+    → (has_bad_key (entries m) ≡ false) × (has_bad_value (entries m) ≡ false)
 writable_parts m h = or_parts _ _ (not-true _ h)
 
-pub writable_from : (m : Texts) → has_bad_key (entries m) ≡ false → has_bad_value (entries m) ≡ false → is_writable m ≡ true
+pub writable_from : (m : Texts) → has_bad_key (entries m) ≡ false → has_bad_value (entries m) ≡ false
+    → is_writable m ≡ true
 writable_from m k v = not_from_false _ (or_from _ _ k v)
 
 writable_is_clean : (m : Texts) → is_writable m ≡ true → AllByRecursion IsClean (entries m)
@@ -37,7 +41,9 @@ writable_is_clean m h = let p = writable_parts m h in tested_is_clean (entries m
 
 clean_keys : (es : List (List ℕ × List ℕ)) → AllByRecursion IsClean es → has_bad_key es ≡ false
 clean_keys [] h = refl
-clean_keys (e ∷ es) h = or_from _ _ (list_any_none ends_key e.0 (λ i d lt. or_from _ _ (h.0.key_nul i d lt) (h.0.key_colon i d lt))) (clean_keys es h.1)
+clean_keys (e ∷ es) h =
+    or_from _ _ (list_any_none ends_key e.0 (λ i d lt. or_from _ _ (h.0.key_nul i d lt) (h.0.key_colon i d lt)))
+    (clean_keys es h.1)
 
 clean_values : (es : List (List ℕ × List ℕ)) → AllByRecursion IsClean es → has_bad_value es ≡ false
 clean_values [] h = refl
@@ -89,13 +95,17 @@ apart_too a b h k = elim (same_texts a b) as (λ s. same_texts a b ≡ s → s �
   | false ↦ λ e. refl
 ] refl
 
-pub forms_apart : (f g : Form) (a b : Texts) → f ≡ Written a → g ≡ Unwritable b → IsForm f → IsForm g → same_texts (form_texts f) (form_texts g) ≡ false
+pub forms_apart : (f g : Form) (a b : Texts) → f ≡ Written a → g ≡ Unwritable b → IsForm f → IsForm g
+    → same_texts (form_texts f) (form_texts g) ≡ false
 forms_apart f g a b e d h k =
-    ap (λ (x : Form). same_texts (form_texts x) (form_texts g)) e ∙ ap (λ (x : Form). same_texts a (form_texts x)) d ∙ apart a b (subst IsForm e h) (subst IsForm d k)
+    ap (λ (x : Form). same_texts (form_texts x) (form_texts g)) e ∙ ap (λ (x : Form). same_texts a (form_texts x)) d
+    ∙ apart a b (subst IsForm e h) (subst IsForm d k)
 
-pub forms_apart_too : (f g : Form) (a b : Texts) → f ≡ Unwritable a → g ≡ Written b → IsForm f → IsForm g → same_texts (form_texts f) (form_texts g) ≡ false
+pub forms_apart_too : (f g : Form) (a b : Texts) → f ≡ Unwritable a → g ≡ Written b → IsForm f → IsForm g
+    → same_texts (form_texts f) (form_texts g) ≡ false
 forms_apart_too f g a b e d h k =
-    ap (λ (x : Form). same_texts (form_texts x) (form_texts g)) e ∙ ap (λ (x : Form). same_texts a (form_texts x)) d ∙ apart_too a b (subst IsForm e h) (subst IsForm d k)
+    ap (λ (x : Form). same_texts (form_texts x) (form_texts g)) e ∙ ap (λ (x : Form). same_texts a (form_texts x)) d
+    ∙ apart_too a b (subst IsForm e h) (subst IsForm d k)
 
 -- ---- the pieces of the written spelling
 
@@ -119,7 +129,8 @@ same_answer false true h k = k refl
 same_answer false false h k = refl
 
 -- the same bytes, the same texts
-pub same_written : (a b : List ℕ) → IsWritten a → IsWritten b → pointwise nat_eq a b ≡ same_texts (texts (pieces a)) (texts (pieces b))
+pub same_written : (a b : List ℕ) → IsWritten a → IsWritten b
+    → pointwise nat_eq a b ≡ same_texts (texts (pieces a)) (texts (pieces b))
 same_written a b h k =
     let each = texts_decides (texts (pieces a)) (texts (pieces b)) in
     same_answer _ _ (λ e. each.1 (ap (λ (t : List ℕ). texts (pieces t)) ((bytes_decides a b).0 e)))
@@ -127,7 +138,8 @@ same_written a b h k =
 
 -- keys are equal where they tie
 pub same_key : (k q : List ℕ) → pointwise nat_eq k q ≡ is_eq (bytes_cmp q k)
-same_key k q = same_answer _ _ (λ e. ap is_eq (ap (bytes_cmp q) ((bytes_decides k q).0 e) ∙ tied_itself nat_list_cmp_total q))
+same_key k q =
+    same_answer _ _ (λ e. ap is_eq (ap (bytes_cmp q) ((bytes_decides k q).0 e) ∙ tied_itself nat_list_cmp_total q))
     (λ e. (bytes_decides k q).1 (sym (slice_cmp-IsAntisymmetric nat_cmp-IsAntisymmetric q k (equal _ e))))
   where
     equal : (r : Ordering) → is_eq r ≡ true → r ≡ Equal
@@ -135,46 +147,59 @@ same_key k q = same_answer _ _ (λ e. ap is_eq (ap (bytes_cmp q) ((bytes_decides
     equal Equal h = refl
     equal Greater h = absurd cc
 
-pub found_here : (k v q : List ℕ) (es : List (List ℕ × List ℕ)) → pointwise nat_eq k q ≡ true → find bytes_cmp q ((k, v) ∷ es) ≡ Some v
+pub found_here : (k v q : List ℕ) (es : List (List ℕ × List ℕ)) → pointwise nat_eq k q ≡ true
+    → find bytes_cmp q ((k, v) ∷ es) ≡ Some v
 found_here k v q es h = ap (λ b. cond b (Some v) (find bytes_cmp q es)) (sym (same_key k q) ∙ h)
 
-pub found_later : (k v q : List ℕ) (es : List (List ℕ × List ℕ)) → pointwise nat_eq k q ≡ false → find bytes_cmp q ((k, v) ∷ es) ≡ find bytes_cmp q es
+pub found_later : (k v q : List ℕ) (es : List (List ℕ × List ℕ)) → pointwise nat_eq k q ≡ false
+    → find bytes_cmp q ((k, v) ∷ es) ≡ find bytes_cmp q es
 found_later k v q es h = ap (λ b. cond b (Some v) (find bytes_cmp q es)) (sym (same_key k q) ∙ h)
 
 -- ---- a further piece
 
 further-append : (es fs : List (List ℕ × List ℕ)) → further (es ++ fs) ≡ further es ++ further fs
 further-append [] fs = refl
-further-append (e ∷ es) fs = ap (λ (t : List ℕ). 0 ∷ piece e ++ t) (further-append es fs) ∙ ap (λ (t : List ℕ). 0 ∷ t) (sym (append_assoc (piece e) (further es) (further fs)))
+further-append (e ∷ es) fs =
+    ap (λ (t : List ℕ). 0 ∷ piece e ++ t) (further-append es fs)
+    ∙ ap (λ (t : List ℕ). 0 ∷ t) (sym (append_assoc (piece e) (further es) (further fs)))
 
 long_joined : (e : List ℕ × List ℕ) (es : List (List ℕ × List ℕ)) → eqb (length (piece e ++ further es)) 0 ≡ false
 long_joined e es =
-    let n : length (piece e ++ further es) ≡ length e.0 + suc (length e.1) + length (further es) = omega (arith, length-append (piece e) (further es), length-append e.0 (58 ∷ e.1)) in
+    let n : length (piece e ++ further es) ≡ length e.0 + suc (length e.1) + length (further es) =
+    omega (arith, length-append (piece e) (further es), length-append e.0 (58 ∷ e.1)) in
     grind arith
 
-joined_last : (es : List (List ℕ × List ℕ)) (f : List ℕ × List ℕ) → join_with_byte 0 (map piece (es ++ f ∷ [])) ≡ with_piece (join_with_byte 0 (map piece es)) f
+joined_last : (es : List (List ℕ × List ℕ)) (f : List ℕ × List ℕ)
+    → join_with_byte 0 (map piece (es ++ f ∷ [])) ≡ with_piece (join_with_byte 0 (map piece es)) f
 joined_last [] f = refl
 joined_last (e ∷ es) f =
     joined-cons e (es ++ f ∷ [])
-    ∙ ap (λ (t : List ℕ). piece e ++ t) (further-append es (f ∷ []) ∙ ap (λ (t : List ℕ). further es ++ 0 ∷ t) (append-nil (piece f)))
+    ∙ ap (λ (t : List ℕ). piece e ++ t)
+    (further-append es (f ∷ []) ∙ ap (λ (t : List ℕ). further es ++ 0 ∷ t) (append-nil (piece f)))
     ∙ sym (append_assoc (piece e) (further es) (0 ∷ piece f))
     ∙ sym (ap (λ (b : Bool). cond b (piece f) ((piece e ++ further es) ++ 0 ∷ piece f)) (long_joined e es))
     ∙ ap (λ (t : List ℕ). with_piece t f) (sym (joined-cons e es))
 
 -- pieces that are pushed one after the other are joined
-pushed_joined : (es fs : List (List ℕ × List ℕ)) → with_pieces (join_with_byte 0 (map piece es)) fs ≡ join_with_byte 0 (map piece (es ++ fs))
+pushed_joined : (es fs : List (List ℕ × List ℕ))
+    → with_pieces (join_with_byte 0 (map piece es)) fs ≡ join_with_byte 0 (map piece (es ++ fs))
 pushed_joined es [] = ap (λ (xs : List (List ℕ × List ℕ)). join_with_byte 0 (map piece xs)) (sym (append-nil es))
 pushed_joined es (f ∷ fs) =
     ap (λ (t : List ℕ). with_pieces t fs) (sym (joined_last es f)) ∙ pushed_joined (es ++ f ∷ []) fs
     ∙ ap (λ (xs : List (List ℕ × List ℕ)). join_with_byte 0 (map piece xs)) (append_assoc es (f ∷ []) fs)
 
-pub pushed_written : (m : Texts) (k v : List ℕ) → with_pieces [] (put bytes_cmp k v (entries m)) ≡ written (insert m k v)
+pub pushed_written : (m : Texts) (k v : List ℕ)
+    → with_pieces [] (put bytes_cmp k v (entries m)) ≡ written (insert m k v)
 unfolding written
 pushed_written m k v =
     pushed_joined [] (put bytes_cmp k v (entries m))
-    ∙ ap (λ (xs : List (List ℕ × List ℕ)). join_with_byte 0 (map piece xs)) (sym (entries-insert nat_list_cmp_total m k v))
+    ∙ ap (λ (xs : List (List ℕ × List ℕ)). join_with_byte 0 (map piece xs))
+    (sym (entries-insert nat_list_cmp_total m k v))
 
-pub writable_with : (m : Texts) (k v : List ℕ) → is_writable m ≡ true → list_any ends_key k ≡ false → list_any is_nul v ≡ false → is_writable (insert m k v) ≡ true
+pub writable_with : (m : Texts) (k v : List ℕ) → is_writable m ≡ true → list_any ends_key k ≡ false
+    → list_any is_nul v ≡ false → is_writable (insert m k v) ≡ true
 writable_with m k v h key value =
     let one = tested_is_clean ((k, v) ∷ []) (or_from _ _ key refl) (or_from _ _ value refl) in
-    clean_is_writable (insert m k v) (subst (AllByRecursion IsClean) (sym (entries-insert nat_list_cmp_total m k v)) (clean-put k v (entries m) one.0 (writable_is_clean m h)))
+    clean_is_writable (insert m k v)
+    (subst (AllByRecursion IsClean) (sym (entries-insert nat_list_cmp_total m k v))
+    (clean-put k v (entries m) one.0 (writable_is_clean m h)))

@@ -1,5 +1,6 @@
 -- Node ids, one after another.
-use Rattle.std.proofs.Common.{◌≡◌, ℕ, zero, suc, ◌-◌, ◌+◌, ◌*◌, ◌≤◌, ◌<◌, Bool, true, false, cond, ltb, List, [], ◌∷◌, ◌++◌, length, take, drop, Result, Ok, Err, refl, ap, ◌∙◌, sym, arith, append_assoc}
+use Rattle.std.proofs.Common.{◌≡◌, ℕ, zero, suc, ◌-◌, ◌+◌, ◌*◌, ◌≤◌, ◌<◌, Bool, true, false, cond, ltb, List, [], ◌∷◌}
+use Rattle.std.proofs.Common.{◌++◌, length, take, drop, Result, Ok, Err, refl, ap, ◌∙◌, sym, arith, append_assoc}
 use Rattle.std.specs.Prelude.{◌||◌}
 use Rattle.std.specs.List.{list_any}
 use Rattle.std.specs.Result.{IfOk}
@@ -13,7 +14,8 @@ use Rattle.hg_marker.proofs.FaultLemmas.{nodes_is}
 -- ---- the ids that are left
 
 -- the first of them, and the others
-pub first_left : (count i : ℕ) (bytes : List ℕ) → i < count → ids_in (count - i) bytes ≡ record { 0 = take 20 bytes } ∷ ids_in (count - (i + 1)) (drop 20 bytes)
+pub first_left : (count i : ℕ) (bytes : List ℕ) → i < count
+    → ids_in (count - i) bytes ≡ record { 0 = take 20 bytes } ∷ ids_in (count - (i + 1)) (drop 20 bytes)
 first_left count i bytes lt =
     let k : count - i ≡ suc (count - (i + 1)) = omega arith in
     rw k refl
@@ -25,28 +27,41 @@ none_left count i bytes le =
 
 -- ---- the null id among them
 
-pub null_found : (count i : ℕ) (bytes rest after : List ℕ) (id : Node) → i < count → id ≡ record { 0 = take 20 rest } → node_eq null_node id ≡ true
-    → list_any (node_eq null_node) (ids_in (count - i) rest) ≡ list_any (node_eq null_node) (ids_in count bytes) → true ≡ list_any (node_eq null_node) (ids_in count bytes)
+pub null_found : (count i : ℕ) (bytes rest after : List ℕ) (id : Node) → i < count → id ≡ record { 0 = take 20 rest }
+    → node_eq null_node id ≡ true
+    → list_any (node_eq null_node) (ids_in (count - i) rest) ≡ list_any (node_eq null_node) (ids_in count bytes)
+    → true ≡ list_any (node_eq null_node) (ids_in count bytes)
 null_found count i bytes rest after id lt is null so_far =
     let first : node_eq null_node (record { 0 = take 20 rest }) ≡ true = ap (node_eq null_node) (sym is) ∙ null in
-    let now : list_any (node_eq null_node) (ids_in (count - i) rest) ≡ true = ap (list_any (node_eq null_node)) (first_left count i rest lt) ∙ ap (λ (b : Bool). b || list_any (node_eq null_node) (ids_in (count - (i + 1)) (drop 20 rest))) first in
+    let now : list_any (node_eq null_node) (ids_in (count - i) rest) ≡ true =
+    ap (list_any (node_eq null_node)) (first_left count i rest lt)
+    ∙ ap (λ (b : Bool). b || list_any (node_eq null_node) (ids_in (count - (i + 1)) (drop 20 rest))) first in
     sym now ∙ so_far
 
-pub null_goes_on : (count i : ℕ) (bytes rest after : List ℕ) (id : Node) → i < count → id ≡ record { 0 = take 20 rest } → after ≡ drop 20 rest → node_eq null_node id ≡ false
-    → list_any (node_eq null_node) (ids_in (count - i) rest) ≡ list_any (node_eq null_node) (ids_in count bytes) → list_any (node_eq null_node) (ids_in (count - (i + 1)) after) ≡ list_any (node_eq null_node) (ids_in count bytes)
+pub null_goes_on : (count i : ℕ) (bytes rest after : List ℕ) (id : Node) → i < count → id ≡ record { 0 = take 20 rest }
+    → after ≡ drop 20 rest → node_eq null_node id ≡ false
+    → list_any (node_eq null_node) (ids_in (count - i) rest) ≡ list_any (node_eq null_node) (ids_in count bytes)
+    → list_any (node_eq null_node) (ids_in (count - (i + 1)) after)
+    ≡ list_any (node_eq null_node) (ids_in count bytes)
 null_goes_on count i bytes rest after id lt is after_is other so_far =
     let first : node_eq null_node (record { 0 = take 20 rest }) ≡ false = ap (node_eq null_node) (sym is) ∙ other in
-    let now : list_any (node_eq null_node) (ids_in (count - i) rest) ≡ list_any (node_eq null_node) (ids_in (count - (i + 1)) (drop 20 rest)) =
-    ap (list_any (node_eq null_node)) (first_left count i rest lt) ∙ ap (λ (b : Bool). b || list_any (node_eq null_node) (ids_in (count - (i + 1)) (drop 20 rest))) first in
+    let now : list_any (node_eq null_node) (ids_in (count - i) rest)
+    ≡ list_any (node_eq null_node) (ids_in (count - (i + 1)) (drop 20 rest)) =
+    ap (list_any (node_eq null_node)) (first_left count i rest lt)
+    ∙ ap (λ (b : Bool). b || list_any (node_eq null_node) (ids_in (count - (i + 1)) (drop 20 rest))) first in
     ap (λ (b : List ℕ). list_any (node_eq null_node) (ids_in (count - (i + 1)) b)) after_is ∙ sym now ∙ so_far
 
-pub null_nowhere : (count i : ℕ) (bytes rest : List ℕ) → count ≤ i → list_any (node_eq null_node) (ids_in (count - i) rest) ≡ list_any (node_eq null_node) (ids_in count bytes) → false ≡ list_any (node_eq null_node) (ids_in count bytes)
+pub null_nowhere : (count i : ℕ) (bytes rest : List ℕ) → count ≤ i
+    → list_any (node_eq null_node) (ids_in (count - i) rest) ≡ list_any (node_eq null_node) (ids_in count bytes)
+    → false ≡ list_any (node_eq null_node) (ids_in count bytes)
 null_nowhere count i bytes rest le so_far = sym (ap (list_any (node_eq null_node)) (none_left count i rest le)) ∙ so_far
 
 -- ---- copied one by one
 
-pub copy_goes_on : (count i : ℕ) (bytes rest after : List ℕ) (front : List Node) (id : Node) → i < count → id ≡ record { 0 = take 20 rest } → after ≡ drop 20 rest
-    → front ++ ids_in (count - i) rest ≡ ids_in count bytes → (front ++ id ∷ []) ++ ids_in (count - (i + 1)) after ≡ ids_in count bytes
+pub copy_goes_on : (count i : ℕ) (bytes rest after : List ℕ) (front : List Node) (id : Node) → i < count
+    → id ≡ record { 0 = take 20 rest } → after ≡ drop 20 rest
+    → front ++ ids_in (count - i) rest ≡ ids_in count bytes
+    → (front ++ id ∷ []) ++ ids_in (count - (i + 1)) after ≡ ids_in count bytes
 copy_goes_on count i bytes rest after front id lt is after_is so_far =
     append_assoc front (id ∷ []) (ids_in (count - (i + 1)) after)
     ∙ ap (λ (n : Node). front ++ n ∷ ids_in (count - (i + 1)) after) is
@@ -54,10 +69,13 @@ copy_goes_on count i bytes rest after front id lt is after_is so_far =
     ∙ ap (λ (ns : List Node). front ++ ns) (sym (first_left count i rest lt))
     ∙ so_far
 
-pub copied : (count i : ℕ) (bytes rest : List ℕ) (front : List Node) → count ≤ i → front ++ ids_in (count - i) rest ≡ ids_in count bytes → front ≡ ids_in count bytes
-copied count i bytes rest front le so_far = sym (append-nil front) ∙ ap (λ (ns : List Node). front ++ ns) (sym (none_left count i rest le)) ∙ so_far
+pub copied : (count i : ℕ) (bytes rest : List ℕ) (front : List Node) → count ≤ i
+    → front ++ ids_in (count - i) rest ≡ ids_in count bytes → front ≡ ids_in count bytes
+copied count i bytes rest front le so_far =
+    sym (append-nil front) ∙ ap (λ (ns : List Node). front ++ ns) (sym (none_left count i rest le)) ∙ so_far
 
-pub room_left : (count i : ℕ) (rest after : List ℕ) → i < count → after ≡ drop 20 rest → 20 * (count - i) ≤ length rest → 20 * (count - (i + 1)) ≤ length after
+pub room_left : (count i : ℕ) (rest after : List ℕ) → i < count → after ≡ drop 20 rest → 20 * (count - i) ≤ length rest
+    → 20 * (count - (i + 1)) ≤ length after
 room_left count i rest after lt after_is room = omega (arith, room, lt, length-drop 20 rest, ap length after_is)
 
 -- ---- as a field
@@ -68,31 +86,50 @@ ids_front zero bytes = refl
 ids_front (suc n) bytes =
     let more : 20 * suc n ≡ 20 + 20 * n = omega arith in
     let first : take 20 (take (20 * suc n) bytes) ≡ take 20 bytes = take-take 20 (20 * suc n) bytes (omega arith) in
-    let others : drop 20 (take (20 * suc n) bytes) ≡ take (20 * n) (drop 20 bytes) = ap (λ (k : ℕ). drop 20 (take k bytes)) more ∙ drop-take 20 (20 * n) bytes in
-    let later : ids_in n (drop 20 (take (20 * suc n) bytes)) ≡ ids_in n (drop 20 bytes) = ap (ids_in n) others ∙ ids_front n (drop 20 bytes) in
+    let others : drop 20 (take (20 * suc n) bytes) ≡ take (20 * n) (drop 20 bytes) =
+    ap (λ (k : ℕ). drop 20 (take k bytes)) more ∙ drop-take 20 (20 * n) bytes in
+    let later : ids_in n (drop 20 (take (20 * suc n) bytes)) ≡ ids_in n (drop 20 bytes) =
+    ap (ids_in n) others ∙ ids_front n (drop 20 bytes) in
     λ i. record { 0 = first i } ∷ later i
 
-ids_read : {F : Type 0} (short : F) (n : ℕ) (bytes : List ℕ) → nodes short n bytes ≡ and_then (field short (20 * n) bytes) (λ ids. says (ids_in n ids))
+ids_read : {F : Type 0} (short : F) (n : ℕ) (bytes : List ℕ)
+    → nodes short n bytes ≡ and_then (field short (20 * n) bytes) (λ ids. says (ids_in n ids))
 ids_read short n bytes =
     nodes_is short n bytes
-    ∙ elim (ltb (length bytes) (20 * n)) as (λ b. cond b (Err short) (Ok (ids_in n bytes, drop (20 * n) bytes)) ≡ and_then (cond b (Err short) (Ok (take (20 * n) bytes, drop (20 * n) bytes))) (λ ids. says (ids_in n ids))) [
+    ∙ elim (ltb (length bytes) (20 * n)) as
+    (λ b. cond b (Err short) (Ok (ids_in n bytes, drop (20 * n) bytes))
+    ≡ and_then (cond b (Err short) (Ok (take (20 * n) bytes, drop (20 * n) bytes))) (λ ids. says (ids_in n ids))) [
       | true ↦ refl
       | false ↦ ap (λ (ns : List Node). Ok (ns, drop (20 * n) bytes)) (sym (ids_front n bytes))
     ]
 
 module _ {F X : Type 0} (short : F) (n : ℕ) (bytes : List ℕ) (view : X → List ℕ × List ℕ) where
-  pub as_ids : (r : Result X F) → IsReading view r (field short (20 * n) bytes) → IsReading (λ x. (ids_in n (view x).0, (view x).1)) r (nodes short n bytes)
-  as_ids (Ok x) e = ids_read short n bytes ∙ ap (λ (r : Result (List ℕ × List ℕ) F). and_then r (λ ids. says (ids_in n ids))) e
-  as_ids (Err f) e = ids_read short n bytes ∙ ap (λ (r : Result (List ℕ × List ℕ) F). and_then r (λ ids. says (ids_in n ids))) e
+  pub as_ids : (r : Result X F) → IsReading view r (field short (20 * n) bytes)
+      → IsReading (λ x. (ids_in n (view x).0, (view x).1)) r (nodes short n bytes)
+  as_ids (Ok x) e =
+      ids_read short n bytes ∙ ap (λ (r : Result (List ℕ × List ℕ) F). and_then r (λ ids. says (ids_in n ids))) e
+  as_ids (Err f) e =
+      ids_read short n bytes ∙ ap (λ (r : Result (List ℕ × List ℕ) F). and_then r (λ ids. says (ids_in n ids))) e
 
-  pub as_long : (r : Result X F) → IsReading view r (field short (20 * n) bytes) → IfOk r (λ x. length (view x).0 ≡ 20 * n)
+  pub as_long : (r : Result X F) → IsReading view r (field short (20 * n) bytes)
+      → IfOk r (λ x. length (view x).0 ≡ 20 * n)
   as_long (Err f) e = tt
-  as_long (Ok x) e = ap length (sym (taken (ltb (length bytes) (20 * n)) refl e)) ∙ omega (arith, length-take (20 * n) bytes, ltb-false (length bytes) (20 * n) (enough (ltb (length bytes) (20 * n)) refl e))
+  as_long (Ok x) e =
+      ap length (sym (taken (ltb (length bytes) (20 * n)) refl e))
+      ∙ omega (
+        arith,
+        length-take (20 * n) bytes,
+        ltb-false (length bytes) (20 * n) (enough (ltb (length bytes) (20 * n)) refl e),
+      )
     where
-      enough : (b : Bool) → ltb (length bytes) (20 * n) ≡ b → ◌≡◌ {A = Result (List ℕ × List ℕ) F} (cond b (Err short) (Ok (take (20 * n) bytes, drop (20 * n) bytes))) (Ok (view x)) → ltb (length bytes) (20 * n) ≡ false
+      enough : (b : Bool) → ltb (length bytes) (20 * n) ≡ b
+          → ◌≡◌ {A = Result (List ℕ × List ℕ) F} (cond b (Err short) (Ok (take (20 * n) bytes, drop (20 * n) bytes)))
+          (Ok (view x)) → ltb (length bytes) (20 * n) ≡ false
       enough true is e = absurd cc
       enough false is e = is
 
-      taken : (b : Bool) → ltb (length bytes) (20 * n) ≡ b → ◌≡◌ {A = Result (List ℕ × List ℕ) F} (cond b (Err short) (Ok (take (20 * n) bytes, drop (20 * n) bytes))) (Ok (view x)) → take (20 * n) bytes ≡ (view x).0
+      taken : (b : Bool) → ltb (length bytes) (20 * n) ≡ b
+          → ◌≡◌ {A = Result (List ℕ × List ℕ) F} (cond b (Err short) (Ok (take (20 * n) bytes, drop (20 * n) bytes)))
+          (Ok (view x)) → take (20 * n) bytes ≡ (view x).0
       taken true is e = absurd cc
       taken false is e = cc

@@ -1,5 +1,6 @@
 -- Pieces of metadata, one after another.
-use Rattle.std.proofs.Common.{◌≡◌, ℕ, ◌+◌, Bool, true, false, cond, not, eqb, List, [], ◌∷◌, ◌++◌, length, take, drop, map, reverse, Option, Some, None, ltb, ◌<◌, ◌≤◌, refl, sym, ap, ◌∙◌, arith, append_assoc}
+use Rattle.std.proofs.Common.{◌≡◌, ℕ, ◌+◌, Bool, true, false, cond, not, eqb, List, [], ◌∷◌, ◌++◌, length, take, drop}
+use Rattle.std.proofs.Common.{map, reverse, Option, Some, None, ltb, ◌<◌, ◌≤◌, refl, sym, ap, ◌∙◌, arith, append_assoc}
 use Rattle.std.specs.Prelude.{position, ◌&&◌}
 use Rattle.memchr.specs.Find.{IsFirstByte, is_byte}
 use Rattle.std.specs.List.{list_all, position_or_len, slice_split, before_first, after_first}
@@ -20,7 +21,8 @@ use Rattle.hg_marker.specs.Metadata.{is_nul, is_colon, nonempty, has_colon, entr
 first_apart : (p : List ℕ) (ps : List (List ℕ)) → nonempty (p ∷ ps) ≡ nonempty (p ∷ []) ++ nonempty ps
 first_apart p ps = filter-append (λ q. not (eqb (length q) 0)) (p ∷ []) ps
 
-pub first_piece : (bytes : List ℕ) (i : ℕ) → position is_nul bytes ≡ Some i → pieces bytes ≡ nonempty (take i bytes ∷ []) ++ pieces (drop (i + 1) bytes)
+pub first_piece : (bytes : List ℕ) (i : ℕ) → position is_nul bytes ≡ Some i
+    → pieces bytes ≡ nonempty (take i bytes ∷ []) ++ pieces (drop (i + 1) bytes)
 first_piece bytes i e =
     let found = position-found is_nul bytes i e in
     ap nonempty (slice_split_first is_nul bytes 0 found.0)
@@ -45,27 +47,37 @@ pub starts : (bytes : List ℕ) → ReadsSoFar bytes bytes empty
 starts bytes = record { done = []; parts = refl; texts = refl }
 
 texts_push : (qs : List (List ℕ)) (p : List ℕ) → texts (qs ++ p ∷ []) ≡ insert (texts qs) (entry p).0 (entry p).1
-texts_push qs p = ap (λ (es : List (List ℕ × List ℕ)). from_entries {R = bytes_cmp} es) (ap reverse (map-append entry qs (p ∷ [])) ∙ reverse-append (map entry qs) (entry p ∷ []))
+texts_push qs p =
+    ap (λ (es : List (List ℕ × List ℕ)). from_entries {R = bytes_cmp} es)
+    (ap reverse (map-append entry qs (p ∷ [])) ∙ reverse-append (map entry qs) (entry p ∷ []))
 
 -- an empty piece says nothing
-pub skips : (bytes rest p after : List ℕ) (m : Texts) → length p ≡ 0 → pieces rest ≡ nonempty (p ∷ []) ++ pieces after → ReadsSoFar bytes rest m → ReadsSoFar bytes after m
+pub skips : (bytes rest p after : List ℕ) (m : Texts) → length p ≡ 0 → pieces rest ≡ nonempty (p ∷ []) ++ pieces after
+    → ReadsSoFar bytes rest m → ReadsSoFar bytes after m
 skips bytes rest p after m none split h = record {
   done = h.done;
-  parts = h.parts ∙ ap (λ (ps : List (List ℕ)). h.done ++ ps) (split ∙ ap (λ (n : ℕ). cond (not (eqb n 0)) (p ∷ []) [] ++ pieces after) none);
+  parts = h.parts
+      ∙ ap (λ (ps : List (List ℕ)). h.done ++ ps)
+      (split ∙ ap (λ (n : ℕ). cond (not (eqb n 0)) (p ∷ []) [] ++ pieces after) none);
   texts = h.texts;
 }
 
 -- a piece that isn't empty is the next one
-next : (bytes rest p after : List ℕ) (m : Texts) → eqb (length p) 0 ≡ false → pieces rest ≡ nonempty (p ∷ []) ++ pieces after → (h : ReadsSoFar bytes rest m) → pieces bytes ≡ h.done ++ p ∷ pieces after
+next : (bytes rest p after : List ℕ) (m : Texts) → eqb (length p) 0 ≡ false
+    → pieces rest ≡ nonempty (p ∷ []) ++ pieces after → (h : ReadsSoFar bytes rest m)
+    → pieces bytes ≡ h.done ++ p ∷ pieces after
 next bytes rest p after m some split h =
-    h.parts ∙ ap (λ (ps : List (List ℕ)). h.done ++ ps) (split ∙ ap (λ (b : Bool). cond (not b) (p ∷ []) [] ++ pieces after) some)
+    h.parts ∙ ap (λ (ps : List (List ℕ)). h.done ++ ps)
+    (split ∙ ap (λ (b : Bool). cond (not b) (p ∷ []) [] ++ pieces after) some)
 
-pub keeps : (bytes rest p after : List ℕ) (m : Texts) (key value : List ℕ) → eqb (length p) 0 ≡ false → (key, value) ≡ entry p → pieces rest ≡ nonempty (p ∷ []) ++ pieces after → ReadsSoFar bytes rest m
+pub keeps : (bytes rest p after : List ℕ) (m : Texts) (key value : List ℕ) → eqb (length p) 0 ≡ false
+    → (key, value) ≡ entry p → pieces rest ≡ nonempty (p ∷ []) ++ pieces after → ReadsSoFar bytes rest m
     → ReadsSoFar bytes after (insert m key value)
 keeps bytes rest p after m key value some is split h = record {
   done = h.done ++ p ∷ [];
   parts = next bytes rest p after m some split h ∙ sym (append_assoc h.done (p ∷ []) (pieces after));
-  texts = ap (λ (e : List ℕ × List ℕ). insert m e.0 e.1) is ∙ ap (λ (n : Texts). insert n (entry p).0 (entry p).1) h.texts ∙ sym (texts_push h.done p);
+  texts = ap (λ (e : List ℕ × List ℕ). insert m e.0 e.1) is
+      ∙ ap (λ (n : Texts). insert n (entry p).0 (entry p).1) h.texts ∙ sym (texts_push h.done p);
 }
 
 pub is_read : (bytes rest : List ℕ) (m : Texts) → length rest ≡ 0 → ReadsSoFar bytes rest m → m ≡ texts (pieces bytes)
@@ -83,7 +95,8 @@ pub split_nowhere : (p : List ℕ) → position is_colon p ≡ None → (p, []) 
 split_nowhere p e =
     let past = position-none is_colon p e in
     let front : take (position_or_len is_colon p) p ≡ p = take_all (position_or_len is_colon p) p past in
-    let back : drop (position_or_len is_colon p + 1) p ≡ [] = nil_from_length _ (omega (arith, past, length-drop (position_or_len is_colon p + 1) p)) in
+    let back : drop (position_or_len is_colon p + 1) p ≡ [] =
+    nil_from_length _ (omega (arith, past, length-drop (position_or_len is_colon p + 1) p)) in
     λ i. (sym front i, sym back i)
 
 -- ---- colons
@@ -102,21 +115,30 @@ with_colon p i e = elim (eqb (length p) 0) as (λ b. list_all has_colon (cond (n
   | false ↦ rw (has_some p i e) refl
 ]
 
-pub without_colon : (p : List ℕ) → position is_colon p ≡ None → list_all has_colon (nonempty (p ∷ [])) ≡ eqb (length p) 0
+pub without_colon : (p : List ℕ) → position is_colon p ≡ None
+    → list_all has_colon (nonempty (p ∷ [])) ≡ eqb (length p) 0
 without_colon p e = elim (eqb (length p) 0) as (λ b. list_all has_colon (cond (not b) (p ∷ []) []) ≡ b) [
   | true ↦ refl
   | false ↦ rw (lacks_none p e) refl
 ]
 
 -- the pieces have colons as far as this one has and those after it have
-pub colons_split : (rest p after : List ℕ) → pieces rest ≡ nonempty (p ∷ []) ++ pieces after → list_all has_colon (pieces rest) ≡ (list_all has_colon (nonempty (p ∷ [])) && list_all has_colon (pieces after))
-colons_split rest p after split = ap (list_all has_colon) split ∙ list_all-append has_colon (nonempty (p ∷ [])) (pieces after)
+pub colons_split : (rest p after : List ℕ) → pieces rest ≡ nonempty (p ∷ []) ++ pieces after
+    → list_all has_colon (pieces rest) ≡ (list_all has_colon (nonempty (p ∷ [])) && list_all has_colon (pieces after))
+colons_split rest p after split =
+    ap (list_all has_colon) split ∙ list_all-append has_colon (nonempty (p ∷ [])) (pieces after)
 
 -- the first byte that passes stands at its position
-pub first_is_position : (wanted : ℕ) (bytes : List ℕ) (place : Option ℕ) → IsFirstByte (is_byte wanted) bytes place → place ≡ position (is_byte wanted) bytes
+pub first_is_position : (wanted : ℕ) (bytes : List ℕ) (place : Option ℕ) → IsFirstByte (is_byte wanted) bytes place
+    → place ≡ position (is_byte wanted) bytes
 first_is_position wanted bytes None nowhere =
-    let at_end = position_or_len_is (is_byte wanted) bytes (length bytes) 0 (omega arith) (λ k l. false_from_ne_true _ (nowhere k (omega arith) l)) (λ l. absurd (omega (arith, l))) in
-    sym (ap (λ n. cond (ltb n (length bytes)) (Some n) None) at_end ∙ ap (λ b. cond b (Some (length bytes)) None) (le-ltb (length bytes) (length bytes) (omega arith)))
+    let at_end =
+    position_or_len_is (is_byte wanted) bytes (length bytes) 0 (omega arith)
+    (λ k l. false_from_ne_true _ (nowhere k (omega arith) l)) (λ l. absurd (omega (arith, l))) in
+    sym (ap (λ n. cond (ltb n (length bytes)) (Some n) None) at_end
+    ∙ ap (λ b. cond b (Some (length bytes)) None) (le-ltb (length bytes) (length bytes) (omega arith)))
 first_is_position wanted bytes (Some place) found =
-    let there = position_or_len_is (is_byte wanted) bytes place 0 (omega (arith, found.0.high)) (λ k l. false_from_ne_true _ (found.0.before k (omega arith) l)) (λ l. found.1) in
-    sym (ap (λ n. cond (ltb n (length bytes)) (Some n) None) there ∙ ap (λ b. cond b (Some place) None) (lt-ltb place (length bytes) found.0.high))
+    let there = position_or_len_is (is_byte wanted) bytes place 0 (omega (arith, found.0.high))
+    (λ k l. false_from_ne_true _ (found.0.before k (omega arith) l)) (λ l. found.1) in
+    sym (ap (λ n. cond (ltb n (length bytes)) (Some n) None) there
+    ∙ ap (λ b. cond b (Some place) None) (lt-ltb place (length bytes) found.0.high))

@@ -19,6 +19,8 @@ node_code = code_by (List ℕ) (coded_list coded_ℕ) (λ n. n.0) (λ l. record 
 -- a marker is stored as the pairs of its fields
 abbrev pub fields_code : Coded Fields
 fields_code =
-    code_by ((Node × List Node) × (ℕ × Texts)) (coded× (coded× node_code (coded_list node_code)) (coded× coded_ℕ (finite.code (coded_list coded_ℕ) (coded_list coded_ℕ))))
+    code_by ((Node × List Node) × (ℕ × Texts))
+    (coded× (coded× node_code (coded_list node_code))
+    (coded× coded_ℕ (finite.code (coded_list coded_ℕ) (coded_list coded_ℕ))))
     (λ m. ((m.predecessor, m.successors), (m.flags, m.metadata)))
     (λ p. record { predecessor = p.0.0; successors = p.0.1; flags = p.1.0; metadata = p.1.1 }) (λ _. refl)

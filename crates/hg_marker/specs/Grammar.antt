@@ -19,7 +19,8 @@ ids ns = flat_map (λ n. n.0) ns
 -- the number of successors in one byte, the length of the metadata in four, the flags in one, the predecessor, the
 -- successors, and the metadata
 abbrev pub layout : Fields → List ℕ → List ℕ
-layout m text = length m.successors ∷ to_be_bytes w32 (length text) ++ m.flags ∷ m.predecessor.0 ++ ids m.successors ++ text
+layout m text =
+    length m.successors ∷ to_be_bytes w32 (length text) ++ m.flags ∷ m.predecessor.0 ++ ids m.successors ++ text
 
 -- the fields apart from the metadata have room in the layout, and no successor is the null id
 pub record Fits (m : Fields) : Type 0 where

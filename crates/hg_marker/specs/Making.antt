@@ -4,7 +4,8 @@ use Rattle.std.specs.List.{list_any}
 use Rattle.std.specs.FinMap.{entries}
 use Rattle.hg_changeset.specs.Node.{null_node, node_eq}
 use Rattle.hg_marker.specs.declared.error.MarkerError.{MarkerError}
-use Rattle.hg_marker.specs.declared.error.MarkerError.TheVariants.{SelfSuccessor, NullSuccessor, BadKey, BadValue, TooManySuccessors, MetaTooLong}
+use Rattle.hg_marker.specs.declared.error.MarkerError.TheVariants.{SelfSuccessor, NullSuccessor, BadKey, BadValue}
+use Rattle.hg_marker.specs.declared.error.MarkerError.TheVariants.{TooManySuccessors, MetaTooLong}
 use Rattle.hg_marker.specs.Fields.{Fields}
 use Rattle.hg_marker.specs.Texts.{Texts}
 use Rattle.hg_marker.specs.Metadata.{is_nul, is_colon, written}

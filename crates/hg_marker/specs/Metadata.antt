@@ -1,5 +1,6 @@
 -- How metadata is spelled, and what a spelling says.
-use Rattle.std.specs.Prelude.{◌≡◌, ℕ, ◌==◌, List, ◌∷◌, ◌++◌, length, map, filter, reverse, Bool, true, false, not, if◌then◌else◌, Result, Ok, Err}
+use Rattle.std.specs.Prelude.{◌≡◌, ℕ, ◌==◌, List, ◌∷◌, ◌++◌, length, map, filter, reverse, Bool, true, false, not}
+use Rattle.std.specs.Prelude.{if◌then◌else◌, Result, Ok, Err}
 use Rattle.std.specs.List.{All, slice_split, join_with_byte, before_first, after_first, list_any, list_all}
 use Rattle.std.specs.FinMap.{entries, from_entries}
 use Rattle.hg_marker.specs.Texts.{Texts}

@@ -1,6 +1,7 @@
 -- Reading from left to right, up to the first fault that is met. A reader takes its part from the front of the bytes,
 -- and answers what the part says and the bytes after it, or a fault. The lines of a format are readers in their order.
-use Rattle.std.specs.Prelude.{◌≡◌, ℕ, zero, suc, List, [], ◌∷◌, length, take, drop, Bool, nat_lt, if◌then◌else◌, Result, Ok, Err}
+use Rattle.std.specs.Prelude.{◌≡◌, ℕ, zero, suc, List, [], ◌∷◌, length, take, drop, Bool, nat_lt, if◌then◌else◌, Result}
+use Rattle.std.specs.Prelude.{Ok, Err}
 use Rattle.std.specs.Int.{w32, from_be_bytes}
 use Rattle.hg_changeset.specs.declared.node.Node.{Node}
 use Rattle.hg_marker.specs.declared.error.ReadError.{ReadError}

@@ -17,7 +17,9 @@ same_texts a b = same_pairs (finite.entries a) (finite.entries b)
 
 -- the same predecessor, flags, successors in the same order, and metadata
 unfoldable pub same_fields : Fields → Fields → Bool
-same_fields m n = node_eq m.predecessor n.predecessor && (m.flags == n.flags && (pointwise node_eq m.successors n.successors && same_texts m.metadata n.metadata))
+same_fields m n =
+    node_eq m.predecessor n.predecessor
+    && (m.flags == n.flags && (pointwise node_eq m.successors n.successors && same_texts m.metadata n.metadata))
 
 pub texts_decides : (a b : Texts) → Decides (same_texts a b) (a ≡ b)
 texts_decides a b =
@@ -29,8 +31,11 @@ unfolding same_fields
 fields_decides m n =
     let nodes = pointwise_decides node_eq_decides m.successors n.successors in (
       (λ h.
-          let p = and_parts (node_eq m.predecessor n.predecessor) (m.flags == n.flags && (pointwise node_eq m.successors n.successors && same_texts m.metadata n.metadata)) h in
-          let f = and_parts (m.flags == n.flags) (pointwise node_eq m.successors n.successors && same_texts m.metadata n.metadata) p.1 in
+          let p = and_parts (node_eq m.predecessor n.predecessor)
+          (m.flags == n.flags && (pointwise node_eq m.successors n.successors && same_texts m.metadata n.metadata))
+          h in
+          let f = and_parts (m.flags == n.flags)
+          (pointwise node_eq m.successors n.successors && same_texts m.metadata n.metadata) p.1 in
           let s = and_parts (pointwise node_eq m.successors n.successors) (same_texts m.metadata n.metadata) f.1 in
           λ i. record {
             predecessor = (node_eq_decides m.predecessor n.predecessor).0 p.0 i;
@@ -38,9 +43,11 @@ fields_decides m n =
             flags = (unsigned_Decides m.flags n.flags).0 f.0 i;
             metadata = (texts_decides m.metadata n.metadata).0 s.1 i;
           }),
-      (λ e. and_from (node_eq m.predecessor n.predecessor) (m.flags == n.flags && (pointwise node_eq m.successors n.successors && same_texts m.metadata n.metadata))
+      (λ e. and_from (node_eq m.predecessor n.predecessor)
+          (m.flags == n.flags && (pointwise node_eq m.successors n.successors && same_texts m.metadata n.metadata))
           ((node_eq_decides m.predecessor n.predecessor).1 (ap (λ (x : Fields). x.predecessor) e))
-          (and_from (m.flags == n.flags) (pointwise node_eq m.successors n.successors && same_texts m.metadata n.metadata)
+          (and_from (m.flags == n.flags)
+          (pointwise node_eq m.successors n.successors && same_texts m.metadata n.metadata)
           ((unsigned_Decides m.flags n.flags).1 (ap (λ (x : Fields). x.flags) e))
           (and_from (pointwise node_eq m.successors n.successors) (same_texts m.metadata n.metadata)
           (nodes.1 (ap (λ (x : Fields). x.successors) e))

@@ -1,6 +1,7 @@
 //! Why fields make no marker, and why bytes are none.
 ghost use Rattle.std.specs.Prelude.{◌≡◌, Some};
-ghost use Rattle.hg_marker.specs.Refusals.{marker_error_number, marker_error_name, marker_fault_number, marker_fault_name};
+ghost use Rattle.hg_marker.specs.Refusals.{marker_error_number, marker_error_name, marker_fault_number};
+ghost use Rattle.hg_marker.specs.Refusals.{marker_fault_name};
 ghost use Rattle.hg_marker.specs.ReadErrors.{fault_of};
 ghost use Rattle.hg_marker.specs.declared.error.ReadError.TheVariants.{NoMemory};
 

@@ -3,7 +3,8 @@
 //! A marker is a head of six bytes, the ids of its predecessor and successors, and its metadata. Written it has one
 //! spelling. Metadata may be spelled in further ways, which are read, so that equal markers may come from different
 //! bytes.
-ghost use Rattle.std.specs.Prelude.{◌≡◌, ◌≤◌, ◌+◌, ◌++◌, ◌*◌, List, ℕ, length, take, IfOk, OnOk, OnErr, IsErrOf, Ok, true, vec_len, vec_capacity};
+ghost use Rattle.std.specs.Prelude.{◌≡◌, ◌≤◌, ◌+◌, ◌++◌, ◌*◌, List, ℕ, length, take, IfOk, OnOk, OnErr, IsErrOf, Ok};
+ghost use Rattle.std.specs.Prelude.{true, vec_len, vec_capacity};
 ghost use Rattle.hg_marker.specs.declared.error.MarkerFault.{MarkerFault};
 ghost use Rattle.hg_marker.specs.declared.error.ReadError.TheVariants.{Fault};
 ghost use Rattle.std.specs.List.{list_all};
@@ -141,8 +142,8 @@ pub fn skip_marker(bytes: &[u8]) -> Result<&[u8], MarkerFault>
     }
 }
 
-/// Reads the marker at the front of the bytes, and answers it with the bytes after it. A fault is told before any memory
-/// is taken.
+/// Reads the marker at the front of the bytes, and answers it with the bytes after it. A fault is told before any
+/// memory is taken.
 ///
 /// Refuses with the first [`MarkerFault`] that applies, in the order in which they are numbered.
 pub fn read_marker(alloc: Global, bytes: &[u8]) -> Result<(Marker, &[u8]), ReadError<MarkerFault>>
@@ -186,6 +187,8 @@ fn marker_and_used(alloc: Global, bytes: &[u8]) -> Result<(Marker, usize), ReadE
 /// The laws of spellings: no spelling of a marker begins another or has two meanings, and what [`encode`] writes of
 /// any marker is read as that marker, whatever follows.
 pub fn spelling_laws()
-    ensures once { (m n : Fields) (a b x y : List ℕ) → IsSpelling m a → IsSpelling n b → a ++ x ≡ b ++ y → (a ≡ b) × (m ≡ n) }
-    ensures again { (m : Fields) (rest : List ℕ) → IsMarker m → marker_and_length (spelling m ++ rest) ≡ Ok (m, length (spelling m)) }
+    ensures once { (m n : Fields) (a b x y : List ℕ) → IsSpelling m a → IsSpelling n b → a ++ x ≡ b ++ y
+        → (a ≡ b) × (m ≡ n) }
+    ensures again { (m : Fields) (rest : List ℕ) → IsMarker m
+        → marker_and_length (spelling m ++ rest) ≡ Ok (m, length (spelling m)) }
 {}

@@ -1,9 +1,10 @@
 //! The metadata of a marker.
 //!
-//! Metadata is a map from keys to values, both byte strings. Any byte string may be a key or a value here; which of them
-//! a marker can have is asked when the marker is made. What can be written is kept as it is written, in one piece; only
-//! what no marker can have is kept as a map.
-ghost use Rattle.std.specs.Prelude.{◌≡◌, ◌≤◌, ◌+◌, ◌++◌, ◌^◌, ◌-◌, OnOk, OnErr, IfOk, IsOk, option_copied, length, min, true, vec_len, vec_capacity};
+//! Metadata is a map from keys to values, both byte strings. Any byte string may be a key or a value here; which of
+//! them a marker can have is asked when the marker is made. What can be written is kept as it is written, in one piece;
+//! only what no marker can have is kept as a map.
+ghost use Rattle.std.specs.Prelude.{◌≡◌, ◌≤◌, ◌+◌, ◌++◌, ◌^◌, ◌-◌, OnOk, OnErr, IfOk, IsOk, option_copied, length, min};
+ghost use Rattle.std.specs.Prelude.{true, vec_len, vec_capacity};
 ghost use Rattle.std.specs.FinMap as finite;
 ghost use Rattle.hg_marker.specs.Metadata.{written, texts, pieces, has_colon};
 ghost use Rattle.hg_marker.specs.Making.{has_bad_key, has_bad_value, is_writable};
@@ -224,7 +225,8 @@ impl Metadata {
     // It can't fail where there is room for what can be written.
     pub(crate) fn write_onto(&self, out: &mut Vec<u8>) -> Result<(), AllocError>
         ensures ok { OnOk result (out.new.items ≡ out.old.items ++ written self.now) }
-        ensures succeeds { is_writable self.now ≡ true → vec_len out.old + length (written self.now) ≤ vec_capacity out.old → IsOk result }
+        ensures succeeds { is_writable self.now ≡ true
+            → vec_len out.old + length (written self.now) ≤ vec_capacity out.old → IsOk result }
     {
         match &self.form {
             Form::Written(texts) => out.extend_from_slice(texts.as_bytes()),

@@ -1,9 +1,10 @@
 //! The reader of metadata.
 //!
-//! Metadata is spelled as pieces between NULs, each a key, a colon and its value. A piece is split at its first colon, so
-//! a value may hold further ones; an empty piece says nothing; and of equal keys the later one wins. The bytes are walked
-//! piece by piece, so that no list of pieces is kept: metadata of NULs alone takes no memory.
-ghost use Rattle.std.specs.Prelude.{◌≡◌, ◌==◌, ◌++◌, ◌<◌, [], ◌∷◌, length, position, map, option_copied, IfOk, IfSome, IfNone, true};
+//! Metadata is spelled as pieces between NULs, each a key, a colon and its value. A piece is split at its first colon,
+//! so a value may hold further ones; an empty piece says nothing; and of equal keys the later one wins. The bytes are
+//! walked piece by piece, so that no list of pieces is kept: metadata of NULs alone takes no memory.
+ghost use Rattle.std.specs.Prelude.{◌≡◌, ◌==◌, ◌++◌, ◌<◌, [], ◌∷◌, length, position, map, option_copied, IfOk, IfSome};
+ghost use Rattle.std.specs.Prelude.{IfNone, true};
 ghost use Rattle.std.specs.List.{list_all};
 ghost use Rattle.hg_marker.specs.Metadata.{pieces, nonempty, has_colon, entry, texts};
 ghost use Rattle.hg_marker.specs.Written.{IsWritten, is_behind};
@@ -98,7 +99,8 @@ fn is_well_formed(piece: &[u8]) -> bool
     }
 }
 
-// Whether bytes that spell metadata are its one written spelling: the keys ascend, and nothing stands beside the pieces.
+// Whether bytes that spell metadata are its one written spelling: the keys ascend, and nothing stands beside the
+// pieces.
 pub(crate) fn is_written(bytes: &[u8]) -> bool
     requires colons { list_all has_colon (pieces bytes.now) ≡ true }
     ensures { result ≡ true → IsWritten bytes.now }

@@ -1,11 +1,12 @@
 //! Fields at the front of bytes.
 //!
-//! A reader takes its field from the front of the bytes, and answers what the field says with the bytes after it, or the
-//! fault that the caller names where the field isn't whole. A format reads its fields one after the other, each with `?`.
-//! Readers take no memory.
+//! A reader takes its field from the front of the bytes, and answers what the field says with the bytes after it, or
+//! the fault that the caller names where the field isn't whole. A format reads its fields one after the other, each
+//! with `?`. Readers take no memory.
 ghost use Rattle.hg_marker.specs.Reading.{IsReading, field, number, byte, node, nodes, ids_in};
 ghost use Rattle.hg_changeset.specs.Node.{null_node, node_eq};
-ghost use Rattle.std.specs.Prelude.{◌≡◌, ◌+◌, ◌++◌, ◌*◌, ◌≤◌, length, take, drop, IfOk, IsOk, OnOk, OnErr, vec_len, vec_capacity};
+ghost use Rattle.std.specs.Prelude.{◌≡◌, ◌+◌, ◌++◌, ◌*◌, ◌≤◌, length, take, drop, IfOk, IsOk, OnOk, OnErr, vec_len};
+ghost use Rattle.std.specs.Prelude.{vec_capacity};
 ghost use Rattle.std.specs.List.{list_any};
 ghost use Rattle.std.specs.Int.{w32, to_be_bytes};
 

@@ -175,8 +175,8 @@ fn skips_a_marker(rt: HostRuntime) {
     assert_eq!(rt; skip_marker(&bytes).expect(&rt, "memory"), [7].as_slice());
 }
 
-// A marker of the null id without successors, with NULs alone as metadata, of this length; and a byte more than the limit
-// takes.
+// A marker of the null id without successors, with NULs alone as metadata, of this length; and a byte more than the
+// limit takes.
 fn nuls(rt: &impl Abort, alloc: Global, len: &[u8; 4]) -> Vec<u8> {
     let mut bytes = vec![in alloc; 0u8; 26 + 1_048_577].expect(rt, "memory");
     bytes[1..5].copy_from_slice(len);

@@ -1,5 +1,6 @@
 -- Indexes after the last marker was forgotten.
-use Rattle.std.proofs.Common.{◌≡◌, ◌≢◌, ◌<◌, ◌+◌, ◌++◌, ◌∷◌, [], ◌∙◌, ◌⊎◌, inl, inr, ⊎_elim, arith, sym, ap, subst, ℕ, List, refl, length, length-append, get_or, Contains, take}
+use Rattle.std.proofs.Common.{◌≡◌, ◌≢◌, ◌<◌, ◌+◌, ◌++◌, ◌∷◌, [], ◌∙◌, ◌⊎◌, inl, inr, ⊎_elim, arith, sym, ap, subst, ℕ}
+use Rattle.std.proofs.Common.{List, refl, length, length-append, get_or, Contains, take}
 use Rattle.std.proofs.lemmas.List.{get_or_append_left, get_or_push, take_more, take_all, length-take}
 use Rattle.std.proofs.lemmas.List.Elements.{Contains-push, Contains-push_cases, Contains-append_left}
 use Rattle.std.proofs.lemmas.List.Kept.{AllPairs-from_increasing}
@@ -19,13 +20,17 @@ use Rattle.hg_obsstore.proofs.StoreLemmas.{stays, was, last}
 
 end_view : (xs : List ℕ) → (xs ≡ []) ⊎ ((front : List ℕ) × (l : ℕ) × (xs ≡ front ++ l ∷ []))
 end_view [] = inl refl
-end_view (x ∷ xs) = ⊎_elim (λ (e : xs ≡ []). inr ([], x, ap (λ (ys : List ℕ). x ∷ ys) e)) (λ (h : (front : List ℕ) × (l : ℕ) × (xs ≡ front ++ l ∷ [])). inr (x ∷ h.0, h.1, ap (λ (ys : List ℕ). x ∷ ys) h.2)) (end_view xs)
+end_view (x ∷ xs) =
+    ⊎_elim (λ (e : xs ≡ []). inr ([], x, ap (λ (ys : List ℕ). x ∷ ys) e))
+    (λ (h : (front : List ℕ) × (l : ℕ) × (xs ≡ front ++ l ∷ [])). inr (x ∷ h.0, h.1, ap (λ (ys : List ℕ). x ∷ ys) h.2))
+    (end_view xs)
 
 increasing_front : (xs : List ℕ) (l : ℕ) → IsStrictlyIncreasing (xs ++ l ∷ []) → IsStrictlyIncreasing xs
 increasing_front xs l up j h =
     let lt : j < length xs = omega (arith, h) in
     let long : length (xs ++ l ∷ []) ≡ length xs + 1 = length-append xs (l ∷ []) in
-    rw (← get_or_append_left xs (l ∷ []) 0 (j + 1) h, ← get_or_append_left xs (l ∷ []) 0 j lt) (up j (omega (arith, h, long)))
+    rw (← get_or_append_left xs (l ∷ []) 0 (j + 1) h, ← get_or_append_left xs (l ∷ []) 0 j lt)
+    (up j (omega (arith, h, long)))
 
 below_last : (xs : List ℕ) (l i : ℕ) → IsStrictlyIncreasing (xs ++ l ∷ []) → Contains xs i → i < l
 below_last xs l i up h =
@@ -47,7 +52,9 @@ module _ (Q : ℕ → Type 0) (ps : List ℕ) (k : ℕ) (all : ListsAll Q ps) (w
     all = record {
       ascending = all.ascending;
       exact = λ i. (
-        (λ h. let q = (all.exact i).0 h in ⊎_elim (λ (e : i ≡ k). absurd (absent (subst (Contains ps) e h))) (λ (other : i ≢ k). let le = within i q in let lt : i < k = omega (arith, le, other) in (lt, q)) (cases_eq i k)),
+        (λ h. let q = (all.exact i).0 h in
+            ⊎_elim (λ (e : i ≡ k). absurd (absent (subst (Contains ps) e h))) (λ (other : i ≢ k). let le = within i q in
+            let lt : i < k = omega (arith, le, other) in (lt, q)) (cases_eq i k)),
         (λ h. (all.exact i).1 h.1),
       );
     };
@@ -62,8 +69,13 @@ module _ (Q : ℕ → Type 0) (ps : List ℕ) (k : ℕ) (all : ListsAll Q ps) (w
         all = record {
           ascending = increasing_front front k up;
           exact = λ i. (
-            (λ h. (below_last front k i up h, (all.exact i).0 (subst (λ xs. Contains xs i) (sym e) (Contains-append_left front (k ∷ []) i h)))),
-            (λ h. ⊎_elim (λ (c : Contains front i). c) (λ (same : k ≡ i). let lt = h.0 in absurd (omega (arith, lt, same))) (Contains-push_cases front k i (subst (λ xs. Contains xs i) e ((all.exact i).1 h.1)))),
+            (λ h. (
+              below_last front k i up h,
+              (all.exact i).0 (subst (λ xs. Contains xs i) (sym e) (Contains-append_left front (k ∷ []) i h)),
+            )),
+            (λ h. ⊎_elim (λ (c : Contains front i). c) (λ (same : k ≡ i). let lt = h.0 in
+                absurd (omega (arith, lt, same)))
+                (Contains-push_cases front k i (subst (λ xs. Contains xs i) e ((all.exact i).1 h.1)))),
           );
         };
         whole = inr ((all.exact k).0 (subst (λ xs. Contains xs k) (sym e) (Contains-push front k)), e);
@@ -71,7 +83,8 @@ module _ (Q : ℕ → Type 0) (ps : List ℕ) (k : ℕ) (all : ListsAll Q ps) (w
 
   pub split : Split Q ps k
   split = ⊎_elim
-      (λ (e : ps ≡ []). without_k (λ h. let n : Contains [] k = subst (λ xs. Contains xs k) e h in absurd (omega (arith, n.1))))
+      (λ (e : ps ≡ []). without_k (λ h. let n : Contains [] k = subst (λ xs. Contains xs k) e h in
+      absurd (omega (arith, n.1))))
       (λ (h : (front : List ℕ) × (l : ℕ) × (ps ≡ front ++ l ∷ [])). ⊎_elim
       (λ (same : h.1 ≡ k). with_k h.0 (h.2 ∙ ap (λ l. h.0 ++ l ∷ []) same))
       (λ (other : h.1 ≢ k). without_k (λ c. ⊎_elim
@@ -84,14 +97,17 @@ module _ (Q : ℕ → Type 0) (ps : List ℕ) (k : ℕ) (all : ListsAll Q ps) (w
       (end_view ps)
 
 -- an index without the last marker
-pub indexed_forget : (nodes_of : Fields → List Node) (ms : List Fields) (m : Fields) (old new : Node → List ℕ) → IsIndexBy nodes_of (ms ++ m ∷ []) old → TakesPlaces (nodes_of m) (length ms) old new → IsIndexBy nodes_of ms new
+pub indexed_forget : (nodes_of : Fields → List Node) (ms : List Fields) (m : Fields) (old new : Node → List ℕ)
+    → IsIndexBy nodes_of (ms ++ m ∷ []) old → TakesPlaces (nodes_of m) (length ms) old new → IsIndexBy nodes_of ms new
 indexed_forget nodes_of ms m old new all takes =
     let Q : Node → ℕ → Type 0 = λ n. IsAt (λ x. Contains (nodes_of x) n) (ms ++ m ∷ []) in
     let each : (n : Node) → Split (Q n) (old n) (length ms) = λ n. split (Q n) (old n) (length ms) (all n)
     (λ i q. let lt = slice_get_within (ms ++ m ∷ []) i q.0 q.1 in omega (arith, lt, length-append ms (m ∷ []))) in
-    let same : (n : Node) → new n ≡ (each n).front = takes.restores (λ n. (each n).front) (λ n i h. (((each n).all.exact i).0 h).0)
+    let same : (n : Node) → new n ≡ (each n).front =
+    takes.restores (λ n. (each n).front) (λ n i h. (((each n).all.exact i).0 h).0)
     (λ n. ⊎_elim (λ (e : old n ≡ (each n).front). inl e)
-    (λ (h : Q n (length ms) × (old n ≡ (each n).front ++ length ms ∷ [])). inr (subst (λ x. Contains (nodes_of x) n) (same_Some _ _ (sym h.0.1 ∙ last ms m)) h.0.2, h.1)) (each n).whole) in
+    (λ (h : Q n (length ms) × (old n ≡ (each n).front ++ length ms ∷ [])). inr
+    (subst (λ x. Contains (nodes_of x) n) (same_Some _ _ (sym h.0.1 ∙ last ms m)) h.0.2, h.1)) (each n).whole) in
     λ n. subst (ListsAll (IsAt (λ x. Contains (nodes_of x) n) ms)) (sym (same n)) (record {
       ascending = (each n).all.ascending;
       exact = λ i. (
@@ -100,20 +116,27 @@ indexed_forget nodes_of ms m old new all takes =
       );
     })
 
-pub cut_at : (xs : List Fields) (x : Fields) (place : ℕ) → place + 1 ≡ length xs → x ≡ get_or xs place x → (xs ≡ take place xs ++ x ∷ []) × (length (take place xs) ≡ place)
+pub cut_at : (xs : List Fields) (x : Fields) (place : ℕ) → place + 1 ≡ length xs → x ≡ get_or xs place x
+    → (xs ≡ take place xs ++ x ∷ []) × (length (take place xs) ≡ place)
 cut_at xs x place at read =
     let lt : place < length xs = omega (arith, at) in (
-      sym (take_all (place + 1) xs (omega (arith, at))) ∙ take_more xs place x lt ∙ ap (λ y. take place xs ++ y ∷ []) (sym read),
+      sym (take_all (place + 1) xs (omega (arith, at))) ∙ take_more xs place x lt
+          ∙ ap (λ y. take place xs ++ y ∷ []) (sym read),
       omega (arith, length-take place xs, at),
     )
 
-pub all_forget : (xs : List Fields) (x : Fields) (place : ℕ) (old new : Index) → place + 1 ≡ length xs → x ≡ get_or xs place x → AreIndexed xs old → TakeMarker x place old new → AreIndexed (take place xs) new
+pub all_forget : (xs : List Fields) (x : Fields) (place : ℕ) (old new : Index) → place + 1 ≡ length xs
+    → x ≡ get_or xs place x → AreIndexed xs old → TakeMarker x place old new → AreIndexed (take place xs) new
 all_forget xs x place old new at read all takes =
     let cut = cut_at xs x place at read in
     let here : AreIndexed (take place xs ++ x ∷ []) old = subst (λ ys. AreIndexed ys old) cut.0 all in
     let gone : TakeMarker x (length (take place xs)) old new = subst (λ n. TakeMarker x n old new) (sym cut.1) takes in
     record {
-      predecessor = indexed_forget predecessors (take place xs) x (places_of Predecessor old) (places_of Predecessor new) here.predecessor gone.predecessor;
-      successor = indexed_forget successors (take place xs) x (places_of Successor old) (places_of Successor new) here.successor gone.successor;
-      child = indexed_forget recorded_parents (take place xs) x (places_of Parent old) (places_of Parent new) here.child gone.child;
+      predecessor =
+          indexed_forget predecessors (take place xs) x (places_of Predecessor old) (places_of Predecessor new)
+          here.predecessor gone.predecessor;
+      successor = indexed_forget successors (take place xs) x (places_of Successor old) (places_of Successor new)
+          here.successor gone.successor;
+      child = indexed_forget recorded_parents (take place xs) x (places_of Parent old) (places_of Parent new) here.child
+          gone.child;
     }

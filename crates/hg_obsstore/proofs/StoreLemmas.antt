@@ -1,5 +1,6 @@
 -- A store's markers and indexes after one marker more.
-use Rattle.std.proofs.Common.{◌≡◌, ◌<◌, ◌+◌, ◌++◌, ◌∷◌, [], ◌∙◌, ⊎_elim, arith, sym, ap, subst, ℕ, List, Bool, true, false, Some, refl, length, length-append, slice_get, get_or, Contains, take, not}
+use Rattle.std.proofs.Common.{◌≡◌, ◌<◌, ◌+◌, ◌++◌, ◌∷◌, [], ◌∙◌, ⊎_elim, arith, sym, ap, subst, ℕ, List, Bool, true}
+use Rattle.std.proofs.Common.{false, Some, refl, length, length-append, slice_get, get_or, Contains, take, not}
 use Rattle.std.proofs.lemmas.List.{get_or_append_left, get_or_push}
 use Rattle.std.proofs.lemmas.List.Elements.{Contains-push}
 use Rattle.std.proofs.lemmas.Option.{slice_get_within, slice_get_read, get_or_from_slice_get, same_Some}
@@ -28,13 +29,17 @@ module _ {A : Type 0} (xs : List A) (m : A) where
   pub stays : (i : ℕ) (x : A) → slice_get xs i ≡ Some x → slice_get (xs ++ m ∷ []) i ≡ Some x
   stays i x h =
       let lt = slice_get_within xs i x h in
-      slice_get_read (xs ++ m ∷ []) (length (xs ++ m ∷ [])) i x refl (omega (arith, lt, long)) (sym (get_or_from_slice_get xs i x x h) ∙ sym (get_or_append_left xs (m ∷ []) x i lt))
+      slice_get_read (xs ++ m ∷ []) (length (xs ++ m ∷ [])) i x refl (omega (arith, lt, long))
+      (sym (get_or_from_slice_get xs i x x h) ∙ sym (get_or_append_left xs (m ∷ []) x i lt))
 
   pub was : (i : ℕ) (x : A) → slice_get (xs ++ m ∷ []) i ≡ Some x → i < length xs → slice_get xs i ≡ Some x
-  was i x h lt = slice_get_read xs (length xs) i x refl lt (sym (get_or_from_slice_get (xs ++ m ∷ []) i x x h) ∙ get_or_append_left xs (m ∷ []) x i lt)
+  was i x h lt =
+      slice_get_read xs (length xs) i x refl lt
+      (sym (get_or_from_slice_get (xs ++ m ∷ []) i x x h) ∙ get_or_append_left xs (m ∷ []) x i lt)
 
   pub last : slice_get (xs ++ m ∷ []) (length xs) ≡ Some m
-  last = slice_get_read (xs ++ m ∷ []) (length (xs ++ m ∷ [])) (length xs) m refl (omega (arith, long)) (sym (get_or_push xs m m (length xs) refl))
+  last = slice_get_read (xs ++ m ∷ []) (length (xs ++ m ∷ [])) (length xs) m refl (omega (arith, long))
+      (sym (get_or_push xs m m (length xs) refl))
 
 module _ (P : Fields → Type 0) (ms : List Fields) (m : Fields) (ps : List ℕ) (all : ArePlaces P ms ps) where
   before : ListsAll (λ i. (i < length ms) × IsAt P (ms ++ m ∷ []) i) ps
@@ -50,16 +55,24 @@ module _ (P : Fields → Type 0) (ms : List Fields) (m : Fields) (ps : List ℕ)
   inside i h = let lt = slice_get_within (ms ++ m ∷ []) i h.0 h.1 in omega (arith, lt, length-append ms (m ∷ []))
 
   pub places_push_yes : P m → ArePlaces P (ms ++ m ∷ []) (ps ++ length ms ∷ [])
-  places_push_yes p = all_listed (IsAt P (ms ++ m ∷ [])) (ps ++ length ms ∷ []) (length ms + 1) (one_more (IsAt P (ms ++ m ∷ [])) ps (length ms) before (m, last ms m, p)) inside
+  places_push_yes p =
+      all_listed (IsAt P (ms ++ m ∷ [])) (ps ++ length ms ∷ []) (length ms + 1)
+      (one_more (IsAt P (ms ++ m ∷ [])) ps (length ms) before (m, last ms m, p)) inside
 
   pub places_push_no : (P m → ⊥) → ArePlaces P (ms ++ m ∷ []) ps
-  places_push_no not = all_listed (IsAt P (ms ++ m ∷ [])) ps (length ms + 1) (no_more (IsAt P (ms ++ m ∷ [])) ps (length ms) before (λ h. not (subst P (same_Some _ _ (sym h.1 ∙ last ms m)) h.2))) inside
+  places_push_no not =
+      all_listed (IsAt P (ms ++ m ∷ [])) ps (length ms + 1)
+      (no_more (IsAt P (ms ++ m ∷ [])) ps (length ms) before
+      (λ h. not (subst P (same_Some _ _ (sym h.1 ∙ last ms m)) h.2))) inside
 
 module _ (nodes_of : Fields → List Node) (ms : List Fields) where
-  pub indexed_push : (m : Fields) (old new : Node → List ℕ) → IsIndexBy nodes_of ms old → AddsPlace (nodes_of m) (length ms) old new → IsIndexBy nodes_of (ms ++ m ∷ []) new
+  pub indexed_push : (m : Fields) (old new : Node → List ℕ) → IsIndexBy nodes_of ms old
+      → AddsPlace (nodes_of m) (length ms) old new → IsIndexBy nodes_of (ms ++ m ∷ []) new
   indexed_push m old new all adds n = ⊎_elim
-      (λ (yes : Contains (nodes_of m) n). subst (ArePlaces (λ x. Contains (nodes_of x) n) (ms ++ m ∷ [])) (sym (adds.here n yes)) (places_push_yes (λ x. Contains (nodes_of x) n) ms m (old n) (all n) yes))
-      (λ (no : ¬ Contains (nodes_of m) n). subst (ArePlaces (λ x. Contains (nodes_of x) n) (ms ++ m ∷ [])) (sym (adds.others n no)) (places_push_no (λ x. Contains (nodes_of x) n) ms m (old n) (all n) no))
+      (λ (yes : Contains (nodes_of m) n). subst (ArePlaces (λ x. Contains (nodes_of x) n) (ms ++ m ∷ []))
+      (sym (adds.here n yes)) (places_push_yes (λ x. Contains (nodes_of x) n) ms m (old n) (all n) yes))
+      (λ (no : ¬ Contains (nodes_of m) n). subst (ArePlaces (λ x. Contains (nodes_of x) n) (ms ++ m ∷ []))
+      (sym (adds.others n no)) (places_push_no (λ x. Contains (nodes_of x) n) ms m (old n) (all n) no))
       (among_or_not (nodes_of m) n)
 
   pub indexed_below : (old : Node → List ℕ) → IsIndexBy nodes_of ms old → AreBelow old (length ms)
@@ -72,10 +85,14 @@ all_below ms index all = record {
   child = indexed_below recorded_parents ms (places_of Parent index) all.child;
 }
 
-pub all_push : (ms : List Fields) (m : Fields) (old new : Index) → AreIndexed ms old → AddMarker m (length ms) old new → AreIndexed (ms ++ m ∷ []) new
+pub all_push : (ms : List Fields) (m : Fields) (old new : Index) → AreIndexed ms old → AddMarker m (length ms) old new
+    → AreIndexed (ms ++ m ∷ []) new
 all_push ms m old new all adds = record {
-  predecessor = indexed_push predecessors ms m (places_of Predecessor old) (places_of Predecessor new) all.predecessor adds.predecessor;
-  successor = indexed_push successors ms m (places_of Successor old) (places_of Successor new) all.successor adds.successor;
+  predecessor =
+      indexed_push predecessors ms m (places_of Predecessor old) (places_of Predecessor new) all.predecessor
+      adds.predecessor;
+  successor = indexed_push successors ms m (places_of Successor old) (places_of Successor new) all.successor
+      adds.successor;
   child = indexed_push recorded_parents ms m (places_of Parent old) (places_of Parent new) all.child adds.child;
 }
 
@@ -101,22 +118,28 @@ pub told_new : (b r : Bool) → r ≡ not b → r ≡ true → b ≡ false
 told_new true r e f = absurd (false≢true (sym e ∙ f))
 told_new false r e f = refl
 
-pub inserted_known : (ms : List Fields) (m : Fields) → list_any (same_fields m) ms ≡ true → insert_key same_fields ms m ≡ ms
+pub inserted_known : (ms : List Fields) (m : Fields) → list_any (same_fields m) ms ≡ true
+    → insert_key same_fields ms m ≡ ms
 inserted_known ms m h = rw h refl
 
-pub inserted_new : (ms : List Fields) (m : Fields) → list_any (same_fields m) ms ≡ false → insert_key same_fields ms m ≡ ms ++ m ∷ []
+pub inserted_new : (ms : List Fields) (m : Fields) → list_any (same_fields m) ms ≡ false
+    → insert_key same_fields ms m ≡ ms ++ m ∷ []
 inserted_new ms m h = rw h refl
 
-pub read_last : (ms xs : List Fields) (m x : Fields) (place : ℕ) → xs ≡ ms ++ m ∷ [] → place ≡ length ms → x ≡ get_or xs place x → x ≡ m
-read_last ms xs m x place e at read = read ∙ ap (λ (ys : List Fields). get_or ys place x) e ∙ get_or_push ms m x place (sym at)
+pub read_last : (ms xs : List Fields) (m x : Fields) (place : ℕ) → xs ≡ ms ++ m ∷ [] → place ≡ length ms
+    → x ≡ get_or xs place x → x ≡ m
+read_last ms xs m x place e at read =
+    read ∙ ap (λ (ys : List Fields). get_or ys place x) e ∙ get_or_push ms m x place (sym at)
 
-pub cut_back : (ms xs ys : List Fields) (m : Fields) (place : ℕ) → xs ≡ ms ++ m ∷ [] → place ≡ length ms → ys ≡ take place xs → ys ≡ ms
+pub cut_back : (ms xs ys : List Fields) (m : Fields) (place : ℕ) → xs ≡ ms ++ m ∷ [] → place ≡ length ms
+    → ys ≡ take place xs → ys ≡ ms
 cut_back ms xs ys m place e at cut = cut ∙ (λ i. take (at i) (e i)) ∙ take-append_seam ms (m ∷ [])
 
 pub alone_back : {A : Type 0} (x y : A) → x ≡ y → Contains (x ∷ []) y
 alone_back x y e = subst (Contains (x ∷ [])) e (Contains-push [] x)
 
-pub places_alike : (P Q : Fields → Type 0) (ms : List Fields) (ps : List ℕ) → ((m : Fields) → P m → Q m) → ((m : Fields) → Q m → P m) → ArePlaces P ms ps → ArePlaces Q ms ps
+pub places_alike : (P Q : Fields → Type 0) (ms : List Fields) (ps : List ℕ) → ((m : Fields) → P m → Q m)
+    → ((m : Fields) → Q m → P m) → ArePlaces P ms ps → ArePlaces Q ms ps
 places_alike P Q ms ps f g all = record {
   ascending = all.ascending;
   exact = λ i.

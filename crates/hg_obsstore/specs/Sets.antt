@@ -37,7 +37,8 @@ module _ {K : Type 0} where
   pub union_commutes : (s t u : K → Bool) → IsUnion s t u → IsUnion t s u
   union_commutes s t u e = e ∙ (λ i k. or_comm (s k) (t k) i)
 
-  pub union_associates : (s t u stu : K → Bool) → ((st : K → Bool) × IsUnion s t st × IsUnion st u stu) ↔ ((tu : K → Bool) × IsUnion t u tu × IsUnion s tu stu)
+  pub union_associates : (s t u stu : K → Bool) → ((st : K → Bool) × IsUnion s t st × IsUnion st u stu)
+      ↔ ((tu : K → Bool) × IsUnion t u tu × IsUnion s tu stu)
   union_associates s t u stu = (
     (λ h. ((λ k. t k || u k), refl, h.2 ∙ (λ i k. (h.1 i) k || u k) ∙ (λ i k. or_assoc (s k) (t k) (u k) i))),
     (λ h. ((λ k. s k || t k), refl, h.2 ∙ (λ i k. s k || (h.1 i) k) ∙ sym (λ i k. or_assoc (s k) (t k) (u k) i))),
@@ -71,5 +72,6 @@ module _ {K : Type 0} where
   pub union_again : (s u p : K → Bool) → ⊤ → HasAll s p → IsUnion s p u → u ≡ s
   union_again s u p = again_by_least sets_ordered stays_within union_absorbed s u p
 
-  pub union_swap : (s sp spq sq sqp p q : K → Bool) → ⊤ → IsUnion s p sp → IsUnion sp q spq → IsUnion s q sq → IsUnion sq p sqp → spq ≡ sqp
+  pub union_swap : (s sp spq sq sqp p q : K → Bool) → ⊤ → IsUnion s p sp → IsUnion sp q spq → IsUnion s q sq
+      → IsUnion sq p sqp → spq ≡ sqp
   union_swap = swap_by_least sets_ordered stays_within union_absorbed

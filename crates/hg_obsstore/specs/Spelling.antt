@@ -7,7 +7,8 @@ use Rattle.hg_marker.specs.Grammar.{IsSpelling, spelling}
 -- the bytes spell these markers, one after the other
 abbrev pub AreSpelled : List Fields → List ℕ → Type 0
 AreSpelled [] bytes = bytes ≡ []
-AreSpelled (m ∷ ms) bytes = (front : List ℕ) × (rest : List ℕ) × IsSpelling m front × (bytes ≡ front ++ rest) × AreSpelled ms rest
+AreSpelled (m ∷ ms) bytes = (front : List ℕ) × (rest : List ℕ) × IsSpelling m front × (bytes ≡ front ++ rest)
+    × AreSpelled ms rest
 
 -- a version byte 0, and then the markers; no bytes at all spell no markers
 abbrev pub IsStoreSpelling : List Fields → List ℕ → Type 0

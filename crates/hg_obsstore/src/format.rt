@@ -2,7 +2,8 @@
 //!
 //! A store is a version byte 0 and then its markers, one after the other. Lists of markers with repeats are written and
 //! read in the same way; a store that is read holds each marker once, at its first standing.
-ghost use Rattle.std.specs.Prelude.{◌≡◌, ◌<◌, ◌+◌, ◌-◌, ◌^◌, ◌++◌, ℕ, List, [], length, IfOk, IfSome, OnOk, OnErr, IsErrOf, MatchResult, Ok, Err, None};
+ghost use Rattle.std.specs.Prelude.{◌≡◌, ◌<◌, ◌+◌, ◌-◌, ◌^◌, ◌++◌, ℕ, List, [], length, IfOk, IfSome, OnOk, OnErr};
+ghost use Rattle.std.specs.Prelude.{IsErrOf, MatchResult, Ok, Err, None};
 ghost use Rattle.hg_marker.specs.declared.error.ReadError.TheVariants.{Fault};
 ghost use Rattle.hg_marker.specs.Fields.{Fields};
 ghost use Rattle.hg_marker.specs.Faults.{marker_at, left};
@@ -50,8 +51,8 @@ pub fn write_markers(out: &mut Vec<u8>, markers: &[Marker]) -> Result<(), AllocE
     Ok(())
 }
 
-/// Appends the bytes of the markers at these places, as [`write_markers`] does. After an error a front of them may stand
-/// there.
+/// Appends the bytes of the markers at these places, as [`write_markers`] does. After an error a front of them may
+/// stand there.
 pub fn write_markers_at(
     out: &mut Vec<u8>,
     store: &Store,
@@ -117,13 +118,16 @@ fn add_len(len: Option<usize>, more: usize) -> Option<usize>
 /// Refuses with the first [`StoreFault`] from the front, before it takes any memory.
 pub fn read_store(alloc: Global, bytes: &[u8]) -> Result<Store, ReadError<StoreFault>>
     // What is spelled so is read, each marker once, unless memory runs out.
-    ensures only { (ms : List Fields) → IsStoreSpelling ms bytes.now → Gives (λ store. store) result (Ok (new_among [] ms)) }
+    ensures only { (ms : List Fields) → IsStoreSpelling ms bytes.now
+        → Gives (λ store. store) result (Ok (new_among [] ms)) }
 
     // So what is written of a store is read as that store, in its order.
-    ensures again { (ms : List Fields) → AreDifferent ms → IsStoreSpelling ms bytes.now → Gives (λ store. store) result (Ok ms) }
+    ensures again { (ms : List Fields) → AreDifferent ms → IsStoreSpelling ms bytes.now
+        → Gives (λ store. store) result (Ok ms) }
 
     // Nothing else is read.
-    ensures found { IfOk result (λ store. (ms : List Fields) × IsStoreSpelling ms bytes.now × (store ≡ new_among [] ms)) }
+    ensures found { IfOk result (λ store. (ms : List Fields) × IsStoreSpelling ms bytes.now
+        × (store ≡ new_among [] ms)) }
 
     // The fault is the one that there is, and where there is one it is told: want of memory never stands for it.
     ensures fault { (f : StoreFault) → IsErrOf result (Fault f) → IsStoreFault bytes.now f }
@@ -231,7 +235,8 @@ fn read_checked(alloc: Global, bytes: &[u8]) -> Result<Vec<Marker>, AllocError>
 
 // The markers up to the end of bytes behind the version that were checked.
 fn read_to_end(alloc: Global, bytes: &[u8]) -> Result<Vec<Marker>, AllocError>
-    ensures read { (total : ℕ) → IfOk result (λ markers. markers_at total (length bytes.now) bytes.now ≡ Ok markers.items) }
+    ensures read { (total : ℕ) → IfOk result
+        (λ markers. markers_at total (length bytes.now) bytes.now ≡ Ok markers.items) }
     ensures memory { OnErr result (0 < length bytes.now) }
 {
     let mut markers = Vec::new(alloc);

@@ -1,11 +1,13 @@
 //! Stores as states that join.
 //!
-//! What a store contains is the set of its markers, free of the order in which they came: for each marker, whether it is
-//! held. So two stores that are below each other have one content.
+//! What a store contains is the set of its markers, free of the order in which they came: for each marker, whether it
+//! is held. So two stores that are below each other have one content.
 ghost use Rattle.std.specs.Prelude.{⊤, ◌↔◌, IsTrue, IsOkAnd};
 ghost use Rattle.hg_marker.specs.Fields.{Fields};
 ghost use Rattle.hg_obsstore.specs.Growth.{holds, Grows};
-ghost use Rattle.hg_obsstore.specs.Sets.{IsSet, IsWithin, HasAll, IsUnion, sets_ordered, stays_within, union_absorbed, union_commutes, union_associates, union_idempotent, union_least, union_again, union_swap};
+ghost use Rattle.hg_obsstore.specs.Sets.{IsSet, IsWithin, HasAll, IsUnion, sets_ordered, stays_within, union_absorbed};
+ghost use Rattle.hg_obsstore.specs.Sets.{union_commutes, union_associates, union_idempotent, union_least, union_again};
+ghost use Rattle.hg_obsstore.specs.Sets.{union_swap};
 
 use crate::store::Store;
 use hg_join::{JoinState, NoMemory};

@@ -1,5 +1,7 @@
 -- Where roots stand before and after changesets were added and phases went down.
-use Rattle.std.proofs.Common.{◌≡◌, ℕ, zero, suc, ◌+◌, ◌<◌, ◌≤◌, true, false, cond, List, [], ◌∷◌, ◌++◌, All, length, take, drop, get_or, slice_get, Some, None, Option, Contains, IsTrue, Bool, ◌↔◌, ◌⊎◌, inl, inr, refl, sym, ap, subst, ◌∙◌, append_assoc, append-nil, arith, true≢false}
+use Rattle.std.proofs.Common.{◌≡◌, ℕ, zero, suc, ◌+◌, ◌<◌, ◌≤◌, true, false, cond, List, [], ◌∷◌, ◌++◌, All, length}
+use Rattle.std.proofs.Common.{take, drop, get_or, slice_get, Some, None, Option, Contains, IsTrue, Bool, ◌↔◌, ◌⊎◌, inl}
+use Rattle.std.proofs.Common.{inr, refl, sym, ap, subst, ◌∙◌, append_assoc, append-nil, arith, true≢false}
 use Rattle.std.specs.Prelude.{not}
 use Rattle.std.specs.Cmp.{IsTotalOrder, Equal-is}
 use Rattle.std.specs.BTreeSet.{BTreeSet, Updates, contains}
@@ -17,7 +19,8 @@ use Rattle.std.proofs.lemmas.Option.{none-some, same_Some, slice_get_within, get
 use Rattle.hg_changeset.specs.declared.node.Node.{Node}
 use Rattle.hg_changeset.specs.Contents.{Contents}
 use Rattle.hg_changeset.specs.Changeset.{node_of}
-use Rattle.hg_changeset.proofs.ListLemmas.{slice_get-take, slice_get_some, Contains-none, Contains-first, Contains-later, Contains-cons_cases}
+use Rattle.hg_changeset.proofs.ListLemmas.{slice_get-take, slice_get_some, Contains-none, Contains-first}
+use Rattle.hg_changeset.proofs.ListLemmas.{Contains-later, Contains-cons_cases}
 use Rattle.hg_graph.specs.Graph.{IsGraph, IsParent, nodes}
 use Rattle.hg_graph.specs.Places.{IsAt, IsParentPlace}
 use Rattle.hg_graph.proofs.GraphLemmas.{get-take, Contains-from_place, place_from_Contains}
@@ -44,7 +47,8 @@ listed (x ∷ xs) p = elim (cases_eq x p) [
 ]
 
 pub taken-within : (xs : List ℕ) (i p : ℕ) → Contains (take i xs) p → Contains xs p
-taken-within xs i p h = subst (λ ys. Contains ys p) (take-append-drop i xs) (Contains-append_left (take i xs) (drop i xs) p h)
+taken-within xs i p h =
+    subst (λ ys. Contains ys p) (take-append-drop i xs) (Contains-append_left (take i xs) (drop i xs) p h)
 
 -- ---- picking places
 
@@ -53,10 +57,12 @@ abbrev pub Picks : (ℕ → Type 0) → List ℕ → List ℕ → Type 0
 Picks P xs found = (p : ℕ) → Contains found p ↔ (Contains xs p × P p)
 
 pub picks-none : (P : ℕ → Type 0) (found : List ℕ) → found ≡ [] → Picks P [] found
-picks-none P found e = subst (Picks P []) (sym e) (λ p. ((λ h. absurd (Contains-none p h)), (λ h. absurd (Contains-none p h.0))))
+picks-none P found e =
+    subst (Picks P []) (sym e) (λ p. ((λ h. absurd (Contains-none p h)), (λ h. absurd (Contains-none p h.0))))
 
 module _ (P : ℕ → Type 0) (xs found : List ℕ) (i : ℕ) (l : i < length xs) (before : Picks P (take i xs) found) where
-  pub picks-push : P (get_or xs i 0) → (new : List ℕ) → new ≡ found ++ get_or xs i 0 ∷ [] → Picks P (take (i + 1) xs) new
+  pub picks-push : P (get_or xs i 0) → (new : List ℕ) → new ≡ found ++ get_or xs i 0 ∷ []
+      → Picks P (take (i + 1) xs) new
   picks-push holds new e = subst (Picks P (take (i + 1) xs)) (sym e) (λ p.
       let more = taken_one xs i 0 p l in (
         λ h. elim (Contains-push_cases found (get_or xs i 0) p h) [
@@ -82,11 +88,14 @@ module _ (P : ℕ → Type 0) (xs found : List ℕ) (i : ℕ) (l : i < length xs
 -- ---- sets
 
 -- one key less
-pub removed : {K : Type 0} {R : K → K → Ordering} (o : IsTotalOrder R) (exact : CmpEqualImpliesEq R) (s t : BTreeSet K) (k : K) → Updates R s t k false → (q : K) → Contains t.keys q ↔ (Contains s.keys q × ¬ (k ≡ q))
+pub removed : {K : Type 0} {R : K → K → Ordering} (o : IsTotalOrder R) (exact : CmpEqualImpliesEq R) (s t : BTreeSet K)
+    (k : K) → Updates R s t k false → (q : K) → Contains t.keys q ↔ (Contains s.keys q × ¬ (k ≡ q))
 removed {R = R} o exact s t k up q = (
   λ h. (
     elim (cases_Bool (is_at (R k) q)) [
-      | inl e ↦ absurd (true≢false (sym ((btree_set_contains_iff o exact t q).1 h) ∙ up.0 q ∙ ap (λ b. cond b false (contains R s q)) e))
+      | inl e ↦ absurd
+          (true≢false (sym ((btree_set_contains_iff o exact t q).1 h) ∙ up.0 q
+          ∙ ap (λ b. cond b false (contains R s q)) e))
       | inr ne ↦ (btree_set_contains_iff o exact s q).0 (sym (up.2 q ne) ∙ (btree_set_contains_iff o exact t q).1 h)
     ],
     λ same. true≢false (sym ((btree_set_contains_iff o exact t k).1 (subst (Contains t.keys) (sym same) h)) ∙ up.1),
@@ -102,15 +111,28 @@ removed {R = R} o exact s t k up q = (
 module _ (cs : List Contents) (graph : IsGraph cs) (ks : List Phase) (n : ℕ) where
   parent-front : (p q : ℕ) → p < n → IsParentPlace cs p q → IsParentPlace (take n cs) p q
   parent-front p q l parent =
-      let lower = parent_first cs graph p q parent in
-      (parent.0, parent.1, slice_get-take cs n p parent.0 l parent.2, parent.3, subst (λ ns. slice_get ns q ≡ Some parent.1) (take-map node_of n cs) (slice_get-take (nodes cs) n q parent.1 (omega (arith, lower, l)) parent.4))
+      let lower = parent_first cs graph p q parent in (
+        parent.0,
+        parent.1,
+        slice_get-take cs n p parent.0 l parent.2,
+        parent.3,
+        subst (λ ns. slice_get ns q ≡ Some parent.1) (take-map node_of n cs)
+            (slice_get-take (nodes cs) n q parent.1 (omega (arith, lower, l)) parent.4),
+      )
 
   parent-whole : (p q : ℕ) → IsParentPlace (take n cs) p q → IsParentPlace cs p q
-  parent-whole p q parent =
-      (parent.0, parent.1, (get-take cs n p parent.0 parent.2).1, parent.3, (get-take (nodes cs) n q parent.1 (subst (λ ns. slice_get ns q ≡ Some parent.1) (sym (take-map node_of n cs)) parent.4)).1)
+  parent-whole p q parent = (
+    parent.0,
+    parent.1,
+    (get-take cs n p parent.0 parent.2).1,
+    parent.3,
+    (get-take (nodes cs) n q parent.1
+        (subst (λ ns. slice_get ns q ≡ Some parent.1) (sym (take-map node_of n cs)) parent.4)).1,
+  )
 
   root-front : (p : ℕ) → p < n → IsRootPlace cs ks p → IsRootPlace (take n cs) (take n ks) p
-  root-front p l (k, at, np, none) = (k, slice_get-take ks n p k l at, np, λ h. none (h.0, parent-whole p h.0 h.1, (get-take ks n h.0 k h.2).1))
+  root-front p l (k, at, np, none) =
+      (k, slice_get-take ks n p k l at, np, λ h. none (h.0, parent-whole p h.0 h.1, (get-take ks n h.0 k h.2).1))
 
   root-whole : (p : ℕ) → IsRootPlace (take n cs) (take n ks) p → IsRootPlace cs ks p
   root-whole p (k, at, np, none) =
@@ -124,31 +146,51 @@ module _ (cs : List Contents) (graph : IsGraph cs) (ks : List Phase) (n : ℕ) w
       )
 
 -- all places are the first ones
-pub roots-whole : (cs : List Contents) (ks : List Phase) (n : ℕ) (places : List ℕ) → length ks ≡ length cs → n ≡ length cs → AreRootPlaces (take n cs) (take n ks) places → AreRootPlaces cs ks places
-roots-whole cs ks n places len all = subst (λ ds. AreRootPlaces ds (take n ks) places → AreRootPlaces cs ks places) (sym (take_all n cs (omega (arith, all)))) (subst (λ ls. AreRootPlaces cs ls places → AreRootPlaces cs ks places) (sym (take_all n ks (omega (arith, all, len)))) (λ are. are))
+pub roots-whole : (cs : List Contents) (ks : List Phase) (n : ℕ) (places : List ℕ) → length ks ≡ length cs
+    → n ≡ length cs → AreRootPlaces (take n cs) (take n ks) places → AreRootPlaces cs ks places
+roots-whole cs ks n places len all =
+    subst (λ ds. AreRootPlaces ds (take n ks) places → AreRootPlaces cs ks places)
+    (sym (take_all n cs (omega (arith, all))))
+    (subst (λ ls. AreRootPlaces cs ls places → AreRootPlaces cs ks places)
+    (sym (take_all n ks (omega (arith, all, len)))) (λ are. are))
 
-pub roots-all : (cs : List Contents) (ks : List Phase) (n : ℕ) (places : List ℕ) → length ks ≡ length cs → n ≡ length cs → AreRootPlaces cs ks places → AreRootPlaces (take n cs) (take n ks) places
-roots-all cs ks n places len all = subst (λ ds. AreRootPlaces cs ks places → AreRootPlaces ds (take n ks) places) (sym (take_all n cs (omega (arith, all)))) (subst (λ ls. AreRootPlaces cs ks places → AreRootPlaces cs ls places) (sym (take_all n ks (omega (arith, all, len)))) (λ are. are))
+pub roots-all : (cs : List Contents) (ks : List Phase) (n : ℕ) (places : List ℕ) → length ks ≡ length cs → n ≡ length cs
+    → AreRootPlaces cs ks places → AreRootPlaces (take n cs) (take n ks) places
+roots-all cs ks n places len all =
+    subst (λ ds. AreRootPlaces cs ks places → AreRootPlaces ds (take n ks) places)
+    (sym (take_all n cs (omega (arith, all))))
+    (subst (λ ls. AreRootPlaces cs ks places → AreRootPlaces cs ls places)
+    (sym (take_all n ks (omega (arith, all, len)))) (λ are. are))
 
 -- before what was logged, where all changesets were there
-pub roots-logged : (cs : List Contents) (old before : List Phase) (n : ℕ) (places : List ℕ) → length old ≡ length cs → n ≡ length cs → before ≡ old → AreRootPlaces cs old places → AreRootPlaces (take n cs) (take n before) places
-roots-logged cs old before n places len all e are = subst (λ ks. AreRootPlaces (take n cs) (take n ks) places) (sym e) (roots-all cs old n places len all are)
+pub roots-logged : (cs : List Contents) (old before : List Phase) (n : ℕ) (places : List ℕ) → length old ≡ length cs
+    → n ≡ length cs → before ≡ old → AreRootPlaces cs old places → AreRootPlaces (take n cs) (take n before) places
+roots-logged cs old before n places len all e are =
+    subst (λ ks. AreRootPlaces (take n cs) (take n ks) places) (sym e) (roots-all cs old n places len all are)
 
 -- before the last changeset was made secret
-pub front-admitted : (old ks : List Phase) (log : List LoweredPlace) (n : ℕ) → log ≡ [] → ks ≡ old ++ Secret ∷ [] → length old ≡ n → take n (restored ks log) ≡ old
-front-admitted old ks log n fresh e all = ap (λ es. take n (restored ks es)) fresh ∙ ap (take n) e ∙ take_at old (Secret ∷ []) n all
+pub front-admitted : (old ks : List Phase) (log : List LoweredPlace) (n : ℕ) → log ≡ [] → ks ≡ old ++ Secret ∷ []
+    → length old ≡ n → take n (restored ks log) ≡ old
+front-admitted old ks log n fresh e all =
+    ap (λ es. take n (restored ks es)) fresh ∙ ap (take n) e ∙ take_at old (Secret ∷ []) n all
 
 -- no roots among no changesets
 pub roots-none : (found : List ℕ) → found ≡ [] → AreRootPlaces [] [] found
-roots-none found e = subst (AreRootPlaces [] []) (sym e) (λ p. ((λ h. absurd (Contains-none p h)), (λ root. absurd (none-some root.0 root.1))))
+roots-none found e =
+    subst (AreRootPlaces [] []) (sym e)
+    (λ p. ((λ h. absurd (Contains-none p h)), (λ root. absurd (none-some root.0 root.1))))
 
 -- ---- what is touched
 
-pub touched-more : (A : ℕ → Type 0) (cs : List Contents) (log : List LoweredPlace) (i : ℕ) (d : LoweredPlace) (old new : List ℕ) → i < length log
-    → ((p : ℕ) → Contains old p ↔ (A p ⊎ IsTouched cs (take i log) p)) → ((p : ℕ) → Contains new p ↔ (Contains old p ⊎ IsFamily cs (get_or log i d).place p)) → (p : ℕ) → Contains new p ↔ (A p ⊎ IsTouched cs (take (i + 1) log) p)
+pub touched-more : (A : ℕ → Type 0) (cs : List Contents) (log : List LoweredPlace) (i : ℕ) (d : LoweredPlace)
+    (old new : List ℕ) → i < length log
+    → ((p : ℕ) → Contains old p ↔ (A p ⊎ IsTouched cs (take i log) p))
+    → ((p : ℕ) → Contains new p ↔ (Contains old p ⊎ IsFamily cs (get_or log i d).place p)) → (p : ℕ)
+    → Contains new p ↔ (A p ⊎ IsTouched cs (take (i + 1) log) p)
 touched-more A cs log i d old new l before more p = (
   λ h. elim ((more p).0 h) [
-    | inl was ↦ elim ((before p).0 was) [ inl a ↦ inl a | inr x ↦ inr (x.0, (taken_one log i d x.0 l).1 (inl x.1), x.2) ]
+    | inl was ↦ elim ((before p).0 was)
+        [ inl a ↦ inl a | inr x ↦ inr (x.0, (taken_one log i d x.0 l).1 (inl x.1), x.2) ]
     | inr is ↦ inr (get_or log i d, (taken_one log i d (get_or log i d) l).1 (inr refl), is)
   ],
   λ h. (more p).1 (elim h [
@@ -160,14 +202,18 @@ touched-more A cs log i d old new l before more p = (
   ]),
 )
 
-pub touched-start : (A : ℕ → Type 0) (cs : List Contents) (found : List ℕ) → ((p : ℕ) → Contains found p ↔ A p) → (p : ℕ) → Contains found p ↔ (A p ⊎ IsTouched cs [] p)
-touched-start A cs found are p = ((λ h. inl ((are p).0 h)), (λ h. elim h [ inl a ↦ (are p).1 a | inr x ↦ absurd (Contains-none x.0 x.1) ]))
+pub touched-start : (A : ℕ → Type 0) (cs : List Contents) (found : List ℕ) → ((p : ℕ) → Contains found p ↔ A p)
+    → (p : ℕ) → Contains found p ↔ (A p ⊎ IsTouched cs [] p)
+touched-start A cs found are p =
+    ((λ h. inl ((are p).0 h)), (λ h. elim h [ inl a ↦ (are p).1 a | inr x ↦ absurd (Contains-none x.0 x.1) ]))
 
 -- counting from one place on
 pub added-none : (from : ℕ) (found : List ℕ) → found ≡ [] → (p : ℕ) → Contains found p ↔ ((from ≤ p) × (p < from))
-added-none from found e p = ((λ h. absurd (Contains-none p (subst (λ xs. Contains xs p) e h))), (λ h. absurd (omega (arith, h.0, h.1))))
+added-none from found e p =
+    ((λ h. absurd (Contains-none p (subst (λ xs. Contains xs p) e h))), (λ h. absurd (omega (arith, h.0, h.1))))
 
-pub added-next : (from i : ℕ) (found new : List ℕ) → from ≤ i → ((p : ℕ) → Contains found p ↔ ((from ≤ p) × (p < i))) → new ≡ found ++ i ∷ [] → (p : ℕ) → Contains new p ↔ ((from ≤ p) × (p < i + 1))
+pub added-next : (from i : ℕ) (found new : List ℕ) → from ≤ i → ((p : ℕ) → Contains found p ↔ ((from ≤ p) × (p < i)))
+    → new ≡ found ++ i ∷ [] → (p : ℕ) → Contains new p ↔ ((from ≤ p) × (p < i + 1))
 added-next from i found new le before e p = (
   λ h. elim (Contains-push_cases found i p (subst (λ xs. Contains xs p) e h)) [
     | inl old ↦ let x = (before p).0 old in (x.0, omega (arith, x.1))
@@ -185,15 +231,20 @@ added-next from i found new le before e p = (
 all-from : (P : ℕ → Type 0) (xs : List ℕ) → ((p : ℕ) → Contains xs p → P p) → All P xs
 all-from P xs each k d l = each (get_or xs k d) (Contains-get_or xs k d l)
 
-module _ (cs : List Contents) (phase : Phase) (start now : List Phase) (log : List LoweredPlace) (l : IsLog phase start now log) (len : length now ≡ length cs) where
+module _ (cs : List Contents) (phase : Phase) (start now : List Phase) (log : List LoweredPlace)
+    (l : IsLog phase start now log) (len : length now ≡ length cs) where
   touched-within : (p : ℕ) → IsTouched cs log p → p < length cs
   touched-within p (e, at, family) = elim family [
     | inl same ↦ let x = l.logged e at in omega (arith, slice_get_within now e.place x.0 x.2, same, len)
     | inr parent ↦ slice_get_within cs p parent.0 parent.2
   ]
 
-  pub places-within : (before : ℕ) (touched : List ℕ) → ((p : ℕ) → Contains touched p ↔ (((before ≤ p) × (p < length cs)) ⊎ IsTouched cs log p)) → All (λ p. p < length cs) touched
-  places-within before touched touches = all-from (λ p. p < length cs) touched (λ p h. elim ((touches p).0 h) [ inl added ↦ added.1 | inr x ↦ touched-within p x ])
+  pub places-within : (before : ℕ) (touched : List ℕ)
+      → ((p : ℕ) → Contains touched p ↔ (((before ≤ p) × (p < length cs)) ⊎ IsTouched cs log p))
+      → All (λ p. p < length cs) touched
+  places-within before touched touches =
+      all-from (λ p. p < length cs) touched
+      (λ p h. elim ((touches p).0 h) [ inl added ↦ added.1 | inr x ↦ touched-within p x ])
 
   -- a parent that went down touches
   by_parent : (p q : ℕ) → IsParentPlace cs p q → (e : LoweredPlace) → Contains log e → e.place ≡ q → IsTouched cs log p
@@ -238,43 +289,59 @@ module _ (cs : List Contents) (phase : Phase) (start now : List Phase) (log : Li
           y.0,
           at_now,
           λ e. sure (touched, λ root. root.2 (same_Some root.0 y.0 (sym root.1 ∙ at_now) ∙ e)),
-          λ h. sure (touched, λ root. root.3 (h.0, h.1, h.2 ∙ ap (λ x. Some x) (same_Some y.0 root.0 (sym at_now ∙ root.1)))),
+          λ h. sure (
+            touched,
+            λ root. root.3 (h.0, h.1, h.2 ∙ ap (λ x. Some x) (same_Some y.0 root.0 (sym at_now ∙ root.1))),
+          ),
         )
   ]
 
-  module _ (graph : IsGraph cs) (n : ℕ) (roots touched gained lost : List ℕ) (rooted : AreRootPlaces (take n cs) (take n start) roots)
+  module _ (graph : IsGraph cs) (n : ℕ) (roots touched gained lost : List ℕ)
+      (rooted : AreRootPlaces (take n cs) (take n start) roots)
       (touches : (p : ℕ) → Contains touched p ↔ (((n ≤ p) × (p < length cs)) ⊎ IsTouched cs log p))
-      (gains : Picks (λ p. IsRootPlace cs now p × ¬ (Contains roots p)) touched gained) (loses : Picks (λ p. ¬ (IsRootPlace cs now p) × Contains roots p) touched lost) where
+      (gains : Picks (λ p. IsRootPlace cs now p × ¬ (Contains roots p)) touched gained)
+      (loses : Picks (λ p. ¬ (IsRootPlace cs now p) × Contains roots p) touched lost) where
     -- a root that isn't listed is touched
     unlisted : (p : ℕ) → IsRootPlace cs now p → ¬ (Contains roots p) → Contains gained p
     unlisted p root out = (gains p).1 (elim (listed touched p) [
       | inl t ↦ (t, (root, out))
       | inr un ↦ elim (cases_lt p n) [
-        | inl less ↦ absurd (out ((rooted p).1 (root-front cs graph start n p less (stays p (λ t. un ((touches p).1 (inr t))) root))))
+        | inl less ↦ absurd
+            (out ((rooted p).1 (root-front cs graph start n p less (stays p (λ t. un ((touches p).1 (inr t))) root))))
         | inr ge ↦ absurd (un ((touches p).1 (inl (ge, omega (arith, slice_get_within now p root.0 root.1, len)))))
       ]
     ])
 
-    pub updated : (mid final : List ℕ) → ((p : ℕ) → Contains mid p ↔ (Contains roots p ⊎ Contains gained p)) → ((p : ℕ) → Contains final p ↔ (Contains mid p × ¬ (Contains lost p))) → AreRootPlaces cs now final
+    pub updated : (mid final : List ℕ) → ((p : ℕ) → Contains mid p ↔ (Contains roots p ⊎ Contains gained p))
+        → ((p : ℕ) → Contains final p ↔ (Contains mid p × ¬ (Contains lost p))) → AreRootPlaces cs now final
     updated mid final added dropped p = (
       λ h.
           let x = (dropped p).0 h in
           elim ((added p).0 x.0) [
-            | inl old ↦ still p (root-whole cs graph start n p ((rooted p).0 old)) (λ y. x.1 ((loses p).1 ((touches p).1 (inr y.0), (y.1, old))))
+            | inl old ↦ still p (root-whole cs graph start n p ((rooted p).0 old))
+                (λ y. x.1 ((loses p).1 ((touches p).1 (inr y.0), (y.1, old))))
             | inr new ↦ ((gains p).0 new).1.0
           ],
-      λ root. (dropped p).1 ((added p).1 (elim (listed roots p) [ inl old ↦ inl old | inr out ↦ inr (unlisted p root out) ]), λ out. ((loses p).0 out).1.0 root),
+      λ root. (dropped p).1 (
+        (added p).1 (elim (listed roots p) [ inl old ↦ inl old | inr out ↦ inr (unlisted p root out) ]),
+        λ out. ((loses p).0 out).1.0 root,
+      ),
     )
 
-    pub undone : (mid final : List ℕ) → ((p : ℕ) → Contains roots p → Contains mid p) → ((p : ℕ) → Contains mid p → Contains roots p ⊎ Contains gained p) → ((p : ℕ) → Contains final p ↔ (Contains mid p × ¬ (Contains gained p))) → AreRootPlaces (take n cs) (take n start) final
+    pub undone : (mid final : List ℕ) → ((p : ℕ) → Contains roots p → Contains mid p)
+        → ((p : ℕ) → Contains mid p → Contains roots p ⊎ Contains gained p)
+        → ((p : ℕ) → Contains final p ↔ (Contains mid p × ¬ (Contains gained p)))
+        → AreRootPlaces (take n cs) (take n start) final
     undone mid final kept only dropped p = (
       λ h. let x = (dropped p).0 h in elim (only p x.0) [ inl old ↦ (rooted p).0 old | inr new ↦ absurd (x.1 new) ],
       λ root. let old = (rooted p).1 root in (dropped p).1 (kept p old, λ new. ((gains p).0 new).1.1 old),
     )
 
 -- either place holds a parent
-pub parent_at_either : (cs : List Contents) (ks : List Phase) (i : ℕ) (phase : Phase) (first second : Option ℕ) → ((k : ℕ) → IsParentPlace cs i k ↔ ((first ≡ Some k) ⊎ (second ≡ Some k)))
-    → (((p : ℕ) × (first ≡ Some p) × (slice_get ks p ≡ Some phase)) ⊎ ((p : ℕ) × (second ≡ Some p) × (slice_get ks p ≡ Some phase))) ↔ HasParentIn cs ks i phase
+pub parent_at_either : (cs : List Contents) (ks : List Phase) (i : ℕ) (phase : Phase) (first second : Option ℕ)
+    → ((k : ℕ) → IsParentPlace cs i k ↔ ((first ≡ Some k) ⊎ (second ≡ Some k)))
+    → (((p : ℕ) × (first ≡ Some p) × (slice_get ks p ≡ Some phase))
+    ⊎ ((p : ℕ) × (second ≡ Some p) × (slice_get ks p ≡ Some phase))) ↔ HasParentIn cs ks i phase
 parent_at_either cs ks i phase first second places = (
   λ h. elim h [ inl f ↦ (f.0, (places f.0).1 (inl f.1), f.2) | inr f ↦ (f.0, (places f.0).1 (inr f.1), f.2) ],
   λ h. elim ((places h.0).0 h.1) [ inl e ↦ inl (h.0, e, h.2) | inr e ↦ inr (h.0, e, h.2) ],
@@ -289,26 +356,41 @@ other-told false told = ((λ h p. true≢false (sym (told.1 p))), (λ none. refl
 -- each place's phase and node
 abbrev pub ListsRoots : List Contents → List Phase → List ℕ → List (Phase × Node) → Type 0
 ListsRoots cs ks [] out = out ≡ []
-ListsRoots cs ks (p ∷ ps) out = (r : Phase × Node) × (slice_get ks p ≡ Some r.0) × (slice_get (nodes cs) p ≡ Some r.1) × (rest : List (Phase × Node)) × (out ≡ r ∷ rest) × ListsRoots cs ks ps rest
+ListsRoots cs ks (p ∷ ps) out = (r : Phase × Node) × (slice_get ks p ≡ Some r.0) × (slice_get (nodes cs) p ≡ Some r.1)
+    × (rest : List (Phase × Node)) × (out ≡ r ∷ rest) × ListsRoots cs ks ps rest
 
-pub lists-next : (cs : List Contents) (ks : List Phase) (all before after : List ℕ) (p : ℕ) (listed new : List (Phase × Node)) (k : Phase) (n : Node) → before ≡ p ∷ after
+pub lists-next : (cs : List Contents) (ks : List Phase) (all before after : List ℕ) (p : ℕ)
+    (listed new : List (Phase × Node)) (k : Phase) (n : Node) → before ≡ p ∷ after
     → slice_get ks p ≡ Some k → slice_get (nodes cs) p ≡ Some n → new ≡ listed ++ (k, n) ∷ []
-    → ((rest : List (Phase × Node)) → ListsRoots cs ks before rest → ListsRoots cs ks all (listed ++ rest)) → (rest : List (Phase × Node)) → ListsRoots cs ks after rest → ListsRoots cs ks all (new ++ rest)
+    → ((rest : List (Phase × Node)) → ListsRoots cs ks before rest → ListsRoots cs ks all (listed ++ rest))
+    → (rest : List (Phase × Node)) → ListsRoots cs ks after rest → ListsRoots cs ks all (new ++ rest)
 lists-next cs ks all before after p listed new k n e at_k at_n is h rest are =
     subst (ListsRoots cs ks all) (sym (ap (λ xs. xs ++ rest) is ∙ append_assoc listed ((k, n) ∷ []) rest))
-    (h ((k, n) ∷ rest) (subst (λ ps. ListsRoots cs ks ps ((k, n) ∷ rest)) (sym e) ((k, n), at_k, at_n, rest, refl, are)))
+    (h ((k, n) ∷ rest)
+    (subst (λ ps. ListsRoots cs ks ps ((k, n) ∷ rest)) (sym e) ((k, n), at_k, at_n, rest, refl, are)))
 
-pub lists-left : (roots before after : List ℕ) (x : ℕ) → before ≡ x ∷ after → ((p : ℕ) → Contains before p → Contains roots p) → Contains roots x × ((p : ℕ) → Contains after p → Contains roots p)
-lists-left roots before after x e h = (h x (subst (λ xs. Contains xs x) (sym e) (Contains-first x after)), λ p at. h p (subst (λ xs. Contains xs p) (sym e) (Contains-later x after p at)))
+pub lists-left : (roots before after : List ℕ) (x : ℕ) → before ≡ x ∷ after
+    → ((p : ℕ) → Contains before p → Contains roots p)
+    → Contains roots x × ((p : ℕ) → Contains after p → Contains roots p)
+lists-left roots before after x e h = (
+  h x (subst (λ xs. Contains xs x) (sym e) (Contains-first x after)),
+  λ p at. h p (subst (λ xs. Contains xs p) (sym e) (Contains-later x after p at)),
+)
 
 -- where a root stands, a node does
-pub root-stands : (cs : List Contents) (ks : List Phase) → length ks ≡ length cs → (p : ℕ) → IsRootPlace cs ks p → slice_get (nodes cs) p ≡ None → ⊥
-root-stands cs ks len p root none = let n = IsAt-within cs p (omega (arith, slice_get_within ks p root.0 root.1, len)) in none-some n.0 (sym none ∙ n.1)
+pub root-stands : (cs : List Contents) (ks : List Phase) → length ks ≡ length cs → (p : ℕ) → IsRootPlace cs ks p
+    → slice_get (nodes cs) p ≡ None → ⊥
+root-stands cs ks len p root none = let n =
+    IsAt-within cs p (omega (arith, slice_get_within ks p root.0 root.1, len)) in none-some n.0 (sym none ∙ n.1)
 
-pub lists-all : (cs : List Contents) (ks : List Phase) (all left : List ℕ) (listed : List (Phase × Node)) → left ≡ [] → ((rest : List (Phase × Node)) → ListsRoots cs ks left rest → ListsRoots cs ks all (listed ++ rest)) → ListsRoots cs ks all listed
-lists-all cs ks all left listed e h = subst (ListsRoots cs ks all) (append-nil listed) (h [] (subst (λ ps. ListsRoots cs ks ps []) (sym e) refl))
+pub lists-all : (cs : List Contents) (ks : List Phase) (all left : List ℕ) (listed : List (Phase × Node)) → left ≡ []
+    → ((rest : List (Phase × Node)) → ListsRoots cs ks left rest → ListsRoots cs ks all (listed ++ rest))
+    → ListsRoots cs ks all listed
+lists-all cs ks all left listed e h =
+    subst (ListsRoots cs ks all) (append-nil listed) (h [] (subst (λ ps. ListsRoots cs ks ps []) (sym e) refl))
 
-changeset_there : (cs : List Contents) (n : Node) (k : ℕ) → IsAt cs n k → (c : Contents) × (slice_get cs k ≡ Some c) × (node_of c ≡ n)
+changeset_there : (cs : List Contents) (n : Node) (k : ℕ) → IsAt cs n k
+    → (c : Contents) × (slice_get cs k ≡ Some c) × (node_of c ≡ n)
 changeset_there cs n k at =
     let c = slice_get_some cs k (placed_within cs n k at) in
     (c.0, c.1, same_Some (node_of c.0) n (sym (IsAt-from cs k c.0 (node_of c.0) c.1 refl) ∙ at))
@@ -330,7 +412,18 @@ module _ (cs : List Contents) (ks : List Phase) (j : ℕ) (h : Held) (at : slice
         begins = λ p at_p is same.
             let place = place_from_Contains (held_of cs ks) p at_p in
             let up = parts-at cs ks place.0 p place.1 in
-            none (place.0, (h.changeset, node_of p.changeset, parts.0, is, IsAt-from cs place.0 p.changeset (node_of p.changeset) up.0 refl), up.1 ∙ ap (λ x. Some x) (same ∙ sym k_is));
+            none (
+              place.0,
+              (
+                h.changeset,
+                node_of p.changeset,
+                parts.0,
+                is,
+                IsAt-from cs place.0 p.changeset (node_of p.changeset) up.0 refl,
+              ),
+              up.1
+                  ∙ ap (λ x. Some x) (same ∙ sym k_is),
+            );
       }
 
   place_of_root : IsRoot (state_of cs ks) h → IsRootPlace cs ks j
@@ -348,7 +441,8 @@ module _ (cs : List Contents) (ks : List Phase) (j : ℕ) (h : Held) (at : slice
             (subst (λ n. IsParent h.changeset n) (sym d.2) (subst (λ y. IsParent y parent.1) c_is parent.3)) refl,
       )
 
-drop_head : {X : Type 0} (xs : List X) (j : ℕ) (x : X) (ys : List X) → drop j xs ≡ x ∷ ys → (slice_get xs j ≡ Some x) × (drop (suc j) xs ≡ ys)
+drop_head : {X : Type 0} (xs : List X) (j : ℕ) (x : X) (ys : List X) → drop j xs ≡ x ∷ ys
+    → (slice_get xs j ≡ Some x) × (drop (suc j) xs ≡ ys)
 drop_head [] zero x ys e = absurd (omega (arith, ap length e))
 drop_head [] (suc j) x ys e = absurd (omega (arith, ap length e))
 drop_head (y ∷ xs) zero x ys e =
@@ -375,20 +469,29 @@ module _ (cs : List Contents) (ks : List Phase) where
 
   later : (j : ℕ) (xs : List ℕ) → AreRootsFrom j xs → ¬ (IsRootPlace cs ks j) → AreRootsFrom (suc j) xs
   later j xs are none p = (
-    λ h. let x = (are p).0 h in (elim (cases_eq j p) [ inl e ↦ absurd (none (subst (IsRootPlace cs ks) (sym e) x.1)) | inr ne ↦ omega (arith, x.0, ne) ], x.1),
+    λ h. let x = (are p).0 h in (
+      elim (cases_eq j p)
+          [ inl e ↦ absurd (none (subst (IsRootPlace cs ks) (sym e) x.1)) | inr ne ↦ omega (arith, x.0, ne) ],
+      x.1,
+    ),
     λ h. (are p).1 (omega (arith, h.0), h.1),
   )
 
-  listed_from : (hs : List Held) (j : ℕ) → drop j (held_of cs ks) ≡ hs → (xs : List ℕ) (out : List (Phase × Node)) → Ascends xs → AreRootsFrom j xs → ListsRoots cs ks xs out → AreRootsAmong (state_of cs ks) hs out
+  listed_from : (hs : List Held) (j : ℕ) → drop j (held_of cs ks) ≡ hs → (xs : List ℕ) (out : List (Phase × Node))
+      → Ascends xs → AreRootsFrom j xs → ListsRoots cs ks xs out → AreRootsAmong (state_of cs ks) hs out
   listed_from [] j e [] out up are lists = lists
   listed_from [] j e (x ∷ xs) out up are lists =
       let root = (are x).0 (Contains-first x xs) in
       let c = changeset_there cs lists.0.1 x lists.2 in
-      absurd (past_end (held_of cs ks) j x (record { changeset = c.0; phase = lists.0.0 }) e root.0 (held-at cs ks x c.0 lists.0.0 c.1 lists.1))
+      absurd (past_end (held_of cs ks) j x (record { changeset = c.0; phase = lists.0.0 }) e root.0
+      (held-at cs ks x c.0 lists.0.0 c.1 lists.1))
   listed_from (h ∷ hs) j e [] out up are lists =
       let at = drop_head (held_of cs ks) j h hs e in
       let none : ¬ (IsRootPlace cs ks j) = λ r. Contains-none j ((are j).1 (omega arith, r)) in
-      inr (λ is. none (place_of_root cs ks j h at.0 is), listed_from hs (suc j) at.1 [] out up (later j [] are none) lists)
+      inr (
+        λ is. none (place_of_root cs ks j h at.0 is),
+        listed_from hs (suc j) at.1 [] out up (later j [] are none) lists,
+      )
   listed_from (h ∷ hs) j e (x ∷ xs) out up are lists =
       let at = drop_head (held_of cs ks) j h hs e in
       let first = (are x).0 (Contains-first x xs) in
@@ -396,16 +499,23 @@ module _ (cs : List Contents) (ks : List Phase) where
         | inl same ↦
             let parts = parts-at cs ks j h at.0 in
             let r = lists.0 in
-            let phase_is : h.phase ≡ r.0 = same_Some h.phase r.0 (sym parts.1 ∙ sym (ap (slice_get ks) same) ∙ lists.1) in
-            let node_is : node_of h.changeset ≡ r.1 = same_Some (node_of h.changeset) r.1 (sym (IsAt-from cs j h.changeset (node_of h.changeset) parts.0 refl) ∙ sym (ap (slice_get (nodes cs)) same) ∙ lists.2) in
+            let phase_is : h.phase ≡ r.0 =
+            same_Some h.phase r.0 (sym parts.1 ∙ sym (ap (slice_get ks) same) ∙ lists.1) in
+            let node_is : node_of h.changeset ≡ r.1 =
+            same_Some (node_of h.changeset) r.1
+            (sym (IsAt-from cs j h.changeset (node_of h.changeset) parts.0 refl)
+            ∙ sym (ap (slice_get (nodes cs)) same) ∙ lists.2) in
             inl (
               root_of_place cs ks j h at.0 (subst (IsRootPlace cs ks) same first.1),
               lists.3,
               lists.4 ∙ (λ t. (sym phase_is t, sym node_is t) ∷ lists.3),
-              listed_from hs (suc j) at.1 xs lists.3 (λ i k l within. up (suc i) (suc k) (omega (arith, l)) (omega (arith, within)))
+              listed_from hs (suc j) at.1 xs lists.3
+                  (λ i k l within. up (suc i) (suc k) (omega (arith, l)) (omega (arith, within)))
                   (λ p. (
-                    (λ in_rest. let l = above_first x xs up p in_rest in (omega (arith, l, same), ((are p).0 (Contains-later x xs p in_rest)).1)),
-                    (λ y. elim (Contains-cons_cases x xs p ((are p).1 (omega (arith, y.0), y.1))) [ inl is ↦ absurd (omega (arith, y.0, is, same)) | inr more ↦ more ]),
+                    (λ in_rest. let l = above_first x xs up p in_rest in
+                        (omega (arith, l, same), ((are p).0 (Contains-later x xs p in_rest)).1)),
+                    (λ y. elim (Contains-cons_cases x xs p ((are p).1 (omega (arith, y.0), y.1)))
+                        [ inl is ↦ absurd (omega (arith, y.0, is, same)) | inr more ↦ more ]),
                   ))
                   lists.5,
             )
@@ -414,10 +524,14 @@ module _ (cs : List Contents) (ks : List Phase) where
               | inl is ↦ ne is
               | inr more ↦ let l = above_first x xs up j more in omega (arith, l, first.0)
             ] in
-            inr (λ is. none (place_of_root cs ks j h at.0 is), listed_from hs (suc j) at.1 (x ∷ xs) out up (later j (x ∷ xs) are none) lists)
+            inr (
+              λ is. none (place_of_root cs ks j h at.0 is),
+              listed_from hs (suc j) at.1 (x ∷ xs) out up (later j (x ∷ xs) are none) lists,
+            )
       ]
 
-  pub listed-are : (places : List ℕ) (out : List (Phase × Node)) → IsStrictlySortedBy nat_cmp places → AreRootPlaces cs ks places → ListsRoots cs ks places out → AreRoots (state_of cs ks) out
+  pub listed-are : (places : List ℕ) (out : List (Phase × Node)) → IsStrictlySortedBy nat_cmp places
+      → AreRootPlaces cs ks places → ListsRoots cs ks places out → AreRoots (state_of cs ks) out
   listed-are places out sorted are lists =
       listed_from (held_of cs ks) 0 refl places out (λ i j l within. below_from_sorted places i j 0 sorted l within)
       (λ p. ((λ h. (omega arith, (are p).0 h)), (λ h. (are p).1 h.1))) lists

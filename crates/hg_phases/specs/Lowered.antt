@@ -9,7 +9,8 @@ use Rattle.hg_phases.specs.State.{State, Held, rank}
 
 -- a changeset with this id was held, and has a lower phase now
 abbrev pub WentDown : State → State → Node → Type 0
-WentDown s t n = (h : Held) × (g : Held) × Contains s.held h × Contains t.held g × (g.changeset ≡ h.changeset) × (node_of h.changeset ≡ n) × (rank g.phase < rank h.phase)
+WentDown s t n = (h : Held) × (g : Held) × Contains s.held h × Contains t.held g × (g.changeset ≡ h.changeset)
+    × (node_of h.changeset ≡ n) × (rank g.phase < rank h.phase)
 
 -- the changeset with this id is held, and has a phase above this one
 abbrev pub IsAbove : State → Node → Phase → Type 0

@@ -30,7 +30,8 @@ IsTouched cs log p = (e : LoweredPlace) × Contains log e × IsFamily cs e.place
 
 -- the roots that are kept are those of the changesets before a place, before what was logged went down
 abbrev pub AreRootsBefore : List Contents → PhaseRoots → List LoweredPlace → ℕ → Type 0
-AreRootsBefore cs kept log before = AreRootPlaces (take before cs) (take before (phases_before cs kept.phases log)) kept.roots.keys
+AreRootsBefore cs kept log before =
+    AreRootPlaces (take before cs) (take before (phases_before cs kept.phases log)) kept.roots.keys
 
 -- a phase for each changeset, and exactly the roots
 pub record AreKept (cs : List Contents) (kept : PhaseRoots) : Type 0 where

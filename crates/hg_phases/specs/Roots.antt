@@ -19,7 +19,9 @@ root_of h = (h.phase, node_of h.changeset)
 -- exactly those of these changesets that are roots of the state, each once, in their order
 abbrev pub AreRootsAmong : State → List Held → List (Phase × Node) → Type 0
 AreRootsAmong s [] roots = roots ≡ []
-AreRootsAmong s (h ∷ hs) roots = (IsRoot s h × (rest : List (Phase × Node)) × (roots ≡ root_of h ∷ rest) × AreRootsAmong s hs rest) ⊎ (¬ (IsRoot s h) × AreRootsAmong s hs roots)
+AreRootsAmong s (h ∷ hs) roots =
+    (IsRoot s h × (rest : List (Phase × Node)) × (roots ≡ root_of h ∷ rest) × AreRootsAmong s hs rest)
+    ⊎ (¬ (IsRoot s h) × AreRootsAmong s hs roots)
 
 -- exactly the roots of the state, each once, in the graph's order
 abbrev pub AreRoots : State → List (Phase × Node) → Type 0

@@ -17,4 +17,6 @@ abbrev pub same_roots : List (Phase × Node) → List (Phase × Node) → Bool
 same_roots = pointwise same_root
 
 pub roots_equivalence : IsEquivalence same_roots
-roots_equivalence = lists_equiv (and_equiv (on_equiv (λ (r : Phase × Node). rank r.0) nat_eq_equiv) (on_equiv (λ (r : Phase × Node). r.1.0) nat_list_eq_equiv))
+roots_equivalence =
+    lists_equiv (and_equiv (on_equiv (λ (r : Phase × Node). rank r.0) nat_eq_equiv)
+    (on_equiv (λ (r : Phase × Node). r.1.0) nat_list_eq_equiv))

@@ -54,7 +54,10 @@ impl LoweringLog {
     /// The nodes of what went down and stands before a place, in no promised order: those of the changesets before it
     /// whose phase is lower than when the log was begun. It takes no memory where there are none.
     pub fn nodes_before(&self, graph: &Graph, before: usize) -> Result<Vec<Node>, AllocError>
-        ensures lowered { IfOk result (λ found. (phase : Phase) (start now : List Phase) → IsGraph graph.now → IsLog phase start now self.now → ListsLowered (state_of (take before graph.now) (take before start)) (state_of graph.now now) found.items) }
+        ensures lowered { IfOk result (λ found. (phase : Phase) (start now : List Phase) → IsGraph graph.now
+            → IsLog phase start now self.now
+            → ListsLowered (state_of (take before graph.now) (take before start)) (state_of graph.now now)
+            found.items) }
         ensures memory { OnErr result (HasLogged self.now before) }
     {
         nodes_of(graph, &self.places, before, *self.places.allocator())

@@ -1,7 +1,7 @@
 //! The phases that listed roots give.
 //!
-//! Each place is marked with the highest phase of a root there. Parents stand before children, so one sweep forward gives
-//! each changeset the highest of its own mark and its parents' phases.
+//! Each place is marked with the highest phase of a root there. Parents stand before children, so one sweep forward
+//! gives each changeset the highest of its own mark and its parents' phases.
 ghost use Rattle.std.specs.Prelude.{◌≡◌, ◌<◌, ◌∷◌, ◌++◌, [], List, Some, length, slice_get, IfOk, IfSome, MatchOption};
 ghost use Rattle.hg_changeset.specs.declared.node.Node.{Node};
 ghost use Rattle.hg_phases.specs.declared.phase.Phase.{Phase};
@@ -20,7 +20,8 @@ pub(crate) fn phases_under(
     alloc: Global,
     roots: &[(Phase, Node)],
 ) -> Result<Vec<Phase>, AllocError>
-    ensures opened { IfOk result (λ phases. (length phases.items ≡ length graph.now) × IsOpened graph.now roots.now (state_of graph.now phases.items)) }
+    ensures opened { IfOk result (λ phases. (length phases.items ≡ length graph.now)
+        × IsOpened graph.now roots.now (state_of graph.now phases.items)) }
     ensures valid { IfOk result (λ phases. IsValid (state_of graph.now phases.items)) }
 {
     let marks = marks_of(graph, alloc, roots)?;
@@ -48,7 +49,8 @@ fn marks_of(graph: &Graph, alloc: Global, roots: &[(Phase, Node)]) -> Result<Vec
 // Marks where the root stands, if it is held.
 fn mark(graph: &Graph, marks: &mut Vec<Phase>, root: &(Phase, Node))
     requires { length marks.old.items ≡ length graph.now }
-    ensures { (roots : List (Phase × Node)) → AreMarked graph.now roots marks.old.items → AreMarked graph.now (roots ++ root.now ∷ []) marks.new.items }
+    ensures { (roots : List (Phase × Node)) → AreMarked graph.now roots marks.old.items
+        → AreMarked graph.now (roots ++ root.now ∷ []) marks.new.items }
 {
     match graph.place(root.1) {
         Some(place) => raise(marks, place, root.0),

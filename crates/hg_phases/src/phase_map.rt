@@ -1,13 +1,14 @@
 //! The phases of a graph's changesets, one at each place.
 //!
-//! What is kept is the phase of each changeset, which is the plain form of a graph's phases, and the index of their roots
-//! in [`PhaseRoots`](crate::PhaseRoots). The contracts say no more than what that means for the graph, by `phases_at`, and
-//! by `phases_before` where a log is at hand. No public call gives a changeset a phase without its parents: the phase
-//! rule is kept here alone.
+//! What is kept is the phase of each changeset, which is the plain form of a graph's phases, and the index of their
+//! roots in [`PhaseRoots`](crate::PhaseRoots). The contracts say no more than what that means for the graph, by
+//! `phases_at`, and by `phases_before` where a log is at hand. No public call gives a changeset a phase without its
+//! parents: the phase rule is kept here alone.
 //!
 //! Lowering a changeset lowers its ancestors with it. The walk keeps one log of what it lowered, with the phase that
 //! each had: the log is the queue of the walk, the answer, and what takes the lowering back.
-ghost use Rattle.std.specs.Prelude.{OnOk, slice_set, All, IfOk, IsOkAnd, IfSome, MatchOption, OnErr, length, take, slice_get, Some, [], ◌∷◌, ◌++◌, ◌+◌, ◌-◌, ℕ, List, ◌≡◌, ◌<◌, ◌⊎◌};
+ghost use Rattle.std.specs.Prelude.{OnOk, slice_set, All, IfOk, IsOkAnd, IfSome, MatchOption, OnErr, length, take};
+ghost use Rattle.std.specs.Prelude.{slice_get, Some, [], ◌∷◌, ◌++◌, ◌+◌, ◌-◌, ℕ, List, ◌≡◌, ◌<◌, ◌⊎◌};
 ghost use Rattle.hg_changeset.specs.declared.node.Node.{Node};
 ghost use Rattle.hg_graph.specs.Graph.{Holds as GraphHolds, IsGraph};
 ghost use Rattle.hg_graph.specs.Places.{IsAt};
@@ -52,10 +53,11 @@ impl PhaseMap {
         }
     }
 
-    /// The phases that listed roots give the changesets of a graph: each the highest phase of a listed root that is it or
-    /// an ancestor of it, and public where there is none. Roots that the graph doesn't hold say nothing.
+    /// The phases that listed roots give the changesets of a graph: each the highest phase of a listed root that is it
+    /// or an ancestor of it, and public where there is none. Roots that the graph doesn't hold say nothing.
     pub fn open(alloc: Global, graph: &Graph, roots: &Roots) -> Result<PhaseMap, AllocError>
-        ensures opened { IfOk result (λ map. (length (phases_at graph.now map) ≡ length graph.now) × IsOpened graph.now roots.now (kept_state graph.now map)) }
+        ensures opened { IfOk result (λ map. (length (phases_at graph.now map) ≡ length graph.now)
+            × IsOpened graph.now roots.now (kept_state graph.now map)) }
         ensures valid { IfOk result (λ map. IsValid (kept_state graph.now map)) }
     {
         let phases = phases_under(graph, alloc, roots.as_slice())?;
@@ -74,7 +76,9 @@ impl PhaseMap {
     /// The phase of the changeset with this id, if it is held.
     pub fn phase_of(&self, graph: &Graph, node: Node) -> Result<Option<Phase>, AllocError>
         requires { length (phases_at graph.now self.now) ≡ length graph.now }
-        ensures { IsOkAnd result (λ phase. MatchOption phase (¬ (Holds (kept_state graph.now self.now) node)) (IsPhaseOf (kept_state graph.now self.now) node)) }
+        ensures { IsOkAnd result
+            (λ phase. MatchOption phase (¬ (Holds (kept_state graph.now self.now) node))
+            (IsPhaseOf (kept_state graph.now self.now) node)) }
     {
         match graph.place(node) {
             Some(place) => Ok(Some(self.at(graph, place))),
@@ -95,23 +99,28 @@ impl PhaseMap {
     pub fn admit(&mut self, graph: &Graph, node: Node) -> Result<(), AllocError>
         requires len { length graph.now ≡ length (phases_at (before_last graph.now) self.old) + 1 }
         requires added { IsAt graph.now node (length graph.now - 1) }
-        ensures admitted { OnOk result (phases_at graph.now self.new ≡ phases_at (before_last graph.now) self.old ++ Phase.Secret ∷ []) }
-        ensures valid { IsGraph graph.now → IsValid (kept_state (before_last graph.now) self.old) → OnOk result (IsValid (kept_state graph.now self.new)) }
+        ensures admitted { OnOk result (phases_at graph.now self.new ≡ phases_at (before_last graph.now) self.old
+            ++ Phase.Secret ∷ []) }
+        ensures valid { IsGraph graph.now → IsValid (kept_state (before_last graph.now) self.old)
+            → OnOk result (IsValid (kept_state graph.now self.new)) }
         ensures unchanged { OnErr result (self.new ≡ self.old) }
     {
         self.phases.push(Phase::Secret)?;
         Ok(())
     }
 
-    /// Gives the changeset with this id and its ancestors the phase, where theirs is higher, and tells which went down. A
-    /// refusal leaves every phase as it was, and comes only where the changeset's phase is higher, so that it goes down.
+    /// Gives the changeset with this id and its ancestors the phase, where theirs is higher, and tells which went down.
+    /// A refusal leaves every phase as it was, and comes only where the changeset's phase is higher, so that it goes
+    /// down.
     pub fn lower(&mut self, graph: &Graph, node: Node, phase: Phase) -> Result<Lowered, AllocError>
         requires len { length (phases_at graph.now self.old) ≡ length graph.now }
         requires valid { IsValid (kept_state graph.now self.old) }
         requires held { GraphHolds graph.now node }
-        ensures least { OnOk result (IsLeast (kept_state graph.now self.old) (bound_alone (node, phase) ∷ []) (kept_state graph.now self.new)) }
+        ensures least { OnOk result (IsLeast (kept_state graph.now self.old) (bound_alone (node, phase) ∷ [])
+            (kept_state graph.now self.new)) }
         ensures valid { OnOk result (IsValid (kept_state graph.now self.new)) }
-        ensures lowered { IfOk result (λ lowered. ListsLowered (kept_state graph.now self.old) (kept_state graph.now self.new) lowered.nodes.items) }
+        ensures lowered { IfOk result (λ lowered. ListsLowered (kept_state graph.now self.old)
+            (kept_state graph.now self.new) lowered.nodes.items) }
         ensures unchanged { OnErr result (self.new ≡ self.old) }
         ensures memory { OnErr result (IsAbove (kept_state graph.now self.old) node phase) }
     {
@@ -137,9 +146,11 @@ impl PhaseMap {
         requires valid { IsValid (kept_state graph.now self.old) }
         requires held { GraphHolds graph.now node }
         requires fresh { log.old ≡ [] }
-        ensures least { OnOk result (IsLeast (kept_state graph.now self.old) (bound_alone (node, phase) ∷ []) (kept_state graph.now self.new)) }
+        ensures least { OnOk result (IsLeast (kept_state graph.now self.old) (bound_alone (node, phase) ∷ [])
+            (kept_state graph.now self.new)) }
         ensures valid { OnOk result (IsValid (kept_state graph.now self.new)) }
-        ensures lowered { IfOk result (λ lowered. ListsLowered (kept_state graph.now self.old) (kept_state graph.now self.new) lowered.nodes.items) }
+        ensures lowered { IfOk result (λ lowered. ListsLowered (kept_state graph.now self.old)
+            (kept_state graph.now self.new) lowered.nodes.items) }
         ensures logged { IsLog phase (phases_at graph.now self.old) (phases_at graph.now self.new) log.new }
         ensures undoes { phases_before graph.now self.new log.new ≡ phases_at graph.now self.old }
         ensures memory { OnErr result (IsAbove (kept_state graph.now self.old) node phase) }
@@ -163,13 +174,16 @@ impl PhaseMap {
         requires len { length (phases_at graph.now self.old) ≡ length graph.now }
         requires valid { IsValid (kept_state graph.now self.old) }
         requires held { GraphHolds graph.now node }
-        ensures least { OnOk result (IsLeast (kept_state graph.now self.old) (bound_alone (node, phase) ∷ []) (kept_state graph.now self.new)) }
+        ensures least { OnOk result (IsLeast (kept_state graph.now self.old) (bound_alone (node, phase) ∷ [])
+            (kept_state graph.now self.new)) }
         ensures valid { OnOk result (IsValid (kept_state graph.now self.new)) }
-        ensures logged { (start : List Phase) → IsLog phase start (phases_at graph.now self.old) log.old → IsLog phase start (phases_at graph.now self.new) log.new }
+        ensures logged { (start : List Phase) → IsLog phase start (phases_at graph.now self.old) log.old
+            → IsLog phase start (phases_at graph.now self.new) log.new }
         ensures undoes { phases_before graph.now self.new log.new ≡ phases_before graph.now self.old log.old }
         ensures len { length (phases_at graph.now self.new) ≡ length (phases_at graph.now self.old) }
         ensures memory { OnErr result (IsAbove (kept_state graph.now self.old) node phase) }
-        ensures still { IsAbove (kept_state graph.now self.old) node phase ⊎ ((phases_at graph.now self.new ≡ phases_at graph.now self.old) × (log.new ≡ log.old)) }
+        ensures still { IsAbove (kept_state graph.now self.old) node phase
+            ⊎ ((phases_at graph.now self.new ≡ phases_at graph.now self.old) × (log.new ≡ log.old)) }
     {
         match graph.place(node) {
             Some(place) => self.lower_at(graph, &mut log.places, place, phase),
@@ -183,7 +197,8 @@ impl PhaseMap {
         requires len { length (phases_at graph.now self.old) ≡ length graph.now }
         requires valid { IsValid (state_of graph.now (phases_before graph.now self.old log.old)) }
         requires logged { IsLogOf graph.now self.old log.old }
-        ensures back { phases_at (take before graph.now) self.new ≡ take before (phases_before graph.now self.old log.old) }
+        ensures back { phases_at (take before graph.now) self.new
+            ≡ take before (phases_before graph.now self.old log.old) }
         ensures valid { IsValid (kept_state (take before graph.now) self.new) }
         ensures emptied { log.new ≡ [] }
     {
@@ -214,8 +229,10 @@ impl PhaseMap {
         requires len { length self.old ≡ length graph.now }
         requires within { place < length self.old }
         requires valid { IsValid (state_of graph.now self.old) }
-        ensures least { OnOk result ((node : Node) → IsAt graph.now node place → IsLeast (state_of graph.now self.old) (bound_alone (node, phase) ∷ []) (state_of graph.now self.new)) }
-        ensures logged { (start : List Phase) → IsLog phase start self.old log.old.items → IsLog phase start self.new log.new.items }
+        ensures least { OnOk result ((node : Node) → IsAt graph.now node place
+            → IsLeast (state_of graph.now self.old) (bound_alone (node, phase) ∷ []) (state_of graph.now self.new)) }
+        ensures logged { (start : List Phase) → IsLog phase start self.old log.old.items
+            → IsLog phase start self.new log.new.items }
         ensures undoes { restored self.new log.new.items ≡ restored self.old log.old.items }
         ensures len { length self.new ≡ length self.old }
         ensures memory { OnErr result (IsAboveAt phase self.old place) }
@@ -239,7 +256,8 @@ impl PhaseMap {
         phase: Phase,
     ) -> Result<(), AllocError>
         requires { IfSome place (λ p. p < length self.old) }
-        ensures lowered { OnOk result (MatchOption place (IsUnlowered self.old log.old.items self.new log.new.items) (λ p. IsOneLowered phase p self.old log.old.items self.new log.new.items)) }
+        ensures lowered { OnOk result (MatchOption place (IsUnlowered self.old log.old.items self.new log.new.items)
+            (λ p. IsOneLowered phase p self.old log.old.items self.new log.new.items)) }
         ensures unchanged { OnErr result (IsUnlowered self.old log.old.items self.new log.new.items) }
     {
         match place {

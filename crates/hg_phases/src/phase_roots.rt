@@ -1,9 +1,11 @@
 //! The phases of a graph's changesets, kept with the places of their roots.
 //!
-//! The roots are what is kept: they are exactly those of the state, and are told without a look at the other changesets.
-//! The phase at each place is an index of them, so that a phase is looked up at once. A part moves the index first, and
-//! the roots when all of it was lowered: so what is taken back after a refusal is the index alone, and takes no memory.
-ghost use Rattle.std.specs.Prelude.{◌≡◌, ◌<◌, ◌≤◌, ◌+◌, ◌-◌, [], ◌∷◌, ◌++◌, List, Some, OnOk, OnErr, IfOk, IsOkAnd, MatchOption, IsTrue, ◌↔◌, length, slice_get};
+//! The roots are what is kept: they are exactly those of the state, and are told without a look at the other
+//! changesets. The phase at each place is an index of them, so that a phase is looked up at once. A part moves the
+//! index first, and the roots when all of it was lowered: so what is taken back after a refusal is the index alone, and
+//! takes no memory.
+ghost use Rattle.std.specs.Prelude.{◌≡◌, ◌<◌, ◌≤◌, ◌+◌, ◌-◌, [], ◌∷◌, ◌++◌, List, Some, OnOk, OnErr, IfOk, IsOkAnd};
+ghost use Rattle.std.specs.Prelude.{MatchOption, IsTrue, ◌↔◌, length, slice_get};
 ghost use Rattle.hg_graph.specs.Graph.{Holds as GraphHolds, IsGraph};
 ghost use Rattle.hg_graph.specs.Places.{IsAt};
 ghost use Rattle.hg_phases.specs.declared.phase.Phase.{Phase};
@@ -51,8 +53,8 @@ impl PhaseRoots {
         }
     }
 
-    /// The phases that listed roots give the changesets of a graph: each the highest phase of a listed root that is it or
-    /// an ancestor of it, and public where there is none. Roots that the graph doesn't hold say nothing.
+    /// The phases that listed roots give the changesets of a graph: each the highest phase of a listed root that is it
+    /// or an ancestor of it, and public where there is none. Roots that the graph doesn't hold say nothing.
     pub fn open(alloc: Global, graph: &Graph, roots: &Roots) -> Result<PhaseRoots, AllocError>
         ensures opened { IfOk result (λ kept. IsOpened graph.now roots.now (kept_state graph.now kept.phases)) }
         ensures valid { IfOk result (λ kept. IsValid (kept_state graph.now kept.phases)) }
@@ -81,7 +83,9 @@ impl PhaseRoots {
     /// The phase of the changeset with this id, if it is held.
     pub fn phase_of(&self, graph: &Graph, node: Node) -> Result<Option<Phase>, AllocError>
         requires { length (phases_at graph.now self.now.phases) ≡ length graph.now }
-        ensures { IsOkAnd result (λ phase. MatchOption phase (¬ (Holds (kept_state graph.now self.now.phases) node)) (IsPhaseOf (kept_state graph.now self.now.phases) node)) }
+        ensures { IsOkAnd result
+            (λ phase. MatchOption phase (¬ (Holds (kept_state graph.now self.now.phases) node))
+            (IsPhaseOf (kept_state graph.now self.now.phases) node)) }
     {
         self.phases.phase_of(graph, node)
     }
@@ -95,8 +99,8 @@ impl PhaseRoots {
         self.phases.at(graph, place)
     }
 
-    /// The roots: exactly the draft and secret changesets none of whose parents has their phase, each once, in the graph's
-    /// order. It costs what the roots are.
+    /// The roots: exactly the draft and secret changesets none of whose parents has their phase, each once, in the
+    /// graph's order. It costs what the roots are.
     pub fn roots(&self, graph: &Graph) -> Result<Roots, AllocError>
         requires kept { AreKept graph.now self.now }
         ensures { IfOk result (AreRoots (kept_state graph.now self.now.phases)) }
@@ -109,10 +113,13 @@ impl PhaseRoots {
         requires len { length graph.now ≡ length (phases_at (before_last graph.now) self.old.phases) + 1 }
         requires added { IsAt graph.now node (length graph.now - 1) }
         requires kept { AreKept (before_last graph.now) self.old }
-        ensures admitted { OnOk result (phases_at graph.now self.new.phases ≡ phases_at (before_last graph.now) self.old.phases ++ Phase.Secret ∷ []) }
+        ensures admitted { OnOk result (phases_at graph.now self.new.phases
+            ≡ phases_at (before_last graph.now) self.old.phases ++ Phase.Secret ∷ []) }
         ensures kept { OnOk result (AreKept graph.now self.new) }
-        ensures valid { IsGraph graph.now → IsValid (kept_state (before_last graph.now) self.old.phases) → OnOk result (IsValid (kept_state graph.now self.new.phases)) }
-        ensures unchanged { OnErr result ((self.new.phases ≡ self.old.phases) × AreKept (before_last graph.now) self.new) }
+        ensures valid { IsGraph graph.now → IsValid (kept_state (before_last graph.now) self.old.phases)
+            → OnOk result (IsValid (kept_state graph.now self.new.phases)) }
+        ensures unchanged { OnErr result
+            ((self.new.phases ≡ self.old.phases) × AreKept (before_last graph.now) self.new) }
     {
         self.phases.admit(graph, node)?;
         match self.update(graph, &LoweringLog::new(self.alloc), graph.len() - 1) {
@@ -124,15 +131,18 @@ impl PhaseRoots {
         }
     }
 
-    /// Gives the changeset with this id and its ancestors the phase, where theirs is higher, and tells which went down. A
-    /// refusal leaves every phase as it was, and comes only where the changeset's phase is higher, so that it goes down.
+    /// Gives the changeset with this id and its ancestors the phase, where theirs is higher, and tells which went down.
+    /// A refusal leaves every phase as it was, and comes only where the changeset's phase is higher, so that it goes
+    /// down.
     pub fn lower(&mut self, graph: &Graph, node: Node, phase: Phase) -> Result<Lowered, AllocError>
         requires valid { IsValid (kept_state graph.now self.old.phases) }
         requires held { GraphHolds graph.now node }
         requires kept { AreKept graph.now self.old }
-        ensures least { OnOk result (IsLeast (kept_state graph.now self.old.phases) (bound_alone (node, phase) ∷ []) (kept_state graph.now self.new.phases)) }
+        ensures least { OnOk result (IsLeast (kept_state graph.now self.old.phases) (bound_alone (node, phase) ∷ [])
+            (kept_state graph.now self.new.phases)) }
         ensures valid { OnOk result (IsValid (kept_state graph.now self.new.phases)) }
-        ensures lowered { IfOk result (λ lowered. ListsLowered (kept_state graph.now self.old.phases) (kept_state graph.now self.new.phases) lowered.nodes.items) }
+        ensures lowered { IfOk result (λ lowered. ListsLowered (kept_state graph.now self.old.phases)
+            (kept_state graph.now self.new.phases) lowered.nodes.items) }
         ensures kept { AreKept graph.now self.new }
         ensures unchanged { OnErr result (self.new.phases ≡ self.old.phases) }
         ensures memory { OnErr result (IsAbove (kept_state graph.now self.old.phases) node phase) }
@@ -147,7 +157,8 @@ impl PhaseRoots {
         }
     }
 
-    // Lowers, tells from the log what went down, and updates the roots. After a refusal the log takes back what was done.
+    // Lowers, tells from the log what went down, and updates the roots. After a refusal the log takes back what was
+    // done.
     fn lower_and_update(
         &mut self,
         graph: &Graph,
@@ -159,10 +170,13 @@ impl PhaseRoots {
         requires held { GraphHolds graph.now node }
         requires kept { AreKept graph.now self.old }
         requires fresh { log.old ≡ [] }
-        ensures least { OnOk result (IsLeast (kept_state graph.now self.old.phases) (bound_alone (node, phase) ∷ []) (kept_state graph.now self.new.phases)) }
+        ensures least { OnOk result (IsLeast (kept_state graph.now self.old.phases) (bound_alone (node, phase) ∷ [])
+            (kept_state graph.now self.new.phases)) }
         ensures valid { OnOk result (IsValid (kept_state graph.now self.new.phases)) }
-        ensures lowered { IfOk result (λ lowered. ListsLowered (kept_state graph.now self.old.phases) (kept_state graph.now self.new.phases) lowered.nodes.items) }
-        ensures logged { IsLog phase (phases_at graph.now self.old.phases) (phases_at graph.now self.new.phases) log.new }
+        ensures lowered { IfOk result (λ lowered. ListsLowered (kept_state graph.now self.old.phases)
+            (kept_state graph.now self.new.phases) lowered.nodes.items) }
+        ensures logged { IsLog phase (phases_at graph.now self.old.phases) (phases_at graph.now self.new.phases)
+            log.new }
         ensures undoes { phases_before graph.now self.new.phases log.new ≡ phases_at graph.now self.old.phases }
         ensures kept { OnOk result (AreKept graph.now self.new) }
         ensures rooted { OnErr result (AreRootsBefore graph.now self.new log.new (length graph.now)) }
@@ -174,9 +188,9 @@ impl PhaseRoots {
         Ok(Lowered { nodes })
     }
 
-    /// Moves the roots of the changesets before a place to where they are since the others were added and what was logged
-    /// went down. A refusal leaves everything as it was, and comes only where something was logged or added. It costs what
-    /// was, and the children of what went down.
+    /// Moves the roots of the changesets before a place to where they are since the others were added and what was
+    /// logged went down. A refusal leaves everything as it was, and comes only where something was logged or added. It
+    /// costs what was, and the children of what went down.
     pub fn update(
         &mut self,
         graph: &Graph,

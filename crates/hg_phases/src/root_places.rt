@@ -2,7 +2,8 @@
 //!
 //! A changeset that is added, or goes down, leaves the roots, joins those of its new phase, or stays among them, and so
 //! does each child of it. Nothing else changes: these are looked at, and no other place.
-ghost use Rattle.std.specs.Prelude.{◌≡◌, ◌<◌, ◌≤◌, ◌↔◌, ◌⊎◌, ℕ, Some, All, Contains, length, slice_get, take, IsTrue, IfOk, IfSome, OnOk, OnErr};
+ghost use Rattle.std.specs.Prelude.{◌≡◌, ◌<◌, ◌≤◌, ◌↔◌, ◌⊎◌, ℕ, Some, All, Contains, length, slice_get, take, IsTrue};
+ghost use Rattle.std.specs.Prelude.{IfOk, IfSome, OnOk, OnErr};
 ghost use Rattle.hg_graph.specs.Graph.{IsGraph};
 ghost use Rattle.hg_phases.specs.declared.phase.Phase.{Phase};
 ghost use Rattle.hg_phases.specs.State.{state_of};
@@ -36,7 +37,8 @@ pub(crate) fn update_roots(
     requires logged { (phase : Phase) × IsLog phase (restored phases.now log.now) phases.now log.now }
     requires rooted { AreRootPlaces (take before graph.now) (take before (restored phases.now log.now)) roots.old.keys }
     ensures updated { OnOk result (AreRootPlaces graph.now phases.now roots.new.keys) }
-    ensures unchanged { OnErr result (AreRootPlaces (take before graph.now) (take before (restored phases.now log.now)) roots.new.keys) }
+    ensures unchanged { OnErr result
+        (AreRootPlaces (take before graph.now) (take before (restored phases.now log.now)) roots.new.keys) }
 {
     let touched = touched_by(graph, log, before, alloc)?;
     let gained = gained_roots(graph, phases, roots, &touched, alloc)?;
@@ -119,7 +121,8 @@ fn touched_by(
 ) -> Result<Vec<usize>, AllocError>
     requires within { before ≤ length graph.now }
     requires logged { All (λ e. e.place < length graph.now) log.now }
-    ensures touched { IfOk result (λ found. (p : ℕ) → Contains found.items p ↔ (((before ≤ p) × (p < length graph.now)) ⊎ IsTouched graph.now log.now p)) }
+    ensures touched { IfOk result (λ found. (p : ℕ) → Contains found.items p
+        ↔ (((before ≤ p) × (p < length graph.now)) ⊎ IsTouched graph.now log.now p)) }
     ensures graph { OnOk result (IsGraph graph.now) }
 {
     let mut found = added_places(graph, before, alloc)?;
@@ -145,7 +148,8 @@ fn added_places(graph: &Graph, before: usize, alloc: Global) -> Result<Vec<usize
 // Adds a place and those of the children of the changeset there.
 fn add_family(graph: &Graph, place: usize, found: &mut Vec<usize>) -> Result<(), AllocError>
     requires { place < length graph.now }
-    ensures { OnOk result ((p : ℕ) → Contains found.new.items p ↔ (Contains found.old.items p ⊎ IsFamily graph.now place p)) }
+    ensures { OnOk result ((p : ℕ) → Contains found.new.items p
+        ↔ (Contains found.old.items p ⊎ IsFamily graph.now place p)) }
 {
     found.push(place)?;
     found.extend_from_slice(graph.children(place))?;
@@ -162,7 +166,8 @@ fn gained_roots(
 ) -> Result<Vec<usize>, AllocError>
     requires len { length phases.now ≡ length graph.now }
     requires within { All (λ p. p < length graph.now) places.now }
-    ensures { IfOk result (λ found. (p : ℕ) → Contains found.items p ↔ (Contains places.now p × (IsRootPlace graph.now phases.now p × ¬ (Contains roots.now.keys p)))) }
+    ensures { IfOk result (λ found. (p : ℕ) → Contains found.items p
+        ↔ (Contains places.now p × (IsRootPlace graph.now phases.now p × ¬ (Contains roots.now.keys p)))) }
 {
     let mut found = Vec::new(alloc);
     for place in places {
@@ -194,7 +199,8 @@ fn lost_roots(
 ) -> Result<Vec<usize>, AllocError>
     requires len { length phases.now ≡ length graph.now }
     requires within { All (λ p. p < length graph.now) places.now }
-    ensures { IfOk result (λ found. (p : ℕ) → Contains found.items p ↔ (Contains places.now p × (¬ (IsRootPlace graph.now phases.now p) × Contains roots.now.keys p))) }
+    ensures { IfOk result (λ found. (p : ℕ) → Contains found.items p
+        ↔ (Contains places.now p × (¬ (IsRootPlace graph.now phases.now p) × Contains roots.now.keys p))) }
 {
     let mut found = Vec::new(alloc);
     for place in places {
@@ -218,7 +224,8 @@ fn is_lost(graph: &Graph, phases: &PhaseMap, roots: &BTreeSet<usize>, place: usi
 
 // Adds the places. After a refusal some of them may have been added.
 fn insert_all(set: &mut BTreeSet<usize>, places: &[usize]) -> Result<(), AllocError>
-    ensures added { OnOk result ((p : ℕ) → Contains set.new.keys p ↔ (Contains set.old.keys p ⊎ Contains places.now p)) }
+    ensures added { OnOk result ((p : ℕ) → Contains set.new.keys p
+        ↔ (Contains set.old.keys p ⊎ Contains places.now p)) }
     ensures kept { (p : ℕ) → Contains set.old.keys p → Contains set.new.keys p }
     ensures only { (p : ℕ) → Contains set.new.keys p → Contains set.old.keys p ⊎ Contains places.now p }
 {

@@ -9,8 +9,8 @@ use hg_changeset::Node;
 use std::alloc::Global;
 use std::marker::Model;
 
-/// Nodes with their phases, in the order in which they were listed. Any list will do: it may be redundant, and it may name
-/// nodes that nobody holds. Two are equal where they list the same, in the same order.
+/// Nodes with their phases, in the order in which they were listed. Any list will do: it may be redundant, and it may
+/// name nodes that nobody holds. Two are equal where they list the same, in the same order.
 #[derive(Debug, Drop)]
 pub struct Roots {
     listed: Vec<(Phase, Node)>,

@@ -81,8 +81,8 @@ fn some_phase(dice: &mut Dice) -> Phase {
     }
 }
 
-// A part of one changeset on what is held, and a child of it, with a bound on either or on the parent, or on a node that
-// nobody holds.
+// A part of one changeset on what is held, and a child of it, with a bound on either or on the parent, or on a node
+// that nobody holds.
 fn some_part(alloc: Global, graph: &Graph, dice: &mut Dice, number: usize) -> Option<Part> {
     let mut part = empty(alloc);
     let first = some_node(graph, dice);

@@ -1,5 +1,7 @@
 -- Names of a script after one of them is bound, and after several are.
-use Rattle.std.proofs.Common.{◌≡◌, ◌↔◌, IsTrue, Ordering, nat_eq, ℕ, List, [], ◌∷◌, Bool, true, false, cond, ◌+◌, ◌<◌, ◌++◌, ◌⊎◌, length, map, take, get_or, Option, Some, None, is_some, refl, sym, ap, subst, ◌∙◌, arith}
+use Rattle.std.proofs.Common.{◌≡◌, ◌↔◌, IsTrue, Ordering, nat_eq, ℕ, List, [], ◌∷◌, Bool, true, false, cond, ◌+◌, ◌<◌}
+use Rattle.std.proofs.Common.{◌++◌, ◌⊎◌, length, map, take, get_or, Option, Some, None, is_some, refl, sym, ap, subst}
+use Rattle.std.proofs.Common.{◌∙◌, arith}
 use Rattle.std.specs.declared.vec.Vec.{Vec}
 use Rattle.std.specs.declared.alloc.Global.{Global}
 use Rattle.std.specs.BTreeMap.{BTreeMap, UpdatesBy}
@@ -33,51 +35,67 @@ pub unequal : (xs ys : List ℕ) → bytes_eq xs ys ≡ false → bytes_eq ys xs
 unequal xs ys d = unequal_by (bytes_eq ys xs) xs ys d refl
 
 -- a name that isn't bs is equal to no key that bs is equal to
-apart : (bs cs ks : List ℕ) → bytes_eq bs cs ≡ false → is_eq (slice_cmp nat_cmp bs ks) ≡ true → is_eq (slice_cmp nat_cmp cs ks) ≡ false
+apart : (bs cs ks : List ℕ) → bytes_eq bs cs ≡ false → is_eq (slice_cmp nat_cmp bs ks) ≡ true
+    → is_eq (slice_cmp nat_cmp cs ks) ≡ false
 apart bs cs ks differ same =
     let at : bs ≡ ks = (bytes_eq-Decides bs ks).0 (sym (is_eq-slice_cmp bs ks) ∙ same) in
     is_eq-slice_cmp cs ks ∙ subst (λ l. bytes_eq cs l ≡ false) at (unequal bs cs differ)
 
 module _ {V : Type 0} where
-  others_stay : (bs : List ℕ) (m n : BTreeMap (Vec ℕ Global) V) → KeepsOthers (eq_by_cmp (λ (x y : Vec ℕ Global). slice_cmp nat_cmp x.items y.items)) (λ k. is_eq (slice_cmp nat_cmp bs k.items)) m.entries n.entries
+  others_stay : (bs : List ℕ) (m n : BTreeMap (Vec ℕ Global) V)
+      → KeepsOthers (eq_by_cmp (λ (x y : Vec ℕ Global). slice_cmp nat_cmp x.items y.items))
+      (λ k. is_eq (slice_cmp nat_cmp bs k.items)) m.entries n.entries
       → (cs : List ℕ) → bytes_eq bs cs ≡ false → value_of n cs ≡ value_of m cs
   unfolding KeepsOthers
   others_stay bs m n h cs differ =
-      h (λ k. is_eq (slice_cmp nat_cmp cs k.items)) (λ x y. (eq_by_cmp_equiv nat_list_cmp_total).congr cs x.items y.items) (λ k. apart bs cs k.items differ)
+      h (λ k. is_eq (slice_cmp nat_cmp cs k.items))
+      (λ x y. (eq_by_cmp_equiv nat_list_cmp_total).congr cs x.items y.items) (λ k. apart bs cs k.items differ)
 
   -- what a name stands for after one of them was bound
-  pub value_of-bound : (bs : List ℕ) (m n : BTreeMap (Vec ℕ Global) V) (w : Option V) → UpdatesBy (λ (x y : Vec ℕ Global). slice_cmp nat_cmp x.items y.items) (λ k. slice_cmp nat_cmp bs k.items) m n w
+  pub value_of-bound : (bs : List ℕ) (m n : BTreeMap (Vec ℕ Global) V) (w : Option V)
+      → UpdatesBy (λ (x y : Vec ℕ Global). slice_cmp nat_cmp x.items y.items) (λ k. slice_cmp nat_cmp bs k.items) m n w
       → (cs : List ℕ) → value_of n cs ≡ update bytes_eq (value_of m) bs w cs
   value_of-bound bs m n w h cs =
       ⊎_elim
-      (λ y. subst (λ l. value_of n l ≡ w) ((bytes_eq-Decides bs cs).0 y) h.1 ∙ sym (cond-true (bytes_eq bs cs) w (value_of m cs) y))
+      (λ y. subst (λ l. value_of n l ≡ w) ((bytes_eq-Decides bs cs).0 y) h.1
+      ∙ sym (cond-true (bytes_eq bs cs) w (value_of m cs) y))
       (λ d. others_stay bs m n h.3 cs d ∙ sym (cond-false (bytes_eq bs cs) w (value_of m cs) d))
       (cases_Bool (bytes_eq bs cs))
 
 -- the names that are bound after hang on what each name stands for before alone
-pub bound_to-same : (f g : List ℕ → Option Node) (labels : List (List ℕ)) (ns : List Node) → ((name : List ℕ) → f name ≡ g name) → (name : List ℕ) → bound_to f labels ns name ≡ bound_to g labels ns name
+pub bound_to-same : (f g : List ℕ → Option Node) (labels : List (List ℕ)) (ns : List Node)
+    → ((name : List ℕ) → f name ≡ g name) → (name : List ℕ) → bound_to f labels ns name ≡ bound_to g labels ns name
 bound_to-same f g [] ns h name = h name
 bound_to-same f g (l ∷ labels) [] h name = h name
 bound_to-same f g (l ∷ labels) (n ∷ ns) h name =
-    bound_to-same (update bytes_eq f l (Some n)) (update bytes_eq g l (Some n)) labels ns (λ q. ap (λ (v : Option Node). cond (bytes_eq l q) (Some n) v) (h q)) name
+    bound_to-same (update bytes_eq f l (Some n)) (update bytes_eq g l (Some n)) labels ns
+    (λ q. ap (λ (v : Option Node). cond (bytes_eq l q) (Some n) v) (h q)) name
 
 -- one label more is bound
-pub bound_step : (old new : BTreeMap (Vec ℕ Global) Node) (label : Bor (List ℕ)) (n : Node) (ls labels : List (Bor (List ℕ))) (ns nodes : List Node)
+pub bound_step : (old new : BTreeMap (Vec ℕ Global) Node) (label : Bor (List ℕ)) (n : Node)
+    (ls labels : List (Bor (List ℕ))) (ns nodes : List Node)
     → Binds old label.now n new → labels ≡ label ∷ ls → nodes ≡ n ∷ ns
-    → (name : List ℕ) → bound_to (value_of new) (map (λ w. w.now) ls) ns name ≡ bound_to (value_of old) (map (λ w. w.now) labels) nodes name
+    → (name : List ℕ)
+    → bound_to (value_of new) (map (λ w. w.now) ls) ns name ≡ bound_to (value_of old) (map (λ w. w.now) labels)
+    nodes name
 bound_step old new label n ls labels ns nodes b l k name =
-    bound_to-same (value_of new) (update bytes_eq (value_of old) label.now (Some n)) (map (λ w. w.now) ls) ns b.values name
-    ∙ sym (ap (λ (xs : List (Bor (List ℕ))). bound_to (value_of old) (map (λ w. w.now) xs) nodes name) l ∙ ap (λ (ys : List Node). bound_to (value_of old) (map (λ w. w.now) (label ∷ ls)) ys name) k)
+    bound_to-same (value_of new) (update bytes_eq (value_of old) label.now (Some n)) (map (λ w. w.now) ls) ns b.values
+    name
+    ∙ sym (ap (λ (xs : List (Bor (List ℕ))). bound_to (value_of old) (map (λ w. w.now) xs) nodes name) l
+    ∙ ap (λ (ys : List Node). bound_to (value_of old) (map (λ w. w.now) (label ∷ ls)) ys name) k)
 
 -- no label is left, or nothing that it could name
-pub bound_end : (f : List ℕ → Option Node) (labels : List (Bor (List ℕ))) (ns : List Node) → (length labels ≡ 0) ⊎ (length ns ≡ 0) → (name : List ℕ) → f name ≡ bound_to f (map (λ w. w.now) labels) ns name
+pub bound_end : (f : List ℕ → Option Node) (labels : List (Bor (List ℕ))) (ns : List Node)
+    → (length labels ≡ 0) ⊎ (length ns ≡ 0) → (name : List ℕ) → f name ≡ bound_to f (map (λ w. w.now) labels) ns name
 bound_end f [] ns h name = refl
 bound_end f (l ∷ labels) [] h name = refl
 bound_end f (l ∷ labels) (n ∷ ns) h name = ⊎_elim (λ e. absurd (omega arith)) (λ e. absurd (omega arith)) h
 
 -- one label more stands for its id
-pub ids_more : (ids : List ℕ → Option Node) (labels : List (Bor (List ℕ))) (i : ℕ) (d : Bor (List ℕ)) (nodes new : List Node) (n : Node) → i < length labels
-    → AreIds ids (take i labels) nodes → ids (get_or labels i d).now ≡ Some n → new ≡ nodes ++ n ∷ [] → AreIds ids (take (i + 1) labels) new
+pub ids_more : (ids : List ℕ → Option Node) (labels : List (Bor (List ℕ))) (i : ℕ) (d : Bor (List ℕ))
+    (nodes new : List Node) (n : Node) → i < length labels
+    → AreIds ids (take i labels) nodes → ids (get_or labels i d).now ≡ Some n → new ≡ nodes ++ n ∷ []
+    → AreIds ids (take (i + 1) labels) new
 ids_more ids labels i d nodes new n l so_far here e =
     ap (map (λ w. ids w.now)) (take_more labels i d l)
     ∙ map-append (λ w. ids w.now) (take i labels) (get_or labels i d ∷ [])
@@ -109,10 +127,16 @@ few_are_distinct (v ∷ []) l = (λ t. (tt, tt), λ d. refl)
 few_are_distinct (v ∷ w ∷ names) l = absurd (omega arith)
 
 -- names are distinct exactly if a set of them has as many
-pub distinct_by_count : (names all : List (Bor (List ℕ))) (n : ℕ) (set : BTreeSet (Bor (List ℕ))) → all ≡ names → IsFromIterResult by_text all set → n ≡ btree_set_len set → IsTrue (nat_eq n (length names)) ↔ AreDistinct names
+pub distinct_by_count : (names all : List (Bor (List ℕ))) (n : ℕ) (set : BTreeSet (Bor (List ℕ))) → all ≡ names
+    → IsFromIterResult by_text all set → n ≡ btree_set_len set → IsTrue (nat_eq n (length names)) ↔ AreDistinct names
 distinct_by_count names all n set same made e =
-    let count = e ∙ btree_set_len-from_list by_text_total names set (subst (λ (xs : List (Bor (List ℕ))). IsFromIterResult by_text xs set) same made) in
+    let count = e
+    ∙ btree_set_len-from_list by_text_total names set
+    (subst (λ (xs : List (Bor (List ℕ))). IsFromIterResult by_text xs set) same made) in
     let laws = eq_by_cmp_equiv by_text_total in (
-      λ t. subst (λ (eq : Bor (List ℕ) → Bor (List ℕ) → Bool). IsDistinct eq names) same_texts (IsDistinct-from_count laws names (sym count ∙ eqb-true _ _ t)),
-      λ d. eq-eqb _ _ (count ∙ distinct_count-from_IsDistinct laws names (subst (λ (eq : Bor (List ℕ) → Bor (List ℕ) → Bool). IsDistinct eq names) (sym same_texts) d)),
+      λ t. subst (λ (eq : Bor (List ℕ) → Bor (List ℕ) → Bool). IsDistinct eq names) same_texts
+          (IsDistinct-from_count laws names (sym count ∙ eqb-true _ _ t)),
+      λ d. eq-eqb _ _
+          (count ∙ distinct_count-from_IsDistinct laws names
+          (subst (λ (eq : Bor (List ℕ) → Bor (List ℕ) → Bool). IsDistinct eq names) (sym same_texts) d)),
     )

@@ -1,14 +1,17 @@
 -- The commands of a script: what the words of a line say, or the first fault that they show.
-use Rattle.std.specs.Prelude.{ℕ, ◌≤◌, ◌≡◌, ◌≢◌, ◌+◌, List, [], ◌∷◌, length, take, drop, map, slice_get, codes, Contains, IfSome, Bool, if◌then◌else◌, Option, Some, None, Result, Ok, Err}
+use Rattle.std.specs.Prelude.{ℕ, ◌≤◌, ◌≡◌, ◌≢◌, ◌+◌, List, [], ◌∷◌, length, take, drop, map, slice_get, codes, Contains}
+use Rattle.std.specs.Prelude.{IfSome, Bool, if◌then◌else◌, Option, Some, None, Result, Ok, Err}
 use denote.Bor.{Bor}
 use Rattle.std.specs.List.{AllPass}
 use Rattle.hg_phases.specs.declared.phase.Phase.{Phase}
 use Rattle.hg_phases.specs.declared.phase.Phase.TheVariants.{Public, Draft, Secret}
 use Rattle.hg_script.specs.Words.{is_name}
 use Rattle.hg_script.specs.declared.command.Command.{Command}
-use Rattle.hg_script.specs.declared.command.Command.TheVariants.{Node, Operation as operation, Offer, Take, Pull, Report, Agree}
+use Rattle.hg_script.specs.declared.command.Command.TheVariants.{Node, Operation as operation, Offer, Take, Pull}
+use Rattle.hg_script.specs.declared.command.Command.TheVariants.{Report, Agree}
 use Rattle.hg_script.specs.declared.operation.Operation.{Operation}
-use Rattle.hg_script.specs.declared.operation.Operation.TheVariants.{Commit, Amend, Split, Fold, Prune, Relocate, Advance}
+use Rattle.hg_script.specs.declared.operation.Operation.TheVariants.{Commit, Amend, Split, Fold, Prune, Relocate}
+use Rattle.hg_script.specs.declared.operation.Operation.TheVariants.{Advance}
 use Rattle.hg_script.specs.declared.operation.Parents.{Parents}
 use Rattle.hg_script.specs.declared.operation.Parents.TheVariants.{NoParent, One, Two}
 use Rattle.hg_script.specs.declared.fault.LineFault.{LineFault}
@@ -40,7 +43,8 @@ parent_words (One p) = p.now ∷ []
 parent_words (Two p q) = p.now ∷ q.now ∷ []
 
 abbrev pub operation_words : Text → Operation → List Text
-operation_words at (Commit new is_secret parents) = codes "commit" ∷ at ∷ new.now ∷ asked_word is_secret ∷ parent_words parents
+operation_words at (Commit new is_secret parents) =
+    codes "commit" ∷ at ∷ new.now ∷ asked_word is_secret ∷ parent_words parents
 operation_words at (Amend old new) = codes "amend" ∷ at ∷ old.now ∷ new.now ∷ []
 operation_words at (Split old new) = codes "split" ∷ at ∷ old.now ∷ texts new.now
 operation_words at (Fold new old) = codes "fold" ∷ at ∷ new.now ∷ texts old.now
@@ -60,7 +64,8 @@ words_of_command (Agree one other) = codes "agree" ∷ one.now ∷ other.now ∷
 
 -- ---- the forms of lines
 
--- a command's first word, how many words follow it, and where among these a phase stands, and which; all others are names
+-- a command's first word, how many words follow it, and where among these a phase stands, and which; all others are
+-- names
 pub record Form : Type 0 where
   pub word : Text
   pub least : ℕ
@@ -75,7 +80,15 @@ abbrev pub node_form : Form
 node_form = names_alone (codes "node") 1 (Some 1)
 
 abbrev pub commit_form : Form
-commit_form = record { word = codes "commit"; least = 3; most = Some 5; phase_at = Some 2; phases = codes "draft" ∷ codes "secret" ∷ [] }
+commit_form =
+    record {
+      word = codes "commit";
+      least = 3;
+      most = Some 5;
+      phase_at = Some 2;
+      phases =
+          codes "draft" ∷ codes "secret" ∷ [];
+    }
 
 abbrev pub amend_form : Form
 amend_form = names_alone (codes "amend") 3 (Some 3)
@@ -93,7 +106,15 @@ abbrev pub relocate_form : Form
 relocate_form = names_alone (codes "relocate") 3 (Some 5)
 
 abbrev pub advance_form : Form
-advance_form = record { word = codes "phase"; least = 3; most = Some 3; phase_at = Some 2; phases = codes "public" ∷ codes "draft" ∷ codes "secret" ∷ [] }
+advance_form =
+    record {
+      word = codes "phase";
+      least = 3;
+      most = Some 3;
+      phase_at = Some 2;
+      phases =
+          codes "public" ∷ codes "draft" ∷ codes "secret" ∷ [];
+    }
 
 abbrev pub offer_form : Form
 offer_form = names_alone (codes "offer") 2 None
@@ -171,7 +192,8 @@ OperationAnswer word words result =
 -- no command but an operation begins with this word
 abbrev pub IsOther : Text → Type 0
 IsOther word =
-    (word ≢ codes "node") × (word ≢ codes "offer") × (word ≢ codes "take") × (word ≢ codes "pull") × (word ≢ codes "report") × (word ≢ codes "agree")
+    (word ≢ codes "node") × (word ≢ codes "offer") × (word ≢ codes "take") × (word ≢ codes "pull")
+    × (word ≢ codes "report") × (word ≢ codes "agree")
 
 -- what is answered to a line with this first word and these after it, by the command that the first word names
 abbrev pub LineAnswer : Text → List Word → Result Command LineFault → Type 0
@@ -187,5 +209,7 @@ LineAnswer word words result =
 -- a line without words says nothing; any other says the command whose words they are, or is at fault
 abbrev pub CommandAnswer : List Word → Result (Option Command) LineFault → Type 0
 CommandAnswer words (Ok None) = words ≡ []
-CommandAnswer words (Ok (Some command)) = (word : Word) × (rest : List Word) × (words ≡ word ∷ rest) × LineAnswer word.now rest (Ok command)
-CommandAnswer words (Err fault) = (word : Word) × (rest : List Word) × (words ≡ word ∷ rest) × LineAnswer word.now rest (Err fault)
+CommandAnswer words (Ok (Some command)) = (word : Word) × (rest : List Word) × (words ≡ word ∷ rest)
+    × LineAnswer word.now rest (Ok command)
+CommandAnswer words (Err fault) = (word : Word) × (rest : List Word) × (words ≡ word ∷ rest)
+    × LineAnswer word.now rest (Err fault)

@@ -11,5 +11,6 @@ entry_of label = record { user = codes "fleet"; secs = pos 0; offset = pos 0; ex
 
 -- a prune of the node, by the same user at the same date
 abbrev pub IsPruneOf : Node → Op → Type 0
-IsPruneOf n (Prune node user secs offset) = (node ≡ n) × (user.items ≡ codes "fleet") × (secs ≡ pos 0) × (offset ≡ pos 0)
+IsPruneOf n (Prune node user secs offset) = (node ≡ n) × (user.items ≡ codes "fleet") × (secs ≡ pos 0)
+    × (offset ≡ pos 0)
 IsPruneOf n _ = ⊥

@@ -28,9 +28,11 @@ use Rattle.hg_script.specs.declared.fault.LineFault.TheVariants.{UnknownName}
 use Rattle.hg_script.specs.declared.fault.RunFault.{RunFault}
 use Rattle.hg_script.specs.declared.fault.RunFault.TheVariants.{Line, ScriptTooLong, Read, Write, NoMemory}
 use Rattle.hg_script.specs.declared.command.Command.{Command}
-use Rattle.hg_script.specs.declared.command.Command.TheVariants.{Node as node, Operation as operation, Offer, Take, Pull, Report, Agree}
+use Rattle.hg_script.specs.declared.command.Command.TheVariants.{Node as node, Operation as operation, Offer, Take}
+use Rattle.hg_script.specs.declared.command.Command.TheVariants.{Pull, Report, Agree}
 use Rattle.hg_script.specs.declared.operation.Operation.{Operation}
-use Rattle.hg_script.specs.declared.operation.Operation.TheVariants.{Commit, Amend, Split, Fold, Prune, Relocate, Advance}
+use Rattle.hg_script.specs.declared.operation.Operation.TheVariants.{Commit, Amend, Split, Fold, Prune, Relocate}
+use Rattle.hg_script.specs.declared.operation.Operation.TheVariants.{Advance}
 use Rattle.hg_script.specs.declared.operation.Names.{Names}
 use Rattle.hg_script.specs.declared.operation.Parents.{Parents}
 use Rattle.hg_script.specs.declared.operation.Parents.TheVariants.{NoParent, One, Two}
@@ -144,11 +146,14 @@ IsOperation ids (Commit new is_secret parents) op =
     (p : Node) × (q : Node) × AreParentIds ids parents p q × (op ≡ asks.Commit p q (entry_of new.now) is_secret)
 IsOperation ids (Amend old new) op = (n : Node) × (ids old.now ≡ Some n) × (op ≡ asks.Amend n (entry_of new.now))
 IsOperation ids (Split old new) op =
-    (n : Node) × (entries : Vec EntryValue Global) × (ids old.now ≡ Some n) × (entries.items ≡ map (λ w. entry_of w.now) new.now) × (op ≡ asks.Split n entries)
-IsOperation ids (Fold new old) op = (ns : Vec Node Global) × AreIds ids old.now ns.items × (op ≡ asks.Fold ns (entry_of new.now))
+    (n : Node) × (entries : Vec EntryValue Global) × (ids old.now ≡ Some n)
+    × (entries.items ≡ map (λ w. entry_of w.now) new.now) × (op ≡ asks.Split n entries)
+IsOperation ids (Fold new old) op = (ns : Vec Node Global) × AreIds ids old.now ns.items
+    × (op ≡ asks.Fold ns (entry_of new.now))
 IsOperation ids (Prune old) op = (n : Node) × (ids old.now ≡ Some n) × IsPruneOf n op
 IsOperation ids (Relocate old new parents) op =
-    (n : Node) × (p : Node) × (q : Node) × (ids old.now ≡ Some n) × AreParentIds ids parents p q × (op ≡ asks.Relocate n p q (entry_of new.now))
+    (n : Node) × (p : Node) × (q : Node) × (ids old.now ≡ Some n) × AreParentIds ids parents p q
+    × (op ≡ asks.Relocate n p q (entry_of new.now))
 IsOperation ids (Advance label phase) op = (n : Node) × (ids label.now ≡ Some n) × (op ≡ asks.Advance n phase)
 
 -- the labels of what is to be there already
@@ -197,20 +202,27 @@ IsTakeFault number world taker answer fault =
 -- the heads of what the peer at one place has in common with the peer at another
 abbrev pub AreCommonAt : Snapshot ReplicaState → ℕ → ℕ → List Node → Type 0
 AreCommonAt world taker giver heads =
-    (ours : ReplicaState) × (theirs : ReplicaState) × (slice_get world.nodes taker ≡ Some ours) × (slice_get world.nodes giver ≡ Some theirs) × AreHeadsInCommon ours theirs heads
+    (ours : ReplicaState) × (theirs : ReplicaState) × (slice_get world.nodes taker ≡ Some ours)
+    × (slice_get world.nodes giver ≡ Some theirs) × AreHeadsInCommon ours theirs heads
 
--- the events of a command in a world, where names stand for these places, ids and numbers: a pull asks for what is offered
+-- the events of a command in a world, where names stand for these places, ids and numbers: a pull asks for what is
+-- offered
 -- above what both have in common, and what it takes hangs on the answer
-abbrev pub AreEventsOf : Snapshot ReplicaState → Meaning ℕ → Meaning Node → Meaning ℕ → Command → List PeerAnswer → List PeerEvent → Type 0
+abbrev pub AreEventsOf : Snapshot ReplicaState → Meaning ℕ → Meaning Node → Meaning ℕ → Command → List PeerAnswer
+    → List PeerEvent → Type 0
 AreEventsOf world places ids numbers (node at) answers events = events ≡ []
 AreEventsOf world places ids numbers (operation at op) answers events =
-    (place : ℕ) × (asked : Op) × (places at.now ≡ Some place) × IsOperation ids op asked × (events ≡ event.Local place asked ∷ [])
+    (place : ℕ) × (asked : Op) × (places at.now ≡ Some place) × IsOperation ids op asked
+    × (events ≡ event.Local place asked ∷ [])
 AreEventsOf world places ids numbers (Offer at message labels) answers events =
-    (place : ℕ) × (common : Vec Node Global) × (places at.now ≡ Some place) × AreIds ids labels.now common.items × (events ≡ event.Offer place common ∷ [])
+    (place : ℕ) × (common : Vec Node Global) × (places at.now ≡ Some place) × AreIds ids labels.now common.items
+    × (events ≡ event.Offer place common ∷ [])
 AreEventsOf world places ids numbers (Take at message) answers events =
-    (place : ℕ) × (number : ℕ) × (places at.now ≡ Some place) × (numbers message.now ≡ Some number) × (events ≡ event.Take place number ∷ [])
+    (place : ℕ) × (number : ℕ) × (places at.now ≡ Some place) × (numbers message.now ≡ Some number)
+    × (events ≡ event.Take place number ∷ [])
 AreEventsOf world places ids numbers (Pull to from) answers events =
-    (giver : ℕ) × (taker : ℕ) × (common : Vec Node Global) × (places from.now ≡ Some giver) × (places to.now ≡ Some taker)
+    (giver : ℕ) × (taker : ℕ) × (common : Vec Node Global) × (places from.now ≡ Some giver)
+    × (places to.now ≡ Some taker)
     × AreCommonAt world taker giver common.items × (events ≡ event.Offer giver common ∷ taken taker answers)
 AreEventsOf world places ids numbers (Report at) answers events = IsSome (node_at world places at.now) × (events ≡ [])
 AreEventsOf world places ids numbers (Agree one other) answers events =

@@ -1,7 +1,8 @@
 -- The texts and the exit statuses of what ends a script.
 use Rattle.std.specs.Prelude.{ℕ, List, ◌++◌, ◌≡◌, ◌⊎◌, codes, decimal}
 use Rattle.hg_script.specs.declared.fault.LineFault.{LineFault}
-use Rattle.hg_script.specs.declared.fault.LineFault.TheVariants.{TooLong, UnknownCommand, WordCount, BadName, BadPhase, UnknownName, NameTaken}
+use Rattle.hg_script.specs.declared.fault.LineFault.TheVariants.{TooLong, UnknownCommand, WordCount, BadName, BadPhase}
+use Rattle.hg_script.specs.declared.fault.LineFault.TheVariants.{UnknownName, NameTaken}
 use Rattle.hg_script.specs.declared.fault.RunFault.{RunFault}
 use Rattle.hg_script.specs.declared.fault.RunFault.TheVariants.{Line, ScriptTooLong, Read, Write, NoMemory}
 

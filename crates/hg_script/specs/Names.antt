@@ -16,7 +16,8 @@ module _ {V : Type 0} where
   value_of names name = get_by (λ k. slice_cmp nat_cmp name k.items) names
 
   -- the name stands for the value, and each other for what it did; a name that is new is one more
-  pub record Binds (old : BTreeMap (Vec ℕ Global) V) (name : List ℕ) (value : V) (new : BTreeMap (Vec ℕ Global) V) : Type 0 where
+  pub record Binds (old : BTreeMap (Vec ℕ Global) V) (name : List ℕ) (value : V)
+      (new : BTreeMap (Vec ℕ Global) V) : Type 0 where
     pub values : (other : List ℕ) → value_of new other ≡ update bytes_eq (value_of old) name (Some value) other
     pub count : btree_map_len new ≡ btree_map_len old + (if is_some (value_of old name) then 0 else 1)
 

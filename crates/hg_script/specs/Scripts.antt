@@ -71,9 +71,11 @@ bound_to names (label ∷ labels) [] = names
 bound_to names (label ∷ labels) (n ∷ nodes) = bound_to (update bytes_eq names label (Some n)) labels nodes
 
 -- the labels name what the operation added, in order, if it was accepted
-abbrev pub AreLabelled : BTreeMap (Vec ℕ Global) Node → List Text → List PeerAnswer → BTreeMap (Vec ℕ Global) Node → Type 0
+abbrev pub AreLabelled : BTreeMap (Vec ℕ Global) Node → List Text → List PeerAnswer → BTreeMap (Vec ℕ Global) Node
+    → Type 0
 AreLabelled old labels [] new = new ≡ old
-AreLabelled old labels (Accepted change ∷ answers) new = (name : Text) → value_of new name ≡ bound_to (value_of old) labels change.added name
+AreLabelled old labels (Accepted change ∷ answers) new = (name : Text)
+    → value_of new name ≡ bound_to (value_of old) labels change.added name
 AreLabelled old labels (Offered number ∷ answers) new = new ≡ old
 AreLabelled old labels (Refused refusal ∷ answers) new = new ≡ old
 
@@ -84,25 +86,31 @@ IsKept old name (Accepted change ∷ answers) new = new ≡ old
 IsKept old name (Offered number ∷ answers) new = Binds old name number new
 IsKept old name (Refused refusal ∷ answers) new = new ≡ old
 
--- the names after a command: a node has the next place, the new labels of an operation name what it added, and a message
+-- the names after a command: a node has the next place, the new labels of an operation name what it added, and a
+-- message
 -- that was offered has its number. The names of nodes and messages are new, and the labels were free to name what the
 -- operation brought
 abbrev pub AreNamed : Fleet → Command → Trace → Fleet → Type 0
 AreNamed old (node at) t new =
-    (places old at.now ≡ None) × Binds old.nodes at.now (btree_map_len old.nodes) new.nodes × (new.labels ≡ old.labels) × (new.messages ≡ old.messages)
+    (places old at.now ≡ None) × Binds old.nodes at.now (btree_map_len old.nodes) new.nodes × (new.labels ≡ old.labels)
+    × (new.messages ≡ old.messages)
 AreNamed old (operation at op) t new =
     (new.nodes ≡ old.nodes) × IsTrue (may_be_bound (ids old) (new_labels op) (brought t.parts))
     × AreLabelled old.labels (new_labels op) t.answers new.labels × (new.messages ≡ old.messages)
 AreNamed old (Offer at message labels) t new =
-    (new.nodes ≡ old.nodes) × (new.labels ≡ old.labels) × (numbers old message.now ≡ None) × IsKept old.messages message.now t.answers new.messages
-AreNamed old (Take at message) t new = (new.nodes ≡ old.nodes) × (new.labels ≡ old.labels) × (new.messages ≡ old.messages)
+    (new.nodes ≡ old.nodes) × (new.labels ≡ old.labels) × (numbers old message.now ≡ None)
+    × IsKept old.messages message.now t.answers new.messages
+AreNamed old (Take at message) t new = (new.nodes ≡ old.nodes) × (new.labels ≡ old.labels)
+    × (new.messages ≡ old.messages)
 AreNamed old (Pull to from) t new = (new.nodes ≡ old.nodes) × (new.labels ≡ old.labels) × (new.messages ≡ old.messages)
 AreNamed old (Report at) t new = (new.nodes ≡ old.nodes) × (new.labels ≡ old.labels) × (new.messages ≡ old.messages)
-AreNamed old (Agree one other) t new = (new.nodes ≡ old.nodes) × (new.labels ≡ old.labels) × (new.messages ≡ old.messages)
+AreNamed old (Agree one other) t new = (new.nodes ≡ old.nodes) × (new.labels ≡ old.labels)
+    × (new.messages ≡ old.messages)
 
 -- ---- what a command, a line and a script do
 
--- the world ran the events of the command, each was done or refused by a printed number, and the names are as they are then
+-- the world ran the events of the command, each was done or refused by a printed number, and the names are as they are
+-- then
 pub record Does (old : Fleet) (command : Command) (t : Trace) (new : Fleet) : Type 0 where
   pub asked : AreEventsOf old.world (places old) (ids old) (numbers old) command t.answers t.events
   pub ran : Ran old.world t new.world
@@ -116,17 +124,21 @@ IsDone old command new = (t : Trace) × Does old command t new
 -- a line of no words does nothing, and any other its command
 abbrev pub DoesWords : Fleet → List Word → Trace → Fleet → Type 0
 DoesWords old words t new =
-    ((words ≡ []) × (t ≡ no_trace) × (new ≡ old)) ⊎ ((command : Command) × CommandAnswer words (Ok (Some command)) × Does old command t new)
+    ((words ≡ []) × (t ≡ no_trace) × (new ≡ old))
+    ⊎ ((command : Command) × CommandAnswer words (Ok (Some command)) × Does old command t new)
 
 -- the line isn't too long, and what its words say is done
 abbrev pub DoesLine : Fleet → Text → Trace → Fleet → Type 0
-DoesLine old line t new = (length line ≤ line_limit) × ((words : List Word) × (map (λ w. w.now) words ≡ words_of line) × DoesWords old words t new)
+DoesLine old line t new =
+    (length line ≤ line_limit)
+    × ((words : List Word) × (map (λ w. w.now) words ≡ words_of line) × DoesWords old words t new)
 
 -- the lines are done one after another
 abbrev pub DoesLines : Fleet → List Text → Trace → Fleet → Type 0
 DoesLines old [] t new = (t ≡ no_trace) × (new ≡ old)
 DoesLines old (line ∷ lines) t new =
-    (mid : Fleet) × (here : Trace) × (later : Trace) × DoesLine old line here mid × DoesLines mid lines later new × (t ≡ joined here later)
+    (mid : Fleet) × (here : Trace) × (later : Trace) × DoesLine old line here mid × DoesLines mid lines later new
+    × (t ≡ joined here later)
 
 -- ---- whole scripts
 

@@ -1,5 +1,6 @@
 -- The words of a line, and which of them are names.
-use Rattle.std.specs.Prelude.{ℕ, ◌==◌, List, [], ◌∷◌, length, filter, Bool, false, not, ◌||◌, ◌&&◌, nat_le, if◌then◌else◌, Option, codes}
+use Rattle.std.specs.Prelude.{ℕ, ◌==◌, List, [], ◌∷◌, length, filter, Bool, false, not, ◌||◌, ◌&&◌, nat_le}
+use Rattle.std.specs.Prelude.{if◌then◌else◌, Option, codes}
 use Rattle.std.specs.List.{list_all, slice_split, find}
 use Rattle.std.specs.Option.{option_map_or}
 use Rattle.std.specs.Str.{bytes_eq}

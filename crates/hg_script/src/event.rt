@@ -32,7 +32,8 @@ pub fn run_event<W: Write>(
     writer: &mut W,
 ) -> Result<PeerAnswer, RunFault>
     ensures told { IfOk result IsTold }
-    ensures happens { IfOk result (λ answer. (part : Option PartValue) × Happens peer_state peer_words world.old event answer part world.new) }
+    ensures happens { IfOk result (λ answer. (part : Option PartValue)
+        × Happens peer_state peer_words world.old event answer part world.new) }
     ensures fault { IfErr result (IsUnknownWhere number (IsNowhere world.old event)) }
     ensures unchanged { OnErr result (world.new ≡ world.old) }
 {
@@ -46,7 +47,8 @@ pub fn run_event<W: Write>(
 
 // One event, and its answer.
 fn run_one(world: &mut World<Peer>, event: PeerEvent) -> Result<PeerAnswer, NoMemory>
-    ensures happens { IfOk result (λ answer. (part : Option PartValue) × Happens peer_state peer_words world.old event answer part world.new) }
+    ensures happens { IfOk result (λ answer. (part : Option PartValue)
+        × Happens peer_state peer_words world.old event answer part world.new) }
     ensures unchanged { OnErr result (world.new ≡ world.old) }
 {
     let mut answers = world.run(&[event])?;

@@ -128,9 +128,8 @@ impl Fleet {
         writer: &mut W,
     ) -> Result<(), RunFault>
         ensures ok { OnOk result (IsDone self.old (Command.Operation at.entry operation.entry) self.new) }
-        ensures err {
-            IfErr result (λ fault. IsLeftBy number self.old (Command.Operation at.entry operation.entry) fault self.new)
-        }
+        ensures err { IfErr result
+            (λ fault. IsLeftBy number self.old (Command.Operation at.entry operation.entry) fault self.new) }
     {
         let names = Names {
             alloc: self.alloc,
@@ -187,10 +186,8 @@ impl Fleet {
         writer: &mut W,
     ) -> Result<(), RunFault>
         ensures ok { OnOk result (IsDone self.old (Command.Offer at.entry message.entry labels.entry) self.new) }
-        ensures err {
-            IfErr result (λ fault.
-                IsLeftBy number self.old (Command.Offer at.entry message.entry labels.entry) fault self.new)
-        }
+        ensures err { IfErr result (λ fault.
+            IsLeftBy number self.old (Command.Offer at.entry message.entry labels.entry) fault self.new) }
     {
         let names = Names {
             alloc: self.alloc,
@@ -219,9 +216,8 @@ impl Fleet {
         writer: &mut W,
     ) -> Result<(), RunFault>
         ensures ok { OnOk result (IsDone self.old (Command.Take at.entry message.entry) self.new) }
-        ensures err {
-            IfErr result (λ fault. IsLeftBy number self.old (Command.Take at.entry message.entry) fault self.new)
-        }
+        ensures err { IfErr result
+            (λ fault. IsLeftBy number self.old (Command.Take at.entry message.entry) fault self.new) }
     {
         let at = self.place(number, at)?;
         let message = match bound(&self.messages, message) {
@@ -242,9 +238,8 @@ impl Fleet {
         writer: &mut W,
     ) -> Result<(), RunFault>
         ensures ok { OnOk result (IsDone self.old (Command.Pull to.entry from.entry) self.new) }
-        ensures err {
-            IfErr result (λ fault. IsLeftBy number self.old (Command.Pull to.entry from.entry) fault self.new)
-        }
+        ensures err { IfErr result
+            (λ fault. IsLeftBy number self.old (Command.Pull to.entry from.entry) fault self.new) }
     {
         let giver = self.place(number, from)?;
         let taker = self.place(number, to)?;
@@ -261,11 +256,9 @@ impl Fleet {
     // The heads of what the taker has in common with the giver.
     fn common(&self, number: usize, taker: usize, giver: usize) -> Result<Vec<Node>, RunFault>
         ensures ok { IfOk result (λ heads. AreCommonAt self.now.world taker giver heads.items) }
-        ensures err {
-            IfErr result (λ fault.
-                (fault ≡ RunFault.NoMemory)
-                ⊎ (IsNodeFault number self.now taker fault ⊎ IsNodeFault number self.now giver fault))
-        }
+        ensures err { IfErr result (λ fault.
+            (fault ≡ RunFault.NoMemory)
+            ⊎ (IsNodeFault number self.now taker fault ⊎ IsNodeFault number self.now giver fault)) }
     {
         let asker = self.replica(number, taker)?;
         let other = self.replica(number, giver)?;
@@ -313,10 +306,8 @@ impl Fleet {
     // The place of the node with this name.
     fn place(&self, number: usize, at: &[u8]) -> Result<usize, RunFault>
         ensures ok { IfOk result (λ place. places self.now at.now ≡ Some place) }
-        ensures err {
-            IfErr result (λ fault.
-                (fault ≡ RunFault.Line number LineFault.UnknownName) × (places self.now at.now ≡ None))
-        }
+        ensures err { IfErr result (λ fault.
+            (fault ≡ RunFault.Line number LineFault.UnknownName) × (places self.now at.now ≡ None)) }
     {
         match bound(&self.nodes, at) {
             Some(place) => Ok(place),
@@ -351,11 +342,14 @@ fn decided(alloc: Global, replica: &Replica, op: &Op) -> Result<Option<Part>, Ru
 }
 
 // Whether the labels, all different or not, may name the changesets of the part.
-fn are_free(names: &BTreeMap<Vec<u8>, Node>, labels: &[&[u8]], are_distinct: bool, part: &Part) -> bool
-    ensures {
-        result ≡ (are_distinct
-            && each_may_name (value_of names.now) (texts labels.now) (nodes part.now.history.changesets))
-    }
+fn are_free(
+    names: &BTreeMap<Vec<u8>, Node>,
+    labels: &[&[u8]],
+    are_distinct: bool,
+    part: &Part,
+) -> bool
+    ensures { result ≡ (are_distinct
+        && each_may_name (value_of names.now) (texts labels.now) (nodes part.now.history.changesets)) }
 {
     are_distinct && may_bind(names, labels, &part.changesets)
 }
@@ -416,7 +410,8 @@ fn bind_labels(
     labels: &[&[u8]],
     nodes: &[Node],
 ) -> Result<(), RunFault>
-    ensures ok { OnOk result ((name : List ℕ) → value_of names.new name ≡ bound_to (value_of names.old) (map (λ w. w.now) labels.now) nodes.now name) }
+    ensures ok { OnOk result ((name : List ℕ)
+        → value_of names.new name ≡ bound_to (value_of names.old) (map (λ w. w.now) labels.now) nodes.now name) }
     ensures err { IfErr result (λ fault. fault ≡ RunFault.NoMemory) }
 {
     for (label, node) in labels.iter().zip(nodes) {

@@ -1,8 +1,8 @@
 //! Scripts of a fleet: their language, and what their lines do.
 //!
 //! A script comes in by any reader, and what its lines report goes out by any writer: [`run_script`] reads the whole
-//! script, does its lines in order and prints what they report. A line is divided into words and read as a command before
-//! anything is done. What a line's replica refuses is printed, and the script goes on; a [`RunFault`] ends it.
+//! script, does its lines in order and prints what they report. A line is divided into words and read as a command
+//! before anything is done. What a line's replica refuses is printed, and the script goes on; a [`RunFault`] ends it.
 //!
 //! The replicas of a script are the peers of a world ([`hg_world`], [`hg_peer`]), which begins new, and each command is
 //! events of it. So whatever a script does is one run of that world, and the laws of runs say what became of it:

@@ -128,7 +128,8 @@ impl Names<'_> {
     }
 
     fn commit(&self, new: &[u8], secret: bool, parents: Parents<'_>) -> Result<Op, RunFault>
-        ensures ok { IfOk result (IsOperation (value_of self.now.labels.now) (Operation.Commit new.entry secret parents.entry)) }
+        ensures ok { IfOk result (IsOperation (value_of self.now.labels.now)
+            (Operation.Commit new.entry secret parents.entry)) }
         ensures err { IfErr result (IsUnresolved self.now (parent_words parents.entry)) }
     {
         let (p, q) = self.parents(parents)?;
@@ -184,7 +185,8 @@ impl Names<'_> {
     }
 
     fn relocate(&self, old: &[u8], new: &[u8], parents: Parents<'_>) -> Result<Op, RunFault>
-        ensures ok { IfOk result (IsOperation (value_of self.now.labels.now) (Operation.Relocate old.entry new.entry parents.entry)) }
+        ensures ok { IfOk result (IsOperation (value_of self.now.labels.now)
+            (Operation.Relocate old.entry new.entry parents.entry)) }
         ensures err { IfErr result (IsUnresolved self.now (old.now ∷ parent_words parents.entry)) }
     {
         let node = self.node(old)?;

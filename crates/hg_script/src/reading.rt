@@ -2,10 +2,14 @@
 //!
 //! The first four faults of a line show in its words alone. They are tried in the order of the format, each over the
 //! whole line: the first word, the number of words, the names, and then the phase.
-ghost use Rattle.std.specs.Prelude.{◌≡◌, ◌↔◌, ◌∷◌, ◌++◌, [], List, ℕ, Contains, Some, length, ◌<◌, IsTrue, OnOk, IfErr, IfOk, MatchResult, codes};
+ghost use Rattle.std.specs.Prelude.{◌≡◌, ◌↔◌, ◌∷◌, ◌++◌, [], List, ℕ, Contains, Some, length, ◌<◌, IsTrue, OnOk, IfErr};
+ghost use Rattle.std.specs.Prelude.{IfOk, MatchResult, codes};
 ghost use Rattle.std.specs.List.{list_all};
 ghost use Rattle.hg_script.specs.Words.{is_name, is_name_byte};
-ghost use Rattle.hg_script.specs.Commands.{AllNames, AreNamesBut, CommandAnswer, LineAnswer, OperationAnswer, FormAnswer, phase_word, asked_word, parent_words, texts, node_form, commit_form, amend_form, split_form, fold_form, prune_form, relocate_form, advance_form, offer_form, take_form, pull_form, report_form, agree_form};
+ghost use Rattle.hg_script.specs.Commands.{AllNames, AreNamesBut, CommandAnswer, LineAnswer, OperationAnswer};
+ghost use Rattle.hg_script.specs.Commands.{FormAnswer, phase_word, asked_word, parent_words, texts, node_form};
+ghost use Rattle.hg_script.specs.Commands.{commit_form, amend_form, split_form, fold_form, prune_form, relocate_form};
+ghost use Rattle.hg_script.specs.Commands.{advance_form, offer_form, take_form, pull_form, report_form, agree_form};
 ghost use Rattle.hg_script.specs.declared.fault.LineFault.TheVariants.{BadName, BadPhase, WordCount};
 
 use crate::command::Command;
@@ -254,7 +258,8 @@ fn read_agree<'a>(words: &'a [&'a [u8]]) -> Result<Command<'a>, LineFault>
 
 // At most two parents.
 fn read_parents<'a>(words: &'a [&'a [u8]]) -> Result<Parents<'a>, LineFault>
-    ensures { MatchResult result (λ parents. parent_words parents ≡ texts words.now) (λ fault. (fault ≡ WordCount) × (2 < length words.now)) }
+    ensures { MatchResult result (λ parents. parent_words parents ≡ texts words.now)
+        (λ fault. (fault ≡ WordCount) × (2 < length words.now)) }
 {
     match words {
         [] => Ok(Parents::NoParent),
@@ -266,7 +271,8 @@ fn read_parents<'a>(words: &'a [&'a [u8]]) -> Result<Parents<'a>, LineFault>
 
 // Whether a commit asks for a secret changeset.
 fn read_asked(word: &[u8]) -> Result<bool, LineFault>
-    ensures { MatchResult result (λ is_secret. asked_word is_secret ≡ word.now) (λ fault. (fault ≡ BadPhase) × ¬ (Contains commit_form.phases word.now)) }
+    ensures { MatchResult result (λ is_secret. asked_word is_secret ≡ word.now)
+        (λ fault. (fault ≡ BadPhase) × ¬ (Contains commit_form.phases word.now)) }
 {
     match word {
         b"draft" => Ok(false),
@@ -276,7 +282,8 @@ fn read_asked(word: &[u8]) -> Result<bool, LineFault>
 }
 
 fn read_phase(word: &[u8]) -> Result<Phase, LineFault>
-    ensures { MatchResult result (λ phase. phase_word phase ≡ word.now) (λ fault. (fault ≡ BadPhase) × ¬ (Contains advance_form.phases word.now)) }
+    ensures { MatchResult result (λ phase. phase_word phase ≡ word.now)
+        (λ fault. (fault ≡ BadPhase) × ¬ (Contains advance_form.phases word.now)) }
 {
     match word {
         b"public" => Ok(Phase::Public),
@@ -289,7 +296,8 @@ fn read_phase(word: &[u8]) -> Result<Phase, LineFault>
 // All but the word at a place.
 fn check_names_but(words: &[&[u8]], place: usize) -> Result<(), LineFault>
     requires { place < length words.now }
-    ensures { MatchResult result (λ _. AreNamesBut (Some place) words.now) (λ fault. (fault ≡ BadName) × ¬ (AreNamesBut (Some place) words.now)) }
+    ensures { MatchResult result (λ _. AreNamesBut (Some place) words.now)
+        (λ fault. (fault ≡ BadName) × ¬ (AreNamesBut (Some place) words.now)) }
 {
     check_names(&words[..place])?;
     check_names(&words[place + 1..])?;

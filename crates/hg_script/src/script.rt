@@ -21,8 +21,8 @@ use std::io::{Read, Write};
 use std::marker::Brand;
 use std::sync::ledger::{Blank, Ledger};
 
-/// Reads a script, does its lines in order, and prints what they report, one write for each line. What was printed before
-/// a fault stays.
+/// Reads a script, does its lines in order, and prints what they report, one write for each line. What was printed
+/// before a fault stays.
 ///
 /// It makes at most 1,048,577 reads, one more than a script may have bytes.
 pub fn run_script<R: CountedRead, W: Write>(

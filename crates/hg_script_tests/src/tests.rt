@@ -35,9 +35,11 @@ fn two_commits_and_a_report(rt: HostRuntime) {
 #[test]
 fn refused_commits(rt: HostRuntime) {
     let script =
-        b"node A\nnode B\ncommit A a draft\ncommit B b draft a\ncommit A m draft a a\ncommit A a draft\ncommit A s secret\ncommit A t draft s\nreport A\n";
+        b"node A\nnode B\ncommit A a draft\ncommit B b draft a\ncommit A m draft a a\ncommit A a draft\n\
+            commit A s secret\ncommit A t draft s\nreport A\n";
     let output =
-        b"4: rewrite 1 Unknown\n5: rewrite 8 Fault\n6: rewrite 9 Exists\nreport A\na draft\ns secret\nt secret\n3 changesets 0 markers\n";
+        b"4: rewrite 1 Unknown\n5: rewrite 8 Fault\n6: rewrite 9 Exists\nreport A\na draft\ns secret\nt secret\n\
+            3 changesets 0 markers\n";
     expect(&rt, rt.alloc(), script, output, "");
 }
 
@@ -52,18 +54,25 @@ fn phases_only_go_down(rt: HostRuntime) {
 #[test]
 fn refused_rewrites(rt: HostRuntime) {
     let script =
-        b"node A\ncommit A a draft\ncommit A b draft a\ncommit A c draft b\nfold A f a c\nfold A f a\nsplit A b s1\nfold A f b c\namend A b x\ncommit A d draft c\nrelocate A f g f\nprune A f\nreport A\n";
+        b"node A\ncommit A a draft\ncommit A b draft a\ncommit A c draft b\nfold A f a c\nfold A f a\nsplit A b s1\n\
+            fold A f b c\namend A b x\ncommit A d draft c\nrelocate A f g f\nprune A f\nreport A\n";
     let output =
-        b"5: rewrite 5 NotLinear\n6: rewrite 6 Count\n7: rewrite 6 Count\n9: rewrite 4 AlreadyObsolete\n10: rewrite 2 Hidden\n11: rewrite 5 NotLinear\nreport A\na draft\nb draft obsolete extinct hidden\nc draft obsolete extinct hidden\nf draft obsolete extinct hidden\n4 changesets 3 markers\n";
+        b"5: rewrite 5 NotLinear\n6: rewrite 6 Count\n7: rewrite 6 Count\n9: rewrite 4 AlreadyObsolete\n\
+            10: rewrite 2 Hidden\n11: rewrite 5 NotLinear\nreport A\na draft\nb draft obsolete extinct hidden\n\
+            c draft obsolete extinct hidden\nf draft obsolete extinct hidden\n4 changesets 3 markers\n";
     expect(&rt, rt.alloc(), script, output, "");
 }
 
 #[test]
 fn what_amends_and_relocations_stand_on(rt: HostRuntime) {
     let script =
-        b"node A\ncommit A p draft\ncommit A q draft\ncommit A a draft p\ncommit A b draft a\namend A b b2\nfold A f a b2\nnode B\ncommit B p draft\ncommit B q draft\ncommit B x draft\nrelocate B x y p q\nphase B y public\nreport B\nreport A\n";
+        b"node A\ncommit A p draft\ncommit A q draft\ncommit A a draft p\ncommit A b draft a\namend A b b2\n\
+            fold A f a b2\nnode B\ncommit B p draft\ncommit B q draft\ncommit B x draft\nrelocate B x y p q\n\
+            phase B y public\nreport B\nreport A\n";
     let output =
-        b"report B\np public\nq public\nx draft obsolete extinct hidden\ny public\n4 changesets 1 markers\nreport A\na draft obsolete extinct hidden\nb draft obsolete extinct hidden\nb2 draft obsolete extinct hidden\nf draft\np draft\nq draft\n6 changesets 3 markers\n";
+        b"report B\np public\nq public\nx draft obsolete extinct hidden\ny public\n4 changesets 1 markers\nreport A\n\
+            a draft obsolete extinct hidden\nb draft obsolete extinct hidden\nb2 draft obsolete extinct hidden\n\
+            f draft\np draft\nq draft\n6 changesets 3 markers\n";
     expect(&rt, rt.alloc(), script, output, "");
 }
 
@@ -78,9 +87,11 @@ fn a_split_binds_its_labels_from_the_lowest(rt: HostRuntime) {
 #[test]
 fn what_a_report_says_of_changesets(rt: HostRuntime) {
     let script =
-        b"node A\ncommit A a draft\ncommit A b draft a\ncommit A c draft b\namend A b b2\nreport A\nphase A b public\nreport A\n";
+        b"node A\ncommit A a draft\ncommit A b draft a\ncommit A c draft b\namend A b b2\nreport A\nphase A b public\n\
+            report A\n";
     let output =
-        b"report A\na draft\nb draft obsolete suspended\nb2 draft\nc draft orphan\n4 changesets 1 markers\nreport A\na public\nb public\nb2 draft phase-divergent\nc draft\n4 changesets 1 markers\n";
+        b"report A\na draft\nb draft obsolete suspended\nb2 draft\nc draft orphan\n4 changesets 1 markers\nreport A\n\
+            a public\nb public\nb2 draft phase-divergent\nc draft\n4 changesets 1 markers\n";
     expect(&rt, rt.alloc(), script, output, "");
 }
 
@@ -121,7 +132,8 @@ fn a_line_and_its_end_are_one_write(rt: HostRuntime) {
 #[test]
 fn replicas_agree_where_their_states_are_equal(rt: HostRuntime) {
     let script =
-        b"node A\nnode B\ncommit A a draft\nagree A B\ncommit B a draft\nagree A B\nagree B B\ncommit A b secret\ncommit B b draft\nagree B A\n";
+        b"node A\nnode B\ncommit A a draft\nagree A B\ncommit B a draft\nagree A B\nagree B B\ncommit A b secret\n\
+            commit B b draft\nagree B A\n";
     let output = b"agree A B: no\nagree A B: yes\nagree B B: yes\nagree B A: no\n";
     expect(&rt, rt.alloc(), script, output, "");
 }
@@ -260,9 +272,14 @@ fn readers_and_writers_that_fail(rt: HostRuntime) {
 #[test]
 fn new_changesets_are_described_by_their_labels(rt: HostRuntime) {
     let script =
-        b"node A\nnode B\ncommit A p draft\ncommit B p draft\ncommit A x draft\ncommit B x draft\namend A x a1\namend B x a2\ncommit A y draft\ncommit B y draft\nrelocate A y r1 p\nrelocate B y r2 p\ncommit A s draft\ncommit B s draft\nsplit A s s1 s2\nsplit B s s1 s3\ncommit A v draft\ncommit A w draft v\ncommit B v draft\ncommit B w draft v\nfold A f1 v w\nfold B f2 v w\nreport A\n";
+        b"node A\nnode B\ncommit A p draft\ncommit B p draft\ncommit A x draft\ncommit B x draft\namend A x a1\n\
+            amend B x a2\ncommit A y draft\ncommit B y draft\nrelocate A y r1 p\nrelocate B y r2 p\ncommit A s draft\n\
+            commit B s draft\nsplit A s s1 s2\nsplit B s s1 s3\ncommit A v draft\ncommit A w draft v\n\
+            commit B v draft\ncommit B w draft v\nfold A f1 v w\nfold B f2 v w\nreport A\n";
     let output =
-        b"report A\na1 draft\nf1 draft\np draft\nr1 draft\ns draft obsolete extinct hidden\ns1 draft\ns2 draft\nv draft obsolete extinct hidden\nw draft obsolete extinct hidden\nx draft obsolete extinct hidden\ny draft obsolete extinct hidden\n11 changesets 5 markers\n";
+        b"report A\na1 draft\nf1 draft\np draft\nr1 draft\ns draft obsolete extinct hidden\ns1 draft\ns2 draft\n\
+            v draft obsolete extinct hidden\nw draft obsolete extinct hidden\nx draft obsolete extinct hidden\n\
+            y draft obsolete extinct hidden\n11 changesets 5 markers\n";
     expect(&rt, rt.alloc(), script, output, "");
 }
 

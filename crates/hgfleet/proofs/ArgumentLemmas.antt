@@ -1,9 +1,11 @@
 -- What the parser tells at words that are written out.
-use Rattle.std.proofs.Common.{◌≡◌, ◌≢◌, ◌∷◌, [], List, length, map, codes, refl, inl, inr, ◌∙◌, ap, subst, arith, true, Result, Bor, get_or}
+use Rattle.std.proofs.Common.{◌≡◌, ◌≢◌, ◌∷◌, [], List, length, map, codes, refl, inl, inr, ◌∙◌, ap, subst, arith, true}
+use Rattle.std.proofs.Common.{Result, Bor, get_or}
 use Rattle.std.specs.Prelude.{drop}
 use Rattle.clap.specs.Words.{App, Text, Kinds, FailsBy, HasKind, IsAmong, fault_of, is_simple_and_free, kind_of}
 use Rattle.clap.specs.declared.error.Error.{Error}
-use Rattle.clap.specs.declared.error.kind.ErrorKind.TheVariants.{DisplayHelp, DisplayVersion, MissingSubcommand, UnknownArgument, OutOfMemory}
+use Rattle.clap.specs.declared.error.kind.ErrorKind.TheVariants.{DisplayHelp, DisplayVersion, MissingSubcommand}
+use Rattle.clap.specs.declared.error.kind.ErrorKind.TheVariants.{UnknownArgument, OutOfMemory}
 use Rattle.clap.proofs.OnLiterals.{clap_on_literals}
 use Rattle.hgfleet.specs.Arguments.{IsRun, program, faults_at}
 
@@ -45,7 +47,8 @@ unfolding clap_on_literals
 program_is_free = refl
 
 -- what a command of this shape tells
-pub fails_at : {T : Type 0} (a : App) (words : List Text) (r : Result T Error) → a ≡ program → (is_simple_and_free a ≡ true → FailsBy (fault_of a words) r) → FailsBy (faults_at words) r
+pub fails_at : {T : Type 0} (a : App) (words : List Text) (r : Result T Error) → a ≡ program
+    → (is_simple_and_free a ≡ true → FailsBy (fault_of a words) r) → FailsBy (faults_at words) r
 unfolding faults_at
 fails_at a words r e h = subst (λ b. FailsBy (fault_of b words) r) e (h (ap is_simple_and_free e ∙ program_is_free))
 
@@ -60,7 +63,8 @@ is_told kinds e (inl m) k = absurd (k m)
 is_told kinds e (inr among) k = among
 
 -- the second of two words stands alone behind the first
-pub second_alone : (words : List (Bor Text)) (d : Bor Text) → length words ≡ 2 → drop 1 (map (λ s. s.now) words) ≡ (get_or words 1 d).now ∷ []
+pub second_alone : (words : List (Bor Text)) (d : Bor Text) → length words ≡ 2
+    → drop 1 (map (λ s. s.now) words) ≡ (get_or words 1 d).now ∷ []
 second_alone [] d l = absurd (omega (arith, l))
 second_alone (a ∷ []) d l = absurd (omega (arith, l))
 second_alone (a ∷ b ∷ []) d l = refl

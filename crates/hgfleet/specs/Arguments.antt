@@ -11,7 +11,8 @@ use Rattle.hgfleet.specs.declared.arguments.ArgumentFault.TheVariants.{BadArgume
 -- `hgfleet` with its version and with its one command `run`, which it requires
 abbrev pub program : App
 program = let bare = new_app (codes "hgfleet") in
-    with_subcommand (record bare { top = record bare.top { has_version = true; subcommand_required = true } }) (new_app (codes "run")).top
+    with_subcommand (record bare { top = record bare.top { has_version = true; subcommand_required = true } })
+    (new_app (codes "run")).top
 
 -- after the program's name, whatever it is, the word `run` alone
 abbrev pub IsRun : List Text → Type 0
@@ -29,13 +30,15 @@ ParseAnswer words result = FailsBy (faults_at words) result
 abbrev pub IsMistake : Error → Type 0
 IsMistake e = (kind_of e ≢ DisplayHelp) × (kind_of e ≢ DisplayVersion) × (kind_of e ≢ OutOfMemory)
 
--- the words of a run ask for a run, and no others do; help and the version are given where the parser says that they are
+-- the words of a run ask for a run, and no others do; help and the version are given where the parser says that they
+-- are
 -- asked for; all else is bad, and is what the parser says, or words that it passes over
 abbrev pub ArgumentsAnswer : List Text → Result Wanted ArgumentFault → Type 0
 ArgumentsAnswer words (Ok Run) = IsRun words
 ArgumentsAnswer words (Ok (Help e)) = IsAmong DisplayHelp (faults_at words)
 ArgumentsAnswer words (Ok (Version e)) = IsAmong DisplayVersion (faults_at words)
-ArgumentsAnswer words (Err (BadArguments e)) = ¬ (IsRun words) × IsMistake e × ((faults_at words ≡ []) ⊎ IsAmong (kind_of e) (faults_at words))
+ArgumentsAnswer words (Err (BadArguments e)) =
+    ¬ (IsRun words) × IsMistake e × ((faults_at words ≡ []) ⊎ IsAmong (kind_of e) (faults_at words))
 ArgumentsAnswer words (Err NotText) = ⊥
 ArgumentsAnswer words (Err NoMemory) = Unit {0}
 

@@ -2,7 +2,8 @@
 ghost use Rattle.std.specs.Prelude.{◌≡◌, ◌∷◌, ◌↔◌, [], map, List, ℕ, IsTrue, IfOk, IfErr, MatchResult, codes};
 ghost use Rattle.clap.specs.Words.{app_of, kind_of, Text};
 ghost use Rattle.hgfleet.specs.declared.arguments.ArgumentFault.TheVariants.{NoMemory};
-ghost use Rattle.hgfleet.specs.Arguments.{program, IsRun, faults_at, ArgumentsAnswer, ParseAnswer, argument_fault_number, argument_fault_status, argument_fault_text};
+ghost use Rattle.hgfleet.specs.Arguments.{program, IsRun, faults_at, ArgumentsAnswer, ParseAnswer};
+ghost use Rattle.hgfleet.specs.Arguments.{argument_fault_number, argument_fault_status, argument_fault_text};
 
 use clap::error::ErrorKind;
 use clap::{Command, Error};
@@ -186,7 +187,8 @@ fn program<'a>(alloc: Global) -> Result<Command<'a>, AllocError>
 pub fn what_words_ask_for()
     ensures help { (name : Text) → faults_at (name ∷ codes "--help" ∷ []) ≡ ErrorKind.DisplayHelp ∷ [] }
     ensures short_help { (name : Text) → faults_at (name ∷ codes "-h" ∷ []) ≡ ErrorKind.DisplayHelp ∷ [] }
-    ensures help_of_run { (name : Text) → faults_at (name ∷ codes "run" ∷ codes "--help" ∷ []) ≡ ErrorKind.DisplayHelp ∷ [] }
+    ensures help_of_run { (name : Text)
+        → faults_at (name ∷ codes "run" ∷ codes "--help" ∷ []) ≡ ErrorKind.DisplayHelp ∷ [] }
     ensures version { (name : Text) → faults_at (name ∷ codes "--version" ∷ []) ≡ ErrorKind.DisplayVersion ∷ [] }
     ensures nothing { (name : Text) → faults_at (name ∷ []) ≡ ErrorKind.MissingSubcommand ∷ [] }
     ensures run { (name : Text) → faults_at (name ∷ codes "run" ∷ []) ≡ [] }

@@ -15,17 +15,34 @@ take_bounds_or_undo-requires c =
       valid = added_valid held had part added.result added.new.graph added.new.phases added.ensures;
       within = omega (arith, c.len-before.ensures.len, within);
       rooted = rooted_after held had part c.len-before.result added.result added.new.graph added.new.phases
-          (record { len = c.requires.kept.len; valid = c.requires.valid; first = c.len-before.ensures.len; done = added.ensures }) c.args.kept.now.roots.keys c.requires.kept.roots;
+          (record {
+            len = c.requires.kept.len;
+            valid = c.requires.valid;
+            first = c.len-before.ensures.len;
+            done =
+                added.ensures;
+          }) c.args.kept.now.roots.keys c.requires.kept.roots;
     }
 
-begun : (c : goal.After-take_bounds_or_undo) → IsBegun c.args.graph.now c.args.kept.now.phases c.args.changesets.now c.len-before.result c.add_changesets-added.result c.add_changesets-added.new.graph c.add_changesets-added.new.phases
-begun c = record { len = c.requires.kept.len; valid = c.requires.valid; first = c.len-before.ensures.len; done = c.add_changesets-added.ensures }
+begun : (c : goal.After-take_bounds_or_undo)
+    → IsBegun c.args.graph.now c.args.kept.now.phases c.args.changesets.now c.len-before.result
+    c.add_changesets-added.result c.add_changesets-added.new.graph c.add_changesets-added.new.phases
+begun c = record {
+  len = c.requires.kept.len;
+  valid = c.requires.valid;
+  first = c.len-before.ensures.len;
+  done =
+      c.add_changesets-added.ensures;
+}
 
 pub returns-clause-inside : goal.returns-clause-inside
-returns-clause-inside c = c.take_bounds_or_undo.ensures.inside c.args.graph.now c.args.kept.now.phases c.args.changesets.now (begun c)
+returns-clause-inside c =
+    c.take_bounds_or_undo.ensures.inside c.args.graph.now c.args.kept.now.phases c.args.changesets.now (begun c)
 
 pub returns-clause-answer : goal.returns-clause-answer
-returns-clause-answer c = c.take_bounds_or_undo.ensures.answer c.args.graph.now c.args.kept.now.phases c.args.changesets.now (begun c)
+returns-clause-answer c =
+    c.take_bounds_or_undo.ensures.answer c.args.graph.now c.args.kept.now.phases c.args.changesets.now (begun c)
 
 pub returns-clause-memory : goal.returns-clause-memory
-returns-clause-memory c = c.take_bounds_or_undo.ensures.memory c.args.graph.now c.args.kept.now.phases c.args.changesets.now (begun c)
+returns-clause-memory c =
+    c.take_bounds_or_undo.ensures.memory c.args.graph.now c.args.kept.now.phases c.args.changesets.now (begun c)

@@ -10,7 +10,8 @@ returns-in-Err c =
     let i = c.loop-changeset.changeset-index in
     let l : i < length xs = omega arith in
     let at : slice_get xs i ≡ Some x = slice_get-get_or xs i x l ∙ ap (λ y. Some y) (sym c.changeset-item.is) in
-    stays_added c.args.graph.now c.args.phases.now xs i c.loop-changeset.graph c.loop-changeset.phases c.loop-changeset.invariant x at c.in-Err.fault c.add_one.new.graph c.add_one.new.phases c.in-Err.ensures
+    stays_added c.args.graph.now c.args.phases.now xs i c.loop-changeset.graph c.loop-changeset.phases
+    c.loop-changeset.invariant x at c.in-Err.fault c.add_one.new.graph c.add_one.new.phases c.in-Err.ensures
 
 pub loop-changeset-preserved : goal.loop-changeset-preserved
 loop-changeset-preserved c =
@@ -19,4 +20,5 @@ loop-changeset-preserved c =
     let i = c.loop-changeset.changeset-index in
     let l : i < length xs = omega arith in
     let at : slice_get xs i ≡ Some x = slice_get-get_or xs i x l ∙ ap (λ y. Some y) (sym c.changeset-item.is) in
-    IsAdded-step c.args.graph.now c.args.phases.now xs i c.loop-changeset.graph c.loop-changeset.phases c.loop-changeset.invariant x at c.in-Ok.field-0 c.add_one.new.graph c.add_one.new.phases c.in-Ok.ensures
+    IsAdded-step c.args.graph.now c.args.phases.now xs i c.loop-changeset.graph c.loop-changeset.phases
+    c.loop-changeset.invariant x at c.in-Ok.field-0 c.add_one.new.graph c.add_one.new.phases c.in-Ok.ensures

@@ -1,4 +1,5 @@
-use Rattle.std.proofs.Common.{rules, ◌≡◌, ◌+◌, ◌∙◌, ◌++◌, ◌∷◌, [], length, slice_get, Some, sym, ap, subst, append-nil, append_assoc, arith}
+use Rattle.std.proofs.Common.{rules, ◌≡◌, ◌+◌, ◌∙◌, ◌++◌, ◌∷◌, [], length, slice_get, Some, sym, ap, subst, append-nil}
+use Rattle.std.proofs.Common.{append_assoc, arith}
 use Rattle.std.proofs.lemmas.List.{length-append}
 use Rattle.hg_changeset.proofs.ListLemmas.{slice_get-append_seam}
 use Rattle.hg_graph.proofs.WalkLemmas.{emptied}
@@ -8,8 +9,12 @@ use Rattle.hg_history.proofs.absorb.add_owned_changesets.Goals as goal
 
 pub loop-changeset-init : goal.loop-changeset-init
 loop-changeset-init c =
-    let all : c.into_iter-changeset-iterator.result.rest.items ≡ c.args.changesets.items = search rules in
-    ([], sym all, IsAdded-start c.args.graph.now c.args.phases.now c.args.changesets.items c.requires.len c.requires.valid)
+    let all : c.into_iter-changeset-iterator.result.rest.items ≡ c.args.changesets.items = search rules in (
+      [],
+      sym all,
+      IsAdded-start c.args.graph.now c.args.phases.now c.args.changesets.items c.requires.len
+          c.requires.valid,
+    )
 
 pub loop-changeset-preserved : goal.loop-changeset-preserved
 loop-changeset-preserved c =
@@ -19,12 +24,16 @@ loop-changeset-preserved c =
     let before = c.loop-changeset.invariant in
     let left : c.loop-changeset.changeset-iterator.rest.items ≡ x ∷ rest = search rules in
     let all : part ≡ before.0 ++ x ∷ rest = before.1 ∙ ap (λ xs. before.0 ++ xs) left in
-    let at : slice_get part (length before.0) ≡ Some x = ap (λ xs. slice_get xs (length before.0)) all ∙ slice_get-append_seam before.0 x rest in
-    let step = IsAdded-step c.args.graph.now c.args.phases.now part (length before.0) c.loop-changeset.graph c.loop-changeset.phases before.2 x at c.in-Ok.field-0 c.add_owned.new.graph c.add_owned.new.phases c.in-Ok.ensures in
+    let at : slice_get part (length before.0) ≡ Some x =
+    ap (λ xs. slice_get xs (length before.0)) all ∙ slice_get-append_seam before.0 x rest in
+    let step = IsAdded-step c.args.graph.now c.args.phases.now part (length before.0) c.loop-changeset.graph
+    c.loop-changeset.phases before.2 x at c.in-Ok.field-0 c.add_owned.new.graph c.add_owned.new.phases
+    c.in-Ok.ensures in
     let count : length before.0 + 1 ≡ length (before.0 ++ x ∷ []) = omega (arith, length-append before.0 (x ∷ [])) in (
       before.0 ++ x ∷ [],
       all ∙ sym (append_assoc before.0 (x ∷ []) rest),
-      subst (λ i. IsAdded c.args.graph.now c.args.phases.now part i c.add_owned.new.graph c.add_owned.new.phases) count step,
+      subst (λ i. IsAdded c.args.graph.now c.args.phases.now part i c.add_owned.new.graph c.add_owned.new.phases) count
+          step,
     )
 
 pub returns-in-Err : goal.returns-in-Err
@@ -35,8 +44,10 @@ returns-in-Err c =
     let before = c.loop-changeset.invariant in
     let left : c.loop-changeset.changeset-iterator.rest.items ≡ x ∷ rest = search rules in
     let all : part ≡ before.0 ++ x ∷ rest = before.1 ∙ ap (λ xs. before.0 ++ xs) left in
-    let at : slice_get part (length before.0) ≡ Some x = ap (λ xs. slice_get xs (length before.0)) all ∙ slice_get-append_seam before.0 x rest in
-    stays_added c.args.graph.now c.args.phases.now part (length before.0) c.loop-changeset.graph c.loop-changeset.phases before.2 x at c.in-Err.fault c.add_owned.new.graph c.add_owned.new.phases c.in-Err.ensures
+    let at : slice_get part (length before.0) ≡ Some x =
+    ap (λ xs. slice_get xs (length before.0)) all ∙ slice_get-append_seam before.0 x rest in
+    stays_added c.args.graph.now c.args.phases.now part (length before.0) c.loop-changeset.graph c.loop-changeset.phases
+    before.2 x at c.in-Err.fault c.add_owned.new.graph c.add_owned.new.phases c.in-Err.ensures
 
 pub returns : goal.returns
 returns c =
@@ -44,4 +55,5 @@ returns c =
     let queue = c.loop-changeset.changeset-iterator.rest in
     let left : queue.items ≡ [] = emptied queue.items (λ l. omega (arith, l, queue.ok.0, c.in-None.ensures.steps.0)) in
     let all : c.args.changesets.items ≡ before.0 = before.1 ∙ ap (λ xs. before.0 ++ xs) left ∙ append-nil before.0 in
-    subst (λ i. IsAdded c.args.graph.now c.args.phases.now c.args.changesets.items i c.loop-changeset.graph c.loop-changeset.phases) (ap length (sym all)) before.2
+    subst (λ i. IsAdded c.args.graph.now c.args.phases.now c.args.changesets.items i c.loop-changeset.graph
+    c.loop-changeset.phases) (ap length (sym all)) before.2

@@ -16,7 +16,8 @@ returns-in-Err-clause-fault c =
     let i = c.loop-bound.bound-index in
     let b : Node × Phase = get_or bounds i any in
     let l : i < length bounds = omega arith in
-    bound_fault c.args.graph.now bounds i b c.in-Err.fault (slice_get-get_or bounds i any l) c.loop-bound.invariant c.in-Err.ensures
+    bound_fault c.args.graph.now bounds i b c.in-Err.fault (slice_get-get_or bounds i any l) c.loop-bound.invariant
+    c.in-Err.ensures
 
 pub loop-bound-preserved : goal.loop-bound-preserved
 unfolding any

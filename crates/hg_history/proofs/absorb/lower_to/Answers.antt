@@ -33,17 +33,21 @@ loop-bound-preserved c =
     record {
       len = c.in_ok-lower_bound.ensures.len ∙ w.len;
       valid = valid-lowered cs b c.args.phase c.loop-bound.phases c.lower_bound.new.phases w.valid one;
-      lowered = IsLoweredTo-step cs bounds i b c.args.phase c.args.phases.now c.loop-bound.phases c.lower_bound.new.phases (slice_get-get_or bounds i any l) w.lowered one;
+      lowered = IsLoweredTo-step cs bounds i b c.args.phase c.args.phases.now c.loop-bound.phases
+          c.lower_bound.new.phases (slice_get-get_or bounds i any l) w.lowered one;
       logged = λ start h. c.in_ok-lower_bound.ensures.logged start (w.logged start h);
       undoes = c.in_ok-lower_bound.ensures.undoes ∙ w.undoes;
-      still = still_more cs bounds i b (slice_get-get_or bounds i any l) c.args.phases.now c.loop-bound.phases c.args.log.now c.loop-bound.log w.still c.lower_bound.new.phases c.lower_bound.new.log c.in_ok-lower_bound.ensures.still;
+      still = still_more cs bounds i b (slice_get-get_or bounds i any l) c.args.phases.now c.loop-bound.phases
+          c.args.log.now c.loop-bound.log w.still c.lower_bound.new.phases c.lower_bound.new.log
+          c.in_ok-lower_bound.ensures.still;
     }
 
 pub returns-clause-lowered : goal.returns-clause-lowered
 returns-clause-lowered c =
     let bounds = c.args.bounds.now in
     let all : take c.loop-bound.bound-index bounds ≡ bounds = take_all _ _ (omega arith) in
-    subst (λ bs. IsLoweredTo c.args.graph.now bs c.args.phase c.args.phases.now c.loop-bound.phases) all c.loop-bound.invariant.lowered
+    subst (λ bs. IsLoweredTo c.args.graph.now bs c.args.phase c.args.phases.now c.loop-bound.phases) all
+    c.loop-bound.invariant.lowered
 
 pub returns-in_err-lower_bound-clause-memory : goal.returns-in_err-lower_bound-clause-memory
 unfolding any
@@ -52,7 +56,9 @@ returns-in_err-lower_bound-clause-memory c =
     let i = c.loop-bound.bound-index in
     let l : i < length bounds = omega arith in
     MatchResult-from_err c.from_residual.result _ _ c.from_residual.ensures.0
-    (λ _. higher_at c.args.graph.now bounds i (get_or bounds i any) (slice_get-get_or bounds i any l) c.args.phases.now c.loop-bound.phases c.args.log.now c.loop-bound.log c.loop-bound.invariant.still c.in_err-lower_bound.ensures.memory)
+    (λ _. higher_at c.args.graph.now bounds i (get_or bounds i any) (slice_get-get_or bounds i any l) c.args.phases.now
+    c.loop-bound.phases c.args.log.now c.loop-bound.log c.loop-bound.invariant.still
+    c.in_err-lower_bound.ensures.memory)
 
 pub returns-in_err-lower_bound-clause-still : goal.returns-in_err-lower_bound-clause-still
 unfolding any
@@ -60,4 +66,6 @@ returns-in_err-lower_bound-clause-still c =
     let bounds = c.args.bounds.now in
     let i = c.loop-bound.bound-index in
     let l : i < length bounds = omega arith in
-    still_more c.args.graph.now bounds i (get_or bounds i any) (slice_get-get_or bounds i any l) c.args.phases.now c.loop-bound.phases c.args.log.now c.loop-bound.log c.loop-bound.invariant.still c.lower_bound.new.phases c.lower_bound.new.log c.in_err-lower_bound.ensures.still
+    still_more c.args.graph.now bounds i (get_or bounds i any) (slice_get-get_or bounds i any l) c.args.phases.now
+    c.loop-bound.phases c.args.log.now c.loop-bound.log c.loop-bound.invariant.still c.lower_bound.new.phases
+    c.lower_bound.new.log c.in_err-lower_bound.ensures.still

@@ -13,12 +13,17 @@ use Rattle.hg_history.proofs.absorb.take_bounds_or_undo.Goals as goal
 
 pub returns-in-Ok-clause-inside : goal.returns-in-Ok-clause-inside
 returns-in-Ok-clause-inside c held had part begun =
-    let done = c.in-Ok.ensures.absorbed held had part begun in
-    (c.in-Ok.ensures.kept, least-valid (state_of held had) _ (state_of c.args.graph.now c.take_bounds_and_update.new.kept.phases) done.least begun.valid)
+    let done = c.in-Ok.ensures.absorbed held had part begun in (
+      c.in-Ok.ensures.kept,
+      least-valid (state_of held had) _ (state_of c.args.graph.now c.take_bounds_and_update.new.kept.phases)
+          done.least begun.valid,
+    )
 
-module _ (c : goal.After-drop-log-inside-2) (held : List Contents) (had : List Phase) (part : List Contents) (begun : IsBegun held had part c.args.before c.args.added c.args.graph.now c.args.kept.now.phases) where
+module _ (c : goal.After-drop-log-inside-2) (held : List Contents) (had : List Phase) (part : List Contents)
+    (begun : IsBegun held had part c.args.before c.args.added c.args.graph.now c.args.kept.now.phases) where
   graph_is : c.take_back.new.graph ≡ held
-  graph_is = c.take_back.ensures.graph ∙ begun_front held had part c.args.before c.args.added c.args.graph.now c.args.kept.now.phases begun
+  graph_is = c.take_back.ensures.graph
+      ∙ begun_front held had part c.args.before c.args.added c.args.graph.now c.args.kept.now.phases begun
 
   phases_are : c.take_back.new.phases ≡ had
   phases_are =
@@ -35,10 +40,13 @@ returns-clause-inside c held had part begun =
     let places = c.take_bounds_and_update.new.kept.roots.keys in
     let is = graph_is c held had part begun in
     let are = phases_are c held had part begun in
-    let rooted = rooted_before held had part c.args.before c.args.added c.args.graph.now c.args.kept.now.phases begun places c.in-Err.ensures.rooted in (
+    let rooted =
+    rooted_before held had part c.args.before c.args.added c.args.graph.now c.args.kept.now.phases begun places
+    c.in-Err.ensures.rooted in (
       record {
         len = ap length are ∙ begun.len ∙ sym (ap length is);
-        roots = subst (λ ds. AreRootPlaces ds phases places) (sym is) (subst (λ ls. AreRootPlaces held ls places) (sym are) rooted);
+        roots = subst (λ ds. AreRootPlaces ds phases places) (sym is)
+            (subst (λ ls. AreRootPlaces held ls places) (sym are) rooted);
       },
       subst (λ g. IsValid (state_of g phases)) (sym is) (subst (λ p. IsValid (state_of held p)) (sym are) begun.valid),
     )

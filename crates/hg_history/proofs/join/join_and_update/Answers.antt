@@ -21,7 +21,10 @@ returns-in_err-update-in-Ok-clause-rooted c =
     let log = c.join_logged.new.log in
     let start = restored c.join_logged.new.phases log in
     let keys = c.update.new.self.roots.keys in
-    let moved = subst (λ ls. AreRootPlaces (take c.len-before.result ds) (take c.len-before.result (restored ls log)) keys) c.update.ensures.same c.in_err-update-in-Ok.ensures.unchanged in
+    let moved = subst
+    (λ ls. AreRootPlaces (take c.len-before.result ds) (take c.len-before.result (restored ls log)) keys)
+    c.update.ensures.same c.in_err-update-in-Ok.ensures.unchanged in
     let first = subst (λ n. AreRootPlaces (take n ds) (take n start) keys) c.len-before.ensures.len moved in
     on_err_anyway c.from_residual.result _
-    (subst (λ ls. AreRootPlaces cs ls keys) c.join_logged.ensures.back.phases (subst (λ es. AreRootPlaces es (take (length cs) start) keys) c.join_logged.ensures.back.front first))
+    (subst (λ ls. AreRootPlaces cs ls keys) c.join_logged.ensures.back.phases
+    (subst (λ es. AreRootPlaces es (take (length cs) start) keys) c.join_logged.ensures.back.front first))

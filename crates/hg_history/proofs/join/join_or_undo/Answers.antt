@@ -7,15 +7,21 @@ use Rattle.hg_history.proofs.JoinLemmas.{least-joined}
 use Rattle.hg_history.proofs.join.join_or_undo.Goals as goal
 
 pub returns-in-Ok-clause-inside : goal.returns-in-Ok-clause-inside
-returns-in-Ok-clause-inside c =
-    (c.in-Ok.ensures.kept, least-valid (state_of c.args.graph.now c.args.kept.now.phases) _ (state_of c.join_and_update.new.graph c.join_and_update.new.kept.phases) c.in-Ok.ensures.joined c.requires.valid)
+returns-in-Ok-clause-inside c = (
+  c.in-Ok.ensures.kept,
+  least-valid (state_of c.args.graph.now c.args.kept.now.phases) _
+      (state_of c.join_and_update.new.graph c.join_and_update.new.kept.phases) c.in-Ok.ensures.joined
+      c.requires.valid,
+)
 
 pub returns-in-Ok-clause-answer : goal.returns-in-Ok-clause-answer
 returns-in-Ok-clause-answer c =
     let s = state_of c.args.graph.now c.args.kept.now.phases in
     let t = state_of c.join_and_update.new.graph c.join_and_update.new.kept.phases in
-    let least = c.in-Ok.ensures.joined in
-    (least-valid s _ t least c.requires.valid, least-joined s (state_of c.args.other.now c.args.other_phases.now) t c.requires.other_valid least)
+    let least = c.in-Ok.ensures.joined in (
+      least-valid s _ t least c.requires.valid,
+      least-joined s (state_of c.args.other.now c.args.other_phases.now) t c.requires.other_valid least,
+    )
 
 pub returns-clause-inside : goal.returns-clause-inside
 returns-clause-inside c =
@@ -24,11 +30,16 @@ returns-clause-inside c =
     let new = c.join_and_update.new in
     let back = c.join_and_update.ensures.back in
     let places = new.kept.roots.keys in
-    let is : c.take_back.new.graph ≡ cs = c.take_back.ensures.graph ∙ ap (λ n. take n new.graph) c.len-before.ensures.len ∙ back.front in
-    let are : c.take_back.new.phases ≡ ks = c.take_back.ensures.phases ∙ ap (λ n. take n (restored new.kept.phases new.log)) c.len-before.ensures.len ∙ back.phases in (
+    let is : c.take_back.new.graph ≡ cs =
+    c.take_back.ensures.graph ∙ ap (λ n. take n new.graph) c.len-before.ensures.len ∙ back.front in
+    let are : c.take_back.new.phases ≡ ks =
+    c.take_back.ensures.phases ∙ ap (λ n. take n (restored new.kept.phases new.log)) c.len-before.ensures.len
+    ∙ back.phases in (
       record {
         len = ap length are ∙ c.requires.kept.len ∙ sym (ap length is);
-        roots = subst (λ ds. AreRootPlaces ds c.take_back.new.phases places) (sym is) (subst (λ ls. AreRootPlaces cs ls places) (sym are) c.in-Err.ensures.rooted);
+        roots = subst (λ ds. AreRootPlaces ds c.take_back.new.phases places) (sym is)
+            (subst (λ ls. AreRootPlaces cs ls places) (sym are) c.in-Err.ensures.rooted);
       },
-      subst (λ g. IsValid (state_of g c.take_back.new.phases)) (sym is) (subst (λ ls. IsValid (state_of cs ls)) (sym are) c.requires.valid),
+      subst (λ g. IsValid (state_of g c.take_back.new.phases)) (sym is)
+          (subst (λ ls. IsValid (state_of cs ls)) (sym are) c.requires.valid),
     )

@@ -1,5 +1,6 @@
 use Rattle.hg_phases.proofs.ContentLemmas.{content-same, same_from_content}
-use Rattle.hg_history.proofs.ContentLemmas.{content-valid, content-below, below_from_content, content-covers, covers_from_content, content-after, least_from_content, content-fault}
+use Rattle.hg_history.proofs.ContentLemmas.{content-valid, content-below, below_from_content, content-covers}
+use Rattle.hg_history.proofs.ContentLemmas.{covers_from_content, content-after, least_from_content, content-fault}
 use Rattle.hg_history.proofs.JoinLemmas.{join-contents, join_from_content}
 use Rattle.hg_history.proofs.laws.contents_say_what_histories_say.Goals as goal
 
@@ -22,4 +23,5 @@ pub returns-clause-fault : goal.returns-clause-fault
 returns-clause-fault c s k fault v h = content-fault s k fault v.graph h
 
 pub returns-clause-joined : goal.returns-clause-joined
-returns-clause-joined c s o t u v w = (join-contents s o t u.graph v.graph w.graph, join_from_content s o t u.graph v.graph w.graph)
+returns-clause-joined c s o t u v w =
+    (join-contents s o t u.graph v.graph w.graph, join_from_content s o t u.graph v.graph w.graph)

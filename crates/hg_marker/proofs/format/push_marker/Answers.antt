@@ -9,7 +9,8 @@ use Rattle.hg_marker.proofs.format.push_marker.Goals as goal
 pub unwrap-requires-5 : goal.unwrap-requires-5
 unwrap-requires-5 c =
     let m = c.args.marker.now in
-    let writable = ap is_writable c.meta-2.ensures ∙ clean_is_writable m.metadata c.predecessor-predecessor.ensures.marker.clean in
+    let writable =
+    ap is_writable c.meta-2.ensures ∙ clean_is_writable m.metadata c.predecessor-predecessor.ensures.marker.clean in
     c.write_onto.ensures.succeeds writable (omega (
       arith,
       c.requires.room,

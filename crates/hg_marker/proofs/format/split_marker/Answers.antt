@@ -5,6 +5,7 @@ use Rattle.hg_marker.proofs.format.split_marker.Goals as goal
 pub returns-clause-marker : goal.returns-clause-marker
 returns-clause-marker c =
     read_is_marker c.args.bytes.now _ _ _ _ _ _ _ _ _ _ (λ i. omega (arith, c.type_inv.bytes i))
-    c.in_ok-count.ensures c.in_ok-len.ensures c.in_ok-flags.ensures c.in_ok-predecessor.ensures c.in_ok-ids.ensures.ids c.in_ok-metadata.ensures
+    c.in_ok-count.ensures c.in_ok-len.ensures c.in_ok-flags.ensures c.in_ok-predecessor.ensures c.in_ok-ids.ensures.ids
+    c.in_ok-metadata.ensures
     (sym c.holds_null.ensures ∙ c.if-holds_null.false) c.if-len-gt-METADATA_LIMIT.false
     (metadata_again _ _ (record { colons = sym c.have_colons.ensures ∙ c.if-not-have_colons.false; texts = refl }))

@@ -21,10 +21,14 @@ overflow_add-len-in-loop-key-2 c =
 pub returns-then-len-bytes : goal.returns-then-len-bytes
 returns-then-len-bytes c =
     let left = ap weight c.in-None.ensures.steps.0 in
-    let ascent : ascends None (map entry (pieces c.args.bytes.now)) ≡ true = sym c.loop-key.invariant.0 ∙ ap (ascends _) c.in-None.ensures.steps.0 in
-    λ h. ascending_is_written c.args.bytes.now c.loop-key.len c.requires.colons ascent (omega (arith, left, c.loop-key.invariant.1)) c.if-len-bytes.true
+    let ascent : ascends None (map entry (pieces c.args.bytes.now)) ≡ true =
+    sym c.loop-key.invariant.0 ∙ ap (ascends _) c.in-None.ensures.steps.0 in
+    λ h. ascending_is_written c.args.bytes.now c.loop-key.len c.requires.colons ascent
+    (omega (arith, left, c.loop-key.invariant.1)) c.if-len-bytes.true
 
 pub returns-else-len-bytes : goal.returns-else-len-bytes
 returns-else-len-bytes c =
-    let ascent : ascends None (map entry (pieces c.args.bytes.now)) ≡ true = sym c.loop-key.invariant.0 ∙ ap (ascends _) c.in-None.ensures.steps.0 in
-    λ h. nothing_is_written c.args.bytes.now c.requires.colons ascent (nil_from_length c.args.bytes.now (eqb-true _ _ (sym c.is_empty.ensures ∙ h)))
+    let ascent : ascends None (map entry (pieces c.args.bytes.now)) ≡ true =
+    sym c.loop-key.invariant.0 ∙ ap (ascends _) c.in-None.ensures.steps.0 in
+    λ h. nothing_is_written c.args.bytes.now c.requires.colons ascent
+    (nil_from_length c.args.bytes.now (eqb-true _ _ (sym c.is_empty.ensures ∙ h)))

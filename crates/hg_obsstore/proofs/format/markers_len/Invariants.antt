@@ -6,4 +6,5 @@ use Rattle.hg_obsstore.specs.Spelling.{IsLength, store_spelling}
 use Rattle.hg_obsstore.proofs.format.markers_len.Given as goal
 
 abbrev pub invariant-loop-marker : goal.invariant-loop-marker
-invariant-loop-marker l = IsLength l.len (length (store_spelling (take l.marker-index l.markers))) × AllByRecursion (λ (m : Fields). IsSpelling m (spelling m)) (take l.marker-index l.markers)
+invariant-loop-marker l = IsLength l.len (length (store_spelling (take l.marker-index l.markers)))
+    × AllByRecursion (λ (m : Fields). IsSpelling m (spelling m)) (take l.marker-index l.markers)

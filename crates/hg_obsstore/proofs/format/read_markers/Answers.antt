@@ -7,13 +7,23 @@ use Rattle.hg_obsstore.proofs.FormatLemmas.{store_told, store_read, store_refuse
 use Rattle.hg_obsstore.proofs.format.read_markers.Goals as goal
 
 pub returns-clause-only : goal.returns-clause-only
-returns-clause-only c = λ ms h. subst (Gives (λ v. v.items) c.read_version_and_markers.result) (store_read ms c.args.bytes.now h) c.read_version_and_markers.ensures.exact
+returns-clause-only c =
+    λ ms h. subst (Gives (λ v. v.items) c.read_version_and_markers.result) (store_read ms c.args.bytes.now h)
+    c.read_version_and_markers.ensures.exact
 
 pub returns-clause-found : goal.returns-clause-found
-returns-clause-found c = found (λ v. v.items) (λ ms. IsStoreSpelling ms c.args.bytes.now) (IsStoreFault c.args.bytes.now) c.read_version_and_markers.result _ c.read_version_and_markers.ensures.exact (store_told c.args.bytes.now (λ i. omega (arith, c.type_inv.bytes i)))
+returns-clause-found c =
+    found (λ v. v.items) (λ ms. IsStoreSpelling ms c.args.bytes.now) (IsStoreFault c.args.bytes.now)
+    c.read_version_and_markers.result _ c.read_version_and_markers.ensures.exact
+    (store_told c.args.bytes.now (λ i. omega (arith, c.type_inv.bytes i)))
 
 pub returns-clause-fault : goal.returns-clause-fault
-returns-clause-fault c = fault (λ v. v.items) (λ ms. IsStoreSpelling ms c.args.bytes.now) (IsStoreFault c.args.bytes.now) c.read_version_and_markers.result _ c.read_version_and_markers.ensures.exact (store_told c.args.bytes.now (λ i. omega (arith, c.type_inv.bytes i)))
+returns-clause-fault c =
+    fault (λ v. v.items) (λ ms. IsStoreSpelling ms c.args.bytes.now) (IsStoreFault c.args.bytes.now)
+    c.read_version_and_markers.result _ c.read_version_and_markers.ensures.exact
+    (store_told c.args.bytes.now (λ i. omega (arith, c.type_inv.bytes i)))
 
 pub returns-clause-refused : goal.returns-clause-refused
-returns-clause-refused c = λ f h. told_first (λ v. v.items) c.read_version_and_markers.result _ f c.read_version_and_markers.ensures.exact (store_refused c.args.bytes.now f h)
+returns-clause-refused c =
+    λ f h. told_first (λ v. v.items) c.read_version_and_markers.result _ f c.read_version_and_markers.ensures.exact
+    (store_refused c.args.bytes.now f h)

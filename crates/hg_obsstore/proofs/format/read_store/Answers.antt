@@ -14,13 +14,17 @@ returns-in_err-markers-clause-only c = λ ms h.
 
 pub returns-in-Ok-clause-only : goal.returns-in-Ok-clause-only
 returns-in-Ok-clause-only c = λ ms h.
-    let same : ms ≡ c.in_ok-markers.markers.items = ok_is ms c.in_ok-markers.markers.items (c.in_ok-markers.ensures.only ms h) in
+    let same : ms ≡ c.in_ok-markers.markers.items =
+    ok_is ms c.in_ok-markers.markers.items (c.in_ok-markers.ensures.only ms h) in
     ap (λ xs. Ok xs) (ap (new_among []) same ∙ sym c.in-Ok.ensures.ok)
 
 pub returns-in-Ok-clause-again : goal.returns-in-Ok-clause-again
 returns-in-Ok-clause-again c = λ ms different h.
-    let same : ms ≡ c.in_ok-markers.markers.items = ok_is ms c.in_ok-markers.markers.items (c.in_ok-markers.ensures.only ms h) in
-    ap (λ xs. Ok xs) (sym (copied ms (IsDistinct-from_AllPairs fields_decides ms different)) ∙ ap (new_among []) same ∙ sym c.in-Ok.ensures.ok)
+    let same : ms ≡ c.in_ok-markers.markers.items =
+    ok_is ms c.in_ok-markers.markers.items (c.in_ok-markers.ensures.only ms h) in
+    ap (λ xs. Ok xs) (sym (copied ms (IsDistinct-from_AllPairs fields_decides ms different)) ∙ ap (new_among []) same
+    ∙ sym c.in-Ok.ensures.ok)
 
 pub returns-in-Err-clause-memory : goal.returns-in-Err-clause-memory
-returns-in-Err-clause-memory c = λ _. store_longer c.in_ok-markers.markers.items c.args.bytes.now c.in_ok-markers.ensures.found c.in-Err.ensures.err
+returns-in-Err-clause-memory c =
+    λ _. store_longer c.in_ok-markers.markers.items c.args.bytes.now c.in_ok-markers.ensures.found c.in-Err.ensures.err

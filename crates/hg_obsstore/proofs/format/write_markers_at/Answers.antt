@@ -20,8 +20,12 @@ loop-place-preserved c =
     elim c.match-get.branch [
       | in-Some+in_ok-write_marker-in-Some w ↦
           let m = w.in-Some.marker.now in
-          ap (λ v. v.items) w.out-is ∙ w.in_ok-write_marker-in-Some.ensures.written ∙ ap (λ (bytes : List ℕ). bytes ++ spelling m) c.loop-place.invariant ∙ written_on before so_far m
-          ∙ ap onto (sym (picked-some ms places i c.loop-place-test.true m (sym c.get.ensures ∙ ap option_copied w.in-Some.is)))
+          ap (λ v. v.items) w.out-is ∙ w.in_ok-write_marker-in-Some.ensures.written
+          ∙ ap (λ (bytes : List ℕ). bytes ++ spelling m) c.loop-place.invariant ∙ written_on before so_far m
+          ∙ ap onto (sym
+          (picked-some ms places i c.loop-place-test.true m (sym c.get.ensures ∙ ap option_copied w.in-Some.is)))
       | in-None w ↦
-          ap (λ v. v.items) w.out-is ∙ c.loop-place.invariant ∙ ap onto (sym (picked-none ms places i c.loop-place-test.true (sym c.get.ensures ∙ ap option_copied w.in-None.is)))
+          ap (λ v. v.items) w.out-is ∙ c.loop-place.invariant
+          ∙ ap onto (sym
+          (picked-none ms places i c.loop-place-test.true (sym c.get.ensures ∙ ap option_copied w.in-None.is)))
     ]

@@ -11,4 +11,5 @@ pub returns-clause-again : goal.returns-clause-again
 returns-clause-again c s t roots listed valid are same opened = opened-again s t roots listed valid are same opened
 
 pub returns-clause-same : goal.returns-clause-same
-returns-clause-same c s t roots listed valid_s valid_t held are_s are_t same = same-roots s t roots listed valid_s valid_t held are_s are_t same
+returns-clause-same c s t roots listed valid_s valid_t held are_s are_t same =
+    same-roots s t roots listed valid_s valid_t held are_s are_t same

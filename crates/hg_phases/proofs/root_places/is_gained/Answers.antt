@@ -7,5 +7,7 @@ use Rattle.hg_phases.proofs.root_places.is_gained.Goals as goal
 pub returns-then-contains : goal.returns-then-contains
 returns-then-contains c = (
   λ t. absurd (true≢false (sym t)),
-  λ h. absurd (h.1 ((btree_set_contains_iff nat_cmp_total exact_unsigned c.args.roots.now c.args.place).0 (sym c.contains.ensures ∙ c.if-contains.true))),
+  λ h. absurd (h.1
+      ((btree_set_contains_iff nat_cmp_total exact_unsigned c.args.roots.now c.args.place).0
+      (sym c.contains.ensures ∙ c.if-contains.true))),
 )

@@ -10,7 +10,8 @@ pub loop-place-preserved : goal.loop-place-preserved
 loop-place-preserved c k =
     let xs = c.args.places.now in
     let i = c.loop-place.place-index in
-    let less = removed nat_cmp_total exact_unsigned c.loop-place.set c.remove.new.self (get_or xs i 0) c.remove.ensures.updates k in
+    let less = removed nat_cmp_total exact_unsigned c.loop-place.set c.remove.new.self (get_or xs i 0)
+    c.remove.ensures.updates k in
     let more = taken_one xs i 0 k c.loop-place-test.true in (
       λ h. let x = less.0 h in
           let y = (c.loop-place.invariant k).0 x.0 in
@@ -20,5 +21,6 @@ loop-place-preserved c k =
 
 pub returns : goal.returns
 returns c =
-    let all : take c.loop-place.place-index c.args.places.now ≡ c.args.places.now = take_all c.loop-place.place-index c.args.places.now c.loop-place-test.false in
+    let all : take c.loop-place.place-index c.args.places.now ≡ c.args.places.now =
+    take_all c.loop-place.place-index c.args.places.now c.loop-place-test.false in
     rw all at c.loop-place.invariant

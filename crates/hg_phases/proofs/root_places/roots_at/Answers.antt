@@ -12,15 +12,20 @@ loop-place-preserved-in-Continue-1 c =
     let ks = c.args.phases.now in
     let before = c.loop-place.place-iterator in
     let after = c.next.new.self in (
-      lists-next cs ks c.into_iter-place-iterator.result before after c.in-Some.place.now c.loop-place.listed.items c.push.new.self.items c.at.result c.in-Some-node_at.node c.in-Some.ensures.steps c.at.ensures (sym c.in-Some-node_at.ensures)
+      lists-next cs ks c.into_iter-place-iterator.result before after c.in-Some.place.now c.loop-place.listed.items
+          c.push.new.self.items c.at.result c.in-Some-node_at.node c.in-Some.ensures.steps c.at.ensures
+          (sym c.in-Some-node_at.ensures)
           c.in_ok-push-in-Some-node_at.ensures.items c.loop-place.invariant.0,
-      (lists-left c.args.roots.now.keys before after c.in-Some.place.now c.in-Some.ensures.steps c.loop-place.invariant.1).1,
+      (lists-left c.args.roots.now.keys before after c.in-Some.place.now c.in-Some.ensures.steps
+          c.loop-place.invariant.1).1,
     )
 
 pub loop-place-preserved : goal.loop-place-preserved
 loop-place-preserved c =
-    let left = lists-left c.args.roots.now.keys c.loop-place.place-iterator c.next.new.self c.in-Some.place.now c.in-Some.ensures.steps c.loop-place.invariant.1 in
-    absurd (root-stands c.args.graph.now c.args.phases.now c.requires.len c.in-Some.place.now ((c.requires.rooted c.in-Some.place.now).0 left.0) (sym c.in-None-node_at.ensures))
+    let left = lists-left c.args.roots.now.keys c.loop-place.place-iterator c.next.new.self c.in-Some.place.now
+    c.in-Some.ensures.steps c.loop-place.invariant.1 in
+    absurd (root-stands c.args.graph.now c.args.phases.now c.requires.len c.in-Some.place.now
+    ((c.requires.rooted c.in-Some.place.now).0 left.0) (sym c.in-None-node_at.ensures))
 
 pub returns : goal.returns
 returns c =
@@ -29,5 +34,8 @@ returns c =
     let keys = c.args.roots.now.keys in
     let all : c.into_iter-place-iterator.result ≡ keys = search rules in
     let sorted : IsStrictlySortedBy nat_cmp keys = search rules in
-    let lists = lists-all cs ks c.into_iter-place-iterator.result c.loop-place.place-iterator c.loop-place.listed.items c.in-None.ensures.steps.0 c.loop-place.invariant.0 in
-    subst (AreRoots (state_of cs ks)) (sym c.new.ensures) (listed-are cs ks keys c.loop-place.listed.items sorted c.requires.rooted (subst (λ xs. ListsRoots cs ks xs c.loop-place.listed.items) all lists))
+    let lists = lists-all cs ks c.into_iter-place-iterator.result c.loop-place.place-iterator c.loop-place.listed.items
+    c.in-None.ensures.steps.0 c.loop-place.invariant.0 in
+    subst (AreRoots (state_of cs ks)) (sym c.new.ensures)
+    (listed-are cs ks keys c.loop-place.listed.items sorted c.requires.rooted
+    (subst (λ xs. ListsRoots cs ks xs c.loop-place.listed.items) all lists))

@@ -6,5 +6,6 @@ use Rattle.hg_phases.proofs.root_places.roots_at.Given as goal
 
 abbrev pub invariant-loop-place : goal.invariant-loop-place
 invariant-loop-place l =
-    ((rest : List (Phase × Node)) → ListsRoots l.graph l.phases l.place-iterator rest → ListsRoots l.graph l.phases l.initial.place-iterator (l.listed.items ++ rest))
+    ((rest : List (Phase × Node)) → ListsRoots l.graph l.phases l.place-iterator rest
+    → ListsRoots l.graph l.phases l.initial.place-iterator (l.listed.items ++ rest))
     × ((p : ℕ) → Contains l.place-iterator p → Contains l.roots.keys p)

@@ -8,4 +8,6 @@ use Rattle.hg_script.proofs.fleet.bind_labels.Given as goal
 -- with the pairs that are left, the names are what they are to be
 abbrev pub invariant-loop-label : goal.invariant-loop-label
 invariant-loop-label l = (name : List ℕ) →
-    bound_to (value_of l.names) (map (λ w. w.now) (iter_rest (zip_first l.label-iterator))) (iter_rest (zip_second l.label-iterator)) name ≡ bound_to (value_of l.initial.names) (map (λ w. w.now) l.labels) l.nodes name
+    bound_to (value_of l.names) (map (λ w. w.now) (iter_rest (zip_first l.label-iterator)))
+    (iter_rest (zip_second l.label-iterator)) name ≡ bound_to (value_of l.initial.names) (map (λ w. w.now) l.labels)
+    l.nodes name

@@ -6,4 +6,5 @@ use Rattle.hg_script.proofs.fleet.may_bind.Goals as goal
 
 pub returns : goal.returns
 returns c =
-    sym (each_end (value_of c.args.names.now) _ _ (⊎_elim (λ a. inl a.1.0) (λ b. inr b.1.0) c.in-None.ensures.steps)) ∙ c.loop-label.invariant
+    sym (each_end (value_of c.args.names.now) _ _ (⊎_elim (λ a. inl a.1.0) (λ b. inr b.1.0) c.in-None.ensures.steps))
+    ∙ c.loop-label.invariant

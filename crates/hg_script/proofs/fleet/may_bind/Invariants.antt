@@ -10,5 +10,6 @@ use Rattle.hg_script.proofs.fleet.may_bind.Given as goal
 -- it is for the pairs that are left as it is for all of them
 abbrev pub invariant-loop-label : goal.invariant-loop-label
 invariant-loop-label l =
-    each_may_name (value_of l.names) (texts (iter_rest (zip_first l.label-iterator))) (nodes (iter_rest (zip_second l.label-iterator)))
+    each_may_name (value_of l.names) (texts (iter_rest (zip_first l.label-iterator)))
+    (nodes (iter_rest (zip_second l.label-iterator)))
     ≡ each_may_name (value_of l.names) (texts l.labels) (nodes l.changesets)

@@ -5,7 +5,8 @@ use Rattle.hg_script.proofs.fleet.take_offered.Goals as goal
 
 pub returns-in_ok-run_event-in-Offered-clause-ok : goal.returns-in_ok-run_event-in-Offered-clause-ok
 returns-in_ok-run_event-in-Offered-clause-ok g c =
-    has_taken _ _ _ _ _ _ c.in-Offered.is c.in_ok-run_event-in-Offered.ensures.told c.in_ok-run_event-in-Offered.ensures.happens
+    has_taken _ _ _ _ _ _ c.in-Offered.is c.in_ok-run_event-in-Offered.ensures.told
+    c.in_ok-run_event-in-Offered.ensures.happens
 
 pub returns-in_err-run_event-in-Offered-clause-err : goal.returns-in_err-run_event-in-Offered-clause-err
 returns-in_err-run_event-in-Offered-clause-err g c =

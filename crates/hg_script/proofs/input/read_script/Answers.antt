@@ -17,7 +17,8 @@ pub returns-then-branch-eq0-clause-whole : goal.returns-then-branch-eq0-clause-w
 returns-then-branch-eq0-clause-whole g c =
     let all = g.R.Read.remaining c.args.reader.now in
     let step = c.in_ok-read_more.ensures in
-    all_is_read all (g.R.Read.remaining c.read_more.new.reader) c.read_more.new.text.items (step.bytes all c.loop.invariant.bytes) (step.end c.if-branch-eq0.true)
+    all_is_read all (g.R.Read.remaining c.read_more.new.reader) c.read_more.new.text.items
+    (step.bytes all c.loop.invariant.bytes) (step.end c.if-branch-eq0.true)
 
 pub returns-then-branch-eq0-clause-limit : goal.returns-then-branch-eq0-clause-limit
 returns-then-branch-eq0-clause-limit g c =
@@ -28,7 +29,8 @@ pub returns-then-len-gt-SCRIPT_LIMIT-clause-too_long :
 returns-then-len-gt-SCRIPT_LIMIT-clause-too_long g c _ =
     let all = g.R.Read.remaining c.args.reader.now in
     let step = c.in_ok-read_more.ensures in
-    all_is_longer 1048576 all (g.R.Read.remaining c.read_more.new.reader) c.read_more.new.text.items (step.bytes all c.loop.invariant.bytes) (omega arith)
+    all_is_longer 1048576 all (g.R.Read.remaining c.read_more.new.reader) c.read_more.new.text.items
+    (step.bytes all c.loop.invariant.bytes) (omega arith)
 
 pub loop-preserved : goal.loop-preserved
 loop-preserved g c =
@@ -56,4 +58,5 @@ pub returns-then-branch-eq0-clause-reads : goal.returns-then-branch-eq0-clause-r
 returns-then-branch-eq0-clause-reads g c = omega (arith, c.loop.invariant.reads, c.in_ok-read_more.ensures.read)
 
 pub returns-then-len-gt-SCRIPT_LIMIT-clause-reads : goal.returns-then-len-gt-SCRIPT_LIMIT-clause-reads
-returns-then-len-gt-SCRIPT_LIMIT-clause-reads g c = omega (arith, c.loop.invariant.reads, c.in_ok-read_more.ensures.read)
+returns-then-len-gt-SCRIPT_LIMIT-clause-reads g c =
+    omega (arith, c.loop.invariant.reads, c.in_ok-read_more.ensures.read)

@@ -7,6 +7,8 @@ pub returns : goal.returns
 returns c =
     map_from_collect _ c.collect.ensures.ran
     (YieldsList-from_filter _ (λ word. not (length word == 0))
-    (YieldsList-at c.filter.ensures.source (YieldsList-from_slice_split _ _ c.args.line.now c.split.ensures.rest c.split.ensures.done c.split.ensures.closure (λ x r q k. search (rules, tests))))
+    (YieldsList-at c.filter.ensures.source
+    (YieldsList-from_slice_split _ _ c.args.line.now c.split.ensures.rest c.split.ensures.done
+    c.split.ensures.closure (λ x r q k. search (rules, tests))))
     c.filter.ensures.closure
     (λ x r q k. search (rules, tests)))

@@ -11,6 +11,8 @@ returns-then-names-lt2 c = few_are_distinct c.args.names.now c.if-names-lt2.true
 pub returns : goal.returns
 returns c =
     let (xs, drains, made) = c.in_ok-set.ensures.ran in
-    let yields = YieldsList-from_copied (YieldsList-at c.copied.ensures.source (YieldsList-from_slice c.args.names.now c.iter.ensures.rest)) in
+    let yields =
+    YieldsList-from_copied
+    (YieldsList-at c.copied.ensures.source (YieldsList-from_slice c.args.names.now c.iter.ensures.rest)) in
     let all = sym (map-id xs) ∙ items_from_drains xs drains yields in
     distinct_by_count c.args.names.now xs c.len.result c.in_ok-set.set all made c.len.ensures.len

@@ -13,6 +13,10 @@ returns g c =
     let name = c.in_ok-name.name in
     let value = c.args.value in
     record {
-      values = subst (λ (bs : List ℕ). (other : List ℕ) → value_of new other ≡ update bytes_eq (value_of old) bs (Some value) other) c.in_ok-name.ensures.items (value_of-bound name.items old new (Some value) c.in_ok-insert.ensures.updates);
-      count = c.in_ok-insert.ensures.len ∙ ap (λ (o : Option g.row.V.Denot). btree_map_len old + (if is_some o then 0 else 1)) (c.in_ok-insert.ensures.old ∙ ap (value_of old) c.in_ok-name.ensures.items);
+      values = subst (λ (bs : List ℕ). (other : List ℕ)
+          → value_of new other ≡ update bytes_eq (value_of old) bs (Some value) other) c.in_ok-name.ensures.items
+          (value_of-bound name.items old new (Some value) c.in_ok-insert.ensures.updates);
+      count = c.in_ok-insert.ensures.len
+          ∙ ap (λ (o : Option g.row.V.Denot). btree_map_len old + (if is_some o then 0 else 1))
+          (c.in_ok-insert.ensures.old ∙ ap (value_of old) c.in_ok-name.ensures.items);
     }

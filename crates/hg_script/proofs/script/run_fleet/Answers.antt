@@ -9,8 +9,12 @@ returns-in_err-text-clause-stopped g c =
 
 pub returns-clause-ran : goal.returns-clause-ran
 returns-clause-ran g c =
-    worlds_of _ _ c.run_text.result (script_of _ _ _ c.deref.ensures.value c.in_ok-text.ensures.limit c.in_ok-text.ensures.whole) c.run_text.ensures.ran
+    worlds_of _ _ c.run_text.result
+    (script_of _ _ _ c.deref.ensures.value c.in_ok-text.ensures.limit c.in_ok-text.ensures.whole)
+    c.run_text.ensures.ran
 
 pub returns-clause-stopped : goal.returns-clause-stopped
 returns-clause-stopped g c =
-    stops_of _ _ c.run_text.result (script_of _ _ _ c.deref.ensures.value c.in_ok-text.ensures.limit c.in_ok-text.ensures.whole) c.run_text.ensures.stopped
+    stops_of _ _ c.run_text.result
+    (script_of _ _ _ c.deref.ensures.value c.in_ok-text.ensures.limit c.in_ok-text.ensures.whole)
+    c.run_text.ensures.stopped

@@ -15,17 +15,35 @@ returns-in_err-words-clause-stopped g c =
     rw (p.1, p.2) (c.is_short.ensures.0 c.if-not-is_short.false)
 
 pub returns-in-Ok-None-clause-done : goal.returns-in-Ok-None-clause-done
-returns-in-Ok-None-clause-done g c =
-    (no_trace, (c.is_short.ensures.0 c.if-not-is_short.false, (c.deref.result.now, ap (map (λ (w : Word). w.now)) c.deref.ensures.value ∙ c.in_ok-words.ensures, inl (rw c.in-Ok-None.field-0-is at c.in-Ok-None.ensures, refl, refl))))
+returns-in-Ok-None-clause-done g c = (
+  no_trace,
+  (
+    c.is_short.ensures.0 c.if-not-is_short.false,
+    (
+      c.deref.result.now,
+      ap (map (λ (w : Word). w.now)) c.deref.ensures.value ∙ c.in_ok-words.ensures,
+      inl (rw c.in-Ok-None.field-0-is at c.in-Ok-None.ensures, refl, refl),
+    ),
+  ),
+)
 
 pub returns-in-Err-clause-stopped : goal.returns-in-Err-clause-stopped
 returns-in-Err-clause-stopped g c =
-    let has : HasWords c.args.line.now c.deref.result.now = (c.is_short.ensures.0 c.if-not-is_short.false, ap (map (λ (w : Word). w.now)) c.deref.ensures.value ∙ c.in_ok-words.ensures) in
+    let has : HasWords c.args.line.now c.deref.result.now = (
+      c.is_short.ensures.0 c.if-not-is_short.false,
+      ap (map (λ (w : Word). w.now)) c.deref.ensures.value
+          ∙ c.in_ok-words.ensures,
+    ) in
     (refl, words_fault _ _ c.deref.result.now _ has c.in-Err.ensures)
 
 pub returns-in_err-execute-clause-stopped : goal.returns-in_err-execute-clause-stopped
 returns-in_err-execute-clause-stopped g c =
     let p = err_from_is_err_and c.from_residual-in_err-execute.result c.from_residual-in_err-execute.ensures.1 in
-    let has : HasWords c.args.line.now c.deref.result.now = (c.is_short.ensures.0 c.if-not-is_short.false, ap (map (λ (w : Word). w.now)) c.deref.ensures.value ∙ c.in_ok-words.ensures) in
-    let says : Says c.args.line.now c.in-Ok-Some.command = (c.deref.result.now, has, rw c.in-Ok-Some.field-0-is at c.in-Ok-Some.ensures) in
+    let has : HasWords c.args.line.now c.deref.result.now = (
+      c.is_short.ensures.0 c.if-not-is_short.false,
+      ap (map (λ (w : Word). w.now)) c.deref.ensures.value
+          ∙ c.in_ok-words.ensures,
+    ) in
+    let says : Says c.args.line.now c.in-Ok-Some.command =
+    (c.deref.result.now, has, rw c.in-Ok-Some.field-0-is at c.in-Ok-Some.ensures) in
     rw (p.1, p.2) (command_ends _ _ _ c.in-Ok-Some.command _ says c.in_err-execute.ensures.err.0)

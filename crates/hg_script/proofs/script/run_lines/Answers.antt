@@ -18,17 +18,27 @@ loop-rest-preserved g c =
     let fleet = c.loop-rest.fleet in
     let number = c.loop-rest.number in
     record {
-      done = λ t end h. c.loop-rest.invariant.done (joined d.0 t) end (subst (λ (ls : List Text). DoesLines fleet ls (joined d.0 t) end) (sym c.cut_line.ensures.lines) (c.run_line.new.fleet, d.0, t, d.1, h, refl));
-      stopped = λ fault h. c.loop-rest.invariant.stopped fault (subst (λ (ls : List Text). DoesUntil (number + 1) fleet ls fault) (sym c.cut_line.ensures.lines) (inr (c.run_line.new.fleet, d.0, d.1, h)));
+      done = λ t end h. c.loop-rest.invariant.done (joined d.0 t) end
+          (subst (λ (ls : List Text). DoesLines fleet ls (joined d.0 t) end) (sym c.cut_line.ensures.lines)
+          (c.run_line.new.fleet, d.0, t, d.1, h, refl));
+      stopped = λ fault h. c.loop-rest.invariant.stopped fault
+          (subst (λ (ls : List Text). DoesUntil (number + 1) fleet ls fault) (sym c.cut_line.ensures.lines)
+          (inr (c.run_line.new.fleet, d.0, d.1, h)));
       counted = omega (arith, c.cut_line.ensures.shorter, c.loop-rest.invariant.counted);
     }
 
 pub returns-in_err-run_line-clause-stopped : goal.returns-in_err-run_line-clause-stopped
 returns-in_err-run_line-clause-stopped g c =
     let p = err_from_is_err_and c.from_residual.result c.from_residual.ensures.1 in
-    rw (p.1, p.2) (stops_here _ _ _ _ _ _ _ _ c.cut_line.ensures.lines (c.loop-rest.invariant.stopped _) c.in_err-run_line.ensures.stopped)
+    rw (p.1, p.2)
+    (stops_here _ _ _ _ _ _ _ _ c.cut_line.ensures.lines (c.loop-rest.invariant.stopped _)
+    c.in_err-run_line.ensures.stopped)
 
 pub returns-clause-done : goal.returns-clause-done
 returns-clause-done g c =
     let fleet = c.loop-rest.fleet in
-    c.loop-rest.invariant.done no_trace fleet (subst (λ (ls : List Text). DoesLines fleet ls no_trace fleet) (sym (ap lines (nil_from_length c.loop-rest.rest.now (eqb-true (length c.loop-rest.rest.now) 0 (sym c.is_empty.ensures ∙ c.loop-rest-test.false))))) (refl, refl))
+    c.loop-rest.invariant.done no_trace fleet
+    (subst (λ (ls : List Text). DoesLines fleet ls no_trace fleet)
+    (sym (ap lines
+    (nil_from_length c.loop-rest.rest.now
+    (eqb-true (length c.loop-rest.rest.now) 0 (sym c.is_empty.ensures ∙ c.loop-rest-test.false))))) (refl, refl))

@@ -3,7 +3,8 @@ use Rattle.clap.specs.Words.{App, app_of, new_app, with_subcommand}
 use Rattle.hgfleet.proofs.arguments.program.Goals as goal
 
 abbrev bare : App
-bare = let a = new_app (codes "hgfleet") in record a { top = record a.top { has_version = true; subcommand_required = true } }
+bare = let a = new_app (codes "hgfleet") in
+    record a { top = record a.top { has_version = true; subcommand_required = true } }
 
 pub returns : goal.returns
 returns c =

@@ -7,5 +7,8 @@ use Rattle.hgfleet.proofs.arguments.read_args.Goals as goal
 pub returns-in_default : goal.returns-in_default
 returns-in_default c =
     let words = map (λ s. s.now) c.args.words.now in
-    let k : kind_of c.in-Err.error ≢ OutOfMemory = search rules in
-    (not_run words c.in-Err.error c.in-Err.ensures k, (search rules, search rules, k), inr (is_told _ c.in-Err.error c.in-Err.ensures k))
+    let k : kind_of c.in-Err.error ≢ OutOfMemory = search rules in (
+      not_run words c.in-Err.error c.in-Err.ensures k,
+      (search rules, search rules, k),
+      inr (is_told _ c.in-Err.error c.in-Err.ensures k),
+    )

@@ -1,4 +1,5 @@
-use Rattle.hgfleet.proofs.ArgumentLemmas.{at_help, at_short_help, at_help_of_run, at_version, at_nothing, at_run, at_more}
+use Rattle.hgfleet.proofs.ArgumentLemmas.{at_help, at_short_help, at_help_of_run, at_version, at_nothing, at_run}
+use Rattle.hgfleet.proofs.ArgumentLemmas.{at_more}
 use Rattle.hgfleet.proofs.arguments.what_words_ask_for.Goals as goal
 
 pub returns-clause-help : goal.returns-clause-help

@@ -11,7 +11,9 @@ returns-then-place-len c =
     let ks = c.self.inside.kept.phases in
     let changeset = slice_get_some cs c.args.place (omega (arith, c.if-place-len.true, c.len.ensures.len)) in (
       record { changeset = changeset.0; phase = c.at.result },
-      subst (λ (s : State). slice_get s.held c.args.place ≡ Some (record { changeset = changeset.0; phase = c.at.result })) c.self.view_is (held-at cs ks c.args.place changeset.0 c.at.result changeset.1 c.at.ensures),
+      subst (λ (s : State). slice_get s.held c.args.place
+          ≡ Some (record { changeset = changeset.0; phase = c.at.result })) c.self.view_is
+          (held-at cs ks c.args.place changeset.0 c.at.result changeset.1 c.at.ensures),
       refl,
     )
 
@@ -19,6 +21,9 @@ pub returns-else-place-len : goal.returns-else-place-len
 returns-else-place-len c =
     let cs = c.self.inside.graph in
     let ks = c.self.inside.kept.phases in
-    let held : length (held_of cs ks) ≡ length c.args.self.now.held = ap (λ (s : State). length s.held) c.self.view_is in
-    let all : length (held_of cs ks) ≡ length cs = sym (length-map (held_of cs ks) (λ (h : Held). h.changeset)) ∙ ap length (changesets-held_of cs ks c.self.invariant.0.len) in
+    let held : length (held_of cs ks) ≡ length c.args.self.now.held =
+    ap (λ (s : State). length s.held) c.self.view_is in
+    let all : length (held_of cs ks) ≡ length cs =
+    sym (length-map (held_of cs ks) (λ (h : Held). h.changeset))
+    ∙ ap length (changesets-held_of cs ks c.self.invariant.0.len) in
     omega (arith, c.if-place-len.false, c.len.ensures.len, held, all)

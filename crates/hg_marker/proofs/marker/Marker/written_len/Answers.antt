@@ -8,6 +8,15 @@ use Rattle.hg_marker.proofs.marker.Marker.written_len.Goals as goal
 pub returns-clause-len : goal.returns-clause-len
 returns-clause-len c =
     let inside = c.self.inside in
-    let m : Fields = record { predecessor = inside.predecessor; successors = kept_nodes inside.successors; flags = inside.flags; metadata = inside.metadata } in
-    subst (λ (x : Fields). 26 + 20 * length c.as_slice.result.now + c.written_len.result ≡ length (spelling x)) c.self.view_is
-    (spelling_length m (length c.as_slice.result.now) c.written_len.result c.self.invariant (ap length c.as_slice.ensures) c.written_len.ensures)
+    let m : Fields =
+    record {
+      predecessor = inside.predecessor;
+      successors = kept_nodes inside.successors;
+      flags =
+          inside.flags;
+      metadata = inside.metadata;
+    } in
+    subst (λ (x : Fields). 26 + 20 * length c.as_slice.result.now + c.written_len.result ≡ length (spelling x))
+    c.self.view_is
+    (spelling_length m (length c.as_slice.result.now) c.written_len.result c.self.invariant
+    (ap length c.as_slice.ensures) c.written_len.ensures)

@@ -7,4 +7,5 @@ pub invariant_of-self-2 : goal.invariant_of-self-2
 invariant_of-self-2 c = stays_sorted _ _ c.args.key c.args.value c.in_ok-insert.ensures.entries c.self.invariant
 
 pub returns-clause-ok : goal.returns-clause-ok
-returns-clause-ok c = inserted _ _ c.args.key c.args.value c.in_ok-insert.ensures.entries c.self.invariant ∙ ap (λ m. finite.insert m c.args.key.items c.args.value.items) c.self.view_is
+returns-clause-ok c = inserted _ _ c.args.key c.args.value c.in_ok-insert.ensures.entries c.self.invariant
+    ∙ ap (λ m. finite.insert m c.args.key.items c.args.value.items) c.self.view_is

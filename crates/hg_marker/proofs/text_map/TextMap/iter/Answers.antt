@@ -5,4 +5,5 @@ use Rattle.hg_marker.proofs.TextsLemmas.{entries_of}
 use Rattle.hg_marker.proofs.text_map.TextMap.iter.Goals as goal
 
 pub returns : goal.returns
-returns c = ap entry_bytes c.iter.ensures.rest ∙ sym (entries_of c.self.inside.texts.entries c.self.invariant) ∙ ap entries c.self.view_is
+returns c = ap entry_bytes c.iter.ensures.rest ∙ sym (entries_of c.self.inside.texts.entries c.self.invariant)
+    ∙ ap entries c.self.view_is

@@ -6,4 +6,6 @@ use Rattle.hg_marker.proofs.WritingLemmas.{unwritten}
 use Rattle.hg_marker.proofs.text_map.TextMap.write_onto.Given as goal
 
 abbrev pub invariant-loop-key : goal.invariant-loop-key
-invariant-loop-key l = l.out.items ++ unwritten l.first (entry_bytes l.key-iterator) ≡ l.fn.out.items ++ join_with_byte 0 (map piece (entry_bytes l.initial.key-iterator))
+invariant-loop-key l =
+    l.out.items ++ unwritten l.first (entry_bytes l.key-iterator) ≡ l.fn.out.items
+    ++ join_with_byte 0 (map piece (entry_bytes l.initial.key-iterator))

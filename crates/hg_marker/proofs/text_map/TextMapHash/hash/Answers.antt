@@ -7,5 +7,6 @@ use Rattle.hg_marker.proofs.text_map.TextMapHash.hash.Goals as goal
 
 pub returns : goal.returns
 returns g c =
-    let mine : entry_bytes c.self.inside.texts.entries ≡ entries c.args.self.now = sym (entries_of c.self.inside.texts.entries c.self.invariant) ∙ ap entries c.self.view_is in
+    let mine : entry_bytes c.self.inside.texts.entries ≡ entries c.args.self.now =
+    sym (entries_of c.self.inside.texts.entries c.self.invariant) ∙ ap entries c.self.view_is in
     c.feed.ensures ∙ ap (λ es. fold g.H.Hasher.write c.args.state.now (entries_fed es)) mine

@@ -7,6 +7,8 @@ use Rattle.hg_marker.proofs.text_map.TextMapPartialEq.eq.Goals as goal
 
 pub returns : goal.returns
 returns c =
-    let mine : entry_bytes c.self.inside.texts.entries ≡ entries c.args.self.now = sym (entries_of c.self.inside.texts.entries c.self.invariant) ∙ ap entries c.self.view_is in
-    let theirs : entry_bytes c.other.inside.texts.entries ≡ entries c.args.other.now = sym (entries_of c.other.inside.texts.entries c.other.invariant) ∙ ap entries c.other.view_is in
+    let mine : entry_bytes c.self.inside.texts.entries ≡ entries c.args.self.now =
+    sym (entries_of c.self.inside.texts.entries c.self.invariant) ∙ ap entries c.self.view_is in
+    let theirs : entry_bytes c.other.inside.texts.entries ≡ entries c.args.other.now =
+    sym (entries_of c.other.inside.texts.entries c.other.invariant) ∙ ap entries c.other.view_is in
     c.are_same.ensures ∙ (λ i. same_pairs (mine i) (theirs i))

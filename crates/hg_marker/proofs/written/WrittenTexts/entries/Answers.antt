@@ -5,4 +5,5 @@ use Rattle.hg_marker.proofs.FormLemmas.{written_entries}
 use Rattle.hg_marker.proofs.written.WrittenTexts.entries.Goals as goal
 
 pub returns : goal.returns
-returns c = c.new.ensures ∙ ap (λ bytes. map entry (pieces bytes)) c.deref.ensures.value ∙ written_entries c.self.inside.bytes.items c.self.invariant ∙ ap entries c.self.view_is
+returns c = c.new.ensures ∙ ap (λ bytes. map entry (pieces bytes)) c.deref.ensures.value
+    ∙ written_entries c.self.inside.bytes.items c.self.invariant ∙ ap entries c.self.view_is

@@ -8,4 +8,6 @@ pub invariant_of-result : goal.invariant_of-result
 invariant_of-result c = written_so empty c.new.result.items (c.new.ensures.items ∙ sym none_written) none_writable
 
 pub returns-clause-writable : goal.returns-clause-writable
-returns-clause-writable c = ap is_writable (spelled_so empty c.new.result.items (c.new.ensures.items ∙ sym none_written) none_writable) ∙ none_writable
+returns-clause-writable c =
+    ap is_writable (spelled_so empty c.new.result.items (c.new.ensures.items ∙ sym none_written) none_writable)
+    ∙ none_writable

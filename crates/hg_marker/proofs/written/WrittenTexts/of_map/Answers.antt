@@ -4,7 +4,10 @@ use Rattle.hg_marker.proofs.FormLemmas.{written_so, spelled_so}
 use Rattle.hg_marker.proofs.written.WrittenTexts.of_map.Goals as goal
 
 pub invariant_of-result : goal.invariant_of-result
-invariant_of-result c = written_so c.args.texts.now c.write_onto.new.out.items (c.in_ok-write_onto.ensures ∙ ap (λ t. t ++ written c.args.texts.now) c.in_ok-bytes.ensures.items) c.requires
+invariant_of-result c =
+    written_so c.args.texts.now c.write_onto.new.out.items
+    (c.in_ok-write_onto.ensures ∙ ap (λ t. t ++ written c.args.texts.now) c.in_ok-bytes.ensures.items) c.requires
 
 pub returns : goal.returns
-returns c = spelled_so c.args.texts.now c.write_onto.new.out.items (c.in_ok-write_onto.ensures ∙ ap (λ t. t ++ written c.args.texts.now) c.in_ok-bytes.ensures.items) c.requires
+returns c = spelled_so c.args.texts.now c.write_onto.new.out.items
+    (c.in_ok-write_onto.ensures ∙ ap (λ t. t ++ written c.args.texts.now) c.in_ok-bytes.ensures.items) c.requires

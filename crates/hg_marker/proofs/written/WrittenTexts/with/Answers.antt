@@ -13,7 +13,9 @@ invariant_of-result c =
     let value = c.args.value.now in
     let can : is_writable m ≡ true = ap is_writable (sym c.self.view_is) ∙ c.self.invariant.writable in
     written_so (insert m key value) c.in_ok-bytes.bytes.items
-    (c.in_ok-bytes.ensures ∙ (λ i. with_pieces (c.in_ok-out.ensures.items i) (put bytes_cmp key value (c.entries.ensures i))) ∙ pushed_written m key value)
+    (c.in_ok-bytes.ensures
+    ∙ (λ i. with_pieces (c.in_ok-out.ensures.items i) (put bytes_cmp key value (c.entries.ensures i)))
+    ∙ pushed_written m key value)
     (writable_with m key value can c.requires.key c.requires.value)
 
 pub returns-clause-texts : goal.returns-clause-texts
@@ -23,11 +25,14 @@ returns-clause-texts c =
     let value = c.args.value.now in
     let can : is_writable m ≡ true = ap is_writable (sym c.self.view_is) ∙ c.self.invariant.writable in
     spelled_so (insert m key value) c.in_ok-bytes.bytes.items
-    (c.in_ok-bytes.ensures ∙ (λ i. with_pieces (c.in_ok-out.ensures.items i) (put bytes_cmp key value (c.entries.ensures i))) ∙ pushed_written m key value)
+    (c.in_ok-bytes.ensures
+    ∙ (λ i. with_pieces (c.in_ok-out.ensures.items i) (put bytes_cmp key value (c.entries.ensures i)))
+    ∙ pushed_written m key value)
     (writable_with m key value can c.requires.key c.requires.value)
 
 pub returns-clause-writable : goal.returns-clause-writable
 returns-clause-writable c =
     let m = c.args.self.now in
     let can : is_writable m ≡ true = ap is_writable (sym c.self.view_is) ∙ c.self.invariant.writable in
-    ap is_writable (returns-clause-texts c) ∙ writable_with m c.args.key.now c.args.value.now can c.requires.key c.requires.value
+    ap is_writable (returns-clause-texts c)
+    ∙ writable_with m c.args.key.now c.args.value.now can c.requires.key c.requires.value

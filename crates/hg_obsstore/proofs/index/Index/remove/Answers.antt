@@ -3,7 +3,8 @@ use Rattle.hg_marker.specs.Parents.{listed, recorded_parents}
 use Rattle.hg_obsstore.specs.declared.index.Role.TheVariants.{Predecessor, Successor, Parent}
 use Rattle.hg_obsstore.specs.Index.{places_of, TakesPlaces}
 use Rattle.hg_obsstore.specs.Markers.{predecessors, successors}
-use Rattle.hg_obsstore.proofs.IndexLemmas.{carried, predecessor-parent, predecessor-successor, successor-parent, successor-predecessor, parent-predecessor, parent-successor}
+use Rattle.hg_obsstore.proofs.IndexLemmas.{carried, predecessor-parent, predecessor-successor, successor-parent}
+use Rattle.hg_obsstore.proofs.IndexLemmas.{successor-predecessor, parent-predecessor, parent-successor}
 use Rattle.hg_obsstore.proofs.index.Index.remove.Goals as goal
 
 pub returns : goal.returns
@@ -17,10 +18,19 @@ returns c =
     let others-2 = c.take_each-2.ensures.others in
     let others-3 = c.take_parents.ensures.others in
     record {
-      predecessor = carried (λ ns. TakesPlaces ns c.args.place) (c.predecessor.result ∷ []) (predecessors m) (places_of Predecessor old) (places_of Predecessor old) (places_of Predecessor first) (places_of Predecessor third)
-          (ap (λ p. p ∷ []) c.predecessor.ensures.predecessor) refl (sym (others-3 Predecessor predecessor-parent ∙ others-2 Predecessor predecessor-successor)) c.take_each.ensures.taken;
-      successor = carried (λ ns. TakesPlaces ns c.args.place) c.successors.result.now (successors m) (places_of Successor first) (places_of Successor old) (places_of Successor second) (places_of Successor third)
-          c.successors.ensures (others Successor successor-predecessor) (sym (others-3 Successor successor-parent)) c.take_each-2.ensures.taken;
-      child = carried (λ ns. TakesPlaces ns c.args.place) (listed c.parents.result) (recorded_parents m) (places_of Parent second) (places_of Parent old) (places_of Parent third) (places_of Parent third)
-          (ap listed c.parents.ensures) (others-2 Parent parent-successor ∙ others Parent parent-predecessor) refl c.take_parents.ensures.taken;
+      predecessor =
+          carried (λ ns. TakesPlaces ns c.args.place) (c.predecessor.result ∷ []) (predecessors m)
+          (places_of Predecessor old) (places_of Predecessor old) (places_of Predecessor first)
+          (places_of Predecessor third)
+          (ap (λ p. p ∷ []) c.predecessor.ensures.predecessor) refl
+          (sym (others-3 Predecessor predecessor-parent ∙ others-2 Predecessor predecessor-successor))
+          c.take_each.ensures.taken;
+      successor = carried (λ ns. TakesPlaces ns c.args.place) c.successors.result.now (successors m)
+          (places_of Successor first) (places_of Successor old) (places_of Successor second) (places_of Successor third)
+          c.successors.ensures (others Successor successor-predecessor) (sym (others-3 Successor successor-parent))
+          c.take_each-2.ensures.taken;
+      child = carried (λ ns. TakesPlaces ns c.args.place) (listed c.parents.result) (recorded_parents m)
+          (places_of Parent second) (places_of Parent old) (places_of Parent third) (places_of Parent third)
+          (ap listed c.parents.ensures) (others-2 Parent parent-successor ∙ others Parent parent-predecessor) refl
+          c.take_parents.ensures.taken;
     }

@@ -14,7 +14,10 @@ returns-in_err-push-clause-err c =
     let added = c.put_marker.new.self in
     let adds = c.in_ok-put_marker.ensures.ok in
     on_err_anyway c.from_residual-in_err-push.result _ (record {
-      predecessor = adds_may (predecessors m) c.args.place (places_of Predecessor old) (places_of Predecessor added) adds.predecessor;
-      successor = adds_may (successors m) c.args.place (places_of Successor old) (places_of Successor added) adds.successor;
+      predecessor =
+          adds_may (predecessors m) c.args.place (places_of Predecessor old) (places_of Predecessor added)
+          adds.predecessor;
+      successor = adds_may (successors m) c.args.place (places_of Successor old) (places_of Successor added)
+          adds.successor;
       child = adds_may (recorded_parents m) c.args.place (places_of Parent old) (places_of Parent added) adds.child;
     })

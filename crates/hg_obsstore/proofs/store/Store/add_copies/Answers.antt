@@ -11,5 +11,7 @@ returns-in_err-add_copy-clause-memory c =
     let ms = c.args.markers.now in
     let i = c.loop-marker.marker-index in
     let m = c.marker-item.result in
-    let rest : drop i ms ≡ m ∷ drop (i + 1) ms = drop_more ms i m (omega arith) ∙ ap (λ x. x ∷ drop (i + 1) ms) (sym c.marker-item.is) in
-    rw (p.1) (next_new c.args.self.now c.loop-marker.self ms (drop (i + 1) ms) m c.loop-marker.invariant.0 (ap (united c.loop-marker.self) (sym rest) ∙ c.loop-marker.invariant.1) c.in_err-add_copy.ensures.memory)
+    let rest : drop i ms ≡ m ∷ drop (i + 1) ms =
+    drop_more ms i m (omega arith) ∙ ap (λ x. x ∷ drop (i + 1) ms) (sym c.marker-item.is) in
+    rw (p.1) (next_new c.args.self.now c.loop-marker.self ms (drop (i + 1) ms) m c.loop-marker.invariant.0
+    (ap (united c.loop-marker.self) (sym rest) ∙ c.loop-marker.invariant.1) c.in_err-add_copy.ensures.memory)

@@ -6,5 +6,7 @@ use Rattle.hg_obsstore.proofs.store.Store.contains.Goals as goal
 
 pub returns : goal.returns
 returns c =
-    let is = c.contains.ensures ∙ ap (list_any (same_fields c.args.marker.now)) c.self.view_is in
-    ((λ h. held c.args.self.now c.args.marker.now (sym is ∙ h)), (λ h. is ∙ held_back c.args.self.now c.args.marker.now h))
+    let is = c.contains.ensures ∙ ap (list_any (same_fields c.args.marker.now)) c.self.view_is in (
+      (λ h. held c.args.self.now c.args.marker.now (sym is ∙ h)),
+      (λ h. is ∙ held_back c.args.self.now c.args.marker.now h),
+    )

@@ -12,6 +12,9 @@ invariant_of-self c =
     let x = c.index-as_slice-place.result in (
       c.truncate.ensures.unique,
       subst (λ (ys : List Fields). AreIndexed ys c.remove.new.self) (sym c.truncate.ensures.keys)
-          (all_forget xs x c.args.place c.self.inside.index c.remove.new.self (c.requires ∙ ap length (sym c.self.view_is)) (c.index-as_slice-place.is ∙ ap (λ (ys : List Fields). get_or ys c.args.place x) c.as_slice.ensures.keys) c.self.invariant.1 c.remove.ensures),
+          (all_forget xs x c.args.place c.self.inside.index c.remove.new.self
+          (c.requires ∙ ap length (sym c.self.view_is))
+          (c.index-as_slice-place.is ∙ ap (λ (ys : List Fields). get_or ys c.args.place x) c.as_slice.ensures.keys)
+          c.self.invariant.1 c.remove.ensures),
       subst (All IsMarker) (sym c.truncate.ensures.keys) (All-take IsMarker c.args.place xs c.self.invariant.2),
     )

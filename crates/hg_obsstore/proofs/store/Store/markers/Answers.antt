@@ -5,4 +5,5 @@ use Rattle.hg_obsstore.specs.Markers.{AreApart}
 use Rattle.hg_obsstore.proofs.store.Store.markers.Goals as goal
 
 pub returns-clause-different : goal.returns-clause-different
-returns-clause-different c = AllPairs-from_IsDistinct fields_decides c.args.self.now (subst AreApart c.self.view_is c.self.invariant.0)
+returns-clause-different c =
+    AllPairs-from_IsDistinct fields_decides c.args.self.now (subst AreApart c.self.view_is c.self.invariant.0)

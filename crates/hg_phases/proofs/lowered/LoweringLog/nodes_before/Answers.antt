@@ -13,6 +13,7 @@ returns-clause-lowered c =
     let cs = c.args.graph.now in
     IfOk-weaker c.nodes_of.result _ _
     (λ found told phase start now graph logged.
-    subst (ListsLowered _ (state_of cs now)) (sym (told ∙ ap (flat_map (node_before (nodes cs) c.args.before)) (c.deref.ensures.value ∙ c.self.view_is)))
+    subst (ListsLowered _ (state_of cs now))
+    (sym (told ∙ ap (flat_map (node_before (nodes cs) c.args.before)) (c.deref.ensures.value ∙ c.self.view_is)))
     (lowered_are cs c.args.before phase start now c.args.self.now graph logged))
     c.nodes_of.ensures.nodes

@@ -15,4 +15,5 @@ returns-clause-lowered c =
     let same_graph = take_all c.len.result cs (omega (arith, c.len.ensures.len)) in
     let same_phases = take_all c.len.result old (omega (arith, c.len.ensures.len, c.requires.len)) in
     subst (λ ds. ListsLowered (state_of ds old) (state_of cs new) c.in_ok-nodes.nodes.items) same_graph
-    (subst (λ ks. ListsLowered (state_of (take c.len.result cs) ks) (state_of cs new) c.in_ok-nodes.nodes.items) same_phases told)
+    (subst (λ ks. ListsLowered (state_of (take c.len.result cs) ks) (state_of cs new) c.in_ok-nodes.nodes.items)
+    same_phases told)

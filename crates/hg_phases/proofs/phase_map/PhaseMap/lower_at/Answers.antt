@@ -7,12 +7,14 @@ use Rattle.hg_phases.specs.declared.phase.Phase.{Phase}
 use Rattle.hg_phases.specs.declared.lowered.LoweredPlace.{LoweredPlace}
 use Rattle.hg_phases.specs.Log.{IsLog, restored, IsUnlowered}
 use Rattle.hg_phases.proofs.PlaceLemmas.{graph_of_state}
-use Rattle.hg_phases.proofs.LowerLemmas.{IsWalked, IsWalked-start, IsWalked-step, logged_within, first_within, second_within, halfway, lowered_are}
+use Rattle.hg_phases.proofs.LowerLemmas.{IsWalked, IsWalked-start, IsWalked-step, logged_within, first_within}
+use Rattle.hg_phases.proofs.LowerLemmas.{second_within, halfway, lowered_are}
 use Rattle.hg_phases.proofs.LawLemmas.{least-lowered}
 use Rattle.hg_phases.proofs.phase_map.PhaseMap.lower_at.Goals as goal
 
 -- what was read from the log
-read : (log : List LoweredPlace) (i n : ℕ) (e : LoweredPlace) → i < n → n ≡ length log → e ≡ get_or log i e → slice_get log i ≡ Some e
+read : (log : List LoweredPlace) (i n : ℕ) (e : LoweredPlace) → i < n → n ≡ length log → e ≡ get_or log i e
+    → slice_get log i ≡ Some e
 read log i n e l len is = slice_get-get_or log i e (omega arith) ∙ ap (λ x. Some x) (sym is)
 
 pub loop-i-init : goal.loop-i-init
@@ -21,42 +23,57 @@ loop-i-init c =
     let place = c.args.place in
     let within : place < length cs = omega (arith, c.requires.within, c.requires.len) in
     let d = slice_get_some cs place within in
-    let start = IsWalked-start cs place c.args.phase c.args.self.now c.args.log.now.items (node_of d.0) (IsAt-from cs place d.0 (node_of d.0) d.1 refl) c.lower_one.new.self c.lower_one.new.log.items c.in_ok-lower_one.ensures.lowered in
-    subst (IsWalked cs place c.args.phase c.args.self.now c.args.log.now.items c.lower_one.new.self c.lower_one.new.log.items) (sym (c.len-i.ensures ∙ c.args.log.now.ok.0)) start
+    let start = IsWalked-start cs place c.args.phase c.args.self.now c.args.log.now.items (node_of d.0)
+    (IsAt-from cs place d.0 (node_of d.0) d.1 refl) c.lower_one.new.self c.lower_one.new.log.items
+    c.in_ok-lower_one.ensures.lowered in
+    subst (IsWalked cs place c.args.phase c.args.self.now c.args.log.now.items c.lower_one.new.self
+    c.lower_one.new.log.items) (sym (c.len-i.ensures ∙ c.args.log.now.ok.0)) start
 
 pub parent_places-parents-requires : goal.parent_places-parents-requires
 parent_places-parents-requires c =
     let e = c.index.result.now in
-    let at = read c.loop-i.log.items c.loop-i.i c.len.result e c.loop-i-test.true (c.len.ensures ∙ c.loop-i.log.ok.0) c.index.ensures in
-    logged_within c.args.graph.now c.args.place c.args.phase c.args.self.now c.args.log.now.items c.loop-i.self c.loop-i.log.items c.loop-i.i c.loop-i.invariant e at c.requires.len
+    let at = read c.loop-i.log.items c.loop-i.i c.len.result e c.loop-i-test.true (c.len.ensures ∙ c.loop-i.log.ok.0)
+    c.index.ensures in
+    logged_within c.args.graph.now c.args.place c.args.phase c.args.self.now c.args.log.now.items c.loop-i.self
+    c.loop-i.log.items c.loop-i.i c.loop-i.invariant e at c.requires.len
 
 pub lower_found-requires : goal.lower_found-requires
 lower_found-requires c =
     let graph = graph_of_state c.args.graph.now c.args.self.now c.requires.len c.requires.valid in
     let e = c.index.result.now in
-    let at = read c.loop-i.log.items c.loop-i.i c.len.result e c.loop-i-test.true (c.len.ensures ∙ c.loop-i.log.ok.0) c.index.ensures in
-    first_within c.args.graph.now c.args.place c.args.phase c.args.self.now c.args.log.now.items graph c.loop-i.self c.loop-i.log.items c.loop-i.i c.loop-i.invariant e at
+    let at = read c.loop-i.log.items c.loop-i.i c.len.result e c.loop-i-test.true (c.len.ensures ∙ c.loop-i.log.ok.0)
+    c.index.ensures in
+    first_within c.args.graph.now c.args.place c.args.phase c.args.self.now c.args.log.now.items graph c.loop-i.self
+    c.loop-i.log.items c.loop-i.i c.loop-i.invariant e at
     c.parent_places-parents.result c.parent_places-parents.ensures.places c.requires.len
 
 pub lower_found-requires-in-loop-i : goal.lower_found-requires-in-loop-i
 lower_found-requires-in-loop-i c =
     let graph = graph_of_state c.args.graph.now c.args.self.now c.requires.len c.requires.valid in
     let e = c.index.result.now in
-    let at = read c.loop-i.log.items c.loop-i.i c.len.result e c.loop-i-test.true (c.len.ensures ∙ c.loop-i.log.ok.0) c.index.ensures in
-    second_within c.args.graph.now c.args.place c.args.phase c.args.self.now c.args.log.now.items graph c.loop-i.self c.loop-i.log.items c.loop-i.i c.loop-i.invariant e at
-    c.parent_places-parents.result c.parent_places-parents.ensures.places c.lower_found.new.self c.lower_found.new.log.items c.in_ok-lower_found.ensures.lowered c.requires.len
+    let at = read c.loop-i.log.items c.loop-i.i c.len.result e c.loop-i-test.true (c.len.ensures ∙ c.loop-i.log.ok.0)
+    c.index.ensures in
+    second_within c.args.graph.now c.args.place c.args.phase c.args.self.now c.args.log.now.items graph c.loop-i.self
+    c.loop-i.log.items c.loop-i.i c.loop-i.invariant e at
+    c.parent_places-parents.result c.parent_places-parents.ensures.places c.lower_found.new.self
+    c.lower_found.new.log.items c.in_ok-lower_found.ensures.lowered c.requires.len
 
-same_log : (phase : Phase) (start mid new : List Phase) (midlog newlog : List LoweredPlace) → IsUnlowered mid midlog new newlog → IsLog phase start mid midlog → IsLog phase start new newlog
-same_log phase start mid new midlog newlog u l = subst (λ ks. IsLog phase start ks newlog) (sym u.0) (subst (IsLog phase start mid) (sym u.1) l)
+same_log : (phase : Phase) (start mid new : List Phase) (midlog newlog : List LoweredPlace)
+    → IsUnlowered mid midlog new newlog → IsLog phase start mid midlog → IsLog phase start new newlog
+same_log phase start mid new midlog newlog u l =
+    subst (λ ks. IsLog phase start ks newlog) (sym u.0) (subst (IsLog phase start mid) (sym u.1) l)
 
 pub returns-in_err-lower_found-2-clause-logged : goal.returns-in_err-lower_found-2-clause-logged
 returns-in_err-lower_found-2-clause-logged c start l =
     let s =
     let graph = graph_of_state c.args.graph.now c.args.self.now c.requires.len c.requires.valid in
     let e = c.index.result.now in
-    let at = read c.loop-i.log.items c.loop-i.i c.len.result e c.loop-i-test.true (c.len.ensures ∙ c.loop-i.log.ok.0) c.index.ensures in
-    halfway c.args.graph.now c.args.place c.args.phase c.args.self.now c.args.log.now.items graph c.loop-i.self c.loop-i.log.items c.loop-i.i c.loop-i.invariant e at
-    c.parent_places-parents.result c.parent_places-parents.ensures.places c.lower_found.new.self c.lower_found.new.log.items c.in_ok-lower_found.ensures.lowered in
+    let at = read c.loop-i.log.items c.loop-i.i c.len.result e c.loop-i-test.true (c.len.ensures ∙ c.loop-i.log.ok.0)
+    c.index.ensures in
+    halfway c.args.graph.now c.args.place c.args.phase c.args.self.now c.args.log.now.items graph c.loop-i.self
+    c.loop-i.log.items c.loop-i.i c.loop-i.invariant e at
+    c.parent_places-parents.result c.parent_places-parents.ensures.places c.lower_found.new.self
+    c.lower_found.new.log.items c.in_ok-lower_found.ensures.lowered in
     same_log c.args.phase start _ _ _ _ c.in_err-lower_found-2.ensures.unchanged (s.logged start l)
 
 pub returns-in_err-lower_found-2-clause-undoes : goal.returns-in_err-lower_found-2-clause-undoes
@@ -64,9 +81,12 @@ returns-in_err-lower_found-2-clause-undoes c =
     let s =
     let graph = graph_of_state c.args.graph.now c.args.self.now c.requires.len c.requires.valid in
     let e = c.index.result.now in
-    let at = read c.loop-i.log.items c.loop-i.i c.len.result e c.loop-i-test.true (c.len.ensures ∙ c.loop-i.log.ok.0) c.index.ensures in
-    halfway c.args.graph.now c.args.place c.args.phase c.args.self.now c.args.log.now.items graph c.loop-i.self c.loop-i.log.items c.loop-i.i c.loop-i.invariant e at
-    c.parent_places-parents.result c.parent_places-parents.ensures.places c.lower_found.new.self c.lower_found.new.log.items c.in_ok-lower_found.ensures.lowered in
+    let at = read c.loop-i.log.items c.loop-i.i c.len.result e c.loop-i-test.true (c.len.ensures ∙ c.loop-i.log.ok.0)
+    c.index.ensures in
+    halfway c.args.graph.now c.args.place c.args.phase c.args.self.now c.args.log.now.items graph c.loop-i.self
+    c.loop-i.log.items c.loop-i.i c.loop-i.invariant e at
+    c.parent_places-parents.result c.parent_places-parents.ensures.places c.lower_found.new.self
+    c.lower_found.new.log.items c.in_ok-lower_found.ensures.lowered in
     let u = c.in_err-lower_found-2.ensures.unchanged in
     (λ t. restored (u.0 t) (u.1 t)) ∙ s.undoes
 
@@ -74,18 +94,24 @@ pub loop-i-preserved : goal.loop-i-preserved
 loop-i-preserved c =
     let graph = graph_of_state c.args.graph.now c.args.self.now c.requires.len c.requires.valid in
     let e = c.index.result.now in
-    let at = read c.loop-i.log.items c.loop-i.i c.len.result e c.loop-i-test.true (c.len.ensures ∙ c.loop-i.log.ok.0) c.index.ensures in
-    IsWalked-step c.args.graph.now c.args.place c.args.phase c.args.self.now c.args.log.now.items graph c.loop-i.self c.loop-i.log.items c.loop-i.i c.loop-i.invariant e at
-    c.parent_places-parents.result c.parent_places-parents.ensures.places c.lower_found.new.self c.lower_found.new.log.items c.in_ok-lower_found.ensures.lowered
+    let at = read c.loop-i.log.items c.loop-i.i c.len.result e c.loop-i-test.true (c.len.ensures ∙ c.loop-i.log.ok.0)
+    c.index.ensures in
+    IsWalked-step c.args.graph.now c.args.place c.args.phase c.args.self.now c.args.log.now.items graph c.loop-i.self
+    c.loop-i.log.items c.loop-i.i c.loop-i.invariant e at
+    c.parent_places-parents.result c.parent_places-parents.ensures.places c.lower_found.new.self
+    c.lower_found.new.log.items c.in_ok-lower_found.ensures.lowered
     c.lower_found-in-loop-i.new.self c.lower_found-in-loop-i.new.log.items c.in_ok-lower_found-2.ensures.lowered
 
 pub loop-i-smaller : goal.loop-i-smaller
 loop-i-smaller c =
     let graph = graph_of_state c.args.graph.now c.args.self.now c.requires.len c.requires.valid in
     let e = c.index.result.now in
-    let at = read c.loop-i.log.items c.loop-i.i c.len.result e c.loop-i-test.true (c.len.ensures ∙ c.loop-i.log.ok.0) c.index.ensures in
-    let w = IsWalked-step c.args.graph.now c.args.place c.args.phase c.args.self.now c.args.log.now.items graph c.loop-i.self c.loop-i.log.items c.loop-i.i c.loop-i.invariant e at
-    c.parent_places-parents.result c.parent_places-parents.ensures.places c.lower_found.new.self c.lower_found.new.log.items c.in_ok-lower_found.ensures.lowered
+    let at = read c.loop-i.log.items c.loop-i.i c.len.result e c.loop-i-test.true (c.len.ensures ∙ c.loop-i.log.ok.0)
+    c.index.ensures in
+    let w = IsWalked-step c.args.graph.now c.args.place c.args.phase c.args.self.now c.args.log.now.items graph
+    c.loop-i.self c.loop-i.log.items c.loop-i.i c.loop-i.invariant e at
+    c.parent_places-parents.result c.parent_places-parents.ensures.places c.lower_found.new.self
+    c.lower_found.new.log.items c.in_ok-lower_found.ensures.lowered
     c.lower_found-in-loop-i.new.self c.lower_found-in-loop-i.new.log.items c.in_ok-lower_found-2.ensures.lowered in
     omega (arith, w.lowering.measure, w.within, c.loop-i.invariant.lowering.measure, c.loop-i.invariant.within)
 
@@ -93,7 +119,10 @@ pub returns-clause-least : goal.returns-clause-least
 returns-clause-least c node at =
     let w = c.loop-i.invariant in
     let graph = graph_of_state c.args.graph.now c.args.self.now c.requires.len c.requires.valid in
-    let ended : length c.loop-i.log.items ≡ c.loop-i.i = omega (arith, c.loop-i-test.false, c.len.ensures, c.loop-i.log.ok.0, w.within) in
-    let low = lowered_are c.args.graph.now c.args.place c.args.phase c.args.self.now c.args.log.now.items c.loop-i.self c.loop-i.log.items graph c.requires.len c.requires.valid w.lowering w.given
+    let ended : length c.loop-i.log.items ≡ c.loop-i.i =
+    omega (arith, c.loop-i-test.false, c.len.ensures, c.loop-i.log.ok.0, w.within) in
+    let low = lowered_are c.args.graph.now c.args.place c.args.phase c.args.self.now c.args.log.now.items c.loop-i.self
+    c.loop-i.log.items graph c.requires.len c.requires.valid w.lowering w.given
     (λ m e q le lt. w.closed m e q le (omega (arith, ended))) in
-    least-lowered c.args.graph.now node c.args.place c.args.phase c.args.self.now c.loop-i.self graph c.requires.len at low
+    least-lowered c.args.graph.now node c.args.place c.args.phase c.args.self.now c.loop-i.self graph c.requires.len at
+    low

@@ -19,4 +19,5 @@ returns-in-Some c =
 
 pub returns-in-None : goal.returns-in-None
 returns-in-None c held =
-    c.in-None.ensures.place (subst (λ cs. GraphHolds cs c.args.node) (changesets-held_of c.args.graph.now c.args.self.now c.requires) held)
+    c.in-None.ensures.place
+    (subst (λ cs. GraphHolds cs c.args.node) (changesets-held_of c.args.graph.now c.args.self.now c.requires) held)

@@ -14,6 +14,9 @@ loop-place-preserved c =
     let items : c.loop-place.log.items ≡ rest ++ e ∷ [] = c.in-Some.ensures.items in
     let set_is : c.set.new.self ≡ set phases e.place e.had = cc in
     record {
-      within = λ k d l. rw (set_is, length-set) ((All-pop (λ e. e.place < length phases) c.loop-place.log.items rest (Some e) items c.loop-place.invariant.within).0 k d l);
-      rest = ap (λ ks. restored ks rest) set_is ∙ sym (restored-push phases rest e) ∙ ap (restored phases) (sym items) ∙ c.loop-place.invariant.rest;
+      within = λ k d l. rw (set_is, length-set)
+          ((All-pop (λ e. e.place < length phases) c.loop-place.log.items rest (Some e) items
+          c.loop-place.invariant.within).0 k d l);
+      rest = ap (λ ks. restored ks rest) set_is ∙ sym (restored-push phases rest e) ∙ ap (restored phases) (sym items)
+          ∙ c.loop-place.invariant.rest;
     }

@@ -6,8 +6,10 @@ use Rattle.hg_script.proofs.NameLemmas.{unbound}
 use Rattle.hg_script.proofs.fleet.Fleet.add_node.Goals as goal
 
 pub returns-then-is_some-clause-err : goal.returns-then-is_some-clause-err
-returns-then-is_some-clause-err c =
-    ((refl, ap (λ (o : Option ℕ). is_some o) (sym c.bound.ensures) ∙ sym c.is_some.ensures ∙ c.if-is_some.true), (no_trace, refl))
+returns-then-is_some-clause-err c = (
+  (refl, ap (λ (o : Option ℕ). is_some o) (sym c.bound.ensures) ∙ sym c.is_some.ensures ∙ c.if-is_some.true),
+  (no_trace, refl),
+)
 
 pub returns-in_err-bind-clause-err : goal.returns-in_err-bind-clause-err
 returns-in_err-bind-clause-err c =
@@ -18,5 +20,6 @@ pub returns-clause-ok : goal.returns-clause-ok
 returns-clause-ok c =
     let old = c.args.self.now in
     let taken = unbound c.bound.result (sym c.is_some.ensures ∙ c.if-is_some.false) in
-    let binds = subst (λ (n : ℕ). Binds old.nodes c.args.at.now n c.bind.new.names) c.len-place.ensures.len c.in_ok-bind.ensures in
+    let binds = subst (λ (n : ℕ). Binds old.nodes c.args.at.now n c.bind.new.names) c.len-place.ensures.len
+    c.in_ok-bind.ensures in
     (no_trace, record { asked = refl; ran = refl; told = tt; named = (sym c.bound.ensures ∙ taken, binds, refl, refl) })

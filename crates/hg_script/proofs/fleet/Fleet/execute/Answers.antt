@@ -8,15 +8,23 @@ use Rattle.hg_script.proofs.EndingLemmas.{left_unchanged}
 use Rattle.hg_script.proofs.fleet.Fleet.execute.Goals as goal
 
 pub returns-in-Offer-clause-ok : goal.returns-in-Offer-clause-ok
-returns-in-Offer-clause-ok g c = subst (λ (m : Command). OnOk c.keep_offer.result (IsDone c.args.self.now m c.keep_offer.new.self)) (sym c.in-Offer.is) c.keep_offer.ensures.ok
+returns-in-Offer-clause-ok g c =
+    subst (λ (m : Command). OnOk c.keep_offer.result (IsDone c.args.self.now m c.keep_offer.new.self))
+    (sym c.in-Offer.is) c.keep_offer.ensures.ok
 
 pub returns-in-Pull-clause-ok : goal.returns-in-Pull-clause-ok
-returns-in-Pull-clause-ok g c = subst (λ (m : Command). OnOk c.pull.result (IsDone c.args.self.now m c.pull.new.self)) (sym c.in-Pull.is) c.pull.ensures.ok
+returns-in-Pull-clause-ok g c =
+    subst (λ (m : Command). OnOk c.pull.result (IsDone c.args.self.now m c.pull.new.self)) (sym c.in-Pull.is)
+    c.pull.ensures.ok
 
 pub returns-in-Report-clause-err : goal.returns-in-Report-clause-err
 returns-in-Report-clause-err g c =
-    subst (λ (m : Command). IfErr c.report.result (λ fault. IsLeftBy c.args.number c.args.self.now m fault c.args.self.now)) (sym c.in-Report.is) (left_unchanged _ c.args.self.now (command.Report c.in-Report.at) _ c.report.ensures.err)
+    subst (λ (m : Command). IfErr c.report.result
+    (λ fault. IsLeftBy c.args.number c.args.self.now m fault c.args.self.now)) (sym c.in-Report.is)
+    (left_unchanged _ c.args.self.now (command.Report c.in-Report.at) _ c.report.ensures.err)
 
 pub returns-in-Agree-clause-err : goal.returns-in-Agree-clause-err
 returns-in-Agree-clause-err g c =
-    subst (λ (m : Command). IfErr c.agree.result (λ fault. IsLeftBy c.args.number c.args.self.now m fault c.args.self.now)) (sym c.in-Agree.is) (left_unchanged _ c.args.self.now (command.Agree c.in-Agree.one c.in-Agree.other) _ c.agree.ensures.err)
+    subst (λ (m : Command). IfErr c.agree.result
+    (λ fault. IsLeftBy c.args.number c.args.self.now m fault c.args.self.now)) (sym c.in-Agree.is)
+    (left_unchanged _ c.args.self.now (command.Agree c.in-Agree.one c.in-Agree.other) _ c.agree.ensures.err)

@@ -11,13 +11,21 @@ use Rattle.hg_script.proofs.fleet.Fleet.keep_offer.Goals as goal
 pub returns-in_err-common-clause-err : goal.returns-in_err-common-clause-err
 returns-in_err-common-clause-err g c =
     let p = err_from_is_err_and c.from_residual.result c.from_residual.ensures.1 in
-    rw (p.1, p.2) (fault_of_command _ _ c.args.self.now (command.Offer c.args.at c.args.message c.args.labels) _ (λ h. inr h) c.in_err-common.ensures.err, (no_trace, refl))
+    rw (p.1, p.2) (
+      fault_of_command _ _ c.args.self.now (command.Offer c.args.at c.args.message c.args.labels) _ (λ h. inr h)
+          c.in_err-common.ensures.err,
+      (no_trace, refl),
+    )
 
 pub returns-in_err-place-clause-err : goal.returns-in_err-place-clause-err
 returns-in_err-place-clause-err g c =
     let p = err_from_is_err_and c.from_residual-in_err-place.result c.from_residual-in_err-place.ensures.1 in
     let missing = no_place c.args.self.now _ c.in_err-place.ensures.err.1 in
-    rw (p.1, p.2) (unknown_fault _ c.args.self.now (command.Offer c.args.at c.args.message c.args.labels) _ c.in_err-place.ensures.err.0 (inl missing), (no_trace, refl))
+    rw (p.1, p.2) (
+      unknown_fault _ c.args.self.now (command.Offer c.args.at c.args.message c.args.labels) _
+          c.in_err-place.ensures.err.0 (inl missing),
+      (no_trace, refl),
+    )
 
 pub returns-then-is_some-clause-err : goal.returns-then-is_some-clause-err
 returns-then-is_some-clause-err g c =
@@ -28,13 +36,19 @@ returns-then-is_some-clause-err g c =
 pub returns-in_err-answer-clause-err : goal.returns-in_err-answer-clause-err
 returns-in_err-answer-clause-err g c =
     let p = err_from_is_err_and c.from_residual-in_err-answer.result c.from_residual-in_err-answer.ensures.1 in
-    let leads = offer_nowhere c.args.self.now c.args.at c.in_ok-place.place c.in_ok-common.common c.in_ok-place.ensures.ok in
-    rw (p.1, p.2) (fault_of_command _ _ c.args.self.now (command.Offer c.args.at c.args.message c.args.labels) _ (λ h. inl (leads h)) c.in_err-answer.ensures.fault, (no_trace, c.in_err-answer.ensures.unchanged))
+    let leads = offer_nowhere c.args.self.now c.args.at c.in_ok-place.place c.in_ok-common.common
+    c.in_ok-place.ensures.ok in
+    rw (p.1, p.2) (
+      fault_of_command _ _ c.args.self.now (command.Offer c.args.at c.args.message c.args.labels) _
+          (λ h. inl (leads h)) c.in_err-answer.ensures.fault,
+      (no_trace, c.in_err-answer.ensures.unchanged),
+    )
 
 pub returns-in_err-keep-clause-err : goal.returns-in_err-keep-clause-err
 returns-in_err-keep-clause-err g c =
     let p = err_from_is_err_and c.from_residual-in_err-keep.result c.from_residual-in_err-keep.ensures.1 in
-    rw (p.1, p.2, c.in_err-keep.ensures.err) (tt, ran_after _ _ _ (Offer c.in_ok-place.place c.in_ok-common.common) _ c.in_ok-answer.ensures.happens refl)
+    rw (p.1, p.2, c.in_err-keep.ensures.err)
+    (tt, ran_after _ _ _ (Offer c.in_ok-place.place c.in_ok-common.common) _ c.in_ok-answer.ensures.happens refl)
 
 pub returns-clause-ok : goal.returns-clause-ok
 returns-clause-ok g c =
@@ -44,6 +58,11 @@ returns-clause-ok g c =
         asked = (c.in_ok-place.place, c.in_ok-common.common, c.in_ok-place.ensures.ok, c.in_ok-common.ensures.ok, refl);
         ran = (c.run_event.new.world, h.1, refl);
         told = (c.in_ok-answer.ensures.told, tt);
-        named = (refl, refl, sym c.bound.ensures ∙ unbound c.bound.result (sym c.is_some.ensures ∙ c.if-is_some.false), c.in_ok-keep.ensures.ok);
+        named = (
+          refl,
+          refl,
+          sym c.bound.ensures ∙ unbound c.bound.result (sym c.is_some.ensures ∙ c.if-is_some.false),
+          c.in_ok-keep.ensures.ok,
+        );
       },
     )

@@ -6,20 +6,29 @@ use Rattle.hg_script.specs.declared.fault.RunFault.{RunFault}
 use Rattle.hg_script.specs.Events.{no_trace, brought}
 use Rattle.hg_script.specs.Commands.{Text, Word}
 use Rattle.hg_script.specs.Scripts.{AreLabelled, ids, may_be_bound}
-use Rattle.hg_script.proofs.EndingLemmas.{fault_of_command, free_brought, local_nowhere, no_place, node_fault, node_from_place, taken_fault, unknown_fault}
+use Rattle.hg_script.proofs.EndingLemmas.{fault_of_command, free_brought, local_nowhere, no_place, node_fault}
+use Rattle.hg_script.proofs.EndingLemmas.{node_from_place, taken_fault, unknown_fault}
 use Rattle.hg_script.proofs.ScriptLemmas.{one, ran_after}
 use Rattle.hg_script.proofs.fleet.Fleet.operate.Goals as goal
 
 pub returns-in_err-op-clause-err : goal.returns-in_err-op-clause-err
 returns-in_err-op-clause-err g c =
     let p = err_from_is_err_and c.from_residual.result c.from_residual.ensures.1 in
-    rw (p.1, p.2) (fault_of_command _ _ c.args.self.now (command.Operation c.args.at c.args.operation) _ (λ h. inr h) c.in_err-op.ensures.err, (no_trace, refl))
+    rw (p.1, p.2) (
+      fault_of_command _ _ c.args.self.now (command.Operation c.args.at c.args.operation) _ (λ h. inr h)
+          c.in_err-op.ensures.err,
+      (no_trace, refl),
+    )
 
 pub returns-in_err-place-clause-err : goal.returns-in_err-place-clause-err
 returns-in_err-place-clause-err g c =
     let p = err_from_is_err_and c.from_residual-in_err-place.result c.from_residual-in_err-place.ensures.1 in
     let missing = no_place c.args.self.now _ c.in_err-place.ensures.err.1 in
-    rw (p.1, p.2) (unknown_fault _ c.args.self.now (command.Operation c.args.at c.args.operation) _ c.in_err-place.ensures.err.0 (inl missing), (no_trace, refl))
+    rw (p.1, p.2) (
+      unknown_fault _ c.args.self.now (command.Operation c.args.at c.args.operation) _ c.in_err-place.ensures.err.0
+          (inl missing),
+      (no_trace, refl),
+    )
 
 pub returns-in_err-labels-clause-err : goal.returns-in_err-labels-clause-err
 returns-in_err-labels-clause-err g c =
@@ -29,26 +38,41 @@ returns-in_err-labels-clause-err g c =
 pub returns-in_err-replica-clause-err : goal.returns-in_err-replica-clause-err
 returns-in_err-replica-clause-err g c =
     let p = err_from_is_err_and c.from_residual-in_err-replica.result c.from_residual-in_err-replica.ensures.1 in
-    rw (p.1, p.2) (node_fault _ c.args.self.now (command.Operation c.args.at c.args.operation) c.args.at.now _ _ c.in_ok-place.ensures.ok (λ none. inl none) c.in_err-replica.ensures.err, (no_trace, refl))
+    rw (p.1, p.2) (
+      node_fault _ c.args.self.now (command.Operation c.args.at c.args.operation) c.args.at.now _ _
+          c.in_ok-place.ensures.ok (λ none. inl none) c.in_err-replica.ensures.err,
+      (no_trace, refl),
+    )
 
 pub returns-in_err-check_labels-clause-err : goal.returns-in_err-check_labels-clause-err
 returns-in_err-check_labels-clause-err g c =
-    let p = err_from_is_err_and c.from_residual-in_err-check_labels.result c.from_residual-in_err-check_labels.ensures.1 in
+    let p = err_from_is_err_and c.from_residual-in_err-check_labels.result
+    c.from_residual-in_err-check_labels.ensures.1 in
     let self = c.args.self.now in
     let labels = ap (map (λ (w : Word). w.now)) c.deref.ensures.value ∙ c.in_ok-labels.ensures in
-    let held = node_from_place self c.args.at.now c.in_ok-place.place (Some c.in_ok-replica.replica.now) c.in_ok-place.ensures.ok c.in_ok-replica.ensures.ok in
-    rw (p.1, p.2) (taken_fault _ self c.args.at c.args.operation _ _ _ _ labels c.in_ok-op.ensures.ok held c.in_err-check_labels.ensures.err, (no_trace, refl))
+    let held = node_from_place self c.args.at.now c.in_ok-place.place (Some c.in_ok-replica.replica.now)
+    c.in_ok-place.ensures.ok c.in_ok-replica.ensures.ok in
+    rw (p.1, p.2) (
+      taken_fault _ self c.args.at c.args.operation _ _ _ _ labels c.in_ok-op.ensures.ok held
+          c.in_err-check_labels.ensures.err,
+      (no_trace, refl),
+    )
 
 pub returns-in_err-answer-clause-err : goal.returns-in_err-answer-clause-err
 returns-in_err-answer-clause-err g c =
     let p = err_from_is_err_and c.from_residual-in_err-answer.result c.from_residual-in_err-answer.ensures.1 in
     let leads = local_nowhere c.args.self.now c.args.at c.in_ok-place.place c.in_ok-op.op c.in_ok-place.ensures.ok in
-    rw (p.1, p.2) (fault_of_command _ _ c.args.self.now (command.Operation c.args.at c.args.operation) _ (λ h. inl (leads h)) c.in_err-answer.ensures.fault, (no_trace, c.in_err-answer.ensures.unchanged))
+    rw (p.1, p.2) (
+      fault_of_command _ _ c.args.self.now (command.Operation c.args.at c.args.operation) _ (λ h. inl (leads h))
+          c.in_err-answer.ensures.fault,
+      (no_trace, c.in_err-answer.ensures.unchanged),
+    )
 
 pub returns-in_err-label-clause-err : goal.returns-in_err-label-clause-err
 returns-in_err-label-clause-err g c =
     let p = err_from_is_err_and c.from_residual-in_err-label.result c.from_residual-in_err-label.ensures.1 in
-    rw (p.1, p.2, c.in_err-label.ensures.err) (tt, ran_after _ _ _ (Local c.in_ok-place.place c.in_ok-op.op) _ c.in_ok-answer.ensures.happens refl)
+    rw (p.1, p.2, c.in_err-label.ensures.err)
+    (tt, ran_after _ _ _ (Local c.in_ok-place.place c.in_ok-op.op) _ c.in_ok-answer.ensures.happens refl)
 
 pub returns-clause-ok : goal.returns-clause-ok
 returns-clause-ok g c =
@@ -59,7 +83,9 @@ returns-clause-ok g c =
     let h = c.in_ok-answer.ensures.happens in
     let labels = ap (map (λ (w : Word). w.now)) c.deref.ensures.value ∙ c.in_ok-labels.ensures in
     let same = ap (map (λ (w : Word). w.now)) c.deref-2.ensures.value ∙ c.in_ok-labels.ensures in
-    let free = free_brought (ids self) (map (λ (w : Word). w.now) c.deref.result.now) c.in_ok-replica.replica.now self.world place op answer h.0 c.run_event.new.world c.in_ok-replica.ensures.ok c.in_ok-check_labels.ensures.free h.1 in (
+    let free = free_brought (ids self) (map (λ (w : Word). w.now) c.deref.result.now) c.in_ok-replica.replica.now
+    self.world place op answer h.0 c.run_event.new.world c.in_ok-replica.ensures.ok
+    c.in_ok-check_labels.ensures.free h.1 in (
       one (Local place op) answer h.0,
       record {
         asked = (place, op, c.in_ok-place.ensures.ok, c.in_ok-op.ensures.ok, refl);
@@ -68,7 +94,8 @@ returns-clause-ok g c =
         named = (
           refl,
           subst (λ (ls : List Text). IsTrue (may_be_bound (ids self) ls (brought (h.0 ∷ [])))) labels free,
-          subst (λ (ls : List Text). AreLabelled self.labels ls (answer ∷ []) c.label.new.names) same c.in_ok-label.ensures.ok,
+          subst (λ (ls : List Text). AreLabelled self.labels ls (answer ∷ []) c.label.new.names) same
+              c.in_ok-label.ensures.ok,
           refl,
         );
       },

@@ -10,16 +10,26 @@ pub returns-in_err-at-clause-err : goal.returns-in_err-at-clause-err
 returns-in_err-at-clause-err g c =
     let p = err_from_is_err_and c.from_residual.result c.from_residual.ensures.1 in
     let missing = no_place c.args.self.now _ c.in_err-at.ensures.err.1 in
-    rw (p.1, p.2) (unknown_fault _ c.args.self.now (command.Take c.args.at c.args.message) _ c.in_err-at.ensures.err.0 (inl missing), (no_trace, refl))
+    rw (p.1, p.2) (
+      unknown_fault _ c.args.self.now (command.Take c.args.at c.args.message) _ c.in_err-at.ensures.err.0
+          (inl missing),
+      (no_trace, refl),
+    )
 
 pub returns-in-None-clause-err : goal.returns-in-None-clause-err
-returns-in-None-clause-err g c = ((refl, inr (no_message c.args.self.now _ (sym c.bound.ensures ∙ c.in-None.is))), (no_trace, refl))
+returns-in-None-clause-err g c =
+    ((refl, inr (no_message c.args.self.now _ (sym c.bound.ensures ∙ c.in-None.is))), (no_trace, refl))
 
 pub returns-in_err-run_event-clause-err : goal.returns-in_err-run_event-clause-err
 returns-in_err-run_event-clause-err g c =
     let p = err_from_is_err_and c.from_residual-in_err-run_event.result c.from_residual-in_err-run_event.ensures.1 in
-    let leads = take_nowhere c.args.self.now c.args.at c.args.message c.in_ok-at.at c.in-Some.message c.in_ok-at.ensures.ok (sym c.bound.ensures ∙ c.in-Some.is) in
-    rw (p.1, p.2) (fault_of_command _ _ c.args.self.now (command.Take c.args.at c.args.message) _ leads c.in_err-run_event.ensures.fault, (no_trace, c.in_err-run_event.ensures.unchanged))
+    let leads = take_nowhere c.args.self.now c.args.at c.args.message c.in_ok-at.at c.in-Some.message
+    c.in_ok-at.ensures.ok (sym c.bound.ensures ∙ c.in-Some.is) in
+    rw (p.1, p.2) (
+      fault_of_command _ _ c.args.self.now (command.Take c.args.at c.args.message) _ leads
+          c.in_err-run_event.ensures.fault,
+      (no_trace, c.in_err-run_event.ensures.unchanged),
+    )
 
 pub returns-clause-ok : goal.returns-clause-ok
 returns-clause-ok g c =

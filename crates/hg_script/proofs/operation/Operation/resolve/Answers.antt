@@ -5,10 +5,16 @@ use Rattle.hg_script.specs.Names.{value_of}
 use Rattle.hg_script.proofs.operation.Operation.resolve.Goals as goal
 
 pub returns-in-Split-clause-ok : goal.returns-in-Split-clause-ok
-returns-in-Split-clause-ok c = subst (λ (o : Operation). IfOk c.split.result (IsOperation (value_of c.args.names.now.labels.now) o)) (sym c.in-Split.is) c.split.ensures.ok
+returns-in-Split-clause-ok c =
+    subst (λ (o : Operation). IfOk c.split.result (IsOperation (value_of c.args.names.now.labels.now) o))
+    (sym c.in-Split.is) c.split.ensures.ok
 
 pub returns-in-Fold-clause-ok : goal.returns-in-Fold-clause-ok
-returns-in-Fold-clause-ok c = subst (λ (o : Operation). IfOk c.fold.result (IsOperation (value_of c.args.names.now.labels.now) o)) (sym c.in-Fold.is) c.fold.ensures.ok
+returns-in-Fold-clause-ok c =
+    subst (λ (o : Operation). IfOk c.fold.result (IsOperation (value_of c.args.names.now.labels.now) o))
+    (sym c.in-Fold.is) c.fold.ensures.ok
 
 pub returns-in-Fold-clause-err : goal.returns-in-Fold-clause-err
-returns-in-Fold-clause-err c = subst (λ (o : Operation). IfErr c.fold.result (IsUnresolved c.args.names.now (old_labels o))) (sym c.in-Fold.is) c.fold.ensures.err
+returns-in-Fold-clause-err c =
+    subst (λ (o : Operation). IfErr c.fold.result (IsUnresolved c.args.names.now (old_labels o))) (sym c.in-Fold.is)
+    c.fold.ensures.err
