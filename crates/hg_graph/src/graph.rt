@@ -257,8 +257,7 @@ impl Graph {
     }
 
     /// Forgets the changesets from the place `len` on. It takes back what a refused call of a crate above has added,
-    /// and is
-    /// for no other use: what is kept beside a graph must be taken back with it.
+    /// and is for no other use: what is kept beside a graph must be taken back with it.
     pub fn truncate(&mut self, len: usize)
         ensures { self.new ≡ take len self.old }
     {

@@ -67,8 +67,7 @@ pub(crate) fn content_divergent_nodes(
 }
 
 // The predecessors of markers that became different changesets with the markers that are followed. Nothing is asked of
-// ids
-// that don't lead to one with two markers.
+// ids that don't lead to one with two markers.
 fn divided_predecessors(alloc: Global, replica: &Replica) -> Result<IndexSet<Node>, AllocError>
     ensures { IfOk result (λ divided. (n : Node) → Contains divided.keys n
         ↔ (IsPredecessor (content_of replica.now) n × HasSeveral (content_of replica.now) n)) }

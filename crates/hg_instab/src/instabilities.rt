@@ -124,8 +124,7 @@ impl Instabilities {
     }
 
     /// Neither public nor obsolete, though steps over markers lead back to something that became different changesets
-    /// with
-    /// the markers that are followed: Mercurial's `contentdivergent`.
+    /// with the markers that are followed: Mercurial's `contentdivergent`.
     pub fn content_divergent(&self) -> &BTreeSet<Node>
         ensures { result.now.keys ≡ self.now.content_divergent }
     {

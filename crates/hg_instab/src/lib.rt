@@ -1,10 +1,8 @@
 //! Instabilities: which changesets are obsolete, and which others are unstable on their account.
 //!
 //! An obsolete changeset was rewritten, or pruned. What stands on one is an orphan, and keeps the obsolete changesets
-//! below
-//! it from being given up. What was rewritten from a changeset that others know as public is phase-divergent. All of
-//! this
-//! follows from what a replica contains, in whatever order it came.
+//! below it from being given up. What was rewritten from a changeset that others know as public is phase-divergent. All
+//! of this follows from what a replica contains, in whatever order it came.
 #![tactic(auto)]
 
 mod among;

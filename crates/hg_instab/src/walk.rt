@@ -1,8 +1,7 @@
 //! Steps over markers, from some ids to what they were rewritten to, or back to what was rewritten to them.
 //!
 //! The ids that steps lead to need not be held. They are numbered in a set that is its own queue: each is looked at
-//! once,
-//! and so is each marker.
+//! once, and so is each marker.
 ghost use Rattle.std.specs.Prelude.{◌≡◌, ◌↔◌, Contains, IfOk, OnOk, IsTrue};
 ghost use Rattle.hg_changeset.specs.declared.node.Node.{Node};
 ghost use Rattle.hg_replica.specs.Evolution.{IsBumpedFix};

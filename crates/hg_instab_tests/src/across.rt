@@ -62,8 +62,7 @@ fn rewrite_twice(alloc: Global, replica: &mut Replica, node: Node, number: u8) -
 }
 
 // An id that isn't held was rewritten to a draft root and to thirteen others, each of which was rewritten twice: so
-// that
-// two to the power of thirteen ways lead from it.
+// that two to the power of thirteen ways lead from it.
 fn rewritten_in_too_many_ways(alloc: Global, replica: &mut Replica) -> Option<Node> {
     let kept = root(alloc, replica, b"kept")?;
     let mut successors = Vec::new(alloc);

@@ -11,8 +11,7 @@ use std::alloc::Global;
 const NONE: usize = 4;
 
 // The parent of each changeset, which comes before it; how many of the first are public, while the last is secret where
-// it
-// isn't; and two markers, of which the second is bumpedfix.
+// it isn't; and two markers, of which the second is bumpedfix.
 #[derive(Clone, Copy)]
 struct History {
     parents: [usize; 4],
@@ -209,9 +208,8 @@ fn agrees(alloc: Global, replica: &mut Replica, history: &History) -> Option<boo
 }
 
 // The history with this number, of 2 * 8 * 12 * 12: one changeset is public or none; the second is a root or a child of
-// the
-// first, and each later one stands on one of the two before it; and a marker is of any of the four, which was pruned or
-// rewritten to the second or to the last.
+// the first, and each later one stands on one of the two before it; and a marker is of any of the four, which was
+// pruned or rewritten to the second or to the last.
 fn numbered(number: usize) -> History {
     let shape = number / 2;
     let parents = [

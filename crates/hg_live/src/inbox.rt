@@ -19,8 +19,7 @@ use std::sync::Wait;
 const SEATS: u64 = 1 << 62;
 
 /// A caller's seat at an inbox, by which it puts and takes. Contracts see which inbox it is of, and what was put and
-/// taken
-/// by it, each message under its number.
+/// taken by it, each message under its number.
 #[derive(Drop)]
 pub struct Seat {
     pass: Known,
@@ -43,8 +42,7 @@ impl Model for Seat {
 }
 
 /// A bounded queue of messages that threads share. Contracts see its name, which only its own seats have, how many
-/// messages
-/// it may hold, and how many seats were made.
+/// messages it may hold, and how many seats were made.
 ///
 /// `origin` holds what no seat knows: all parts of the right to see the whole that no seat was given.
 #[derive(Drop)]
@@ -84,8 +82,7 @@ pub struct Unclosed {
 
 impl Inbox {
     /// An inbox for so many messages, with no seats yet. It takes the room for all of them here, so that no put and no
-    /// take
-    /// wants memory.
+    /// take wants memory.
     ///
     /// Refuses [`InboxRefusal::ZeroCapacity`] where it may hold no message.
     pub fn new(alloc: Global, capacity: usize) -> Result<Inbox, InboxRefusal>
@@ -162,8 +159,7 @@ impl Inbox {
     /// Closes the inbox, by all the seats that were made, and gives the messages that are left, front first.
     ///
     /// Refuses [`InboxRefusal::SeatsOut`] where fewer seats came, and hands the inbox and the seats back, as it does
-    /// for want
-    /// of memory.
+    /// for want of memory.
     pub fn close<R: Wait>(self, rt: &R, seats: Vec<Seat>) -> Result<Vec<Vec<u8>>, Unclosed>
         requires { All (λ seat. seat.inbox ≡ self.name) seats.items }
         ensures rest { IfOk result (λ rest. IsRest seats.items (map (λ m. m.items) rest.items)) }

@@ -38,13 +38,11 @@ pub fn one_changeset(alloc: Global) -> Option<Vec<u8>> {
 }
 
 /// The message of ROOT and CHILD, the latter with these parents, of the bounds (ROOT, public) and (CHILD, secret), and
-/// of
-/// one marker twice.
+/// of one marker twice.
 ///
 /// Its fields begin at 0 (magic), 4 (version), 5 (count), 9, 29, 49, 69 and 73 (ROOT's record), 74, 94, 114, 134 and
-/// 138
-/// (CHILD's), 144 (count of bounds), 148 and 152, 172 and 176 (bounds), 196 (length of the store) and 200 (store). The
-/// markers begin at 201 and 255. It has 309 bytes.
+/// 138 (CHILD's), 144 (count of bounds), 148 and 152, 172 and 176 (bounds), 196 (length of the store) and 200 (store).
+/// The markers begin at 201 and 255. It has 309 bytes.
 pub fn all_kinds(alloc: Global, p: Node, q: Node) -> Option<Vec<u8>> {
     let mut bytes = Vec::from_slice(alloc, b"HGFX\x01\0\0\0\x02").ok()?;
     push_record(&mut bytes, ROOT, Node::NULL, Node::NULL, b"\0\0\0\x01a")?;

@@ -2,8 +2,7 @@
 //!
 //! The markers stand in the order in which they came, in a set that finds an equal one by its value in one look-up, so
 //! no marker stands twice. A marker is named by its place. Places only grow, so what is new stands last, and a call
-//! that
-//! is refused half way is taken back by cutting off what it added.
+//! that is refused half way is taken back by cutting off what it added.
 ghost use Rattle.std.specs.Prelude.{◌≡◌, ◌≢◌, ◌+◌, ◌<◌, ◌≤◌, ◌↔◌, [], length, take, All, IsTrue, IfOk, OnOk, OnErr};
 ghost use Rattle.std.specs.Prelude.{Contains, slice_get};
 ghost use Rattle.std.specs.Option.{option_copied};
@@ -155,8 +154,7 @@ impl Store {
     }
 
     /// The same as [`mentions`](Store::mentions), whatever the hint is. It takes no look-up by a hash where the hint
-    /// came with
-    /// the mentions of this node.
+    /// came with the mentions of this node.
     pub fn mentions_near(&self, node: Node, hint: Hint) -> Mentions<'_>
         ensures predecessor { ArePlaces (λ m. m.predecessor ≡ node) self.now result.as_predecessor }
         ensures successor { ArePlaces (λ m. Contains m.successors node) self.now result.as_successor }

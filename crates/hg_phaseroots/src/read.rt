@@ -11,8 +11,7 @@ use hg_phases::{Phase, Roots};
 use std::alloc::{AllocError, Global};
 
 /// Reads roots: the nodes and phases that the lines list, in their order. A line with 0 is accepted and lists nothing;
-/// the
-/// last line may lack its line feed.
+/// the last line may lack its line feed.
 ///
 /// Refuses with the first line at fault: [`RootsError::BadLine`] where it isn't one to nine decimal digits, a space and
 /// 40 hexadecimal digits of either case, and otherwise [`RootsError::BadPhase`] where its number isn't 0, 1 or 2. All

@@ -13,8 +13,7 @@ use std::alloc::{AllocError, Global};
 use std::collections::BTreeSet;
 
 /// The text of roots: a line for each, draft ones first, then secret ones, each in ascending order of ids and once.
-/// Public
-/// ones have no line.
+/// Public ones have no line.
 pub fn roots_text(roots: &Roots) -> Result<Vec<u8>, AllocError>
     ensures written { IfOk result (λ text. IsWritten roots.now text.items) }
 

@@ -9,8 +9,7 @@ abbrev pub IsPrune : Fields → Type 0
 IsPrune m = m.successors ≡ []
 
 -- The node is one of its successors; or nothing came in place of its predecessor, which is the node, or records the
--- node
--- as a parent.
+-- node as a parent.
 abbrev pub Touches : Node → Fields → Type 0
 Touches n m = Contains m.successors n ⊎ (IsPrune m × ((m.predecessor ≡ n) ⊎ Contains (recorded_parents m) n))
 

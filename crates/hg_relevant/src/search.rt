@@ -1,8 +1,7 @@
 //! A search along chains of markers.
 //!
 //! Each marker that is found is put into a queue once. The markers that touch one of the nodes are found first, and
-//! then
-//! those that touch the predecessor of each marker in the queue, once for all the markers of one predecessor.
+//! then those that touch the predecessor of each marker in the queue, once for all the markers of one predecessor.
 ghost use Rattle.std.specs.Prelude.{◌≡◌, ◌<◌, ◌↔◌, ◌⊎◌, ℕ, [], length, replicate, false, Contains, IfOk, OnOk};
 ghost use Rattle.hg_obsstore.specs.Markers.{IsAt, ArePlaces};
 ghost use Rattle.hg_obsstore.specs.Places.{ListsAll};
@@ -17,13 +16,11 @@ use std::alloc::{AllocError, Global};
 /// The places of the markers that are relevant to the nodes, ascending.
 ///
 /// A marker is relevant to its successors, and one without successors, which tells of a prune, to its predecessor and
-/// to
-/// the parents that it records. What is relevant to the predecessor of a relevant marker is relevant too: so the whole
-/// line of rewrites that led to the nodes is told, and what was pruned from them.
+/// to the parents that it records. What is relevant to the predecessor of a relevant marker is relevant too: so the
+/// whole line of rewrites that led to the nodes is told, and what was pruned from them.
 ///
 /// It costs what the nodes, the markers and their successors are together, however the markers hang together: one
-/// look-up
-/// by a hash for each node. A node that is given twice is looked up twice.
+/// look-up by a hash for each node. A node that is given twice is looked up twice.
 pub fn relevant(alloc: Global, store: &Store, nodes: &[Node]) -> Result<Vec<usize>, AllocError>
     ensures { IfOk result (λ places. ArePlaces (IsRelevant (Contains store.now) (Contains nodes.now)) store.now
         places.items) }
@@ -32,8 +29,7 @@ pub fn relevant(alloc: Global, store: &Store, nodes: &[Node]) -> Result<Vec<usiz
 }
 
 /// The same as [`relevant`], with a hint for each of the nodes, as far as there are hints. Whatever they are, the
-/// answer is
-/// the same; a node takes no look-up by a hash where its hint came with its mentions.
+/// answer is the same; a node takes no look-up by a hash where its hint came with its mentions.
 pub fn relevant_near(
     alloc: Global,
     store: &Store,

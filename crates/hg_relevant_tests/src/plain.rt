@@ -17,8 +17,7 @@ struct Plain {
 }
 
 // The marker with this number, of 20: its node was pruned, recording no parent or one of the two next to it, or
-// rewritten to
-// the next one, or split into the other two.
+// rewritten to the next one, or split into the other two.
 fn numbered(number: usize) -> Plain {
     let predecessor = number % 4;
     let beside = [

@@ -33,8 +33,7 @@ pub fn add(
 }
 
 // 1 was rewritten to 2 and that to 3, which was pruned from 9; 4 was pruned from 3; 5 was split into 3 and 6; 6 was
-// rewritten
-// to 7, which records 3 as a parent though it isn't pruned.
+// rewritten to 7, which records 3 as a parent though it isn't pruned.
 fn rewrites(alloc: Global) -> Option<Store> {
     let mut store = Store::new(alloc);
     add(alloc, &mut store, node(1), &[node(2)], None)?;

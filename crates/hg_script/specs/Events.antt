@@ -206,8 +206,7 @@ AreCommonAt world taker giver heads =
     × (slice_get world.nodes giver ≡ Some theirs) × AreHeadsInCommon ours theirs heads
 
 -- the events of a command in a world, where names stand for these places, ids and numbers: a pull asks for what is
--- offered
--- above what both have in common, and what it takes hangs on the answer
+-- offered above what both have in common, and what it takes hangs on the answer
 abbrev pub AreEventsOf : Snapshot ReplicaState → Meaning ℕ → Meaning Node → Meaning ℕ → Command → List PeerAnswer
     → List PeerEvent → Type 0
 AreEventsOf world places ids numbers (node at) answers events = events ≡ []

@@ -87,9 +87,8 @@ IsKept old name (Offered number ∷ answers) new = Binds old name number new
 IsKept old name (Refused refusal ∷ answers) new = new ≡ old
 
 -- the names after a command: a node has the next place, the new labels of an operation name what it added, and a
--- message
--- that was offered has its number. The names of nodes and messages are new, and the labels were free to name what the
--- operation brought
+-- message that was offered has its number. The names of nodes and messages are new, and the labels were free to name
+-- what the operation brought
 abbrev pub AreNamed : Fleet → Command → Trace → Fleet → Type 0
 AreNamed old (node at) t new =
     (places old at.now ≡ None) × Binds old.nodes at.now (btree_map_len old.nodes) new.nodes × (new.labels ≡ old.labels)

@@ -1,8 +1,7 @@
 //! The successors sets of nodes, lowest first.
 //!
 //! Families stand in a list, and each node that is done has the place of its own. A node with one marker with one
-//! successor
-//! has the same picks as that one, and shares its family; so a chain copies nothing.
+//! successor has the same picks as that one, and shares its family; so a chain copies nothing.
 ghost use Rattle.std.specs.Prelude.{◌≡◌, ◌↔◌, ◌<◌, ℕ, length, Contains, None, IsTrue, IfOk, IfSome, IfNone, OnOk};
 ghost use Rattle.std.specs.Prelude.{false};
 ghost use Rattle.std.specs.List.{flat_map};

@@ -1,12 +1,10 @@
 //! Successors sets: what a changeset was rewritten to, in each way that the markers allow.
 //!
 //! A pick of a node is one full choice: nothing for a node on a cycle of markers, the node itself where no marker
-//! rewrites
-//! it and it is held, and otherwise, by one of its markers, a pick of each successor, all together. The successors sets
-//! are
-//! the largest picks. They are found for all nodes that some lead to at once: `numbered` gives these nodes numbers,
-//! `search` an order in which each comes after what it was rewritten to, and tells which are on cycles, by Gabow's
-//! algorithm, and `families` goes along that order.
+//! rewrites it and it is held, and otherwise, by one of its markers, a pick of each successor, all together. The
+//! successors sets are the largest picks. They are found for all nodes that some lead to at once: `numbered` gives
+//! these nodes numbers, `search` an order in which each comes after what it was rewritten to, and tells which are on
+//! cycles, by Gabow's algorithm, and `families` goes along that order.
 #![tactic(auto)]
 
 mod families;

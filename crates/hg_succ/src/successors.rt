@@ -14,8 +14,7 @@ use indexmap::IndexSet;
 use std::alloc::{AllocError, Global};
 
 /// The successors sets of a node, held or not: Mercurial's `successorssets`. It costs what the node leads to by
-/// markers,
-/// beside the sets themselves.
+/// markers, beside the sets themselves.
 pub fn successors_sets(alloc: Global, replica: &Replica, node: Node) -> Result<Sets, AllocError>
     ensures { IfOk result (AreSets (content_of replica.now) node) }
 {

@@ -1,8 +1,7 @@
 //! The unions that one set of each of several families give, and the largest of some sets.
 //!
 //! Unions are formed as lists in any order. The largest of them are made sets, sorted and once each; then what is
-//! within
-//! a larger one is dropped. Only a set that is smaller than the largest can be, and only it is compared with the
+//! within a larger one is dropped. Only a set that is smaller than the largest can be, and only it is compared with the
 //! others.
 ghost use Rattle.std.specs.Prelude.{◌≡◌, ◌≤◌, ◌++◌, List, filter, length, map, Contains, IfOk, OnOk, not};
 ghost use Rattle.std.specs.List.{list_any};

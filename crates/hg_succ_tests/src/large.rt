@@ -12,8 +12,7 @@ const BEFORE: u8 = 251;
 const ALONE: u8 = 252;
 
 // A marker from the first node to so many others and to one that is held, where each of those others was rewritten to
-// the
-// one of two held roots and to the other; and a marker to the first node.
+// the one of two held roots and to the other; and a marker to the first node.
 fn doubled(alloc: Global, count: u8) -> Option<Replica> {
     let mut part = empty(alloc);
     hold(alloc, &mut part, ALONE)?;

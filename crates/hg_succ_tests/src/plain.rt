@@ -176,8 +176,7 @@ fn agrees(alloc: Global, nodes: &[Node], store: &Store) -> Option<bool> {
 }
 
 // The marker with this number, of 80: any of the four was rewritten to one of them, or to two, in either order or to
-// one
-// twice.
+// one twice.
 fn marker(number: u32) -> (u32, u32, u32) {
     let list = number / 4;
     if list < 4 {

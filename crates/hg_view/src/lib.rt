@@ -1,8 +1,7 @@
 //! Views: which changesets are shown, and which are given to others.
 //!
 //! An obsolete changeset is hidden, unless something that isn't obsolete stands on it. What is visible and not secret
-//! is
-//! served: others may be told of it.
+//! is served: others may be told of it.
 #![tactic(auto)]
 
 mod laws;

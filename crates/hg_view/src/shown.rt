@@ -15,8 +15,7 @@ use indexmap::IndexSet;
 use std::alloc::{AllocError, Global};
 
 /// Whether a changeset is visible. One that isn't obsolete costs two look-ups; for any other the answer costs what the
-/// walk
-/// to its descendants visits, and that ends at the first that isn't obsolete.
+/// walk to its descendants visits, and that ends at the first that isn't obsolete.
 pub fn is_visible(alloc: Global, replica: &Replica, node: Node) -> Result<bool, AllocError>
     ensures answer { IfOk result (λ answer. IsTrue answer ↔ IsVisible (content_of replica.now) node) }
 

@@ -31,8 +31,7 @@ abbrev pub IsMistake : Error → Type 0
 IsMistake e = (kind_of e ≢ DisplayHelp) × (kind_of e ≢ DisplayVersion) × (kind_of e ≢ OutOfMemory)
 
 -- the words of a run ask for a run, and no others do; help and the version are given where the parser says that they
--- are
--- asked for; all else is bad, and is what the parser says, or words that it passes over
+-- are asked for; all else is bad, and is what the parser says, or words that it passes over
 abbrev pub ArgumentsAnswer : List Text → Result Wanted ArgumentFault → Type 0
 ArgumentsAnswer words (Ok Run) = IsRun words
 ArgumentsAnswer words (Ok (Help e)) = IsAmong DisplayHelp (faults_at words)
