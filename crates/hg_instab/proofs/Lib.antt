@@ -5,3 +5,4 @@ pub mod PrecedeLemmas
 pub mod ForkLemmas
 pub mod OrphanLemmas
 pub mod SetLemmas
+pub mod LocalLemmas

@@ -1,2 +1,3 @@
 pub mod Instabilities
+pub mod Local
 pub mod Walk

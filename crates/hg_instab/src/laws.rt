@@ -5,6 +5,7 @@ ghost use Rattle.hg_replica.specs.State.{ReplicaState, IsValid, IsSameState};
 ghost use Rattle.hg_replica.specs.Content.{content_of};
 ghost use Rattle.hg_replica.specs.Evolution.{IsObsolete, IsOrphan, IsSuspended, IsExtinct, IsPhaseDivergent};
 ghost use Rattle.hg_instab.specs.Instabilities.{IsContentDivergent};
+ghost use Rattle.hg_instab.specs.Local.{StandsUnstably, HoldsNothing};
 
 /// States that are below each other have the same instabilities, in whatever order each keeps what it holds.
 pub fn states_of_one_content_have_the_same_instabilities()
@@ -20,4 +21,13 @@ pub fn states_of_one_content_have_the_same_instabilities()
         → (IsPhaseDivergent (content_of s) n ↔ IsPhaseDivergent (content_of t) n) }
     ensures content_divergent { (s t : ReplicaState) (n : Node) → IsValid s → IsValid t → IsSameState s t
         → (IsContentDivergent (content_of s) n ↔ IsContentDivergent (content_of t) n) }
+{}
+
+/// Neighbours decide: a changeset is an orphan exactly where it is neither public nor obsolete and a parent of it is
+/// obsolete or an orphan, and it is extinct exactly where it is obsolete and each of its children is extinct.
+pub fn neighbours_decide_what_is_orphan_and_extinct()
+    ensures orphan { (s : ReplicaState) (n : Node) → IsValid s
+        → (IsOrphan (content_of s) n ↔ StandsUnstably (content_of s) (IsOrphan (content_of s)) n) }
+    ensures extinct { (s : ReplicaState) (n : Node) → IsValid s
+        → (IsExtinct (content_of s) n ↔ HoldsNothing (content_of s) (IsExtinct (content_of s)) n) }
 {}

@@ -14,5 +14,7 @@ mod query;
 mod walk;
 
 pub use instabilities::Instabilities;
-pub use laws::states_of_one_content_have_the_same_instabilities;
+pub use laws::{
+    neighbours_decide_what_is_orphan_and_extinct, states_of_one_content_have_the_same_instabilities,
+};
 pub use query::{has_phase, has_phase_at, is_obsolete, is_obsolete_at};

@@ -1,3 +1,4 @@
 pub mod LawLemmas
 pub mod ViewLemmas
 mod ShownLemmas
+mod HiddenLemmas

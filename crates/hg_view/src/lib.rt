@@ -9,7 +9,8 @@ mod shown;
 mod view;
 
 pub use laws::{
-    states_of_one_content_have_the_same_views, views_hold_the_ancestors_of_their_members,
+    hidden_is_extinct, states_of_one_content_have_the_same_views,
+    views_hold_the_ancestors_of_their_members,
 };
 pub use shown::is_visible;
 pub use view::{served, served_marks, visible};
