@@ -1,7 +1,7 @@
 -- What ends a script: the faults of names, of lines, and of whole scripts.
 use Rattle.std.proofs.Common.{◌≡◌, ◌⊎◌, inl, inr, ℕ, ◌+◌, ◌≤◌, ◌<◌, List, [], ◌∷◌, ◌++◌, length, get_or, map, slice_get}
 use Rattle.std.proofs.Common.{codes, Bool, true, false, IsTrue, Option, Some, None, IsSome, is_some, IfSome, IsErrOf}
-use Rattle.std.proofs.Common.{Result, Ok, Err, OnOk, IfOk, IfErr, refl, sym, ap, subst, ◌∙◌, arith, zero-add, zero, suc}
+use Rattle.std.proofs.Common.{Result, Ok, Err, IfOk, IfErr, refl, sym, ap, subst, ◌∙◌, arith, zero-add, zero, suc}
 use Rattle.std.proofs.Common.{true≢false}
 use Rattle.std.specs.Option.{option_and_then}
 use Rattle.std.specs.Str.Lines.{lines}
@@ -39,7 +39,7 @@ use Rattle.hg_script.specs.declared.fleet.Fleet.{Fleet}
 use Rattle.hg_script.specs.Commands.{Text, Word, texts, CommandAnswer, LineAnswer}
 use Rattle.hg_script.specs.Endings.{UsesUnknown, MakesUnderTaken, AreLabelsFree, IsTakenFault, IsNodeFault, IsNameFault}
 use Rattle.hg_script.specs.Endings.{IsCommandFault, IsLeftBy, HasWords, Says, IsLineFault, EndsAt, StopsAmong}
-use Rattle.hg_script.specs.Endings.{IsStoppedBy, IsScriptOf, IsLeftWorld, IsStop}
+use Rattle.hg_script.specs.Endings.{IsStoppedBy, IsScriptOf, IsStop}
 use Rattle.hg_script.specs.Events.{Trace, PeerEvent, PeerAnswer, no_trace, joined, Meaning, HasUnknown, IsAbsence}
 use Rattle.hg_script.specs.Events.{LacksMessage, IsNowhere, IsUnknownWhere, IsTakeFault, AreCommonAt, IsOperation}
 use Rattle.hg_script.specs.Events.{brought, new_labels}
@@ -47,7 +47,6 @@ use Rattle.hg_script.specs.Faults.{IsInputFault}
 use Rattle.hg_script.specs.Limits.{script_limit}
 use Rattle.hg_script.specs.Names.{AreDistinct}
 use Rattle.hg_script.specs.Scripts.{places, ids, numbers, node_named, message_named, may_be_bound, DoesLine, DoesLines}
-use Rattle.hg_script.specs.Scripts.{IsRunOf}
 use Rattle.hg_script.specs.Words.{words_of}
 use Rattle.hg_script.proofs.LabelLemmas.{twice_taken, nothing_free, new_apart, made_for}
 
@@ -104,10 +103,6 @@ pub print_fault : {T : Type 0} (number : ℕ) (f : Fleet) (command : Command) (r
 print_fault number f command (Ok x) h = tt
 print_fault number f command (Err fault) (inl e) = subst (IsCommandFault number f command) (sym e) tt
 print_fault number f command (Err fault) (inr e) = subst (IsCommandFault number f command) (sym e) tt
-
-pub told_done : {T E : Type 0} (r : Result T E) (P : Type 0) → P → OnOk r P
-told_done (Ok x) P h = h
-told_done (Err e) P h = tt
 
 pub is_there : {V : Type 0} (o : Option V) (v : V) → o ≡ Some v → IsSome o
 is_there o v e = ap is_some e
@@ -400,10 +395,11 @@ script_of None items text e limit whole = (subst (λ (t : Text). length t ≤ sc
 script_of (Some bytes) items text e limit whole =
     (subst (λ (t : Text). length t ≤ script_limit) (sym e) limit, whole ∙ sym e)
 
-pub worlds_of : {E : Type 0} (known : Option Text) (text : Text) (r : Result (Snapshot ReplicaState) E)
-    → IsScriptOf known text → IfOk r (IsRunOf text) → IfOk r (IsLeftWorld known)
-worlds_of known text (Ok world) script h = (text, script, h)
-worlds_of known text (Err e) script h = tt
+-- what is so of the text that was read is so of the script
+pub of_script : {T E : Type 0} (P : Text → T → Type 0) (known : Option Text) (text : Text) (r : Result T E)
+    → IsScriptOf known text → IfOk r (P text) → IfOk r (λ x. (read : Text) × IsScriptOf known read × P read x)
+of_script P known text (Ok x) script h = (text, script, h)
+of_script P known text (Err e) script h = tt
 
 -- what stopped the text that was read is what stopped the script
 stop_of : (known : Option Text) (text : Text) (fault : RunFault) → IsScriptOf known text

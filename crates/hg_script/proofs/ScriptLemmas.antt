@@ -1,10 +1,18 @@
 -- Single events, single commands, and whole scripts as one run.
-use Rattle.std.proofs.Common.{◌≡◌, ℕ, List, [], ◌∷◌, Option, Some, None, IsSome, refl, sym, ap, subst, ◌∙◌}
+use Rattle.std.proofs.Common.{◌≡◌, ◌↔◌, ℕ, ◌+◌, List, [], ◌∷◌, ◌++◌, Option, Some, None, Bool, IsTrue, count_by}
+use Rattle.std.proofs.Common.{is_some}
+use Rattle.std.proofs.Common.{Result, Ok, Err, OnOk, IfOk, IsOkAnd}
+use Rattle.std.proofs.Common.{refl, sym, ap, subst, ◌∙◌}
+use Rattle.std.specs.Str.Lines.{lines}
+use Rattle.std.proofs.KnownBytes.{Appends-nil, Appends-trans}
+use Rattle.std.proofs.lemmas.List.{append-nil}
 use Rattle.std.specs.declared.vec.Vec.{Vec}
 use Rattle.std.specs.declared.alloc.Global.{Global}
 use mathlib.Core.Logic.{⊎_elim}
 use Rattle.hg_changeset.specs.declared.node.Node.{Node}
-use Rattle.hg_replica.specs.State.{ReplicaState}
+use Rattle.hg_replica.specs.State.{ReplicaState, IsValid, Below, IsSameState}
+use Rattle.hg_replica.specs.Content.{ContentBelow, content_of}
+use Rattle.hg_replica.proofs.ContentLemmas.{below_from_content, content-below}
 use Rattle.hg_replica.specs.Least.{PartValue}
 use Rattle.hg_history.specs.declared.fault.Fault.{Fault}
 use Rattle.hg_world.specs.Runs.{Snapshot, Happens}
@@ -13,12 +21,15 @@ use Rattle.hg_world.specs.declared.event.EventRefusal.{EventRefusal}
 use Rattle.hg_world.specs.declared.event.Answer.TheVariants.{Accepted, Offered, Refused}
 use Rattle.hg_peer.specs.declared.refusal.PeerRefusal.{PeerRefusal}
 use Rattle.hg_peer.specs.Words.{peer_state, peer_words}
-use Rattle.hg_script.specs.declared.command.Command.TheVariants.{Pull, Report, Agree}
+use Rattle.hg_script.specs.declared.command.Command.TheVariants.{Node as node, Pull, Report, Agree}
 use Rattle.hg_script.specs.declared.fleet.Fleet.{Fleet}
 use Rattle.hg_script.specs.Commands.{Text, Word}
 use Rattle.hg_script.specs.Events.{Trace, PeerEvent, PeerAnswer, no_trace, joined, Ran, IsTold, AreCommonAt, taken}
-use Rattle.hg_script.specs.Events.{HasTaken}
-use Rattle.hg_script.specs.Scripts.{places, node_named, IsDone, DoesWords, DoesLines}
+use Rattle.hg_script.specs.Outputs.{Printed}
+use Rattle.hg_script.specs.Printing.{answer_line, answer_lines, agree_line, IsDone, PrintsTaken, PrintsLines, PrintsRun}
+use Rattle.hg_script.specs.Reports.{IsReport}
+use Rattle.hg_script.specs.Scripts.{places, node_named, Does, DoesWords, DoesLines, IsNewFleet}
+use Rattle.hg_script.specs.Words.{has_node}
 
 -- two runs, one after the other, are one
 abbrev pub Compose : Type 0
@@ -72,33 +83,52 @@ taken_first taker (Accepted change) answers = refl
 taken_first taker (Offered number) answers = refl
 taken_first taker (Refused refusal) answers = refl
 
-pub has_taken : (old : Snapshot ReplicaState) (at number : ℕ) (offered answer : PeerAnswer)
-    (new : Snapshot ReplicaState) → offered ≡ Offered number → IsTold answer
-    → (part : Option PartValue) × Happens peer_state peer_words old (Take at number) answer part new
-    → HasTaken old at offered new
-has_taken old at number offered answer new e told (part, h) =
-    subst (λ (a : PeerAnswer). HasTaken old at a new) (sym e)
-    (one (Take at number) answer part, refl, one_ran old (Take at number) answer part new h, (told, tt))
+-- what is printed of an answer is what is printed of it alone
+pub one_line : (line : ℕ) (answer : PeerAnswer) → answer_line line answer ≡ answer_lines line (answer ∷ [])
+one_line line answer = sym (append-nil (answer_line line answer))
 
-pub takes_nothing : (old : Snapshot ReplicaState) (at : ℕ) (answer : PeerAnswer) → taken at (answer ∷ []) ≡ []
-    → HasTaken old at answer old
-takes_nothing old at answer e = (no_trace, sym e, refl, tt)
+-- what was printed of what an answer is was printed of the answer
+pub printed_answer : {V : Type 0} (contents : V → Option Text) (line : ℕ) (answer told : PeerAnswer)
+    (held : Option Text) (v w : V) → v ≡ w → answer ≡ told → Printed held (answer_line line told) (contents w)
+    → Printed held (answer_line line answer) (contents v)
+printed_answer {V} contents line answer told held v w same is grew =
+    subst (λ (u : V). Printed held (answer_line line answer) (contents u)) (sym same)
+    (subst (λ (a : PeerAnswer). Printed held (answer_line line a) (contents w)) (sym is) grew)
+
+pub has_taken : (line : ℕ) (old : Snapshot ReplicaState) (at number : ℕ) (offered answer : PeerAnswer)
+    (new : Snapshot ReplicaState) (held holds : Option Text) → offered ≡ Offered number → IsTold answer
+    → (part : Option PartValue) × Happens peer_state peer_words old (Take at number) answer part new
+    → Printed held (answer_line line answer) holds → PrintsTaken line old at offered new held holds
+has_taken line old at number offered answer new held holds e told (part, h) grew =
+    subst (λ (a : PeerAnswer). PrintsTaken line old at a new held holds) (sym e) (
+      one (Take at number) answer part,
+      refl,
+      one_ran old (Take at number) answer part new h,
+      (told, tt),
+      subst (λ (text : Text). Printed held text holds) (one_line line answer) grew,
+    )
+
+pub takes_nothing : (line : ℕ) (old : Snapshot ReplicaState) (at : ℕ) (answer : PeerAnswer) (held : Option Text)
+    → taken at (answer ∷ []) ≡ [] → PrintsTaken line old at answer old held held
+takes_nothing line old at answer held e = (no_trace, sym e, refl, tt, Appends-nil held)
 
 -- an event and what came of it, before others
 abbrev before : PeerEvent → PeerAnswer → Option PartValue → Trace → Trace
 before event answer part t = record { events = event ∷ t.events; answers = answer ∷ t.answers; parts = part ∷ t.parts }
 
 -- an offer, and then what the taker takes of it
-pub pulled : (old : Fleet) (to from : Word) (giver taker : ℕ) (common : Vec Node Global) (answer : PeerAnswer)
-    (mid : Snapshot ReplicaState) (new : Fleet)
+pub pulled : (line : ℕ) (old : Fleet) (to from : Word) (giver taker : ℕ) (common : Vec Node Global)
+    (answer : PeerAnswer) (mid : Snapshot ReplicaState) (new : Fleet) (held between holds : Option Text)
     → places old from.now ≡ Some giver → places old to.now ≡ Some taker → AreCommonAt old.world taker giver common.items
     → IsTold answer
     → (part : Option PartValue) × Happens peer_state peer_words old.world (Offer giver common) answer part mid
-    → HasTaken mid taker answer new.world → new.nodes ≡ old.nodes → new.labels ≡ old.labels
-    → new.messages ≡ old.messages → IsDone old (Pull to from) new
-pulled old to from giver taker common answer mid new at_from at_to heads told (part, h) (t, events, ran, others) nodes
-    labels messages = (
+    → Printed held (answer_line line answer) between → PrintsTaken line mid taker answer new.world between holds
+    → new.nodes ≡ old.nodes → new.labels ≡ old.labels → new.messages ≡ old.messages
+    → IsDone line old (Pull to from) new held holds
+pulled line old to from giver taker common answer mid new held between holds at_from at_to heads told (part, h) first
+    (t, events, ran, others, more) nodes labels messages = (
       before (Offer giver common) answer part t,
+      answer_line line answer ++ answer_lines line t.answers,
       record {
         asked = (
           giver,
@@ -113,6 +143,8 @@ pulled old to from giver taker common answer mid new at_from at_to heads told (p
         told = (told, others);
         named = (nodes, labels, messages);
       },
+      refl,
+      Appends-trans held between holds (answer_line line answer) (answer_lines line t.answers) first more,
     )
 
 -- an event, and then what came after it without an event
@@ -123,10 +155,77 @@ ran_after old mid new event answer (part, h) same = (one event answer part, (mid
 
 -- ---- commands that ask for no event
 
-pub reported : (f : Fleet) (at : Word) → IsSome (node_named f at.now) → IsDone f (Report at) f
-reported f at there = (no_trace, record { asked = (there, refl); ran = refl; told = tt; named = (refl, refl, refl) })
+-- a new node prints nothing
+pub added : {E : Type 0} (line : ℕ) (old : Fleet) (at : Word) (new : Fleet) (held : Option Text)
+    (r : Result (Unit {0}) E) → OnOk r (Does old (node at) no_trace new)
+    → OnOk r (IsDone line old (node at) new held held)
+added line old at new held (Ok x) does = (no_trace, [], does, refl, Appends-nil held)
+added line old at new held (Err e) does = tt
 
-pub agreed : (f : Fleet) (one other : Word) → IsSome (node_named f one.now) → IsSome (node_named f other.now)
-    → IsDone f (Agree one other) f
-agreed f one other there too =
-    (no_trace, record { asked = (there, too, refl); ran = refl; told = tt; named = (refl, refl, refl) })
+pub reported : (line : ℕ) (f : Fleet) (at : Word) (state : ReplicaState) (held holds : Option Text)
+    → node_named f at.now ≡ Some state → (text : Text) × IsReport at.now state text × Printed held text holds
+    → IsDone line f (Report at) f held holds
+reported line f at state held holds there (text, report, grew) = (
+  no_trace,
+  text,
+  record { asked = (ap is_some there, refl); ran = refl; told = tt; named = (refl, refl, refl) },
+  (state, there, report),
+  grew,
+)
+
+-- what is told of contents is told of states
+pub below_told : {E : Type 0} (s t : ReplicaState) (r : Result Bool E) → IsValid s → IsValid t
+    → IsOkAnd r (λ answer. IsTrue answer ↔ ContentBelow (content_of s) (content_of t))
+    → IfOk r (λ answer. IsTrue answer ↔ Below s t)
+below_told s t (Ok answer) v w told =
+    (λ h. below_from_content s t v (told.0 h), λ below. told.1 (content-below s t w below))
+below_told s t (Err e) v w told = tt
+
+pub agreed : (line : ℕ) (f : Fleet) (one other : Word) (first second : ReplicaState) (answer : Bool)
+    (held holds : Option Text) → node_named f one.now ≡ Some first → node_named f other.now ≡ Some second
+    → IsTrue answer ↔ IsSameState first second → Printed held (agree_line one.now other.now answer) holds
+    → IsDone line f (Agree one other) f held holds
+agreed line f one other first second answer held holds there too same grew = (
+  no_trace,
+  agree_line one.now other.now answer,
+  record {
+    asked = (ap is_some there, ap is_some too, refl);
+    ran = refl;
+    told = tt;
+    named = (refl, refl, refl);
+  },
+  (first, second, answer, there, too, same, refl),
+  grew,
+)
+
+-- ---- what lines print
+
+-- lines that print this are done
+pub does_printed : (number : ℕ) (old : Fleet) (ls : List Text) (t : Trace) (new : Fleet) (text : Text)
+    → PrintsLines number old ls t new text → DoesLines old ls t new
+does_printed number old [] t new text h = (h.0, h.1)
+does_printed number old (line ∷ ls) t new text (mid, here, later, first, rest, did, prints, more, e, same) =
+    (mid, here, later, did, does_printed (number + 1) mid ls later new rest more, e)
+
+-- what the lines of a script print, from a new fleet on, is what its run prints
+pub printed_run : Compose → (text : Text) (start : Fleet) (t : Trace) (end : Fleet) (output : Text)
+    (world : Snapshot ReplicaState) (held holds : Option Text) → IsNewFleet (count_by has_node (lines text)) start
+    → PrintsLines 1 start (lines text) t end output → Printed held output holds → world ≡ end.world
+    → PrintsRun text world held holds
+printed_run compose text start t end output world held holds new prints grew e =
+    let did = does_printed 1 start (lines text) t end output prints in
+    let ran = does_lines_ran compose start (lines text) t end did in
+    record {
+      run = record {
+        start = start;
+        is_new = new;
+        trace = t;
+        end = end;
+        did = did;
+        ended = sym e;
+        ran = subst (λ (w : Snapshot ReplicaState). Ran start.world t w) (sym e) ran;
+      };
+      output = output;
+      prints = prints;
+      printed = grew;
+    }

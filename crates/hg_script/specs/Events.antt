@@ -189,10 +189,6 @@ taken taker (Accepted change ∷ answers) = []
 taken taker (Offered number ∷ answers) = event.Take taker number ∷ []
 taken taker (Refused refusal ∷ answers) = []
 
--- the world ran what the taker takes, and it was done or refused by a printed number
-abbrev pub HasTaken : Snapshot ReplicaState → ℕ → PeerAnswer → Snapshot ReplicaState → Type 0
-HasTaken old taker answer new = (t : Trace) × (t.events ≡ taken taker (answer ∷ [])) × Ran old t new × AreTold t.answers
-
 -- how what the taker takes of an offer can end the script
 abbrev pub IsTakeFault : ℕ → Snapshot ReplicaState → ℕ → PeerAnswer → RunFault → Type 0
 IsTakeFault number world taker answer fault =

@@ -5,5 +5,8 @@ pub mod Events
 pub mod Faults
 pub mod Limits
 pub mod Names
+pub mod Outputs
+pub mod Printing
+pub mod Reports
 pub mod Scripts
 pub mod Words

@@ -116,10 +116,6 @@ pub record Does (old : Fleet) (command : Command) (t : Trace) (new : Fleet) : Ty
   pub told : AreTold t.answers
   pub named : AreNamed old command t new
 
--- the command is done
-abbrev pub IsDone : Fleet → Command → Fleet → Type 0
-IsDone old command new = (t : Trace) × Does old command t new
-
 -- a line of no words does nothing, and any other its command
 abbrev pub DoesWords : Fleet → List Word → Trace → Fleet → Type 0
 DoesWords old words t new =

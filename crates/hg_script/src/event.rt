@@ -4,6 +4,8 @@ ghost use Rattle.hg_replica.specs.Least.{PartValue};
 ghost use Rattle.hg_world.specs.Runs.{Happens};
 ghost use Rattle.hg_peer.specs.Words.{peer_state, peer_words};
 ghost use Rattle.hg_script.specs.Events.{IsTold, IsNowhere, IsUnknownWhere};
+ghost use Rattle.hg_script.specs.Outputs.{Printed};
+ghost use Rattle.hg_script.specs.Printing.{answer_line};
 
 use crate::fault::RunFault;
 use crate::output::print_refused;
@@ -34,13 +36,16 @@ pub fn run_event<W: Write>(
     ensures told { IfOk result IsTold }
     ensures happens { IfOk result (λ answer. (part : Option PartValue)
         × Happens peer_state peer_words world.old event answer part world.new) }
+    ensures printed { IfOk result (λ answer.
+        Printed (W.contents writer.old) (answer_line number answer) (W.contents writer.new)) }
     ensures fault { IfErr result (IsUnknownWhere number (IsNowhere world.old event)) }
     ensures unchanged { OnErr result (world.new ≡ world.old) }
 {
     let answer = run_one(world, event)?;
     match &answer {
         Answer::Refused(refusal) => print_refused(alloc, writer, number, refusal)?,
-        Answer::Accepted(_) | Answer::Offered(_) => {}
+        Answer::Accepted(_) => {}
+        Answer::Offered(_) => {}
     }
     Ok(answer)
 }

@@ -1,14 +1,17 @@
 //! What a script has made so far: a world of peers, and the names of these, of changesets and of messages.
 ghost use Rattle.std.specs.Prelude.{◌≡◌, ◌&&◌, ◌<◌, ◌∷◌, [], ◌⊎◌, ℕ, List, Some, None, map, IfOk, IfErr, OnOk, OnErr};
-ghost use Rattle.std.specs.Prelude.{is_none, slice_get};
+ghost use Rattle.std.specs.Prelude.{◌↔◌, IsTrue, is_none, slice_get};
 ghost use Rattle.std.specs.List.{list_all};
 ghost use Rattle.hg_graph.specs.Graph.{nodes};
+ghost use Rattle.hg_replica.specs.State.{Below, IsSameState};
 ghost use Rattle.hg_script.specs.Commands.{texts};
 ghost use Rattle.hg_script.specs.Endings.{AreLabelsFree, IsCommandFault, IsDecided, IsLeftBy, IsNodeFault};
 ghost use Rattle.hg_script.specs.Endings.{IsTakenFault};
-ghost use Rattle.hg_script.specs.Events.{AreCommonAt, HasTaken, IsTakeFault};
+ghost use Rattle.hg_script.specs.Events.{AreCommonAt, IsTakeFault, no_trace};
 ghost use Rattle.hg_script.specs.Names.{value_of};
-ghost use Rattle.hg_script.specs.Scripts.{AreLabelled, IsDone, IsKept, IsNewFleet, bound_to, each_may_name, ids};
+ghost use Rattle.hg_script.specs.Outputs.{Printed};
+ghost use Rattle.hg_script.specs.Printing.{IsDone, PrintsTaken, agree_line};
+ghost use Rattle.hg_script.specs.Scripts.{AreLabelled, Does, IsKept, IsNewFleet, bound_to, each_may_name, ids};
 ghost use Rattle.hg_script.specs.Scripts.{may_name, places};
 
 use crate::command::Command;
@@ -89,7 +92,8 @@ impl Fleet {
         command: Command<'_>,
         writer: &mut W,
     ) -> Result<(), RunFault>
-        ensures ok { OnOk result (IsDone self.old command.entry self.new) }
+        ensures ok { OnOk result (IsDone number self.old command.entry self.new
+            (W.contents writer.old) (W.contents writer.new)) }
         ensures err { IfErr result (λ fault. IsLeftBy number self.old command.entry fault self.new) }
     {
         match command {
@@ -107,7 +111,7 @@ impl Fleet {
 
     // A new node has the next place.
     fn add_node(&mut self, number: usize, at: &[u8]) -> Result<(), RunFault>
-        ensures ok { OnOk result (IsDone self.old (Command.Node at.entry) self.new) }
+        ensures ok { OnOk result (Does self.old (Command.Node at.entry) no_trace self.new) }
         ensures err { IfErr result (λ fault. IsLeftBy number self.old (Command.Node at.entry) fault self.new) }
     {
         let place = self.nodes.len();
@@ -127,7 +131,8 @@ impl Fleet {
         operation: Operation<'_>,
         writer: &mut W,
     ) -> Result<(), RunFault>
-        ensures ok { OnOk result (IsDone self.old (Command.Operation at.entry operation.entry) self.new) }
+        ensures ok { OnOk result (IsDone number self.old (Command.Operation at.entry operation.entry) self.new
+            (W.contents writer.old) (W.contents writer.new)) }
         ensures err { IfErr result
             (λ fault. IsLeftBy number self.old (Command.Operation at.entry operation.entry) fault self.new) }
     {
@@ -185,7 +190,8 @@ impl Fleet {
         labels: &[&[u8]],
         writer: &mut W,
     ) -> Result<(), RunFault>
-        ensures ok { OnOk result (IsDone self.old (Command.Offer at.entry message.entry labels.entry) self.new) }
+        ensures ok { OnOk result (IsDone number self.old (Command.Offer at.entry message.entry labels.entry) self.new
+            (W.contents writer.old) (W.contents writer.new)) }
         ensures err { IfErr result (λ fault.
             IsLeftBy number self.old (Command.Offer at.entry message.entry labels.entry) fault self.new) }
     {
@@ -215,7 +221,8 @@ impl Fleet {
         message: &[u8],
         writer: &mut W,
     ) -> Result<(), RunFault>
-        ensures ok { OnOk result (IsDone self.old (Command.Take at.entry message.entry) self.new) }
+        ensures ok { OnOk result (IsDone number self.old (Command.Take at.entry message.entry) self.new
+            (W.contents writer.old) (W.contents writer.new)) }
         ensures err { IfErr result
             (λ fault. IsLeftBy number self.old (Command.Take at.entry message.entry) fault self.new) }
     {
@@ -237,7 +244,8 @@ impl Fleet {
         from: &[u8],
         writer: &mut W,
     ) -> Result<(), RunFault>
-        ensures ok { OnOk result (IsDone self.old (Command.Pull to.entry from.entry) self.new) }
+        ensures ok { OnOk result (IsDone number self.old (Command.Pull to.entry from.entry) self.new
+            (W.contents writer.old) (W.contents writer.new)) }
         ensures err { IfErr result
             (λ fault. IsLeftBy number self.old (Command.Pull to.entry from.entry) fault self.new) }
     {
@@ -276,31 +284,25 @@ impl Fleet {
         other: &[u8],
         writer: &mut W,
     ) -> Result<(), RunFault>
-        ensures ok { OnOk result (IsDone self.now (Command.Agree one.entry other.entry) self.now) }
+        ensures ok { OnOk result (IsDone number self.now (Command.Agree one.entry other.entry) self.now
+            (W.contents writer.old) (W.contents writer.new)) }
         ensures err { IfErr result (IsCommandFault number self.now (Command.Agree one.entry other.entry)) }
     {
         let first = self.replica(number, self.place(number, one)?)?;
         let second = self.replica(number, self.place(number, other)?)?;
-        let answer: &[u8] = if first.below(second)? && second.below(first)? {
-            b": yes"
-        } else {
-            b": no"
-        };
-        let mut line = Vec::new(self.alloc);
-        line.extend_from_slice(b"agree ")?;
-        line.extend_from_slice(one)?;
-        line.extend_from_slice(b" ")?;
-        line.extend_from_slice(other)?;
-        line.extend_from_slice(answer)?;
-        print_line(writer, &mut line)
+        let answer = are_same(first, second)?;
+        print_agreement(self.alloc, one, other, answer, writer)?;
+        Ok(())
     }
 
     fn report<W: Write>(&self, number: usize, at: &[u8], writer: &mut W) -> Result<(), RunFault>
-        ensures ok { OnOk result (IsDone self.now (Command.Report at.entry) self.now) }
+        ensures ok { OnOk result (IsDone number self.now (Command.Report at.entry) self.now
+            (W.contents writer.old) (W.contents writer.new)) }
         ensures err { IfErr result (IsCommandFault number self.now (Command.Report at.entry)) }
     {
         let replica = self.replica(number, self.place(number, at)?)?;
-        print_report(self.alloc, at, replica, writer)
+        print_report(self.alloc, at, replica, writer)?;
+        Ok(())
     }
 
     // The place of the node with this name.
@@ -325,6 +327,45 @@ impl Fleet {
             None => Err(RunFault::Line(number, LineFault::UnknownName)),
         }
     }
+}
+
+// Whether two replicas are in the same state.
+fn are_same(first: &Replica, second: &Replica) -> Result<bool, NoMemory>
+    ensures { IfOk result (λ answer. IsTrue answer ↔ IsSameState first.now second.now) }
+{
+    Ok(is_below(first, second)? && is_below(second, first)?)
+}
+
+// Whether what the first replica holds the second holds too.
+fn is_below(first: &Replica, second: &Replica) -> Result<bool, NoMemory>
+    ensures { IfOk result (λ answer. IsTrue answer ↔ Below first.now second.now) }
+{
+    // They say that the replicas are in valid states.
+    let _graph = first.graph();
+    let _other = second.graph();
+    first.below(second)
+}
+
+// Writes the line that says whether the replicas of these names agree.
+fn print_agreement<W: Write>(
+    alloc: Global,
+    one: &[u8],
+    other: &[u8],
+    answer: bool,
+    writer: &mut W,
+) -> Result<(), RunFault>
+    ensures printed { OnOk result
+        (Printed (W.contents writer.old) (agree_line one.now other.now answer) (W.contents writer.new)) }
+    ensures err { IfErr result (λ fault. (fault ≡ RunFault.Write) ⊎ (fault ≡ RunFault.NoMemory)) }
+{
+    let answer: &[u8] = if answer { b": yes" } else { b": no" };
+    let mut line = Vec::new(alloc);
+    line.extend_from_slice(b"agree ")?;
+    line.extend_from_slice(one)?;
+    line.extend_from_slice(b" ")?;
+    line.extend_from_slice(other)?;
+    line.extend_from_slice(answer)?;
+    print_line(writer, &mut line)
 }
 
 // The part of the operation, if it isn't refused. Want of memory, which has no number, is no refusal.
@@ -448,7 +489,8 @@ fn take_offered<W: Write>(
     answer: &PeerAnswer,
     writer: &mut W,
 ) -> Result<(), RunFault>
-    ensures ok { OnOk result (HasTaken world.old at answer.now world.new) }
+    ensures ok { OnOk result (PrintsTaken number world.old at answer.now world.new
+        (W.contents writer.old) (W.contents writer.new)) }
     ensures err { IfErr result (IsTakeFault number world.old at answer.now) }
     ensures unchanged { OnErr result (world.new ≡ world.old) }
 {

@@ -28,4 +28,5 @@ mod steps;
 pub use counted::CountedRead;
 pub use fault::{LineFault, RunFault};
 pub use limits::{LINE_LIMIT, NAME_LIMIT, SCRIPT_LIMIT, limits_are_those_of_the_format};
+pub use output::printed_lines_are_those_of_the_format;
 pub use script::{run_counted, run_fleet, run_script};

@@ -1,18 +1,45 @@
 //! Printing: one write for each line, its LF included.
-ghost use Rattle.std.specs.Prelude.{◌≡◌, ◌⊎◌, IfErr, OnOk, IsSome};
+ghost use Rattle.std.specs.Prelude.{◌≡◌, ◌⊎◌, [], ◌∷◌, ◌++◌, IfErr, IfSome, OnOk, IsSome, Some, codes, true, false};
 ghost use Rattle.hg_script.specs.Events.{HasNumber, IsAbsence, IsUnknownWhere};
+ghost use Rattle.hg_script.specs.Outputs.{Printed};
+ghost use Rattle.hg_script.specs.Printing.{agree_line, refusal_line, refused_line, refusing_word};
+ghost use Rattle.hg_script.specs.Reports.{heading, line_of, row_line, totals};
 
 use crate::fault::{LineFault, RunFault};
 use hg_history::Fault;
 use hg_peer::PeerRefusal;
+use hg_phases::Phase;
 use hg_world::EventRefusal;
 use std::alloc::Global;
 use std::fmt::Display;
 use std::io::Write;
 
+/// What the definitions of printed lines give: a refusal, whether two replicas agree, and rows of a report.
+pub fn printed_lines_are_those_of_the_format()
+    ensures refusal { refusal_line 4 (codes "rewrite") (Some 1) (codes "Unknown")
+        ≡ codes "4: rewrite 1 Unknown" ++ 10 ∷ [] }
+    ensures replica { refused_line 12 (EventRefusal.ByState Fault.NullBound)
+        ≡ codes "12: replica 4 NullBound" ++ 10 ∷ [] }
+    ensures agrees { agree_line (codes "A") (codes "B") true ≡ codes "agree A B: yes" ++ 10 ∷ [] }
+    ensures differs { agree_line (codes "A") (codes "B") false ≡ codes "agree A B: no" ++ 10 ∷ [] }
+    ensures heading { heading (codes "A") ≡ codes "report A" ++ 10 ∷ [] }
+    ensures row { row_line (codes "b") Phase.Draft (record {
+      obsolete = true;
+      suspended = true;
+      extinct = false;
+      orphan = false;
+      phase_divergent = false;
+      content_divergent = false;
+      hidden = false;
+    }) ≡ codes "b draft obsolete suspended" ++ 10 ∷ [] }
+    ensures totals { totals 4 1 ≡ codes "4 changesets 1 markers" ++ 10 ∷ [] }
+{}
+
 /// Writes a line, and empties it for the next one.
 pub fn print_line<W: Write>(writer: &mut W, line: &mut Vec<u8>) -> Result<(), RunFault>
-    ensures { IfErr result (λ fault. (fault ≡ RunFault.Write) ⊎ (fault ≡ RunFault.NoMemory)) }
+    ensures printed { OnOk result (Printed (W.contents writer.old) (line_of line.old.items) (W.contents writer.new)) }
+    ensures emptied { OnOk result (line.new.items ≡ []) }
+    ensures err { IfErr result (λ fault. (fault ≡ RunFault.Write) ⊎ (fault ≡ RunFault.NoMemory)) }
 {
     line.push(b'\n')?;
     match writer.write_all(line) {
@@ -25,14 +52,16 @@ pub fn print_line<W: Write>(writer: &mut W, line: &mut Vec<u8>) -> Result<(), Ru
 
 /// Writes the line that says which refusal the line with this number met. Want of memory, which has no number, ends the
 /// script instead.
-pub fn print_refusal<W: Write>(
+pub fn print_refusal<W: Write, D: Display>(
     alloc: Global,
     writer: &mut W,
     line: usize,
     word: &str,
     number: Option<u8>,
-    name: &impl Display,
+    name: &D,
 ) -> Result<(), RunFault>
+    ensures printed { OnOk result (IfSome (D.output name.now) (λ name.
+        Printed (W.contents writer.old) (refusal_line line word.now number name) (W.contents writer.new))) }
     ensures ok { OnOk result (IsSome number) }
     ensures err { IfErr result (λ fault. (fault ≡ RunFault.Write) ⊎ (fault ≡ RunFault.NoMemory)) }
 {
@@ -52,6 +81,8 @@ pub fn print_refused<W: Write>(
     line: usize,
     refusal: &EventRefusal<PeerRefusal, Fault>,
 ) -> Result<(), RunFault>
+    ensures printed { OnOk result
+        (Printed (W.contents writer.old) (refused_line line refusal.now) (W.contents writer.new)) }
     ensures ok { OnOk result (HasNumber refusal.now) }
     ensures err { IfErr result (IsUnknownWhere line (IsAbsence refusal.now)) }
 {
@@ -70,7 +101,9 @@ pub fn print_refused<W: Write>(
 }
 
 // What refuses: an operation, an offer or the bytes of a message.
-fn word_of(refusal: PeerRefusal) -> &'static str {
+fn word_of(refusal: PeerRefusal) -> &'static str
+    ensures { result.now ≡ refusing_word refusal }
+{
     match refusal {
         PeerRefusal::Rewrite(_) => "rewrite",
         PeerRefusal::Offer(_) => "offer",

@@ -1,5 +1,15 @@
 //! The report of a replica: its changesets, what each is, and how many there are.
-ghost use Rattle.std.specs.Prelude.{◌≡◌, ◌⊎◌, IfErr};
+ghost use Rattle.std.specs.Prelude.{◌≡◌, ◌≤◌, ◌<◌, ◌-◌, ◌==◌, ◌↔◌, ◌⊎◌, ◌++◌, [], List, IfOk, IfErr, OnOk, IsTrue, All};
+ghost use Rattle.std.specs.Prelude.{Contains, codes, length, not};
+ghost use Rattle.std.specs.List.{suffix_len};
+ghost use Rattle.hg_history.specs.Content.{IsHeld};
+ghost use Rattle.hg_phases.specs.State.{changesets};
+ghost use Rattle.hg_replica.specs.Content.{Content, content_of};
+ghost use Rattle.hg_script.specs.Commands.{Text, phase_word};
+ghost use Rattle.hg_script.specs.Outputs.{Printed};
+ghost use Rattle.hg_script.specs.Reports.{AreRowLines, AreRows, AreWordsOf, IsReport, IsRowLine, IsStanding};
+ghost use Rattle.hg_script.specs.Reports.{RowValue, heading, label_of, row_values, rows_from, text_where, totals};
+ghost use Rattle.hg_script.specs.Reports.{with_words};
 
 use crate::fault::RunFault;
 use crate::output::print_line;
@@ -29,35 +39,68 @@ impl Drop for Standing {
 }
 
 impl Standing {
-    fn of(alloc: Global, replica: &Replica) -> Result<Standing, AllocError> {
+    fn of(alloc: Global, replica: &Replica) -> Result<Standing, AllocError>
+        ensures { IfOk result (IsStanding (content_of replica.now)) }
+    {
         Ok(Standing {
             instabilities: Instabilities::from_scratch(alloc, replica)?,
             visible: visible(alloc, replica)?,
         })
     }
 
-    // Appends the words that hold of a changeset of the replica, in the order in which a report has them.
-    fn push_words(&self, line: &mut Vec<u8>, node: &Node) -> Result<(), AllocError> {
+    // The words that hold of a changeset of the replica.
+    fn words_of(&self, node: &Node) -> RowWords
+        ensures { (f : Content) → IsStanding f self.now → IsHeld f.0 node.now → AreWordsOf f node.now result }
+    {
         let sets = &self.instabilities;
-        push_where(line, sets.obsolete().contains(node), b" obsolete")?;
-        push_where(line, sets.suspended().contains(node), b" suspended")?;
-        push_where(line, sets.extinct().contains(node), b" extinct")?;
-        push_where(line, sets.orphan().contains(node), b" orphan")?;
-        push_where(
-            line,
-            sets.phase_divergent().contains(node),
-            b" phase-divergent",
-        )?;
-        push_where(
-            line,
-            sets.content_divergent().contains(node),
-            b" content-divergent",
-        )?;
-        push_where(line, !self.visible.contains(node), b" hidden")
+        RowWords {
+            obsolete: is_among(sets.obsolete(), node),
+            suspended: is_among(sets.suspended(), node),
+            extinct: is_among(sets.extinct(), node),
+            orphan: is_among(sets.orphan(), node),
+            phase_divergent: is_among(sets.phase_divergent(), node),
+            content_divergent: is_among(sets.content_divergent(), node),
+            hidden: !is_among(&self.visible, node),
+        }
     }
 }
 
-fn push_where(line: &mut Vec<u8>, is_so: bool, word: &[u8]) -> Result<(), AllocError> {
+fn is_among(set: &BTreeSet<Node>, node: &Node) -> bool
+    ensures { IsTrue result ↔ Contains set.now.keys node.now }
+{
+    set.contains(node)
+}
+
+// Which words hold of a changeset.
+#[derive(Clone, Copy)]
+struct RowWords {
+    obsolete: bool,
+    suspended: bool,
+    extinct: bool,
+    orphan: bool,
+    phase_divergent: bool,
+    content_divergent: bool,
+    hidden: bool,
+}
+
+impl RowWords {
+    // Appends the words, in the order in which a report has them.
+    fn push(self, line: &mut Vec<u8>) -> Result<(), AllocError>
+        ensures { OnOk result (line.new.items ≡ with_words line.old.items self) }
+    {
+        push_where(line, self.obsolete, b" obsolete")?;
+        push_where(line, self.suspended, b" suspended")?;
+        push_where(line, self.extinct, b" extinct")?;
+        push_where(line, self.orphan, b" orphan")?;
+        push_where(line, self.phase_divergent, b" phase-divergent")?;
+        push_where(line, self.content_divergent, b" content-divergent")?;
+        push_where(line, self.hidden, b" hidden")
+    }
+}
+
+fn push_where(line: &mut Vec<u8>, is_so: bool, word: &[u8]) -> Result<(), AllocError>
+    ensures { OnOk result (line.new.items ≡ line.old.items ++ text_where is_so word.now) }
+{
     if is_so {
         line.extend_from_slice(word)?;
     }
@@ -68,24 +111,46 @@ fn push_where(line: &mut Vec<u8>, is_so: bool, word: &[u8]) -> Result<(), AllocE
 type Row<'a> = (&'a [u8], usize);
 
 // The label of a changeset: its description, which is the last line of its text.
-fn label_of(changeset: &Changeset) -> &[u8] {
+fn label_of(changeset: &Changeset) -> &[u8]
+    ensures { result.now ≡ label_of changeset.now }
+{
     let text = changeset.text();
-    match text.iter().rposition(|byte| *byte == b'\n') {
-        Some(end) => &text[end + 1..],
-        None => text,
+    &text[start_of_last_line(text)..]
+}
+
+// Where what follows the last LF begins.
+fn start_of_last_line(text: &[u8]) -> usize
+    ensures start { result ≡ length text.now - suffix_len (λ b. not (b == 10)) text.now }
+    ensures within { result ≤ length text.now }
+{
+    let mut start = text.len();
+    while start > 0 && text[start - 1] != b'\n' {
+        start -= 1;
     }
+    start
 }
 
 // The replica's changesets in byte order of their labels.
-fn rows<'a>(alloc: Global, replica: &'a Replica) -> Result<Vec<Row<'a>>, AllocError> {
+fn rows<'a>(alloc: Global, replica: &'a Replica) -> Result<Vec<Row<'a>>, AllocError>
+    ensures { IfOk result (λ rows. AreRows replica.now (row_values rows.items)) }
+{
+    let mut rows = rows_by_place(alloc, replica)?;
+    rows.sort_unstable();
+    Ok(rows)
+}
+
+// The replica's changesets in the order of their places.
+fn rows_by_place<'a>(alloc: Global, replica: &'a Replica) -> Result<Vec<Row<'a>>, AllocError>
+    ensures { IfOk result (λ rows. row_values rows.items ≡ rows_from 0 (changesets replica.now.history)) }
+{
     let graph = replica.graph();
     let mut rows = Vec::with_capacity(alloc, graph.len())?;
     for place in 0..graph.len() {
-        if let Some(changeset) = graph.changeset_at(place) {
-            rows.push((label_of(changeset), place))?;
+        match graph.changeset_at(place) {
+            Some(changeset) => rows.push((label_of(changeset), place))?,
+            None => {}
         }
     }
-    rows.sort_unstable();
     Ok(rows)
 }
 
@@ -99,18 +164,46 @@ pub fn print_report<W: Write>(
     replica: &Replica,
     writer: &mut W,
 ) -> Result<(), RunFault>
-    ensures { IfErr result (λ fault. (fault ≡ RunFault.Write) ⊎ (fault ≡ RunFault.NoMemory)) }
+    ensures printed { OnOk result ((text : Text) × IsReport name.now replica.now text
+        × Printed (W.contents writer.old) text (W.contents writer.new)) }
+    ensures err { IfErr result (λ fault. (fault ≡ RunFault.Write) ⊎ (fault ≡ RunFault.NoMemory)) }
 {
     let mut line = Vec::new(alloc);
+    print_heading(name, &mut line, writer)?;
+    print_changesets(alloc, replica, &mut line, writer)?;
+    print_totals(alloc, replica, &mut line, writer)?;
+    Ok(())
+}
+
+// Prints the line of the replica's name, by means of the empty line that is lent.
+fn print_heading<W: Write>(name: &[u8], line: &mut Vec<u8>, writer: &mut W) -> Result<(), RunFault>
+    requires { line.old.items ≡ [] }
+    ensures printed { OnOk result (Printed (W.contents writer.old) (heading name.now) (W.contents writer.new)) }
+    ensures emptied { OnOk result (line.new.items ≡ []) }
+    ensures err { IfErr result (λ fault. (fault ≡ RunFault.Write) ⊎ (fault ≡ RunFault.NoMemory)) }
+{
     line.extend_from_slice(b"report ")?;
     line.extend_from_slice(name)?;
-    print_line(writer, &mut line)?;
-    print_changesets(alloc, replica, &mut line, writer)?;
+    print_line(writer, line)
+}
+
+// Prints how many changesets and markers the replica holds, by means of the empty line that is lent.
+fn print_totals<W: Write>(
+    alloc: Global,
+    replica: &Replica,
+    line: &mut Vec<u8>,
+    writer: &mut W,
+) -> Result<(), RunFault>
+    requires { line.old.items ≡ [] }
+    ensures printed { OnOk result (Printed (W.contents writer.old)
+        (totals (length (changesets replica.now.history)) (length replica.now.markers)) (W.contents writer.new)) }
+    ensures err { IfErr result (λ fault. (fault ≡ RunFault.Write) ⊎ (fault ≡ RunFault.NoMemory)) }
+{
     let changesets = replica.graph().len();
     let markers = replica.store().len();
     let text = format!(in alloc; "{changesets} changesets {markers} markers")?;
     line.extend_from_slice(text.as_bytes())?;
-    print_line(writer, &mut line)
+    print_line(writer, line)
 }
 
 // Prints a line for each changeset of the replica, by means of the empty line that is lent.
@@ -120,23 +213,69 @@ fn print_changesets<W: Write>(
     line: &mut Vec<u8>,
     writer: &mut W,
 ) -> Result<(), RunFault>
-    ensures { IfErr result (λ fault. (fault ≡ RunFault.Write) ⊎ (fault ≡ RunFault.NoMemory)) }
+    requires { line.old.items ≡ [] }
+    ensures printed { OnOk result ((rows : List RowValue) × (text : Text) × AreRows replica.now rows
+        × AreRowLines replica.now rows text × Printed (W.contents writer.old) text (W.contents writer.new)) }
+    ensures emptied { OnOk result (line.new.items ≡ []) }
+    ensures err { IfErr result (λ fault. (fault ≡ RunFault.Write) ⊎ (fault ≡ RunFault.NoMemory)) }
 {
     let standing = Standing::of(alloc, replica)?;
     let rows = rows(alloc, replica)?;
-    let graph = replica.graph();
-    for (label, place) in &rows {
-        if let (Some(node), Some(phase)) = (graph.node_at(*place), replica.phase_at(*place)) {
-            line.extend_from_slice(*label)?;
-            line.extend_from_slice(phase_word(phase))?;
-            standing.push_words(line, &node)?;
-            print_line(writer, line)?;
-        }
+    print_rows(replica, &standing, &rows, line, writer)?;
+    Ok(())
+}
+
+// Prints the lines of the rows, by means of the empty line that is lent.
+fn print_rows<W: Write>(
+    replica: &Replica,
+    standing: &Standing,
+    rows: &[Row<'_>],
+    line: &mut Vec<u8>,
+    writer: &mut W,
+) -> Result<(), RunFault>
+    requires empty { line.old.items ≡ [] }
+    requires standing { IsStanding (content_of replica.now) standing.now }
+    requires places { All (λ row. row.1 < length (changesets replica.now.history)) rows.now }
+    ensures printed { OnOk result ((text : Text) × AreRowLines replica.now (row_values rows.now) text
+        × Printed (W.contents writer.old) text (W.contents writer.new)) }
+    ensures emptied { OnOk result (line.new.items ≡ []) }
+    ensures err { IfErr result (λ fault. (fault ≡ RunFault.Write) ⊎ (fault ≡ RunFault.NoMemory)) }
+{
+    for (label, place) in rows {
+        print_row(replica, standing, *label, *place, line, writer)?;
     }
     Ok(())
 }
 
-fn phase_word(phase: Phase) -> &'static [u8] {
+// Prints the line of the changeset with this label at this place, by means of the empty line that is lent.
+fn print_row<W: Write>(
+    replica: &Replica,
+    standing: &Standing,
+    label: &[u8],
+    place: usize,
+    line: &mut Vec<u8>,
+    writer: &mut W,
+) -> Result<(), RunFault>
+    requires empty { line.old.items ≡ [] }
+    requires standing { IsStanding (content_of replica.now) standing.now }
+    requires place { place < length (changesets replica.now.history) }
+    ensures printed { OnOk result ((text : Text) × IsRowLine replica.now (label.now, place) text
+        × Printed (W.contents writer.old) text (W.contents writer.new)) }
+    ensures emptied { OnOk result (line.new.items ≡ []) }
+    ensures err { IfErr result (λ fault. (fault ≡ RunFault.Write) ⊎ (fault ≡ RunFault.NoMemory)) }
+{
+    let node = replica.graph().node_at(place).unwrap();
+    let phase = replica.phase_at(place).unwrap();
+    line.extend_from_slice(label)?;
+    line.extend_from_slice(phase_word(phase))?;
+    standing.words_of(&node).push(line)?;
+    print_line(writer, line)?;
+    Ok(())
+}
+
+fn phase_word(phase: Phase) -> &'static [u8]
+    ensures { result.now ≡ codes " " ++ phase_word phase }
+{
     match phase {
         Phase::Public => b" public",
         Phase::Draft => b" draft",

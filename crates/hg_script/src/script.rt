@@ -3,10 +3,13 @@ ghost use Rattle.std.specs.Prelude.{◌≡◌, ◌≤◌, ◌<◌, ◌+◌, ◌�
 ghost use Rattle.std.specs.Str.Lines.{lines};
 ghost use Rattle.hg_replica.specs.State.{ReplicaState};
 ghost use Rattle.hg_world.specs.Runs.{Snapshot};
+ghost use Rattle.hg_script.specs.Commands.{Text};
 ghost use Rattle.hg_script.specs.Events.{Trace};
 ghost use Rattle.hg_script.specs.Endings.{EndsAt, IsLeftWorld, IsStop, IsStoppedBy, StopsAmong};
 ghost use Rattle.hg_script.specs.Limits.{script_limit};
-ghost use Rattle.hg_script.specs.Scripts.{DoesLine, DoesLines, IsRunOf};
+ghost use Rattle.hg_script.specs.Outputs.{Printed};
+ghost use Rattle.hg_script.specs.Printing.{PrintsLine, PrintsLines, PrintsRun, PrintsScript};
+ghost use Rattle.hg_script.specs.Scripts.{DoesLine, IsRunOf};
 
 use crate::counted::{Counted, CountedRead};
 use crate::fault::{LineFault, RunFault};
@@ -31,6 +34,8 @@ pub fn run_script<R: CountedRead, W: Write>(
     writer: &mut W,
 ) -> Result<(), RunFault>
     ensures ran { OnOk result ((world : Snapshot ReplicaState) × IsLeftWorld (R.remaining reader.old) world) }
+    ensures printed { OnOk result ((world : Snapshot ReplicaState)
+        × PrintsScript (R.remaining reader.old) world (W.contents writer.old) (W.contents writer.new)) }
     ensures stopped { IfErr result (IsStop (R.remaining reader.old)) }
     ensures reads { R.reads reader.new ≤ R.reads reader.old + (script_limit + 1) }
 {
@@ -47,6 +52,8 @@ pub fn run_fleet<R: CountedRead, W: Write>(
     writer: &mut W,
 ) -> Result<World<Peer>, RunFault>
     ensures ran { IfOk result (IsLeftWorld (R.remaining reader.old)) }
+    ensures printed { IfOk result (λ world.
+        PrintsScript (R.remaining reader.old) world (W.contents writer.old) (W.contents writer.new)) }
     ensures stopped { IfErr result (IsStop (R.remaining reader.old)) }
     ensures reads { R.reads reader.new ≤ R.reads reader.old + (script_limit + 1) }
 {
@@ -61,6 +68,8 @@ pub fn run_counted<R: Read + Drop, W: Write>(
     writer: &mut W,
 ) -> Result<(), RunFault>
     ensures ran { OnOk result ((world : Snapshot ReplicaState) × IsLeftWorld (R.remaining reader) world) }
+    ensures printed { OnOk result ((world : Snapshot ReplicaState)
+        × PrintsScript (R.remaining reader) world (W.contents writer.old) (W.contents writer.new)) }
     ensures stopped { IfErr result (IsStop (R.remaining reader)) }
 {
     count_and_run::<R, W, Brand>(alloc, reader, writer, Blank::new(1))
@@ -76,6 +85,8 @@ fn count_and_run<R: Read + Drop, W: Write, L: Ledger>(
     requires parts { blank.parts ≡ L.parts }
     requires some { 0 < blank.parts }
     ensures ran { OnOk result ((world : Snapshot ReplicaState) × IsLeftWorld (R.remaining reader) world) }
+    ensures printed { OnOk result ((world : Snapshot ReplicaState)
+        × PrintsScript (R.remaining reader) world (W.contents writer.old) (W.contents writer.new)) }
     ensures stopped { IfErr result (IsStop (R.remaining reader)) }
 {
     let mut counted = Counted::<R, L>::new(reader, blank);
@@ -84,6 +95,8 @@ fn count_and_run<R: Read + Drop, W: Write, L: Ledger>(
 
 fn run_text<W: Write>(alloc: Global, text: &[u8], writer: &mut W) -> Result<World<Peer>, RunFault>
     ensures ran { IfOk result (IsRunOf text.now) }
+    ensures printed { IfOk result (λ world.
+        PrintsRun text.now world (W.contents writer.old) (W.contents writer.new)) }
     ensures stopped { IfErr result (λ fault. (fault ≡ RunFault.NoMemory) ⊎ IsStoppedBy text.now fault) }
 {
     let mut fleet = Fleet::new(alloc, count_nodes(text))?;
@@ -98,7 +111,9 @@ fn run_lines<W: Write>(
     text: &[u8],
     writer: &mut W,
 ) -> Result<(), RunFault>
-    ensures done { OnOk result ((t : Trace) × DoesLines fleet.old (lines text.now) t fleet.new) }
+    ensures done { OnOk result ((t : Trace) × (output : Text)
+        × PrintsLines 1 fleet.old (lines text.now) t fleet.new output
+        × Printed (W.contents writer.old) output (W.contents writer.new)) }
     ensures stopped { IfErr result (StopsAmong fleet.old (lines text.now)) }
 {
     let mut rest = text;
@@ -119,7 +134,9 @@ fn run_line<W: Write>(
     line: &[u8],
     writer: &mut W,
 ) -> Result<(), RunFault>
-    ensures done { OnOk result ((t : Trace) × DoesLine fleet.old line.now t fleet.new) }
+    ensures done { OnOk result ((t : Trace) × (output : Text) × DoesLine fleet.old line.now t fleet.new
+        × PrintsLine number fleet.old line.now t output
+        × Printed (W.contents writer.old) output (W.contents writer.new)) }
     ensures stopped { IfErr result (EndsAt number fleet.old line.now) }
 {
     if !is_short(line) {

@@ -5,8 +5,8 @@ use Rattle.hg_script.proofs.fleet.take_offered.Goals as goal
 
 pub returns-in_ok-run_event-in-Offered-clause-ok : goal.returns-in_ok-run_event-in-Offered-clause-ok
 returns-in_ok-run_event-in-Offered-clause-ok g c =
-    has_taken _ _ _ _ _ _ c.in-Offered.is c.in_ok-run_event-in-Offered.ensures.told
-    c.in_ok-run_event-in-Offered.ensures.happens
+    has_taken _ _ _ _ _ _ _ _ _ c.in-Offered.is c.in_ok-run_event-in-Offered.ensures.told
+    c.in_ok-run_event-in-Offered.ensures.happens c.in_ok-run_event-in-Offered.ensures.printed
 
 pub returns-in_err-run_event-in-Offered-clause-err : goal.returns-in_err-run_event-in-Offered-clause-err
 returns-in_err-run_event-in-Offered-clause-err g c =
@@ -14,7 +14,7 @@ returns-in_err-run_event-in-Offered-clause-err g c =
     rw (p.1, p.2) (c.in-Offered.message, c.in-Offered.is, c.in_err-run_event-in-Offered.ensures.fault)
 
 pub returns-in-Accepted-clause-ok : goal.returns-in-Accepted-clause-ok
-returns-in-Accepted-clause-ok g c = takes_nothing _ _ _ (rw c.in-Accepted.is refl)
+returns-in-Accepted-clause-ok g c = takes_nothing _ _ _ _ _ (rw c.in-Accepted.is refl)
 
 pub returns-in-Refused-clause-ok : goal.returns-in-Refused-clause-ok
-returns-in-Refused-clause-ok g c = takes_nothing _ _ _ (rw c.in-Refused.is refl)
+returns-in-Refused-clause-ok g c = takes_nothing _ _ _ _ _ (rw c.in-Refused.is refl)

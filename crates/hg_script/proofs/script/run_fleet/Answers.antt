@@ -1,5 +1,10 @@
 use Rattle.std.proofs.lemmas.Result.{err_from_is_err_and}
-use Rattle.hg_script.proofs.EndingLemmas.{input_stop, script_of, stops_of, worlds_of}
+use Rattle.hg_replica.specs.State.{ReplicaState}
+use Rattle.hg_world.specs.Runs.{Snapshot}
+use Rattle.hg_script.specs.Commands.{Text}
+use Rattle.hg_script.specs.Printing.{PrintsRun}
+use Rattle.hg_script.specs.Scripts.{IsRunOf}
+use Rattle.hg_script.proofs.EndingLemmas.{input_stop, script_of, stops_of, of_script}
 use Rattle.hg_script.proofs.script.run_fleet.Goals as goal
 
 pub returns-in_err-text-clause-stopped : goal.returns-in_err-text-clause-stopped
@@ -9,9 +14,17 @@ returns-in_err-text-clause-stopped g c =
 
 pub returns-clause-ran : goal.returns-clause-ran
 returns-clause-ran g c =
-    worlds_of _ _ c.run_text.result
+    of_script IsRunOf _ _ c.run_text.result
     (script_of _ _ _ c.deref.ensures.value c.in_ok-text.ensures.limit c.in_ok-text.ensures.whole)
     c.run_text.ensures.ran
+
+pub returns-clause-printed : goal.returns-clause-printed
+returns-clause-printed g c =
+    let held = g.W.Write.contents c.args.writer.now in
+    let holds = g.W.Write.contents c.run_text.new.writer in
+    of_script (λ (text : Text) (world : Snapshot ReplicaState). PrintsRun text world held holds) _ _ c.run_text.result
+    (script_of _ _ _ c.deref.ensures.value c.in_ok-text.ensures.limit c.in_ok-text.ensures.whole)
+    c.run_text.ensures.printed
 
 pub returns-clause-stopped : goal.returns-clause-stopped
 returns-clause-stopped g c =

@@ -1,4 +1,5 @@
-use Rattle.std.proofs.Common.{map, refl, ap, ◌∙◌, inl}
+use Rattle.std.proofs.Common.{[], map, refl, sym, ap, ◌∙◌, inl, inr}
+use Rattle.std.proofs.KnownBytes.{Appends-nil}
 use Rattle.std.proofs.lemmas.Result.{err_from_is_err_and}
 use Rattle.hg_script.specs.Commands.{Word}
 use Rattle.hg_script.specs.Endings.{HasWords, Says}
@@ -15,17 +16,29 @@ returns-in_err-words-clause-stopped g c =
     rw (p.1, p.2) (c.is_short.ensures.0 c.if-not-is_short.false)
 
 pub returns-in-Ok-None-clause-done : goal.returns-in-Ok-None-clause-done
-returns-in-Ok-None-clause-done g c = (
-  no_trace,
-  (
-    c.is_short.ensures.0 c.if-not-is_short.false,
-    (
-      c.deref.result.now,
-      ap (map (λ (w : Word). w.now)) c.deref.ensures.value ∙ c.in_ok-words.ensures,
-      inl (rw c.in-Ok-None.field-0-is at c.in-Ok-None.ensures, refl, refl),
-    ),
-  ),
-)
+returns-in-Ok-None-clause-done g c =
+    let mapped = ap (map (λ (w : Word). w.now)) c.deref.ensures.value ∙ c.in_ok-words.ensures in
+    let none = rw c.in-Ok-None.field-0-is at c.in-Ok-None.ensures in (
+      no_trace,
+      [],
+      (c.is_short.ensures.0 c.if-not-is_short.false, (c.deref.result.now, mapped, inl (none, refl, refl))),
+      inl (sym mapped ∙ ap (map (λ (w : Word). w.now)) none, refl),
+      Appends-nil _,
+    )
+
+pub returns-clause-done : goal.returns-clause-done
+returns-clause-done g c =
+    let short = c.is_short.ensures.0 c.if-not-is_short.false in
+    let mapped = ap (map (λ (w : Word). w.now)) c.deref.ensures.value ∙ c.in_ok-words.ensures in
+    let command = c.in-Ok-Some.command in
+    let says = rw c.in-Ok-Some.field-0-is at c.in-Ok-Some.ensures in
+    let d = c.in_ok-execute.ensures.ok in (
+      d.0,
+      d.1,
+      (short, (c.deref.result.now, mapped, inr (command, says, d.2))),
+      inr (command, (c.deref.result.now, (short, mapped), says), d.3),
+      d.4,
+    )
 
 pub returns-in-Err-clause-stopped : goal.returns-in-Err-clause-stopped
 returns-in-Err-clause-stopped g c =

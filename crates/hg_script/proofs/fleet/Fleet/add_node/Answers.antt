@@ -22,4 +22,4 @@ returns-clause-ok c =
     let taken = unbound c.bound.result (sym c.is_some.ensures ∙ c.if-is_some.false) in
     let binds = subst (λ (n : ℕ). Binds old.nodes c.args.at.now n c.bind.new.names) c.len-place.ensures.len
     c.in_ok-bind.ensures in
-    (no_trace, record { asked = refl; ran = refl; told = tt; named = (sym c.bound.ensures ∙ taken, binds, refl, refl) })
+    record { asked = refl; ran = refl; told = tt; named = (sym c.bound.ensures ∙ taken, binds, refl, refl) }

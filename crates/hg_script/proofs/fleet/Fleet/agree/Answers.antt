@@ -1,5 +1,5 @@
 use Rattle.std.proofs.Common.{Some}
-use Rattle.hg_script.proofs.EndingLemmas.{is_there, node_from_place, told_done}
+use Rattle.hg_script.proofs.EndingLemmas.{node_from_place}
 use Rattle.hg_script.proofs.ScriptLemmas.{agreed}
 use Rattle.hg_script.proofs.fleet.Fleet.agree.Goals as goal
 
@@ -10,4 +10,5 @@ returns-clause-ok g c =
     c.in_ok-first.ensures.ok in
     let other = node_from_place self c.args.other.now _ (Some c.in_ok-second.second.now) c.in_ok-place-2.ensures.ok
     c.in_ok-second.ensures.ok in
-    told_done c.print_line.result _ (agreed self c.args.one c.args.other (is_there _ _ one) (is_there _ _ other))
+    agreed c.args.number self c.args.one c.args.other c.in_ok-first.first.now c.in_ok-second.second.now
+    c.in_ok-answer.answer _ _ one other c.in_ok-answer.ensures c.in_ok-print_agreement.ensures.printed

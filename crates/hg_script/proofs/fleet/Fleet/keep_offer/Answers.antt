@@ -3,9 +3,10 @@ use Rattle.std.proofs.lemmas.Result.{err_from_is_err_and}
 use Rattle.hg_world.specs.declared.event.Event.TheVariants.{Offer}
 use Rattle.hg_script.specs.declared.command.Command.TheVariants as command
 use Rattle.hg_script.specs.Events.{no_trace}
+use Rattle.hg_script.specs.Printing.{answer_line}
 use Rattle.hg_script.proofs.EndingLemmas.{unknown_fault, no_place, fault_of_command, offer_nowhere}
 use Rattle.hg_script.proofs.NameLemmas.{unbound}
-use Rattle.hg_script.proofs.ScriptLemmas.{one, ran_after}
+use Rattle.hg_script.proofs.ScriptLemmas.{one, one_line, ran_after}
 use Rattle.hg_script.proofs.fleet.Fleet.keep_offer.Goals as goal
 
 pub returns-in_err-common-clause-err : goal.returns-in_err-common-clause-err
@@ -54,6 +55,7 @@ pub returns-clause-ok : goal.returns-clause-ok
 returns-clause-ok g c =
     let h = c.in_ok-answer.ensures.happens in (
       one (Offer c.in_ok-place.place c.in_ok-common.common) c.in_ok-answer.answer h.0,
+      answer_line c.args.number c.in_ok-answer.answer,
       record {
         asked = (c.in_ok-place.place, c.in_ok-common.common, c.in_ok-place.ensures.ok, c.in_ok-common.ensures.ok, refl);
         ran = (c.run_event.new.world, h.1, refl);
@@ -65,4 +67,6 @@ returns-clause-ok g c =
           c.in_ok-keep.ensures.ok,
         );
       },
+      one_line c.args.number c.in_ok-answer.answer,
+      c.in_ok-answer.ensures.printed,
     )

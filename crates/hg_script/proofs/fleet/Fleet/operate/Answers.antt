@@ -5,10 +5,11 @@ use Rattle.hg_script.specs.declared.command.Command.TheVariants as command
 use Rattle.hg_script.specs.declared.fault.RunFault.{RunFault}
 use Rattle.hg_script.specs.Events.{no_trace, brought}
 use Rattle.hg_script.specs.Commands.{Text, Word}
+use Rattle.hg_script.specs.Printing.{answer_line}
 use Rattle.hg_script.specs.Scripts.{AreLabelled, ids, may_be_bound}
 use Rattle.hg_script.proofs.EndingLemmas.{fault_of_command, free_brought, local_nowhere, no_place, node_fault}
 use Rattle.hg_script.proofs.EndingLemmas.{node_from_place, taken_fault, unknown_fault}
-use Rattle.hg_script.proofs.ScriptLemmas.{one, ran_after}
+use Rattle.hg_script.proofs.ScriptLemmas.{one, one_line, ran_after}
 use Rattle.hg_script.proofs.fleet.Fleet.operate.Goals as goal
 
 pub returns-in_err-op-clause-err : goal.returns-in_err-op-clause-err
@@ -87,6 +88,7 @@ returns-clause-ok g c =
     self.world place op answer h.0 c.run_event.new.world c.in_ok-replica.ensures.ok
     c.in_ok-check_labels.ensures.free h.1 in (
       one (Local place op) answer h.0,
+      answer_line c.args.number answer,
       record {
         asked = (place, op, c.in_ok-place.ensures.ok, c.in_ok-op.ensures.ok, refl);
         ran = (c.run_event.new.world, h.1, refl);
@@ -99,4 +101,6 @@ returns-clause-ok g c =
           refl,
         );
       },
+      one_line c.args.number answer,
+      c.in_ok-answer.ensures.printed,
     )

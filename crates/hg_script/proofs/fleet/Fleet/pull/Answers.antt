@@ -63,7 +63,7 @@ returns-in_err-take_offered-clause-err g c =
 
 pub returns-clause-ok : goal.returns-clause-ok
 returns-clause-ok g c =
-    pulled c.args.self.now c.args.to c.args.from c.in_ok-giver.giver c.in_ok-taker.taker c.in_ok-common.common
-    c.in_ok-answer.answer c.run_event.new.world _ c.in_ok-giver.ensures.ok c.in_ok-taker.ensures.ok
-    c.in_ok-common.ensures.ok c.in_ok-answer.ensures.told c.in_ok-answer.ensures.happens
-    c.in_ok-take_offered.ensures.ok refl refl refl
+    pulled c.args.number c.args.self.now c.args.to c.args.from c.in_ok-giver.giver c.in_ok-taker.taker
+    c.in_ok-common.common c.in_ok-answer.answer c.run_event.new.world _ _ _ _ c.in_ok-giver.ensures.ok
+    c.in_ok-taker.ensures.ok c.in_ok-common.ensures.ok c.in_ok-answer.ensures.told c.in_ok-answer.ensures.happens
+    c.in_ok-answer.ensures.printed c.in_ok-take_offered.ensures.ok refl refl refl

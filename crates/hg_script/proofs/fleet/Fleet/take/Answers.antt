@@ -2,8 +2,9 @@ use Rattle.std.proofs.Common.{refl, sym, ◌∙◌, inl, inr, Some, slice_get}
 use Rattle.std.proofs.lemmas.Result.{err_from_is_err_and}
 use Rattle.hg_script.specs.declared.command.Command.TheVariants as command
 use Rattle.hg_script.specs.Events.{no_trace}
+use Rattle.hg_script.specs.Printing.{answer_line}
 use Rattle.hg_script.proofs.EndingLemmas.{fault_of_command, unknown_fault, no_place, no_message, take_nowhere}
-use Rattle.hg_script.proofs.ScriptLemmas.{one}
+use Rattle.hg_script.proofs.ScriptLemmas.{one, one_line}
 use Rattle.hg_script.proofs.fleet.Fleet.take.Goals as goal
 
 pub returns-in_err-at-clause-err : goal.returns-in_err-at-clause-err
@@ -35,10 +36,13 @@ pub returns-clause-ok : goal.returns-clause-ok
 returns-clause-ok g c =
     let h = c.in_ok-run_event.ensures.happens in (
       one _ _ h.0,
+      answer_line c.args.number c.in_ok-run_event.field-0,
       record {
         asked = (c.in_ok-at.at, c.in-Some.message, c.in_ok-at.ensures.ok, sym c.bound.ensures ∙ c.in-Some.is, refl);
         ran = (c.run_event.new.world, h.1, refl);
         told = (c.in_ok-run_event.ensures.told, tt);
         named = (refl, refl, refl);
       },
+      one_line c.args.number c.in_ok-run_event.field-0,
+      c.in_ok-run_event.ensures.printed,
     )

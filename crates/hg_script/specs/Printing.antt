@@ -1,0 +1,117 @@
+-- What the commands and the lines of a script print.
+use Rattle.std.specs.Prelude.{ℕ, ◌≡◌, ◌⊎◌, ◌+◌, ◌↔◌, List, [], ◌∷◌, ◌++◌, codes, decimal, Bool, IsTrue}
+use Rattle.std.specs.Prelude.{Option, Some, None, if◌then◌else◌}
+use Rattle.std.specs.List.{flat_map}
+use Rattle.std.specs.Str.Lines.{lines}
+use Rattle.hg_history.specs.declared.fault.Fault.{Fault}
+use Rattle.hg_history.specs.Fault.{number as fault_number, name as fault_name}
+use Rattle.hg_replica.specs.State.{ReplicaState, IsSameState}
+use Rattle.hg_world.specs.Runs.{Snapshot}
+use Rattle.hg_world.specs.declared.event.EventRefusal.{EventRefusal}
+use Rattle.hg_world.specs.declared.event.EventRefusal.TheVariants.{NoNode, NoMessage, ByActor, ByState}
+use Rattle.hg_world.specs.declared.event.Answer.TheVariants.{Accepted, Offered, Refused}
+use Rattle.hg_peer.specs.declared.refusal.PeerRefusal.{PeerRefusal}
+use Rattle.hg_peer.specs.declared.refusal.PeerRefusal.TheVariants.{Rewrite, Offer, Message, NoMemory}
+use Rattle.hg_peer.specs.Refusals.{peer_refusal_number, peer_refusal_text}
+use Rattle.hg_script.specs.declared.command.Command.{Command}
+use Rattle.hg_script.specs.declared.command.Command.TheVariants.{Report, Agree}
+use Rattle.hg_script.specs.declared.fleet.Fleet.{Fleet}
+use Rattle.hg_script.specs.Commands.{Text}
+use Rattle.hg_script.specs.Endings.{Says, IsScriptOf}
+use Rattle.hg_script.specs.Events.{Trace, PeerAnswer, Ran, AreTold, no_trace, joined, taken}
+use Rattle.hg_script.specs.Outputs.{Printed}
+use Rattle.hg_script.specs.Reports.{line_of, IsReport}
+use Rattle.hg_script.specs.Scripts.{node_named, Does, DoesLine, IsRunOf}
+use Rattle.hg_script.specs.Words.{words_of}
+
+-- ---- refusals
+
+-- the number of the line, what refuses, and the refusal's number and name. Want of memory has no number, and no line
+abbrev pub refusal_line : ℕ → Text → Option ℕ → Text → Text
+refusal_line line word None name = []
+refusal_line line word (Some number) name =
+    line_of (decimal line ++ (codes ": " ++ (word ++ (codes " " ++ (decimal number ++ (codes " " ++ name))))))
+
+-- what refuses: an operation, an offer or the bytes of a message
+abbrev pub refusing_word : PeerRefusal → Text
+refusing_word (Rewrite refusal) = codes "rewrite"
+refusing_word (Offer refusal) = codes "offer"
+refusing_word (Message fault) = codes "message"
+refusing_word NoMemory = codes "memory"
+
+-- the line of a refused event: by the peer, or by its replica
+abbrev pub refused_line : ℕ → EventRefusal PeerRefusal Fault → Text
+refused_line line NoNode = []
+refused_line line NoMessage = []
+refused_line line (ByActor refusal) =
+    refusal_line line (refusing_word refusal) (peer_refusal_number refusal) (peer_refusal_text refusal)
+refused_line line (ByState fault) = refusal_line line (codes "replica") (fault_number fault) (fault_name fault)
+
+-- what is printed of an answer
+abbrev pub answer_line : ℕ → PeerAnswer → Text
+answer_line line (Accepted change) = []
+answer_line line (Offered message) = []
+answer_line line (Refused refusal) = refused_line line refusal
+
+-- what is printed of answers, in order
+abbrev pub answer_lines : ℕ → List PeerAnswer → Text
+answer_lines line answers = flat_map (answer_line line) answers
+
+-- ---- commands
+
+-- whether two replicas agree
+abbrev pub agree_line : Text → Text → Bool → Text
+agree_line one other answer =
+    line_of (codes "agree " ++ one ++ codes " " ++ other ++ (if answer then codes ": yes" else codes ": no"))
+
+-- what the command of the line with this number prints: a report; whether two replicas are in the same state; and of
+-- any other command the refusals of its events
+abbrev pub Prints : ℕ → Fleet → Command → Trace → Text → Type 0
+Prints line f (Report at) t text =
+    (state : ReplicaState) × (node_named f at.now ≡ Some state) × IsReport at.now state text
+Prints line f (Agree one other) t text =
+    (first : ReplicaState) × (second : ReplicaState) × (answer : Bool) × (node_named f one.now ≡ Some first)
+    × (node_named f other.now ≡ Some second) × (IsTrue answer ↔ IsSameState first second)
+    × (text ≡ agree_line one.now other.now answer)
+Prints line f command t text = text ≡ answer_lines line t.answers
+
+-- the command of the line with this number is done, and what the writer holds grew by what it prints
+abbrev pub IsDone : ℕ → Fleet → Command → Fleet → Option Text → Option Text → Type 0
+IsDone line old command new held holds =
+    (t : Trace) × (text : Text) × Does old command t new × Prints line old command t text × Printed held text holds
+
+-- the world ran what the taker takes of an offer, and what the writer holds grew by its refusal, if it is refused
+abbrev pub PrintsTaken : ℕ → Snapshot ReplicaState → ℕ → PeerAnswer → Snapshot ReplicaState → Option Text
+    → Option Text → Type 0
+PrintsTaken line old taker answer new held holds =
+    (t : Trace) × (t.events ≡ taken taker (answer ∷ [])) × Ran old t new × AreTold t.answers
+    × Printed held (answer_lines line t.answers) holds
+
+-- ---- lines
+
+-- a line of no words prints nothing, and any other what its command prints
+abbrev pub PrintsLine : ℕ → Fleet → Text → Trace → Text → Type 0
+PrintsLine number old line t text =
+    ((words_of line ≡ []) × (text ≡ []))
+    ⊎ ((command : Command) × Says line command × Prints number old command t text)
+
+-- the lines, the first of which has this number, are done one after another, and print this
+abbrev pub PrintsLines : ℕ → Fleet → List Text → Trace → Fleet → Text → Type 0
+PrintsLines number old [] t new text = (t ≡ no_trace) × (new ≡ old) × (text ≡ [])
+PrintsLines number old (line ∷ lines) t new text =
+    (mid : Fleet) × (here : Trace) × (later : Trace) × (first : Text) × (rest : Text) × DoesLine old line here mid
+    × PrintsLine number old line here first × PrintsLines (number + 1) mid lines later new rest
+    × (t ≡ joined here later) × (text ≡ first ++ rest)
+
+-- ---- whole scripts
+
+-- the script leaves the world so, and what the writer holds grew by what its lines print, which count from 1
+pub record PrintsRun (text : Text) (world : Snapshot ReplicaState) (held holds : Option Text) : Type 0 where
+  pub run : IsRunOf text world
+  pub output : Text
+  pub prints : PrintsLines 1 run.start (lines text) run.trace run.end output
+  pub printed : Printed held output holds
+
+-- the same of the script that was read
+abbrev pub PrintsScript : Option Text → Snapshot ReplicaState → Option Text → Option Text → Type 0
+PrintsScript known world held holds = (text : Text) × IsScriptOf known text × PrintsRun text world held holds

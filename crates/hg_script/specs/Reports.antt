@@ -1,0 +1,113 @@
+-- The report of a replica: a line for each changeset, by the definitions of what is so of it.
+use Rattle.std.specs.Prelude.{ℕ, ◌≡◌, ◌+◌, ◌==◌, ◌↔◌, List, [], ◌∷◌, ◌++◌, map, codes, decimal, slice_get, length, Bool}
+use Rattle.std.specs.Prelude.{IsTrue, Some, Contains, if◌then◌else◌}
+use Rattle.std.specs.declared.cmp.Ordering.{Ordering}
+use Rattle.std.specs.Cmp.Lexicographic.{slice_cmp}
+use Rattle.std.specs.List.{after_last}
+use Rattle.std.specs.List.Sorted.{IsPermutation, IsSorted}
+use Rattle.std.specs.Ordering.{nat_cmp, ordering_then}
+use Rattle.hg_changeset.specs.declared.node.Node.{Node}
+use Rattle.hg_changeset.specs.Contents.{Contents}
+use Rattle.hg_changeset.specs.Changeset.{node_of}
+use Rattle.hg_phases.specs.declared.phase.Phase.{Phase}
+use Rattle.hg_phases.specs.State.{Held, changesets}
+use Rattle.hg_replica.specs.State.{ReplicaState}
+use Rattle.hg_replica.specs.Content.{Content, content_of}
+use Rattle.hg_replica.specs.Evolution.{IsObsolete, IsOrphan, IsSuspended, IsExtinct, IsPhaseDivergent, IsVisible}
+use Rattle.hg_replica.specs.Evolution.{IsHidden}
+use Rattle.hg_instab.specs.Instabilities.{AreInstabilities, IsContentDivergent}
+use Rattle.hg_script.specs.declared.report.RowWords.{RowWords}
+use Rattle.hg_script.specs.declared.report.Standing.{Standing}
+use Rattle.hg_script.specs.Commands.{Text, Word, phase_word}
+
+-- the text and an LF
+abbrev pub line_of : Text → Text
+line_of text = text ++ 10 ∷ []
+
+-- ---- the changesets of a replica, in the order of a report
+
+-- what follows the last LF of the changeset's text: its description
+abbrev pub label_of : Contents → Text
+label_of c = after_last (λ b. b == 10) c.text
+
+-- a changeset by its label and its place
+abbrev pub RowValue : Type 0
+RowValue = Text × ℕ
+
+-- the changesets, the first of which stands at this place
+abbrev pub rows_from : ℕ → List Contents → List RowValue
+rows_from place [] = []
+rows_from place (c ∷ cs) = (label_of c, place) ∷ rows_from (place + 1) cs
+
+-- by label, byte by byte, and then by place
+abbrev pub row_cmp : RowValue → RowValue → Ordering
+row_cmp r s = ordering_then (slice_cmp nat_cmp r.0 s.0) (nat_cmp r.1 s.1)
+
+-- the rows of all changesets of the replica, in order
+pub record AreRows (s : ReplicaState) (rows : List RowValue) : Type 0 where
+  pub all : IsPermutation (rows_from 0 (changesets s.history)) rows
+  pub sorted : IsSorted row_cmp rows
+
+-- the rows, of labels where they stand in texts
+abbrev pub row_values : List (Word × ℕ) → List RowValue
+row_values rows = map (λ r. (r.0.now, r.1)) rows
+
+-- ---- the words of a row
+
+-- each word is there exactly where what it says is so
+pub record AreWordsOf (f : Content) (n : Node) (words : RowWords) : Type 0 where
+  pub obsolete : IsTrue words.obsolete ↔ IsObsolete f n
+  pub suspended : IsTrue words.suspended ↔ IsSuspended f n
+  pub extinct : IsTrue words.extinct ↔ IsExtinct f n
+  pub orphan : IsTrue words.orphan ↔ IsOrphan f n
+  pub phase_divergent : IsTrue words.phase_divergent ↔ IsPhaseDivergent f n
+  pub content_divergent : IsTrue words.content_divergent ↔ IsContentDivergent f n
+  pub hidden : IsTrue words.hidden ↔ IsHidden f n
+
+-- the sets that the words are taken from are those of what the replica holds
+pub record IsStanding (f : Content) (standing : Standing) : Type 0 where
+  pub instabilities : AreInstabilities f standing.instabilities
+  pub visible : (n : Node) → Contains standing.visible.keys n ↔ IsVisible f n
+
+abbrev pub text_where : Bool → Text → Text
+text_where is_so text = if is_so then text else []
+
+-- the line, and then its words
+abbrev pub with_words : Text → RowWords → Text
+with_words line words =
+    line ++ text_where words.obsolete (codes " obsolete") ++ text_where words.suspended (codes " suspended")
+    ++ text_where words.extinct (codes " extinct") ++ text_where words.orphan (codes " orphan")
+    ++ text_where words.phase_divergent (codes " phase-divergent")
+    ++ text_where words.content_divergent (codes " content-divergent") ++ text_where words.hidden (codes " hidden")
+
+-- ---- the lines of a report
+
+-- a changeset's line: its label, its phase, and its words
+abbrev pub row_line : Text → Phase → RowWords → Text
+row_line label phase words = line_of (with_words (label ++ (codes " " ++ phase_word phase)) words)
+
+-- the line of the changeset at the row's place
+abbrev pub IsRowLine : ReplicaState → RowValue → Text → Type 0
+IsRowLine s row text =
+    (h : Held) × (words : RowWords) × (slice_get s.history.held row.1 ≡ Some h)
+    × AreWordsOf (content_of s) (node_of h.changeset) words × (text ≡ row_line row.0 h.phase words)
+
+-- the lines of these rows, one after the other
+abbrev pub AreRowLines : ReplicaState → List RowValue → Text → Type 0
+AreRowLines s [] text = text ≡ []
+AreRowLines s (row ∷ rows) text =
+    (first : Text) × (rest : Text) × IsRowLine s row first × AreRowLines s rows rest × (text ≡ first ++ rest)
+
+abbrev pub heading : Text → Text
+heading name = line_of (codes "report " ++ name)
+
+-- how many changesets and how many markers there are
+abbrev pub totals : ℕ → ℕ → Text
+totals changesets markers =
+    line_of (decimal changesets ++ (codes " changesets " ++ (decimal markers ++ codes " markers")))
+
+-- the report of the replica under this name
+abbrev pub IsReport : Text → ReplicaState → Text → Type 0
+IsReport name s text =
+    (rows : List RowValue) × (middle : Text) × AreRows s rows × AreRowLines s rows middle
+    × (text ≡ heading name ++ middle ++ totals (length (changesets s.history)) (length s.markers))
