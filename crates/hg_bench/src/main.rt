@@ -16,7 +16,9 @@ use discoveries::discover;
 use markers::{Shape, add_markers, list_markers, read_markers, write_markers};
 use messages::{find_offer, make_offer, read_offer, send_offer, take_offer, write_offer};
 use rewrites::{amend_bottom, tell_instabilities};
-use states::{absorb_at_once, absorb_one_by_one, ask_below, join_into_empty, join_into_equal};
+use states::{
+    absorb_at_once, absorb_one_by_one, ask_below, join_into_empty, join_into_equal, tell_roots,
+};
 use std::time::{CpuClock, Duration};
 use std::{env, io};
 use successors::{Chains, tell_divergent, tell_sets};
@@ -55,6 +57,7 @@ fn spent(rt: &(impl CpuClock + AllocGlobal), case: &str, size: usize) -> io::Res
         "join-into-empty" => join_into_empty(rt, size),
         "join-into-equal" => join_into_equal(rt, size),
         "below" => ask_below(rt, size),
+        "roots" => tell_roots(rt, size),
         "add-chain" => add_markers(rt, size, Shape::Chain),
         "add-fan" => add_markers(rt, size, Shape::Fan),
         "write" => write_markers(rt, size),

@@ -6,7 +6,7 @@ use std::alloc::{AllocError, Global};
 use std::io;
 use std::time::{CpuClock, Duration};
 
-// How many changesets are absorbed one by one.
+// How many changesets are absorbed one by one, and how often roots are told.
 const FEW: usize = 1000;
 
 /// A thousand changesets, each absorbed alone into a replica of this size.
@@ -83,5 +83,20 @@ pub fn ask_below(rt: &(impl CpuClock + AllocGlobal), size: usize) -> io::Result<
 fn time_asking(rt: &impl CpuClock, replica: &Replica, other: &Replica) -> io::Result<Duration> {
     let before = rt.thread_cpu_time()?;
     let _below = replica.is_below(other);
+    Ok(rt.thread_cpu_time()?.saturating_sub(before))
+}
+
+/// The roots of a replica of this size, which has one, told a thousand times.
+pub fn tell_roots(rt: &(impl CpuClock + AllocGlobal), size: usize) -> io::Result<Duration> {
+    let alloc = rt.alloc();
+    let part = chain_on(alloc, Node::NULL, size)?;
+    time_telling(rt, &replica_of(alloc, &part))
+}
+
+fn time_telling(rt: &impl CpuClock, replica: &Replica) -> io::Result<Duration> {
+    let before = rt.thread_cpu_time()?;
+    for _ in 0..FEW {
+        let _roots = replica.roots();
+    }
     Ok(rt.thread_cpu_time()?.saturating_sub(before))
 }
