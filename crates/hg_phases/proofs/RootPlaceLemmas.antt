@@ -1,20 +1,13 @@
 -- Where roots stand before and after changesets were added and phases went down.
 use Rattle.std.proofs.Common.{◌≡◌, ℕ, zero, suc, ◌+◌, ◌<◌, ◌≤◌, true, false, cond, List, [], ◌∷◌, ◌++◌, All, length}
-use Rattle.std.proofs.Common.{take, drop, get_or, slice_get, Some, None, Option, Contains, IsTrue, Bool, ◌↔◌, ◌⊎◌, inl}
-use Rattle.std.proofs.Common.{inr, refl, sym, ap, subst, ◌∙◌, append_assoc, append-nil, arith, true≢false}
+use Rattle.std.proofs.Common.{take, drop, set, get_or, slice_get, Some, None, Option, Contains, IsTrue, Bool, ◌↔◌}
+use Rattle.std.proofs.Common.{◌⊎◌, inl, inr, refl, sym, ap, subst, ◌∙◌, append_assoc, append-nil, arith, true≢false}
 use Rattle.std.specs.Prelude.{not}
-use Rattle.std.specs.Cmp.{IsTotalOrder, Equal-is}
-use Rattle.std.specs.BTreeSet.{BTreeSet, Updates, contains}
-use Rattle.std.specs.BTreeMap.{is_at}
 use Rattle.std.specs.List.Sorted.{IsStrictlySortedBy}
 use Rattle.std.specs.Ordering.{nat_cmp}
-use Rattle.std.specs.declared.cmp.Ordering.{Ordering}
-use Rattle.std.proofs.lemmas.Bool.{cases_eq, cases_lt, cases_Bool}
-use Rattle.std.proofs.lemmas.List.Elements.{Contains-get_or, Contains-push_cases, Contains-push, Contains-append_left}
-use Rattle.std.proofs.lemmas.List.{take_all, take_at, take-append-drop, take-map}
+use Rattle.std.proofs.lemmas.Bool.{cases_eq, cases_lt}
+use Rattle.std.proofs.lemmas.List.{take_all, take_at, take-map, length-set, length-take-le}
 use Rattle.std.proofs.lemmas.Map.Keys.{below_from_sorted}
-use Rattle.std.proofs.lemmas.Map.Lookups.{CmpEqualImpliesEq}
-use Rattle.std.proofs.lemmas.Map.Views.{btree_set_contains_iff}
 use Rattle.std.proofs.lemmas.Option.{none-some, same_Some, slice_get_within, get_or_from_slice_get}
 use Rattle.hg_changeset.specs.declared.node.Node.{Node}
 use Rattle.hg_changeset.specs.Contents.{Contents}
@@ -25,6 +18,7 @@ use Rattle.hg_graph.specs.Graph.{IsGraph, IsParent, nodes}
 use Rattle.hg_graph.specs.Places.{IsAt, IsParentPlace}
 use Rattle.hg_graph.proofs.GraphLemmas.{get-take, Contains-from_place, place_from_Contains}
 use Rattle.hg_graph.proofs.PlaceLemmas.{parent_first, placed_within, IsAt-from, IsAt-within}
+use Rattle.hg_graph.proofs.MarkLemmas.{get-set_same, get-set_other}
 use Rattle.hg_graph.proofs.WalkLemmas.{taken_one}
 use Rattle.hg_phases.specs.declared.phase.Phase.{Phase}
 use Rattle.hg_phases.specs.declared.phase.Phase.TheVariants.{Secret}
@@ -32,79 +26,9 @@ use Rattle.hg_phases.specs.declared.lowered.LoweredPlace.{LoweredPlace}
 use Rattle.hg_phases.specs.Log.{IsLog, restored}
 use Rattle.hg_phases.specs.State.{Held, held_of, state_of}
 use Rattle.hg_phases.specs.Roots.{IsRoot, AreRootsAmong, AreRoots}
-use Rattle.hg_phases.specs.RootPlaces.{HasParentIn, IsRootPlace, AreRootPlaces, IsFamily, IsTouched}
+use Rattle.hg_phases.specs.RootPlaces.{HasParentIn, IsRootPlace, AreRootPlaces, IsFamily, IsTouched, IsSettled}
+use Rattle.hg_phases.specs.RootPlaces.{AreSettled}
 use Rattle.hg_phases.proofs.PlaceLemmas.{held-at, parts-at}
-
--- whether a place is listed
-pub listed : (xs : List ℕ) (p : ℕ) → Contains xs p ⊎ ¬ (Contains xs p)
-listed [] p = inr (Contains-none p)
-listed (x ∷ xs) p = elim (cases_eq x p) [
-  | inl e ↦ inl (subst (Contains (x ∷ xs)) e (Contains-first x xs))
-  | inr ne ↦ elim (listed xs p) [
-    | inl h ↦ inl (Contains-later x xs p h)
-    | inr out ↦ inr (λ h. elim (Contains-cons_cases x xs p h) [ inl e ↦ ne e | inr later ↦ out later ])
-  ]
-]
-
-pub taken-within : (xs : List ℕ) (i p : ℕ) → Contains (take i xs) p → Contains xs p
-taken-within xs i p h =
-    subst (λ ys. Contains ys p) (take-append-drop i xs) (Contains-append_left (take i xs) (drop i xs) p h)
-
--- ---- picking places
-
--- found are those of the places of which P holds
-abbrev pub Picks : (ℕ → Type 0) → List ℕ → List ℕ → Type 0
-Picks P xs found = (p : ℕ) → Contains found p ↔ (Contains xs p × P p)
-
-pub picks-none : (P : ℕ → Type 0) (found : List ℕ) → found ≡ [] → Picks P [] found
-picks-none P found e =
-    subst (Picks P []) (sym e) (λ p. ((λ h. absurd (Contains-none p h)), (λ h. absurd (Contains-none p h.0))))
-
-module _ (P : ℕ → Type 0) (xs found : List ℕ) (i : ℕ) (l : i < length xs) (before : Picks P (take i xs) found) where
-  pub picks-push : P (get_or xs i 0) → (new : List ℕ) → new ≡ found ++ get_or xs i 0 ∷ []
-      → Picks P (take (i + 1) xs) new
-  picks-push holds new e = subst (Picks P (take (i + 1) xs)) (sym e) (λ p.
-      let more = taken_one xs i 0 p l in (
-        λ h. elim (Contains-push_cases found (get_or xs i 0) p h) [
-          | inl old ↦ let x = (before p).0 old in (more.1 (inl x.0), x.1)
-          | inr same ↦ (more.1 (inr same), subst P same holds)
-        ],
-        λ h. elim (more.0 h.0) [
-          | inl old ↦ Contains-append_left found (get_or xs i 0 ∷ []) p ((before p).1 (old, h.1))
-          | inr same ↦ subst (Contains (found ++ get_or xs i 0 ∷ [])) same (Contains-push found (get_or xs i 0))
-        ],
-      ))
-
-  pub picks-pass : ¬ (P (get_or xs i 0)) → Picks P (take (i + 1) xs) found
-  picks-pass fails p =
-      let more = taken_one xs i 0 p l in (
-        λ h. let x = (before p).0 h in (more.1 (inl x.0), x.1),
-        λ h. elim (more.0 h.0) [
-          | inl old ↦ (before p).1 (old, h.1)
-          | inr same ↦ absurd (fails (subst P (sym same) h.1))
-        ],
-      )
-
--- ---- sets
-
--- one key less
-pub removed : {K : Type 0} {R : K → K → Ordering} (o : IsTotalOrder R) (exact : CmpEqualImpliesEq R) (s t : BTreeSet K)
-    (k : K) → Updates R s t k false → (q : K) → Contains t.keys q ↔ (Contains s.keys q × ¬ (k ≡ q))
-removed {R = R} o exact s t k up q = (
-  λ h. (
-    elim (cases_Bool (is_at (R k) q)) [
-      | inl e ↦ absurd
-          (true≢false (sym ((btree_set_contains_iff o exact t q).1 h) ∙ up.0 q
-          ∙ ap (λ b. cond b false (contains R s q)) e))
-      | inr ne ↦ (btree_set_contains_iff o exact s q).0 (sym (up.2 q ne) ∙ (btree_set_contains_iff o exact t q).1 h)
-    ],
-    λ same. true≢false (sym ((btree_set_contains_iff o exact t k).1 (subst (Contains t.keys) (sym same) h)) ∙ up.1),
-  ),
-  λ h. elim (cases_Bool (is_at (R k) q)) [
-    | inl e ↦ absurd (h.1 (exact k q ((Equal-is (R k q)).0 e)))
-    | inr ne ↦ (btree_set_contains_iff o exact t q).0 (up.2 q ne ∙ (btree_set_contains_iff o exact s q).1 h.0)
-  ],
-)
 
 -- ---- the first places of a graph
 
@@ -145,28 +69,30 @@ module _ (cs : List Contents) (graph : IsGraph cs) (ks : List Phase) (n : ℕ) w
             none (h.0, parent-front p h.0 x.0 h.1, slice_get-take ks n h.0 k (omega (arith, lower, x.0)) h.2),
       )
 
+-- ---- flags of a graph's first places
+
 -- all places are the first ones
-pub roots-whole : (cs : List Contents) (ks : List Phase) (n : ℕ) (places : List ℕ) → length ks ≡ length cs
-    → n ≡ length cs → AreRootPlaces (take n cs) (take n ks) places → AreRootPlaces cs ks places
-roots-whole cs ks n places len all =
-    subst (λ ds. AreRootPlaces ds (take n ks) places → AreRootPlaces cs ks places)
+pub roots-whole : (cs : List Contents) (ks : List Phase) (n : ℕ) (flags : List Bool) → length ks ≡ length cs
+    → n ≡ length cs → AreRootPlaces (take n cs) (take n ks) flags → AreRootPlaces cs ks flags
+roots-whole cs ks n flags len all =
+    subst (λ ds. AreRootPlaces ds (take n ks) flags → AreRootPlaces cs ks flags)
     (sym (take_all n cs (omega (arith, all))))
-    (subst (λ ls. AreRootPlaces cs ls places → AreRootPlaces cs ks places)
+    (subst (λ ls. AreRootPlaces cs ls flags → AreRootPlaces cs ks flags)
     (sym (take_all n ks (omega (arith, all, len)))) (λ are. are))
 
-pub roots-all : (cs : List Contents) (ks : List Phase) (n : ℕ) (places : List ℕ) → length ks ≡ length cs → n ≡ length cs
-    → AreRootPlaces cs ks places → AreRootPlaces (take n cs) (take n ks) places
-roots-all cs ks n places len all =
-    subst (λ ds. AreRootPlaces cs ks places → AreRootPlaces ds (take n ks) places)
+pub roots-all : (cs : List Contents) (ks : List Phase) (n : ℕ) (flags : List Bool) → length ks ≡ length cs
+    → n ≡ length cs → AreRootPlaces cs ks flags → AreRootPlaces (take n cs) (take n ks) flags
+roots-all cs ks n flags len all =
+    subst (λ ds. AreRootPlaces cs ks flags → AreRootPlaces ds (take n ks) flags)
     (sym (take_all n cs (omega (arith, all))))
-    (subst (λ ls. AreRootPlaces cs ks places → AreRootPlaces cs ls places)
+    (subst (λ ls. AreRootPlaces cs ks flags → AreRootPlaces cs ls flags)
     (sym (take_all n ks (omega (arith, all, len)))) (λ are. are))
 
 -- before what was logged, where all changesets were there
-pub roots-logged : (cs : List Contents) (old before : List Phase) (n : ℕ) (places : List ℕ) → length old ≡ length cs
-    → n ≡ length cs → before ≡ old → AreRootPlaces cs old places → AreRootPlaces (take n cs) (take n before) places
-roots-logged cs old before n places len all e are =
-    subst (λ ks. AreRootPlaces (take n cs) (take n ks) places) (sym e) (roots-all cs old n places len all are)
+pub roots-logged : (cs : List Contents) (old before : List Phase) (n : ℕ) (flags : List Bool) → length old ≡ length cs
+    → n ≡ length cs → before ≡ old → AreRootPlaces cs old flags → AreRootPlaces (take n cs) (take n before) flags
+roots-logged cs old before n flags len all e are =
+    subst (λ ks. AreRootPlaces (take n cs) (take n ks) flags) (sym e) (roots-all cs old n flags len all are)
 
 -- before the last changeset was made secret
 pub front-admitted : (old ks : List Phase) (log : List LoweredPlace) (n : ℕ) → log ≡ [] → ks ≡ old ++ Secret ∷ []
@@ -175,167 +101,195 @@ front-admitted old ks log n fresh e all =
     ap (λ es. take n (restored ks es)) fresh ∙ ap (take n) e ∙ take_at old (Secret ∷ []) n all
 
 -- no roots among no changesets
-pub roots-none : (found : List ℕ) → found ≡ [] → AreRootPlaces [] [] found
-roots-none found e =
-    subst (AreRootPlaces [] []) (sym e)
-    (λ p. ((λ h. absurd (Contains-none p h)), (λ root. absurd (none-some root.0 root.1))))
+pub roots-none : (flags : List Bool) → flags ≡ [] → AreRootPlaces [] [] flags
+roots-none flags e = record {
+  len = ap length e;
+  settled = λ p. (
+    λ at. absurd (none-some true (subst (λ xs. slice_get xs p ≡ Some true) e at)),
+    λ root. absurd (none-some root.0 root.1),
+  );
+}
 
--- ---- what is touched
+-- the first flags are those of the first places
+pub roots-taken : (cs : List Contents) → IsGraph cs → (ks : List Phase) (n : ℕ) (flags : List Bool) → n ≤ length cs
+    → AreRootPlaces cs ks flags → AreRootPlaces (take n cs) (take n ks) (take n flags)
+roots-taken cs graph ks n flags le are = record {
+  len = length-take-le n flags (omega (arith, le, are.len)) ∙ sym (length-take-le n cs le);
+  settled = λ p. (
+    λ at. let x = get-take flags n p true at in root-front cs graph ks n p x.0 ((are.settled p).0 x.1),
+    λ root. slice_get-take flags n p true (get-take ks n p root.0 root.1).0
+        ((are.settled p).1 (root-whole cs graph ks n p root)),
+  );
+}
 
-pub touched-more : (A : ℕ → Type 0) (cs : List Contents) (log : List LoweredPlace) (i : ℕ) (d : LoweredPlace)
-    (old new : List ℕ) → i < length log
-    → ((p : ℕ) → Contains old p ↔ (A p ⊎ IsTouched cs (take i log) p))
-    → ((p : ℕ) → Contains new p ↔ (Contains old p ⊎ IsFamily cs (get_or log i d).place p)) → (p : ℕ)
-    → Contains new p ↔ (A p ⊎ IsTouched cs (take (i + 1) log) p)
-touched-more A cs log i d old new l before more p = (
-  λ h. elim ((more p).0 h) [
-    | inl was ↦ elim ((before p).0 was)
-        [ inl a ↦ inl a | inr x ↦ inr (x.0, (taken_one log i d x.0 l).1 (inl x.1), x.2) ]
-    | inr is ↦ inr (get_or log i d, (taken_one log i d (get_or log i d) l).1 (inr refl), is)
-  ],
-  λ h. (more p).1 (elim h [
-    | inl a ↦ inl ((before p).1 (inl a))
-    | inr x ↦ elim ((taken_one log i d x.0 l).0 x.1) [
-      | inl was ↦ inl ((before p).1 (inr (x.0, was, x.2)))
-      | inr is ↦ inr (subst (λ e. IsFamily cs e.place p) (sym is) x.2)
-    ]
-  ]),
-)
+-- ---- settling
 
-pub touched-start : (A : ℕ → Type 0) (cs : List Contents) (found : List ℕ) → ((p : ℕ) → Contains found p ↔ A p)
-    → (p : ℕ) → Contains found p ↔ (A p ⊎ IsTouched cs [] p)
-touched-start A cs found are p =
-    ((λ h. inl ((are p).0 h)), (λ h. elim h [ inl a ↦ (are p).1 a | inr x ↦ absurd (Contains-none x.0 x.1) ]))
+module _ (cs : List Contents) (ks : List Phase) where
+  settled-same : (old new : List Bool) (p : ℕ) → IsSettled cs ks old p → slice_get new p ≡ slice_get old p
+      → IsSettled cs ks new p
+  settled-same old new p is e = ((λ at. is.0 (sym e ∙ at)), (λ root. e ∙ is.1 root))
 
--- counting from one place on
-pub added-none : (from : ℕ) (found : List ℕ) → found ≡ [] → (p : ℕ) → Contains found p ↔ ((from ≤ p) × (p < from))
-added-none from found e p =
-    ((λ h. absurd (Contains-none p (subst (λ xs. Contains xs p) e h))), (λ h. absurd (omega (arith, h.0, h.1))))
+  -- a root was flagged
+  pub settle-root : (flags : List Bool) (place : ℕ) → place < length flags → IsRootPlace cs ks place
+      → (new : List Bool) → new ≡ set flags place true → AreSettled cs ks (λ p. place ≡ p) flags new
+  settle-root flags place l root new is = subst (AreSettled cs ks (λ p. place ≡ p) flags) (sym is) (record {
+    len = length-set flags place true;
+    each = λ p. elim (cases_eq p place) [
+      | inl e ↦ inl (subst (IsSettled cs ks (set flags place true)) (sym e)
+          ((λ at. root), (λ x. get-set_same flags place true l)))
+      | inr ne ↦ inr ((λ e. ne (sym e)), get-set_other flags place p true ne)
+    ];
+  })
 
-pub added-next : (from i : ℕ) (found new : List ℕ) → from ≤ i → ((p : ℕ) → Contains found p ↔ ((from ≤ p) × (p < i)))
-    → new ≡ found ++ i ∷ [] → (p : ℕ) → Contains new p ↔ ((from ≤ p) × (p < i + 1))
-added-next from i found new le before e p = (
-  λ h. elim (Contains-push_cases found i p (subst (λ xs. Contains xs p) e h)) [
-    | inl old ↦ let x = (before p).0 old in (x.0, omega (arith, x.1))
-    | inr same ↦ (omega (arith, le, same), omega (arith, same))
-  ],
-  λ h. subst (λ xs. Contains xs p) (sym e) (elim (cases_eq i p) [
-    | inl same ↦ subst (Contains (found ++ i ∷ [])) same (Contains-push found i)
-    | inr ne ↦ Contains-append_left found (i ∷ []) p ((before p).1 (h.0, omega (arith, h.1, ne)))
-  ]),
-)
+  -- the flag was taken down where no root stands
+  pub settle-other : (flags : List Bool) (place : ℕ) → place < length flags → ¬ (IsRootPlace cs ks place)
+      → (new : List Bool) → new ≡ set flags place false → AreSettled cs ks (λ p. place ≡ p) flags new
+  settle-other flags place l none new is = subst (AreSettled cs ks (λ p. place ≡ p) flags) (sym is) (record {
+    len = length-set flags place false;
+    each = λ p. elim (cases_eq p place) [
+      | inl e ↦ inl (subst (IsSettled cs ks (set flags place false)) (sym e) (
+        (λ at. absurd
+            (true≢false (same_Some true false (sym at ∙ get-set_same flags place false l)))),
+        (λ root. absurd (none root)),
+      ))
+      | inr ne ↦ inr ((λ e. ne (sym e)), get-set_other flags place p false ne)
+    ];
+  })
 
--- ---- the roots after it
+  pub settled-none : (P : ℕ → Type 0) (flags : List Bool) → ((p : ℕ) → ¬ (P p)) → AreSettled cs ks P flags flags
+  settled-none P flags none = record { len = refl; each = λ p. inr (none p, refl) }
 
--- each place that is listed
-all-from : (P : ℕ → Type 0) (xs : List ℕ) → ((p : ℕ) → Contains xs p → P p) → All P xs
-all-from P xs each k d l = each (get_or xs k d) (Contains-get_or xs k d l)
-
-module _ (cs : List Contents) (phase : Phase) (start now : List Phase) (log : List LoweredPlace)
-    (l : IsLog phase start now log) (len : length now ≡ length cs) where
-  touched-within : (p : ℕ) → IsTouched cs log p → p < length cs
-  touched-within p (e, at, family) = elim family [
-    | inl same ↦ let x = l.logged e at in omega (arith, slice_get_within now e.place x.0 x.2, same, len)
-    | inr parent ↦ slice_get_within cs p parent.0 parent.2
-  ]
-
-  pub places-within : (before : ℕ) (touched : List ℕ)
-      → ((p : ℕ) → Contains touched p ↔ (((before ≤ p) × (p < length cs)) ⊎ IsTouched cs log p))
-      → All (λ p. p < length cs) touched
-  places-within before touched touches =
-      all-from (λ p. p < length cs) touched
-      (λ p h. elim ((touches p).0 h) [ inl added ↦ added.1 | inr x ↦ touched-within p x ])
-
-  -- a parent that went down touches
-  by_parent : (p q : ℕ) → IsParentPlace cs p q → (e : LoweredPlace) → Contains log e → e.place ≡ q → IsTouched cs log p
-  by_parent p q parent e at same = (e, at, inr (subst (IsParentPlace cs p) (sym same) parent))
-
-  -- what isn't touched is a root where it was one
-  stays : (p : ℕ) → ¬ (IsTouched cs log p) → IsRootPlace cs now p → IsRootPlace cs start p
-  stays p un (k, at, np, none) = elim (l.rest p) [
-    | inr x ↦ absurd (un (x.0, x.1, inl x.2))
-    | inl same ↦ (
-      k,
-      sym same ∙ at,
-      np,
-      λ h. elim (l.rest h.0) [
-        | inr x ↦ un (by_parent p h.0 h.1 x.0 x.1 x.2)
-        | inl same_q ↦ none (h.0, h.1, same_q ∙ h.2)
-      ],
-    )
-  ]
-
-  -- a root that was one, and isn't told to be none
-  still : (p : ℕ) → IsRootPlace cs start p → ¬ (IsTouched cs log p × ¬ (IsRootPlace cs now p)) → IsRootPlace cs now p
-  still p (k, at, np, none) sure = elim (l.rest p) [
-    | inl same ↦ (
-      k,
-      same ∙ at,
-      np,
-      λ h. elim (l.rest h.0) [
-        | inl same_q ↦ none (h.0, h.1, sym same_q ∙ h.2)
-        | inr x ↦ sure (
-          by_parent p h.0 h.1 x.0 x.1 x.2,
-          λ root.
-              let k_is : k ≡ root.0 = same_Some k root.0 (sym at ∙ sym same ∙ root.1) in
-              root.3 (h.0, h.1, h.2 ∙ ap (λ x. Some x) k_is),
-        )
-      ],
-    )
-    | inr x ↦
-        let y = l.logged x.0 x.1 in
-        let at_now : slice_get now p ≡ Some y.0 = subst (λ j. slice_get now j ≡ Some y.0) x.2 y.2 in
-        let touched : IsTouched cs log p = (x.0, x.1, inl x.2) in (
-          y.0,
-          at_now,
-          λ e. sure (touched, λ root. root.2 (same_Some root.0 y.0 (sym root.1 ∙ at_now) ∙ e)),
-          λ h. sure (
-            touched,
-            λ root. root.3 (h.0, h.1, h.2 ∙ ap (λ x. Some x) (same_Some y.0 root.0 (sym at_now ∙ root.1))),
-          ),
-        )
-  ]
-
-  module _ (graph : IsGraph cs) (n : ℕ) (roots touched gained lost : List ℕ)
-      (rooted : AreRootPlaces (take n cs) (take n start) roots)
-      (touches : (p : ℕ) → Contains touched p ↔ (((n ≤ p) × (p < length cs)) ⊎ IsTouched cs log p))
-      (gains : Picks (λ p. IsRootPlace cs now p × ¬ (Contains roots p)) touched gained)
-      (loses : Picks (λ p. ¬ (IsRootPlace cs now p) × Contains roots p) touched lost) where
-    -- a root that isn't listed is touched
-    unlisted : (p : ℕ) → IsRootPlace cs now p → ¬ (Contains roots p) → Contains gained p
-    unlisted p root out = (gains p).1 (elim (listed touched p) [
-      | inl t ↦ (t, (root, out))
-      | inr un ↦ elim (cases_lt p n) [
-        | inl less ↦ absurd
-            (out ((rooted p).1 (root-front cs graph start n p less (stays p (λ t. un ((touches p).1 (inr t))) root))))
-        | inr ge ↦ absurd (un ((touches p).1 (inl (ge, omega (arith, slice_get_within now p root.0 root.1, len)))))
+  -- one settling after another
+  pub settled-then : (P Q R : ℕ → Type 0) (old mid new : List Bool) → AreSettled cs ks P old mid
+      → AreSettled cs ks Q mid new → ((p : ℕ) → R p → P p ⊎ Q p) → AreSettled cs ks R old new
+  settled-then P Q R old mid new first second covers = record {
+    len = second.len ∙ first.len;
+    each = λ p. elim (second.each p) [
+      | inl is ↦ inl is
+      | inr x ↦ elim (first.each p) [
+        | inl is ↦ inl (settled-same mid new p is x.1)
+        | inr y ↦ inr ((λ r. elim (covers p r) [ inl a ↦ y.0 a | inr b ↦ x.0 b ]), x.1 ∙ y.1)
       ]
-    ])
+    ];
+  }
 
-    pub updated : (mid final : List ℕ) → ((p : ℕ) → Contains mid p ↔ (Contains roots p ⊎ Contains gained p))
-        → ((p : ℕ) → Contains final p ↔ (Contains mid p × ¬ (Contains lost p))) → AreRootPlaces cs now final
-    updated mid final added dropped p = (
-      λ h.
-          let x = (dropped p).0 h in
-          elim ((added p).0 x.0) [
-            | inl old ↦ still p (root-whole cs graph start n p ((rooted p).0 old))
-                (λ y. x.1 ((loses p).1 ((touches p).1 (inr y.0), (y.1, old))))
-            | inr new ↦ ((gains p).0 new).1.0
-          ],
-      λ root. (dropped p).1 (
-        (added p).1 (elim (listed roots p) [ inl old ↦ inl old | inr out ↦ inr (unlisted p root out) ]),
-        λ out. ((loses p).0 out).1.0 root,
-      ),
-    )
+  -- fewer are settled
+  pub settled-less : (P R : ℕ → Type 0) (old new : List Bool) → AreSettled cs ks P old new
+      → ((p : ℕ) → R p → P p) → AreSettled cs ks R old new
+  settled-less P R old new s fewer = record {
+    len = s.len;
+    each = λ p. elim (s.each p) [ inl is ↦ inl is | inr x ↦ inr ((λ r. x.0 (fewer p r)), x.1) ];
+  }
 
-    pub undone : (mid final : List ℕ) → ((p : ℕ) → Contains roots p → Contains mid p)
-        → ((p : ℕ) → Contains mid p → Contains roots p ⊎ Contains gained p)
-        → ((p : ℕ) → Contains final p ↔ (Contains mid p × ¬ (Contains gained p)))
-        → AreRootPlaces (take n cs) (take n start) final
-    undone mid final kept only dropped p = (
-      λ h. let x = (dropped p).0 h in elim (only p x.0) [ inl old ↦ (rooted p).0 old | inr new ↦ absurd (x.1 new) ],
-      λ root. let old = (rooted p).1 root in (dropped p).1 (kept p old, λ new. ((gains p).0 new).1.1 old),
+  -- all places from one on
+  pub settled-from : (n m : ℕ) (old new : List Bool) → length ks ≡ length cs → length old ≡ length cs
+      → AreSettled cs ks (λ p. (n ≤ p) × (p < m)) old new → length cs ≤ m → AreSettled cs ks (λ p. n ≤ p) old new
+  settled-from n m old new len long s le = record {
+    len = s.len;
+    each = λ p. elim (s.each p) [
+      | inl is ↦ inl is
+      | inr x ↦ elim (cases_lt p m) [
+        | inl l ↦ inr ((λ ge. x.0 (ge, l)), x.1)
+        | inr past ↦ inl (
+          λ at. let l = slice_get_within new p true at in absurd (omega (arith, l, s.len, long, le, past)),
+          λ root. let l = slice_get_within ks p root.0 root.1 in absurd (omega (arith, l, len, le, past)),
+        )
+      ]
+    ];
+  }
+
+-- one that was logged more
+pub touched-one : (cs : List Contents) (log : List LoweredPlace) (i : ℕ) (d : LoweredPlace) → i < length log
+    → (p : ℕ) → IsTouched cs (take (i + 1) log) p
+    → IsTouched cs (take i log) p ⊎ IsFamily cs (get_or log i d).place p
+touched-one cs log i d l p (e, at, family) = elim ((taken_one log i d e l).0 at) [
+  | inl before ↦ inl (e, before, family)
+  | inr same ↦ inr (subst (λ x. IsFamily cs x.place p) (sym same) family)
+]
+
+pub touched-none : (cs : List Contents) (p : ℕ) → ¬ (IsTouched cs [] p)
+touched-none cs p (e, at, family) = Contains-none e at
+
+-- ---- what stays
+
+-- where neither a place nor a parent of it differs, a root stands in both or in none
+module _ (cs : List Contents) (ks ls : List Phase) (D : ℕ → Type 0)
+    (same : (j : ℕ) → (slice_get ls j ≡ slice_get ks j) ⊎ D j) where
+  pub alike-root : (p : ℕ) → ((j : ℕ) → D j → ¬ (IsFamily cs j p)) → IsRootPlace cs ks p → IsRootPlace cs ls p
+  alike-root p un (k, at, np, none) = elim (same p) [
+    | inr d ↦ absurd (un p d (inl refl))
+    | inl e ↦ (
+      k,
+      e ∙ at,
+      np,
+      λ h. elim (same h.0) [ inr d ↦ un h.0 d (inr h.1) | inl f ↦ none (h.0, h.1, sym f ∙ h.2) ],
     )
+  ]
+
+other-way : (ks ls : List Phase) (D : ℕ → Type 0) → ((j : ℕ) → (slice_get ls j ≡ slice_get ks j) ⊎ D j)
+    → (j : ℕ) → (slice_get ks j ≡ slice_get ls j) ⊎ D j
+other-way ks ls D same j = elim (same j) [ inl e ↦ inl (sym e) | inr d ↦ inr d ]
+
+-- one phase was set, and its family settled
+pub roots-set : (cs : List Contents) (ks ls : List Phase) (place : ℕ) (k : Phase) (old new : List Bool)
+    → ls ≡ set ks place k → AreRootPlaces cs ks old → AreSettled cs ls (IsFamily cs place) old new
+    → AreRootPlaces cs ls new
+roots-set cs ks ls place k old new is are settled =
+    let D : ℕ → Type 0 = λ j. place ≡ j in
+    let same : (j : ℕ) → (slice_get ls j ≡ slice_get ks j) ⊎ (place ≡ j) = λ j. elim (cases_eq j place) [
+      | inl e ↦ inr (sym e)
+      | inr ne ↦ inl (ap (λ xs. slice_get xs j) is ∙ get-set_other ks place j k ne)
+    ] in
+    record {
+      len = settled.len ∙ are.len;
+      settled = λ p. elim (settled.each p) [
+        | inl x ↦ x
+        | inr x ↦
+            let un : (j : ℕ) → place ≡ j → ¬ (IsFamily cs j p) =
+            λ j e f. x.0 (subst (λ q. IsFamily cs q p) (sym e) f) in (
+              λ at. alike-root cs ks ls (λ j. place ≡ j) same p un ((are.settled p).0 (sym x.1 ∙ at)),
+              λ root. x.1 ∙ (are.settled p).1
+                  (alike-root cs ls ks (λ j. place ≡ j) (other-way ks ls (λ j. place ≡ j) same) p un root),
+            )
+      ];
+    }
+
+-- changesets were added, phases went down, and all that touches was settled
+pub roots-updated : (cs : List Contents) → IsGraph cs → (phase : Phase) (start now : List Phase)
+    (log : List LoweredPlace) → IsLog phase start now log → (n : ℕ) (old grown mid new : List Bool) → n ≤ length cs
+    → AreRootPlaces (take n cs) (take n start) old → length grown ≡ length cs → take (length old) grown ≡ old
+    → AreSettled cs now (λ p. n ≤ p) grown mid → AreSettled cs now (IsTouched cs log) mid new
+    → AreRootPlaces cs now new
+roots-updated cs graph phase start now log l n old grown mid new le are long front first second =
+    let all = settled-then cs now (λ p. n ≤ p) (IsTouched cs log) (λ p. (n ≤ p) ⊎ IsTouched cs log p) grown mid new
+    first second (λ p r. r) in
+    let old_len : length old ≡ n = are.len ∙ length-take-le n cs le in
+    let front_n : take n grown ≡ old = ap (λ m. take m grown) (sym old_len) ∙ front in
+    record {
+      len = all.len ∙ long;
+      settled = λ p. elim (all.each p) [
+        | inl x ↦ x
+        | inr x ↦ elim (cases_lt p n) [
+          | inr ge ↦ absurd (x.0 (inl ge))
+          | inl less ↦
+              let un : (j : ℕ) → ((e : LoweredPlace) × Contains log e × (e.place ≡ j)) → ¬ (IsFamily cs j p) =
+              λ j d f. x.0 (inr (d.0, d.1, subst (λ q. IsFamily cs q p) (sym d.2) f)) in (
+                λ at. alike-root cs start now (λ j. (e : LoweredPlace) × Contains log e × (e.place ≡ j)) l.rest p un
+                    (root-whole cs graph start n p
+                    ((are.settled p).0
+                    (subst (λ xs. slice_get xs p ≡ Some true) front_n
+                    (slice_get-take grown n p true less (sym x.1 ∙ at))))),
+                λ root. x.1 ∙ (get-take grown n p true
+                    (subst (λ xs. slice_get xs p ≡ Some true) (sym front_n)
+                    ((are.settled p).1
+                    (root-front cs graph start n p less
+                    (alike-root cs now start (λ j. (e : LoweredPlace) × Contains log e × (e.place ≡ j))
+                    (other-way start now (λ j. (e : LoweredPlace) × Contains log e × (e.place ≡ j)) l.rest) p un
+                    root))))).1,
+              )
+        ]
+      ];
+    }
 
 -- either place holds a parent
 pub parent_at_either : (cs : List Contents) (ks : List Phase) (i : ℕ) (phase : Phase) (first second : Option ℕ)
@@ -531,7 +485,7 @@ module _ (cs : List Contents) (ks : List Phase) where
       ]
 
   pub listed-are : (places : List ℕ) (out : List (Phase × Node)) → IsStrictlySortedBy nat_cmp places
-      → AreRootPlaces cs ks places → ListsRoots cs ks places out → AreRoots (state_of cs ks) out
+      → ((p : ℕ) → Contains places p ↔ IsRootPlace cs ks p) → ListsRoots cs ks places out → AreRoots (state_of cs ks) out
   listed-are places out sorted are lists =
       listed_from (held_of cs ks) 0 refl places out (λ i j l within. below_from_sorted places i j 0 sorted l within)
       (λ p. ((λ h. (omega arith, (are p).0 h)), (λ h. (are p).1 h.1))) lists

@@ -1,5 +1,5 @@
 -- The places of the roots, and what is kept of a graph's phases with them.
-use Rattle.std.specs.Prelude.{◌≡◌, ◌≢◌, ℕ, List, take, length, slice_get, Some, Contains, ◌↔◌, ◌⊎◌}
+use Rattle.std.specs.Prelude.{◌≡◌, ◌≢◌, ℕ, List, take, length, slice_get, Bool, true, Some, Contains, ◌↔◌, ◌⊎◌}
 use Rattle.hg_changeset.specs.Contents.{Contents}
 use Rattle.hg_graph.specs.Places.{IsParentPlace}
 use Rattle.hg_phases.specs.declared.phase.Phase.{Phase}
@@ -16,9 +16,19 @@ HasParentIn cs ks place phase = (p : ℕ) × IsParentPlace cs place p × (slice_
 abbrev pub IsRootPlace : List Contents → List Phase → ℕ → Type 0
 IsRootPlace cs ks p = (k : Phase) × (slice_get ks p ≡ Some k) × (k ≢ Public) × ¬ (HasParentIn cs ks p k)
 
--- exactly the places of the roots
-abbrev pub AreRootPlaces : List Contents → List Phase → List ℕ → Type 0
-AreRootPlaces cs ks places = (p : ℕ) → Contains places p ↔ IsRootPlace cs ks p
+-- the place is flagged exactly where a root stands there
+abbrev pub IsSettled : List Contents → List Phase → List Bool → ℕ → Type 0
+IsSettled cs ks flags p = (slice_get flags p ≡ Some true) ↔ IsRootPlace cs ks p
+
+-- there is a flag for each place, and exactly those of the roots are up
+pub record AreRootPlaces (cs : List Contents) (ks : List Phase) (flags : List Bool) : Type 0 where
+  pub len : length flags ≡ length cs
+  pub settled : (p : ℕ) → IsSettled cs ks flags p
+
+-- the flags of the places of which P holds were settled; others stayed, unless they are settled as well
+pub record AreSettled (cs : List Contents) (ks : List Phase) (P : ℕ → Type 0) (old new : List Bool) : Type 0 where
+  pub len : length new ≡ length old
+  pub each : (p : ℕ) → IsSettled cs ks new p ⊎ (¬ (P p) × (slice_get new p ≡ slice_get old p))
 
 -- the place, or that of a child of the changeset there
 abbrev pub IsFamily : List Contents → ℕ → ℕ → Type 0
@@ -31,9 +41,9 @@ IsTouched cs log p = (e : LoweredPlace) × Contains log e × IsFamily cs e.place
 -- the roots that are kept are those of the changesets before a place, before what was logged went down
 abbrev pub AreRootsBefore : List Contents → PhaseRoots → List LoweredPlace → ℕ → Type 0
 AreRootsBefore cs kept log before =
-    AreRootPlaces (take before cs) (take before (phases_before cs kept.phases log)) kept.roots.keys
+    AreRootPlaces (take before cs) (take before (phases_before cs kept.phases log)) kept.roots
 
 -- a phase for each changeset, and exactly the roots
 pub record AreKept (cs : List Contents) (kept : PhaseRoots) : Type 0 where
   pub len : length (phases_at cs kept.phases) ≡ length cs
-  pub roots : AreRootPlaces cs (phases_at cs kept.phases) kept.roots.keys
+  pub roots : AreRootPlaces cs (phases_at cs kept.phases) kept.roots

@@ -206,13 +206,11 @@ impl PhaseMap {
         self.phases.truncate(before);
     }
 
-    /// Forgets the last place.
-    pub(crate) fn forget_last(&mut self)
-        requires { 0 < length self.old }
-        ensures { self.new ≡ take (length self.old - 1) self.old }
+    /// Forgets the places from one on.
+    pub(crate) fn truncate(&mut self, before: usize)
+        ensures { self.new ≡ take before self.old }
     {
-        let last = self.phases.len() - 1;
-        self.phases.truncate(last);
+        self.phases.truncate(before);
     }
 
     // Lowers what stands at a place, with its ancestors.
@@ -295,7 +293,8 @@ impl PhaseMap {
         }
     }
 
-    fn set(&mut self, at: usize, phase: Phase)
+    /// Gives what stands at a place the phase, and nothing else.
+    pub(crate) fn set(&mut self, at: usize, phase: Phase)
         requires { at < length self.old }
         ensures { self.new ≡ slice_set self.old at phase }
     {

@@ -2,10 +2,10 @@
 //!
 //! The roots are what is kept: they are exactly those of the state, and are told without a look at the other
 //! changesets. The phase at each place is an index of them, so that a phase is looked up at once. A part moves the
-//! index first, and the roots when all of it was lowered: so what is taken back after a refusal is the index alone, and
-//! takes no memory.
-ghost use Rattle.std.specs.Prelude.{◌≡◌, ◌<◌, ◌≤◌, ◌+◌, ◌-◌, [], ◌∷◌, ◌++◌, List, Some, OnOk, OnErr, IfOk, IsOkAnd};
-ghost use Rattle.std.specs.Prelude.{MatchOption, IsTrue, ◌↔◌, length, slice_get};
+//! index first, and the roots when all of it was lowered. Only room for what was added takes memory: so the roots never
+//! keep a lowering from being done, and all can be taken back without memory, also when the roots have moved.
+ghost use Rattle.std.specs.Prelude.{◌≡◌, ◌<◌, ◌≤◌, ◌+◌, ◌-◌, [], ◌∷◌, ◌++◌, Some, OnOk, OnErr, IfOk, IsOkAnd};
+ghost use Rattle.std.specs.Prelude.{MatchOption, length, slice_get, take};
 ghost use Rattle.hg_graph.specs.Graph.{Holds as GraphHolds, IsGraph};
 ghost use Rattle.hg_graph.specs.Places.{IsAt};
 ghost use Rattle.hg_phases.specs.declared.phase.Phase.{Phase};
@@ -17,15 +17,15 @@ ghost use Rattle.hg_phases.specs.Log.{IsLog};
 ghost use Rattle.hg_phases.specs.Roots.{AreRoots, IsOpened};
 ghost use Rattle.hg_phases.specs.RootPlaces.{AreRootsBefore, AreKept};
 
-use crate::lowered::{Lowered, LoweredPlace, LoweringLog};
+use crate::lowered::{Lowered, LoweringLog};
 use crate::phase::Phase;
 use crate::phase_map::PhaseMap;
-use crate::root_places::{roots_at, update_roots};
+use crate::place_set::PlaceSet;
+use crate::root_places::{roots_at, take_back_logged, update_roots};
 use crate::roots::Roots;
 use hg_changeset::Node;
 use hg_graph::Graph;
 use std::alloc::{AllocError, Global};
-use std::collections::BTreeSet;
 
 /// The phases of a graph's changesets, and where their roots stand.
 ///
@@ -36,7 +36,7 @@ pub struct PhaseRoots {
     pub phases: PhaseMap,
 
     /// The places of the draft and secret changesets none of whose parents has their phase.
-    pub roots: BTreeSet<usize>,
+    pub roots: PlaceSet,
     alloc: Global,
 }
 
@@ -48,7 +48,7 @@ impl PhaseRoots {
     {
         PhaseRoots {
             phases: PhaseMap::new(alloc),
-            roots: BTreeSet::new(alloc),
+            roots: PlaceSet::new(alloc),
             alloc,
         }
     }
@@ -62,7 +62,7 @@ impl PhaseRoots {
     {
         let mut kept = PhaseRoots {
             phases: PhaseMap::open(alloc, graph, roots)?,
-            roots: BTreeSet::new(alloc),
+            roots: PlaceSet::new(alloc),
             alloc,
         };
         kept.update(graph, &LoweringLog::new(alloc), 0)?;
@@ -71,11 +71,11 @@ impl PhaseRoots {
 
     /// Equal phases and roots.
     pub fn copy(&self) -> Result<PhaseRoots, AllocError>
-        ensures { IfOk result (λ kept. (kept.phases ≡ self.now.phases) × (kept.roots.keys ≡ self.now.roots.keys)) }
+        ensures { IfOk result (λ kept. (kept.phases ≡ self.now.phases) × (kept.roots ≡ self.now.roots)) }
     {
         Ok(PhaseRoots {
             phases: self.phases.copy()?,
-            roots: self.roots.clone()?,
+            roots: self.roots.copy()?,
             alloc: self.alloc,
         })
     }
@@ -118,14 +118,13 @@ impl PhaseRoots {
         ensures kept { OnOk result (AreKept graph.now self.new) }
         ensures valid { IsGraph graph.now → IsValid (kept_state (before_last graph.now) self.old.phases)
             → OnOk result (IsValid (kept_state graph.now self.new.phases)) }
-        ensures unchanged { OnErr result
-            ((self.new.phases ≡ self.old.phases) × AreKept (before_last graph.now) self.new) }
+        ensures unchanged { OnErr result ((self.new.phases ≡ self.old.phases) × (self.new.roots ≡ self.old.roots)) }
     {
         self.phases.admit(graph, node)?;
         match self.update(graph, &LoweringLog::new(self.alloc), graph.len() - 1) {
             Ok(()) => Ok(()),
             Err(refused) => {
-                self.phases.forget_last();
+                self.phases.truncate(graph.len() - 1);
                 Err(refused)
             }
         }
@@ -179,7 +178,7 @@ impl PhaseRoots {
             log.new }
         ensures undoes { phases_before graph.now self.new.phases log.new ≡ phases_at graph.now self.old.phases }
         ensures kept { OnOk result (AreKept graph.now self.new) }
-        ensures rooted { OnErr result (AreRootsBefore graph.now self.new log.new (length graph.now)) }
+        ensures roots { OnErr result (self.new.roots ≡ self.old.roots) }
         ensures memory { OnErr result (IsAbove (kept_state graph.now self.old.phases) node phase) }
     {
         self.phases.lower_logged(graph, log, node, phase)?;
@@ -189,8 +188,8 @@ impl PhaseRoots {
     }
 
     /// Moves the roots of the changesets before a place to where they are since the others were added and what was
-    /// logged went down. A refusal leaves everything as it was, and comes only where something was logged or added. It
-    /// costs what was, and the children of what went down.
+    /// logged went down. A refusal leaves everything as it was, and comes only where something was added. It costs what
+    /// was, and the children of what went down.
     pub fn update(
         &mut self,
         graph: &Graph,
@@ -203,26 +202,26 @@ impl PhaseRoots {
         requires rooted { AreRootsBefore graph.now self.old log.now before }
         ensures same { self.new.phases ≡ self.old.phases }
         ensures kept { OnOk result (AreKept graph.now self.new) }
-        ensures unchanged { OnErr result (AreRootsBefore graph.now self.new log.now before) }
-        ensures memory { OnErr result (¬ ((log.now ≡ []) × (before ≡ length graph.now))) }
+        ensures unchanged { OnErr result (self.new.roots ≡ self.old.roots) }
+        ensures memory { OnErr result (before < length graph.now) }
     {
-        if is_still(graph, &log.places, before) {
-            return Ok(());
-        }
-        update_roots(
-            graph,
-            &self.phases,
-            &mut self.roots,
-            &log.places,
-            before,
-            self.alloc,
-        )
+        update_roots(graph, &self.phases, &mut self.roots, &log.places, before)
     }
-}
 
-// Whether nothing was logged, and nothing added from the place on.
-fn is_still(graph: &Graph, log: &[LoweredPlace], before: usize) -> bool
-    ensures { IsTrue result ↔ ((log.now ≡ []) × (before ≡ length graph.now)) }
-{
-    log.is_empty() && before == graph.len()
+    /// Takes back what was logged, with the roots, and forgets the changesets from the place `before` on, which the
+    /// graph is about to forget. It takes no memory.
+    pub fn take_back(&mut self, graph: &Graph, log: &mut LoweringLog, before: usize)
+        requires kept { AreKept graph.now self.old }
+        requires valid { IsValid (kept_state graph.now self.old.phases) }
+        requires within { before ≤ length graph.now }
+        requires logged { IsLogOf graph.now self.old.phases log.old }
+        ensures back { phases_at (take before graph.now) self.new.phases
+            ≡ take before (phases_before graph.now self.old.phases log.old) }
+        ensures kept { AreKept (take before graph.now) self.new }
+        ensures emptied { log.new ≡ [] }
+    {
+        take_back_logged(graph, &mut self.phases, &mut self.roots, &mut log.places);
+        self.phases.truncate(before);
+        self.roots.truncate(before);
+    }
 }

@@ -2,56 +2,113 @@
 //!
 //! A changeset that is added, or goes down, leaves the roots, joins those of its new phase, or stays among them, and so
 //! does each child of it. Nothing else changes: these are looked at, and no other place.
-ghost use Rattle.std.specs.Prelude.{◌≡◌, ◌<◌, ◌≤◌, ◌↔◌, ◌⊎◌, ℕ, Some, All, Contains, length, slice_get, take, IsTrue};
-ghost use Rattle.std.specs.Prelude.{IfOk, IfSome, OnOk, OnErr};
-ghost use Rattle.hg_graph.specs.Graph.{IsGraph};
+ghost use Rattle.std.specs.Prelude.{◌≡◌, ◌<◌, ◌≤◌, ◌↔◌, ◌⊎◌, [], ℕ, Some, All, Contains, length, slice_get, take};
+ghost use Rattle.std.specs.Prelude.{IsTrue, IfOk, IfSome, OnOk, OnErr};
 ghost use Rattle.hg_phases.specs.declared.phase.Phase.{Phase};
 ghost use Rattle.hg_phases.specs.State.{state_of};
 ghost use Rattle.hg_phases.specs.Log.{IsLog, restored};
 ghost use Rattle.hg_phases.specs.Roots.{AreRoots};
-ghost use Rattle.hg_phases.specs.RootPlaces.{HasParentIn, IsRootPlace, AreRootPlaces, IsFamily, IsTouched};
+ghost use Rattle.hg_phases.specs.RootPlaces.{HasParentIn, IsRootPlace, AreRootPlaces, IsFamily, IsTouched, AreSettled};
 
 use crate::lowered::LoweredPlace;
 use crate::phase::Phase;
 use crate::phase_map::PhaseMap;
+use crate::place_set::PlaceSet;
 use crate::roots::Roots;
 use hg_graph::Graph;
 use std::alloc::{AllocError, Global};
 use std::collections::BTreeSet;
 
 /// Moves the roots of the changesets before a place to where they are since the others were added and what was logged
-/// went down. A refusal leaves them as they were.
-///
-/// Those that are gained come first and those that are lost last: so a refused insert is undone by removals, which take
-/// no memory.
+/// went down. A refusal leaves them as they were: it comes before any of them moves.
 pub(crate) fn update_roots(
     graph: &Graph,
     phases: &PhaseMap,
-    roots: &mut BTreeSet<usize>,
+    roots: &mut PlaceSet,
     log: &[LoweredPlace],
     before: usize,
-    alloc: Global,
 ) -> Result<(), AllocError>
     requires len { length phases.now ≡ length graph.now }
     requires within { before ≤ length graph.now }
     requires logged { (phase : Phase) × IsLog phase (restored phases.now log.now) phases.now log.now }
-    requires rooted { AreRootPlaces (take before graph.now) (take before (restored phases.now log.now)) roots.old.keys }
-    ensures updated { OnOk result (AreRootPlaces graph.now phases.now roots.new.keys) }
-    ensures unchanged { OnErr result
-        (AreRootPlaces (take before graph.now) (take before (restored phases.now log.now)) roots.new.keys) }
+    requires rooted { AreRootPlaces (take before graph.now) (take before (restored phases.now log.now)) roots.old }
+    ensures updated { OnOk result (AreRootPlaces graph.now phases.now roots.new) }
+    ensures unchanged { OnErr result (roots.new ≡ roots.old) }
+    ensures memory { OnErr result (before < length graph.now) }
 {
-    let touched = touched_by(graph, log, before, alloc)?;
-    let gained = gained_roots(graph, phases, roots, &touched, alloc)?;
-    let lost = lost_roots(graph, phases, roots, &touched, alloc)?;
-    match insert_all(roots, &gained) {
-        Ok(()) => {
-            remove_all(roots, &lost);
-            Ok(())
-        }
-        Err(refused) => {
-            remove_all(roots, &gained);
-            Err(refused)
-        }
+    roots.grow(graph.len())?;
+    settle_added(graph, phases, roots, before);
+    settle_logged(graph, phases, roots, log);
+    Ok(())
+}
+
+/// Takes back what was logged, the last first, and moves the roots with it.
+pub(crate) fn take_back_logged(
+    graph: &Graph,
+    phases: &mut PhaseMap,
+    roots: &mut PlaceSet,
+    log: &mut Vec<LoweredPlace>,
+)
+    requires len { length phases.old ≡ length graph.now }
+    requires logged { All (λ e. e.place < length graph.now) log.old.items }
+    requires rooted { AreRootPlaces graph.now phases.old roots.old }
+    ensures restored { phases.new ≡ restored phases.old log.old.items }
+    ensures rooted { AreRootPlaces graph.now phases.new roots.new }
+    ensures emptied { log.new.items ≡ [] }
+{
+    while let Some(LoweredPlace { place, had }) = log.pop() {
+        phases.set(place, had);
+        settle_family(graph, phases, roots, place);
+    }
+}
+
+// Settles the places from one on.
+fn settle_added(graph: &Graph, phases: &PhaseMap, roots: &mut PlaceSet, before: usize)
+    requires len { length phases.now ≡ length graph.now }
+    requires seats { length roots.old ≡ length graph.now }
+    ensures { AreSettled graph.now phases.now (λ p. before ≤ p) roots.old roots.new }
+{
+    for place in before..graph.len() {
+        settle(graph, phases, roots, place);
+    }
+}
+
+// Settles the places of what was logged, and of the children of that.
+fn settle_logged(graph: &Graph, phases: &PhaseMap, roots: &mut PlaceSet, log: &[LoweredPlace])
+    requires len { length phases.now ≡ length graph.now }
+    requires seats { length roots.old ≡ length graph.now }
+    requires logged { All (λ e. e.place < length graph.now) log.now }
+    ensures { AreSettled graph.now phases.now (IsTouched graph.now log.now) roots.old roots.new }
+{
+    for lowered in log {
+        settle_family(graph, phases, roots, lowered.place);
+    }
+}
+
+// Settles a place and those of the children of the changeset there.
+fn settle_family(graph: &Graph, phases: &PhaseMap, roots: &mut PlaceSet, place: usize)
+    requires len { length phases.now ≡ length graph.now }
+    requires seats { length roots.old ≡ length graph.now }
+    requires within { place < length graph.now }
+    ensures { AreSettled graph.now phases.now (IsFamily graph.now place) roots.old roots.new }
+{
+    settle(graph, phases, roots, place);
+    for child in graph.children(place) {
+        settle(graph, phases, roots, *child);
+    }
+}
+
+// Makes the place one of the roots exactly where a root stands there.
+fn settle(graph: &Graph, phases: &PhaseMap, roots: &mut PlaceSet, place: usize)
+    requires len { length phases.now ≡ length graph.now }
+    requires seats { length roots.old ≡ length graph.now }
+    requires within { place < length graph.now }
+    ensures { AreSettled graph.now phases.now (λ p. place ≡ p) roots.old roots.new }
+{
+    if is_root(graph, phases, place) {
+        roots.insert(place);
+    } else {
+        roots.remove(place);
     }
 }
 
@@ -59,15 +116,31 @@ pub(crate) fn update_roots(
 pub(crate) fn roots_at(
     graph: &Graph,
     phases: &PhaseMap,
-    roots: &BTreeSet<usize>,
+    roots: &PlaceSet,
     alloc: Global,
 ) -> Result<Roots, AllocError>
     requires len { length phases.now ≡ length graph.now }
-    requires rooted { AreRootPlaces graph.now phases.now roots.now.keys }
+    requires rooted { AreRootPlaces graph.now phases.now roots.now }
+    ensures { IfOk result (AreRoots (state_of graph.now phases.now)) }
+{
+    let mut places = BTreeSet::new(alloc);
+    insert_all(&mut places, roots.places())?;
+    roots_listed(graph, phases, &places, alloc)
+}
+
+// The nodes of the roots at these places, which are all, with their phases.
+fn roots_listed(
+    graph: &Graph,
+    phases: &PhaseMap,
+    places: &BTreeSet<usize>,
+    alloc: Global,
+) -> Result<Roots, AllocError>
+    requires len { length phases.now ≡ length graph.now }
+    requires all { (p : ℕ) → Contains places.now.keys p ↔ IsRootPlace graph.now phases.now p }
     ensures { IfOk result (AreRoots (state_of graph.now phases.now)) }
 {
     let mut listed = Vec::new(alloc);
-    for place in roots {
+    for place in places {
         match graph.node_at(*place) {
             Some(node) => listed.push((phases.at(graph, *place), node))?,
             None => {}
@@ -112,134 +185,12 @@ fn has_phase(graph: &Graph, phases: &PhaseMap, place: Option<usize>, phase: Phas
     }
 }
 
-// The places of what was added, of what was logged, and of the children of that.
-fn touched_by(
-    graph: &Graph,
-    log: &[LoweredPlace],
-    before: usize,
-    alloc: Global,
-) -> Result<Vec<usize>, AllocError>
-    requires within { before ≤ length graph.now }
-    requires logged { All (λ e. e.place < length graph.now) log.now }
-    ensures touched { IfOk result (λ found. (p : ℕ) → Contains found.items p
-        ↔ (((before ≤ p) × (p < length graph.now)) ⊎ IsTouched graph.now log.now p)) }
-    ensures graph { OnOk result (IsGraph graph.now) }
-{
-    let mut found = added_places(graph, before, alloc)?;
-    for lowered in log {
-        add_family(graph, lowered.place, &mut found)?;
-    }
-    Ok(found)
-}
-
-// The places from one on.
-fn added_places(graph: &Graph, before: usize, alloc: Global) -> Result<Vec<usize>, AllocError>
-    requires { before ≤ length graph.now }
-    ensures added { IfOk result (λ found. (p : ℕ) → Contains found.items p ↔ ((before ≤ p) × (p < length graph.now))) }
-    ensures graph { OnOk result (IsGraph graph.now) }
-{
-    let mut found = Vec::new(alloc);
-    for place in before..graph.len() {
-        found.push(place)?;
-    }
-    Ok(found)
-}
-
-// Adds a place and those of the children of the changeset there.
-fn add_family(graph: &Graph, place: usize, found: &mut Vec<usize>) -> Result<(), AllocError>
-    requires { place < length graph.now }
-    ensures { OnOk result ((p : ℕ) → Contains found.new.items p
-        ↔ (Contains found.old.items p ⊎ IsFamily graph.now place p)) }
-{
-    found.push(place)?;
-    found.extend_from_slice(graph.children(place))?;
-    Ok(())
-}
-
-// Those of the places where a root stands that isn't among the roots yet.
-fn gained_roots(
-    graph: &Graph,
-    phases: &PhaseMap,
-    roots: &BTreeSet<usize>,
-    places: &[usize],
-    alloc: Global,
-) -> Result<Vec<usize>, AllocError>
-    requires len { length phases.now ≡ length graph.now }
-    requires within { All (λ p. p < length graph.now) places.now }
-    ensures { IfOk result (λ found. (p : ℕ) → Contains found.items p
-        ↔ (Contains places.now p × (IsRootPlace graph.now phases.now p × ¬ (Contains roots.now.keys p)))) }
-{
-    let mut found = Vec::new(alloc);
-    for place in places {
-        if is_gained(graph, phases, roots, *place) {
-            found.push(*place)?;
-        }
-    }
-    Ok(found)
-}
-
-fn is_gained(graph: &Graph, phases: &PhaseMap, roots: &BTreeSet<usize>, place: usize) -> bool
-    requires len { length phases.now ≡ length graph.now }
-    requires within { place < length graph.now }
-    ensures { IsTrue result ↔ (IsRootPlace graph.now phases.now place × ¬ (Contains roots.now.keys place)) }
-{
-    if roots.contains(&place) {
-        return false;
-    }
-    is_root(graph, phases, place)
-}
-
-// Those of the places among the roots where no root stands any more.
-fn lost_roots(
-    graph: &Graph,
-    phases: &PhaseMap,
-    roots: &BTreeSet<usize>,
-    places: &[usize],
-    alloc: Global,
-) -> Result<Vec<usize>, AllocError>
-    requires len { length phases.now ≡ length graph.now }
-    requires within { All (λ p. p < length graph.now) places.now }
-    ensures { IfOk result (λ found. (p : ℕ) → Contains found.items p
-        ↔ (Contains places.now p × (¬ (IsRootPlace graph.now phases.now p) × Contains roots.now.keys p))) }
-{
-    let mut found = Vec::new(alloc);
-    for place in places {
-        if is_lost(graph, phases, roots, *place) {
-            found.push(*place)?;
-        }
-    }
-    Ok(found)
-}
-
-fn is_lost(graph: &Graph, phases: &PhaseMap, roots: &BTreeSet<usize>, place: usize) -> bool
-    requires len { length phases.now ≡ length graph.now }
-    requires within { place < length graph.now }
-    ensures { IsTrue result ↔ (¬ (IsRootPlace graph.now phases.now place) × Contains roots.now.keys place) }
-{
-    if !roots.contains(&place) {
-        return false;
-    }
-    !is_root(graph, phases, place)
-}
-
-// Adds the places. After a refusal some of them may have been added.
+// Adds the places.
 fn insert_all(set: &mut BTreeSet<usize>, places: &[usize]) -> Result<(), AllocError>
-    ensures added { OnOk result ((p : ℕ) → Contains set.new.keys p
-        ↔ (Contains set.old.keys p ⊎ Contains places.now p)) }
-    ensures kept { (p : ℕ) → Contains set.old.keys p → Contains set.new.keys p }
-    ensures only { (p : ℕ) → Contains set.new.keys p → Contains set.old.keys p ⊎ Contains places.now p }
+    ensures { OnOk result ((p : ℕ) → Contains set.new.keys p ↔ (Contains set.old.keys p ⊎ Contains places.now p)) }
 {
     for place in places {
         set.insert(*place)?;
     }
     Ok(())
-}
-
-// Takes the places out. It takes no memory.
-fn remove_all(set: &mut BTreeSet<usize>, places: &[usize])
-    ensures { (p : ℕ) → Contains set.new.keys p ↔ (Contains set.old.keys p × ¬ (Contains places.now p)) }
-{
-    for place in places {
-        set.remove(place);
-    }
 }

@@ -1,41 +1,13 @@
-use Rattle.std.proofs.Common.{rules, ◌≡◌, sym, subst}
-use Rattle.std.specs.List.Sorted.{IsStrictlySortedBy}
-use Rattle.std.specs.Ordering.{nat_cmp}
-use Rattle.hg_phases.specs.State.{state_of}
-use Rattle.hg_phases.specs.Roots.{AreRoots}
-use Rattle.hg_phases.proofs.RootPlaceLemmas.{ListsRoots, lists-next, lists-left, lists-all, listed-are, root-stands}
+use Rattle.std.proofs.Common.{ℕ, ◌↔◌, ◌⊎◌, inl, inr, [], Contains, sym, subst}
+use Rattle.hg_changeset.proofs.ListLemmas.{Contains-none}
 use Rattle.hg_phases.proofs.root_places.roots_at.Goals as goal
 
-pub loop-place-preserved-in-Continue-1 : goal.loop-place-preserved-in-Continue-1
-loop-place-preserved-in-Continue-1 c =
-    let cs = c.args.graph.now in
-    let ks = c.args.phases.now in
-    let before = c.loop-place.place-iterator in
-    let after = c.next.new.self in (
-      lists-next cs ks c.into_iter-place-iterator.result before after c.in-Some.place.now c.loop-place.listed.items
-          c.push.new.self.items c.at.result c.in-Some-node_at.node c.in-Some.ensures.steps c.at.ensures
-          (sym c.in-Some-node_at.ensures)
-          c.in_ok-push-in-Some-node_at.ensures.items c.loop-place.invariant.0,
-      (lists-left c.args.roots.now.keys before after c.in-Some.place.now c.in-Some.ensures.steps
-          c.loop-place.invariant.1).1,
+pub roots_listed-requires-clause-all : goal.roots_listed-requires-clause-all
+roots_listed-requires-clause-all c p =
+    let added = c.in_ok-insert_all.ensures p in (
+      λ h. (c.requires.rooted.settled p).0 (elim (added.0 h) [
+        | inl old ↦ absurd (Contains-none p (subst (λ ks. Contains ks p) c.new-places.ensures.empty old))
+        | inr new ↦ (c.places.ensures p).0 new
+      ]),
+      λ root. added.1 (inr ((c.places.ensures p).1 ((c.requires.rooted.settled p).1 root))),
     )
-
-pub loop-place-preserved : goal.loop-place-preserved
-loop-place-preserved c =
-    let left = lists-left c.args.roots.now.keys c.loop-place.place-iterator c.next.new.self c.in-Some.place.now
-    c.in-Some.ensures.steps c.loop-place.invariant.1 in
-    absurd (root-stands c.args.graph.now c.args.phases.now c.requires.len c.in-Some.place.now
-    ((c.requires.rooted c.in-Some.place.now).0 left.0) (sym c.in-None-node_at.ensures))
-
-pub returns : goal.returns
-returns c =
-    let cs = c.args.graph.now in
-    let ks = c.args.phases.now in
-    let keys = c.args.roots.now.keys in
-    let all : c.into_iter-place-iterator.result ≡ keys = search rules in
-    let sorted : IsStrictlySortedBy nat_cmp keys = search rules in
-    let lists = lists-all cs ks c.into_iter-place-iterator.result c.loop-place.place-iterator c.loop-place.listed.items
-    c.in-None.ensures.steps.0 c.loop-place.invariant.0 in
-    subst (AreRoots (state_of cs ks)) (sym c.new.ensures)
-    (listed-are cs ks keys c.loop-place.listed.items sorted c.requires.rooted
-    (subst (λ xs. ListsRoots cs ks xs c.loop-place.listed.items) all lists))

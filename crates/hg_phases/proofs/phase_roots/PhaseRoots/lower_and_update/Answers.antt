@@ -1,41 +1,10 @@
-use Rattle.std.proofs.Common.{length, take, refl, sym, ap, subst, ◌∙◌, arith}
+use Rattle.std.proofs.Common.{take, sym, subst, arith}
 use Rattle.std.proofs.lemmas.List.{take_all}
-use Rattle.hg_changeset.proofs.ListLemmas.{on_err_anyway}
 use Rattle.hg_phases.specs.State.{state_of}
 use Rattle.hg_phases.specs.Lowered.{ListsLowered}
-use Rattle.hg_phases.specs.Log.{IsLog, restored}
-use Rattle.hg_phases.specs.RootPlaces.{AreRootsBefore}
+use Rattle.hg_phases.specs.Log.{IsLog}
 use Rattle.hg_phases.proofs.LogLemmas.{fresh_log}
-use Rattle.hg_phases.proofs.RootPlaceLemmas.{roots-logged}
 use Rattle.hg_phases.proofs.phase_roots.PhaseRoots.lower_and_update.Goals as goal
-
-pub returns-in_err-lower_logged-clause-rooted : goal.returns-in_err-lower_logged-clause-rooted
-returns-in_err-lower_logged-clause-rooted c =
-    let cs = c.args.graph.now in
-    let old = c.args.self.now.phases in
-    on_err_anyway c.from_residual.result _
-    (roots-logged cs old _ (length cs) c.args.self.now.roots.keys c.requires.kept.len refl
-    (c.lower_logged.ensures.undoes ∙ ap (restored old) c.requires.fresh) c.requires.kept.roots)
-
-pub returns-in_err-nodes-clause-rooted : goal.returns-in_err-nodes-clause-rooted
-returns-in_err-nodes-clause-rooted c =
-    let cs = c.args.graph.now in
-    let old = c.args.self.now.phases in
-    on_err_anyway c.from_residual-in_err-nodes.result _
-    (roots-logged cs old _ (length cs) c.args.self.now.roots.keys c.requires.kept.len refl
-    (c.lower_logged.ensures.undoes ∙ ap (restored old) c.requires.fresh) c.requires.kept.roots)
-
-pub update-requires-clause-rooted : goal.update-requires-clause-rooted
-update-requires-clause-rooted c =
-    let old = c.args.self.now.phases in
-    roots-logged c.args.graph.now old _ c.len-2.result c.args.self.now.roots.keys c.requires.kept.len
-    c.len-2.ensures.len (c.lower_logged.ensures.undoes ∙ ap (restored old) c.requires.fresh) c.requires.kept.roots
-
-pub returns-in_err-update-clause-rooted : goal.returns-in_err-update-clause-rooted
-returns-in_err-update-clause-rooted c =
-    on_err_anyway c.from_residual-in_err-update.result _
-    (subst (AreRootsBefore c.args.graph.now c.update.new.self c.lower_logged.new.log) c.len-2.ensures.len
-    c.in_err-update.ensures.unchanged)
 
 pub returns-clause-lowered : goal.returns-clause-lowered
 returns-clause-lowered c =

@@ -1,0 +1,17 @@
+use Rattle.std.proofs.Common.{sym, ◌∙◌, arith, true≢false}
+use Rattle.hg_phases.proofs.RootPlaceLemmas.{settle-root, settle-other}
+use Rattle.hg_phases.proofs.root_places.settle.Goals as goal
+
+pub returns-then-is_root : goal.returns-then-is_root
+returns-then-is_root c =
+    let place = c.args.place in
+    settle-root c.args.graph.now c.args.phases.now c.args.roots.now place
+    (omega (arith, c.requires.within, c.requires.seats)) (c.is_root.ensures.0 c.if-is_root.true) c.insert.new.self
+    c.insert.ensures
+
+pub returns-else-is_root : goal.returns-else-is_root
+returns-else-is_root c =
+    let place = c.args.place in
+    settle-other c.args.graph.now c.args.phases.now c.args.roots.now place
+    (omega (arith, c.requires.within, c.requires.seats))
+    (λ root. true≢false (sym (c.is_root.ensures.1 root) ∙ c.if-is_root.false)) c.remove.new.self c.remove.ensures

@@ -1,0 +1,53 @@
+use Rattle.std.proofs.Common.{◌≡◌, ◌⊎◌, ◌+◌, inl, inr, take, get_or, Contains, sym, subst, ◌∙◌}
+use Rattle.std.proofs.lemmas.List.{take_all}
+use Rattle.std.proofs.lemmas.List.Elements.{Contains-get_or}
+use Rattle.std.proofs.lemmas.Option.{slice_get_within}
+use Rattle.hg_changeset.proofs.ListLemmas.{Contains-none}
+use Rattle.hg_graph.proofs.WalkLemmas.{taken_one}
+use Rattle.hg_phases.specs.RootPlaces.{IsFamily}
+use Rattle.hg_phases.proofs.RootPlaceLemmas.{settled-less, settled-then}
+use Rattle.hg_phases.proofs.root_places.settle_family.Goals as goal
+
+pub loop-child-init : goal.loop-child-init
+loop-child-init c =
+    let place = c.args.place in
+    settled-less c.args.graph.now c.args.phases.now (λ p. place ≡ p)
+    (λ p. (place ≡ p) ⊎ Contains (take 0 c.children-child-items.result.now) p) c.args.roots.now c.settle.new.roots
+    c.settle.ensures (λ p r. elim r [ inl e ↦ e | inr h ↦ absurd (Contains-none p h) ])
+
+pub settle-requires-in-loop-child-clause-seats : goal.settle-requires-in-loop-child-clause-seats
+settle-requires-in-loop-child-clause-seats c = c.loop-child.invariant.len ∙ c.requires.seats
+
+pub settle-requires-in-loop-child-clause-within : goal.settle-requires-in-loop-child-clause-within
+settle-requires-in-loop-child-clause-within c =
+    let items = c.children-child-items.result.now in
+    let child = get_or items c.loop-child.child-index 0 in
+    let parent = (c.children-child-items.ensures.exact child).0
+    (Contains-get_or items c.loop-child.child-index 0 c.loop-child-test.true) in
+    slice_get_within c.args.graph.now child parent.0 parent.2
+
+pub loop-child-preserved : goal.loop-child-preserved
+loop-child-preserved c =
+    let place = c.args.place in
+    let items = c.children-child-items.result.now in
+    let i = c.loop-child.child-index in
+    settled-then c.args.graph.now c.args.phases.now (λ p. (place ≡ p) ⊎ Contains (take i items) p)
+    (λ p. get_or items i 0 ≡ p) (λ p. (place ≡ p) ⊎ Contains (take (i + 1) items) p) c.args.roots.now
+    c.loop-child.roots c.settle-in-loop-child.new.roots c.loop-child.invariant c.settle-in-loop-child.ensures
+    (λ p r. elim r [
+      | inl e ↦ inl (inl e)
+      | inr h ↦ elim ((taken_one items i 0 p c.loop-child-test.true).0 h) [ inl old ↦ inl (inr old) | inr e ↦ inr e ]
+    ])
+
+pub returns : goal.returns
+returns c =
+    let place = c.args.place in
+    let items = c.children-child-items.result.now in
+    let i = c.loop-child.child-index in
+    let all : take i items ≡ items = take_all i items c.loop-child-test.false in
+    settled-less c.args.graph.now c.args.phases.now (λ p. (place ≡ p) ⊎ Contains (take i items) p)
+    (IsFamily c.args.graph.now place) c.args.roots.now c.loop-child.roots c.loop-child.invariant
+    (λ p r. elim r [
+      | inl e ↦ inl e
+      | inr parent ↦ inr (subst (λ xs. Contains xs p) (sym all) ((c.children-child-items.ensures.exact p).1 parent))
+    ])
