@@ -1,6 +1,6 @@
 -- The steps of `absorb` together.
 use Rattle.std.proofs.Common.{◌≡◌, ℕ, List, [], ◌∷◌, ◌++◌, length, take, drop, Contains, Result, Ok, Err, ◌≤◌, ◌⊎◌, inl}
-use Rattle.std.proofs.Common.{inr, refl, sym, ap, subst, ◌∙◌, arith}
+use Rattle.std.proofs.Common.{inr, Bool, refl, sym, ap, subst, ◌∙◌, arith}
 use Rattle.std.proofs.Math.Seq.{drop-append_seam}
 use Rattle.std.proofs.lemmas.List.{take_all, map-append, length-append, length-map}
 use Rattle.std.proofs.lemmas.Option.{slice_get_within}
@@ -68,17 +68,17 @@ module _ (held : List Contents) (had : List Phase) (part : List Contents) (befor
       ap (λ n. take n ks) begun.first ∙ phases_kept held had part a.0 cs ks a.1 begun.len
 
   -- the roots of what was held first
-  pub rooted_after : (places : List ℕ) → AreRootPlaces held had places
-      → AreRootPlaces (take before cs) (take before ks) places
-  rooted_after places are =
-      subst (λ ls. AreRootPlaces (take before cs) ls places) (sym begun_phases)
-      (subst (λ ds. AreRootPlaces ds had places) (sym begun_front) are)
+  pub rooted_after : (flags : List Bool) → AreRootPlaces held had flags
+      → AreRootPlaces (take before cs) (take before ks) flags
+  rooted_after flags are =
+      subst (λ ls. AreRootPlaces (take before cs) ls flags) (sym begun_phases)
+      (subst (λ ds. AreRootPlaces ds had flags) (sym begun_front) are)
 
-  pub rooted_before : (places : List ℕ) → AreRootPlaces (take before cs) (take before ks) places
-      → AreRootPlaces held had places
-  rooted_before places are =
-      subst (λ ls. AreRootPlaces held ls places) begun_phases
-      (subst (λ ds. AreRootPlaces ds (take before ks) places) begun_front are)
+  pub rooted_before : (flags : List Bool) → AreRootPlaces (take before cs) (take before ks) flags
+      → AreRootPlaces held had flags
+  rooted_before flags are =
+      subst (λ ls. AreRootPlaces held ls flags) begun_phases
+      (subst (λ ds. AreRootPlaces ds (take before ks) flags) begun_front are)
 
 -- what a call that adds leaves can be gone on with
 module _ (held : List Contents) (had : List Phase) (part : List Contents) (added : Result Unit Fault)

@@ -87,7 +87,7 @@ fn take_bounds_or_undo(
     requires valid { IsValid (kept_state graph.old kept.old.phases) }
     requires within { before ≤ length graph.old }
     requires rooted { AreRootPlaces (take before graph.old) (take before (phases_at graph.old kept.old.phases))
-        kept.old.roots.keys }
+        kept.old.roots }
     ensures inside { (held : List Contents) (had : List Phase) (part : List Contents)
         → IsBegun held had part before added graph.old (phases_at graph.old kept.old.phases)
         → AreKept graph.new kept.new × IsValid (kept_state graph.new kept.new.phases) }
@@ -126,12 +126,10 @@ fn take_bounds_and_update(
     requires within { before ≤ length graph.now }
     requires fresh { log.old ≡ [] }
     requires rooted { AreRootPlaces (take before graph.now) (take before (phases_at graph.now kept.old.phases))
-        kept.old.roots.keys }
+        kept.old.roots }
     ensures back { CanTakeBack graph.now (phases_at graph.now kept.old.phases) graph.now kept.new.phases log.new }
     ensures kept { OnOk result (AreKept graph.now kept.new) }
-    ensures rooted { OnErr result
-        (AreRootPlaces (take before graph.now) (take before (phases_at graph.now kept.old.phases))
-        kept.new.roots.keys) }
+    ensures roots { OnErr result (kept.new.roots ≡ kept.old.roots) }
     ensures absorbed { (held : List Contents) (had : List Phase) (part : List Contents)
         → IsBegun held had part before added graph.now (phases_at graph.now kept.old.phases)
         → IfOk result

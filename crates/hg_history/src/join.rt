@@ -13,7 +13,7 @@ ghost use Rattle.hg_phases.specs.Kept.{phases_at, kept_state, phases_before};
 ghost use Rattle.hg_phases.specs.Least.{IsLeast, part_of};
 ghost use Rattle.hg_phases.specs.Log.{IsLog};
 ghost use Rattle.hg_phases.specs.Order.{Below};
-ghost use Rattle.hg_phases.specs.RootPlaces.{AreKept, AreRootPlaces};
+ghost use Rattle.hg_phases.specs.RootPlaces.{AreKept};
 ghost use Rattle.hg_history.specs.Answer.{AreHeldUpTo, HasHigher, IsGrowthBeforeFault};
 ghost use Rattle.hg_history.specs.Join.{IsJoinFault, JoinAnswer, IsHeldAsLow};
 ghost use Rattle.hg_history.specs.Steps.{AddAllAnswer, CanTakeBack, IsLoweredTo};
@@ -70,7 +70,7 @@ fn join_and_update(
     requires fresh { log.old ≡ [] }
     ensures back { CanTakeBack graph.old (phases_at graph.old kept.old.phases) graph.new kept.new.phases log.new }
     ensures kept { OnOk result (AreKept graph.new kept.new) }
-    ensures rooted { OnErr result (AreRootPlaces graph.old (phases_at graph.old kept.old.phases) kept.new.roots.keys) }
+    ensures roots { OnErr result (kept.new.roots ≡ kept.old.roots) }
     ensures joined { OnOk result (IsLeast (kept_state graph.old kept.old.phases)
         (part_of (kept_state other.now other_phases.now) ∷ []) (kept_state graph.new kept.new.phases)) }
     ensures fault { IfErr result

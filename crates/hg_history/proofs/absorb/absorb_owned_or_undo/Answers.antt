@@ -21,7 +21,7 @@ take_bounds_or_undo-requires c =
             first = c.len-before.ensures.len;
             done =
                 added.ensures;
-          }) c.args.kept.now.roots.keys c.requires.kept.roots;
+          }) c.args.kept.now.roots c.requires.kept.roots;
     }
 
 begun : (c : goal.After-take_bounds_or_undo)

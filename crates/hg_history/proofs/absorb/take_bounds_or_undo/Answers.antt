@@ -37,16 +37,18 @@ pub returns-clause-inside : goal.returns-clause-inside
 returns-clause-inside c held had part begun =
     let graph = c.take_back.new.graph in
     let phases = c.take_back.new.phases in
-    let places = c.take_bounds_and_update.new.kept.roots.keys in
+    let flags = c.take_bounds_and_update.new.kept.roots in
     let is = graph_is c held had part begun in
     let are = phases_are c held had part begun in
     let rooted =
-    rooted_before held had part c.args.before c.args.added c.args.graph.now c.args.kept.now.phases begun places
-    c.in-Err.ensures.rooted in (
+    rooted_before held had part c.args.before c.args.added c.args.graph.now c.args.kept.now.phases begun flags
+    (subst
+    (AreRootPlaces (take c.args.before c.args.graph.now) (take c.args.before c.args.kept.now.phases))
+    (sym c.in-Err.ensures.roots) c.requires.rooted) in (
       record {
         len = ap length are ∙ begun.len ∙ sym (ap length is);
-        roots = subst (λ ds. AreRootPlaces ds phases places) (sym is)
-            (subst (λ ls. AreRootPlaces held ls places) (sym are) rooted);
+        roots = subst (λ ds. AreRootPlaces ds phases flags) (sym is)
+            (subst (λ ls. AreRootPlaces held ls flags) (sym are) rooted);
       },
       subst (λ g. IsValid (state_of g phases)) (sym is) (subst (λ p. IsValid (state_of held p)) (sym are) begun.valid),
     )

@@ -29,7 +29,7 @@ returns-clause-inside c =
     let ks = c.args.kept.now.phases in
     let new = c.join_and_update.new in
     let back = c.join_and_update.ensures.back in
-    let places = new.kept.roots.keys in
+    let flags = new.kept.roots in
     let is : c.take_back.new.graph ≡ cs =
     c.take_back.ensures.graph ∙ ap (λ n. take n new.graph) c.len-before.ensures.len ∙ back.front in
     let are : c.take_back.new.phases ≡ ks =
@@ -37,8 +37,9 @@ returns-clause-inside c =
     ∙ back.phases in (
       record {
         len = ap length are ∙ c.requires.kept.len ∙ sym (ap length is);
-        roots = subst (λ ds. AreRootPlaces ds c.take_back.new.phases places) (sym is)
-            (subst (λ ls. AreRootPlaces cs ls places) (sym are) c.in-Err.ensures.rooted);
+        roots = subst (λ ds. AreRootPlaces ds c.take_back.new.phases flags) (sym is)
+            (subst (λ ls. AreRootPlaces cs ls flags) (sym are)
+            (subst (AreRootPlaces cs ks) (sym c.in-Err.ensures.roots) c.requires.kept.roots));
       },
       subst (λ g. IsValid (state_of g c.take_back.new.phases)) (sym is)
           (subst (λ ls. IsValid (state_of cs ls)) (sym are) c.requires.valid),

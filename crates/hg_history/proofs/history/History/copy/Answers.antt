@@ -13,8 +13,8 @@ invariant_of-result c =
     let rooted = subst (λ ps. AreRootPlaces c.self.inside.graph c.self.inside.kept.phases ps) (sym same.1) kept.roots in (
       record {
         len = ap length same.0 ∙ kept.len ∙ sym (ap length same_graph);
-        roots = subst (λ ds. AreRootPlaces ds new.phases new.roots.keys) (sym same_graph)
-            (subst (λ ls. AreRootPlaces c.self.inside.graph ls new.roots.keys) (sym same.0) rooted);
+        roots = subst (λ ds. AreRootPlaces ds new.phases new.roots) (sym same_graph)
+            (subst (λ ls. AreRootPlaces c.self.inside.graph ls new.roots) (sym same.0) rooted);
       },
       subst (λ ds. IsValid (state_of ds new.phases)) (sym same_graph)
           (subst (λ ls. IsValid (state_of c.self.inside.graph ls)) (sym same.0) c.self.invariant.1),
