@@ -1,13 +1,13 @@
 -- Places and their seats: two seats are changed, and places come and go at the end.
-use Rattle.std.proofs.Common.{◌≡◌, ◌≢◌, ℕ, zero, suc, ◌+◌, ◌-◌, ◌<◌, ◌≤◌, ◌↔◌, ◌⊎◌, inl, inr, Bool, true, false, cond}
-use Rattle.std.proofs.Common.{nat_eq, nat_lt, get_or, List, [], ◌∷◌, ◌++◌, length, map, set, take, slice_get, Some, None, Contains}
+use Rattle.std.proofs.Common.{◌≡◌, ◌≢◌, ℕ, zero, suc, ◌+◌, ◌-◌, ◌<◌, ◌≤◌, ◌↔◌, inl, inr, Bool, true, false}
+use Rattle.std.proofs.Common.{nat_lt, get_or, List, [], ◌∷◌, ◌++◌, length, map, set, take, slice_get, Some, None, Contains}
 use Rattle.std.proofs.Common.{refl, sym, ap, subst, ◌∙◌, arith, true≢false, append-nil, append_assoc}
 use Rattle.std.specs.Option.{option_map}
 use Rattle.std.proofs.lemmas.Bool.{cases_eq, cases_lt}
 use Rattle.std.proofs.lemmas.List.{length-set, length-map, length-append, length-take-le, take-map, take_at}
 use Rattle.std.proofs.lemmas.Option.{none-some, same_Some, slice_get-map, slice_get_within, slice_get_past, slice_get_cases}
 use Rattle.std.proofs.lemmas.Option.{slice_get-get_or}
-use Rattle.hg_changeset.proofs.ListLemmas.{slice_get_some, slice_get-take, slice_get-push_cases, slice_get-append}
+use Rattle.hg_changeset.proofs.ListLemmas.{slice_get-take, slice_get-push_cases, slice_get-append}
 use Rattle.hg_changeset.proofs.ListLemmas.{slice_get-append_seam}
 use Rattle.hg_graph.proofs.GraphLemmas.{get-take, Contains-from_place, place_from_Contains}
 use Rattle.hg_graph.proofs.MarkLemmas.{get-set_same, get-set_other}

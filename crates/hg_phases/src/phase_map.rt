@@ -203,7 +203,7 @@ impl PhaseMap {
         ensures emptied { log.new ≡ [] }
     {
         self.restore(&mut log.places);
-        self.phases.truncate(before);
+        self.truncate(before);
     }
 
     /// Forgets the places from one on.

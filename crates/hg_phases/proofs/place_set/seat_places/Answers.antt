@@ -1,4 +1,4 @@
-use Rattle.std.proofs.Common.{◌≡◌, ◌+◌, [], ◌∷◌, length, sym, ap, ◌∙◌, arith}
+use Rattle.std.proofs.Common.{[], ◌∷◌, length, sym, ap, arith}
 use Rattle.std.proofs.lemmas.List.{length-append}
 use Rattle.hg_phases.proofs.SeatLemmas.{begins-itself, begins-push, begins-taken, begins-same, seated-push}
 use Rattle.hg_phases.proofs.place_set.seat_places.Goals as goal

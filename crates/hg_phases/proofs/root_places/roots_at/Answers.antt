@@ -1,4 +1,4 @@
-use Rattle.std.proofs.Common.{ℕ, ◌↔◌, ◌⊎◌, inl, inr, [], Contains, sym, subst}
+use Rattle.std.proofs.Common.{inl, inr, Contains, subst}
 use Rattle.hg_changeset.proofs.ListLemmas.{Contains-none}
 use Rattle.hg_phases.proofs.root_places.roots_at.Goals as goal
 

@@ -1,4 +1,4 @@
-use Rattle.std.proofs.Common.{◌≤◌, ◌<◌, length}
+use Rattle.std.proofs.Common.{◌≤◌, ◌<◌}
 use Rattle.hg_phases.specs.RootPlaces.{AreSettled}
 use Rattle.hg_phases.proofs.root_places.settle_added.Given as goal
 

@@ -14,10 +14,10 @@ pub returns-clause-valid : goal.returns-clause-valid
 returns-clause-valid c =
     let cs = c.args.graph.now in
     let before = restored c.args.self.now c.args.log.now in
-    let is : c.truncate.new.self.items ≡ take c.args.before before =
-    c.truncate.ensures.items
+    let is : c.truncate.new.self ≡ take c.args.before before =
+    c.truncate.ensures
     ∙ ap (take c.args.before)
-    (c.self.view_is ∙ c.restore.ensures.restored ∙ ap (restored c.args.self.now) c.log.view_is) in
+    (c.restore.ensures.restored ∙ ap (restored c.args.self.now) c.log.view_is) in
     subst (λ ks. IsValid (state_of (take c.args.before cs) ks)) (sym is)
     (valid-take c.args.before cs before (length-restored c.args.self.now c.args.log.now ∙ c.requires.len)
     c.requires.valid)

@@ -1,7 +1,7 @@
-use Rattle.std.proofs.Common.{◌≡◌, ◌-◌, ◌<◌, ◌≤◌, suc, false, Some, take, slice_get, length, sym, ap, subst, ◌∙◌, arith}
+use Rattle.std.proofs.Common.{◌≡◌, ◌-◌, ◌<◌, ◌≤◌, suc, false, take, slice_get, length, ap, ◌∙◌, arith}
 use Rattle.std.proofs.lemmas.List.{length-set, take-set, length-take-le}
 use Rattle.hg_graph.proofs.MarkLemmas.{get-set_same}
-use Rattle.hg_phases.specs.Seats.{AreSeated, flags_of}
+use Rattle.hg_phases.specs.Seats.{flags_of}
 use Rattle.hg_phases.proofs.SeatLemmas.{place-within, seat-read, length-swapped, length-flags, seated-forget, seat-out}
 use Rattle.hg_phases.proofs.SeatLemmas.{flags-taken, flags-behind, last-seat}
 use Rattle.hg_phases.proofs.place_set.PlaceSet.forget_last.Goals as goal

@@ -1,4 +1,4 @@
-use Rattle.std.proofs.Common.{◌≡◌, length, take, sym, ap, ◌∙◌, arith}
+use Rattle.std.proofs.Common.{◌≡◌, length, take, sym, ap, ◌∙◌}
 use Rattle.hg_phases.specs.Seats.{flags_of}
 use Rattle.hg_phases.proofs.SeatLemmas.{length-flags, flags-taken}
 use Rattle.hg_phases.proofs.place_set.PlaceSet.grow.Goals as goal

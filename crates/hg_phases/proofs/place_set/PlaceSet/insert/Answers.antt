@@ -1,4 +1,4 @@
-use Rattle.std.proofs.Common.{◌≡◌, ◌+◌, ◌-◌, Some, true, false, slice_get, slice_set, sym, ap, ◌∙◌, arith}
+use Rattle.std.proofs.Common.{◌+◌, true, slice_set, sym, ap, ◌∙◌, arith}
 use Rattle.hg_phases.specs.Seats.{flags_of}
 use Rattle.hg_phases.proofs.SeatLemmas.{place-within, inserted, kept-in, seat-read, length-swapped}
 use Rattle.hg_phases.proofs.place_set.PlaceSet.insert.Goals as goal

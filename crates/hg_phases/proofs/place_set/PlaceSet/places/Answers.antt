@@ -1,4 +1,4 @@
-use Rattle.std.proofs.Common.{List, ℕ, Contains, take, ◌↔◌, ◌≡◌, Some, true, slice_get, sym, subst}
+use Rattle.std.proofs.Common.{ℕ, Contains, take, ◌↔◌, ◌≡◌, Some, true, slice_get, sym, subst}
 use Rattle.hg_phases.proofs.SeatLemmas.{listed-first}
 use Rattle.hg_phases.proofs.place_set.PlaceSet.places.Goals as goal
 

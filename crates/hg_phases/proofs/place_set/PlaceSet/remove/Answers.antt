@@ -1,6 +1,6 @@
-use Rattle.std.proofs.Common.{◌≡◌, ◌+◌, ◌-◌, Some, true, false, slice_get, slice_set, sym, ap, ◌∙◌, arith}
+use Rattle.std.proofs.Common.{◌-◌, false, slice_set, sym, ap, ◌∙◌, arith}
 use Rattle.hg_phases.specs.Seats.{flags_of}
-use Rattle.hg_phases.proofs.SeatLemmas.{place-within, removed, kept-out, seat-read, length-swapped}
+use Rattle.hg_phases.proofs.SeatLemmas.{removed, kept-out, seat-read}
 use Rattle.hg_phases.proofs.place_set.PlaceSet.remove.Goals as goal
 
 pub returns-then-seat-self : goal.returns-then-seat-self
