@@ -1,6 +1,6 @@
 -- What ends a script: the faults of names, of lines, and of whole scripts.
 use Rattle.std.proofs.Common.{◌≡◌, ◌⊎◌, inl, inr, ℕ, ◌+◌, ◌≤◌, ◌<◌, List, [], ◌∷◌, ◌++◌, length, get_or, map, slice_get}
-use Rattle.std.proofs.Common.{codes, Bool, true, false, IsTrue, Option, Some, None, IsSome, is_some, IfSome, IsErrOf}
+use Rattle.std.proofs.Common.{Bool, true, false, IsTrue, Option, Some, None, IsSome, is_some, IfSome, IsErrOf}
 use Rattle.std.proofs.Common.{Result, Ok, Err, IfOk, IfErr, refl, sym, ap, subst, ◌∙◌, arith, zero-add, zero, suc}
 use Rattle.std.proofs.Common.{true≢false}
 use Rattle.std.specs.Option.{option_and_then}
@@ -11,7 +11,6 @@ use Rattle.std.proofs.lemmas.List.{append-nil, length-map}
 use Rattle.std.proofs.lemmas.Bool.{cases_lt}
 use Rattle.std.proofs.lemmas.Option.{same_Some}
 use mathlib.Core.Logic.{⊎_elim}
-use denote.Bor.{Bor}
 use Rattle.hg_changeset.specs.declared.node.Node.{Node}
 use Rattle.hg_changeset.proofs.ListLemmas.{slice_get-append_seam}
 use Rattle.hg_graph.specs.Graph.{nodes}
@@ -37,7 +36,7 @@ use Rattle.hg_script.specs.declared.fault.RunFault.{RunFault}
 use Rattle.hg_script.specs.declared.fault.RunFault.TheVariants.{Line, ScriptTooLong, Read, Write, NoMemory}
 use Rattle.hg_script.specs.declared.fleet.Fleet.{Fleet}
 use Rattle.hg_script.specs.Commands.{Text, Word, texts, CommandAnswer, LineAnswer}
-use Rattle.hg_script.specs.Endings.{UsesUnknown, MakesUnderTaken, AreLabelsFree, IsTakenFault, IsNodeFault, IsNameFault}
+use Rattle.hg_script.specs.Endings.{UsesUnknown, AreLabelsFree, IsTakenFault, IsNodeFault, IsNameFault}
 use Rattle.hg_script.specs.Endings.{IsCommandFault, IsLeftBy, HasWords, Says, IsLineFault, EndsAt, StopsAmong}
 use Rattle.hg_script.specs.Endings.{IsStoppedBy, IsScriptOf, IsStop}
 use Rattle.hg_script.specs.Events.{Trace, PeerEvent, PeerAnswer, no_trace, joined, Meaning, HasUnknown, IsAbsence}
@@ -47,7 +46,6 @@ use Rattle.hg_script.specs.Faults.{IsInputFault}
 use Rattle.hg_script.specs.Limits.{script_limit}
 use Rattle.hg_script.specs.Names.{AreDistinct}
 use Rattle.hg_script.specs.Scripts.{places, ids, numbers, node_named, message_named, may_be_bound, DoesLine, DoesLines}
-use Rattle.hg_script.specs.Words.{words_of}
 use Rattle.hg_script.proofs.LabelLemmas.{twice_taken, nothing_free, new_apart, made_for}
 
 -- ---- names that stand for nothing

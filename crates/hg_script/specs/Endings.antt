@@ -14,7 +14,7 @@ use Rattle.hg_script.specs.declared.command.Command.TheVariants.{Node as node, O
 use Rattle.hg_script.specs.declared.command.Command.TheVariants.{Pull, Report, Agree}
 use Rattle.hg_script.specs.declared.operation.Operation.{Operation}
 use Rattle.hg_script.specs.declared.fault.LineFault.{LineFault}
-use Rattle.hg_script.specs.declared.fault.LineFault.TheVariants.{TooLong, UnknownCommand, WordCount, BadName, BadPhase}
+use Rattle.hg_script.specs.declared.fault.LineFault.TheVariants.{TooLong}
 use Rattle.hg_script.specs.declared.fault.LineFault.TheVariants.{UnknownName, NameTaken}
 use Rattle.hg_script.specs.declared.fault.RunFault.{RunFault}
 use Rattle.hg_script.specs.declared.fault.RunFault.TheVariants.{Line, ScriptTooLong, Read, Write, NoMemory}

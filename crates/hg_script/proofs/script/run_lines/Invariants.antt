@@ -1,4 +1,4 @@
-use Rattle.std.proofs.Common.{ℕ, ◌+◌, ◌≤◌, length, Option}
+use Rattle.std.proofs.Common.{◌+◌, ◌≤◌, length, Option}
 use Rattle.std.specs.Str.Lines.{lines}
 use Rattle.hg_script.specs.declared.fault.RunFault.{RunFault}
 use Rattle.hg_script.specs.declared.fleet.Fleet.{Fleet}

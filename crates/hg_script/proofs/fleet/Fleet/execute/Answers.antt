@@ -1,7 +1,6 @@
-use Rattle.std.proofs.Common.{refl, sym, subst, OnOk, IfErr}
+use Rattle.std.proofs.Common.{sym, subst, OnOk, IfErr}
 use Rattle.hg_script.specs.declared.command.Command.TheVariants as command
 use Rattle.hg_script.specs.declared.command.Command.{Command}
-use Rattle.hg_script.specs.declared.fault.RunFault.{RunFault}
 use Rattle.hg_script.specs.Endings.{IsLeftBy}
 use Rattle.hg_script.specs.Printing.{IsDone}
 use Rattle.hg_script.proofs.EndingLemmas.{left_unchanged}
