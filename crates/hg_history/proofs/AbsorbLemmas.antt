@@ -2,7 +2,7 @@
 use Rattle.std.proofs.Common.{◌≡◌, ℕ, List, [], ◌∷◌, ◌++◌, length, take, drop, Contains, Result, Ok, Err, ◌≤◌, ◌⊎◌, inl}
 use Rattle.std.proofs.Common.{inr, Bool, refl, sym, ap, subst, ◌∙◌, arith}
 use Rattle.std.proofs.Math.Seq.{drop-append_seam}
-use Rattle.std.proofs.lemmas.List.{take_all, map-append, length-append, length-map}
+use Rattle.std.proofs.lemmas.List.{take-take, take_all, map-append, length-append, length-map}
 use Rattle.std.proofs.lemmas.Option.{slice_get_within}
 use Rattle.hg_changeset.specs.declared.node.Node.{Node}
 use Rattle.hg_changeset.specs.Contents.{Contents}
@@ -47,6 +47,12 @@ pub back_added : (held : List Contents) (had : List Phase) (part : List Contents
     → IsAdded held had part i cs ks → log ≡ [] → CanTakeBack held had cs ks log
 back_added held had part i cs ks log len a fresh =
     back_lowered held had part i cs ks ks Public log len a refl (fresh_log Public ks log fresh) (ap (restored ks) fresh)
+
+-- the log gives the phases of the first changesets back
+pub front_restored : (cs : List Contents) (ks new : List Phase) (log : List LoweredPlace) (before : ℕ)
+    → before ≤ length cs → CanTakeBack cs ks cs new log → take before (restored new log) ≡ take before ks
+front_restored cs ks new log before within back =
+    sym (take-take before (length cs) (restored new log) within) ∙ ap (take before) back.phases
 
 -- what was begun
 module _ (held : List Contents) (had : List Phase) (part : List Contents) (before : ℕ) (added : Result Unit Fault)

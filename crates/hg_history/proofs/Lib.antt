@@ -8,3 +8,4 @@ pub mod FirstFaultLemmas
 pub mod GrowthLemmas
 pub mod JoinLemmas
 pub mod OpenLemmas
+pub mod UndoLemmas

@@ -19,29 +19,35 @@ ghost use Rattle.hg_phases.specs.Lowered.{IsAbove};
 ghost use Rattle.hg_phases.specs.RootPlaces.{AreKept, AreRootPlaces};
 ghost use Rattle.hg_history.specs.Answer.{AbsorbAnswer, AreHeldUpTo, IsAbsorbed, IsGrowthBeforeFault, HasHigher};
 ghost use Rattle.hg_history.specs.Answer.{IsRefusal};
+ghost use Rattle.hg_history.specs.Undo.{LeadsBack};
+ghost use Rattle.hg_history.specs.Absorbed.{without_undo};
 ghost use Rattle.hg_history.specs.Steps.{AddAllAnswer, IsAnswered, IsBegun, CanTakeBack, OneAdded, IsBoundFault};
 ghost use Rattle.hg_history.specs.Steps.{IsBoundAt, OneLowered, IsLoweredTo};
 
 use crate::change::Change;
 use crate::fault::Fault;
+use crate::undo::{Absorbed, Undo};
 use hg_changeset::{Changeset, Node};
 use hg_graph::{Added, Graph, GraphError};
 use hg_phases::{LoweringLog, Phase, PhaseMap, PhaseRoots};
 use std::alloc::{AllocError, Global};
 
-/// Takes the part in, or leaves everything as it was.
+/// Takes the part in and gives out what takes it back, or leaves everything as it was.
 pub(crate) fn absorb_or_undo(
     graph: &mut Graph,
     kept: &mut PhaseRoots,
     alloc: Global,
     changesets: &[Changeset],
     bounds: &[(Node, Phase)],
-) -> Result<Change, Fault>
+) -> Result<Absorbed, Fault>
     requires kept { AreKept graph.old kept.old }
     requires valid { IsValid (kept_state graph.old kept.old.phases) }
     ensures inside { AreKept graph.new kept.new × IsValid (kept_state graph.new kept.new.phases) }
     ensures answer { AbsorbAnswer (kept_state graph.old kept.old.phases)
-        (record { changesets = changesets.now; bounds = bounds.now }) result (kept_state graph.new kept.new.phases) }
+        (record { changesets = changesets.now; bounds = bounds.now }) (without_undo result)
+        (kept_state graph.new kept.new.phases) }
+    ensures back { IfOk result (λ absorbed. LeadsBack (kept_state graph.new kept.new.phases) absorbed.undo
+        (kept_state graph.old kept.old.phases)) }
     ensures memory { IsErrOf result Fault.NoMemory
         → IsGrowthBeforeFault (kept_state graph.old kept.old.phases)
         (record { changesets = changesets.now; bounds = bounds.now }) }
@@ -51,19 +57,22 @@ pub(crate) fn absorb_or_undo(
     take_bounds_or_undo(graph, kept, alloc, before, added, bounds)
 }
 
-/// Takes the part in, whose changesets are moved, or leaves everything as it was.
+/// Takes the part in, whose changesets are moved, and gives out what takes it back, or leaves everything as it was.
 pub(crate) fn absorb_owned_or_undo(
     graph: &mut Graph,
     kept: &mut PhaseRoots,
     alloc: Global,
     changesets: Vec<Changeset>,
     bounds: &[(Node, Phase)],
-) -> Result<Change, Fault>
+) -> Result<Absorbed, Fault>
     requires kept { AreKept graph.old kept.old }
     requires valid { IsValid (kept_state graph.old kept.old.phases) }
     ensures inside { AreKept graph.new kept.new × IsValid (kept_state graph.new kept.new.phases) }
     ensures answer { AbsorbAnswer (kept_state graph.old kept.old.phases)
-        (record { changesets = changesets.items; bounds = bounds.now }) result (kept_state graph.new kept.new.phases) }
+        (record { changesets = changesets.items; bounds = bounds.now }) (without_undo result)
+        (kept_state graph.new kept.new.phases) }
+    ensures back { IfOk result (λ absorbed. LeadsBack (kept_state graph.new kept.new.phases) absorbed.undo
+        (kept_state graph.old kept.old.phases)) }
     ensures memory { IsErrOf result Fault.NoMemory
         → IsGrowthBeforeFault (kept_state graph.old kept.old.phases)
         (record { changesets = changesets.items; bounds = bounds.now }) }
@@ -73,8 +82,8 @@ pub(crate) fn absorb_owned_or_undo(
     take_bounds_or_undo(graph, kept, alloc, before, added, bounds)
 }
 
-// Takes the bounds in, where all changesets were added, or takes back what was done. Before them there were `before`
-// changesets, whose roots are kept.
+// Takes the bounds in, where all changesets were added, and gives out what takes it all back; or takes it back at once.
+// Before them there were `before` changesets, whose roots are kept.
 fn take_bounds_or_undo(
     graph: &mut Graph,
     kept: &mut PhaseRoots,
@@ -82,7 +91,7 @@ fn take_bounds_or_undo(
     before: usize,
     added: Result<(), Fault>,
     bounds: &[(Node, Phase)],
-) -> Result<Change, Fault>
+) -> Result<Absorbed, Fault>
     requires len { length (phases_at graph.old kept.old.phases) ≡ length graph.old }
     requires valid { IsValid (kept_state graph.old kept.old.phases) }
     requires within { before ≤ length graph.old }
@@ -93,8 +102,12 @@ fn take_bounds_or_undo(
         → AreKept graph.new kept.new × IsValid (kept_state graph.new kept.new.phases) }
     ensures answer { (held : List Contents) (had : List Phase) (part : List Contents)
         → IsBegun held had part before added graph.old (phases_at graph.old kept.old.phases)
-        → AbsorbAnswer (state_of held had) (record { changesets = part; bounds = bounds.now }) result
+        → AbsorbAnswer (state_of held had) (record { changesets = part; bounds = bounds.now }) (without_undo result)
         (kept_state graph.new kept.new.phases) }
+    ensures back { (held : List Contents) (had : List Phase) (part : List Contents)
+        → IsBegun held had part before added graph.old (phases_at graph.old kept.old.phases)
+        → IfOk result
+        (λ absorbed. LeadsBack (kept_state graph.new kept.new.phases) absorbed.undo (state_of held had)) }
     ensures memory { (held : List Contents) (had : List Phase) (part : List Contents)
         → IsBegun held had part before added graph.old (phases_at graph.old kept.old.phases)
         → IsErrOf result Fault.NoMemory
@@ -102,7 +115,10 @@ fn take_bounds_or_undo(
 {
     let mut log = LoweringLog::new(alloc);
     match take_bounds_and_update(graph, kept, &mut log, alloc, before, added, bounds) {
-        Ok(change) => Ok(change),
+        Ok(change) => Ok(Absorbed {
+            change,
+            undo: Undo { before, log },
+        }),
         Err(fault) => {
             take_back(graph, &mut kept.phases, &mut log, before);
             Err(fault)

@@ -1,18 +1,21 @@
 //! The history: a graph of changesets, with a phase for each.
 ghost use Rattle.std.specs.Prelude.{IfOk, IsErrOf, IsOkAnd, MatchOption, IsTrue, Some, [], length, slice_get, ◌≡◌, ◌≤◌};
 ghost use Rattle.std.specs.Prelude.{◌↔◌};
-ghost use Rattle.hg_phases.specs.State.{Held, changesets, state_of, Holds, IsPhaseOf, IsValid};
+ghost use Rattle.hg_phases.specs.State.{State, Held, changesets, state_of, Holds, IsPhaseOf, IsValid};
 ghost use Rattle.hg_phases.specs.Least.{part_of};
 ghost use Rattle.hg_phases.specs.Order.{Below};
 ghost use Rattle.hg_history.specs.Answer.{AbsorbAnswer, IsGrowthBeforeFault};
 ghost use Rattle.hg_phases.specs.Roots.{AreRoots};
 ghost use Rattle.hg_history.specs.Join.{JoinAnswer};
 ghost use Rattle.hg_history.specs.Open.{OpenAnswer};
+ghost use Rattle.hg_history.specs.Undo.{LeadsBack};
+ghost use Rattle.hg_history.specs.Absorbed.{without_undo};
 
 use crate::absorb::{absorb_or_undo, absorb_owned_or_undo};
 use crate::change::Change;
 use crate::fault::Fault;
 use crate::join::{is_below, join_or_undo};
+use crate::undo::{Absorbed, Undo, without_undo};
 use hg_changeset::{Changeset, Node};
 use hg_graph::Graph;
 use hg_phases::{Phase, PhaseRoots, Roots};
@@ -136,13 +139,7 @@ impl History {
         ensures memory { IsErrOf result Fault.NoMemory
             → IsGrowthBeforeFault self.old (record { changesets = changesets.now; bounds = bounds.now }) }
     {
-        absorb_or_undo(
-            &mut self.graph,
-            &mut self.kept,
-            self.alloc,
-            changesets,
-            bounds,
-        )
+        without_undo(self.absorb_with_undo(changesets, bounds))
     }
 
     /// Takes in changesets and bounds on phases as [`absorb`](History::absorb) does, but moves the changesets that
@@ -159,6 +156,48 @@ impl History {
         ensures memory { IsErrOf result Fault.NoMemory
             → IsGrowthBeforeFault self.old (record { changesets = changesets.items; bounds = bounds.now }) }
     {
+        without_undo(self.absorb_owned_with_undo(changesets, bounds))
+    }
+
+    /// Takes in changesets and bounds on phases as [`absorb`](History::absorb) does, and gives out what takes them
+    /// back.
+    pub fn absorb_with_undo(
+        &mut self,
+        changesets: &[Changeset],
+        bounds: &[(Node, Phase)],
+    ) -> Result<Absorbed, Fault>
+        ensures answer { AbsorbAnswer self.old (record { changesets = changesets.now; bounds = bounds.now })
+            (without_undo result) self.new }
+        ensures back { IfOk result (λ absorbed. LeadsBack self.new absorbed.undo self.old) }
+        ensures valid { IsValid self.old }
+        ensures still_valid { IsValid self.new }
+        ensures memory { IsErrOf result Fault.NoMemory
+            → IsGrowthBeforeFault self.old (record { changesets = changesets.now; bounds = bounds.now }) }
+    {
+        absorb_or_undo(
+            &mut self.graph,
+            &mut self.kept,
+            self.alloc,
+            changesets,
+            bounds,
+        )
+    }
+
+    /// Takes in changesets and bounds on phases as [`absorb_owned`](History::absorb_owned) does, and gives out what
+    /// takes them back.
+    pub fn absorb_owned_with_undo(
+        &mut self,
+        changesets: Vec<Changeset>,
+        bounds: &[(Node, Phase)],
+    ) -> Result<Absorbed, Fault>
+        ensures answer { AbsorbAnswer self.old (record { changesets = changesets.items; bounds = bounds.now })
+            (without_undo result) self.new }
+        ensures back { IfOk result (λ absorbed. LeadsBack self.new absorbed.undo self.old) }
+        ensures valid { IsValid self.old }
+        ensures still_valid { IsValid self.new }
+        ensures memory { IsErrOf result Fault.NoMemory
+            → IsGrowthBeforeFault self.old (record { changesets = changesets.items; bounds = bounds.now }) }
+    {
         absorb_owned_or_undo(
             &mut self.graph,
             &mut self.kept,
@@ -166,6 +205,18 @@ impl History {
             changesets,
             bounds,
         )
+    }
+
+    /// Takes an absorption back: the history is as it was before it. Nothing may have changed it since. It takes no
+    /// memory, and costs what was absorbed.
+    pub fn take_back(&mut self, undo: Undo)
+        requires { (s : State) × LeadsBack self.old undo s }
+        ensures back { (s : State) → LeadsBack self.old undo s → self.new ≡ s }
+        ensures still_valid { IsValid self.new }
+    {
+        let Undo { before, mut log } = undo;
+        self.kept.take_back(&self.graph, &mut log, before);
+        self.graph.truncate(before);
     }
 
     /// Takes in all that another history holds: the history goes to the least state above both, the union of the

@@ -14,6 +14,7 @@ mod fault;
 mod history;
 mod join;
 mod laws;
+mod undo;
 
 pub use change::Change;
 pub use fault::Fault;
@@ -25,3 +26,4 @@ pub use laws::{
     absorbed_is_valid_above_and_covers, contents_say_what_histories_say, first_fault_is_one,
     opened_with_its_own_is_the_same,
 };
+pub use undo::{Absorbed, Undo};

@@ -43,6 +43,10 @@ pub returns-clause-answer : goal.returns-clause-answer
 returns-clause-answer c =
     c.take_bounds_or_undo.ensures.answer c.args.graph.now c.args.kept.now.phases c.args.changesets.now (begun c)
 
+pub returns-clause-back : goal.returns-clause-back
+returns-clause-back c =
+    c.take_bounds_or_undo.ensures.back c.args.graph.now c.args.kept.now.phases c.args.changesets.now (begun c)
+
 pub returns-clause-memory : goal.returns-clause-memory
 returns-clause-memory c =
     c.take_bounds_or_undo.ensures.memory c.args.graph.now c.args.kept.now.phases c.args.changesets.now (begun c)

@@ -1,8 +1,8 @@
-use Rattle.std.proofs.Common.{◌≡◌, ◌∙◌, length, Some, slice_get, refl, sym, ap, subst, arith}
-use Rattle.std.proofs.lemmas.List.{length-map}
+use Rattle.std.proofs.Common.{◌≡◌, length, Some, slice_get, refl, ap, subst, arith}
 use Rattle.hg_changeset.proofs.ListLemmas.{slice_get_some}
-use Rattle.hg_phases.specs.State.{Held, State, held_of}
-use Rattle.hg_phases.proofs.PlaceLemmas.{held-at, changesets-held_of}
+use Rattle.hg_phases.specs.State.{State, held_of}
+use Rattle.hg_phases.proofs.PlaceLemmas.{held-at}
+use Rattle.hg_history.proofs.UndoLemmas.{length-held_of}
 use Rattle.hg_history.proofs.history.History.phase_at.Goals as goal
 
 pub returns-then-place-len : goal.returns-then-place-len
@@ -23,7 +23,4 @@ returns-else-place-len c =
     let ks = c.self.inside.kept.phases in
     let held : length (held_of cs ks) ≡ length c.args.self.now.held =
     ap (λ (s : State). length s.held) c.self.view_is in
-    let all : length (held_of cs ks) ≡ length cs =
-    sym (length-map (held_of cs ks) (λ (h : Held). h.changeset))
-    ∙ ap length (changesets-held_of cs ks c.self.invariant.0.len) in
-    omega (arith, c.if-place-len.false, c.len.ensures.len, held, all)
+    omega (arith, c.if-place-len.false, c.len.ensures.len, held, length-held_of cs ks c.self.invariant.0.len)
