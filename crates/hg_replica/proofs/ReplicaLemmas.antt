@@ -1,7 +1,8 @@
 -- A history's answer and a store's, side by side.
 use Rattle.std.proofs.Common.{◌≡◌, ◌∙◌, ℕ, Bool, List, length, take, get_or, All, Contains, IsTrue, Result, Ok, Err}
-use Rattle.std.proofs.Common.{◌↔◌, inr, sym, ap, subst}
+use Rattle.std.proofs.Common.{◌++◌, ◌↔◌, IfOk, inr, sym, ap, subst, arith}
 use Rattle.std.proofs.Math.Seq.{take-append_seam}
+use Rattle.std.proofs.lemmas.List.{length-append}
 use Rattle.std.proofs.lemmas.Option.{slice_get-get_or}
 use Rattle.hg_graph.proofs.GraphLemmas.{Contains-from_place}
 use Rattle.hg_marker.specs.Fields.{Fields}
@@ -13,12 +14,18 @@ use Rattle.hg_history.specs.Change.{ChangeValue as HistoryChange}
 use Rattle.hg_history.specs.declared.fault.Fault.{Fault}
 use Rattle.hg_history.specs.declared.fault.Fault.TheVariants.{NoMemory}
 use Rattle.hg_history.specs.Join.{IsJoin as IsHistoryJoin}
+use Rattle.hg_history.specs.Absorbed.{without_undo as history_without_undo}
+use Rattle.hg_history.specs.declared.undo.Absorbed.{Absorbed as HistoryAbsorbed}
+use Rattle.hg_history.specs.Undo.{LeadsBack as LeadsHistoryBack}
 use Rattle.hg_obsstore.specs.Sets.{IsUnion}
 use Rattle.hg_obsstore.specs.Growth.{holds, united, new_among, AreNewPlaces}
 use Rattle.hg_replica.specs.State.{ReplicaState, AreWithin, Below}
 use Rattle.hg_replica.specs.Least.{PartValue}
 use Rattle.hg_replica.specs.Change.{ChangeValue, history_change}
 use Rattle.hg_replica.specs.Answer.{AbsorbAnswer, IsAbsorbed, KeepAnswer, IsGrowthBeforeFault, IsJoin}
+use Rattle.hg_replica.specs.Absorbed.{without_undo, KeepsUndo}
+use Rattle.hg_replica.specs.declared.undo.Absorbed.{Absorbed}
+use Rattle.hg_replica.specs.Undo.{LeadsBack}
 use Rattle.hg_replica.proofs.MarkerLemmas.{union-sets}
 use Rattle.hg_replica.proofs.ContentLemmas.{least-union}
 
@@ -71,6 +78,29 @@ kept_growth s k grown kept before places (Err fault) result keeps growth is =
     let e = sym keeps.0 ∙ is in
     let same : fault ≡ NoMemory = cc in
     inr (growth (ap (λ x. Err x) same))
+
+-- where the absorption is kept, its undo leads back
+pub kept_back : (s : ReplicaState) (k : PartValue) (h : State) (grown kept : List Fields) (before : ℕ) (places : List ℕ)
+    (answered : Result HistoryAbsorbed Fault) (result : Result Absorbed Fault) →
+    KeepAnswer before places (history_without_undo answered) grown (without_undo result) kept
+    → KeepsUndo before answered result → before ≡ length s.markers → grown ≡ united s.markers k.markers
+    → IfOk answered (λ absorbed. LeadsHistoryBack h absorbed.undo s.history)
+    → IfOk result (λ absorbed. LeadsBack (record { history = h; markers = kept }) absorbed.undo s)
+kept_back s k h grown kept before places (Ok absorbed) (Ok told) keeps undo first order back =
+    let t : ReplicaState = record { history = h; markers = kept } in
+    let new = new_among s.markers k.markers in
+    let all : kept ≡ s.markers ++ new = keeps.1 ∙ order in
+    subst (λ u. LeadsBack t u s) (sym undo)
+    (record {
+      history = back;
+      within = omega (arith, first, ap length all, length-append s.markers new);
+      markers =
+          sym ((λ i. take (first i) (all i)) ∙ take-append_seam s.markers new);
+    })
+kept_back s k h grown kept before places (Ok absorbed) (Err fault) keeps undo first order back = tt
+kept_back s k h grown kept before places (Err fault) (Ok told) keeps undo first order back =
+    absurd (let e = keeps.0 in cc)
+kept_back s k h grown kept before places (Err fault) (Err other) keeps undo first order back = tt
 
 pub joined : (s o t : ReplicaState) → IsHistoryJoin s.history o.history t.history →
     IsUnion (holds s.markers) (holds o.markers) (holds t.markers) → IsJoin s o t

@@ -7,12 +7,16 @@ ghost use Rattle.std.specs.Prelude.{◌↔◌};
 ghost use Rattle.hg_phases.specs.State.{Held, changesets, state_of, Holds, IsPhaseOf};
 ghost use Rattle.hg_phases.specs.Roots.{AreRoots};
 ghost use Rattle.hg_obsstore.specs.Markers.{AreApart};
-ghost use Rattle.hg_replica.specs.State.{IsValid, Below};
+ghost use Rattle.hg_history.specs.Absorbed.{without_undo as history_without_undo};
+ghost use Rattle.hg_replica.specs.State.{ReplicaState, IsValid, Below};
 ghost use Rattle.hg_replica.specs.Least.{part_of};
 ghost use Rattle.hg_replica.specs.Answer.{AbsorbAnswer, KeepAnswer, IsGrowthBeforeFault, JoinAnswer, OpenAnswer};
+ghost use Rattle.hg_replica.specs.Absorbed.{without_undo, KeepsUndo};
+ghost use Rattle.hg_replica.specs.Undo.{LeadsBack};
 
 use crate::hints::{note_hints, note_new};
 use crate::part::{Change, Part};
+use crate::undo::{Absorbed, Undo, without_undo};
 use hg_changeset::{Changeset, Node};
 use hg_graph::Graph;
 use hg_history::{Fault, History};
@@ -165,21 +169,45 @@ impl Replica {
         ensures valid { IsValid self.old }
         ensures still_valid { IsValid self.new }
     {
-        let before = self.store.len();
-        let markers = match self.store.absorb(&part.markers) {
-            Ok(markers) => markers,
-            Err(NoMemory) => return Err(Fault::NoMemory),
-        };
-        let absorbed = self.history.absorb(&part.changesets, &part.bounds);
-        let answer = keep_or_forget(&mut self.store, before, markers, absorbed);
-        note_hints(&mut self.hints, self.history.graph(), &self.store, before);
-        answer
+        without_undo(self.absorb_with_undo(part))
     }
 
     /// Takes in a part as [`absorb`](Replica::absorb) does, but moves the changesets and the markers that aren't held
     /// in place of copying them. The others are dropped, and after a refusal all are.
     pub fn absorb_owned(&mut self, part: Part) -> Result<Change, Fault>
         ensures answer { AbsorbAnswer self.old part result self.new }
+        ensures memory { IsErrOf result Fault.NoMemory → IsGrowthBeforeFault self.old part }
+        ensures valid { IsValid self.old }
+        ensures still_valid { IsValid self.new }
+    {
+        without_undo(self.absorb_owned_with_undo(part))
+    }
+
+    /// Takes in a part as [`absorb`](Replica::absorb) does, and gives out what takes that back.
+    pub fn absorb_with_undo(&mut self, part: &Part) -> Result<Absorbed, Fault>
+        ensures answer { AbsorbAnswer self.old part.now (without_undo result) self.new }
+        ensures back { IfOk result (λ absorbed. LeadsBack self.new absorbed.undo self.old) }
+        ensures memory { IsErrOf result Fault.NoMemory → IsGrowthBeforeFault self.old part.now }
+        ensures valid { IsValid self.old }
+        ensures still_valid { IsValid self.new }
+    {
+        let before = self.store.len();
+        let markers = match self.store.absorb(&part.markers) {
+            Ok(markers) => markers,
+            Err(NoMemory) => return Err(Fault::NoMemory),
+        };
+        let absorbed = self
+            .history
+            .absorb_with_undo(&part.changesets, &part.bounds);
+        let answer = keep_or_forget(&mut self.store, before, markers, absorbed);
+        note_hints(&mut self.hints, self.history.graph(), &self.store, before);
+        answer
+    }
+
+    /// Takes in a part as [`absorb_owned`](Replica::absorb_owned) does, and gives out what takes that back.
+    pub fn absorb_owned_with_undo(&mut self, part: Part) -> Result<Absorbed, Fault>
+        ensures answer { AbsorbAnswer self.old part (without_undo result) self.new }
+        ensures back { IfOk result (λ absorbed. LeadsBack self.new absorbed.undo self.old) }
         ensures memory { IsErrOf result Fault.NoMemory → IsGrowthBeforeFault self.old part }
         ensures valid { IsValid self.old }
         ensures still_valid { IsValid self.new }
@@ -194,10 +222,24 @@ impl Replica {
             Ok(markers) => markers,
             Err(NoMemory) => return Err(Fault::NoMemory),
         };
-        let absorbed = self.history.absorb_owned(changesets, &bounds);
+        let absorbed = self.history.absorb_owned_with_undo(changesets, &bounds);
         let answer = keep_or_forget(&mut self.store, before, markers, absorbed);
         note_hints(&mut self.hints, self.history.graph(), &self.store, before);
         answer
+    }
+
+    /// Takes an absorption back: the replica is as it was before it. Nothing may have changed it since. It takes no
+    /// memory, and costs what was absorbed.
+    pub fn take_back(&mut self, undo: Undo)
+        requires { (s : ReplicaState) × LeadsBack self.old undo s }
+        ensures back { (s : ReplicaState) → LeadsBack self.old undo s → self.new ≡ s }
+        ensures still_valid { IsValid self.new }
+    {
+        let Undo { history, markers } = undo;
+        self.history.take_back(history);
+        self.store.truncate(markers);
+        let held = self.history.graph().len();
+        self.hints.truncate(held);
     }
 
     /// Takes in all that another replica holds: the replica goes to the least state above both, the union of the
@@ -242,22 +284,33 @@ impl Replica {
     }
 }
 
-// Where the history was changed, tells of the markers too; where it refused, the store forgets those from the place
-// `before` on.
+// Where the history was changed, tells of the markers too, and takes them back with it; where it refused, the store
+// forgets those from the place `before` on.
 fn keep_or_forget(
     store: &mut Store,
     before: usize,
     markers: Vec<usize>,
-    absorbed: Result<hg_history::Change, Fault>,
-) -> Result<Change, Fault>
-    ensures { KeepAnswer before markers.items absorbed store.old result store.new }
+    absorbed: Result<hg_history::Absorbed, Fault>,
+) -> Result<Absorbed, Fault>
+    ensures answer { KeepAnswer before markers.items (history_without_undo absorbed) store.old (without_undo result)
+        store.new }
+    ensures undo { KeepsUndo before absorbed result }
 {
     match absorbed {
-        Ok(change) => Ok(Change {
-            added: change.added,
-            lowered: change.lowered,
-            markers,
-        }),
+        Ok(absorbed) => {
+            let hg_history::Absorbed { change, undo } = absorbed;
+            Ok(Absorbed {
+                change: Change {
+                    added: change.added,
+                    lowered: change.lowered,
+                    markers,
+                },
+                undo: Undo {
+                    history: undo,
+                    markers: before,
+                },
+            })
+        }
         Err(fault) => {
             store.truncate(before);
             Err(fault)

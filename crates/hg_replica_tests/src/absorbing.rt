@@ -83,6 +83,42 @@ fn a_hint_leads_to_what_names_a_changeset(rt: HostRuntime) {
     assert!(rt; mentions.as_predecessor() == [0usize].as_slice());
 }
 
+// The part publishes the root, which is secret, and adds a child and a marker.
+#[test]
+fn what_is_taken_back_leaves_nothing(rt: HostRuntime) {
+    let alloc = rt.alloc();
+    let mut replica = Replica::new(alloc);
+    let root = commit(alloc, &mut replica, Node::NULL, Phase::Secret).expect(&rt, "memory");
+    let before = replica.copy().expect(&rt, "memory");
+    let (part, node) = published_child(alloc, root).expect(&rt, "memory");
+    let absorbed = replica.absorb_with_undo(&part).expect(&rt, "a change");
+    assert!(rt; absorbed.change.added.as_slice() == [node].as_slice());
+    assert!(rt; absorbed.change.lowered.as_slice() == [root].as_slice());
+    assert!(rt; absorbed.change.markers.as_slice() == [0usize].as_slice());
+    assert!(rt; counts(&replica) == (2, 1));
+    replica.take_back(absorbed.undo);
+    assert!(rt; counts(&replica) == (1, 0) && are_equal(&replica, &before));
+    assert!(rt; phase(&replica, root) == Some(Phase::Secret));
+    assert!(rt; phase(&replica, node).is_none());
+}
+
+#[test]
+fn what_was_moved_in_is_taken_back(rt: HostRuntime) {
+    let alloc = rt.alloc();
+    let mut replica = Replica::new(alloc);
+    let root = commit(alloc, &mut replica, Node::NULL, Phase::Secret).expect(&rt, "memory");
+    let before = replica.copy().expect(&rt, "memory");
+    let (part, _) = published_child(alloc, root).expect(&rt, "memory");
+    let (same, _) = published_child(alloc, root).expect(&rt, "memory");
+    let absorbed = replica.absorb_owned_with_undo(part).expect(&rt, "a change");
+    assert!(rt; counts(&replica) == (2, 1));
+    replica.take_back(absorbed.undo);
+    assert!(rt; are_equal(&replica, &before));
+    let again = replica.absorb_owned(same).expect(&rt, "a change");
+    assert!(rt; again.added.len() == 1 && again.lowered.as_slice() == [root].as_slice());
+    assert!(rt; counts(&replica) == (2, 1));
+}
+
 // The part has a child of the root and a marker on it, and then a changeset of an unknown parent; and it publishes the
 // root.
 #[test]

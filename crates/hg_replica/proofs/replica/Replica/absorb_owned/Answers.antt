@@ -1,60 +1,13 @@
-use Rattle.std.proofs.Common.{◌≡◌, ◌≢◌, [], inl, ap, ◌∙◌, subst}
-use Rattle.hg_obsstore.specs.Growth.{new_among}
-use Rattle.hg_replica.specs.State.{ReplicaState}
-use Rattle.hg_replica.specs.Least.{PartValue}
-use Rattle.hg_replica.specs.Answer.{AbsorbAnswer, IsGrowthBeforeFault}
-use Rattle.hg_replica.proofs.ReplicaLemmas.{kept_answer, kept_growth}
+use Rattle.std.proofs.Common.{sym, subst}
+use Rattle.hg_history.specs.declared.fault.Fault.TheVariants.{NoMemory}
+use Rattle.hg_replica.specs.Answer.{AbsorbAnswer}
 use Rattle.hg_replica.proofs.replica.Replica.absorb_owned.Goals as goal
-use Rattle.hg_replica.proofs.replica.Replica.absorb_owned.Goals.{After-drop-bounds-2}
-
-module _ (c : After-drop-bounds-2) where
-  abbrev s : ReplicaState
-  s = record { history = c.self.inside.history; markers = c.self.inside.store }
-
-  abbrev k : PartValue
-  k = record {
-    history = record { changesets = c.part.inside.changesets.items; bounds = c.deref.result.now };
-    markers = c.part.inside.markers.items;
-  }
-
-  k_is : k ≡ c.args.part
-  k_is = (λ i.
-      record {
-        history = record { changesets = c.part.inside.changesets.items; bounds = c.deref.ensures.value i };
-        markers = c.part.inside.markers.items;
-      }) ∙ c.part.view_is
 
 pub returns-clause-answer : goal.returns-clause-answer
 returns-clause-answer c =
-    let h = c.absorb_owned-absorbed.new.self in
-    let kept = c.keep_or_forget-answer.new.store in
-    let answer =
-    kept_answer (s c) (k c) h c.absorb_owned.new.self kept c.len-before.result c.in-Ok.markers.items
-    c.absorb_owned-absorbed.result c.keep_or_forget-answer.result c.keep_or_forget-answer.ensures
-    c.len-before.ensures c.in-Ok.ensures.ok c.in-Ok.ensures.union c.in-Ok.ensures.places
-    c.absorb_owned-absorbed.ensures.answer in
-    subst (λ u. AbsorbAnswer u c.args.part c.keep_or_forget-answer.result (record { history = h; markers = kept }))
-    c.self.view_is
-    (subst (λ x. AbsorbAnswer (s c) x c.keep_or_forget-answer.result (record { history = h; markers = kept })) (k_is c)
-    answer)
+    let told = c.absorb_owned_with_undo in
+    subst (λ answer. AbsorbAnswer c.args.self.now c.args.part answer told.new.self)
+    (sym c.without_undo.ensures.answer) told.ensures.answer
 
 pub returns-clause-memory : goal.returns-clause-memory
-returns-clause-memory c is =
-    let growth =
-    kept_growth (s c) (k c) c.absorb_owned.new.self c.keep_or_forget-answer.new.store c.len-before.result
-    c.in-Ok.markers.items c.absorb_owned-absorbed.result c.keep_or_forget-answer.result
-    c.keep_or_forget-answer.ensures c.absorb_owned-absorbed.ensures.memory is in
-    subst (λ u. IsGrowthBeforeFault u c.args.part) c.self.view_is (subst (IsGrowthBeforeFault (s c)) (k_is c) growth)
-
-pub returns-in-Err-clause-answer : goal.returns-in-Err-clause-answer
-unfolding AbsorbAnswer
-returns-in-Err-clause-answer c =
-    (tt, (λ i. record { history = c.self.inside.history; markers = c.in-Err.ensures.err i }) ∙ c.self.view_is)
-
-pub returns-in-Err-clause-memory : goal.returns-in-Err-clause-memory
-unfolding IsGrowthBeforeFault
-returns-in-Err-clause-memory c =
-    let new =
-    subst (λ ms. new_among c.self.inside.store ms ≢ []) (ap (λ (x : PartValue). x.markers) c.part.view_is)
-    c.in-Err.ensures.memory in
-    λ e. inl (subst (λ (u : ReplicaState). new_among u.markers c.args.part.markers ≢ []) c.self.view_is new)
+returns-clause-memory c is = c.absorb_owned_with_undo.ensures.memory (c.without_undo.ensures.fault NoMemory is)
