@@ -12,3 +12,4 @@ pub mod FactorLemmas
 pub mod SolveLemmas
 pub mod PathLemmas
 pub mod SingleLemmas
+pub mod AlikeLemmas

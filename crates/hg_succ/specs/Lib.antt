@@ -1,3 +1,4 @@
+pub mod Alike
 pub mod Successors
 pub mod Answer
 pub mod Steps
