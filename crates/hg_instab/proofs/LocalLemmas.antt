@@ -1,5 +1,5 @@
 -- Orphans by their parents, and what is extinct by its children.
-use Rattle.std.proofs.Common.{◌≡◌, ◌↔◌, ◌⊎◌, inl, inr, Bool, true, false, true≢false, List, [], ◌∷◌, Contains, refl}
+use Rattle.std.proofs.Common.{◌≡◌, ◌↔◌, ◌⊎◌, inl, inr, true≢false, List, [], ◌∷◌, Contains, refl}
 use Rattle.std.proofs.Common.{sym, ap, subst, ◌∙◌, arith}
 use Rattle.std.proofs.lemmas.Bool.{cases_Bool}
 use Rattle.hg_changeset.specs.declared.node.Node.{Node}
@@ -63,7 +63,7 @@ leads-up f n d (below {p = p} {h = h} r e is) = elim (leads-up f n p r) [
 ]
 
 -- a parent leads to whatever its child leads to
-leads-from_parent : (f : Content) (p c d : Node) → IsParentOf f p c → Leads f.0 c d → Leads f.0 p d
+pub leads-from_parent : (f : Content) (p c d : Node) → IsParentOf f p c → Leads f.0 c d → Leads f.0 p d
 leads-from_parent f p c d parent itself = below itself parent.1 parent.2
 leads-from_parent f p c d parent (below {p = q} r e is) = below (leads-from_parent f p c q parent r) e is
 

@@ -24,7 +24,7 @@ module _ (s : ReplicaState) (Kind : Fields → Type 0) where
       (m, in_from_holds s.markers m held, refl, kind, at)
 
 -- what precedes something is the predecessor of a marker
-precedes-predecessor : (f : Content) (Kind : Fields → Type 0) (p n : Node) → Precedes f Kind p n → IsPredecessor f p
+pub precedes-predecessor : (f : Content) (Kind : Fields → Type 0) (p n : Node) → Precedes f Kind p n → IsPredecessor f p
 precedes-predecessor f Kind p n (step {m = m} held kind at is) = (m, held, is)
 precedes-predecessor f Kind p n (precedes_further {m = m} held kind at r) = precedes-predecessor f Kind p
     m.predecessor r

@@ -15,9 +15,10 @@ use Rattle.hg_graph.proofs.GraphLemmas.{Contains-from_place, place_from_Contains
 use Rattle.hg_changeset.proofs.ListLemmas.{Contains-none, Contains-cons_cases}
 use Rattle.hg_marker.specs.Fields.{Fields}
 use Rattle.hg_obsstore.specs.Markers.{ArePlaces}
+use Rattle.hg_instab.specs.declared.walk.Followed.TheVariants.{Every}
 use Rattle.hg_instab.specs.declared.walk.Way.{Way}
-use Rattle.hg_instab.specs.declared.walk.Way.TheVariants.{ToSuccessors, ToPredecessors}
-use Rattle.hg_instab.specs.Walk.{IsReached, IsNext, IsBefore, IsStep, Leads, Adds}
+use Rattle.hg_instab.specs.declared.walk.Way.TheVariants.{ToSuccessors, ToPredecessors, Both}
+use Rattle.hg_instab.specs.Walk.{IsFollowed, IsReached, IsNext, IsBefore, IsStep, IsOfOneAt, Leads, Adds}
 use Rattle.hg_instab.specs.Walk.Leads.{one, further}
 use Rattle.hg_changeset.proofs.ListLemmas.{Contains-pushed, Contains-taken}
 use Rattle.indexmap.specs.IndexSet.{insert_key}
@@ -92,61 +93,54 @@ pub front-kept : (xs ys : List Node) (k : ℕ) → (more : List Node) × (ys ≡
     → take k ys ≡ take k xs
 front-kept xs ys k kept le = ap (take k) kept.1 ∙ take-front k xs kept.0 le
 
--- ---- one step
+-- ---- markers at places
 
--- a marker of this kind, at one of the places, has n as a successor
-abbrev pub IsNextAt : (Fields → Type 0) → List Fields → List ℕ → Node → Type 0
-IsNextAt Kind ms places n = (k : ℕ) × Contains places k × (m : Fields) × (slice_get ms k ≡ Some m) × Kind m
-    × Contains m.successors n
-
-pub next-more : (Kind : Fields → Type 0) (ms : List Fields) (places : List ℕ) (i k : ℕ) (m : Fields) → i < length places
-    → get_or places i k ≡ k → slice_get ms k ≡ Some m → (n : Node)
-    → IsNextAt Kind ms (take (i + 1) places) n
-    ↔ (IsNextAt Kind ms (take i places) n ⊎ (Kind m × Contains m.successors n))
-next-more Kind ms places i k m l is at n = (
-  λ h. elim ((Contains-taken places i k h.0 l is).0 h.1) [
-    | inl old ↦ inl (h.0, old, h.2, h.3, h.4, h.5)
-    | inr e ↦
-        let same : h.2 ≡ m = same_Some h.2 m (sym h.3 ∙ ap (slice_get ms) (sym e) ∙ at) in
-        inr (subst (λ x. Kind x × Contains x.successors n) same (h.4, h.5))
-  ],
-  λ h. elim h [
-    | inl old ↦ (old.0, (Contains-taken places i k old.0 l is).1 (inl old.1), old.2, old.3, old.4, old.5)
-    | inr new ↦ (k, (Contains-taken places i k k l is).1 (inr refl), m, at, new.0, new.1)
-  ],
-)
-
-pub next-all : (Kind : Fields → Type 0) (ms : List Fields) (places : List ℕ) (p n : Node)
-    → ArePlaces (λ m. m.predecessor ≡ p) ms places → IsNext Kind ms p n ↔ IsNextAt Kind ms places n
-next-all Kind ms places p n are = (
-  λ h. let k = place_from_Contains ms h.0 h.1 in (k.0, (are.exact k.0).1 (h.0, k.1, h.2), h.0, k.1, h.3, h.4),
-  λ h.
-      let m = (are.exact h.0).0 h.1 in
-      let same : m.0 ≡ h.2 = same_Some m.0 h.2 (sym m.1 ∙ h.3) in
-      (h.2, Contains-from_place ms h.0 h.2 h.3, ap (λ x. x.predecessor) (sym same) ∙ m.2, h.4, h.5),
-)
-
--- ---- one step back
-
--- a marker at one of the places has n as its predecessor
-abbrev pub IsBeforeAt : List Fields → List ℕ → Node → Type 0
-IsBeforeAt ms places n = (k : ℕ) × Contains places k × (m : Fields) × (slice_get ms k ≡ Some m) × (m.predecessor ≡ n)
-
-pub before-more : (ms : List Fields) (places : List ℕ) (i k : ℕ) (m : Fields) → i < length places
-    → get_or places i k ≡ k → slice_get ms k ≡ Some m → (n : Node)
-    → IsBeforeAt ms (take (i + 1) places) n ↔ (IsBeforeAt ms (take i places) n ⊎ (m.predecessor ≡ n))
-before-more ms places i k m l is at n = (
+-- the places up to one more
+pub of-more : (Of : Fields → Node → Type 0) (ms : List Fields) (places : List ℕ) (i k : ℕ) (m : Fields)
+    → i < length places → get_or places i k ≡ k → slice_get ms k ≡ Some m → (n : Node)
+    → IsOfOneAt Of ms (take (i + 1) places) n ↔ (IsOfOneAt Of ms (take i places) n ⊎ Of m n)
+of-more Of ms places i k m l is at n = (
   λ h. elim ((Contains-taken places i k h.0 l is).0 h.1) [
     | inl old ↦ inl (h.0, old, h.2, h.3, h.4)
     | inr e ↦
         let same : h.2 ≡ m = same_Some h.2 m (sym h.3 ∙ ap (slice_get ms) (sym e) ∙ at) in
-        inr (subst (λ x. x.predecessor ≡ n) same h.4)
+        inr (subst (λ x. Of x n) same h.4)
   ],
   λ h. elim h [
     | inl old ↦ (old.0, (Contains-taken places i k old.0 l is).1 (inl old.1), old.2, old.3, old.4)
     | inr new ↦ (k, (Contains-taken places i k k l is).1 (inr refl), m, at, new)
   ],
 )
+
+-- ---- one step
+
+-- a marker of this kind has n as a successor
+abbrev pub IsNextOf : (Fields → Type 0) → Fields → Node → Type 0
+IsNextOf Kind m n = Kind m × Contains m.successors n
+
+-- a marker of this kind, at one of the places, has n as a successor
+abbrev pub IsNextAt : (Fields → Type 0) → List Fields → List ℕ → Node → Type 0
+IsNextAt Kind = IsOfOneAt (IsNextOf Kind)
+
+pub next-all : (Kind : Fields → Type 0) (ms : List Fields) (places : List ℕ) (p n : Node)
+    → ArePlaces (λ m. m.predecessor ≡ p) ms places → IsNext Kind ms p n ↔ IsNextAt Kind ms places n
+next-all Kind ms places p n are = (
+  λ h. let k = place_from_Contains ms h.0 h.1 in (k.0, (are.exact k.0).1 (h.0, k.1, h.2), h.0, k.1, (h.3, h.4)),
+  λ h.
+      let m = (are.exact h.0).0 h.1 in
+      let same : m.0 ≡ h.2 = same_Some m.0 h.2 (sym m.1 ∙ h.3) in
+      (h.2, Contains-from_place ms h.0 h.2 h.3, ap (λ x. x.predecessor) (sym same) ∙ m.2, h.4.0, h.4.1),
+)
+
+-- ---- one step back
+
+-- the marker has n as its predecessor
+abbrev pub IsBeforeOf : Fields → Node → Type 0
+IsBeforeOf m n = m.predecessor ≡ n
+
+-- a marker at one of the places has n as its predecessor
+abbrev pub IsBeforeAt : List Fields → List ℕ → Node → Type 0
+IsBeforeAt = IsOfOneAt IsBeforeOf
 
 pub before-all : (ms : List Fields) (places : List ℕ) (p n : Node) → ArePlaces (λ m. Contains m.successors p) ms places
     → IsBefore ms p n ↔ IsBeforeAt ms places n
@@ -175,13 +169,23 @@ named (x ∷ ms) m n at h = elim (Contains-cons_cases x ms m at) [
 ]
 
 -- a step leads to what a marker names
-step-named : (way : Way) (ms : List Fields) (p n : Node) → IsStep way ms p n → Contains (ids ms) n
-step-named (ToSuccessors followed) ms p n h =
+next-named : (Kind : Fields → Type 0) (ms : List Fields) (p n : Node) → IsNext Kind ms p n → Contains (ids ms) n
+next-named Kind ms p n h =
     named ms h.0 n h.1 (Contains-append_right (h.0.predecessor ∷ []) h.0.successors n h.4)
-step-named ToPredecessors ms p n h =
+
+before-named : (ms : List Fields) (p n : Node) → IsBefore ms p n → Contains (ids ms) n
+before-named ms p n h =
     named ms h.0 n h.1
     (Contains-append_left (h.0.predecessor ∷ []) h.0.successors n
     (subst (Contains (h.0.predecessor ∷ [])) h.3 (0, omega arith, refl)))
+
+step-named : (way : Way) (ms : List Fields) (p n : Node) → IsStep way ms p n → Contains (ids ms) n
+step-named (ToSuccessors followed) ms p n h = next-named (IsFollowed followed) ms p n h
+step-named ToPredecessors ms p n h = before-named ms p n h
+step-named Both ms p n h = elim h [
+  | inl next ↦ next-named (IsFollowed Every) ms p n next
+  | inr before ↦ before-named ms p n before
+]
 
 -- how far the walk has come: from the first i of those that were seen, all that a step leads to was seen
 pub record IsWalked (Step : Node → Node → Type 0) (starts seen : List Node) (i : ℕ) : Type 0 where
@@ -201,7 +205,7 @@ module _ (way : Way) (ms : List Fields) (starts : List Node) where
   }
 
   -- what a step leads to from what is reached is reached
-  reached-next : (p n : Node) → IsReached Step starts p → Step p n → IsReached Step starts n
+  pub reached-next : (p n : Node) → IsReached Step starts p → Step p n → IsReached Step starts n
   reached-next p n (inl first) next = inr (p, first, one next)
   reached-next p n (inr far) next = inr (far.0, far.1, further far.2 next)
 

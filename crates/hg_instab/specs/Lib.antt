@@ -1,3 +1,9 @@
+pub mod AfterPublic
+pub mod Changed
 pub mod Instabilities
 pub mod Local
+pub mod Near
+pub mod Turns
+pub mod Settling
+pub mod Region
 pub mod Walk

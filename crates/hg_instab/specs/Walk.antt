@@ -1,5 +1,5 @@
 -- Steps over markers, as a walk along them keeps what it met.
-use Rattle.std.specs.Prelude.{◌≡◌, ◌≢◌, ◌++◌, ◌↔◌, ◌⊎◌, ℕ, List, Contains}
+use Rattle.std.specs.Prelude.{◌≡◌, ◌≢◌, ◌++◌, ◌↔◌, ◌⊎◌, ℕ, List, slice_get, Some, Contains}
 use Rattle.hg_changeset.specs.declared.node.Node.{Node}
 use Rattle.hg_marker.specs.Fields.{Fields}
 use Rattle.hg_obsstore.specs.Markers.{IsAt}
@@ -7,7 +7,7 @@ use Rattle.hg_replica.specs.Evolution.{IsBumpedFix}
 use Rattle.hg_instab.specs.declared.walk.Followed.{Followed}
 use Rattle.hg_instab.specs.declared.walk.Followed.TheVariants.{Every, NotBumpedFix}
 use Rattle.hg_instab.specs.declared.walk.Way.{Way}
-use Rattle.hg_instab.specs.declared.walk.Way.TheVariants.{ToSuccessors, ToPredecessors}
+use Rattle.hg_instab.specs.declared.walk.Way.TheVariants.{ToSuccessors, ToPredecessors, Both}
 
 -- the markers that a walk to successors follows
 abbrev pub IsFollowed : Followed → Fields → Type 0
@@ -26,10 +26,15 @@ IsBefore ms p n = (m : Fields) × Contains ms m × Contains m.successors p × (m
 abbrev pub IsStep : Way → List Fields → Node → Node → Type 0
 IsStep (ToSuccessors followed) ms = IsNext (IsFollowed followed) ms
 IsStep ToPredecessors ms = IsBefore ms
+IsStep Both ms = λ p n. IsNext (IsFollowed Every) ms p n ⊎ IsBefore ms p n
 
 -- two of the markers, at different places, have it as their predecessor
 abbrev pub IsFork : List Fields → Node → Type 0
 IsFork ms n = (i : ℕ) × (j : ℕ) × (i ≢ j) × IsAt (λ m. m.predecessor ≡ n) ms i × IsAt (λ m. m.predecessor ≡ n) ms j
+
+-- n is so of a marker at one of the places
+abbrev pub IsOfOneAt : (Fields → Node → Type 0) → List Fields → List ℕ → Node → Type 0
+IsOfOneAt Of ms places n = (k : ℕ) × Contains places k × (m : Fields) × (slice_get ms k ≡ Some m) × Of m n
 
 -- one or more steps lead from p to n
 pub data Leads (Step : Node → Node → Type 0) (p : Node) : Node → Type 0 where

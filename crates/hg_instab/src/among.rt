@@ -72,14 +72,14 @@ pub(crate) fn outside(
     among(alloc, nodes, |node| is_missing(set, node))
 }
 
-fn is_missing(set: &BTreeSet<Node>, node: Node) -> bool
+pub(crate) fn is_missing(set: &BTreeSet<Node>, node: Node) -> bool
     ensures { IsTrue result ↔ ¬ (Contains set.now.keys node) }
 {
     !set.contains(&node)
 }
 
 // Those of the nodes that pass the test.
-fn among<F: Fn(Node) -> bool>(
+pub(crate) fn among<F: Fn(Node) -> bool>(
     alloc: Global,
     nodes: &[Node],
     test: F,

@@ -2,14 +2,15 @@
 //!
 //! Both are looked for from where they begin: from the predecessors of markers that are so, a walk goes on to
 //! successors.
-ghost use Rattle.std.specs.Prelude.{◌≡◌, ◌↔◌, Contains, IfOk};
+ghost use Rattle.std.specs.Prelude.{◌≡◌, ◌↔◌, Contains, IfOk, IsTrue};
 ghost use Rattle.hg_changeset.specs.declared.node.Node.{Node};
 ghost use Rattle.hg_phases.specs.declared.phase.Phase.TheVariants.{Public as public_phase};
 ghost use Rattle.hg_replica.specs.Content.{content_of};
-ghost use Rattle.hg_replica.specs.Evolution.{HasPhase, IsPredecessor, IsPhaseDivergent};
+ghost use Rattle.hg_replica.specs.Evolution.{HasPhase, IsPredecessor, IsCurrent, IsPhaseDivergent};
 ghost use Rattle.hg_succ.specs.Successors.{HasSeveral};
 ghost use Rattle.hg_instab.specs.Instabilities.{IsContentDivergent};
-ghost use Rattle.hg_instab.specs.Walk.{IsFork};
+ghost use Rattle.hg_instab.specs.Near.{IsClosed};
+ghost use Rattle.hg_instab.specs.Walk.{IsFork, IsReached, IsStep};
 
 use crate::among::current_among;
 use crate::query::has_phase;
@@ -62,6 +63,33 @@ pub(crate) fn content_divergent_nodes(
         ↔ IsContentDivergent (content_of replica.now) n) }
 {
     let starts = divided_predecessors(alloc, replica)?;
+    current_from(alloc, replica, starts)
+}
+
+// Those of a region that are content-divergent: all that precedes one of its ids is in it. What lies outside may be
+// told too.
+pub(crate) fn divergent_within(
+    alloc: Global,
+    replica: &Replica,
+    region: &[Node],
+) -> Result<Vec<Node>, AllocError>
+    ensures { IfOk result (λ found. IsClosed (content_of replica.now) (Contains region.now) → (n : Node)
+        → Contains region.now n → (Contains found.items n ↔ IsContentDivergent (content_of replica.now) n)) }
+{
+    let starts = several_among(alloc, replica, region)?;
+    current_from(alloc, replica, starts)
+}
+
+// What is neither public nor obsolete of the starts and of all that they lead to.
+fn current_from(
+    alloc: Global,
+    replica: &Replica,
+    starts: IndexSet<Node>,
+) -> Result<Vec<Node>, AllocError>
+    ensures { IfOk result (λ found. (n : Node) → Contains found.items n
+        ↔ (IsReached (IsStep (Way.ToSuccessors Followed.Every) replica.now.markers) starts.keys n
+        × IsCurrent (content_of replica.now) n)) }
+{
     let led_to = reached(replica.store(), Way::ToSuccessors(Followed::Every), starts)?;
     current_among(alloc, replica, led_to.as_slice())
 }
@@ -84,9 +112,16 @@ fn forks(alloc: Global, store: &Store) -> Result<IndexSet<Node>, AllocError>
     let mut forks = IndexSet::new(alloc);
     for marker in store.markers() {
         let node = marker.predecessor();
-        if store.with_predecessor(node).len() > 1 {
+        if is_fork(store, node) {
             forks.insert(node)?;
         }
     }
     Ok(forks)
+}
+
+// Whether an id has two markers or more.
+pub(crate) fn is_fork(store: &Store, node: Node) -> bool
+    ensures { IsTrue result ↔ IsFork store.now node }
+{
+    store.with_predecessor(node).len() > 1
 }

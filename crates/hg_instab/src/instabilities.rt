@@ -1,37 +1,49 @@
 //! The sets of changesets of each kind.
-ghost use Rattle.std.specs.Prelude.{◌≡◌, IfOk};
+ghost use Rattle.std.specs.Prelude.{◌≡◌, IfOk, OnOk, OnErr};
+ghost use Rattle.hg_replica.specs.State.{ReplicaState};
 ghost use Rattle.hg_replica.specs.Content.{content_of};
-ghost use Rattle.hg_instab.specs.Instabilities.{AreInstabilities};
+ghost use Rattle.hg_instab.specs.Changed.{IsChangedTo};
+ghost use Rattle.hg_instab.specs.Instabilities.{AreInstabilities, InstabilitySets};
+ghost use Rattle.hg_instab.specs.Turns.{AreTurns, AreStages, HaveCome, AreThen};
 
 use crate::among::{obsolete_nodes, outside, set_of};
 use crate::divergence::{content_divergent_nodes, phase_divergent_nodes};
+use crate::first::{after_public_ids, near_fork_ids};
 use crate::orphans::{orphan_nodes, suspended_nodes};
+use crate::turns::Turns;
 use hg_changeset::Node;
-use hg_replica::Replica;
+use hg_replica::{Change, Replica};
 use std::alloc::{AllocError, Global};
 use std::collections::BTreeSet;
 use std::marker::Model;
 
-/// The instabilities of a replica: for each kind the changesets that are so. Contracts see the six sets.
+/// The instabilities of a replica: for each kind the changesets that are so. Contracts see the six sets, and two beside
+/// them by which a change is told: the ids that come after something public, and those near forks.
 pub struct Instabilities {
+    alloc: Global,
     obsolete: BTreeSet<Node>,
     orphan: BTreeSet<Node>,
     suspended: BTreeSet<Node>,
     extinct: BTreeSet<Node>,
     phase_divergent: BTreeSet<Node>,
     content_divergent: BTreeSet<Node>,
+    after_public: BTreeSet<Node>,
+    near_forks: BTreeSet<Node>,
 }
 
 // Whoever owns them calls this once, and is proved without a look at each set.
 impl Drop for Instabilities {
     fn drop(self) {
         let Instabilities {
+            alloc: _,
             obsolete: _,
             orphan: _,
             suspended: _,
             extinct: _,
             phase_divergent: _,
             content_divergent: _,
+            after_public: _,
+            near_forks: _,
         } = self;
     }
 }
@@ -48,6 +60,8 @@ impl Model for Instabilities {
       extinct = i.extinct.keys;
       phase_divergent = i.phase_divergent.keys;
       content_divergent = i.content_divergent.keys;
+      after_public = i.after_public.keys;
+      near_forks = i.near_forks.keys;
     } };
 }
 
@@ -64,12 +78,15 @@ impl Instabilities {
         let phase_divergent = phase_divergent_nodes(alloc, replica)?;
         let content_divergent = content_divergent_nodes(alloc, replica)?;
         Ok(Instabilities {
+            alloc,
             obsolete: set_of(alloc, obsolete)?,
             orphan: set_of(alloc, orphan)?,
             suspended,
             extinct: set_of(alloc, extinct)?,
             phase_divergent: set_of(alloc, phase_divergent)?,
             content_divergent: set_of(alloc, content_divergent)?,
+            after_public: after_public_ids(alloc, replica)?,
+            near_forks: near_fork_ids(alloc, replica)?,
         })
     }
 
@@ -78,13 +95,93 @@ impl Instabilities {
         ensures { IfOk result (λ copy. copy ≡ self.now) }
     {
         Ok(Instabilities {
+            alloc: self.alloc,
             obsolete: self.obsolete.clone()?,
             orphan: self.orphan.clone()?,
             suspended: self.suspended.clone()?,
             extinct: self.extinct.clone()?,
             phase_divergent: self.phase_divergent.clone()?,
             content_divergent: self.content_divergent.clone()?,
+            after_public: self.after_public.clone()?,
+            near_forks: self.near_forks.clone()?,
         })
+    }
+
+    /// Brings the sets up to date with a change, where they were those of the replica before it. The replica is handed
+    /// in as it is after the change, which is what absorbing a part answered. It costs what the change touches: what it
+    /// added, lowered and marked, and from there on what turns. Where memory is refused, the sets are as they were.
+    pub fn update(&mut self, replica: &Replica, change: &Change) -> Result<(), AllocError>
+        ensures kept { OnOk result ((s : ReplicaState) → IsChangedTo s change.now replica.now
+            → AreInstabilities (content_of s) self.old → AreInstabilities (content_of replica.now) self.new) }
+        ensures unchanged { OnErr result (self.new ≡ self.old) }
+    {
+        let turns = Turns::of(self.alloc, self, replica, change)?;
+        self.apply(&turns)
+    }
+
+    // Has each set turn, or none.
+    fn apply(&mut self, turns: &Turns) -> Result<(), AllocError>
+        requires { AreTurns self.old turns.now }
+        ensures then { OnOk result (AreThen self.old turns.now self.new) }
+        ensures unchanged { OnErr result (self.new ≡ self.old) }
+    {
+        match self.come(turns) {
+            Ok(()) => {
+                self.go(turns);
+                Ok(())
+            }
+            Err(error) => {
+                self.give_back(turns);
+                Err(error)
+            }
+        }
+    }
+
+    // Puts what comes into each set. Where memory is refused, some of it may have come.
+    fn come(&mut self, turns: &Turns) -> Result<(), AllocError>
+        ensures stages { AreStages turns.now self.old self.new }
+        ensures all { OnOk result (HaveCome turns.now self.new) }
+    {
+        turns.obsolete.come(&mut self.obsolete)?;
+        turns.orphan.come(&mut self.orphan)?;
+        turns.suspended.come(&mut self.suspended)?;
+        turns.extinct.come(&mut self.extinct)?;
+        turns.phase_divergent.come(&mut self.phase_divergent)?;
+        turns.content_divergent.come(&mut self.content_divergent)?;
+        turns.after_public.come(&mut self.after_public)?;
+        turns.near_forks.come(&mut self.near_forks)
+    }
+
+    // Takes what has come out of each set again.
+    fn give_back(&mut self, turns: &Turns)
+        ensures { (before : InstabilitySets) → AreTurns before turns.now → AreStages turns.now before self.old
+            → self.new ≡ before }
+    {
+        turns.obsolete.give_back(&mut self.obsolete);
+        turns.orphan.give_back(&mut self.orphan);
+        turns.suspended.give_back(&mut self.suspended);
+        turns.extinct.give_back(&mut self.extinct);
+        turns.phase_divergent.give_back(&mut self.phase_divergent);
+        turns
+            .content_divergent
+            .give_back(&mut self.content_divergent);
+        turns.after_public.give_back(&mut self.after_public);
+        turns.near_forks.give_back(&mut self.near_forks);
+    }
+
+    // Takes what goes out of each set.
+    fn go(&mut self, turns: &Turns)
+        ensures { (before : InstabilitySets) → AreTurns before turns.now → AreStages turns.now before self.old
+            → HaveCome turns.now self.old → AreThen before turns.now self.new }
+    {
+        turns.obsolete.go(&mut self.obsolete);
+        turns.orphan.go(&mut self.orphan);
+        turns.suspended.go(&mut self.suspended);
+        turns.extinct.go(&mut self.extinct);
+        turns.phase_divergent.go(&mut self.phase_divergent);
+        turns.content_divergent.go(&mut self.content_divergent);
+        turns.after_public.go(&mut self.after_public);
+        turns.near_forks.go(&mut self.near_forks);
     }
 
     /// Not public, and the predecessor of some marker: Mercurial's `obsolete`.
@@ -129,5 +226,19 @@ impl Instabilities {
         ensures { result.now.keys ≡ self.now.content_divergent }
     {
         &self.content_divergent
+    }
+
+    // The ids that something public precedes over markers that aren't bumpedfix, held or not.
+    pub(crate) fn after_public(&self) -> &BTreeSet<Node>
+        ensures { result.now.keys ≡ self.now.after_public }
+    {
+        &self.after_public
+    }
+
+    // Ids among which are all that two markers rewrote, and with an id all that markers name beside it.
+    pub(crate) fn near_forks(&self) -> &BTreeSet<Node>
+        ensures { result.now.keys ≡ self.now.near_forks }
+    {
+        &self.near_forks
     }
 }

@@ -5,12 +5,22 @@
 //! of this follows from what a replica contains, in whatever order it came.
 #![tactic(auto)]
 
+mod after_public;
 mod among;
 mod divergence;
+mod extinct_walk;
+mod first;
 mod instabilities;
 mod laws;
+mod near;
+mod orphan_walk;
 mod orphans;
 mod query;
+mod seeds;
+mod turn;
+mod turned;
+mod turns;
+mod waiting;
 mod walk;
 
 pub use instabilities::Instabilities;

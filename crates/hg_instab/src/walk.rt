@@ -1,4 +1,4 @@
-//! Steps over markers, from some ids to what they were rewritten to, or back to what was rewritten to them.
+//! Steps over markers, from some ids to what they were rewritten to, back to what was rewritten to them, or both ways.
 //!
 //! The ids that steps lead to need not be held. They are numbered in a set that is its own queue: each is looked at
 //! once, and so is each marker.
@@ -29,6 +29,7 @@ pub(crate) enum Followed {
 pub(crate) enum Way {
     ToSuccessors(Followed),
     ToPredecessors,
+    Both,
 }
 
 // The starts, and all that steps lead to from them.
@@ -61,7 +62,16 @@ fn add_next(
     match way {
         Way::ToSuccessors(followed) => add_successors(store, followed, node, seen),
         Way::ToPredecessors => add_predecessors(store, node, seen),
+        Way::Both => add_neighbors(store, node, seen),
     }
+}
+
+// Adds the successors of the node's markers, and the predecessors of the markers that have it as a successor.
+fn add_neighbors(store: &Store, node: Node, seen: &mut IndexSet<Node>) -> Result<(), AllocError>
+    ensures { OnOk result (Adds (IsStep Way.Both store.now node) seen.old.keys seen.new.keys) }
+{
+    add_successors(store, Followed::Every, node, seen)?;
+    add_predecessors(store, node, seen)
 }
 
 // Adds the predecessors of the markers that have the node as a successor.
@@ -80,7 +90,7 @@ fn add_predecessors(store: &Store, node: Node, seen: &mut IndexSet<Node>) -> Res
 }
 
 // Adds the successors of those markers of the node that are followed.
-fn add_successors(
+pub(crate) fn add_successors(
     store: &Store,
     followed: Followed,
     node: Node,
@@ -98,7 +108,11 @@ fn add_successors(
 }
 
 // Adds the successors of a marker, if it is one that is followed.
-fn follow(marker: &Marker, followed: Followed, seen: &mut IndexSet<Node>) -> Result<(), AllocError>
+pub(crate) fn follow(
+    marker: &Marker,
+    followed: Followed,
+    seen: &mut IndexSet<Node>,
+) -> Result<(), AllocError>
     ensures { OnOk result (Adds (λ n. IsFollowed followed marker.now × Contains marker.now.successors n) seen.old.keys
         seen.new.keys) }
 {

@@ -4,6 +4,10 @@
 #[cfg(test)]
 mod across;
 #[cfg(test)]
+mod chance;
+#[cfg(test)]
+mod keeping;
+#[cfg(test)]
 mod kinds;
 #[cfg(test)]
 mod plain;

@@ -24,12 +24,29 @@ pub struct Kinds<'a> {
     pub content_divergent: &'a [Node],
 }
 
-fn empty(alloc: Global) -> Part {
+/// The part that says nothing.
+pub fn empty(alloc: Global) -> Part {
     Part {
         changesets: Vec::new(alloc),
         bounds: Vec::new(alloc),
         markers: Vec::new(alloc),
     }
+}
+
+/// Adds to the part a changeset of this parent and text, with a bound.
+pub fn push_child(
+    alloc: Global,
+    part: &mut Part,
+    parent: Node,
+    text: &[u8],
+    phase: Phase,
+) -> Option<Node> {
+    let text = Vec::from_slice(alloc, text).ok()?;
+    let changeset = Changeset::new(parent, Node::NULL, text).ok()?;
+    let node = changeset.node();
+    part.changesets.push(changeset).ok()?;
+    part.bounds.push((node, phase)).ok()?;
+    Some(node)
 }
 
 /// Takes in a changeset of this parent and text, with a bound.
@@ -40,12 +57,8 @@ pub fn commit(
     text: &[u8],
     phase: Phase,
 ) -> Option<Node> {
-    let text = Vec::from_slice(alloc, text).ok()?;
-    let changeset = Changeset::new(parent, Node::NULL, text).ok()?;
-    let node = changeset.node();
     let mut part = empty(alloc);
-    part.changesets.push(changeset).ok()?;
-    part.bounds.push((node, phase)).ok()?;
+    let node = push_child(alloc, &mut part, parent, text, phase)?;
     replica.absorb(&part).ok()?;
     Some(node)
 }
@@ -71,6 +84,18 @@ fn received(alloc: Global, old: Node, new: &[Node], flags: u8) -> Option<Marker>
     Some(marker)
 }
 
+/// Adds to the part the marker that a node was rewritten to others.
+pub fn push_marker(
+    alloc: Global,
+    part: &mut Part,
+    old: Node,
+    new: &[Node],
+    flags: u8,
+) -> Option<()> {
+    let marker = received(alloc, old, new, flags)?;
+    part.markers.push(marker).ok()
+}
+
 /// Takes in the marker that a node was rewritten to others.
 pub fn rewrite(
     alloc: Global,
@@ -79,9 +104,8 @@ pub fn rewrite(
     new: &[Node],
     flags: u8,
 ) -> Option<()> {
-    let marker = received(alloc, old, new, flags)?;
     let mut part = empty(alloc);
-    part.markers.push(marker).ok()?;
+    push_marker(alloc, &mut part, old, new, flags)?;
     replica.absorb(&part).ok()?;
     Some(())
 }
@@ -105,7 +129,8 @@ pub fn expect_kinds(rt: &impl Abort, alloc: Global, replica: &Replica, kinds: &K
     }
 }
 
-fn expect_sets(rt: &impl Abort, told: &Instabilities, kinds: &Kinds) {
+/// The sets have exactly the nodes of these kinds.
+pub fn expect_sets(rt: &impl Abort, told: &Instabilities, kinds: &Kinds) {
     assert!(rt; has_exactly(told.obsolete(), kinds.obsolete));
     assert!(rt; has_exactly(told.orphan(), kinds.orphan));
     assert!(rt; has_exactly(told.suspended(), kinds.suspended));

@@ -5,7 +5,7 @@ use Rattle.std.proofs.lemmas.List.Elements.{Contains-get_or}
 use Rattle.std.proofs.lemmas.Option.{none-some}
 use Rattle.hg_changeset.specs.declared.node.Node.{Node}
 use Rattle.hg_instab.specs.Walk.{Adds, IsBefore}
-use Rattle.hg_instab.proofs.WalkLemmas.{IsBeforeAt, adds-then, adds-same, adds-one, before-more, before-all}
+use Rattle.hg_instab.proofs.WalkLemmas.{IsBeforeOf, IsBeforeAt, adds-then, adds-same, adds-one, of-more, before-all}
 use Rattle.hg_instab.proofs.walk.add_predecessors.Goals as goal
 use Rattle.hg_instab.proofs.walk.add_predecessors.Goals.{in-Some+in_ok-insert-in-Some, in-None}
 
@@ -19,10 +19,10 @@ loop-place-preserved c =
       | in-Some+in_ok-insert-in-Some w ↦
           let m = w.in-Some.marker.now in
           let at : slice_get ms k ≡ Some m = sym c.get.ensures ∙ ap option_copied w.in-Some.is in
-          adds-then (IsBeforeAt ms (take i places)) (λ n. m.predecessor ≡ n) (IsBeforeAt ms (take (i + 1) places))
+          adds-then (IsBeforeAt ms (take i places)) (IsBeforeOf m) (IsBeforeAt ms (take (i + 1) places))
           c.args.seen.now.keys c.loop-place.seen.keys _
-          (before-more ms places i k m c.loop-place-test.true (get_or_default places i k 0 c.loop-place-test.true) at)
-          c.loop-place.invariant
+          (of-more IsBeforeOf ms places i k m c.loop-place-test.true
+          (get_or_default places i k 0 c.loop-place-test.true) at) c.loop-place.invariant
           (subst (λ (x : Node). Adds (λ n. x ≡ n) c.loop-place.seen.keys c.match-get.seen.keys)
           w.predecessor.ensures.predecessor (adds-one c.loop-place.seen.keys _ w.predecessor.result
           (ap (λ v. v.keys) w.seen-is ∙ w.in_ok-insert-in-Some.ensures.keys)))

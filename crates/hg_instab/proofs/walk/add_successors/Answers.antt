@@ -1,10 +1,10 @@
-use Rattle.std.proofs.Common.{◌+◌, ◌≡◌, ℕ, List, take, get_or, slice_get, Some, Contains, sym, subst, ap, ◌∙◌}
+use Rattle.std.proofs.Common.{◌+◌, ◌≡◌, ℕ, List, take, get_or, slice_get, Some, sym, subst, ap, ◌∙◌}
 use Rattle.std.specs.Option.{option_copied}
 use Rattle.std.proofs.lemmas.List.{get_or_default, take_all}
 use Rattle.std.proofs.lemmas.List.Elements.{Contains-get_or}
 use Rattle.std.proofs.lemmas.Option.{none-some}
 use Rattle.hg_instab.specs.Walk.{Adds, IsFollowed, IsNext}
-use Rattle.hg_instab.proofs.WalkLemmas.{IsNextAt, adds-then, adds-same, next-more, next-all}
+use Rattle.hg_instab.proofs.WalkLemmas.{IsNextOf, IsNextAt, adds-then, adds-same, of-more, next-all}
 use Rattle.hg_instab.proofs.walk.add_successors.Goals as goal
 use Rattle.hg_instab.proofs.walk.add_successors.Goals.{in-Some+in_ok-follow-in-Some, in-None}
 
@@ -19,10 +19,11 @@ loop-place-preserved c =
       | in-Some+in_ok-follow-in-Some w ↦
           let m = w.in-Some.marker.now in
           let at : slice_get ms k ≡ Some m = sym c.get.ensures ∙ ap option_copied w.in-Some.is in
-          rw w.seen-is (adds-then (IsNextAt Kind ms (take i places)) (λ n. Kind m × Contains m.successors n)
+          rw w.seen-is (adds-then (IsNextAt Kind ms (take i places)) (IsNextOf Kind m)
           (IsNextAt Kind ms (take (i + 1) places)) c.args.seen.now.keys c.loop-place.seen.keys _
-          (next-more Kind ms places i k m c.loop-place-test.true (get_or_default places i k 0 c.loop-place-test.true)
-          at) c.loop-place.invariant w.in_ok-follow-in-Some.ensures)
+          (of-more (IsNextOf Kind) ms places i k m c.loop-place-test.true
+          (get_or_default places i k 0 c.loop-place-test.true) at) c.loop-place.invariant
+          w.in_ok-follow-in-Some.ensures)
       | in-None w ↦
           let there = (c.with_predecessor-place-items.ensures.exact k).0
           (Contains-get_or places i 0 c.loop-place-test.true) in

@@ -29,4 +29,6 @@ returns c =
       );
       phase_divergent = λ n. along (c.in_ok-set_of-4.ensures n) (c.in_ok-phase_divergent.ensures n);
       content_divergent = λ n. along (c.in_ok-set_of-5.ensures n) (c.in_ok-content_divergent.ensures n);
+      after_public = c.in_ok-after_public_ids.ensures;
+      near_forks = c.in_ok-near_fork_ids.ensures;
     }

@@ -1,0 +1,228 @@
+-- What neighbours tell has one solution, and where it can fail after a change.
+use Rattle.std.proofs.Common.{◌≡◌, ℕ, zero, suc, ◌+◌, ◌≤◌, List, [], length, Contains, ◌↔◌, inl, inr, refl}
+use Rattle.std.proofs.Common.{sym, subst, ◌∙◌, arith}
+use Rattle.hg_changeset.specs.declared.node.Node.{Node}
+use Rattle.hg_changeset.proofs.ListLemmas.{Contains-none}
+use Rattle.hg_graph.specs.Graph.{IsParent}
+use Rattle.hg_graph.specs.Places.{IsAt}
+use Rattle.hg_graph.proofs.PlaceLemmas.{placed_within, parent_first}
+use Rattle.hg_phases.specs.State.{changesets}
+use Rattle.hg_history.specs.Content.{IsHeld, IsGrounded}
+use Rattle.hg_history.specs.Content.IsGrounded.{grounded}
+use Rattle.hg_history.proofs.ContentLemmas.{content-node}
+use Rattle.hg_replica.specs.State.{ReplicaState, IsValid}
+use Rattle.hg_replica.specs.Content.{content_of}
+use Rattle.hg_replica.specs.Change.{ChangeValue}
+use Rattle.hg_replica.specs.Evolution.{IsMutable, IsPredecessor, IsObsolete, IsCurrent, IsOrphan, IsExtinct}
+use Rattle.hg_replica.proofs.ContentLemmas.{content-valid}
+use Rattle.hg_instab.specs.declared.waiting.Beside.TheVariants.{Itself, Children, Parents}
+use Rattle.hg_instab.specs.Changed.{Follows, IsSeed, IsNow}
+use Rattle.hg_instab.specs.Local.{IsParentOf, StandsUnstably, HoldsNothing}
+use Rattle.hg_instab.specs.Settling.{IsBesideOne, IsToldBut, IsSettling}
+use Rattle.hg_instab.proofs.LocalLemmas.{orphan-by_parents, extinct-by_children}
+use Rattle.hg_instab.proofs.SettlingLemmas.{place-from_parent, parent-held, placed-node}
+
+-- ---- one solution
+
+module _ (s : ReplicaState) (v : IsValid s) (A B : Node → Type 0) where
+  -- parents decide on orphans
+  pub one-orphan : ((n : Node) → IsHeld (content_of s).0 n → A n ↔ StandsUnstably (content_of s) A n)
+      → ((n : Node) → IsHeld (content_of s).0 n → B n ↔ StandsUnstably (content_of s) B n) → (n : Node)
+      → IsGrounded (content_of s).0 n → IsHeld (content_of s).0 n → A n ↔ B n
+  one-orphan a b n (grounded up) held =
+      let same : (p : Node) → IsParentOf (content_of s) p n → A p ↔ B p =
+      λ p parent. one-orphan a b p (up parent.0 p parent.1 parent.2) (parent-held s v p n parent) in (
+        λ h. let x = (a n held).0 h in
+            (b n held).1
+            (x.0, (x.1.0, x.1.1, elim x.1.2 [ inl o ↦ inl o | inr o ↦ inr ((same x.1.0 x.1.1).0 o) ])),
+        λ h. let x = (b n held).0 h in
+            (a n held).1
+            (x.0, (x.1.0, x.1.1, elim x.1.2 [ inl o ↦ inl o | inr o ↦ inr ((same x.1.0 x.1.1).1 o) ])),
+      )
+
+  -- children decide on extinct changesets
+  pub one-extinct : ((n : Node) → IsHeld (content_of s).0 n → A n ↔ HoldsNothing (content_of s) A n)
+      → ((n : Node) → IsHeld (content_of s).0 n → B n ↔ HoldsNothing (content_of s) B n) → (n : Node)
+      → IsHeld (content_of s).0 n → A n ↔ B n
+  one-extinct a b n held =
+      let k = placed-node s v n held in
+      by (length (changesets s.history)) n k.0 k.1 held (omega arith)
+    where
+      by : (fuel : ℕ) (n : Node) (k : ℕ) → IsAt (changesets s.history) n k → IsHeld (content_of s).0 n
+          → length (changesets s.history) ≤ k + fuel → A n ↔ B n
+      by zero n k at held le = absurd (omega (arith, le, placed_within (changesets s.history) n k at))
+      by (suc fuel) n k at held le =
+          let same : (c : Node) → IsParentOf (content_of s) n c → A c ↔ B c =
+          λ c parent.
+          let there : IsHeld (content_of s).0 c = (parent.0, parent.1) in
+          let j = placed-node s v c there in
+          by fuel c j.0 j.1 there
+          (let l = parent_first (changesets s.history) v.graph j.0 k (place-from_parent s v c n j.0 k j.1 at parent) in
+          omega (arith, l, le)) in (
+            λ h. let x = (a n held).0 h in (b n held).1 (x.0, λ c parent. (same c parent).0 (x.1 c parent)),
+            λ h. let x = (b n held).0 h in (a n held).1 (x.0, λ c parent. (same c parent).1 (x.1 c parent)),
+          )
+
+-- ---- after a change
+
+module _ (s t : ReplicaState) (change : ChangeValue) (v : IsValid s) (w : IsValid t)
+    (follows : Follows (content_of s) (content_of t) change t.markers) where
+  module _ (n : Node) (calm : ¬ (IsSeed t.markers change n)) where
+    still : (content_of t).0 n ≡ (content_of s).0 n
+    still = follows.same n (λ moved. calm (inl moved))
+
+    same-predecessor : IsPredecessor (content_of t) n ↔ IsPredecessor (content_of s) n
+    same-predecessor = (
+      λ h. elim ((follows.markers h.0).0 h.1)
+          [ inl old ↦ (h.0, old, h.2) | inr fresh ↦ absurd (calm (inr (h.0, fresh, h.2))) ],
+      λ h. (h.0, (follows.markers h.0).1 (inl h.1), h.2),
+    )
+
+    same-mutable : IsMutable (content_of t) n ↔ IsMutable (content_of s) n
+    same-mutable = (λ h. (h.0, sym still ∙ h.1, h.2), λ h. (h.0, still ∙ h.1, h.2))
+
+    same-obsolete : IsObsolete (content_of t) n ↔ IsObsolete (content_of s) n
+    same-obsolete = (
+      λ h. (same-mutable.0 h.0, same-predecessor.0 h.1),
+      λ h. (same-mutable.1 h.0, same-predecessor.1 h.1),
+    )
+
+    same-current : IsCurrent (content_of t) n ↔ IsCurrent (content_of s) n
+    same-current = (
+      λ h. (same-mutable.0 h.0, λ o. h.1 (same-obsolete.1 o)),
+      λ h. (same-mutable.1 h.0, λ o. h.1 (same-obsolete.0 o)),
+    )
+
+  -- what was held still is
+  still-held : (n : Node) → IsHeld (content_of s).0 n → IsHeld (content_of t).0 n
+  still-held n held = let g = follows.above n held.0 held.1 in (g.0, g.1)
+
+  module _ (seeds : List Node) (given : (n : Node) → IsSeed t.markers change n → Contains seeds n) (starts : List ℕ)
+      (begun : (k : ℕ) → IsBesideOne Itself (changesets t.history) seeds k → Contains starts k) where
+    calm-there : (n : Node) (k : ℕ) → IsAt (changesets t.history) n k → ¬ (Contains starts k)
+        → ¬ (IsSeed t.markers change n)
+    calm-there n k at free seed = free (begun k (n, given n seed, (k, at, refl)))
+
+    module _ (orphan : List Node) (kept : (n : Node) → Contains orphan n ↔ IsOrphan (content_of s) n)
+        (turned_obsolete : List Node)
+        (others : (n : Node) → ¬ (Contains turned_obsolete n)
+        → IsObsolete (content_of t) n ↔ IsObsolete (content_of s) n)
+        (above : (k : ℕ) → IsBesideOne Children (changesets t.history) turned_obsolete k → Contains starts k) where
+      -- parents tell of the orphans of before whether they are orphans now, but for those where the walk starts
+      pub orphans-told : IsToldBut (changesets t.history) (StandsUnstably (content_of t)) (Contains orphan) starts
+      orphans-told n k at free = (
+        λ h. let x = by.0 ((kept n).0 h) in (
+          (same-current n calm).1 x.0,
+          (
+            x.1.0,
+            up x.1.0 x.1.1,
+            elim x.1.2 [
+              | inl o ↦ inl ((obsolete x.1.0 (up x.1.0 x.1.1)).1 o)
+              | inr o ↦ inr ((kept x.1.0).1 o)
+            ],
+          ),
+        ),
+        λ h. (kept n).1 (by.1 (
+          (same-current n calm).0 h.0,
+          (
+            h.1.0,
+            down h.1.0 h.1.1,
+            elim h.1.2 [ inl o ↦ inl ((obsolete h.1.0 h.1.1).0 o) | inr o ↦ inr ((kept h.1.0).0 o) ],
+          ),
+        )),
+      )
+        where
+          calm : ¬ (IsSeed t.markers change n)
+          calm = calm-there n k at free
+
+          by : IsOrphan (content_of s) n ↔ StandsUnstably (content_of s) (IsOrphan (content_of s)) n
+          by = orphan-by_parents s v n
+
+          up : (p : Node) → IsParentOf (content_of s) p n → IsParentOf (content_of t) p n
+          up p parent = (parent.0, still n calm ∙ parent.1, parent.2)
+
+          down : (p : Node) → IsParentOf (content_of t) p n → IsParentOf (content_of s) p n
+          down p parent = (parent.0, sym (still n calm) ∙ parent.1, parent.2)
+
+          obsolete : (p : Node) → IsParentOf (content_of t) p n
+              → IsObsolete (content_of t) p ↔ IsObsolete (content_of s) p
+          obsolete p parent = others p (λ did.
+              let j = placed-node t w p (parent-held t w p n parent) in
+              free (above k (p, did, (j.0, j.1, place-from_parent t w n p k j.0 at j.1 parent))))
+
+      pub orphans-settled : (turned : List Node)
+          → IsSettling (changesets t.history) (StandsUnstably (content_of t)) orphan starts turned [] → (n : Node)
+          → IsNow orphan turned n ↔ IsOrphan (content_of t) n
+      orphans-settled turned settling n = (
+        λ h. (one n (held n h)).0 h,
+        λ h. (one n (h.0.0.0, h.0.0.1)).1 h,
+      )
+        where
+          held : (n : Node) → IsNow orphan turned n → IsHeld (content_of t).0 n
+          held n h = elim h [
+            | inl x ↦ let o = (kept n).0 x.0 in still-held n (o.0.0.0, o.0.0.1)
+            | inr x ↦ content-node t.history w.graph n (settling.held n x.1)
+          ]
+
+          told : (n : Node) → IsHeld (content_of t).0 n
+              → IsNow orphan turned n ↔ StandsUnstably (content_of t) (IsNow orphan turned) n
+          told n there =
+              let k = placed-node t w n there in
+              settling.told orphans-told n k.0 k.1 (Contains-none k.0)
+
+          one : (n : Node) → IsHeld (content_of t).0 n → IsNow orphan turned n ↔ IsOrphan (content_of t) n
+          one n there = one-orphan t w (IsNow orphan turned) (IsOrphan (content_of t)) told
+              (λ m _. orphan-by_parents t w m) n ((content-valid t w).grounded n) there
+
+    module _ (extinct : List Node) (kept : (n : Node) → Contains extinct n ↔ IsExtinct (content_of s) n)
+        (below : (k : ℕ) → IsBesideOne Parents (changesets t.history) seeds k → Contains starts k) where
+      -- children tell of what was extinct before whether it is extinct now, but for those where the walk starts
+      pub extinct-told : IsToldBut (changesets t.history) (HoldsNothing (content_of t)) (Contains extinct) starts
+      extinct-told n k at free = (
+        λ h. let x = by.0 ((kept n).0 h) in
+            ((same-obsolete n calm).1 x.0, λ c parent. (kept c).1 (x.1 c (down c parent))),
+        λ h. (kept n).1
+            (by.1 ((same-obsolete n calm).0 h.0, λ c parent. (kept c).0 (h.1 c (up c parent)))),
+      )
+        where
+          calm : ¬ (IsSeed t.markers change n)
+          calm = calm-there n k at free
+
+          by : IsExtinct (content_of s) n ↔ HoldsNothing (content_of s) (IsExtinct (content_of s)) n
+          by = extinct-by_children s v n
+
+          up : (c : Node) → IsParentOf (content_of s) n c → IsParentOf (content_of t) n c
+          up c parent =
+              let g = follows.above c parent.0 parent.1 in
+              (g.0, g.1, subst (λ d. IsParent d n) (sym g.2) parent.2)
+
+          down : (c : Node) → IsParentOf (content_of t) n c → IsParentOf (content_of s) n c
+          down c parent =
+              let j = placed-node t w c (parent.0, parent.1) in
+              let same = follows.same c (λ moved.
+              free (below k (c, given c (inl moved), (j.0, j.1, place-from_parent t w c n j.0 k j.1 at parent)))) in
+              (parent.0, sym same ∙ parent.1, parent.2)
+
+      pub extinct-settled : (turned : List Node)
+          → IsSettling (changesets t.history) (HoldsNothing (content_of t)) extinct starts turned [] → (n : Node)
+          → IsNow extinct turned n ↔ IsExtinct (content_of t) n
+      extinct-settled turned settling n = (
+        λ h. (one n (held n h)).0 h,
+        λ h. (one n (h.0.0.0, h.0.0.1)).1 h,
+      )
+        where
+          held : (n : Node) → IsNow extinct turned n → IsHeld (content_of t).0 n
+          held n h = elim h [
+            | inl x ↦ let o = (kept n).0 x.0 in still-held n (o.0.0.0, o.0.0.1)
+            | inr x ↦ content-node t.history w.graph n (settling.held n x.1)
+          ]
+
+          told : (n : Node) → IsHeld (content_of t).0 n
+              → IsNow extinct turned n ↔ HoldsNothing (content_of t) (IsNow extinct turned) n
+          told n there =
+              let k = placed-node t w n there in
+              settling.told extinct-told n k.0 k.1 (Contains-none k.0)
+
+          one : (n : Node) → IsHeld (content_of t).0 n → IsNow extinct turned n ↔ IsExtinct (content_of t) n
+          one n there = one-extinct t w (IsNow extinct turned) (IsExtinct (content_of t)) told
+              (λ m _. extinct-by_children t w m) n there

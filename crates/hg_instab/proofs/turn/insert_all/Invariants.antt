@@ -1,0 +1,7 @@
+use Rattle.std.proofs.Common.{◌↔◌, ◌⊎◌, Contains, take}
+use Rattle.hg_changeset.specs.declared.node.Node.{Node}
+use Rattle.hg_instab.proofs.turn.insert_all.Given as goal
+
+abbrev pub invariant-loop-node : goal.invariant-loop-node
+invariant-loop-node l = (n : Node) → Contains l.set.keys n
+    ↔ (Contains l.fn.set.keys n ⊎ Contains (take l.node-index l.nodes) n)

@@ -1,0 +1,28 @@
+use Rattle.std.proofs.Common.{true≢false, Contains, IsTrue, ◌↔◌, sym, ◌∙◌}
+use Rattle.std.proofs.lemmas.Map.Views.{btree_set_contains_iff}
+use Rattle.hg_changeset.proofs.NodeLemmas.{node_cmp_total, node_cmp_exact}
+use Rattle.hg_instab.proofs.TurnedLemmas.{now-in, now-out}
+use Rattle.hg_instab.proofs.turned.has_now.Goals as goal
+
+pub returns-then-contains : goal.returns-then-contains
+returns-then-contains c =
+    let set = c.args.set.now in
+    let turned = c.args.turned.now in
+    let node = c.args.node in
+    let has : IsTrue c.contains.result ↔ Contains set.keys node =
+    rw c.contains.ensures (btree_set_contains_iff node_cmp_total node_cmp_exact set node) in
+    let told : IsTrue c.contains-then-contains.result ↔ Contains turned.keys node =
+    rw c.contains-then-contains.ensures (btree_set_contains_iff node_cmp_total node_cmp_exact turned node) in
+    now-in set.keys turned.keys node c.contains-then-contains.result (has.0 c.if-contains.true) told
+
+pub returns-else-contains : goal.returns-else-contains
+returns-else-contains c =
+    let set = c.args.set.now in
+    let turned = c.args.turned.now in
+    let node = c.args.node in
+    let has : IsTrue c.contains.result ↔ Contains set.keys node =
+    rw c.contains.ensures (btree_set_contains_iff node_cmp_total node_cmp_exact set node) in
+    let told : IsTrue c.contains-else-contains.result ↔ Contains turned.keys node =
+    rw c.contains-else-contains.ensures (btree_set_contains_iff node_cmp_total node_cmp_exact turned node) in
+    now-out set.keys turned.keys node c.contains-else-contains.result
+    (λ h. true≢false (sym (has.1 h) ∙ c.if-contains.false)) told

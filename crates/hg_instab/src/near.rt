@@ -1,0 +1,110 @@
+//! What is asked again of content-divergence after a change: regions of ids that markers name together, near forks.
+//!
+//! Nothing far from a fork became different changesets with the markers that are followed, so where a change comes near
+//! none nothing is asked.
+ghost use Rattle.std.specs.Prelude.{◌↔◌, Contains, IfOk, OnOk, IsTrue};
+ghost use Rattle.hg_changeset.specs.declared.node.Node.{Node};
+ghost use Rattle.hg_replica.specs.Content.{content_of};
+ghost use Rattle.hg_instab.specs.Near.{IsNamed, IsRegion};
+ghost use Rattle.hg_instab.specs.Region.{IsOneNear, IsTouched, IsStartOf, IsStart};
+ghost use Rattle.hg_instab.specs.Walk.{Adds};
+
+use crate::divergence::is_fork;
+use crate::walk::{Way, reached};
+use hg_changeset::Node;
+use hg_marker::Marker;
+use hg_obsstore::Store;
+use hg_replica::{Change, Replica};
+use indexmap::IndexSet;
+use std::alloc::{AllocError, Global};
+use std::collections::BTreeSet;
+
+// The ids that are asked again after the change, of which some were near forks.
+pub(crate) fn region(
+    alloc: Global,
+    replica: &Replica,
+    change: &Change,
+    near: &BTreeSet<Node>,
+) -> Result<IndexSet<Node>, AllocError>
+    ensures { IfOk result (λ region. IsRegion (content_of replica.now) change.now replica.now.markers near.now.keys
+        region.keys) }
+{
+    let mut starts = IndexSet::new(alloc);
+    add_rewritten(replica.store(), &change.markers, near, &mut starts)?;
+    add_near(&change.added, near, &mut starts)?;
+    reached(replica.store(), Way::Both, starts)
+}
+
+// Adds the predecessors of those markers at the places that make a fork, or name an id that was near one.
+fn add_rewritten(
+    store: &Store,
+    places: &[usize],
+    near: &BTreeSet<Node>,
+    starts: &mut IndexSet<Node>,
+) -> Result<(), AllocError>
+    ensures { OnOk result (Adds (IsStart store.now near.now.keys places.now) starts.old.keys starts.new.keys) }
+{
+    for place in places {
+        match store.get(*place) {
+            Some(marker) => add_touched(store, marker, near, starts)?,
+            None => {}
+        }
+    }
+    Ok(())
+}
+
+// Adds the predecessor of a marker that makes a fork, or names an id that was near one.
+fn add_touched(
+    store: &Store,
+    marker: &Marker,
+    near: &BTreeSet<Node>,
+    starts: &mut IndexSet<Node>,
+) -> Result<(), AllocError>
+    ensures { OnOk result (Adds (IsStartOf store.now near.now.keys marker.now) starts.old.keys starts.new.keys) }
+{
+    if is_touched(store, marker, near) {
+        starts.insert(marker.predecessor())?;
+    }
+    Ok(())
+}
+
+fn is_touched(store: &Store, marker: &Marker, near: &BTreeSet<Node>) -> bool
+    ensures { IsTrue result ↔ IsTouched store.now near.now.keys marker.now }
+{
+    is_fork(store, marker.predecessor()) || names_near(marker, near)
+}
+
+fn names_near(marker: &Marker, near: &BTreeSet<Node>) -> bool
+    ensures { IsTrue result ↔ IsOneNear (IsNamed marker.now) near.now.keys }
+{
+    is_near(marker.predecessor(), near) || is_one_near(marker.successors(), near)
+}
+
+fn is_one_near(nodes: &[Node], near: &BTreeSet<Node>) -> bool
+    ensures { IsTrue result ↔ IsOneNear (Contains nodes.now) near.now.keys }
+{
+    nodes.iter().any(|node| near.contains(node))
+}
+
+fn is_near(node: Node, near: &BTreeSet<Node>) -> bool
+    ensures { IsTrue result ↔ Contains near.now.keys node }
+{
+    near.contains(&node)
+}
+
+// Adds those of the nodes that were near forks.
+fn add_near(
+    nodes: &[Node],
+    near: &BTreeSet<Node>,
+    starts: &mut IndexSet<Node>,
+) -> Result<(), AllocError>
+    ensures { OnOk result (Adds (λ n. Contains nodes.now n × Contains near.now.keys n) starts.old.keys
+        starts.new.keys) }
+{
+    for node in nodes {
+        if is_near(*node, near) {
+            starts.insert(*node)?;
+        }
+    }
+    Ok(())
+}

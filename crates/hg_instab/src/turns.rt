@@ -1,0 +1,356 @@
+//! What a change turns in each kept set.
+ghost use Rattle.std.specs.Prelude.{◌≡◌, ◌↔◌, ◌⊎◌, List, Contains, IfOk, IsTrue};
+ghost use Rattle.hg_changeset.specs.declared.node.Node.{Node};
+ghost use Rattle.hg_replica.specs.State.{ReplicaState, IsValid};
+ghost use Rattle.hg_replica.specs.Change.{ChangeValue};
+ghost use Rattle.hg_replica.specs.Content.{Content, content_of};
+ghost use Rattle.hg_replica.specs.Evolution.{IsObsolete, IsCurrent, IsOrphan, IsSuspended, IsExtinct, IsPhaseDivergent};
+ghost use Rattle.hg_instab.specs.Changed.{Follows, IsChangedTo, IsSeed, IsNow};
+ghost use Rattle.hg_instab.specs.Instabilities.{AreInstabilities, IsContentDivergent};
+ghost use Rattle.hg_instab.specs.Near.{IsClosed};
+ghost use Rattle.hg_instab.specs.Turns.{AreTurns, AreTold, IsTurn, IsThen};
+
+use crate::after_public::newly_after_public;
+use crate::among::{among, current_among, obsolete_among, set_of};
+use crate::divergence::divergent_within;
+use crate::extinct_walk::turned_extinct;
+use crate::instabilities::Instabilities;
+use crate::near::region;
+use crate::orphan_walk::turned_orphans;
+use crate::query::{is_current, is_obsolete};
+use crate::seeds::seeds;
+use crate::turn::Turn;
+use crate::turned::has_now;
+use hg_changeset::Node;
+use hg_replica::{Change, Replica};
+use indexmap::IndexSet;
+use std::alloc::{AllocError, Global};
+use std::collections::BTreeSet;
+
+// What comes to each set and what goes from it.
+pub(crate) struct Turns {
+    pub(crate) obsolete: Turn,
+    pub(crate) orphan: Turn,
+    pub(crate) suspended: Turn,
+    pub(crate) extinct: Turn,
+    pub(crate) phase_divergent: Turn,
+    pub(crate) content_divergent: Turn,
+    pub(crate) after_public: Turn,
+    pub(crate) near_forks: Turn,
+}
+
+impl Drop for Turns {
+    fn drop(self) {
+        let Turns {
+            obsolete: _,
+            orphan: _,
+            suspended: _,
+            extinct: _,
+            phase_divergent: _,
+            content_divergent: _,
+            after_public: _,
+            near_forks: _,
+        } = self;
+    }
+}
+
+impl Turns {
+    // What a change turns in the sets, which were those before it.
+    pub(crate) fn of(
+        alloc: Global,
+        sets: &Instabilities,
+        replica: &Replica,
+        change: &Change,
+    ) -> Result<Turns, AllocError>
+        ensures turns { IfOk result (AreTurns sets.now) }
+        ensures told { IfOk result (λ turns. (s : ReplicaState) → IsChangedTo s change.now replica.now
+            → AreInstabilities (content_of s) sets.now → AreTold (content_of replica.now) sets.now turns) }
+    {
+        // It says that the replica is in a valid state.
+        let _graph = replica.graph();
+        let seeds = seeds(alloc, replica, change)?;
+        let obsolete = obsolete_turn(alloc, replica, sets.obsolete(), &seeds)?;
+        let orphan = orphan_turn(alloc, replica, sets.orphan(), &seeds, &obsolete)?;
+        let held = turned_extinct(alloc, replica, sets.extinct(), &seeds)?;
+        let extinct = turn_of_set(alloc, sets.extinct(), &held)?;
+        let suspended = suspended_turn(alloc, replica, sets, &seeds, &held)?;
+        let met = newly_after_public(alloc, replica, change, sets.after_public())?;
+        let phase_divergent = phase_turn(alloc, replica, sets, &seeds, &met)?;
+        let region = region(alloc, replica, change, sets.near_forks())?;
+        let content_divergent = content_turn(alloc, replica, sets, &seeds, &region)?;
+        Ok(Turns {
+            obsolete,
+            orphan,
+            suspended,
+            extinct,
+            phase_divergent,
+            content_divergent,
+            after_public: growth(alloc, sets.after_public(), &met)?,
+            near_forks: growth(alloc, sets.near_forks(), &region)?,
+        })
+    }
+}
+
+// The obsolete changesets: those of the seeds are asked again.
+fn obsolete_turn(
+    alloc: Global,
+    replica: &Replica,
+    set: &BTreeSet<Node>,
+    seeds: &[Node],
+) -> Result<Turn, AllocError>
+    ensures turn { IfOk result (IsTurn set.now.keys) }
+    ensures told { IfOk result (λ turn. (f : Content)
+        → ((n : Node) → ¬ (Contains seeds.now n) → IsObsolete (content_of replica.now) n ↔ IsObsolete f n)
+        → ((n : Node) → Contains set.now.keys n ↔ IsObsolete f n)
+        → (n : Node) → IsThen set.now.keys turn n ↔ IsObsolete (content_of replica.now) n) }
+{
+    let now = obsolete_among(alloc, replica, seeds)?;
+    Turn::to(alloc, set, seeds, now)
+}
+
+// The orphans: a walk upwards from the seeds, and from what stands on those whose obsolescence turned.
+fn orphan_turn(
+    alloc: Global,
+    replica: &Replica,
+    set: &BTreeSet<Node>,
+    seeds: &[Node],
+    obsolete: &Turn,
+) -> Result<Turn, AllocError>
+    ensures turn { IfOk result (IsTurn set.now.keys) }
+    ensures told { IfOk result (λ turn. (s : ReplicaState) (change : ChangeValue) (was : List Node) → IsValid s
+        → Follows (content_of s) (content_of replica.now) change replica.now.markers
+        → ((n : Node) → IsSeed replica.now.markers change n → Contains seeds.now n)
+        → ((n : Node) → Contains was n ↔ IsObsolete (content_of s) n)
+        → ((n : Node) → IsThen was obsolete.now n ↔ IsObsolete (content_of replica.now) n)
+        → ((n : Node) → Contains set.now.keys n ↔ IsOrphan (content_of s) n)
+        → (n : Node) → IsThen set.now.keys turn n ↔ IsOrphan (content_of replica.now) n) }
+{
+    let turned = obsolete.nodes(alloc)?;
+    let turned = turned_orphans(alloc, replica, set, seeds, &turned)?;
+    turn_of_set(alloc, set, &turned)
+}
+
+// The suspended changesets: those of the seeds, and those that turned extinct or no longer are, are asked again.
+fn suspended_turn(
+    alloc: Global,
+    replica: &Replica,
+    sets: &Instabilities,
+    seeds: &[Node],
+    turned: &BTreeSet<Node>,
+) -> Result<Turn, AllocError>
+    ensures turn { IfOk result (IsTurn sets.now.suspended) }
+    ensures told { IfOk result (λ turn. (f : Content)
+        → ((n : Node) → ¬ (Contains seeds.now n) → IsObsolete (content_of replica.now) n ↔ IsObsolete f n)
+        → ((n : Node) → Contains sets.now.suspended n
+        ↔ (IsObsolete f n × ¬ (Contains sets.now.extinct n)))
+        → (n : Node) → IsThen sets.now.suspended turn n
+        ↔ (IsObsolete (content_of replica.now) n × ¬ (IsNow sets.now.extinct turned.now.keys n))) }
+{
+    let mut nodes = list_of(alloc, turned)?;
+    nodes.extend_from_slice(seeds)?;
+    let now = still_kept(alloc, replica, sets.extinct(), turned, &nodes)?;
+    Turn::to(alloc, sets.suspended(), &nodes, now)
+}
+
+// Those of the nodes that are obsolete and not extinct now.
+fn still_kept(
+    alloc: Global,
+    replica: &Replica,
+    extinct: &BTreeSet<Node>,
+    turned: &BTreeSet<Node>,
+    nodes: &[Node],
+) -> Result<Vec<Node>, AllocError>
+    ensures { IfOk result (λ found. (n : Node) → Contains found.items n ↔ (Contains nodes.now n
+        × (IsObsolete (content_of replica.now) n × ¬ (IsNow extinct.now.keys turned.now.keys n)))) }
+{
+    among(
+        alloc,
+        nodes,
+        |node|
+            ensures { IsTrue result ↔ (IsObsolete (content_of replica.entry.now) node
+                × ¬ (IsNow extinct.entry.now.keys turned.entry.now.keys node)) }
+        { is_kept(replica, extinct, turned, node) },
+    )
+}
+
+fn is_kept(replica: &Replica, extinct: &BTreeSet<Node>, turned: &BTreeSet<Node>, node: Node) -> bool
+    ensures { IsTrue result ↔ (IsObsolete (content_of replica.now) node
+        × ¬ (IsNow extinct.now.keys turned.now.keys node)) }
+{
+    is_obsolete(replica, node) && !has_now(extinct, turned, node)
+}
+
+// The phase-divergent changesets: those of the seeds, and what newly comes after something public, are asked again.
+fn phase_turn(
+    alloc: Global,
+    replica: &Replica,
+    sets: &Instabilities,
+    seeds: &[Node],
+    met: &IndexSet<Node>,
+) -> Result<Turn, AllocError>
+    ensures turn { IfOk result (IsTurn sets.now.phase_divergent) }
+    ensures told { IfOk result (λ turn. (f : Content)
+        → ((n : Node) → ¬ (Contains seeds.now n) → IsCurrent (content_of replica.now) n ↔ IsCurrent f n)
+        → ((n : Node) → Contains sets.now.phase_divergent n
+        ↔ (IsCurrent f n × Contains sets.now.after_public n))
+        → (n : Node) → IsThen sets.now.phase_divergent turn n ↔ (IsCurrent (content_of replica.now) n
+        × (Contains sets.now.after_public n ⊎ Contains met.now.keys n))) }
+{
+    let mut nodes = met.as_slice().to_vec(alloc)?;
+    nodes.extend_from_slice(seeds)?;
+    let now = current_after(alloc, replica, sets.after_public(), met, &nodes)?;
+    Turn::to(alloc, sets.phase_divergent(), &nodes, now)
+}
+
+// Those of the nodes that are current and among the ids that come after something public.
+fn current_after(
+    alloc: Global,
+    replica: &Replica,
+    after_public: &BTreeSet<Node>,
+    met: &IndexSet<Node>,
+    nodes: &[Node],
+) -> Result<Vec<Node>, AllocError>
+    ensures { IfOk result (λ found. (n : Node) → Contains found.items n ↔ (Contains nodes.now n
+        × (IsCurrent (content_of replica.now) n × (Contains after_public.now.keys n ⊎ Contains met.now.keys n)))) }
+{
+    among(
+        alloc,
+        nodes,
+        |node|
+            ensures { IsTrue result ↔ (IsCurrent (content_of replica.entry.now) node
+                × (Contains after_public.entry.now.keys node ⊎ Contains met.entry.now.keys node)) }
+        { is_current_after(replica, after_public, met, node) },
+    )
+}
+
+fn is_current_after(
+    replica: &Replica,
+    after_public: &BTreeSet<Node>,
+    met: &IndexSet<Node>,
+    node: Node,
+) -> bool
+    ensures { IsTrue result ↔ (IsCurrent (content_of replica.now) node
+        × (Contains after_public.now.keys node ⊎ Contains met.now.keys node)) }
+{
+    is_current(replica, node) && (has(after_public, node) || has_met(met, node))
+}
+
+// The content-divergent changesets: those of the region are asked again, and those of the seeds whether they are
+// current still.
+fn content_turn(
+    alloc: Global,
+    replica: &Replica,
+    sets: &Instabilities,
+    seeds: &[Node],
+    region: &IndexSet<Node>,
+) -> Result<Turn, AllocError>
+    ensures turn { IfOk result (IsTurn sets.now.content_divergent) }
+    ensures told { IfOk result (λ turn. (f : Content) → IsClosed (content_of replica.now) (Contains region.now.keys)
+        → ((n : Node) → ¬ (Contains region.now.keys n) → IsContentDivergent (content_of replica.now) n
+        ↔ (IsContentDivergent f n × IsCurrent (content_of replica.now) n))
+        → ((n : Node) → ¬ (Contains seeds.now n) → IsCurrent (content_of replica.now) n ↔ IsCurrent f n)
+        → ((n : Node) → Contains sets.now.content_divergent n ↔ IsContentDivergent f n)
+        → (n : Node) → IsThen sets.now.content_divergent turn n
+        ↔ IsContentDivergent (content_of replica.now) n) }
+{
+    let found = set_of(alloc, divergent_within(alloc, replica, region.as_slice())?)?;
+    let mut nodes = region.as_slice().to_vec(alloc)?;
+    nodes.extend_from_slice(seeds)?;
+    let now = divergent_now(
+        alloc,
+        replica,
+        sets.content_divergent(),
+        region,
+        &found,
+        &nodes,
+    )?;
+    Turn::to(alloc, sets.content_divergent(), &nodes, now)
+}
+
+// Those of the nodes that were found, where they are of the region; and else those of the set that are current.
+fn divergent_now(
+    alloc: Global,
+    replica: &Replica,
+    set: &BTreeSet<Node>,
+    region: &IndexSet<Node>,
+    found: &BTreeSet<Node>,
+    nodes: &[Node],
+) -> Result<Vec<Node>, AllocError>
+    ensures { IfOk result (λ now. (n : Node) → Contains now.items n ↔ (Contains nodes.now n
+        × ((Contains region.now.keys n × Contains found.now.keys n)
+        ⊎ (¬ (Contains region.now.keys n) × (Contains set.now.keys n × IsCurrent (content_of replica.now) n))))) }
+{
+    among(
+        alloc,
+        nodes,
+        |node|
+            ensures { IsTrue result ↔ ((Contains region.entry.now.keys node × Contains found.entry.now.keys node)
+                ⊎ (¬ (Contains region.entry.now.keys node)
+                × (Contains set.entry.now.keys node × IsCurrent (content_of replica.entry.now) node))) }
+        { is_divergent_now(replica, set, region, found, node) },
+    )
+}
+
+fn is_divergent_now(
+    replica: &Replica,
+    set: &BTreeSet<Node>,
+    region: &IndexSet<Node>,
+    found: &BTreeSet<Node>,
+    node: Node,
+) -> bool
+    ensures { IsTrue result ↔ ((Contains region.now.keys node × Contains found.now.keys node)
+        ⊎ (¬ (Contains region.now.keys node)
+        × (Contains set.now.keys node × IsCurrent (content_of replica.now) node))) }
+{
+    if has_met(region, node) {
+        return has(found, node);
+    }
+    has(set, node) && is_current(replica, node)
+}
+
+// What comes to a set that only grows.
+fn growth(alloc: Global, set: &BTreeSet<Node>, met: &IndexSet<Node>) -> Result<Turn, AllocError>
+    ensures turn { IfOk result (IsTurn set.now.keys) }
+    ensures told { IfOk result (λ turn. (n : Node) → IsThen set.now.keys turn n
+        ↔ (Contains set.now.keys n ⊎ Contains met.now.keys n)) }
+{
+    let met = met.as_slice().to_vec(alloc)?;
+    Turn::to(alloc, set, &[], met)
+}
+
+// The turn of those that a walk found to turn.
+fn turn_of_set(
+    alloc: Global,
+    set: &BTreeSet<Node>,
+    turned: &BTreeSet<Node>,
+) -> Result<Turn, AllocError>
+    ensures turn { IfOk result (IsTurn set.now.keys) }
+    ensures told { IfOk result (λ turn. (n : Node) → IsThen set.now.keys turn n
+        ↔ IsNow set.now.keys turned.now.keys n) }
+{
+    let turned = list_of(alloc, turned)?;
+    Turn::of(alloc, set, &turned)
+}
+
+fn has(set: &BTreeSet<Node>, node: Node) -> bool
+    ensures { IsTrue result ↔ Contains set.now.keys node }
+{
+    set.contains(&node)
+}
+
+fn has_met(met: &IndexSet<Node>, node: Node) -> bool
+    ensures { IsTrue result ↔ Contains met.now.keys node }
+{
+    met.contains(&node)
+}
+
+// The nodes of a set.
+fn list_of(alloc: Global, set: &BTreeSet<Node>) -> Result<Vec<Node>, AllocError>
+    ensures { IfOk result (λ list. list.items ≡ set.now.keys) }
+{
+    let mut list = Vec::new(alloc);
+    for node in set {
+        list.push(*node)?;
+    }
+    Ok(list)
+}
