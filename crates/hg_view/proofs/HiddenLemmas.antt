@@ -18,7 +18,7 @@ public-or Draft = inr (λ e. let r : 1 ≡ 0 = ap rank e in omega (arith, r))
 public-or Secret = inr (λ e. let r : 2 ≡ 0 = ap rank e in omega (arith, r))
 
 -- what is held is obsolete or not
-obsolete-or : (s : ReplicaState) (n : Node) → IsHeld (content_of s).0 n
+pub obsolete-or : (s : ReplicaState) (n : Node) → IsHeld (content_of s).0 n
     → IsObsolete (content_of s) n ⊎ (¬ (IsObsolete (content_of s) n))
 obsolete-or s n held = elim (public-or held.0.phase) [
   | inl public ↦ inr (λ o. o.0.2 (ap (λ h. h.phase)
@@ -31,7 +31,7 @@ obsolete-or s n held = elim (public-or held.0.phase) [
 
 module _ (s : ReplicaState) (v : IsValid s) where
   -- nothing that is visible is extinct
-  visible-not_extinct : (n : Node) → IsVisible (content_of s) n → IsExtinct (content_of s) n → ⊥
+  pub visible-not_extinct : (n : Node) → IsVisible (content_of s) n → IsExtinct (content_of s) n → ⊥
   visible-not_extinct n seen x =
       let d = seen.0 in
       elim (obsolete-or_current s d (mutable-above s v n d seen.2 seen.1.0 x.0.0)) [

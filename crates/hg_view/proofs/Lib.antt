@@ -2,3 +2,4 @@ pub mod LawLemmas
 pub mod ViewLemmas
 mod ShownLemmas
 mod HiddenLemmas
+mod KeptLemmas
