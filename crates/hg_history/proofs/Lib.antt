@@ -7,5 +7,6 @@ pub mod FaultLemmas
 pub mod FirstFaultLemmas
 pub mod GrowthLemmas
 pub mod JoinLemmas
+pub mod NothingLemmas
 pub mod OpenLemmas
 pub mod UndoLemmas

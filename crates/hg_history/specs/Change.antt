@@ -1,5 +1,5 @@
 -- What a part changes.
-use Rattle.std.specs.Prelude.{Bool, List, [], ◌∷◌, ◌++◌, if◌then◌else◌}
+use Rattle.std.specs.Prelude.{◌≡◌, Bool, List, [], ◌∷◌, ◌++◌, if◌then◌else◌}
 use Rattle.std.specs.List.{list_any}
 use Rattle.hg_changeset.specs.declared.node.Node.{Node}
 use Rattle.hg_changeset.specs.Node.{node_eq}
@@ -12,6 +12,10 @@ pub use Rattle.hg_phases.specs.Lowered.{WentDown, ListsLowered}
 pub record ChangeValue : Type 0 where
   pub added : List Node
   pub lowered : List Node
+
+-- nothing was added, and no phase went down
+abbrev pub IsNothing : ChangeValue → Type 0
+IsNothing change = (change.added ≡ []) × (change.lowered ≡ [])
 
 -- a changeset with this id is among them
 abbrev pub is_held : List Contents → Node → Bool

@@ -19,6 +19,7 @@ ghost use Rattle.hg_phases.specs.Lowered.{IsAbove};
 ghost use Rattle.hg_phases.specs.RootPlaces.{AreKept, AreRootPlaces};
 ghost use Rattle.hg_history.specs.Answer.{AbsorbAnswer, AreHeldUpTo, IsAbsorbed, IsGrowthBeforeFault, HasHigher};
 ghost use Rattle.hg_history.specs.Answer.{IsRefusal};
+ghost use Rattle.hg_history.specs.Change.{IsNothing};
 ghost use Rattle.hg_history.specs.Undo.{LeadsBack};
 ghost use Rattle.hg_history.specs.Absorbed.{without_undo};
 ghost use Rattle.hg_history.specs.Steps.{AddAllAnswer, IsAnswered, IsBegun, CanTakeBack, OneAdded, IsBoundFault};
@@ -48,6 +49,9 @@ pub(crate) fn absorb_or_undo(
         (kept_state graph.new kept.new.phases) }
     ensures back { IfOk result (λ absorbed. LeadsBack (kept_state graph.new kept.new.phases) absorbed.undo
         (kept_state graph.old kept.old.phases)) }
+    ensures growth { IfOk result (λ absorbed. IsNothing absorbed.change
+        ⊎ IsGrowthBeforeFault (kept_state graph.old kept.old.phases)
+        (record { changesets = changesets.now; bounds = bounds.now })) }
     ensures memory { IsErrOf result Fault.NoMemory
         → IsGrowthBeforeFault (kept_state graph.old kept.old.phases)
         (record { changesets = changesets.now; bounds = bounds.now }) }
@@ -73,6 +77,9 @@ pub(crate) fn absorb_owned_or_undo(
         (kept_state graph.new kept.new.phases) }
     ensures back { IfOk result (λ absorbed. LeadsBack (kept_state graph.new kept.new.phases) absorbed.undo
         (kept_state graph.old kept.old.phases)) }
+    ensures growth { IfOk result (λ absorbed. IsNothing absorbed.change
+        ⊎ IsGrowthBeforeFault (kept_state graph.old kept.old.phases)
+        (record { changesets = changesets.items; bounds = bounds.now })) }
     ensures memory { IsErrOf result Fault.NoMemory
         → IsGrowthBeforeFault (kept_state graph.old kept.old.phases)
         (record { changesets = changesets.items; bounds = bounds.now }) }
@@ -108,6 +115,11 @@ fn take_bounds_or_undo(
         → IsBegun held had part before added graph.old (phases_at graph.old kept.old.phases)
         → IfOk result
         (λ absorbed. LeadsBack (kept_state graph.new kept.new.phases) absorbed.undo (state_of held had)) }
+    ensures growth { (held : List Contents) (had : List Phase) (part : List Contents)
+        → IsBegun held had part before added graph.old (phases_at graph.old kept.old.phases)
+        → IfOk result
+        (λ absorbed. IsNothing absorbed.change
+        ⊎ IsGrowthBeforeFault (state_of held had) (record { changesets = part; bounds = bounds.now })) }
     ensures memory { (held : List Contents) (had : List Phase) (part : List Contents)
         → IsBegun held had part before added graph.old (phases_at graph.old kept.old.phases)
         → IsErrOf result Fault.NoMemory
@@ -154,6 +166,11 @@ fn take_bounds_and_update(
     ensures refusal { (held : List Contents) (had : List Phase) (part : List Contents)
         → IsBegun held had part before added graph.now (phases_at graph.now kept.old.phases)
         → MatchResult result (λ _. Unit {0}) (IsRefusal held (record { changesets = part; bounds = bounds.now })) }
+    ensures growth { (held : List Contents) (had : List Phase) (part : List Contents)
+        → IsBegun held had part before added graph.now (phases_at graph.now kept.old.phases)
+        → IfOk result
+        (λ change. IsNothing change
+        ⊎ IsGrowthBeforeFault (state_of held had) (record { changesets = part; bounds = bounds.now })) }
     ensures memory { (held : List Contents) (had : List Phase) (part : List Contents)
         → IsBegun held had part before added graph.now (phases_at graph.now kept.old.phases)
         → IsErrOf result Fault.NoMemory

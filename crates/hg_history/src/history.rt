@@ -1,6 +1,6 @@
 //! The history: a graph of changesets, with a phase for each.
 ghost use Rattle.std.specs.Prelude.{IfOk, IsErrOf, IsOkAnd, MatchOption, IsTrue, Some, [], length, slice_get, ◌≡◌, ◌≤◌};
-ghost use Rattle.std.specs.Prelude.{◌↔◌};
+ghost use Rattle.std.specs.Prelude.{◌↔◌, ◌⊎◌, OnOk};
 ghost use Rattle.hg_phases.specs.State.{State, Held, changesets, state_of, Holds, IsPhaseOf, IsValid};
 ghost use Rattle.hg_phases.specs.Least.{part_of};
 ghost use Rattle.hg_phases.specs.Order.{Below};
@@ -9,7 +9,8 @@ ghost use Rattle.hg_phases.specs.Roots.{AreRoots};
 ghost use Rattle.hg_history.specs.Join.{JoinAnswer};
 ghost use Rattle.hg_history.specs.Open.{OpenAnswer};
 ghost use Rattle.hg_history.specs.Undo.{LeadsBack};
-ghost use Rattle.hg_history.specs.Absorbed.{without_undo};
+ghost use Rattle.hg_history.specs.Absorbed.{without_undo, join_without_undo};
+ghost use Rattle.hg_history.specs.Change.{IsNothing};
 
 use crate::absorb::{absorb_or_undo, absorb_owned_or_undo};
 use crate::change::Change;
@@ -169,6 +170,9 @@ impl History {
         ensures answer { AbsorbAnswer self.old (record { changesets = changesets.now; bounds = bounds.now })
             (without_undo result) self.new }
         ensures back { IfOk result (λ absorbed. LeadsBack self.new absorbed.undo self.old) }
+        ensures nothing { IfOk result (λ absorbed. IsNothing absorbed.change → self.new ≡ self.old) }
+        ensures growth { IfOk result (λ absorbed. IsNothing absorbed.change
+            ⊎ IsGrowthBeforeFault self.old (record { changesets = changesets.now; bounds = bounds.now })) }
         ensures valid { IsValid self.old }
         ensures still_valid { IsValid self.new }
         ensures memory { IsErrOf result Fault.NoMemory
@@ -193,6 +197,9 @@ impl History {
         ensures answer { AbsorbAnswer self.old (record { changesets = changesets.items; bounds = bounds.now })
             (without_undo result) self.new }
         ensures back { IfOk result (λ absorbed. LeadsBack self.new absorbed.undo self.old) }
+        ensures nothing { IfOk result (λ absorbed. IsNothing absorbed.change → self.new ≡ self.old) }
+        ensures growth { IfOk result (λ absorbed. IsNothing absorbed.change
+            ⊎ IsGrowthBeforeFault self.old (record { changesets = changesets.items; bounds = bounds.now })) }
         ensures valid { IsValid self.old }
         ensures still_valid { IsValid self.new }
         ensures memory { IsErrOf result Fault.NoMemory
@@ -207,8 +214,8 @@ impl History {
         )
     }
 
-    /// Takes an absorption back: the history is as it was before it. Nothing may have changed it since. It takes no
-    /// memory, and costs what was absorbed.
+    /// Takes an absorption or a join back: the history is as it was before it. Nothing may have changed it since. It
+    /// takes no memory, and costs what was taken in.
     pub fn take_back(&mut self, undo: Undo)
         requires { (s : State) × LeadsBack self.old undo s }
         ensures back { (s : State) → LeadsBack self.old undo s → self.new ≡ s }
@@ -225,6 +232,22 @@ impl History {
     /// another history that is below this one is joined without memory.
     pub fn join(&mut self, other: &History) -> Result<(), Fault>
         ensures answer { JoinAnswer self.old other.now result self.new }
+        ensures valid { IsValid self.old }
+        ensures other_valid { IsValid other.now }
+        ensures still_valid { IsValid self.new }
+        ensures memory { IsErrOf result Fault.NoMemory → IsGrowthBeforeFault self.old (part_of other.now) }
+    {
+        match self.join_with_undo(other) {
+            Ok(_) => Ok(()),
+            Err(fault) => Err(fault),
+        }
+    }
+
+    /// Takes in all that another history holds as [`join`](History::join) does, and gives out what takes that back.
+    pub fn join_with_undo(&mut self, other: &History) -> Result<Undo, Fault>
+        ensures answer { JoinAnswer self.old other.now (join_without_undo result) self.new }
+        ensures back { IfOk result (λ undo. LeadsBack self.new undo self.old) }
+        ensures growth { OnOk result (IsGrowthBeforeFault self.old (part_of other.now) ⊎ (self.new ≡ self.old)) }
         ensures valid { IsValid self.old }
         ensures other_valid { IsValid other.now }
         ensures still_valid { IsValid self.new }

@@ -5,8 +5,8 @@
 //! Then each is lowered to its phase, the public ones first, which lowers hardly anything else, since its parents stand
 //! no higher in the other, and the roots are updated. A refusal takes back what was done, as in `absorb`. So a call
 //! costs about both sides once.
-ghost use Rattle.std.specs.Prelude.{◌≡◌, ◌↔◌, ◌⊎◌, List, Some, IsTrue, OnOk, OnErr, IfErr, IsErrOf, length, slice_get};
-ghost use Rattle.std.specs.Prelude.{[], ◌∷◌};
+ghost use Rattle.std.specs.Prelude.{◌≡◌, ◌↔◌, ◌⊎◌, List, Some, IsTrue, IfOk, OnOk, OnErr, IfErr, IsErrOf, length};
+ghost use Rattle.std.specs.Prelude.{slice_get, [], ◌∷◌};
 ghost use Rattle.hg_phases.specs.declared.phase.Phase.{Phase};
 ghost use Rattle.hg_phases.specs.State.{IsValid};
 ghost use Rattle.hg_phases.specs.Kept.{phases_at, kept_state, phases_before};
@@ -14,39 +14,47 @@ ghost use Rattle.hg_phases.specs.Least.{IsLeast, part_of};
 ghost use Rattle.hg_phases.specs.Log.{IsLog};
 ghost use Rattle.hg_phases.specs.Order.{Below};
 ghost use Rattle.hg_phases.specs.RootPlaces.{AreKept};
+ghost use Rattle.hg_history.specs.Absorbed.{join_without_undo};
 ghost use Rattle.hg_history.specs.Answer.{AreHeldUpTo, HasHigher, IsGrowthBeforeFault};
 ghost use Rattle.hg_history.specs.Join.{IsJoinFault, JoinAnswer, IsHeldAsLow};
 ghost use Rattle.hg_history.specs.Steps.{AddAllAnswer, CanTakeBack, IsLoweredTo};
+ghost use Rattle.hg_history.specs.Undo.{LeadsBack};
 
 use crate::absorb::{add_one, lower_bound, take_back};
 use crate::fault::Fault;
+use crate::undo::Undo;
 use hg_changeset::Changeset;
 use hg_graph::Graph;
 use hg_phases::{LoweringLog, Phase, PhaseMap, PhaseRoots};
 use std::alloc::{AllocError, Global};
 
-/// Joins the other in, or leaves everything as it was.
+/// Joins the other in and gives out what takes it back, or leaves everything as it was.
 pub(crate) fn join_or_undo(
     graph: &mut Graph,
     kept: &mut PhaseRoots,
     alloc: Global,
     other: &Graph,
     other_phases: &PhaseMap,
-) -> Result<(), Fault>
+) -> Result<Undo, Fault>
     requires kept { AreKept graph.old kept.old }
     requires valid { IsValid (kept_state graph.old kept.old.phases) }
     requires other_len { length (phases_at other.now other_phases.now) ≡ length other.now }
     requires other_valid { IsValid (kept_state other.now other_phases.now) }
     ensures inside { AreKept graph.new kept.new × IsValid (kept_state graph.new kept.new.phases) }
-    ensures answer { JoinAnswer (kept_state graph.old kept.old.phases) (kept_state other.now other_phases.now) result
-        (kept_state graph.new kept.new.phases) }
+    ensures answer { JoinAnswer (kept_state graph.old kept.old.phases) (kept_state other.now other_phases.now)
+        (join_without_undo result) (kept_state graph.new kept.new.phases) }
+    ensures back { IfOk result
+        (λ undo. LeadsBack (kept_state graph.new kept.new.phases) undo (kept_state graph.old kept.old.phases)) }
+    ensures growth { OnOk result
+        (IsGrowthBeforeFault (kept_state graph.old kept.old.phases) (part_of (kept_state other.now other_phases.now))
+        ⊎ (kept_state graph.new kept.new.phases ≡ kept_state graph.old kept.old.phases)) }
     ensures memory { IsErrOf result Fault.NoMemory
         → IsGrowthBeforeFault (kept_state graph.old kept.old.phases) (part_of (kept_state other.now other_phases.now)) }
 {
     let before = graph.len();
     let mut log = LoweringLog::new(alloc);
     match join_and_update(graph, kept, &mut log, other, other_phases) {
-        Ok(()) => Ok(()),
+        Ok(()) => Ok(Undo { before, log }),
         Err(fault) => {
             take_back(graph, &mut kept.phases, &mut log, before);
             Err(fault)
@@ -75,6 +83,9 @@ fn join_and_update(
         (part_of (kept_state other.now other_phases.now) ∷ []) (kept_state graph.new kept.new.phases)) }
     ensures fault { IfErr result
         (IsJoinFault (kept_state graph.old kept.old.phases) (kept_state other.now other_phases.now)) }
+    ensures growth { OnOk result
+        (IsGrowthBeforeFault (kept_state graph.old kept.old.phases) (part_of (kept_state other.now other_phases.now))
+        ⊎ (kept_state graph.new kept.new.phases ≡ kept_state graph.old kept.old.phases)) }
     ensures memory { IsErrOf result Fault.NoMemory
         → IsGrowthBeforeFault (kept_state graph.old kept.old.phases) (part_of (kept_state other.now other_phases.now)) }
 {

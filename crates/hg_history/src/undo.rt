@@ -1,7 +1,7 @@
-//! What takes an absorption back.
+//! What takes an absorption or a join back.
 //!
-//! What was absorbed stands behind what was held before, and has left a log of what it lowered. So an undo is the
-//! number of changesets before, and the log: it takes the absorption back later, as long as nothing else was changed.
+//! What was taken in stands behind what was held before, and has left a log of what it lowered. So an undo is the
+//! number of changesets before, and the log: it takes this back later, as long as nothing else was changed.
 ghost use Rattle.std.specs.Prelude.{IsErrOf, ◌≡◌};
 ghost use Rattle.hg_history.specs.Absorbed.{without_undo};
 
@@ -10,7 +10,7 @@ use crate::fault::Fault;
 use hg_phases::LoweringLog;
 use std::marker::Model;
 
-/// Takes an absorption back: how many changesets were held before, and what was lowered.
+/// Takes an absorption or a join back: how many changesets were held before, and what was lowered.
 #[derive(Drop)]
 pub struct Undo {
     pub(crate) before: usize,

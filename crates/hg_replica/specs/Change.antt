@@ -1,5 +1,5 @@
 -- What a part changes.
-use Rattle.std.specs.Prelude.{ℕ, List}
+use Rattle.std.specs.Prelude.{◌≡◌, ℕ, List, []}
 use Rattle.hg_changeset.specs.declared.node.Node.{Node}
 use Rattle.hg_history.specs.Change.{ChangeValue as HistoryChange}
 use Rattle.hg_history.specs.Join.{TellsChange as TellsHistory}
@@ -11,6 +11,10 @@ pub record ChangeValue : Type 0 where
   pub added : List Node
   pub lowered : List Node
   pub markers : List ℕ
+
+-- nothing was added, no phase went down, and no marker is new
+abbrev pub IsNothing : ChangeValue → Type 0
+IsNothing change = (change.added ≡ []) × (change.lowered ≡ []) × (change.markers ≡ [])
 
 -- what of the change the history tells
 abbrev pub history_change : ChangeValue → HistoryChange

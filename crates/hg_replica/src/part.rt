@@ -1,4 +1,6 @@
 //! What a replica takes in, and what that changes.
+ghost use Rattle.std.specs.Prelude.{IsTrue, ◌↔◌};
+ghost use Rattle.hg_replica.specs.Change.{IsNothing};
 
 use hg_changeset::{Changeset, Node};
 use hg_marker::Marker;
@@ -48,4 +50,13 @@ impl Model for Change {
       lowered = change.lowered.items;
       markers = change.markers.items;
     } };
+}
+
+impl Change {
+    /// Whether nothing changed: nothing was added, no phase went down, and no marker is new.
+    pub fn is_empty(&self) -> bool
+        ensures { IsTrue result ↔ IsNothing self.now }
+    {
+        self.added.is_empty() && self.lowered.is_empty() && self.markers.is_empty()
+    }
 }

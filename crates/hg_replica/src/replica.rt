@@ -3,7 +3,7 @@
 //! The store comes first in each call that grows both, since what it added is cut off its end again where the history
 //! refuses. So a refusal costs what was taken in, and never a copy.
 ghost use Rattle.std.specs.Prelude.{IfOk, IsErrOf, IsOkAnd, MatchOption, IsTrue, Some, [], length, slice_get, ◌≡◌, ◌≤◌};
-ghost use Rattle.std.specs.Prelude.{◌↔◌};
+ghost use Rattle.std.specs.Prelude.{◌↔◌, ◌⊎◌, OnOk};
 ghost use Rattle.hg_phases.specs.State.{Held, changesets, state_of, Holds, IsPhaseOf};
 ghost use Rattle.hg_phases.specs.Roots.{AreRoots};
 ghost use Rattle.hg_obsstore.specs.Markers.{AreApart};
@@ -11,7 +11,8 @@ ghost use Rattle.hg_history.specs.Absorbed.{without_undo as history_without_undo
 ghost use Rattle.hg_replica.specs.State.{ReplicaState, IsValid, Below};
 ghost use Rattle.hg_replica.specs.Least.{part_of};
 ghost use Rattle.hg_replica.specs.Answer.{AbsorbAnswer, KeepAnswer, IsGrowthBeforeFault, JoinAnswer, OpenAnswer};
-ghost use Rattle.hg_replica.specs.Absorbed.{without_undo, KeepsUndo};
+ghost use Rattle.hg_replica.specs.Absorbed.{without_undo, join_without_undo, KeepsUndo};
+ghost use Rattle.hg_replica.specs.Change.{IsNothing};
 ghost use Rattle.hg_replica.specs.Undo.{LeadsBack};
 
 use crate::hints::{note_hints, note_new};
@@ -187,6 +188,8 @@ impl Replica {
     pub fn absorb_with_undo(&mut self, part: &Part) -> Result<Absorbed, Fault>
         ensures answer { AbsorbAnswer self.old part.now (without_undo result) self.new }
         ensures back { IfOk result (λ absorbed. LeadsBack self.new absorbed.undo self.old) }
+        ensures nothing { IfOk result (λ absorbed. IsNothing absorbed.change → self.new ≡ self.old) }
+        ensures growth { IfOk result (λ absorbed. IsNothing absorbed.change ⊎ IsGrowthBeforeFault self.old part.now) }
         ensures memory { IsErrOf result Fault.NoMemory → IsGrowthBeforeFault self.old part.now }
         ensures valid { IsValid self.old }
         ensures still_valid { IsValid self.new }
@@ -208,6 +211,8 @@ impl Replica {
     pub fn absorb_owned_with_undo(&mut self, part: Part) -> Result<Absorbed, Fault>
         ensures answer { AbsorbAnswer self.old part (without_undo result) self.new }
         ensures back { IfOk result (λ absorbed. LeadsBack self.new absorbed.undo self.old) }
+        ensures nothing { IfOk result (λ absorbed. IsNothing absorbed.change → self.new ≡ self.old) }
+        ensures growth { IfOk result (λ absorbed. IsNothing absorbed.change ⊎ IsGrowthBeforeFault self.old part) }
         ensures memory { IsErrOf result Fault.NoMemory → IsGrowthBeforeFault self.old part }
         ensures valid { IsValid self.old }
         ensures still_valid { IsValid self.new }
@@ -228,8 +233,8 @@ impl Replica {
         answer
     }
 
-    /// Takes an absorption back: the replica is as it was before it. Nothing may have changed it since. It takes no
-    /// memory, and costs what was absorbed.
+    /// Takes an absorption or a join back: the replica is as it was before it. Nothing may have changed it since. It
+    /// takes no memory, and costs what was taken in.
     pub fn take_back(&mut self, undo: Undo)
         requires { (s : ReplicaState) × LeadsBack self.old undo s }
         ensures back { (s : ReplicaState) → LeadsBack self.old undo s → self.new ≡ s }
@@ -252,18 +257,37 @@ impl Replica {
         ensures other_valid { IsValid other.now }
         ensures still_valid { IsValid self.new }
     {
-        let before = self.store.len();
+        match self.join_with_undo(other) {
+            Ok(_) => Ok(()),
+            Err(fault) => Err(fault),
+        }
+    }
+
+    /// Takes in all that another replica holds as [`join`](Replica::join) does, and gives out what takes that back.
+    pub fn join_with_undo(&mut self, other: &Replica) -> Result<Undo, Fault>
+        ensures answer { JoinAnswer self.old other.now (join_without_undo result) self.new }
+        ensures back { IfOk result (λ undo. LeadsBack self.new undo self.old) }
+        ensures growth { OnOk result (IsGrowthBeforeFault self.old (part_of other.now) ⊎ (self.new ≡ self.old)) }
+        ensures memory { IsErrOf result Fault.NoMemory → IsGrowthBeforeFault self.old (part_of other.now) }
+        ensures valid { IsValid self.old }
+        ensures other_valid { IsValid other.now }
+        ensures still_valid { IsValid self.new }
+    {
+        let held = self.store.len();
         match self.store.join(&other.store) {
             Ok(()) => {}
             Err(NoMemory) => return Err(Fault::NoMemory),
         }
-        match self.history.join(&other.history) {
-            Ok(()) => {
-                note_hints(&mut self.hints, self.history.graph(), &self.store, before);
-                Ok(())
+        match self.history.join_with_undo(&other.history) {
+            Ok(history) => {
+                note_hints(&mut self.hints, self.history.graph(), &self.store, held);
+                Ok(Undo {
+                    history,
+                    markers: held,
+                })
             }
             Err(fault) => {
-                self.store.truncate(before);
+                self.store.truncate(held);
                 Err(fault)
             }
         }

@@ -1,4 +1,4 @@
-//! What takes an absorption back: the history's undo, and how many markers were held before.
+//! What takes an absorption or a join back: the history's undo, and how many markers were held before.
 ghost use Rattle.std.specs.Prelude.{IsErrOf, ◌≡◌};
 ghost use Rattle.hg_replica.specs.Absorbed.{without_undo};
 
@@ -6,7 +6,7 @@ use crate::part::Change;
 use hg_history::Fault;
 use std::marker::Model;
 
-/// Takes an absorption back, without memory, as long as nothing else was changed.
+/// Takes an absorption or a join back, without memory, as long as nothing else was changed.
 #[derive(Drop)]
 pub struct Undo {
     pub(crate) history: hg_history::Undo,

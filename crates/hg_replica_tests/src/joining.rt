@@ -56,6 +56,24 @@ fn orders_do_not_matter(rt: HostRuntime) {
 
 // The other replica has the root as public, a child of it, and a marker.
 #[test]
+fn a_join_is_taken_back(rt: HostRuntime) {
+    let alloc = rt.alloc();
+    let mut replica = Replica::new(alloc);
+    let root = commit(alloc, &mut replica, Node::NULL, Phase::Secret).expect(&rt, "memory");
+    let before = replica.copy().expect(&rt, "memory");
+    let mut other = replica.copy().expect(&rt, "memory");
+    let node = commit(alloc, &mut other, root, Phase::Public).expect(&rt, "memory");
+    let part = marker(alloc, node, ONES).expect(&rt, "memory");
+    assert!(rt; other.absorb(&part).is_ok());
+    let undo = replica.join_with_undo(&other).expect(&rt, "memory");
+    assert!(rt; are_equal(&replica, &other) && counts(&replica) == (2, 1));
+    replica.take_back(undo);
+    assert!(rt; are_equal(&replica, &before) && counts(&replica) == (1, 0));
+    assert!(rt; phase(&replica, root) == Some(Phase::Secret));
+}
+
+// The other replica has the root as public, a child of it, and a marker.
+#[test]
 fn refused_growth_in_joining_changes_nothing(rt: HostRuntime) {
     let alloc = rt.alloc();
     let mut replica = Replica::new(alloc);

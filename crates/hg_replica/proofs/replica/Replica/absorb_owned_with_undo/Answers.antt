@@ -1,4 +1,4 @@
-use Rattle.std.proofs.Common.{◌≡◌, ◌≢◌, [], IfOk, inl, ap, ◌∙◌, subst}
+use Rattle.std.proofs.Common.{◌≡◌, ◌≢◌, ◌⊎◌, [], IfOk, inl, ap, ◌∙◌, subst}
 use Rattle.hg_history.specs.Absorbed.{without_undo as history_without_undo}
 use Rattle.hg_history.specs.declared.fault.Fault.TheVariants.{NoMemory}
 use Rattle.hg_history.proofs.UndoLemmas.{refused_with_undo}
@@ -7,8 +7,10 @@ use Rattle.hg_replica.specs.State.{ReplicaState}
 use Rattle.hg_replica.specs.Least.{PartValue}
 use Rattle.hg_replica.specs.Answer.{AbsorbAnswer, IsGrowthBeforeFault}
 use Rattle.hg_replica.specs.Absorbed.{without_undo}
+use Rattle.hg_replica.specs.Change.{IsNothing}
 use Rattle.hg_replica.specs.Undo.{LeadsBack}
 use Rattle.hg_replica.specs.declared.undo.Absorbed.{Absorbed}
+use Rattle.hg_replica.proofs.NothingLemmas.{kept_grown, kept_nothing}
 use Rattle.hg_replica.proofs.ReplicaLemmas.{kept_answer, kept_back, kept_growth}
 use Rattle.hg_replica.proofs.replica.Replica.absorb_owned_with_undo.Goals as goal
 use Rattle.hg_replica.proofs.replica.Replica.absorb_owned_with_undo.Goals.{After-drop-bounds-2}
@@ -52,6 +54,32 @@ returns-clause-back c =
     answered.result told.result told.ensures.answer told.ensures.undo c.len-before.ensures c.in-Ok.ensures.ok
     answered.ensures.back in
     subst (λ u. IfOk told.result (λ (absorbed : Absorbed). LeadsBack t absorbed.undo u)) c.self.view_is back
+
+pub returns-clause-nothing : goal.returns-clause-nothing
+returns-clause-nothing c =
+    let answered = c.absorb_owned_with_undo-absorbed in
+    let told = c.keep_or_forget-answer in
+    let t : ReplicaState = record { history = answered.new.self; markers = told.new.store } in
+    let same =
+    kept_nothing (s c) (k c) t.history c.absorb_owned.new.self t.markers c.len-before.result c.in-Ok.markers.items
+    c.in-Ok.ensures.ok c.in-Ok.ensures.places answered.result told.result told.ensures.answer
+    answered.ensures.nothing in
+    subst (λ u. IfOk told.result (λ (absorbed : Absorbed). IsNothing absorbed.change → t ≡ u)) c.self.view_is same
+
+pub returns-clause-growth : goal.returns-clause-growth
+returns-clause-growth c =
+    let answered = c.absorb_owned_with_undo-absorbed in
+    let told = c.keep_or_forget-answer in
+    let growth =
+    kept_grown (s c) (k c) answered.new.self c.absorb_owned.new.self told.new.store c.len-before.result c.in-Ok.markers.items
+    c.in-Ok.ensures.ok c.in-Ok.ensures.places answered.result told.result told.ensures.answer
+    answered.ensures.growth in
+    subst
+    (λ u. IfOk told.result (λ (absorbed : Absorbed). IsNothing absorbed.change ⊎ IsGrowthBeforeFault u c.args.part))
+    c.self.view_is
+    (subst
+    (λ x. IfOk told.result (λ (absorbed : Absorbed). IsNothing absorbed.change ⊎ IsGrowthBeforeFault (s c) x))
+    (k_is c) growth)
 
 pub returns-clause-memory : goal.returns-clause-memory
 returns-clause-memory c is =
