@@ -23,7 +23,7 @@ alike-back P f g alike = record {
 }
 
 -- what is so place by place, and gives something else of each place, gives that place by place
-each_zip : {A B : Type 0} (R S : A → B → Type 0) (xs : List A) (ys : List B)
+pub each_zip : {A B : Type 0} (R S : A → B → Type 0) (xs : List A) (ys : List B)
     → ((x : A) (y : B) → Contains xs x → R x y → S x y) → AllZip R xs ys → AllZip S xs ys
 each_zip R S [] [] gives zip = tt
 each_zip R S [] (y ∷ ys) gives zip = absurd zip

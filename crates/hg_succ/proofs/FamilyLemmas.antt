@@ -1,5 +1,7 @@
 -- What shows that a list is the family of a node.
 use Rattle.std.proofs.Common.{◌≡◌, ◌⊎◌, ◌∷◌, ◌++◌, [], List, Contains, arith, inl, inr, ⊎_elim, subst, sym, refl, map}
+use Rattle.std.proofs.Common.{ap, length, ◌∙◌}
+use Rattle.std.proofs.lemmas.List.{append-nil}
 use Rattle.std.proofs.lemmas.List.Elements.{Contains-append_left, Contains-append_right, Contains-append_cases}
 use Rattle.std.specs.List.{AllZip}
 use Rattle.std.specs.List.Sorted.{IsStrictlySortedBy}
@@ -53,11 +55,11 @@ family_from_cover s n family c = record {
 }
 
 -- what precedes another, or itself, has a marker
-precedes_rewritten : (s : Content) (p n : Node) → Precedes s IsAny p n → IsPredecessor s p
+pub precedes_rewritten : (s : Content) (p n : Node) → Precedes s IsAny p n → IsPredecessor s p
 precedes_rewritten s p n (step {m = m} held kind at is) = (m, held, is)
 precedes_rewritten s p n (further {m = m} held kind at r) = precedes_rewritten s p m.predecessor r
 
-cycle_rewritten : (s : Content) (n : Node) → IsOnCycle s n → IsPredecessor s n
+pub cycle_rewritten : (s : Content) (n : Node) → IsOnCycle s n → IsPredecessor s n
 cycle_rewritten s n on = precedes_rewritten s n n on
 
 -- the one pick of a node that is on a cycle is empty
@@ -96,6 +98,19 @@ pick_free_unknown s n p free not_held (on_cycle on) = refl
 pick_free_unknown s n p free not_held (itself f h) = absurd (not_held h)
 pick_free_unknown s n p free not_held (unknown f h) = refl
 pick_free_unknown s n p free not_held (rewritten m in' at off picks) = absurd (free (m, in', at))
+
+-- a pick of each place of a list that has one is a pick of what stands there
+pub pick_of_one : (s : Content) (x : Node) (ns p : List Node) → ns ≡ x ∷ [] → IsPickOfEach s ns p → IsPick s x p
+pick_of_one s x ns p is no_places = absurd (let e = ap length is in omega (arith, e))
+pick_of_one s x ns p is (next_place {n = y} {ns = ys} {pick = a} {picks = b} first rest) =
+    let head : y ≡ x = cc in
+    let none : ys ≡ [] = cc in
+    subst (IsPick s x) (sym (append-nil a) ∙ ap (λ (c : List Node). a ++ c) (sym (no_picks ys b none rest)))
+    (subst (λ (z : Node). IsPick s z a) head first)
+  where
+    no_picks : (zs : List Node) (q : List Node) → zs ≡ [] → IsPickOfEach s zs q → q ≡ []
+    no_picks zs q is' no_places = refl
+    no_picks zs q is' (next_place first' rest') = absurd (let e = ap length is' in omega (arith, e))
 
 append_within : (a b c d : List Node) → AreWithin a c → AreWithin b d → AreWithin (a ++ b) (c ++ d)
 append_within a b c d f g x h = ⊎_elim (λ (l : Contains a x). Contains-append_left c d x (f x l))

@@ -13,3 +13,4 @@ pub mod SolveLemmas
 pub mod PathLemmas
 pub mod SingleLemmas
 pub mod AlikeLemmas
+pub mod RenamedLemmas

@@ -43,7 +43,7 @@ use Rattle.hg_succ.proofs.LookupLemmas.{look_at}
 use Rattle.hg_succ.proofs.TableLemmas.{entry_solved, entry_known, known_several}
 use Rattle.hg_succ.proofs.SetLemmas.{flat_contains, contains_flat, choices_have}
 use Rattle.hg_succ.proofs.FamilyLemmas.{family_from_cover, pick_on_cycle, not_overfull, pick_free_held}
-use Rattle.hg_succ.proofs.FamilyLemmas.{pick_free_unknown, AreUnions, cover_from_unions}
+use Rattle.hg_succ.proofs.FamilyLemmas.{pick_free_unknown, pick_of_one, AreUnions, cover_from_unions}
 
 -- a node has one family, so one count
 one_count : (s : Content) (n : Node) (a b : ℕ) → HasCount s n a → HasCount s n b → a ≡ b
@@ -280,25 +280,12 @@ module _ (s : ReplicaState) (t : Table) (so : IsTable (content_of s) t) (n : Nod
         (subst (λ (ns : List Node). IsPickOfEach (content_of s) ns (p ++ []))
         (sym (one_successor m.0 m.1 m.2)) each))
 
-    pick_of_one : (ns : List Node) (p : List Node) → ns ≡ x ∷ [] → IsPickOfEach (content_of s) ns p
-        → IsPick (content_of s) x p
-    pick_of_one ns p is no_places = absurd (let e = ap length is in omega (arith, e))
-    pick_of_one ns p is (next_place {n = y} {ns = ys} {pick = a} {picks = b} first rest) =
-        let head : y ≡ x = cc in
-        let none : ys ≡ [] = cc in
-        subst (IsPick (content_of s) x)
-        (sym (append-nil a) ∙ ap (λ (c : List Node). a ++ c) (sym (no_picks ys b none rest)))
-        (subst (λ (z : Node). IsPick (content_of s) z a) head first)
-      where
-        no_picks : (zs : List Node) (q : List Node) → zs ≡ [] → IsPickOfEach (content_of s) zs q → q ≡ []
-        no_picks zs q is' no_places = refl
-        no_picks zs q is' (next_place first' rest') = absurd (let e = ap length is' in omega (arith, e))
-
     pick_down : (p : List Node) → IsPick (content_of s) n p → IsPick (content_of s) x p
     pick_down p (on_cycle on) = absurd (off on)
     pick_down p (itself free held) = absurd (free only_marker)
     pick_down p (unknown free missing) = absurd (free only_marker)
-    pick_down p (rewritten m held at off' picks) = pick_of_one m.successors p (one_successor m held at) picks
+    pick_down p (rewritten m held at off' picks) =
+        pick_of_one (content_of s) x m.successors p (one_successor m held at) picks
 
     shared_cover : (family : List (List Node)) → IsCover (content_of s) x family → IsCover (content_of s) n family
     shared_cover family c = record {

@@ -1,15 +1,17 @@
 -- Strictly ascending lists.
 use Rattle.std.proofs.Common.{◌≡◌, ◌<◌, ◌∷◌, [], ℕ, List, length, Contains, arith, ⊎_elim, get_or, subst, sym, ap, ◌∙◌}
-use Rattle.std.proofs.Common.{refl, zero, suc}
+use Rattle.std.proofs.Common.{refl, zero, suc, ◌⊎◌, ◌↔◌, inl, inr}
 use Rattle.std.proofs.lemmas.List.Elements.{All-contains, Contains-get_or}
 use Rattle.std.proofs.lemmas.Map.Keys.{sorted_tail}
+use Rattle.std.proofs.lemmas.Map.Lookups.{CmpEqualImpliesEq}
 use Rattle.std.proofs.lemmas.Map.Views.{All-after_first}
 use Rattle.std.specs.Cmp.{IsTotalOrder}
+use Rattle.std.specs.List.{AllByRecursion}
 use Rattle.std.specs.List.Sorted.{IsStrictlySortedBy}
 use Rattle.std.specs.declared.cmp.Ordering.{Ordering}
 use Rattle.std.specs.declared.cmp.Ordering.TheVariants.{Less, Equal, Greater}
 use Rattle.std.specs.Ordering.{ordering_reverse}
-use Rattle.hg_changeset.proofs.ListLemmas.{Contains-cons_cases, Contains-later}
+use Rattle.hg_changeset.proofs.ListLemmas.{Contains-cons_cases, Contains-first, Contains-later, Contains-none}
 
 module _ {K : Type 0} {R : K → K → Ordering} (o : IsTotalOrder R) where
   no_less_itself : (r : Ordering) → r ≡ ordering_reverse r → r ≡ Less → ⊥
@@ -63,3 +65,75 @@ module _ {K : Type 0} {R : K → K → Ordering} (o : IsTotalOrder R) where
   less_by_place (x ∷ xs) up (suc i) zero d l within = absurd (omega (arith, l))
   less_by_place (x ∷ xs) up (suc i) (suc j) d l within = less_by_place xs (sorted_tail R x xs up) i j d
       (omega (arith, l)) (omega (arith, within))
+
+-- ---- one member more
+
+-- the first list has x and what the second has, and is one longer
+pub record HasOneMore {K : Type 0} (R : K → K → Ordering) (ys : List K) (x : K) (xs : List K) : Type 0 where
+  pub ascending : IsStrictlySortedBy R ys
+  pub members : (z : K) → Contains ys z ↔ ((x ≡ z) ⊎ Contains xs z)
+  pub longer : length ys ≡ suc (length xs)
+
+module _ {K : Type 0} {R : K → K → Ordering} (o : IsTotalOrder R) (exact : CmpEqualImpliesEq R) where
+  all_members : (P : K → Type 0) (xs : List K) → ((z : K) → Contains xs z → P z) → AllByRecursion P xs
+  all_members P [] h = tt
+  all_members P (x ∷ xs) h = (h x (Contains-first x xs), all_members P xs (λ z i. h z (Contains-later x xs z i)))
+
+  sorted_cons : (x : K) (xs : List K) → IsStrictlySortedBy R xs → ((z : K) → Contains xs z → R x z ≡ Less)
+      → IsStrictlySortedBy R (x ∷ xs)
+  unfolding IsStrictlySortedBy
+  sorted_cons x xs up h = (all_members (λ z. R x z ≡ Less) xs h, up)
+
+  cons_from : (x : K) (xs : List K) (z : K) → (x ≡ z) ⊎ Contains xs z → Contains (x ∷ xs) z
+  cons_from x xs z (inl e) = subst (Contains (x ∷ xs)) e (Contains-first x xs)
+  cons_from x xs z (inr i) = Contains-later x xs z i
+
+  more_first : (x : K) (xs : List K) → IsStrictlySortedBy R xs → ((z : K) → Contains xs z → R x z ≡ Less)
+      → HasOneMore R (x ∷ xs) x xs
+  more_first x xs up below = record {
+    ascending = sorted_cons x xs up below;
+    members = λ z. (Contains-cons_cases x xs z, cons_from x xs z);
+    longer = omega arith;
+  }
+
+  more_later : (x y : K) (ys zs : List K) → IsStrictlySortedBy R (y ∷ ys) → R x y ≡ Greater → HasOneMore R zs x ys
+      → HasOneMore R (y ∷ zs) x (y ∷ ys)
+  more_later x y ys zs up e more = record {
+    ascending = sorted_cons y zs more.ascending (λ z i. elim ((more.members z).0 i) [
+      | inl s ↦ subst (λ w. R y w ≡ Less) s (o.antisymm y x ∙ ap ordering_reverse e)
+      | inr k ↦ below_rest o y ys z up k
+    ]);
+    members = λ z. (
+      λ i. elim (Contains-cons_cases y zs z i) [
+        | inl s ↦ inr (cons_from y ys z (inl s))
+        | inr j ↦ elim ((more.members z).0 j) [ inl s ↦ inl s | inr k ↦ inr (Contains-later y ys z k) ]
+      ],
+      λ c. elim c [
+        | inl s ↦ Contains-later y zs z ((more.members z).1 (inl s))
+        | inr k ↦ elim (Contains-cons_cases y ys z k) [
+          | inl s ↦ cons_from y zs z (inl s)
+          | inr j ↦ Contains-later y zs z ((more.members z).1 (inr j))
+        ]
+      ],
+    );
+    longer = (let l = more.longer in omega (arith, l));
+  }
+
+  -- an ascending list takes up what it doesn't have
+  pub one_more : (x : K) (xs : List K) → IsStrictlySortedBy R xs → ¬ (Contains xs x)
+      → (ys : List K) × HasOneMore R ys x xs
+  one_more x [] up out = (x ∷ [], more_first x [] up (λ z i. absurd (Contains-none z i)))
+  one_more x (y ∷ ys) up out = by (R x y) refl
+      (one_more x ys (sorted_tail R y ys up) (λ i. out (Contains-later y ys x i)))
+    where
+      by : (r : Ordering) → R x y ≡ r → (zs : List K) × HasOneMore R zs x ys
+          → (zs : List K) × HasOneMore R zs x (y ∷ ys)
+      by Less e more = (
+        x ∷ y ∷ ys,
+        more_first x (y ∷ ys) up (λ z i. elim (Contains-cons_cases y ys z i) [
+          | inl s ↦ subst (λ w. R x w ≡ Less) s e
+          | inr k ↦ o.trans x y z e (below_rest o y ys z up k)
+        ]),
+      )
+      by Equal e more = absurd (out (cons_from y ys x (inl (sym (exact x y e)))))
+      by Greater e more = (y ∷ more.0, more_later x y ys more.0 up e more.1)

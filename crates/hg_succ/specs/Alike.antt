@@ -6,8 +6,8 @@ use Rattle.hg_history.specs.Content.{IsHeld}
 use Rattle.hg_replica.specs.Content.{Content}
 use Rattle.hg_replica.specs.Evolution.{IsMarker}
 
--- the contents are alike on the ids of which P holds: both hold such an id or neither does, the same markers rewrote it,
--- and P holds of what these rewrote it to
+-- the contents are alike on the ids of which P holds: both hold such an id or neither does, the same markers rewrote
+-- it, and P holds of what these rewrote it to
 pub record AreAlikeOn (P : Node → Type 0) (f g : Content) : Type 0 where
   pub held : (n : Node) → P n → IsHeld f.0 n ↔ IsHeld g.0 n
   pub markers : (m : Fields) → P m.predecessor → IsMarker f m ↔ IsMarker g m

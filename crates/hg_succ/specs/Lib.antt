@@ -1,4 +1,5 @@
 pub mod Alike
+pub mod Renamed
 pub mod Successors
 pub mod Answer
 pub mod Steps

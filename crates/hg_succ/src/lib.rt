@@ -16,7 +16,8 @@ mod successors;
 mod unions;
 
 pub use laws::{
-    states_of_one_content_have_the_same_successors_sets, what_is_alike_has_the_same_successors_sets,
+    an_amend_renames, states_of_one_content_have_the_same_successors_sets,
+    what_is_alike_has_the_same_successors_sets,
 };
 pub use sets::{Sets, UNION_LIMIT};
 pub use successors::{several_among, successors_sets};
