@@ -60,6 +60,10 @@ near-same f P Q same near = record {
 pub both-same : {A B C : Type 0} → B ↔ C → (A × B) ↔ (A × C)
 both-same same = (λ h. (h.0, same.0 h.1), λ h. (h.0, same.1 h.1))
 
+-- what is told with something that is so
+pub so-there : {A B C : Type 0} → B → A ↔ (B × C) → A ↔ C
+so-there b told = (λ a. (told.0 a).1, λ c. told.1 (b, c))
+
 -- ---- asked again
 
 -- asked again of two lists of nodes, where of the others it is as before

@@ -65,6 +65,17 @@ pub not_near : (f : Content) (P : Node → Type 0) → AreNearForks f P → (n :
 not_near f P near n out after =
     not_near_several f P near after.0 (λ so. out (so-forward f P near.closed IsAny after.0 n after.2 so)) after.1
 
+-- so all that is content-divergent is near
+pub near-divergent : (f : Content) (near : List Node) → AreNearForks f (Contains near) → (n : Node)
+    → (Contains near n × IsContentDivergent f n) ↔ IsContentDivergent f n
+near-divergent f near are n = (
+  λ h. h.1,
+  λ h. elim (among_or_not near n) [
+    | inl so ↦ (so, h)
+    | inr far ↦ absurd (not_near f (Contains near) are n far h.1)
+  ],
+)
+
 -- ---- after a change
 
 module _ (f g : Content) (change : ChangeValue) (ms : List Fields) (near region : List Node)

@@ -13,8 +13,7 @@ use Rattle.hg_marker.specs.Fields.{Fields}
 use Rattle.hg_replica.specs.State.{ReplicaState}
 use Rattle.hg_replica.specs.Content.{Content, content_of}
 use Rattle.hg_replica.specs.Change.{ChangeValue}
-use Rattle.hg_replica.specs.Evolution.{IsPredecessor, Precedes, IsCurrent}
-use Rattle.hg_replica.specs.Evolution.Precedes.{step, further}
+use Rattle.hg_replica.specs.Evolution.{IsPredecessor, IsCurrent}
 use Rattle.hg_replica.proofs.MarkerLemmas.{in_from_holds}
 use Rattle.hg_succ.specs.Successors.{IsAny, IsPick, HasCounts, ways, AreMarkersOf, IsOverfull, HasSeveral}
 use Rattle.hg_succ.specs.Successors.IsPick.{on_cycle, itself, unknown, rewritten}
@@ -27,6 +26,7 @@ use Rattle.hg_instab.specs.Near.{IsForked, IsNamed, IsClosed, IsRegion}
 use Rattle.hg_instab.specs.Region.{IsTouched, IsStart}
 use Rattle.hg_instab.specs.Walk.{IsReached, IsNext, IsStep, IsFork, IsOfOneAt, Adds}
 use Rattle.hg_instab.proofs.AmongLemmas.{IsAlso}
+use Rattle.hg_instab.proofs.NearLemmas.{so-forward, so-backward}
 use Rattle.hg_instab.proofs.PrecedeLemmas.{precedes-predecessor, reached-current}
 use Rattle.hg_instab.proofs.WalkLemmas.{reached-next, adds-then, adds-same}
 
@@ -159,31 +159,24 @@ module _ (f : Content) (p : Node) where
 
 -- ---- content-divergent in a region
 
--- what precedes something in the region is in it
-preceding-in : (f : Content) (P : Node → Type 0) → IsClosed f P → (p n : Node) → Precedes f IsAny p n → P n → P p
-preceding-in f P closed p n (step {m = m} held kind at is) h = closed m n p held (inr at) (inl is) h
-preceding-in f P closed p n (further {m = m} held kind at r) h =
-    preceding-in f P closed p m.predecessor r (closed m n m.predecessor held (inr at) (inl refl) h)
-
 pub divergent-in : (s : ReplicaState) (region starts found : List Node)
     → ((p : Node) → Contains starts p ↔ (Contains region p × HasSeveral (content_of s) p))
     → ((n : Node) → Contains found n ↔ (IsReached (IsNext IsAny s.markers) starts n × IsCurrent (content_of s) n))
-    → IsClosed (content_of s) (Contains region) → (n : Node) → Contains region n
-    → Contains found n ↔ IsContentDivergent (content_of s) n
-divergent-in s region starts found begin led closed n within =
+    → IsClosed (content_of s) (Contains region) → (n : Node)
+    → Contains found n ↔ (Contains region n × IsContentDivergent (content_of s) n)
+divergent-in s region starts found begin led closed n =
     let f = content_of s in
     let are = reached-current s IsAny (λ (p : Node). Contains region p × HasSeveral f p) starts n
     (λ p. (
       λ h. let x = (begin p).0 h in (several-predecessor f p x.1, x),
       λ h. (begin p).1 h.1,
     )) in (
-      λ h. let x = are.0 ((led n).0 h) in (x.0, (x.1.0, x.1.1.1, x.1.2)),
-      λ h. (led n).1 (are.1 (
-        h.0,
-        (
-          h.1.0,
-          (preceding-in f (Contains region) closed h.1.0 n h.1.2 within, h.1.1),
-          h.1.2,
-        ),
+      λ h. let x = are.0 ((led n).0 h) in (
+        so-forward f (Contains region) closed IsAny x.1.0 n x.1.2 x.1.1.0,
+        (x.0, (x.1.0, x.1.1.1, x.1.2)),
+      ),
+      λ h. let by = h.1.1 in (led n).1 (are.1 (
+        h.1.0,
+        (by.0, (so-backward f (Contains region) closed IsAny by.0 n by.2 h.0, by.1), by.2),
       )),
     )

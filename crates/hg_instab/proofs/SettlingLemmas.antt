@@ -1,8 +1,10 @@
 -- Walks that ask at places until none waits.
-use Rattle.std.proofs.Common.{◌≡◌, ◌≢◌, ℕ, ◌<◌, Bool, true, false, true≢false, IsTrue, List, [], length, Some}
-use Rattle.std.proofs.Common.{None, slice_get, Contains, ◌↔◌, ◌⊎◌, inl, inr, refl, sym, subst, ◌∙◌, arith}
+use Rattle.std.proofs.Common.{◌≡◌, ◌≢◌, ℕ, ◌<◌, ◌≤◌, Bool, true, false, true≢false, IsTrue, List, [], length, get_or}
+use Rattle.std.proofs.Common.{Option, Some, None, MatchOption, slice_get, Contains, ◌↔◌, ◌⊎◌, inl, inr, refl, sym}
+use Rattle.std.proofs.Common.{subst, ◌∙◌, arith}
 use Rattle.std.proofs.lemmas.Bool.{cases_order}
-use Rattle.std.proofs.lemmas.Option.{same_Some, none-some}
+use Rattle.std.proofs.lemmas.List.Elements.{Contains-get_or}
+use Rattle.std.proofs.lemmas.Option.{same_Some, none-some, get_or_from_slice_get, slice_get_within}
 use mathlib.Core.Bool.{beq}
 use Rattle.hg_changeset.specs.declared.node.Node.{Node}
 use Rattle.hg_changeset.specs.Contents.{Contents}
@@ -18,13 +20,16 @@ use Rattle.hg_history.proofs.ContentLemmas.{node_in_content, content-changeset, 
 use Rattle.hg_replica.specs.State.{ReplicaState, IsValid}
 use Rattle.hg_replica.specs.Content.{Content, content_of}
 use Rattle.hg_replica.proofs.ContentLemmas.{content-valid}
+use Rattle.hg_instab.specs.declared.settling.Kind.{Kind}
+use Rattle.hg_instab.specs.declared.settling.Kind.TheVariants.{Orphan, Extinct}
 use Rattle.hg_instab.specs.declared.waiting.Beside.{Beside}
 use Rattle.hg_instab.specs.declared.waiting.Beside.TheVariants.{Children, Parents}
 use Rattle.hg_instab.specs.Changed.{IsNow}
 use Rattle.hg_instab.specs.Local.{IsParentOf, StandsUnstably, HoldsNothing}
-use Rattle.hg_instab.specs.Settling.{IsTurned, Widens, IsBeside, IsSettling, SettlesAt}
+use Rattle.hg_instab.specs.Settling.{IsTurned, Widens, IsBeside, IsSoAt, IsAtEach, IsTold, beside_of, IsLater, IsOneOf}
+use Rattle.hg_instab.specs.Settling.{IsSettling, SettlesAt}
 use Rattle.hg_instab.proofs.TurnedLemmas.{now-alike, now-none, now-turned, others-alike}
-use Rattle.hg_instab.proofs.WaitingLemmas.{IsOneOf, beside-within}
+use Rattle.hg_instab.proofs.WaitingLemmas.{beside-within}
 
 -- ---- places of parents
 
@@ -83,6 +88,25 @@ module _ (s : ReplicaState) (v : IsValid s) where
           h j.0 ((are j.0).1 (place-from_parent c n j.0 k j.1 at parent)) c j.1,
     )
 
+-- ---- what stands at each of some places
+
+module _ (cs : List Contents) (P : Node → Type 0) (places : List ℕ) where
+  -- it is so in two parts, or not so of one of the second
+  pub each-in_parts : (first : ℕ) → ((i : ℕ) → 0 ≤ i → i < first → IsSoAt cs P (get_or places i 0)) → (o : Option ℕ)
+      → MatchOption o ((i : ℕ) → first ≤ i → i < length places → IsSoAt cs P (get_or places i 0))
+      (λ i. (first ≤ i) × (i < length places) × ¬ (IsSoAt cs P (get_or places i 0)))
+      → MatchOption o (IsAtEach cs places P) (λ i. ¬ (IsAtEach cs places P))
+  each-in_parts first front None back = λ k h.
+      let p = place_from_Contains places k h in
+      let within = slice_get_within places p.0 k p.1 in
+      subst (IsSoAt cs P) (get_or_from_slice_get places p.0 k 0 p.1) (elim (cases_order p.0 first) [
+        | inl e ↦ back p.0 (omega (arith, e)) within
+        | inr apart ↦ elim apart
+            [ inl less ↦ front p.0 (omega arith) less | inr more ↦ back p.0 (omega (arith, more)) within ]
+      ])
+  each-in_parts first front (Some i) back = λ each.
+      back.2 (each (get_or places i 0) (Contains-get_or places i 0 back.1))
+
 -- ---- what is told by neighbours
 
 -- what is told of a node goes by those to which it is so beside
@@ -94,14 +118,14 @@ GoesBy cs beside Told = (A B : Node → Type 0) (n : Node) (k : ℕ) → IsAt cs
 abbrev pub IsFaithful : ((Node → Type 0) → Node → Type 0) → Type 1
 IsFaithful Told = (A B : Node → Type 0) (n : Node) → ((m : Node) → A m ↔ B m) → Told A n → Told B n
 
-pub orphans-faithful : (f : Content) → IsFaithful (StandsUnstably f)
+orphans-faithful : (f : Content) → IsFaithful (StandsUnstably f)
 orphans-faithful f A B n same h =
     (h.0, (h.1.0, h.1.1, elim h.1.2 [ inl o ↦ inl o | inr o ↦ inr ((same h.1.0).0 o) ]))
 
-pub extinct-faithful : (f : Content) → IsFaithful (HoldsNothing f)
+extinct-faithful : (f : Content) → IsFaithful (HoldsNothing f)
 extinct-faithful f A B n same h = (h.0, λ c parent. (same c).0 (h.1 c parent))
 
-pub orphans-local : (s : ReplicaState) → IsValid s
+orphans-local : (s : ReplicaState) → IsValid s
     → GoesBy (changesets s.history) Children (StandsUnstably (content_of s))
 orphans-local s v A B n k at near h = (
   h.0,
@@ -117,7 +141,7 @@ orphans-local s v A B n k at near h = (
   ),
 )
 
-pub extinct-local : (s : ReplicaState) → IsValid s
+extinct-local : (s : ReplicaState) → IsValid s
     → GoesBy (changesets s.history) Parents (HoldsNothing (content_of s))
 extinct-local s v A B n k at near h = (
   h.0,
@@ -126,9 +150,30 @@ extinct-local s v A B n k at near h = (
       (near c j.0 j.1 (place-from_parent s v c n j.0 k j.1 at parent)).0 (h.1 c parent),
 )
 
--- no changeset is its own parent
-pub no-own_child : (cs : List Contents) → IsGraph cs → (k : ℕ) → ¬ (IsParentPlace cs k k)
-no-own_child cs graph k parent = let l = parent_first cs graph k k parent in omega (arith, l)
+-- ---- by kind
+
+pub faithful : (kind : Kind) (f : Content) → IsFaithful (IsTold kind f)
+faithful Orphan f = orphans-faithful f
+faithful Extinct f = extinct-faithful f
+
+pub local : (kind : Kind) (s : ReplicaState) → IsValid s
+    → GoesBy (changesets s.history) (beside_of kind) (IsTold kind (content_of s))
+local Orphan s v = orphans-local s v
+local Extinct s v = extinct-local s v
+
+-- what is asked again is asked later
+pub beside-later : (kind : Kind) (cs : List Contents) → IsGraph cs → (j k : ℕ) → IsBeside (beside_of kind) cs j k
+    → IsLater kind j k
+beside-later Orphan cs graph j k child = parent_first cs graph k j child
+beside-later Extinct cs graph j k parent = parent_first cs graph j k parent
+
+never-later : (kind : Kind) (k : ℕ) → ¬ (IsLater kind k k)
+never-later Orphan k l = omega (arith, l)
+never-later Extinct k l = omega (arith, l)
+
+-- so nothing is asked again on account of itself
+pub never-beside : (kind : Kind) (cs : List Contents) → IsGraph cs → (k : ℕ) → ¬ (IsBeside (beside_of kind) cs k k)
+never-beside kind cs graph k h = never-later kind k (beside-later kind cs graph k k h)
 
 -- ---- one place
 

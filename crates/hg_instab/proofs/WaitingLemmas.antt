@@ -1,6 +1,7 @@
 -- Places that wait.
-use Rattle.std.proofs.Common.{◌≡◌, ℕ, ◌+◌, ◌<◌, ◌≤◌, max, List, [], ◌∷◌, ◌++◌, length, take, get_or}
-use Rattle.std.proofs.Common.{All, Contains, ◌↔◌, ◌⊎◌, inl, inr, refl, sym, ap, subst, arith}
+use Rattle.std.proofs.Common.{◌≡◌, ℕ, ◌+◌, ◌-◌, ◌<◌, ◌≤◌, max, List, [], ◌∷◌, ◌++◌, length, take, get_or, Option, Some}
+use Rattle.std.proofs.Common.{None, IsSome, IfSome, MatchOption, All, Contains, true≢false, ◌↔◌, ◌⊎◌, inl, inr, refl}
+use Rattle.std.proofs.Common.{sym, ap, subst, arith}
 use Rattle.std.specs.Ordering.{nat_cmp}
 use Rattle.std.specs.declared.cmp.Ordering.TheVariants.{Less}
 use Rattle.std.proofs.lemmas.List.Elements.{All-contains}
@@ -13,10 +14,12 @@ use Rattle.hg_graph.specs.Graph.{nodes, Holds, IsGraph}
 use Rattle.hg_graph.specs.Places.{IsOnlyAt}
 use Rattle.hg_graph.proofs.GraphLemmas.{Contains-from_place}
 use Rattle.hg_graph.proofs.PlaceLemmas.{placed_within, parent_first}
-use Rattle.hg_graph.proofs.WalkLemmas.{less_from_cmp, taken_one}
+use Rattle.hg_graph.proofs.WalkLemmas.{emptied, less_from_cmp, taken_one}
+use Rattle.hg_instab.specs.declared.settling.Kind.{Kind}
+use Rattle.hg_instab.specs.declared.settling.Kind.TheVariants.{Orphan, Extinct}
 use Rattle.hg_instab.specs.declared.waiting.Beside.{Beside}
 use Rattle.hg_instab.specs.declared.waiting.Beside.TheVariants.{Itself, Children, Parents}
-use Rattle.hg_instab.specs.Settling.{Widens, IsBeside, IsBesideNode, IsBesideOne}
+use Rattle.hg_instab.specs.Settling.{Widens, IsBeside, IsBesideNode, IsBesideOne, IsLater, TakesNext}
 
 -- ---- more of them
 
@@ -122,32 +125,49 @@ module _ (first second : Beside) (g cs : List Contents) (is : g ≡ cs) (ns ms :
 
 -- ---- one of them is taken
 
--- the places are one and the rest
-abbrev pub IsOneOf : ℕ → List ℕ → List ℕ → Type 0
-IsOneOf place rest waiting = (k : ℕ) → Contains waiting k ↔ ((place ≡ k) ⊎ Contains rest k)
-
-pub popped-first : (waiting rest : List ℕ) (w : ℕ) → waiting ≡ w ∷ rest → IsOneOf w rest waiting
-popped-first waiting rest w is k = (
-  λ h. Contains-cons_cases w rest k (subst (λ ks. Contains ks k) is h),
-  λ h. subst (λ ks. Contains ks k) (sym is) (elim h
-      [ inl e ↦ subst (Contains (w ∷ rest)) e (Contains-first w rest) | inr later ↦ Contains-later w rest k later ]),
+-- the first is taken
+pub took-first : (o : Option ℕ) (waiting rest : List ℕ) → IsSome o ↔ (0 < length waiting)
+    → IfSome o (λ w. waiting ≡ w ∷ rest) → IfSome o (λ w. All (λ k. nat_cmp w k ≡ Less) rest)
+    → MatchOption o (waiting ≡ []) (λ w. TakesNext Orphan w waiting rest)
+took-first None waiting rest any is above = emptied waiting (λ l. true≢false (sym (any.1 l)))
+took-first (Some w) waiting rest any is above = (
+  λ k. (
+    λ h. Contains-cons_cases w rest k (subst (λ ks. Contains ks k) is h),
+    λ h. subst (λ ks. Contains ks k) (sym is) (elim h
+        [ inl e ↦ subst (Contains (w ∷ rest)) e (Contains-first w rest) | inr later ↦ Contains-later w rest k later ]),
+  ),
+  λ k h. less_from_cmp w k (All-contains (λ k. nat_cmp w k ≡ Less) rest k above h),
 )
 
-pub popped-last : (waiting rest : List ℕ) (w : ℕ) → waiting ≡ rest ++ w ∷ [] → IsOneOf w rest waiting
-popped-last waiting rest w is k = (
-  λ h. elim ((Contains-pushed rest w k).0 (subst (λ ks. Contains ks k) is h))
-      [ inl later ↦ inr later | inr e ↦ inl e ],
-  λ h. subst (λ ks. Contains ks k) (sym is)
-      ((Contains-pushed rest w k).1 (elim h [ inl e ↦ inr e | inr later ↦ inl later ])),
+-- the last is taken
+pub took-last : (o : Option ℕ) (waiting rest : List ℕ) → IsSome o ↔ (0 < length waiting)
+    → IfSome o (λ w. waiting ≡ rest ++ w ∷ []) → IfSome o (λ w. All (λ k. nat_cmp k w ≡ Less) rest)
+    → MatchOption o (waiting ≡ []) (λ w. TakesNext Extinct w waiting rest)
+took-last None waiting rest any is below = emptied waiting (λ l. true≢false (sym (any.1 l)))
+took-last (Some w) waiting rest any is below = (
+  λ k. (
+    λ h. elim ((Contains-pushed rest w k).0 (subst (λ ks. Contains ks k) is h))
+        [ inl later ↦ inr later | inr e ↦ inl e ],
+    λ h. subst (λ ks. Contains ks k) (sym is)
+        ((Contains-pushed rest w k).1 (elim h [ inl e ↦ inr e | inr later ↦ inl later ])),
+  ),
+  λ k h. less_from_cmp k w (All-contains (λ k. nat_cmp k w ≡ Less) rest k below h),
 )
-
-pub after-first : (w : ℕ) (rest : List ℕ) → All (λ k. nat_cmp w k ≡ Less) rest → (k : ℕ) → Contains rest k → w < k
-after-first w rest above k h = less_from_cmp w k (All-contains (λ k. nat_cmp w k ≡ Less) rest k above h)
-
-pub before-last : (w : ℕ) (rest : List ℕ) → All (λ k. nat_cmp k w ≡ Less) rest → (k : ℕ) → Contains rest k → k < w
-before-last w rest below k h = less_from_cmp k w (All-contains (λ k. nat_cmp k w ≡ Less) rest k below h)
 
 -- ---- the work that is left
+
+-- how much is left from a place on
+abbrev pub left_from : Kind → ℕ → ℕ → ℕ
+left_from Orphan len k = len - k
+left_from Extinct len k = k + 1
+
+pub left-some : (kind : Kind) (len k : ℕ) → k < len → 0 < left_from kind len k
+left-some Orphan len k l = omega (arith, l)
+left-some Extinct len k l = omega arith
+
+pub left-falls : (kind : Kind) (len j k : ℕ) → j < len → IsLater kind j k → left_from kind len k < left_from kind len j
+left-falls Orphan len j k l later = omega (arith, l, later)
+left-falls Extinct len j k l later = omega (arith, later)
 
 -- the most that the places give
 abbrev pub most : (ℕ → ℕ) → List ℕ → ℕ

@@ -17,7 +17,7 @@ use Rattle.hg_marker.specs.Fields.{Fields}
 use Rattle.hg_obsstore.specs.Markers.{ArePlaces}
 use Rattle.hg_instab.specs.declared.walk.Followed.TheVariants.{Every}
 use Rattle.hg_instab.specs.declared.walk.Way.{Way}
-use Rattle.hg_instab.specs.declared.walk.Way.TheVariants.{ToSuccessors, ToPredecessors, Both}
+use Rattle.hg_instab.specs.declared.walk.Way.TheVariants.{ToSuccessors, Both}
 use Rattle.hg_instab.specs.Walk.{IsFollowed, IsReached, IsNext, IsBefore, IsStep, IsOfOneAt, Leads, Adds}
 use Rattle.hg_instab.specs.Walk.Leads.{one, further}
 use Rattle.hg_changeset.proofs.ListLemmas.{Contains-pushed, Contains-taken}
@@ -181,7 +181,6 @@ before-named ms p n h =
 
 step-named : (way : Way) (ms : List Fields) (p n : Node) → IsStep way ms p n → Contains (ids ms) n
 step-named (ToSuccessors followed) ms p n h = next-named (IsFollowed followed) ms p n h
-step-named ToPredecessors ms p n h = before-named ms p n h
 step-named Both ms p n h = elim h [
   | inl next ↦ next-named (IsFollowed Every) ms p n next
   | inr before ↦ before-named ms p n before

@@ -4,9 +4,13 @@ use Rattle.hg_changeset.specs.declared.node.Node.{Node}
 use Rattle.hg_changeset.specs.Contents.{Contents}
 use Rattle.hg_graph.specs.Graph.{Holds}
 use Rattle.hg_graph.specs.Places.{IsAt, IsParentPlace}
+use Rattle.hg_replica.specs.Content.{Content}
+use Rattle.hg_instab.specs.declared.settling.Kind.{Kind}
+use Rattle.hg_instab.specs.declared.settling.Kind.TheVariants.{Orphan, Extinct}
 use Rattle.hg_instab.specs.declared.waiting.Beside.{Beside}
 use Rattle.hg_instab.specs.declared.waiting.Beside.TheVariants.{Itself, Children, Parents}
 use Rattle.hg_instab.specs.Changed.{IsNow}
+use Rattle.hg_instab.specs.Local.{StandsUnstably, HoldsNothing}
 
 -- the node changes sides, and no other does
 abbrev pub IsTurned : Node → List Node → List Node → Type 0
@@ -31,9 +35,40 @@ IsBesideNode beside cs n k = (j : ℕ) × IsAt cs n j × IsBeside beside cs j k
 abbrev pub IsBesideOne : Beside → List Contents → List Node → ℕ → Type 0
 IsBesideOne beside cs ns k = (n : Node) × Contains ns n × IsBesideNode beside cs n k
 
+-- ---- by kind
+
+-- how it is told of a changeset by what is so of others
+abbrev pub IsTold : Kind → Content → (Node → Type 0) → Node → Type 0
+IsTold Orphan f = StandsUnstably f
+IsTold Extinct f = HoldsNothing f
+
+-- where those stand of which it is told by what is so here
+abbrev pub beside_of : Kind → Beside
+beside_of Orphan = Children
+beside_of Extinct = Parents
+
+-- the place k is asked after j
+abbrev pub IsLater : Kind → ℕ → ℕ → Type 0
+IsLater Orphan j k = j < k
+IsLater Extinct j k = k < j
+
+-- the places are one and the rest
+abbrev pub IsOneOf : ℕ → List ℕ → List ℕ → Type 0
+IsOneOf place rest waiting = (k : ℕ) → Contains waiting k ↔ ((place ≡ k) ⊎ Contains rest k)
+
+-- of what waits one is taken, and the rest comes later
+abbrev pub TakesNext : Kind → ℕ → List ℕ → List ℕ → Type 0
+TakesNext kind place waiting rest = IsOneOf place rest waiting × ((k : ℕ) → Contains rest k → IsLater kind place k)
+
+-- ---- the walk
+
+-- P holds of whatever stands at the place
+abbrev pub IsSoAt : List Contents → (Node → Type 0) → ℕ → Type 0
+IsSoAt cs P k = (n : Node) → IsAt cs n k → P n
+
 -- P holds of whatever stands at one of the places
 abbrev pub IsAtEach : List Contents → List ℕ → (Node → Type 0) → Type 0
-IsAtEach cs places P = (k : ℕ) → Contains places k → (n : Node) → IsAt cs n k → P n
+IsAtEach cs places P = (k : ℕ) → Contains places k → IsSoAt cs P k
 
 -- of all that stands at places that don't wait, P holds exactly where it is told by P itself
 abbrev pub IsToldBut : List Contents → ((Node → Type 0) → Node → Type 0) → (Node → Type 0) → List ℕ → Type 0

@@ -7,7 +7,7 @@ use Rattle.hg_replica.specs.Evolution.{IsBumpedFix}
 use Rattle.hg_instab.specs.declared.walk.Followed.{Followed}
 use Rattle.hg_instab.specs.declared.walk.Followed.TheVariants.{Every, NotBumpedFix}
 use Rattle.hg_instab.specs.declared.walk.Way.{Way}
-use Rattle.hg_instab.specs.declared.walk.Way.TheVariants.{ToSuccessors, ToPredecessors, Both}
+use Rattle.hg_instab.specs.declared.walk.Way.TheVariants.{ToSuccessors, Both}
 
 -- the markers that a walk to successors follows
 abbrev pub IsFollowed : Followed → Fields → Type 0
@@ -25,7 +25,6 @@ IsBefore ms p n = (m : Fields) × Contains ms m × Contains m.successors p × (m
 -- a step of the way leads from the one to the other
 abbrev pub IsStep : Way → List Fields → Node → Node → Type 0
 IsStep (ToSuccessors followed) ms = IsNext (IsFollowed followed) ms
-IsStep ToPredecessors ms = IsBefore ms
 IsStep Both ms = λ p n. IsNext (IsFollowed Every) ms p n ⊎ IsBefore ms p n
 
 -- two of the markers, at different places, have it as their predecessor

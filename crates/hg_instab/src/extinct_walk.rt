@@ -1,8 +1,7 @@
 //! What comes to the extinct changesets or leaves them with a change, by a walk down from what the change touched.
 //!
-//! Children tell whether a changeset is extinct. So where the answer turned its parents are asked again, and no others.
-//! The highest place is asked first, and each place once.
-ghost use Rattle.std.specs.Prelude.{◌≡◌, ◌↔◌, ◌<◌, ℕ, [], length, Contains, IsTrue, IfOk, OnOk};
+//! Children tell whether a changeset is extinct.
+ghost use Rattle.std.specs.Prelude.{◌↔◌, ◌<◌, ◌≤◌, ℕ, length, get_or, Contains, MatchOption, IsTrue, IfOk};
 ghost use Rattle.hg_changeset.specs.declared.node.Node.{Node};
 ghost use Rattle.hg_graph.specs.Places.{IsAt};
 ghost use Rattle.hg_phases.specs.State.{changesets};
@@ -10,14 +9,15 @@ ghost use Rattle.hg_replica.specs.State.{ReplicaState, IsValid};
 ghost use Rattle.hg_replica.specs.Content.{content_of};
 ghost use Rattle.hg_replica.specs.Change.{ChangeValue};
 ghost use Rattle.hg_replica.specs.Evolution.{IsExtinct};
-ghost use Rattle.hg_instab.specs.declared.waiting.Beside.TheVariants.{Parents};
 ghost use Rattle.hg_instab.specs.Changed.{Follows, IsSeed, IsNow};
 ghost use Rattle.hg_instab.specs.Local.{HoldsNothing};
-ghost use Rattle.hg_instab.specs.Settling.{IsSettling, SettlesAt, IsAtEach};
+ghost use Rattle.hg_instab.specs.Settling.{IsSoAt, IsAtEach};
 
+use crate::holders::Holders;
 use crate::query::is_obsolete_at;
-use crate::turned::{has_now, turn};
-use crate::waiting::{Beside, wait_beside, wait_beside_place};
+use crate::settling::{Kind, settle_all};
+use crate::turned::has_now;
+use crate::waiting::{Beside, wait_beside};
 use hg_changeset::Node;
 use hg_replica::Replica;
 use std::alloc::{AllocError, Global};
@@ -29,6 +29,7 @@ pub(crate) fn turned_extinct(
     alloc: Global,
     replica: &Replica,
     extinct: &BTreeSet<Node>,
+    holders: &mut Holders,
     seeds: &[Node],
 ) -> Result<BTreeSet<Node>, AllocError>
     ensures { IfOk result (λ turned. (s : ReplicaState) (change : ChangeValue) → IsValid s
@@ -41,60 +42,14 @@ pub(crate) fn turned_extinct(
     let mut waiting = BTreeSet::new(alloc);
     wait_beside(graph, seeds, Beside::Itself, &mut waiting)?;
     wait_beside(graph, seeds, Beside::Parents, &mut waiting)?;
-    settle_all(alloc, replica, extinct, waiting)
-}
-
-// Asks at the places that wait, until none does.
-fn settle_all(
-    alloc: Global,
-    replica: &Replica,
-    extinct: &BTreeSet<Node>,
-    starts: BTreeSet<usize>,
-) -> Result<BTreeSet<Node>, AllocError>
-    requires { (k : ℕ) → Contains starts.keys k → k < length (changesets replica.now.history) }
-    ensures { IfOk result (λ turned. IsSettling (changesets replica.now.history)
-        (HoldsNothing (content_of replica.now)) extinct.now.keys starts.keys turned.keys []) }
-{
-    let mut turned = BTreeSet::new(alloc);
-    let mut waiting = starts;
-    while let Some(place) = waiting.pop_last() {
-        settle_at(replica, extinct, &mut turned, &mut waiting, place)?;
-    }
-    Ok(turned)
-}
-
-// Asks at one place. Where the answer turned the parents wait.
-fn settle_at(
-    replica: &Replica,
-    extinct: &BTreeSet<Node>,
-    turned: &mut BTreeSet<Node>,
-    waiting: &mut BTreeSet<usize>,
-    place: usize,
-) -> Result<(), AllocError>
-    ensures valid { IsValid replica.now }
-    ensures settled { OnOk result (SettlesAt (changesets replica.now.history) Parents
-        (HoldsNothing (content_of replica.now)) extinct.now.keys place turned.old.keys waiting.old.keys
-        turned.new.keys waiting.new.keys) }
-{
-    let graph = replica.graph();
-    match graph.node_at(place) {
-        Some(node) => {
-            if is_extinct_now(replica, extinct, turned, place, node)
-                == has_now(extinct, turned, node)
-            {
-                return Ok(());
-            }
-            turn(turned, node)?;
-            wait_beside_place(graph, place, Beside::Parents, waiting)
-        }
-        None => Ok(()),
-    }
+    settle_all(alloc, replica, Kind::Extinct, extinct, holders, waiting)
 }
 
 // Whether it is obsolete, and each child is extinct now.
-fn is_extinct_now(
+pub(crate) fn is_extinct_now(
     replica: &Replica,
     extinct: &BTreeSet<Node>,
+    holders: &mut Holders,
     turned: &BTreeSet<Node>,
     place: usize,
     node: Node,
@@ -104,26 +59,87 @@ fn is_extinct_now(
         ↔ HoldsNothing (content_of replica.now) (IsNow extinct.now.keys turned.now.keys) node }
 {
     is_obsolete_at(replica, place)
-        && are_extinct(replica, extinct, turned, replica.graph().children(place))
+        && are_extinct(
+            replica,
+            extinct,
+            holders,
+            turned,
+            place,
+            replica.graph().children(place),
+        )
 }
 
-// Whether what stands at each of the places is extinct now. The last is asked first: what was added last is the least
-// likely to be obsolete.
+// Whether what stands at each of the places is extinct now: those of the children of what stands at the one place. It
+// begins with the one that wasn't when it was asked last.
 fn are_extinct(
     replica: &Replica,
     extinct: &BTreeSet<Node>,
+    holders: &mut Holders,
     turned: &BTreeSet<Node>,
+    place: usize,
     places: &[usize],
 ) -> bool
     ensures { IsTrue result
         ↔ IsAtEach (changesets replica.now.history) places.now (IsNow extinct.now.keys turned.now.keys) }
 {
-    for index in (0..places.len()).rev() {
+    match holder(
+        replica,
+        extinct,
+        turned,
+        places,
+        holders.first(place, places.len()),
+    ) {
+        Some(index) => {
+            holders.note(place, index);
+            false
+        }
+        None => true,
+    }
+}
+
+// Which of the places it is at which something stands that isn't extinct now. So many are looked through first, from
+// the last of these down, and then the others: where that is all, what was added last is the least likely to be
+// obsolete.
+fn holder(
+    replica: &Replica,
+    extinct: &BTreeSet<Node>,
+    turned: &BTreeSet<Node>,
+    places: &[usize],
+    first: usize,
+) -> Option<usize>
+    requires { first ≤ length places.now }
+    ensures { MatchOption result
+        (IsAtEach (changesets replica.now.history) places.now (IsNow extinct.now.keys turned.now.keys))
+        (λ i. ¬ (IsAtEach (changesets replica.now.history) places.now (IsNow extinct.now.keys turned.now.keys))) }
+{
+    match holder_between(replica, extinct, turned, places, 0, first) {
+        Some(index) => Some(index),
+        None => holder_between(replica, extinct, turned, places, first, places.len()),
+    }
+}
+
+// The same among the places from one index on, below another, from the last of these down.
+fn holder_between(
+    replica: &Replica,
+    extinct: &BTreeSet<Node>,
+    turned: &BTreeSet<Node>,
+    places: &[usize],
+    low: usize,
+    high: usize,
+) -> Option<usize>
+    requires { high ≤ length places.now }
+    ensures { MatchOption result
+        ((i : ℕ) → low ≤ i → i < high
+        → IsSoAt (changesets replica.now.history) (IsNow extinct.now.keys turned.now.keys) (get_or places.now i 0))
+        (λ i. (low ≤ i) × (i < high) × ¬ (IsSoAt (changesets replica.now.history)
+        (IsNow extinct.now.keys turned.now.keys) (get_or places.now i 0))) }
+{
+    for index in (low..high).rev() {
         if !is_extinct_at(replica, extinct, turned, places[index]) {
-            return false;
+            return Some(index);
         }
     }
-    true
+    None
 }
 
 // Whether what stands at the place is extinct now, if anything does.
@@ -134,7 +150,7 @@ fn is_extinct_at(
     place: usize,
 ) -> bool
     ensures { IsTrue result
-        ↔ ((n : Node) → IsAt (changesets replica.now.history) n place → IsNow extinct.now.keys turned.now.keys n) }
+        ↔ IsSoAt (changesets replica.now.history) (IsNow extinct.now.keys turned.now.keys) place }
 {
     match replica.graph().node_at(place) {
         Some(node) => has_now(extinct, turned, node),

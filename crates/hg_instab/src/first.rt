@@ -7,7 +7,6 @@ ghost use Rattle.hg_instab.specs.Changed.{IsFresh};
 ghost use Rattle.hg_instab.specs.Near.{IsAfterPublic, AreNearForks};
 
 use crate::after_public::newly_after_public;
-use crate::among::set_of;
 use crate::near::region;
 use hg_changeset::Node;
 use hg_replica::{Change, Replica};
@@ -15,26 +14,23 @@ use std::alloc::{AllocError, Global};
 use std::collections::BTreeSet;
 
 // The ids that something public precedes, over markers that aren't bumpedfix.
-pub(crate) fn after_public_ids(
-    alloc: Global,
-    replica: &Replica,
-) -> Result<BTreeSet<Node>, AllocError>
-    ensures { IfOk result (λ set. (n : Node) → Contains set.keys n ↔ IsAfterPublic (content_of replica.now) n) }
+pub(crate) fn after_public_ids(alloc: Global, replica: &Replica) -> Result<Vec<Node>, AllocError>
+    ensures { IfOk result (λ ids. (n : Node) → Contains ids.items n ↔ IsAfterPublic (content_of replica.now) n) }
 {
     // It says that the replica is in a valid state.
     let _graph = replica.graph();
     let change = every_marker(alloc, replica)?;
     let met = newly_after_public(alloc, replica, &change, &BTreeSet::new(alloc))?;
-    set_of(alloc, met.as_slice().to_vec(alloc)?)
+    met.as_slice().to_vec(alloc)
 }
 
 // The ids near forks.
-pub(crate) fn near_fork_ids(alloc: Global, replica: &Replica) -> Result<BTreeSet<Node>, AllocError>
-    ensures { IfOk result (λ set. AreNearForks (content_of replica.now) (Contains set.keys)) }
+pub(crate) fn near_fork_ids(alloc: Global, replica: &Replica) -> Result<Vec<Node>, AllocError>
+    ensures { IfOk result (λ ids. AreNearForks (content_of replica.now) (Contains ids.items)) }
 {
     let change = every_marker(alloc, replica)?;
     let met = region(alloc, replica, &change, &BTreeSet::new(alloc))?;
-    set_of(alloc, met.as_slice().to_vec(alloc)?)
+    met.as_slice().to_vec(alloc)
 }
 
 // The change in which every marker came, and nothing else.

@@ -4,11 +4,12 @@ ghost use Rattle.hg_replica.specs.State.{ReplicaState};
 ghost use Rattle.hg_replica.specs.Content.{content_of};
 ghost use Rattle.hg_instab.specs.Changed.{IsChangedTo};
 ghost use Rattle.hg_instab.specs.Instabilities.{AreInstabilities, InstabilitySets};
-ghost use Rattle.hg_instab.specs.Turns.{AreTurns, AreStages, HaveCome, AreThen};
+ghost use Rattle.hg_instab.specs.Turns.{AreTurns, AreTold, AreStages, HaveCome, AreThen};
 
-use crate::among::{obsolete_nodes, outside, set_of};
-use crate::divergence::{content_divergent_nodes, phase_divergent_nodes};
+use crate::among::{current_among, obsolete_nodes, outside, set_of};
+use crate::divergence::divergent_within;
 use crate::first::{after_public_ids, near_fork_ids};
+use crate::holders::Holders;
 use crate::orphans::{orphan_nodes, suspended_nodes};
 use crate::turns::Turns;
 use hg_changeset::Node;
@@ -16,6 +17,7 @@ use hg_replica::{Change, Replica};
 use std::alloc::{AllocError, Global};
 use std::collections::BTreeSet;
 use std::marker::Model;
+use std::mem;
 
 /// The instabilities of a replica: for each kind the changesets that are so. Contracts see the six sets, and two beside
 /// them by which a change is told: the ids that come after something public, and those near forks.
@@ -29,6 +31,7 @@ pub struct Instabilities {
     content_divergent: BTreeSet<Node>,
     after_public: BTreeSet<Node>,
     near_forks: BTreeSet<Node>,
+    holders: Holders,
 }
 
 // Whoever owns them calls this once, and is proved without a look at each set.
@@ -44,6 +47,7 @@ impl Drop for Instabilities {
             content_divergent: _,
             after_public: _,
             near_forks: _,
+            holders: _,
         } = self;
     }
 }
@@ -75,8 +79,10 @@ impl Instabilities {
         let orphan = orphan_nodes(alloc, replica, &obsolete)?;
         let suspended = set_of(alloc, suspended_nodes(alloc, replica, &orphan)?)?;
         let extinct = outside(alloc, &obsolete, &suspended)?;
-        let phase_divergent = phase_divergent_nodes(alloc, replica)?;
-        let content_divergent = content_divergent_nodes(alloc, replica)?;
+        let after_public = after_public_ids(alloc, replica)?;
+        let phase_divergent = current_among(alloc, replica, &after_public)?;
+        let near_forks = near_fork_ids(alloc, replica)?;
+        let content_divergent = divergent_within(alloc, replica, &near_forks)?;
         Ok(Instabilities {
             alloc,
             obsolete: set_of(alloc, obsolete)?,
@@ -85,8 +91,9 @@ impl Instabilities {
             extinct: set_of(alloc, extinct)?,
             phase_divergent: set_of(alloc, phase_divergent)?,
             content_divergent: set_of(alloc, content_divergent)?,
-            after_public: after_public_ids(alloc, replica)?,
-            near_forks: near_fork_ids(alloc, replica)?,
+            after_public: set_of(alloc, after_public)?,
+            near_forks: set_of(alloc, near_forks)?,
+            holders: Holders::new(alloc),
         })
     }
 
@@ -104,6 +111,7 @@ impl Instabilities {
             content_divergent: self.content_divergent.clone()?,
             after_public: self.after_public.clone()?,
             near_forks: self.near_forks.clone()?,
+            holders: Holders::new(self.alloc),
         })
     }
 
@@ -115,8 +123,21 @@ impl Instabilities {
             → AreInstabilities (content_of s) self.old → AreInstabilities (content_of replica.now) self.new) }
         ensures unchanged { OnErr result (self.new ≡ self.old) }
     {
-        let turns = Turns::of(self.alloc, self, replica, change)?;
+        let turns = self.turns(replica, change)?;
         self.apply(&turns)
+    }
+
+    // What the change turns. The hints are noted at once: they are no part of the sets.
+    fn turns(&mut self, replica: &Replica, change: &Change) -> Result<Turns, AllocError>
+        ensures turns { IfOk result (AreTurns self.old) }
+        ensures told { IfOk result (λ turns. (s : ReplicaState) → IsChangedTo s change.now replica.now
+            → AreInstabilities (content_of s) self.old → AreTold (content_of replica.now) self.old turns) }
+        ensures unchanged { self.new ≡ self.old }
+    {
+        let mut holders = mem::replace(&mut self.holders, Holders::new(self.alloc));
+        let turns = Turns::of(self.alloc, self, &mut holders, replica, change);
+        self.holders = holders;
+        turns
     }
 
     // Has each set turn, or none.

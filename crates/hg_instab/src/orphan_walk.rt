@@ -1,8 +1,7 @@
 //! What comes to the orphans or leaves them with a change, by a walk up from what the change touched.
 //!
-//! Parents tell whether a changeset is an orphan. So where the answer turned its children are asked again, and no
-//! others. The lowest place is asked first, and each place once.
-ghost use Rattle.std.specs.Prelude.{◌≡◌, ◌↔◌, ◌⊎◌, ◌<◌, ℕ, [], Some, length, Contains, IsTrue, IfOk, OnOk};
+//! Parents tell whether a changeset is an orphan.
+ghost use Rattle.std.specs.Prelude.{◌≡◌, ◌↔◌, ◌⊎◌, ℕ, Some, Contains, IsTrue, IfOk};
 ghost use Rattle.hg_changeset.specs.declared.node.Node.{Node};
 ghost use Rattle.hg_graph.specs.Places.{IsAt};
 ghost use Rattle.hg_phases.specs.State.{changesets};
@@ -10,14 +9,14 @@ ghost use Rattle.hg_replica.specs.State.{ReplicaState, IsValid};
 ghost use Rattle.hg_replica.specs.Content.{content_of};
 ghost use Rattle.hg_replica.specs.Change.{ChangeValue};
 ghost use Rattle.hg_replica.specs.Evolution.{IsObsolete, IsOrphan};
-ghost use Rattle.hg_instab.specs.declared.waiting.Beside.TheVariants.{Children};
 ghost use Rattle.hg_instab.specs.Changed.{Follows, IsSeed, IsNow};
 ghost use Rattle.hg_instab.specs.Local.{IsParentOf, StandsUnstably};
-ghost use Rattle.hg_instab.specs.Settling.{IsSettling, SettlesAt};
 
+use crate::holders::Holders;
 use crate::query::{is_current, is_obsolete_at};
-use crate::turned::{has_now, turn};
-use crate::waiting::{Beside, wait_beside, wait_beside_place};
+use crate::settling::{Kind, settle_all};
+use crate::turned::has_now;
+use crate::waiting::{Beside, wait_beside};
 use hg_changeset::Node;
 use hg_replica::Replica;
 use std::alloc::{AllocError, Global};
@@ -44,58 +43,18 @@ pub(crate) fn turned_orphans(
     let mut waiting = BTreeSet::new(alloc);
     wait_beside(graph, seeds, Beside::Itself, &mut waiting)?;
     wait_beside(graph, turned_obsolete, Beside::Children, &mut waiting)?;
-    settle_all(alloc, replica, orphan, waiting)
-}
-
-// Asks at the places that wait, until none does.
-fn settle_all(
-    alloc: Global,
-    replica: &Replica,
-    orphan: &BTreeSet<Node>,
-    starts: BTreeSet<usize>,
-) -> Result<BTreeSet<Node>, AllocError>
-    requires { (k : ℕ) → Contains starts.keys k → k < length (changesets replica.now.history) }
-    ensures { IfOk result (λ turned. IsSettling (changesets replica.now.history)
-        (StandsUnstably (content_of replica.now)) orphan.now.keys starts.keys turned.keys []) }
-{
-    let mut turned = BTreeSet::new(alloc);
-    let mut waiting = starts;
-    while let Some(place) = waiting.pop_first() {
-        settle_at(replica, orphan, &mut turned, &mut waiting, place)?;
-    }
-    Ok(turned)
-}
-
-// Asks at one place. Where the answer turned the children wait.
-fn settle_at(
-    replica: &Replica,
-    orphan: &BTreeSet<Node>,
-    turned: &mut BTreeSet<Node>,
-    waiting: &mut BTreeSet<usize>,
-    place: usize,
-) -> Result<(), AllocError>
-    ensures valid { IsValid replica.now }
-    ensures settled { OnOk result (SettlesAt (changesets replica.now.history) Children
-        (StandsUnstably (content_of replica.now)) orphan.now.keys place turned.old.keys waiting.old.keys
-        turned.new.keys waiting.new.keys) }
-{
-    let graph = replica.graph();
-    match graph.node_at(place) {
-        Some(node) => {
-            if is_orphan_now(replica, orphan, turned, place, node)
-                == has_now(orphan, turned, node)
-            {
-                return Ok(());
-            }
-            turn(turned, node)?;
-            wait_beside_place(graph, place, Beside::Children, waiting)
-        }
-        None => Ok(()),
-    }
+    settle_all(
+        alloc,
+        replica,
+        Kind::Orphan,
+        orphan,
+        &mut Holders::new(alloc),
+        waiting,
+    )
 }
 
 // Whether it is neither public nor obsolete, and a parent is obsolete, or an orphan now.
-fn is_orphan_now(
+pub(crate) fn is_orphan_now(
     replica: &Replica,
     orphan: &BTreeSet<Node>,
     turned: &BTreeSet<Node>,

@@ -14,6 +14,7 @@ use crate::after_public::newly_after_public;
 use crate::among::{among, current_among, obsolete_among, set_of};
 use crate::divergence::divergent_within;
 use crate::extinct_walk::turned_extinct;
+use crate::holders::Holders;
 use crate::instabilities::Instabilities;
 use crate::near::region;
 use crate::orphan_walk::turned_orphans;
@@ -59,6 +60,7 @@ impl Turns {
     pub(crate) fn of(
         alloc: Global,
         sets: &Instabilities,
+        holders: &mut Holders,
         replica: &Replica,
         change: &Change,
     ) -> Result<Turns, AllocError>
@@ -71,7 +73,7 @@ impl Turns {
         let seeds = seeds(alloc, replica, change)?;
         let obsolete = obsolete_turn(alloc, replica, sets.obsolete(), &seeds)?;
         let orphan = orphan_turn(alloc, replica, sets.orphan(), &seeds, &obsolete)?;
-        let held = turned_extinct(alloc, replica, sets.extinct(), &seeds)?;
+        let held = turned_extinct(alloc, replica, sets.extinct(), holders, &seeds)?;
         let extinct = turn_of_set(alloc, sets.extinct(), &held)?;
         let suspended = suspended_turn(alloc, replica, sets, &seeds, &held)?;
         let met = newly_after_public(alloc, replica, change, sets.after_public())?;

@@ -1,4 +1,4 @@
-//! Steps over markers, from some ids to what they were rewritten to, back to what was rewritten to them, or both ways.
+//! Steps over markers, from some ids to what they were rewritten to, or from there back as well.
 //!
 //! The ids that steps lead to need not be held. They are numbered in a set that is its own queue: each is looked at
 //! once, and so is each marker.
@@ -28,7 +28,6 @@ pub(crate) enum Followed {
 #[derive(Clone, Copy)]
 pub(crate) enum Way {
     ToSuccessors(Followed),
-    ToPredecessors,
     Both,
 }
 
@@ -61,7 +60,6 @@ fn add_next(
 {
     match way {
         Way::ToSuccessors(followed) => add_successors(store, followed, node, seen),
-        Way::ToPredecessors => add_predecessors(store, node, seen),
         Way::Both => add_neighbors(store, node, seen),
     }
 }

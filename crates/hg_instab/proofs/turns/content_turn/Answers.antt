@@ -6,7 +6,7 @@ use Rattle.hg_replica.specs.Evolution.{IsCurrent}
 use Rattle.hg_instab.specs.Instabilities.{IsContentDivergent}
 use Rattle.hg_instab.specs.Near.{IsClosed}
 use Rattle.hg_instab.proofs.SetLemmas.{along}
-use Rattle.hg_instab.proofs.KeptLemmas.{asked-both, asked-of, both-same, divergent-is}
+use Rattle.hg_instab.proofs.KeptLemmas.{asked-both, asked-of, both-same, so-there, divergent-is}
 use Rattle.hg_instab.proofs.turns.content_turn.Goals as goal
 
 pub returns-clause-told : goal.returns-clause-told
@@ -33,9 +33,9 @@ returns-clause-told c =
     IfOk-weaker c.to.result _ _ (λ turn told f closed outside others was.
     let inside : (n : Node) → Contains region n → Contains found n ↔ IsContentDivergent g n =
     λ n h. along (c.in_ok-found.ensures n)
-    (subst (λ (xs : List Node). IsClosed g (Contains xs) → (m : Node) → Contains xs m
-    → (Contains c.in_ok-divergent_within.field-0.items m ↔ IsContentDivergent g m)) c.as_slice.ensures.keys
-    c.in_ok-divergent_within.ensures closed n h) in
+    (so-there h (subst (λ (xs : List Node). IsClosed g (Contains xs) → (m : Node)
+    → Contains c.in_ok-divergent_within.field-0.items m ↔ (Contains xs m × IsContentDivergent g m))
+    c.as_slice.ensures.keys c.in_ok-divergent_within.ensures closed n)) in
     let is = divergent-is f g region found set inside outside was in
     asked-both c.content_divergent-2.result.now.keys set region seeds c.deref-2.result.now now turn
     (IsContentDivergent f) (IsContentDivergent g) c.content_divergent-2.ensures all told

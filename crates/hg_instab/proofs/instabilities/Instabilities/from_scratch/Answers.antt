@@ -2,6 +2,8 @@ use Rattle.std.proofs.Common.{◌↔◌, Contains}
 use Rattle.hg_changeset.specs.declared.node.Node.{Node}
 use Rattle.hg_replica.specs.Content.{content_of}
 use Rattle.hg_replica.specs.Evolution.{IsSuspended}
+use Rattle.hg_instab.proofs.KeptLemmas.{near-same}
+use Rattle.hg_instab.proofs.NearLemmas.{near-divergent}
 use Rattle.hg_instab.proofs.SetLemmas.{along}
 use Rattle.hg_instab.proofs.instabilities.Instabilities.from_scratch.Goals as goal
 
@@ -19,6 +21,10 @@ returns c =
     let outside : (n : Node) → Contains c.in_ok-extinct.extinct.items n
     ↔ (Contains c.in_ok-obsolete.obsolete.items n × ¬ (Contains c.in_ok-suspended.suspended.keys n)) =
     rw c.deref-3.ensures.value at c.in_ok-extinct.ensures in
+    let after = c.in_ok-after_public.ensures in
+    let current = rw c.deref-4.ensures.value at c.in_ok-phase_divergent.ensures in
+    let near = c.in_ok-near_forks.ensures in
+    let within = rw c.deref-5.ensures.value at c.in_ok-content_divergent.ensures in
     record {
       obsolete = λ n. along (c.in_ok-set_of.ensures n) (c.in_ok-obsolete.ensures n);
       orphan = λ n. along (c.in_ok-set_of-2.ensures n) (c.in_ok-orphan.ensures n);
@@ -27,8 +33,13 @@ returns c =
         λ h. let x = (outside n).0 h in ((c.in_ok-obsolete.ensures n).0 x.0, λ is. x.1 ((suspended n).1 is)),
         λ h. (outside n).1 ((c.in_ok-obsolete.ensures n).1 h.0, λ at. h.1 ((suspended n).0 at)),
       );
-      phase_divergent = λ n. along (c.in_ok-set_of-4.ensures n) (c.in_ok-phase_divergent.ensures n);
-      content_divergent = λ n. along (c.in_ok-set_of-5.ensures n) (c.in_ok-content_divergent.ensures n);
-      after_public = c.in_ok-after_public_ids.ensures;
-      near_forks = c.in_ok-near_fork_ids.ensures;
+      phase_divergent = λ n. along (c.in_ok-set_of-4.ensures n) (
+        λ h. let x = (current n).0 h in (x.1, (after n).0 x.0),
+        λ h. (current n).1 ((after n).1 h.1, h.0),
+      );
+      content_divergent = λ n. along (c.in_ok-set_of-5.ensures n)
+          (along (within near.closed n) (near-divergent f c.in_ok-near_forks.near_forks.items near n));
+      after_public = λ n. along (c.in_ok-set_of-6.ensures n) (after n);
+      near_forks = near-same f (Contains c.in_ok-near_forks.near_forks.items) (Contains c.in_ok-set_of-7.field-0.keys)
+          c.in_ok-set_of-7.ensures near;
     }
