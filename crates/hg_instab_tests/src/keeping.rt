@@ -1,4 +1,5 @@
 //! Instabilities that are kept: brought up to date with each change, they are those that are told from scratch.
+use crate::same::are_same;
 use crate::scene::{
     ELSEWHERE, Kinds, NOWHERE, commit, empty, expect_sets, push_child, push_marker,
 };
@@ -49,16 +50,6 @@ impl Keeper {
         let told = Instabilities::from_scratch(alloc, &self.replica).ok()?;
         Some(are_same(&told, &self.kept))
     }
-}
-
-/// Whether all six sets are the same.
-pub fn are_same(one: &Instabilities, other: &Instabilities) -> bool {
-    let same = one.obsolete() == other.obsolete()
-        && one.orphan() == other.orphan()
-        && one.suspended() == other.suspended();
-    same && one.extinct() == other.extinct()
-        && one.phase_divergent() == other.phase_divergent()
-        && one.content_divergent() == other.content_divergent()
 }
 
 // Takes the part in, after which the sets are right.
@@ -132,9 +123,9 @@ fn root(alloc: Global, replica: &mut Replica, text: &[u8]) -> Option<Node> {
     commit(alloc, replica, Node::NULL, text, Phase::Draft)
 }
 
-// Eight changesets, none of which is unstable: draft roots but for `c`, which is a child of `b`, and `w`, which is
-// public.
-fn stable(alloc: Global, replica: &mut Replica) -> Option<[Node; 8]> {
+/// Eight changesets, none of which is unstable: draft roots but for `c`, which is a child of `b`, and `w`, which is
+/// public.
+pub fn stable(alloc: Global, replica: &mut Replica) -> Option<[Node; 8]> {
     let b = root(alloc, replica, b"b")?;
     let c = commit(alloc, replica, b, b"c", Phase::Draft)?;
     let d = root(alloc, replica, b"d")?;
@@ -146,9 +137,9 @@ fn stable(alloc: Global, replica: &mut Replica) -> Option<[Node; 8]> {
     Some([b, c, d, g, w, v, x, y])
 }
 
-// The part that makes some of them unstable in each way: markers that `b` became `d`, that `g` was pruned, that `w`,
-// which is public, became `v`, and that what isn't held became `x` and `y`.
-fn upsetting(alloc: Global, nodes: &[Node; 8]) -> Option<Part> {
+/// The part that makes some of them unstable in each way: markers that `b` became `d`, that `g` was pruned, that `w`,
+/// which is public, became `v`, and that what isn't held became `x` and `y`.
+pub fn upsetting(alloc: Global, nodes: &[Node; 8]) -> Option<Part> {
     let [b, _, d, g, w, v, x, y] = *nodes;
     let mut part = empty(alloc);
     push_marker(alloc, &mut part, b, &[d], 0)?;
@@ -159,9 +150,9 @@ fn upsetting(alloc: Global, nodes: &[Node; 8]) -> Option<Part> {
     Some(part)
 }
 
-// The part that after this takes from each set and brings to it: a child of `g`, a bound by which `b` is public, and
-// markers that `v` and `x` were pruned, and that what isn't held became `c` and `d`. And the child.
-fn turning(alloc: Global, nodes: &[Node; 8]) -> Option<(Part, Node)> {
+/// The part that after this takes from each set and brings to it: a child of `g`, a bound by which `b` is public, and
+/// markers that `v` and `x` were pruned, and that what isn't held became `c` and `d`. And the child.
+pub fn turning(alloc: Global, nodes: &[Node; 8]) -> Option<(Part, Node)> {
     let [b, c, d, g, _, v, x, _] = *nodes;
     let mut part = empty(alloc);
     let child = push_child(alloc, &mut part, g, b"child", Phase::Draft)?;

@@ -1,4 +1,4 @@
-//! Tests of `hg_instab` and `hg_view`, as a caller from outside sees them.
+//! Tests of `hg_instab` and `hg_view`, as a caller from outside sees them, with what compares sets of instabilities.
 #![tactic(auto)]
 
 #[cfg(test)]
@@ -8,10 +8,15 @@ mod chance;
 #[cfg(test)]
 mod keeping;
 #[cfg(test)]
+mod kept;
+#[cfg(test)]
 mod kinds;
 #[cfg(test)]
 mod plain;
+mod same;
 #[cfg(test)]
 mod scene;
 #[cfg(test)]
 mod views;
+
+pub use same::{are_same, is_up_to_date};

@@ -1,22 +1,24 @@
 -- What is kept beside a replica that absorbs, and what is in view by it.
-use Rattle.std.proofs.Common.{◌≡◌, ◌+◌, ◌≤◌, ℕ, List, [], ◌∷◌, length, take, get_or, slice_get, Some, Contains, Result}
-use Rattle.std.proofs.Common.{Ok, Err, IfOk, ◌↔◌, ◌⊎◌, inl, inr, refl, sym, subst, ◌∙◌}
-use Rattle.std.proofs.lemmas.Option.{slice_get_within, get_or_from_slice_get}
+use Rattle.std.proofs.Common.{◌≡◌, Bool, List, [], ◌∷◌, Contains, Result}
+use Rattle.std.proofs.Common.{Ok, Err, IfOk, OnOk, ◌↔◌, ◌⊎◌, inl, inr, sym, subst, ◌∙◌}
 use Rattle.hg_changeset.specs.declared.node.Node.{Node}
 use Rattle.hg_graph.specs.Graph.{Holds}
+use Rattle.hg_graph.specs.Marks.{IsMarkedNode}
 use Rattle.hg_graph.proofs.PlaceLemmas.{Holds-reaching}
 use Rattle.hg_phases.specs.State.{changesets}
+use Rattle.hg_phases.proofs.FormLemmas.{Below-itself}
 use Rattle.hg_history.specs.declared.fault.Fault.{Fault}
 use Rattle.hg_history.specs.declared.fault.Fault.TheVariants.{NoMemory}
 use Rattle.hg_history.specs.Answer.{IsRefusal}
+use Rattle.hg_history.specs.Join.{IsJoinFault}
 use Rattle.hg_history.specs.Content.Leads.{itself}
 use Rattle.hg_history.proofs.ContentLemmas.{content-node, node_in_content, reach_from_leads}
-use Rattle.hg_replica.specs.State.{ReplicaState, IsValid}
-use Rattle.hg_replica.specs.Least.{PartValue, IsAdmitted}
-use Rattle.hg_replica.specs.Change.{ChangeValue}
-use Rattle.hg_replica.specs.Answer.{AbsorbAnswer, IsAbsorbed, IsGrowthBeforeFault}
-use Rattle.hg_replica.specs.Absorbed.{without_undo}
-use Rattle.hg_replica.specs.Undo.{LeadsBack}
+use Rattle.hg_replica.specs.State.{ReplicaState, IsValid, Below}
+use Rattle.hg_replica.specs.Least.{PartValue, part_of}
+use Rattle.hg_replica.specs.Change.{ChangeValue, IsNothing}
+use Rattle.hg_replica.specs.Answer.{AbsorbAnswer, JoinAnswer, IsAbsorbed, IsJoin, IsGrowthBeforeFault}
+use Rattle.hg_replica.specs.Absorbed.{without_undo, join_without_undo}
+use Rattle.hg_replica.specs.Undo.{LeadsBack, UndoValue}
 use Rattle.hg_replica.specs.Content.{content_of}
 use Rattle.hg_replica.specs.Evolution.{IsVisible}
 use Rattle.hg_replica.specs.declared.undo.Absorbed.{Absorbed}
@@ -24,9 +26,9 @@ use Rattle.hg_replica.proofs.LeastLemmas.{least-above, least-valid}
 use Rattle.hg_replica.proofs.ContentLemmas.{told-change}
 use Rattle.hg_instab.specs.Changed.{IsChangedTo}
 use Rattle.hg_instab.specs.Instabilities.{AreInstabilities, InstabilitySets}
-use Rattle.hg_instab.proofs.AmongLemmas.{IsAlso, also-taken}
+use Rattle.hg_instab.proofs.SetLemmas.{along}
 use Rattle.hg_instab.proofs.TurnedLemmas.{contains-or}
-use Rattle.hg_view.specs.Kept.{KeepsUp}
+use Rattle.hg_view.specs.Kept.{FindsAgain, KeepsUp}
 use Rattle.hg_view.proofs.HiddenLemmas.{obsolete-or, visible-not_extinct}
 
 -- what is held and not extinct is visible
@@ -52,11 +54,45 @@ visible-outside s valid sets are n = (
   ),
 )
 
--- the node at the next place
-pub also-at : (xs : List Node) (i : ℕ) (n : Node) → slice_get xs i ≡ Some n
-    → IsAlso n (Contains (take i xs)) (Contains (take (i + 1) xs))
-also-at xs i n at = subst (λ m. IsAlso m (Contains (take i xs)) (Contains (take (i + 1) xs)))
-    (get_or_from_slice_get xs i n n at) (also-taken xs i n (slice_get_within xs i n at))
+-- marks of what isn't among the extinct ones are those of what is visible
+pub marks-visible : (s : ReplicaState) → IsValid s → (sets : InstabilitySets) → AreInstabilities (content_of s) sets
+    → (extinct : List Node) → extinct ≡ sets.extinct → (marks : List Bool)
+    → ((n : Node) → IsMarkedNode (changesets s.history) marks n
+    ↔ (Holds (changesets s.history) n × ¬ (Contains extinct n)))
+    → (n : Node) → IsMarkedNode (changesets s.history) marks n ↔ IsVisible (content_of s) n
+marks-visible s valid sets are extinct same marks exact n = along (exact n)
+    (subst (λ (ns : List Node). (Holds (changesets s.history) n × ¬ (Contains ns n)) ↔ IsVisible (content_of s) n)
+    (sym same) (visible-outside s valid sets are n))
+
+module _ (s : ReplicaState) (sets : InstabilitySets) (valid : IsValid s)
+    (are : AreInstabilities (content_of s) sets) where
+  -- the sets of s are those of what is equal to it
+  unmoved : (after : ReplicaState) (sets_after : InstabilitySets) → after ≡ s → sets_after ≡ sets
+      → AreInstabilities (content_of after) sets_after × IsValid after
+  unmoved after sets_after same same_sets =
+      subst (λ (u : ReplicaState). AreInstabilities (content_of u) sets_after × IsValid u) (sym same)
+      (subst (AreInstabilities (content_of s)) (sym same_sets) are, valid)
+
+-- what is joined without a change is below
+joined-within : {s o : ReplicaState} → IsJoin s o s → Below o s
+joined-within join = record { history = join.history.second; markers = λ m at. (join.markers m).1 (inr at) }
+
+-- what is below is joined without a change
+pub within-joined : (s o : ReplicaState) → IsValid s → Below o s → JoinAnswer s o (Ok tt) s
+unfolding JoinAnswer
+within-joined s o valid below = (
+  valid,
+  record {
+    history = record { first = Below-itself s.history; second = below.history; each = λ h at. inl at };
+    markers = λ m. (
+      λ at. inl at,
+      λ at. elim at [
+        | inl here ↦ here
+        | inr there ↦ below.markers m there
+      ],
+    );
+  },
+)
 
 module _ (s : ReplicaState) (k : PartValue) (t after : ReplicaState) (sets sets_after : InstabilitySets) where
   -- the part is absorbed, or the replica is as it was
@@ -69,22 +105,25 @@ module _ (s : ReplicaState) (k : PartValue) (t after : ReplicaState) (sets sets_
       (subst (λ (u : ReplicaState). IsAbsorbed s k absorbed.change u) (sym keeps.1) answer)
   kept-answer (Ok absorbed) (Err fault) answer back keeps = (
     subst (λ (f : Fault). IsRefusal (changesets s.history) k.history f) (sym keeps.0) tt,
-    keeps.2 s back,
+    keeps.3 s back,
   )
   kept-answer (Err fault) result answer back keeps =
       subst (λ (r : Result ChangeValue Fault). AbsorbAnswer s k r after) (sym keeps.0) (answer.0, keeps.1 ∙ answer.1)
 
-  -- want of memory is told where something grew, or the part has no fault
+  -- want of memory is told only where something grew
   pub kept-memory : (answered : Result Absorbed Fault) (result : Result ChangeValue Fault)
-      → AbsorbAnswer s k (without_undo answered) t → (answered ≡ Err NoMemory → IsGrowthBeforeFault s k)
-      → KeepsUp answered t sets result after sets_after → result ≡ Err NoMemory
-      → IsGrowthBeforeFault s k ⊎ IsAdmitted s k
-  unfolding AbsorbAnswer
-  kept-memory (Ok absorbed) result answer growth keeps is = inr answer.admitted
-  kept-memory (Err fault) result answer growth keeps is =
+      → (answered ≡ Err NoMemory → IsGrowthBeforeFault s k)
+      → IfOk answered (λ absorbed. IsNothing absorbed.change ⊎ IsGrowthBeforeFault s k)
+      → KeepsUp answered t sets result after sets_after → result ≡ Err NoMemory → IsGrowthBeforeFault s k
+  kept-memory (Ok absorbed) (Ok change) memory growth keeps is = absurd cc
+  kept-memory (Ok absorbed) (Err fault) memory growth keeps is = elim growth [
+    | inl nothing ↦ absurd (keeps.1 nothing)
+    | inr grown ↦ grown
+  ]
+  kept-memory (Err fault) result memory growth keeps is =
       let e = sym keeps.0 ∙ is in
       let same : fault ≡ NoMemory = cc in
-      inl (growth (λ i. Err (same i)))
+      memory (λ i. Err (same i))
 
   module _ (valid : IsValid s) (are : AreInstabilities (content_of s) sets) where
     changed : (change : ChangeValue) → AbsorbAnswer s k (Ok change) t → IsChangedTo s change t
@@ -95,21 +134,71 @@ module _ (s : ReplicaState) (k : PartValue) (t after : ReplicaState) (sets sets_
       told = told-change s t k (Ok change) answer;
     }
 
-    unmoved : after ≡ s → sets_after ≡ sets → AreInstabilities (content_of after) sets_after × IsValid after
-    unmoved same same_sets =
-        subst (λ (u : ReplicaState). AreInstabilities (content_of u) sets_after × IsValid u) (sym same)
-        (subst (AreInstabilities (content_of s)) (sym same_sets) are, valid)
-
     -- the sets are those of the replica then, and it is valid
     pub kept-sets : (answered : Result Absorbed Fault) (result : Result ChangeValue Fault)
         → AbsorbAnswer s k (without_undo answered) t → IfOk answered (λ absorbed. LeadsBack t absorbed.undo s)
+        → IfOk answered (λ absorbed. IsNothing absorbed.change → t ≡ s)
         → KeepsUp answered t sets result after sets_after
         → AreInstabilities (content_of after) sets_after × IsValid after
     unfolding AbsorbAnswer
-    kept-sets (Ok absorbed) (Ok change) answer back keeps =
-        subst (λ (u : ReplicaState). AreInstabilities (content_of u) sets_after × IsValid u) (sym keeps.1) (
-          keeps.2 s (subst (λ (x : ChangeValue). IsChangedTo s x t) (sym keeps.0) (changed absorbed.change answer)) are,
-          least-valid s (k ∷ []) t answer.least valid,
-        )
-    kept-sets (Ok absorbed) (Err fault) answer back keeps = unmoved (keeps.2 s back) keeps.1
-    kept-sets (Err fault) result answer back keeps = unmoved (keeps.1 ∙ answer.1) keeps.2
+    kept-sets (Ok absorbed) (Ok change) answer back still keeps = elim keeps.2 [
+      | inl nothing ↦ unmoved s sets valid are after sets_after
+          (keeps.1 ∙ still (subst (λ (x : ChangeValue). IsNothing x) keeps.0 nothing.0)) nothing.1
+      | inr follow ↦
+          subst (λ (u : ReplicaState). AreInstabilities (content_of u) sets_after × IsValid u) (sym keeps.1) (
+            follow s (subst (λ (x : ChangeValue). IsChangedTo s x t) (sym keeps.0) (changed absorbed.change answer))
+                are,
+            least-valid s (k ∷ []) t answer.least valid,
+          )
+    ]
+    kept-sets (Ok absorbed) (Err fault) answer back still keeps =
+        unmoved s sets valid are after sets_after (keeps.3 s back) keeps.2
+    kept-sets (Err fault) result answer back still keeps =
+        unmoved s sets valid are after sets_after (keeps.1 ∙ answer.1) keeps.2
+
+module _ (s o t after : ReplicaState) (sets sets_after : InstabilitySets) where
+  -- the other is joined, or the replica is as it was
+  pub joined-answer : (answered : Result UndoValue Fault) (result : Result (Unit {0}) Fault)
+      → JoinAnswer s o (join_without_undo answered) t → IfOk answered (λ undo. LeadsBack t undo s)
+      → FindsAgain answered t sets result after sets_after → JoinAnswer s o result after
+  unfolding JoinAnswer
+  joined-answer (Ok undo) (Ok done) answer back finds =
+      subst (λ (u : ReplicaState). IsValid u × IsJoin s o u) (sym finds.0) answer
+  joined-answer (Ok undo) (Err fault) answer back finds = (
+    subst (λ (f : Fault). IsJoinFault s.history o.history f) (sym finds.0) tt,
+    finds.2 s back,
+  )
+  joined-answer (Err fault) result answer back finds =
+      subst (λ (r : Result (Unit {0}) Fault). JoinAnswer s o r after) (sym finds.0) (answer.0, finds.1 ∙ answer.1)
+
+  -- want of memory is told only where something grew: what isn't below s isn't joined without a change
+  pub joined-memory : (answered : Result UndoValue Fault) (result : Result (Unit {0}) Fault) → ¬ (Below o s)
+      → JoinAnswer s o (join_without_undo answered) t
+      → (answered ≡ Err NoMemory → IsGrowthBeforeFault s (part_of o))
+      → OnOk answered (IsGrowthBeforeFault s (part_of o) ⊎ (t ≡ s))
+      → FindsAgain answered t sets result after sets_after → result ≡ Err NoMemory
+      → IsGrowthBeforeFault s (part_of o)
+  unfolding JoinAnswer
+  joined-memory (Ok undo) (Ok done) more answer memory growth finds is = absurd cc
+  joined-memory (Ok undo) (Err fault) more answer memory growth finds is = elim growth [
+    | inl grown ↦ grown
+    | inr same ↦ absurd (more (joined-within (subst (IsJoin s o) same answer.1)))
+  ]
+  joined-memory (Err fault) result more answer memory growth finds is =
+      let e = sym finds.0 ∙ is in
+      let same : fault ≡ NoMemory = cc in
+      memory (λ i. Err (same i))
+
+  -- the sets are those of the replica then, and it is valid
+  pub joined-sets : IsValid s → AreInstabilities (content_of s) sets → (answered : Result UndoValue Fault)
+      (result : Result (Unit {0}) Fault) → JoinAnswer s o (join_without_undo answered) t
+      → IfOk answered (λ undo. LeadsBack t undo s) → FindsAgain answered t sets result after sets_after
+      → AreInstabilities (content_of after) sets_after × IsValid after
+  unfolding JoinAnswer
+  joined-sets valid are (Ok undo) (Ok done) answer back finds =
+      subst (λ (u : ReplicaState). AreInstabilities (content_of u) sets_after × IsValid u) (sym finds.0)
+      (finds.1, answer.0)
+  joined-sets valid are (Ok undo) (Err fault) answer back finds =
+      unmoved s sets valid are after sets_after (finds.2 s back) finds.1
+  joined-sets valid are (Err fault) result answer back finds =
+      unmoved s sets valid are after sets_after (finds.1 ∙ answer.1) finds.2

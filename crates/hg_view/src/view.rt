@@ -31,7 +31,11 @@ pub fn served(alloc: Global, replica: &Replica) -> Result<BTreeSet<Node>, AllocE
 }
 
 // The changesets at the marked places.
-fn set_at(alloc: Global, replica: &Replica, marks: &[bool]) -> Result<BTreeSet<Node>, AllocError>
+pub(crate) fn set_at(
+    alloc: Global,
+    replica: &Replica,
+    marks: &[bool],
+) -> Result<BTreeSet<Node>, AllocError>
     requires { length marks.now ≡ length (changesets replica.now.history) }
     ensures { IfOk result (λ set. (n : Node) → Contains set.keys n
         ↔ IsMarkedNode (changesets replica.now.history) marks.now n) }
@@ -76,7 +80,11 @@ fn revealed_marks(alloc: Global, replica: &Replica) -> Result<Vec<bool>, AllocEr
 }
 
 // The marks of those of the marked changesets that aren't secret.
-fn not_secret(alloc: Global, replica: &Replica, marks: &[bool]) -> Result<Vec<bool>, AllocError>
+pub(crate) fn not_secret(
+    alloc: Global,
+    replica: &Replica,
+    marks: &[bool],
+) -> Result<Vec<bool>, AllocError>
     requires { length marks.now ≡ length (changesets replica.now.history) }
     ensures len { IfOk result (λ found. length found.items ≡ length (changesets replica.now.history)) }
     ensures exact { IfOk result (λ found. (n : Node) → IsMarkedNode (changesets replica.now.history) found.items n

@@ -1,6 +1,5 @@
-use Rattle.std.proofs.Common.{◌⊎◌, subst}
+use Rattle.std.proofs.Common.{subst}
 use Rattle.hg_replica.specs.State.{ReplicaState}
-use Rattle.hg_replica.specs.Least.{IsAdmitted}
 use Rattle.hg_replica.specs.Answer.{AbsorbAnswer, IsGrowthBeforeFault}
 use Rattle.hg_view.proofs.KeptLemmas.{kept-answer, kept-memory, kept-sets}
 use Rattle.hg_view.proofs.kept.Kept.absorb_owned.Goals as goal
@@ -11,7 +10,7 @@ invariant_of-self c =
     let kept = c.keep_up in
     kept-sets c.self.inside.replica c.args.part told.new.self kept.new.replica c.self.inside.instabilities
     kept.new.instabilities told.ensures.valid c.self.invariant.0 told.result kept.result told.ensures.answer
-    told.ensures.back kept.ensures
+    told.ensures.back told.ensures.nothing kept.ensures
 
 pub returns-clause-answer : goal.returns-clause-answer
 returns-clause-answer c =
@@ -25,6 +24,6 @@ pub returns-clause-memory : goal.returns-clause-memory
 returns-clause-memory c is =
     let told = c.absorb_owned_with_undo-answer in
     let kept = c.keep_up in
-    subst (λ (s : ReplicaState). IsGrowthBeforeFault s c.args.part ⊎ IsAdmitted s c.args.part) c.self.view_is
+    subst (λ (s : ReplicaState). IsGrowthBeforeFault s c.args.part) c.self.view_is
     (kept-memory c.self.inside.replica c.args.part told.new.self kept.new.replica c.self.inside.instabilities
-    kept.new.instabilities told.result kept.result told.ensures.answer told.ensures.memory kept.ensures is)
+    kept.new.instabilities told.result kept.result told.ensures.memory told.ensures.growth kept.ensures is)
