@@ -8,7 +8,7 @@ ghost use Rattle.hg_discovery.specs.Rounds.{AreKnown};
 
 use hg_changeset::Node;
 use hg_replica::Replica;
-use hg_view::served_marks;
+use hg_view::{Kept, served_marks};
 use std::alloc::{AllocError, Global};
 
 /// Which of the nodes the replica serves, in their order. What is hidden or secret is answered as what isn't held.
@@ -19,6 +19,19 @@ pub fn known(alloc: Global, replica: &Replica, nodes: &[Node]) -> Result<Vec<boo
 {
     let served = served_marks(alloc, replica)?;
     known_by(alloc, replica, &served, nodes)
+}
+
+/// Which of the nodes a kept replica serves, as [`known`] tells it.
+///
+/// It costs three look-ups for each node.
+pub fn known_kept(alloc: Global, kept: &Kept, nodes: &[Node]) -> Result<Vec<bool>, AllocError>
+    ensures { IfOk result (λ answers. AreKnown (content_of kept.now) nodes.now answers.items) }
+{
+    let mut answers = Vec::with_capacity(alloc, nodes.len())?;
+    for node in nodes {
+        answers.push(kept.is_served(*node))?;
+    }
+    Ok(answers)
 }
 
 /// [`known`] of a replica whose served changesets are marked already: it costs one look-up for each node.

@@ -1,5 +1,10 @@
 //! A whole discovery between two replicas of one process.
-ghost use Rattle.std.specs.Prelude.{◌≡◌, IfOk, IfErr};
+ghost use Rattle.std.specs.Prelude.{◌≡◌, ◌↔◌, IfOk, IfErr, length};
+ghost use Rattle.hg_changeset.specs.declared.node.Node.{Node};
+ghost use Rattle.hg_graph.specs.Marks.{IsMarkedNode};
+ghost use Rattle.hg_phases.specs.State.{changesets};
+ghost use Rattle.hg_replica.specs.Content.{content_of};
+ghost use Rattle.hg_replica.specs.Evolution.{IsServed};
 ghost use Rattle.hg_discovery.specs.declared.error.DiscoveryError.TheVariants.{NoMemory};
 ghost use Rattle.hg_discovery.specs.Between.{AreHeadsInCommon};
 
@@ -8,7 +13,7 @@ use crate::discovery::Discovery;
 use crate::error::DiscoveryError;
 use hg_changeset::Node;
 use hg_replica::Replica;
-use hg_view::served_marks;
+use hg_view::{Kept, served_marks};
 use std::alloc::Global;
 
 /// The heads of what the asker has in common with the other replica, ascending: it asks in rounds, and the other tells
@@ -22,10 +27,40 @@ pub fn heads_in_common(
     ensures memory { IfErr result (λ error. error ≡ NoMemory) }
 {
     let served = served_marks(alloc, other)?;
+    ask_in_rounds(alloc, asker, other, &served)
+}
+
+/// The heads of what two have in common, as [`heads_in_common`] finds them, by what is kept: what the other serves is
+/// told by look-ups, without a walk to what is visible. It is refused for want of memory alone.
+pub fn heads_in_common_kept(
+    alloc: Global,
+    asker: &Kept,
+    other: &Kept,
+) -> Result<Vec<Node>, DiscoveryError>
+    ensures heads { IfOk result (λ heads. AreHeadsInCommon asker.now other.now heads.items) }
+    ensures memory { IfErr result (λ error. error ≡ NoMemory) }
+{
+    let served = other.served_marks()?;
+    ask_in_rounds(alloc, asker.replica(), other.replica(), &served)
+}
+
+// The heads of what the asker has in common with the other replica, whose served changesets are marked.
+fn ask_in_rounds(
+    alloc: Global,
+    asker: &Replica,
+    other: &Replica,
+    served: &[bool],
+) -> Result<Vec<Node>, DiscoveryError>
+    requires len { length served.now ≡ length (changesets other.now.history) }
+    requires exact { (n : Node) → IsMarkedNode (changesets other.now.history) served.now n
+        ↔ IsServed (content_of other.now) n }
+    ensures heads { IfOk result (λ heads. AreHeadsInCommon asker.now other.now heads.items) }
+    ensures memory { IfErr result (λ error. error ≡ NoMemory) }
+{
     let mut discovery = Discovery::start(alloc, asker)?;
     while !discovery.done() {
         let asked = discovery.sample()?;
-        let answers = known_by(alloc, other, &served, &asked)?;
+        let answers = known_by(alloc, other, served, &asked)?;
         discovery.answer(&answers)?;
     }
     let heads = discovery.common_heads()?;

@@ -21,8 +21,8 @@ mod spread;
 mod start;
 mod status;
 
-pub use answers::known;
-pub use between::heads_in_common;
+pub use answers::{known, known_kept};
+pub use between::{heads_in_common, heads_in_common_kept};
 pub use discovery::Discovery;
 pub use error::DiscoveryError;
 pub use laws::{rounds_are_few, what_is_common_is_held_by_both, what_is_common_is_what_is_served};

@@ -1,10 +1,11 @@
 //! Rounds that are worked out by hand.
 use crate::scene::{ascending, chain, commit, prune};
 use hg_changeset::Node;
-use hg_discovery::{Discovery, DiscoveryError, known};
+use hg_discovery::{Discovery, DiscoveryError, heads_in_common_kept, known, known_kept};
 use hg_message::offer;
 use hg_phases::Phase;
 use hg_replica::Replica;
+use hg_view::Kept;
 use std::alloc::Global;
 
 // Draft roots of different texts.
@@ -103,6 +104,36 @@ fn what_is_hidden_or_secret_is_not_known(rt: HostRuntime) {
     let asked = [secret, a, hidden, Node([0x11; 20]), b];
     let answers = known(alloc, &other, &asked).expect(&rt, "memory");
     assert!(rt; answers.as_slice() == [false, true, false, false, true].as_slice());
+}
+
+// Secret, hidden, and visible below what isn't obsolete.
+#[test]
+fn a_kept_replica_knows_what_it_serves(rt: HostRuntime) {
+    let alloc = rt.alloc();
+    let mut other = Replica::new(alloc);
+    let [a, b, c] = chain(alloc, &mut other, b"abc").expect(&rt, "memory");
+    let secret = commit(alloc, &mut other, a, b"secret", Phase::Secret).expect(&rt, "memory");
+    prune(alloc, &mut other, a).expect(&rt, "memory");
+    prune(alloc, &mut other, c).expect(&rt, "memory");
+    let other = Kept::new(alloc, other).expect(&rt, "memory");
+    let asked = [secret, a, c, Node([0x11; 20]), b];
+    let answers = known_kept(alloc, &other, &asked).expect(&rt, "memory");
+    assert!(rt; answers.as_slice() == [false, true, false, false, true].as_slice());
+}
+
+// What the asker hides is common, where the other side serves it.
+#[test]
+fn kept_replicas_have_heads_in_common(rt: HostRuntime) {
+    let alloc = rt.alloc();
+    let mut asker = Replica::new(alloc);
+    let [_, _, c] = chain(alloc, &mut asker, b"abc").expect(&rt, "memory");
+    prune(alloc, &mut asker, c).expect(&rt, "memory");
+    let mut other = Replica::new(alloc);
+    chain(alloc, &mut other, b"abc").expect(&rt, "memory");
+    let asker = Kept::new(alloc, asker).expect(&rt, "memory");
+    let other = Kept::new(alloc, other).expect(&rt, "memory");
+    let heads = heads_in_common_kept(alloc, &asker, &other).expect(&rt, "memory");
+    assert!(rt; heads.as_slice() == [c].as_slice());
 }
 
 // A yes that was true when it was given: then the other side prunes what it was for.

@@ -8,7 +8,7 @@ ghost use Rattle.hg_obsstore.specs.Spelling.{IsStoreSpelling, store_spelling};
 ghost use Rattle.hg_replica.specs.Content.{content_of};
 ghost use Rattle.hg_message.specs.Value.{count_limit, is_too_large};
 ghost use Rattle.hg_message.specs.Offer.{AreHeld, IsOffer};
-ghost use Rattle.hg_message.specs.Outgoing.{CopyAnswer, FindAnswer, WriteAnswer};
+ghost use Rattle.hg_message.specs.Outgoing.{AreServed, CopyAnswer, FindAnswer, WriteAnswer};
 ghost use Rattle.hg_message.specs.Spelling.{IsMessageSpelling, message_spelling};
 
 use crate::copies::{copy_changesets_at, copy_markers_at};
@@ -20,7 +20,7 @@ use hg_changeset::Node;
 use hg_obsstore::{Store, markers_len_at, write_markers_at};
 use hg_phases::Phase;
 use hg_replica::Replica;
-use hg_view::served_marks;
+use hg_view::{Kept, served_marks};
 use std::alloc::{AllocError, Global};
 use std::marker::Model;
 
@@ -82,8 +82,25 @@ impl<'a> Outgoing<'a> {
         match first_unknown(replica, common) {
             Some(node) => Err(OfferRefusal::UnknownCommon(node)),
             None if replica.graph().is_empty() => Ok(nothing(alloc, replica)),
-            None => Ok(find(alloc, replica, common)?),
+            None => {
+                let served = served_marks(alloc, replica)?;
+                Ok(find(alloc, replica, &served, common)?)
+            }
         }
+    }
+
+    /// What goes out above the common nodes, as [`above`](Outgoing::above) finds it, of a replica whose instabilities
+    /// are kept up to date: what is served is told by look-ups, without a walk to what is visible.
+    ///
+    /// Refuses [`OfferRefusal::UnknownCommon`] alone, for the first that isn't held.
+    pub fn above_kept(
+        alloc: Global,
+        kept: &'a Kept,
+        common: &[Node],
+    ) -> Result<Outgoing<'a>, OfferRefusal>
+        ensures { FindAnswer kept.now common.now result }
+    {
+        above_by(alloc, kept, kept.replica(), common)
     }
 
     /// Whether it is more than a message can hold: see [`MessageError::TooLarge`](crate::MessageError::TooLarge).
@@ -176,19 +193,40 @@ fn nothing(alloc: Global, replica: &Replica) -> Outgoing<'_>
     }
 }
 
-// What goes out, where each common node is held.
+// What goes out above the common nodes of a replica that is kept.
+fn above_by<'a>(
+    alloc: Global,
+    kept: &Kept,
+    replica: &'a Replica,
+    common: &[Node],
+) -> Result<Outgoing<'a>, OfferRefusal>
+    requires { replica.now ≡ kept.now }
+    ensures { FindAnswer replica.now common.now result }
+{
+    match first_unknown(replica, common) {
+        Some(node) => Err(OfferRefusal::UnknownCommon(node)),
+        None if replica.graph().is_empty() => Ok(nothing(alloc, replica)),
+        None => {
+            let served = kept.served_marks()?;
+            Ok(find(alloc, replica, &served, common)?)
+        }
+    }
+}
+
+// What goes out, where each common node is held, and the marks tell what is served.
 fn find<'a>(
     alloc: Global,
     replica: &'a Replica,
+    served: &[bool],
     common: &[Node],
 ) -> Result<Outgoing<'a>, AllocError>
-    requires { AreHeld (content_of replica.now) common.now }
+    requires served { AreServed replica.now served.now }
+    requires common { AreHeld (content_of replica.now) common.now }
     ensures { IfOk result (IsOffer replica.now common.now) }
 {
-    let served = served_marks(alloc, replica)?;
-    let changesets = outgoing_places(alloc, replica, &served, common)?;
-    let bounds = head_bounds(alloc, replica, &served)?;
-    let markers = relevant_places(alloc, replica, &served)?;
+    let changesets = outgoing_places(alloc, replica, served, common)?;
+    let bounds = head_bounds(alloc, replica, served)?;
+    let markers = relevant_places(alloc, replica, served)?;
     Ok(Outgoing {
         replica,
         changesets,

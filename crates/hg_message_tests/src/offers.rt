@@ -5,6 +5,7 @@ use hg_marker::{Marker, Metadata};
 use hg_message::{Message, OfferRefusal, Outgoing, offer};
 use hg_phases::Phase;
 use hg_replica::{Part, Replica};
+use hg_view::Kept;
 use std::alloc::Global;
 
 fn empty(alloc: Global) -> Part {
@@ -134,6 +135,20 @@ fn finds_what_goes_out_before_it_is_copied(rt: HostRuntime) {
     assert!(rt; !found.is_too_large());
     let message = found.message().expect(&rt, "memory");
     assert!(rt; are(&message, &[nodes.c]) && message.markers().len() == 2);
+}
+
+#[test]
+fn finds_what_goes_out_of_a_kept_replica(rt: HostRuntime) {
+    let alloc = rt.alloc();
+    let mut replica = Replica::new(alloc);
+    let nodes = scene(alloc, &mut replica).expect(&rt, "memory");
+    let kept = Kept::new(alloc, replica).expect(&rt, "memory");
+    let found = Outgoing::above_kept(alloc, &kept, &[nodes.b]).expect(&rt, "memory");
+    let message = found.message().expect(&rt, "memory");
+    assert!(rt; are(&message, &[nodes.c]) && message.markers().len() == 2);
+    let unknown = Node([0x33; 20]);
+    let refusal = Outgoing::above_kept(alloc, &kept, &[nodes.a, unknown]).err();
+    assert!(rt; refusal == Some(OfferRefusal::UnknownCommon(unknown)));
 }
 
 // A replica of ROOT, and of what the bytes bring it.

@@ -12,6 +12,7 @@ use Rattle.hg_rewrite.specs.Refusals.{Row, NoneApplies, IsFirstRefusal, new_pare
 use Rattle.hg_rewrite.specs.Refusals.{public_nodes, obsolete_nodes, not_linear, wrong_count, raise, bad_entries}
 use Rattle.hg_rewrite.specs.Refusals.{bad_users}
 use Rattle.hg_rewrite.specs.Memory.{WalksForHidden, WalksForDescendants, rows_before_descendants, MayWantMemory}
+use Rattle.hg_rewrite.specs.Memory.{MayWantMemoryLater}
 use Rattle.hg_rewrite.proofs.RowLemmas.{none_both}
 use Rattle.hg_rewrite.proofs.TableLemmas.{AreTelling, no_memory}
 
@@ -53,16 +54,16 @@ module _ (s : ReplicaState) (op : Op) (known : NoneApplies (unknown_nodes s op))
         (none_both (hidden_parents s op) _ visible
         (none_both (public_nodes s op) (obsolete_nodes s op) unpublished current))
 
-    pub wanting_descendants : WalksForDescendants s.history op → MayWantMemory s op
-    wanting_descendants walks = inr (inl (before, walks))
+    pub wanting_descendants : WalksForDescendants s.history op → MayWantMemoryLater s op
+    wanting_descendants walks = inl (before, walks)
 
     pub wanting_later : NoneApplies (not_linear s op) → NoneApplies (wrong_count op) → NoneApplies (raise s op)
-        → NoneApplies (bad_entries op) → NoneApplies (bad_users op) → MayWantMemory s op
+        → NoneApplies (bad_entries op) → NoneApplies (bad_users op) → MayWantMemoryLater s op
     wanting_later linear counted lowered entered named =
-        inr (inr (
+        inr (
           before,
           none_both (not_linear s op) (wrong_count op ++ (raise s op ++ (bad_entries op ++ bad_users op))) linear
               (none_both (wrong_count op) (raise s op ++ (bad_entries op ++ bad_users op)) counted
               (none_both (raise s op) (bad_entries op ++ bad_users op) lowered
               (none_both (bad_entries op) (bad_users op) entered named))),
-        ))
+        )

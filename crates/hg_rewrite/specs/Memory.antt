@@ -52,9 +52,12 @@ rows_before_descendants s op = unknown_nodes s op ++ (hidden_parents s op ++ (pu
 abbrev pub rows_before_writing : ReplicaState → Op → List Row
 rows_before_writing s op = not_linear s op ++ (wrong_count op ++ (raise s op ++ (bad_entries op ++ bad_users op)))
 
+-- memory may be wanting at one of the two later steps, and no row that is tried before it applies
+abbrev pub MayWantMemoryLater : ReplicaState → Op → Type 0
+MayWantMemoryLater s op =
+    (NoneApplies (rows_before_descendants s op) × WalksForDescendants s.history op)
+    ⊎ (NoneApplies (rows_before_descendants s op) × NoneApplies (rows_before_writing s op))
+
 -- memory may be wanting at one of the three steps, and no row that is tried before it applies
 abbrev pub MayWantMemory : ReplicaState → Op → Type 0
-MayWantMemory s op =
-    (NoneApplies (unknown_nodes s op) × WalksForHidden s op)
-    ⊎ (NoneApplies (rows_before_descendants s op) × WalksForDescendants s.history op)
-    ⊎ (NoneApplies (rows_before_descendants s op) × NoneApplies (rows_before_writing s op))
+MayWantMemory s op = (NoneApplies (unknown_nodes s op) × WalksForHidden s op) ⊎ MayWantMemoryLater s op

@@ -14,11 +14,12 @@ ghost use Rattle.hg_rewrite.specs.Answer.{Checked, CheckedInMemory};
 ghost use Rattle.hg_rewrite.specs.Memory.{WalksForHidden, WalksForDescendants, StandsBeforeParent};
 
 use crate::op::Op;
-use crate::query::{contains, holds, is_hidden, is_public, parents_in, phase_in};
+use crate::query::{contains, holds, is_hidden, is_hidden_in, is_public, parents_in, phase_in};
 use crate::refusal::{Cause, Refusal};
 use hg_changeset::{Entry, Node, check_entry, check_user, trimmed_user};
 use hg_instab::is_obsolete;
 use hg_replica::Replica;
+use hg_view::Kept;
 use std::alloc::{AllocError, Global};
 use std::slice;
 
@@ -126,6 +127,28 @@ fn check_parents_visible(alloc: Global, replica: &Replica, p: Node, q: Node) -> 
         return Err(Refusal::Hidden(p));
     }
     if is_hidden(alloc, replica, q)? {
+        return Err(Refusal::Hidden(q));
+    }
+    Ok(())
+}
+
+// Refuses a new parent that is hidden, by what is kept.
+pub(crate) fn check_shown(kept: &Kept, op: &Op) -> Result<(), Refusal>
+    ensures { Checked (hidden_parents kept.now op.now) result }
+{
+    match new_parents(op) {
+        Some((p, q)) => check_parents_shown(kept, p, q),
+        None => Ok(()),
+    }
+}
+
+fn check_parents_shown(kept: &Kept, p: Node, q: Node) -> Result<(), Refusal>
+    ensures { Checked (map (hidden kept.now) (p ∷ q ∷ [])) result }
+{
+    if is_hidden_in(kept, p) {
+        return Err(Refusal::Hidden(p));
+    }
+    if is_hidden_in(kept, q) {
         return Err(Refusal::Hidden(q));
     }
     Ok(())

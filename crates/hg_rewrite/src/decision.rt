@@ -4,18 +4,20 @@ ghost use Rattle.hg_changeset.specs.Contents.{Contents};
 ghost use Rattle.hg_changeset.specs.Changeset.{IsChangeset};
 ghost use Rattle.hg_replica.specs.State.{IsValid};
 ghost use Rattle.hg_rewrite.specs.Answer.{DecideAnswer};
-ghost use Rattle.hg_rewrite.specs.Memory.{MayWantMemory};
+ghost use Rattle.hg_rewrite.specs.Memory.{MayWantMemory, MayWantMemoryLater};
+ghost use Rattle.hg_rewrite.specs.Refusals.{NoneApplies, unknown_nodes, hidden_parents};
 
 use crate::bounds::bounds;
 use crate::changesets::{ids, new_changesets};
 use crate::check::{
     check_count, check_entries, check_known, check_linear, check_new, check_not_obsolete,
-    check_not_public, check_pruner, check_raise, check_visible,
+    check_not_public, check_pruner, check_raise, check_shown, check_visible,
 };
 use crate::markers::markers;
 use crate::op::Op;
 use crate::refusal::Refusal;
 use hg_replica::{Part, Replica};
+use hg_view::Kept;
 use std::alloc::Global;
 
 /// Decides an operation at a replica: its part by the table of operations, or the first refusal that applies.
@@ -32,6 +34,38 @@ pub fn decide(alloc: Global, replica: &Replica, op: &Op) -> Result<Part, Refusal
 {
     check_known(replica, op)?;
     check_visible(alloc, replica, op)?;
+    decide_shown(alloc, replica, op)
+}
+
+/// Decides an operation as [`decide`] does, at a replica whose instabilities are kept up to date.
+///
+/// Whether a new parent is hidden is told by look-ups, without memory. So the call costs what the operation names and
+/// writes, however much the replica holds and whatever stands on a parent; a relocation costs what lies between its
+/// nodes as well.
+pub fn decide_kept(alloc: Global, kept: &Kept, op: &Op) -> Result<Part, Refusal>
+    ensures answer { DecideAnswer kept.now op.now result }
+    ensures memory { IsErrOf result Refusal.NoMemory → MayWantMemory kept.now op.now }
+
+    // It is never wanted to tell whether a new parent is hidden.
+    ensures later { IsErrOf result Refusal.NoMemory → MayWantMemoryLater kept.now op.now }
+    ensures changesets { IfOk result (λ part. (c : Contents) → Contains part.history.changesets c → IsChangeset c) }
+    ensures valid { IsValid kept.now }
+{
+    let replica = kept.replica();
+    check_known(replica, op)?;
+    check_shown(kept, op)?;
+    decide_shown(alloc, replica, op)
+}
+
+// Decides an operation whose nodes are held and whose new parents aren't hidden.
+fn decide_shown(alloc: Global, replica: &Replica, op: &Op) -> Result<Part, Refusal>
+    requires known { NoneApplies (unknown_nodes replica.now op.now) }
+    requires shown { NoneApplies (hidden_parents replica.now op.now) }
+    requires valid { IsValid replica.now }
+    ensures answer { DecideAnswer replica.now op.now result }
+    ensures later { IsErrOf result Refusal.NoMemory → MayWantMemoryLater replica.now op.now }
+    ensures changesets { IfOk result (λ part. (c : Contents) → Contains part.history.changesets c → IsChangeset c) }
+{
     check_not_public(replica, op)?;
     check_not_obsolete(replica, op)?;
     check_linear(replica, op)?;

@@ -17,7 +17,7 @@ mod op;
 mod query;
 mod refusal;
 
-pub use decision::decide;
+pub use decision::{decide, decide_kept};
 pub use hg_changeset::{ChangesetError, Entry, EntryError, Node};
 pub use hg_marker::MarkerError;
 pub use hg_phases::Phase;

@@ -9,7 +9,7 @@ ghost use Rattle.hg_phases.specs.declared.phase.Phase.TheVariants.{Public as pub
 use hg_changeset::Node;
 use hg_phases::Phase;
 use hg_replica::Replica;
-use hg_view::is_visible;
+use hg_view::{Kept, is_visible};
 use std::alloc::{AllocError, Global};
 
 // Whether it is held.
@@ -71,4 +71,11 @@ pub(crate) fn is_hidden(alloc: Global, replica: &Replica, node: Node) -> Result<
     }
     let is_visible = is_visible(alloc, replica, node)?;
     Ok(!is_visible)
+}
+
+// Whether it is hidden, by what is kept: it takes no memory.
+pub(crate) fn is_hidden_in(kept: &Kept, node: Node) -> bool
+    ensures { IsTrue result ↔ IsHidden (content_of kept.now) node }
+{
+    holds(kept.replica(), node) && !kept.is_visible(node)
 }

@@ -3,7 +3,8 @@ use hg_changeset::{Changeset, Entry, EntryError, Node};
 use hg_marker::{Parents, encode};
 use hg_phases::Phase;
 use hg_replica::{Part, Replica};
-use hg_rewrite::{Cause, Op, Refusal, decide};
+use hg_rewrite::{Cause, Op, Refusal, decide, decide_kept};
+use hg_view::Kept;
 use std::alloc::{AllocError, Global};
 use std::collections::BTreeMap;
 use std::process::Abort;
@@ -219,6 +220,21 @@ fn a_split_is_folded_and_moved(rt: HostRuntime) {
         op,
         Refusal::AlreadyObsolete(id(&rt, F)),
     );
+}
+
+#[test]
+fn a_kept_replica_lets_nothing_stand_on_what_is_hidden(rt: HostRuntime) {
+    let alloc = rt.alloc();
+    let replica = start(&rt, alloc);
+    let mut kept = Kept::new(alloc, replica).expect(&rt, "memory");
+    let op = amend(id(&rt, A), entry(&rt, alloc, b"b"));
+    let part = decide_kept(alloc, &kept, &op).expect(&rt, "a part");
+    expect_ids(&rt, &part, &[B_FOR_A], Phase::Draft);
+    let absorbed = kept.absorb(&part);
+    assert!(rt; absorbed.is_ok());
+    let op = commit(id(&rt, A), entry(&rt, alloc, b"h"));
+    let refusal = decide_kept(alloc, &kept, &op).err();
+    assert_eq!(rt; refusal, Some(Refusal::Hidden(id(&rt, A))));
 }
 
 #[test]

@@ -1,22 +1,8 @@
-use Rattle.std.proofs.Common.{sym, subst}
 use Rattle.hg_phases.specs.State.{changesets}
 use Rattle.hg_replica.specs.Content.{content_of}
 use Rattle.hg_message.specs.Offer.{IsOfferedMarker, IsOutgoing}
-use Rattle.hg_message.specs.Outgoing.{AreServed}
 use Rattle.hg_message.proofs.OfferLemmas.{is-offer, picked-those, picked-length}
 use Rattle.hg_message.proofs.outgoing.find.Goals as goal
-
-pub outgoing_places-requires-clause-served : goal.outgoing_places-requires-clause-served
-outgoing_places-requires-clause-served c = subst (AreServed c.args.replica.now) (sym c.deref.ensures.value)
-    (record { len = c.in_ok-served.ensures.len; exact = c.in_ok-served.ensures.exact })
-
-pub head_bounds-requires : goal.head_bounds-requires
-head_bounds-requires c = subst (AreServed c.args.replica.now) (sym c.deref-2.ensures.value)
-    (record { len = c.in_ok-served.ensures.len; exact = c.in_ok-served.ensures.exact })
-
-pub relevant_places-requires : goal.relevant_places-requires
-relevant_places-requires c = subst (AreServed c.args.replica.now) (sym c.deref-3.ensures.value)
-    (record { len = c.in_ok-served.ensures.len; exact = c.in_ok-served.ensures.exact })
 
 pub invariant_of-result : goal.invariant_of-result
 invariant_of-result c = picked-length (IsOutgoing (content_of c.args.replica.now) c.args.common.now)

@@ -1,6 +1,7 @@
 use Rattle.std.proofs.Common.{◌≡◌, ◌∙◌, [], sym, subst}
 use Rattle.hg_phases.specs.State.{changesets}
 use Rattle.hg_message.specs.Offer.{IsOffer}
+use Rattle.hg_message.specs.Outgoing.{AreServed}
 use Rattle.hg_message.proofs.OfferLemmas.{nothing-offered}
 use Rattle.hg_message.proofs.outgoing.Outgoing.above.Goals as goal
 
@@ -13,3 +14,7 @@ returns-in-None c =
       subst (IsOffer s common) (sym c.nothing.ensures)
           (nothing-offered s c.graph.ensures.valid none common),
     )
+
+pub find-requires-clause-served : goal.find-requires-clause-served
+find-requires-clause-served c = subst (AreServed c.args.replica.now) (sym c.deref.ensures.value)
+    (record { len = c.in_ok-served-in-None-2.ensures.len; exact = c.in_ok-served-in-None-2.ensures.exact })

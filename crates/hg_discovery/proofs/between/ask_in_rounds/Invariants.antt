@@ -1,6 +1,6 @@
 use Rattle.hg_discovery.specs.Rounds.{undecided}
 use Rattle.hg_discovery.proofs.BetweenLemmas.{IsAskedSoFar}
-use Rattle.hg_discovery.proofs.between.heads_in_common.Given as goal
+use Rattle.hg_discovery.proofs.between.ask_in_rounds.Given as goal
 
 abbrev pub invariant-loop-alloc : goal.invariant-loop-alloc
 invariant-loop-alloc l = IsAskedSoFar l.asker l.other l.discovery
