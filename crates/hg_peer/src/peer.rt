@@ -34,15 +34,17 @@ use hg_history::Fault;
 use hg_join::{Actor, JoinState, NoMemory};
 use hg_message::{Message, Outgoing};
 use hg_replica::{Change, Part, Replica};
-use hg_rewrite::{Op, decide};
+use hg_rewrite::{Op, decide_kept};
+use hg_view::Kept;
 use std::alloc::Global;
 use std::marker::Model;
 
 /// A replica as a state that acts: it decides operations, offers what it serves above some common nodes, and reads
-/// messages. Contracts see the replica.
+/// messages. It keeps its instabilities, so that each of these asks what is visible by look-ups. Contracts see the
+/// replica.
 #[derive(Drop)]
 pub struct Peer {
-    replica: Replica,
+    kept: Kept,
 }
 
 impl Model for Peer {
@@ -54,22 +56,29 @@ impl Model for Peer {
 
     ghost coded = { Prim.hlevel (codes, fields_code) };
 
-    ghost view = { λ peer. peer.replica };
+    ghost view = { λ peer. peer.kept };
 }
 
 impl Peer {
     /// The peer of this replica.
-    pub fn new(replica: Replica) -> Peer
-        ensures { result ≡ replica }
+    pub fn new(kept: Kept) -> Peer
+        ensures { result ≡ kept }
     {
-        Peer { replica }
+        Peer { kept }
     }
 
     /// Its replica.
     pub fn replica(&self) -> &Replica
         ensures { result.now ≡ self.now }
     {
-        &self.replica
+        self.kept.replica()
+    }
+
+    /// Its replica with the instabilities that are kept beside it.
+    pub fn kept(&self) -> &Kept
+        ensures { result.now ≡ self.now }
+    {
+        &self.kept
     }
 }
 
@@ -142,7 +151,7 @@ impl JoinState for Peer {
 
     fn copy(&self) -> Result<Peer, NoMemory> {
         Ok(Peer {
-            replica: self.replica.copy()?,
+            kept: self.kept.copy()?,
         })
     }
 
@@ -157,7 +166,7 @@ impl JoinState for Peer {
         // Want of memory is told only where something grows before a fault is met.
         ensures memory { IsErrOf result Fault.NoMemory → IsGrowthBeforeFault self.old part.now }
     {
-        JoinState::absorb(&mut self.replica, part)
+        self.kept.absorb(part)
     }
 
     fn absorb_owned(&mut self, part: Part) -> Result<Change, Fault>
@@ -171,7 +180,7 @@ impl JoinState for Peer {
         // Want of memory is told only where something grows before a fault is met.
         ensures memory { IsErrOf result Fault.NoMemory → IsGrowthBeforeFault self.old part }
     {
-        JoinState::absorb_owned(&mut self.replica, part)
+        self.kept.absorb_owned(part)
     }
 
     fn join(&mut self, other: &Peer) -> Result<(), Fault>
@@ -186,7 +195,7 @@ impl JoinState for Peer {
         // Want of memory is told only where something grows before a fault is met.
         ensures memory { IsErrOf result Fault.NoMemory → IsGrowthBeforeFault self.old (part_of_replica other.now) }
     {
-        JoinState::join(&mut self.replica, &other.replica)
+        self.kept.join(&other.kept)
     }
 
     fn below(&self, other: &Peer) -> Result<bool, NoMemory>
@@ -196,7 +205,7 @@ impl JoinState for Peer {
         ensures valid { IsValidContent (content_of self.now) }
         ensures other_valid { IsValidContent (content_of other.now) }
     {
-        self.replica.below(&other.replica)
+        self.replica().below(other.replica())
     }
 }
 
@@ -248,7 +257,7 @@ impl Actor for Peer {
 
     fn empty(alloc: Global) -> Result<Peer, NoMemory> {
         Ok(Peer {
-            replica: Replica::new(alloc),
+            kept: Kept::new(alloc, Replica::new(alloc))?,
         })
     }
 
@@ -261,7 +270,7 @@ impl Actor for Peer {
         // Want of memory is told only where none of the rows applies that are tried before the first growth.
         ensures memory { IsErrOf result OutOfMemory → MayWantMemory self.now op.now }
     {
-        match decide(alloc, &self.replica, op) {
+        match decide_kept(alloc, &self.kept, op) {
             Ok(part) => Ok(part),
             Err(refusal) => Err(refusal.into()),
         }
@@ -276,9 +285,9 @@ impl Actor for Peer {
         ensures memory { IsErrOf result OutOfMemory → AreHeld (content_of self.now) common.now.items }
     {
         // They say that the replica is in a valid state, and that each of its markers can be written.
-        let _graph = self.replica.graph();
-        let _markers = self.replica.store().markers();
-        match Outgoing::above(alloc, &self.replica, common) {
+        let replica = self.kept.replica();
+        let _markers = replica.store().markers();
+        match Outgoing::above_kept(alloc, &self.kept, common) {
             Ok(found) => written(&found),
             Err(refusal) => Err(refusal.into()),
         }

@@ -6,6 +6,7 @@ use hg_message::{MessageFault, OfferRefusal};
 use hg_peer::{Numbered, Peer, PeerRefusal};
 use hg_replica::Replica;
 use hg_rewrite::Refusal;
+use hg_view::Kept;
 use hg_world::EventRefusal;
 
 /// A message of nothing: the magic, version 1, no records, no bounds, and a store of 1 byte, which is its version 0.
@@ -14,7 +15,7 @@ const NOTHING: &[u8] = b"HGFX\x01\0\0\0\0\0\0\0\0\0\0\0\x01\0";
 #[test]
 fn a_peer_of_nothing_offers_a_message_of_nothing(rt: HostRuntime) {
     let alloc = rt.alloc();
-    let peer = Peer::new(Replica::new(alloc));
+    let peer = Peer::empty(alloc).expect(&rt, "memory");
     let bytes = peer.offer(alloc, &Vec::new(alloc)).expect(&rt, "an offer");
     assert!(rt; bytes.as_slice() == NOTHING);
     let part = Peer::read(alloc, NOTHING).expect(&rt, "a part");
@@ -24,7 +25,9 @@ fn a_peer_of_nothing_offers_a_message_of_nothing(rt: HostRuntime) {
 #[test]
 fn what_cannot_be_offered_or_read_is_told(rt: HostRuntime) {
     let alloc = rt.alloc();
-    let peer = Peer::new(Replica::new(alloc));
+    let kept = Kept::new(alloc, Replica::new(alloc)).expect(&rt, "memory");
+    let peer = Peer::new(kept);
+    assert!(rt; peer.kept().instabilities().obsolete().is_empty());
     let common = [Node::NULL].to_vec(alloc).expect(&rt, "memory");
     let unknown = PeerRefusal::Offer(OfferRefusal::UnknownCommon(Node::NULL));
     assert_eq!(rt; peer.offer(alloc, &common).err(), Some(unknown));

@@ -8,6 +8,10 @@ mod exchanges;
 #[cfg(test)]
 mod heard;
 #[cfg(test)]
+mod keeping;
+#[cfg(test)]
+mod operations;
+#[cfg(test)]
 mod schedules;
 #[cfg(test)]
 mod states;

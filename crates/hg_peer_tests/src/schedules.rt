@@ -1,17 +1,15 @@
 //! Long lists of events over five peers, in any order, beside plain lists of the parts that each accepted.
 use crate::heard::Heard;
-use hg_changeset::{Entry, Node};
-use hg_graph::Graph;
+use crate::operations::{some_node, some_operation, some_rewrite};
+use hg_changeset::Node;
 use hg_history::Fault;
 use hg_join::{Actor, JoinState};
 use hg_join_tests::Dice;
 use hg_peer::{Peer, PeerRefusal};
-use hg_phases::Phase;
 use hg_replica::{Change, Part};
 use hg_rewrite::Op;
 use hg_world::{Answer, Event, World};
 use std::alloc::Global;
-use std::collections::BTreeMap;
 
 type PeerEvent = Event<Op, Vec<Node>>;
 
@@ -91,88 +89,22 @@ impl Schedule {
         }
     }
 
-    fn graph(&self, at: usize) -> Option<&Graph> {
-        Some(self.world.state(at)?.replica().graph())
-    }
-
     /// One of the last 40 changesets of a peer, or at times none.
     fn some_node(&mut self, at: usize) -> Option<Node> {
-        let dice = self.dice.roll(40);
-        let graph = self.graph(at)?;
-        let place = graph.len().checked_sub(dice);
-        Some(
-            place
-                .and_then(|place| graph.node_at(place))
-                .unwrap_or(Node::NULL),
-        )
-    }
-
-    /// The first parent of a changeset of a peer.
-    fn parent_of(&self, at: usize, node: Node) -> Option<Node> {
-        let changeset = self.graph(at)?.changeset(node);
-        Some(changeset.map_or(Node::NULL, |changeset| changeset.parents().0))
+        let graph = self.world.state(at)?.replica().graph();
+        Some(some_node(graph, &mut self.dice))
     }
 
     /// A commit, or another operation that leaves successors.
     fn some_rewrite(&mut self, at: usize, number: usize) -> Option<Op> {
-        let alloc = self.alloc;
-        let node = self.some_node(at)?;
-        let entry = entry_of(alloc, number)?;
-        Some(match self.dice.roll(10) {
-            0 | 1 => Op::Amend { node, entry },
-            2 => {
-                let mut entries = Vec::new(alloc);
-                entries.push(entry).ok()?;
-                entries
-                    .push(entry_of(alloc, number.checked_add(10_000)?)?)
-                    .ok()?;
-                Op::Split { node, entries }
-            }
-            3 => {
-                let nodes = [self.parent_of(at, node)?, node].to_vec(alloc).ok()?;
-                Op::Fold { nodes, entry }
-            }
-            4 => Op::Relocate {
-                node,
-                p: self.some_node(at)?,
-                q: Node::NULL,
-                entry,
-            },
-            _ => Op::Commit {
-                p: node,
-                q: Node::NULL,
-                entry,
-                secret: false,
-            },
-        })
+        let graph = self.world.state(at)?.replica().graph();
+        some_rewrite(self.alloc, graph, &mut self.dice, number)
     }
 
     /// Any operation.
     fn some_operation(&mut self, at: usize, number: usize) -> Option<Op> {
-        let node = self.some_node(at)?;
-        Some(match self.dice.roll(12) {
-            0 => Op::Prune {
-                node,
-                user: Vec::from_slice(self.alloc, b"fleet").ok()?,
-                secs: 0,
-                offset: 0,
-            },
-            1 => Op::Advance {
-                node,
-                phase: Phase::Draft,
-            },
-            2 => Op::Advance {
-                node: self.parent_of(at, node)?,
-                phase: Phase::Public,
-            },
-            3 => Op::Commit {
-                p: node,
-                q: self.some_node(at)?,
-                entry: entry_of(self.alloc, number)?,
-                secret: true,
-            },
-            _ => self.some_rewrite(at, number)?,
-        })
+        let graph = self.world.state(at)?.replica().graph();
+        some_operation(self.alloc, graph, &mut self.dice, number)
     }
 
     /// Any event, at one of the peers or at a sixth that isn't there, above any node or none; messages are taken that
@@ -251,18 +183,6 @@ impl Schedule {
         let second = self.world.state(other)?;
         Some(first.below(second).ok()? && second.below(first).ok()?)
     }
-}
-
-/// An entry with a description of its own.
-fn entry_of(alloc: Global, number: usize) -> Option<Entry> {
-    let text = format!(in alloc; "{number}").ok()?;
-    Some(Entry {
-        user: Vec::from_slice(alloc, b"fleet").ok()?,
-        secs: 0,
-        offset: 0,
-        extra: BTreeMap::new(alloc),
-        desc: Vec::from_slice(alloc, text.as_bytes()).ok()?,
-    })
 }
 
 #[test]

@@ -1,10 +1,10 @@
 //! Peers as states that join: what copying, absorbing and joining leave, and how a fault is told.
 use hg_changeset::{Changeset, Node};
 use hg_history::Fault;
-use hg_join::JoinState;
+use hg_join::{Actor, JoinState};
 use hg_peer::Peer;
 use hg_phases::Phase;
-use hg_replica::{Part, Replica};
+use hg_replica::Part;
 use std::alloc::Global;
 
 /// An id that no changeset here has.
@@ -32,7 +32,7 @@ fn count(peer: &Peer) -> usize {
 #[test]
 fn a_copy_that_absorbed_is_above_and_is_joined(rt: HostRuntime) {
     let alloc = rt.alloc();
-    let mut peer = Peer::new(Replica::new(alloc));
+    let mut peer = Peer::empty(alloc).expect(&rt, "memory");
     let part = child_of(alloc, Node::NULL).expect(&rt, "memory");
     let mut copy = peer.copy().expect(&rt, "memory");
     let change = copy.absorb(&part).expect(&rt, "a change");
@@ -46,7 +46,7 @@ fn a_copy_that_absorbed_is_above_and_is_joined(rt: HostRuntime) {
 #[test]
 fn an_unknown_parent_is_told_and_changes_nothing(rt: HostRuntime) {
     let alloc = rt.alloc();
-    let mut peer = Peer::new(Replica::new(alloc));
+    let mut peer = Peer::empty(alloc).expect(&rt, "memory");
     let part = child_of(alloc, ONES).expect(&rt, "memory");
     assert!(rt; peer.absorb(&part).err() == Some(Fault::UnknownParent(ONES)));
     assert!(rt; peer.absorb_owned(part).err() == Some(Fault::UnknownParent(ONES)));
@@ -56,7 +56,9 @@ fn an_unknown_parent_is_told_and_changes_nothing(rt: HostRuntime) {
 #[test]
 fn refused_growth_of_a_peer_changes_nothing(rt: HostRuntime) {
     let alloc = rt.alloc();
-    let mut peer = Peer::new(Replica::new(alloc));
+    let Ok(mut peer) = Peer::empty(alloc) else {
+        return;
+    };
     let Some(part) = child_of(alloc, Node::NULL) else {
         return;
     };

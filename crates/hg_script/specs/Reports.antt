@@ -13,11 +13,10 @@ use Rattle.hg_phases.specs.declared.phase.Phase.{Phase}
 use Rattle.hg_phases.specs.State.{Held, changesets}
 use Rattle.hg_replica.specs.State.{ReplicaState}
 use Rattle.hg_replica.specs.Content.{Content, content_of}
-use Rattle.hg_replica.specs.Evolution.{IsObsolete, IsOrphan, IsSuspended, IsExtinct, IsPhaseDivergent, IsVisible}
+use Rattle.hg_replica.specs.Evolution.{IsObsolete, IsOrphan, IsSuspended, IsExtinct, IsPhaseDivergent}
 use Rattle.hg_replica.specs.Evolution.{IsHidden}
-use Rattle.hg_instab.specs.Instabilities.{AreInstabilities, IsContentDivergent}
+use Rattle.hg_instab.specs.Instabilities.{IsContentDivergent}
 use Rattle.hg_script.specs.declared.report.RowWords.{RowWords}
-use Rattle.hg_script.specs.declared.report.Standing.{Standing}
 use Rattle.hg_script.specs.Commands.{Text, Word, phase_word}
 
 -- the text and an LF
@@ -63,11 +62,6 @@ pub record AreWordsOf (f : Content) (n : Node) (words : RowWords) : Type 0 where
   pub phase_divergent : IsTrue words.phase_divergent ↔ IsPhaseDivergent f n
   pub content_divergent : IsTrue words.content_divergent ↔ IsContentDivergent f n
   pub hidden : IsTrue words.hidden ↔ IsHidden f n
-
--- the sets that the words are taken from are those of what the replica holds
-pub record IsStanding (f : Content) (standing : Standing) : Type 0 where
-  pub instabilities : AreInstabilities f standing.instabilities
-  pub visible : (n : Node) → Contains standing.visible.keys n ↔ IsVisible f n
 
 abbrev pub text_where : Bool → Text → Text
 text_where is_so text = if is_so then text else []

@@ -22,11 +22,12 @@ use crate::operation::{Names, Operation};
 use crate::output::print_line;
 use crate::report::print_report;
 use hg_changeset::{Changeset, Node};
-use hg_discovery::heads_in_common;
+use hg_discovery::heads_in_common_kept;
 use hg_join::{JoinState, NoMemory};
 use hg_peer::Peer;
 use hg_replica::{Part, Replica};
-use hg_rewrite::{Op, decide};
+use hg_rewrite::{Op, decide_kept};
+use hg_view::Kept;
 use hg_world::{Answer, Event, World};
 use std::alloc::Global;
 use std::collections::BTreeMap;
@@ -144,8 +145,8 @@ impl Fleet {
         let op = operation.resolve(&names)?;
         let place = self.place(number, at)?;
         let labels = operation.new_labels(self.alloc)?;
-        let replica = self.replica(number, place)?;
-        self.check_labels(number, replica, &op, &labels)?;
+        let kept = self.kept(number, place)?;
+        self.check_labels(number, kept, &op, &labels)?;
         let event = Event::Local { at: place, op };
         let answer = run_event(self.alloc, number, &mut self.world, event, writer)?;
         label(self.alloc, &mut self.labels, &labels, &answer)?;
@@ -157,18 +158,18 @@ impl Fleet {
     fn check_labels(
         &self,
         number: usize,
-        replica: &Replica,
+        kept: &Kept,
         op: &Op,
         labels: &[&[u8]],
     ) -> Result<(), RunFault>
-        ensures free { OnOk result (AreLabelsFree (ids self.now) (texts labels.now) replica.now op.now) }
-        ensures err { IfErr result (IsTakenFault number (ids self.now) labels.now replica.now op.now) }
+        ensures free { OnOk result (AreLabelsFree (ids self.now) (texts labels.now) kept.now op.now) }
+        ensures err { IfErr result (IsTakenFault number (ids self.now) labels.now kept.now op.now) }
     {
         let are_distinct = are_distinct(self.alloc, labels)?;
         if are_distinct && are_unbound(&self.labels, labels) {
             return Ok(());
         }
-        let made = decided(self.alloc, replica, op)?;
+        let made = decided(self.alloc, kept, op)?;
         match made {
             Some(part) => {
                 if !are_free(&self.labels, labels, are_distinct, &part) {
@@ -268,9 +269,9 @@ impl Fleet {
             (fault ≡ RunFault.NoMemory)
             ⊎ (IsNodeFault number self.now taker fault ⊎ IsNodeFault number self.now giver fault)) }
     {
-        let asker = self.replica(number, taker)?;
-        let other = self.replica(number, giver)?;
-        match heads_in_common(self.alloc, asker, other) {
+        let asker = self.kept(number, taker)?;
+        let other = self.kept(number, giver)?;
+        match heads_in_common_kept(self.alloc, asker, other) {
             Ok(heads) => Ok(heads),
             Err(_) => Err(RunFault::NoMemory),
         }
@@ -288,9 +289,9 @@ impl Fleet {
             (W.contents writer.old) (W.contents writer.new)) }
         ensures err { IfErr result (IsCommandFault number self.now (Command.Agree one.entry other.entry)) }
     {
-        let first = self.replica(number, self.place(number, one)?)?;
-        let second = self.replica(number, self.place(number, other)?)?;
-        let answer = are_same(first, second)?;
+        let first = self.kept(number, self.place(number, one)?)?;
+        let second = self.kept(number, self.place(number, other)?)?;
+        let answer = are_same(first.replica(), second.replica())?;
         print_agreement(self.alloc, one, other, answer, writer)?;
         Ok(())
     }
@@ -300,8 +301,8 @@ impl Fleet {
             (W.contents writer.old) (W.contents writer.new)) }
         ensures err { IfErr result (IsCommandFault number self.now (Command.Report at.entry)) }
     {
-        let replica = self.replica(number, self.place(number, at)?)?;
-        print_report(self.alloc, at, replica, writer)?;
+        let kept = self.kept(number, self.place(number, at)?)?;
+        print_report(self.alloc, at, kept, writer)?;
         Ok(())
     }
 
@@ -317,13 +318,13 @@ impl Fleet {
         }
     }
 
-    // The replica of the node at a place.
-    fn replica(&self, number: usize, place: usize) -> Result<&Replica, RunFault>
-        ensures ok { IfOk result (λ replica. slice_get self.now.world.nodes place ≡ Some replica.now) }
+    // The replica of the node at a place, with its instabilities.
+    fn kept(&self, number: usize, place: usize) -> Result<&Kept, RunFault>
+        ensures ok { IfOk result (λ kept. slice_get self.now.world.nodes place ≡ Some kept.now) }
         ensures err { IfErr result (IsNodeFault number self.now place) }
     {
         match self.world.state(place) {
-            Some(peer) => Ok(peer.replica()),
+            Some(peer) => Ok(peer.kept()),
             None => Err(RunFault::Line(number, LineFault::UnknownName)),
         }
     }
@@ -369,11 +370,11 @@ fn print_agreement<W: Write>(
 }
 
 // The part of the operation, if it isn't refused. Want of memory, which has no number, is no refusal.
-fn decided(alloc: Global, replica: &Replica, op: &Op) -> Result<Option<Part>, RunFault>
-    ensures ok { IfOk result (IsDecided replica.now op.now) }
+fn decided(alloc: Global, kept: &Kept, op: &Op) -> Result<Option<Part>, RunFault>
+    ensures ok { IfOk result (IsDecided kept.now op.now) }
     ensures err { IfErr result (λ fault. fault ≡ RunFault.NoMemory) }
 {
-    match decide(alloc, replica, op) {
+    match decide_kept(alloc, kept, op) {
         Ok(part) => Ok(Some(part)),
         Err(refusal) => match refusal.number() {
             Some(_) => Ok(None),

@@ -4,64 +4,36 @@ ghost use Rattle.std.specs.Prelude.{Contains, codes, length, not};
 ghost use Rattle.std.specs.List.{suffix_len};
 ghost use Rattle.hg_history.specs.Content.{IsHeld};
 ghost use Rattle.hg_phases.specs.State.{changesets};
-ghost use Rattle.hg_replica.specs.Content.{Content, content_of};
+ghost use Rattle.hg_replica.specs.Content.{content_of};
 ghost use Rattle.hg_script.specs.Commands.{Text, phase_word};
 ghost use Rattle.hg_script.specs.Outputs.{Printed};
-ghost use Rattle.hg_script.specs.Reports.{AreRowLines, AreRows, AreWordsOf, IsReport, IsRowLine, IsStanding};
+ghost use Rattle.hg_script.specs.Reports.{AreRowLines, AreRows, AreWordsOf, IsReport, IsRowLine};
 ghost use Rattle.hg_script.specs.Reports.{RowValue, heading, label_of, row_values, rows_from, text_where, totals};
 ghost use Rattle.hg_script.specs.Reports.{with_words};
 
 use crate::fault::RunFault;
 use crate::output::print_line;
 use hg_changeset::{Changeset, Node};
-use hg_instab::Instabilities;
 use hg_phases::Phase;
 use hg_replica::Replica;
-use hg_view::visible;
+use hg_view::Kept;
 use std::alloc::{AllocError, Global};
 use std::collections::BTreeSet;
 use std::io::Write;
 
-// What is said of a replica's changesets.
-struct Standing {
-    instabilities: Instabilities,
-    visible: BTreeSet<Node>,
-}
-
-// Whoever owns it calls this once, and is proved without a look at each set in it.
-impl Drop for Standing {
-    fn drop(self) {
-        let Standing {
-            instabilities: _,
-            visible: _,
-        } = self;
-    }
-}
-
-impl Standing {
-    fn of(alloc: Global, replica: &Replica) -> Result<Standing, AllocError>
-        ensures { IfOk result (IsStanding (content_of replica.now)) }
-    {
-        Ok(Standing {
-            instabilities: Instabilities::from_scratch(alloc, replica)?,
-            visible: visible(alloc, replica)?,
-        })
-    }
-
-    // The words that hold of a changeset of the replica.
-    fn words_of(&self, node: &Node) -> RowWords
-        ensures { (f : Content) → IsStanding f self.now → IsHeld f.0 node.now → AreWordsOf f node.now result }
-    {
-        let sets = &self.instabilities;
-        RowWords {
-            obsolete: is_among(sets.obsolete(), node),
-            suspended: is_among(sets.suspended(), node),
-            extinct: is_among(sets.extinct(), node),
-            orphan: is_among(sets.orphan(), node),
-            phase_divergent: is_among(sets.phase_divergent(), node),
-            content_divergent: is_among(sets.content_divergent(), node),
-            hidden: !is_among(&self.visible, node),
-        }
+// The words that hold of a changeset of the replica.
+fn words_of(kept: &Kept, node: &Node) -> RowWords
+    ensures { IsHeld (content_of kept.now).0 node.now → AreWordsOf (content_of kept.now) node.now result }
+{
+    let sets = kept.instabilities();
+    RowWords {
+        obsolete: is_among(sets.obsolete(), node),
+        suspended: is_among(sets.suspended(), node),
+        extinct: is_among(sets.extinct(), node),
+        orphan: is_among(sets.orphan(), node),
+        phase_divergent: is_among(sets.phase_divergent(), node),
+        content_divergent: is_among(sets.content_divergent(), node),
+        hidden: !kept.is_visible(*node),
     }
 }
 
@@ -157,21 +129,21 @@ fn rows_by_place<'a>(alloc: Global, replica: &'a Replica) -> Result<Vec<Row<'a>>
 /// Prints the replica's name, then its changesets in byte order of their labels, each with its phase and the words that
 /// hold of it, and how many changesets and markers there are.
 ///
-/// It costs what the replica holds, however much others do.
+/// It costs what is printed: the words are those of the sets that are kept.
 pub fn print_report<W: Write>(
     alloc: Global,
     name: &[u8],
-    replica: &Replica,
+    kept: &Kept,
     writer: &mut W,
 ) -> Result<(), RunFault>
-    ensures printed { OnOk result ((text : Text) × IsReport name.now replica.now text
+    ensures printed { OnOk result ((text : Text) × IsReport name.now kept.now text
         × Printed (W.contents writer.old) text (W.contents writer.new)) }
     ensures err { IfErr result (λ fault. (fault ≡ RunFault.Write) ⊎ (fault ≡ RunFault.NoMemory)) }
 {
     let mut line = Vec::new(alloc);
     print_heading(name, &mut line, writer)?;
-    print_changesets(alloc, replica, &mut line, writer)?;
-    print_totals(alloc, replica, &mut line, writer)?;
+    print_changesets(alloc, kept, &mut line, writer)?;
+    print_totals(alloc, kept.replica(), &mut line, writer)?;
     Ok(())
 }
 
@@ -209,66 +181,62 @@ fn print_totals<W: Write>(
 // Prints a line for each changeset of the replica, by means of the empty line that is lent.
 fn print_changesets<W: Write>(
     alloc: Global,
-    replica: &Replica,
+    kept: &Kept,
     line: &mut Vec<u8>,
     writer: &mut W,
 ) -> Result<(), RunFault>
     requires { line.old.items ≡ [] }
-    ensures printed { OnOk result ((rows : List RowValue) × (text : Text) × AreRows replica.now rows
-        × AreRowLines replica.now rows text × Printed (W.contents writer.old) text (W.contents writer.new)) }
+    ensures printed { OnOk result ((rows : List RowValue) × (text : Text) × AreRows kept.now rows
+        × AreRowLines kept.now rows text × Printed (W.contents writer.old) text (W.contents writer.new)) }
     ensures emptied { OnOk result (line.new.items ≡ []) }
     ensures err { IfErr result (λ fault. (fault ≡ RunFault.Write) ⊎ (fault ≡ RunFault.NoMemory)) }
 {
-    let standing = Standing::of(alloc, replica)?;
-    let rows = rows(alloc, replica)?;
-    print_rows(replica, &standing, &rows, line, writer)?;
+    let rows = rows(alloc, kept.replica())?;
+    print_rows(kept, &rows, line, writer)?;
     Ok(())
 }
 
 // Prints the lines of the rows, by means of the empty line that is lent.
 fn print_rows<W: Write>(
-    replica: &Replica,
-    standing: &Standing,
+    kept: &Kept,
     rows: &[Row<'_>],
     line: &mut Vec<u8>,
     writer: &mut W,
 ) -> Result<(), RunFault>
     requires empty { line.old.items ≡ [] }
-    requires standing { IsStanding (content_of replica.now) standing.now }
-    requires places { All (λ row. row.1 < length (changesets replica.now.history)) rows.now }
-    ensures printed { OnOk result ((text : Text) × AreRowLines replica.now (row_values rows.now) text
+    requires places { All (λ row. row.1 < length (changesets kept.now.history)) rows.now }
+    ensures printed { OnOk result ((text : Text) × AreRowLines kept.now (row_values rows.now) text
         × Printed (W.contents writer.old) text (W.contents writer.new)) }
     ensures emptied { OnOk result (line.new.items ≡ []) }
     ensures err { IfErr result (λ fault. (fault ≡ RunFault.Write) ⊎ (fault ≡ RunFault.NoMemory)) }
 {
     for (label, place) in rows {
-        print_row(replica, standing, *label, *place, line, writer)?;
+        print_row(kept, *label, *place, line, writer)?;
     }
     Ok(())
 }
 
 // Prints the line of the changeset with this label at this place, by means of the empty line that is lent.
 fn print_row<W: Write>(
-    replica: &Replica,
-    standing: &Standing,
+    kept: &Kept,
     label: &[u8],
     place: usize,
     line: &mut Vec<u8>,
     writer: &mut W,
 ) -> Result<(), RunFault>
     requires empty { line.old.items ≡ [] }
-    requires standing { IsStanding (content_of replica.now) standing.now }
-    requires place { place < length (changesets replica.now.history) }
-    ensures printed { OnOk result ((text : Text) × IsRowLine replica.now (label.now, place) text
+    requires place { place < length (changesets kept.now.history) }
+    ensures printed { OnOk result ((text : Text) × IsRowLine kept.now (label.now, place) text
         × Printed (W.contents writer.old) text (W.contents writer.new)) }
     ensures emptied { OnOk result (line.new.items ≡ []) }
     ensures err { IfErr result (λ fault. (fault ≡ RunFault.Write) ⊎ (fault ≡ RunFault.NoMemory)) }
 {
+    let replica = kept.replica();
     let node = replica.graph().node_at(place).unwrap();
     let phase = replica.phase_at(place).unwrap();
     line.extend_from_slice(label)?;
     line.extend_from_slice(phase_word(phase))?;
-    standing.words_of(&node).push(line)?;
+    words_of(kept, &node).push(line)?;
     print_line(writer, line)?;
     Ok(())
 }

@@ -1,17 +1,25 @@
-use Rattle.std.proofs.Common.{◌++◌, refl, length}
+use Rattle.std.proofs.Common.{◌++◌, ap, length}
 use Rattle.std.proofs.KnownBytes.{Appends-trans}
 use Rattle.hg_phases.specs.State.{changesets}
+use Rattle.hg_replica.specs.State.{ReplicaState}
 use Rattle.hg_script.specs.Reports.{heading, totals}
 use Rattle.hg_script.proofs.report.print_report.Goals as goal
 
 pub returns-clause-printed : goal.returns-clause-printed
 returns-clause-printed g c =
-    let s = c.args.replica.now in
+    let s = c.replica.result.now in
     let d = c.in_ok-print_changesets.ensures.printed in
     let first = heading c.args.name.now in
     let last = totals (length (changesets s.history)) (length s.markers) in (
       first ++ d.1 ++ last,
-      (d.0, d.1, d.2, d.3, refl),
+      (
+        d.0,
+        d.1,
+        d.2,
+        d.3,
+        ap (λ (t : ReplicaState). first ++ d.1 ++ totals (length (changesets t.history)) (length t.markers))
+            c.replica.ensures.replica,
+      ),
       Appends-trans _ _ _ (first ++ d.1) last
           (Appends-trans _ _ _ first d.1 c.in_ok-print_heading.ensures.printed d.4)
           c.in_ok-print_totals.ensures.printed,

@@ -2,9 +2,9 @@ use Rattle.std.proofs.Common.{◌≡◌, ◌≤◌, List, ◌++◌, length, slic
 use Rattle.std.proofs.Common.{subst, ◌∙◌}
 use Rattle.hg_changeset.specs.Contents.{Contents}
 use Rattle.hg_graph.specs.Graph.{nodes}
-use Rattle.hg_phases.specs.State.{Held}
 use Rattle.hg_phases.specs.declared.phase.Phase.{Phase}
-use Rattle.hg_replica.specs.Content.{content_of}
+use Rattle.hg_phases.specs.State.{Held, changesets}
+use Rattle.hg_replica.specs.State.{ReplicaState}
 use Rattle.hg_script.specs.Commands.{Text, phase_word}
 use Rattle.hg_script.specs.Reports.{line_of, with_words}
 use Rattle.hg_script.proofs.ReportLemmas.{row_of}
@@ -12,23 +12,26 @@ use Rattle.hg_script.proofs.report.print_row.Goals as goal
 
 pub returns-clause-printed : goal.returns-clause-printed
 returns-clause-printed g c =
-    let s = c.args.replica.now in
+    let s = c.args.kept.now in
+    let same = c.replica-replica.ensures.replica in
     let place = c.args.place in
     let label = c.args.label.now in
     let phase = c.unwrap-phase.result in
     let words = c.words_of.result in
+    let graph = c.graph.ensures.graph ∙ ap (λ (t : ReplicaState). changesets t.history) same in
     let at = sym c.unwrap-node.ensures ∙ c.node_at.ensures
-    ∙ ap (λ (cs : List Contents). slice_get (nodes cs) place) c.graph.ensures.graph in
+    ∙ ap (λ (cs : List Contents). slice_get (nodes cs) place) graph in
+    let phase_at = subst (λ (t : ReplicaState). MatchOption c.phase_at.result (length t.history.held ≤ place)
+    (λ k. (h : Held) × (slice_get t.history.held place ≡ Some h) × (h.phase ≡ k))) same c.phase_at.ensures in
     let held = subst (λ (o : Option Phase). MatchOption o (length s.history.held ≤ place)
     (λ k. (h : Held) × (slice_get s.history.held place ≡ Some h) × (h.phase ≡ k))) c.unwrap-phase.ensures
-    c.phase_at.ensures in
+    phase_at in
     let front = c.in_ok-extend_from_slice-2.ensures.items
     ∙ ap (λ (l : Text). l ++ c.phase_word.result.now)
     (c.in_ok-extend_from_slice.ensures.items ∙ ap (λ (l : Text). l ++ label) c.requires.empty)
     ∙ ap (λ (w : Text). label ++ w) c.phase_word.ensures in
     let whole = ap line_of (c.in_ok-push.ensures ∙ ap (λ (l : Text). with_words l words) front) in (
       line_of c.push.new.line.items,
-      row_of s place c.unwrap-node.result phase label _ words c.graph.ensures.valid at held
-          (c.words_of.ensures (content_of s) c.requires.standing) whole,
+      row_of s place c.unwrap-node.result phase label _ words c.replica-replica.ensures.valid at held c.words_of.ensures whole,
       c.in_ok-print_line.ensures.printed,
     )

@@ -8,7 +8,7 @@ loop-label-preserved g c =
     let d = c.in_ok-print_row.ensures.printed in
     record {
       printed = λ rest holds later grew. c.loop-label.invariant.printed (d.0 ++ rest) holds
-          (next_lines c.args.replica.now c.args.rows.now c.loop-label.label-index _ d.0 rest c.loop-label-test.true d.1
+          (next_lines c.args.kept.now c.args.rows.now c.loop-label.label-index _ d.0 rest c.loop-label-test.true d.1
           later) (Appends-trans _ _ _ d.0 rest d.2 grew);
       empty = c.in_ok-print_row.ensures.emptied;
     }
@@ -16,4 +16,4 @@ loop-label-preserved g c =
 pub returns-clause-printed : goal.returns-clause-printed
 returns-clause-printed g c =
     c.loop-label.invariant.printed [] _
-    (no_lines c.args.replica.now c.args.rows.now c.loop-label.label-index c.loop-label-test.false) (Appends-nil _)
+    (no_lines c.args.kept.now c.args.rows.now c.loop-label.label-index c.loop-label-test.false) (Appends-nil _)

@@ -1,4 +1,5 @@
-use Rattle.std.proofs.Common.{Some}
+use Rattle.std.proofs.Common.{Some, IsTrue, ◌↔◌, subst}
+use Rattle.hg_replica.specs.State.{ReplicaState, IsSameState}
 use Rattle.hg_script.proofs.EndingLemmas.{node_from_place}
 use Rattle.hg_script.proofs.ScriptLemmas.{agreed}
 use Rattle.hg_script.proofs.fleet.Fleet.agree.Goals as goal
@@ -10,5 +11,10 @@ returns-clause-ok g c =
     c.in_ok-first.ensures.ok in
     let other = node_from_place self c.args.other.now _ (Some c.in_ok-second.second.now) c.in_ok-place-2.ensures.ok
     c.in_ok-second.ensures.ok in
-    agreed c.args.number self c.args.one c.args.other c.in_ok-first.first.now c.in_ok-second.second.now
-    c.in_ok-answer.answer _ _ one other c.in_ok-answer.ensures c.in_ok-print_agreement.ensures.printed
+    let answer = c.in_ok-answer.answer in
+    let same = subst (λ (t : ReplicaState). IsTrue answer ↔ IsSameState c.in_ok-first.first.now t)
+    c.replica-2.ensures.replica
+    (subst (λ (t : ReplicaState). IsTrue answer ↔ IsSameState t c.replica-2.result.now) c.replica.ensures.replica
+    c.in_ok-answer.ensures) in
+    agreed c.args.number self c.args.one c.args.other c.in_ok-first.first.now c.in_ok-second.second.now answer _ _ one
+    other same c.in_ok-print_agreement.ensures.printed

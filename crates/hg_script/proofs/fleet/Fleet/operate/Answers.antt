@@ -35,12 +35,12 @@ returns-in_err-labels-clause-err g c =
     let p = err_from_is_err_and c.from_residual-in_err-labels.result c.from_residual-in_err-labels.ensures.1 in
     rw (p.1, p.2) (tt, (no_trace, refl))
 
-pub returns-in_err-replica-clause-err : goal.returns-in_err-replica-clause-err
-returns-in_err-replica-clause-err g c =
-    let p = err_from_is_err_and c.from_residual-in_err-replica.result c.from_residual-in_err-replica.ensures.1 in
+pub returns-in_err-kept-clause-err : goal.returns-in_err-kept-clause-err
+returns-in_err-kept-clause-err g c =
+    let p = err_from_is_err_and c.from_residual-in_err-kept.result c.from_residual-in_err-kept.ensures.1 in
     rw (p.1, p.2) (
       node_fault _ c.args.self.now (command.Operation c.args.at c.args.operation) c.args.at.now _ _
-          c.in_ok-place.ensures.ok (λ none. inl none) c.in_err-replica.ensures.err,
+          c.in_ok-place.ensures.ok (λ none. inl none) c.in_err-kept.ensures.err,
       (no_trace, refl),
     )
 
@@ -50,8 +50,8 @@ returns-in_err-check_labels-clause-err g c =
     c.from_residual-in_err-check_labels.ensures.1 in
     let self = c.args.self.now in
     let labels = ap (map (λ (w : Word). w.now)) c.deref.ensures.value ∙ c.in_ok-labels.ensures in
-    let held = node_from_place self c.args.at.now c.in_ok-place.place (Some c.in_ok-replica.replica.now)
-    c.in_ok-place.ensures.ok c.in_ok-replica.ensures.ok in
+    let held = node_from_place self c.args.at.now c.in_ok-place.place (Some c.in_ok-kept.kept.now)
+    c.in_ok-place.ensures.ok c.in_ok-kept.ensures.ok in
     rw (p.1, p.2) (
       taken_fault _ self c.args.at c.args.operation _ _ _ _ labels c.in_ok-op.ensures.ok held
           c.in_err-check_labels.ensures.err,
@@ -83,8 +83,8 @@ returns-clause-ok g c =
     let h = c.in_ok-answer.ensures.happens in
     let labels = ap (map (λ (w : Word). w.now)) c.deref.ensures.value ∙ c.in_ok-labels.ensures in
     let same = ap (map (λ (w : Word). w.now)) c.deref-2.ensures.value ∙ c.in_ok-labels.ensures in
-    let free = free_brought (ids self) (map (λ (w : Word). w.now) c.deref.result.now) c.in_ok-replica.replica.now
-    self.world place op answer h.0 c.run_event.new.world c.in_ok-replica.ensures.ok
+    let free = free_brought (ids self) (map (λ (w : Word). w.now) c.deref.result.now) c.in_ok-kept.kept.now
+    self.world place op answer h.0 c.run_event.new.world c.in_ok-kept.ensures.ok
     c.in_ok-check_labels.ensures.free h.1 in (
       one (Local place op) answer h.0,
       answer_line c.args.number answer,

@@ -1,12 +1,10 @@
 use Rattle.hg_script.proofs.ReportLemmas.{told_among, told_hidden}
-use Rattle.hg_script.proofs.report.Standing.words_of.Goals as goal
+use Rattle.hg_script.proofs.report.words_of.Goals as goal
 
 pub returns : goal.returns
-returns c = λ f standing held.
+returns c = λ held.
     let n = c.args.node.now in
-    let is = standing.instabilities in
-    let seen = standing.visible n in
-    let told = c.is_among-7.ensures in
+    let is = c.instabilities-sets.ensures in
     record {
       obsolete = told_among _ _ _ n _ c.obsolete.ensures c.is_among.ensures (is.obsolete n);
       suspended = told_among _ _ _ n _ c.suspended.ensures c.is_among-2.ensures (is.suspended n);
@@ -15,5 +13,5 @@ returns c = λ f standing held.
       phase_divergent = told_among _ _ _ n _ c.phase_divergent.ensures c.is_among-5.ensures (is.phase_divergent n);
       content_divergent = told_among _ _ _ n _ c.content_divergent.ensures c.is_among-6.ensures
           (is.content_divergent n);
-      hidden = told_hidden c.is_among-7.result _ _ (λ h. seen.0 (told.0 h), λ v. told.1 (seen.1 v)) held;
+      hidden = told_hidden c.is_visible.result _ _ c.is_visible.ensures held;
     }
