@@ -1,4 +1,4 @@
-//! Chains of changesets, each on the one before.
+//! Parts of changesets, and chains of changesets, each on the one before.
 use hg_changeset::{Changeset, Node};
 use hg_phases::Phase;
 use hg_replica::{Part, Replica};
@@ -32,6 +32,41 @@ fn drafts(alloc: Global, changesets: Vec<Changeset>, tip: Node) -> Result<Part, 
         bounds,
         markers: Vec::new(alloc),
     })
+}
+
+/// A part that says nothing.
+pub fn empty(alloc: Global) -> Part {
+    Part {
+        changesets: Vec::new(alloc),
+        bounds: Vec::new(alloc),
+        markers: Vec::new(alloc),
+    }
+}
+
+/// Adds a draft changeset on this parent with the number as its text.
+pub fn add_draft(
+    alloc: Global,
+    part: &mut Part,
+    parent: Node,
+    number: usize,
+) -> Result<Node, AllocError> {
+    let text = format!(in alloc; "{number}")?;
+    let changeset = match Changeset::new(parent, Node::NULL, text.into_bytes()) {
+        Ok(changeset) => changeset,
+        Err(_) => return Err(AllocError),
+    };
+    let node = changeset.node();
+    part.changesets.push(changeset)?;
+    part.bounds.push((node, Phase::Draft))?;
+    Ok(node)
+}
+
+/// The first changeset of a part, or the null id.
+pub fn bottom_of(part: &Part) -> Node {
+    match part.changesets.first() {
+        Some(changeset) => changeset.node(),
+        None => Node::NULL,
+    }
 }
 
 /// The last changeset of a part, or the null id.

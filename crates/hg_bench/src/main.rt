@@ -1,4 +1,4 @@
-//! Measures what absorbing, joining and keeping markers cost, one case a run.
+//! Measures what absorbing, joining, keeping markers and keeping sets of instabilities cost, one case a run.
 //!
 //! `hg_bench CASE SIZE` builds what the case needs, does it, and prints the nanoseconds of processor time that it took,
 //! without the building. With other arguments it prints nothing.
@@ -6,6 +6,8 @@
 
 mod chain;
 mod discoveries;
+mod histories;
+mod keeping;
 mod markers;
 mod messages;
 mod rewrites;
@@ -13,6 +15,8 @@ mod states;
 mod successors;
 
 use discoveries::discover;
+use histories::History;
+use keeping::{keep, tell};
 use markers::{Shape, add_markers, list_markers, read_markers, write_markers};
 use messages::{find_offer, make_offer, read_offer, send_offer, take_offer, write_offer};
 use rewrites::{amend_bottom, tell_instabilities};
@@ -89,6 +93,25 @@ fn spent_on_exchange(
         "read-offer" => read_offer(rt, size),
         "take-offer" => take_offer(rt, size),
         "discover" => discover(rt, size),
+        _ => spent_on_keeping(rt, case, size),
+    }
+}
+
+// What a case of this size took, where it is one of sets that are kept.
+fn spent_on_keeping(
+    rt: &(impl CpuClock + AllocGlobal),
+    case: &str,
+    size: usize,
+) -> io::Result<Duration> {
+    match case {
+        "keep-amends" => keep(rt, size, History::Amends),
+        "keep-orphans" => keep(rt, size, History::Orphans),
+        "keep-publications" => keep(rt, size, History::Publications),
+        "keep-divergences" => keep(rt, size, History::Divergences),
+        "keep-amends-above-fork" => keep(rt, size, History::AmendsAboveFork),
+        "keep-hub" => keep(rt, size, History::Hub),
+        "keep-hub-backwards" => keep(rt, size, History::HubBackwards),
+        "tell-amends" => tell(rt, size, History::Amends),
         _ => Ok(Duration::ZERO),
     }
 }

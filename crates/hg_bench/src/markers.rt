@@ -3,6 +3,7 @@ use byteorder::{BigEndian, ByteOrder};
 use hg_changeset::Node;
 use hg_marker::{Marker, Metadata};
 use hg_obsstore::{Store, read_store, store_bytes};
+use hg_replica::Part;
 use std::alloc::{AllocError, Global};
 use std::io;
 use std::time::{CpuClock, Duration};
@@ -106,8 +107,16 @@ fn markers(alloc: Global, size: usize, shape: Shape) -> Result<Vec<Marker>, Allo
     Ok(markers)
 }
 
-/// A marker of 200 bytes.
-pub fn marker(alloc: Global, old: Node, new: Node) -> Option<Marker> {
+/// Adds to the part that the one was rewritten to the other.
+pub fn add_marker(alloc: Global, part: &mut Part, old: Node, new: Node) -> Result<(), AllocError> {
+    if let Some(marker) = marker(alloc, old, new) {
+        part.markers.push(marker)?;
+    }
+    Ok(())
+}
+
+// A marker of 200 bytes.
+fn marker(alloc: Global, old: Node, new: Node) -> Option<Marker> {
     let successors = Vec::from_slice(alloc, &[new]).ok()?;
     let metadata = metadata(alloc).ok()?;
     Marker::new(old, successors, 0, metadata).ok()

@@ -1,7 +1,7 @@
 //! Cases of messages: what offering, writing, reading and taking in cost. Half of what is offered are changesets, and
 //! half are markers, each of a changeset.
 use crate::chain::{chain_on, replica_of};
-use crate::markers::{marker, node};
+use crate::markers::{add_marker, node};
 use hg_changeset::Node;
 use hg_message::{Message, Outgoing, offer};
 use hg_replica::{Part, Replica};
@@ -90,9 +90,7 @@ fn marked(alloc: Global, size: usize) -> Result<Replica, AllocError> {
     for number in 0..size {
         if let Some(changeset) = part.changesets.get(number) {
             let new = changeset.node();
-            if let Some(marker) = marker(alloc, node(number), new) {
-                part.markers.push(marker)?;
-            }
+            add_marker(alloc, &mut part, node(number), new)?;
         }
     }
     Ok(replica_of(alloc, &part))

@@ -1,8 +1,8 @@
 //! Cases of operations: what deciding them and absorbing their parts cost.
-use crate::chain::{chain_on, replica_of, tip_of};
+use crate::chain::{bottom_of, chain_on, replica_of, tip_of};
 use hg_changeset::{Entry, Node};
 use hg_instab::Instabilities;
-use hg_replica::{Part, Replica};
+use hg_replica::Replica;
 use hg_rewrite::{Op, decide};
 use hg_view::{served, visible};
 use std::alloc::{AllocError, Global};
@@ -38,13 +38,6 @@ fn time_telling(rt: &impl CpuClock, alloc: Global, replica: &Replica) -> io::Res
     let _visible = visible(alloc, replica)?;
     let _served = served(alloc, replica)?;
     Ok(rt.thread_cpu_time()?.saturating_sub(before))
-}
-
-fn bottom_of(part: &Part) -> Node {
-    match part.changesets.first() {
-        Some(changeset) => changeset.node(),
-        None => Node::NULL,
-    }
 }
 
 fn time_amending(

@@ -1,8 +1,8 @@
 //! Cases of successors sets: markers in chains, each chain from an id that isn't held to a draft root.
-use crate::markers::{marker, node};
-use hg_changeset::{Changeset, Node};
+use crate::chain::{add_draft, empty};
+use crate::markers::{add_marker, node};
+use hg_changeset::Node;
 use hg_instab::Instabilities;
-use hg_phases::Phase;
 use hg_replica::{Part, Replica};
 use hg_succ::several_among;
 use std::alloc::{AllocError, Global};
@@ -72,12 +72,8 @@ fn part_of(
     length: usize,
     are_paired: bool,
 ) -> Result<Part, AllocError> {
-    let mut part = Part {
-        changesets: Vec::new(alloc),
-        bounds: Vec::new(alloc),
-        markers: Vec::new(alloc),
-    };
-    let end = add_root(alloc, &mut part, chain)?;
+    let mut part = empty(alloc);
+    let end = add_draft(alloc, &mut part, Node::NULL, chain)?;
     let first = chain.wrapping_mul(length);
     for step in 0..length {
         let old = match step {
@@ -90,22 +86,7 @@ fn part_of(
         } else {
             end
         };
-        if let Some(marker) = marker(alloc, old, new) {
-            part.markers.push(marker)?;
-        }
+        add_marker(alloc, &mut part, old, new)?;
     }
     Ok(part)
-}
-
-// A draft root with the number as its text.
-fn add_root(alloc: Global, part: &mut Part, number: usize) -> Result<Node, AllocError> {
-    let text = format!(in alloc; "{number}")?;
-    let changeset = match Changeset::new(Node::NULL, Node::NULL, text.into_bytes()) {
-        Ok(changeset) => changeset,
-        Err(_) => return Err(AllocError),
-    };
-    let end = changeset.node();
-    part.changesets.push(changeset)?;
-    part.bounds.push((end, Phase::Draft))?;
-    Ok(end)
 }
