@@ -11,6 +11,7 @@ mod SuspendedLemmas
 pub mod TurnLemmas
 mod SeedLemmas
 mod KeptLemmas
+mod CalmLemmas
 mod FirstLemmas
 pub mod ChangedLemmas
 pub mod NearLemmas
@@ -20,3 +21,4 @@ pub mod SettlingLemmas
 pub mod SolutionLemmas
 pub mod RegionLemmas
 pub mod AfterPublicLemmas
+pub mod AmendLemmas

@@ -22,6 +22,7 @@ use Rattle.hg_instab.specs.Changed.{IsFresh, Follows}
 use Rattle.hg_instab.specs.Instabilities.{IsContentDivergent}
 use Rattle.hg_instab.specs.Near.{IsAfterSeveral, IsForked, IsNamed, IsClosed, AreNearForks, IsRegion}
 use Rattle.hg_instab.proofs.ChangedLemmas.{marker-after, predecessor-after}
+use Rattle.hg_instab.proofs.PrecedeLemmas.{precedes-along}
 
 -- ---- along markers
 
@@ -151,10 +152,8 @@ module _ (f g : Content) (change : ChangeValue) (ms : List Fields) (near region 
       )
 
   precedes-after : (p n : Node) → Precedes f IsAny p n → Precedes g IsAny p n
-  precedes-after p n (step {m = m} held kind at its) =
-      step (marker-after f g change ms follows m held) kind at its
-  precedes-after p n (further {m = m} held kind at r) =
-      further (marker-after f g change ms follows m held) kind at (precedes-after p m.predecessor r)
+  precedes-after p n = precedes-along f g IsAny (λ k. Unit {0})
+      (λ m k held at so. (marker-after f g change ms follows m held, tt)) p n tt
 
   kept-several : (n : Node) → IsKept n → IsAfterSeveral f n ↔ IsAfterSeveral g n
   kept-several n kept = (

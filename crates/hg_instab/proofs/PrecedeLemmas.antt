@@ -4,7 +4,7 @@ use Rattle.hg_changeset.specs.declared.node.Node.{Node}
 use Rattle.hg_marker.specs.Fields.{Fields}
 use Rattle.hg_replica.specs.State.{ReplicaState}
 use Rattle.hg_replica.specs.Content.{Content, content_of}
-use Rattle.hg_replica.specs.Evolution.{IsPredecessor, Precedes, IsCurrent}
+use Rattle.hg_replica.specs.Evolution.{IsMarker, IsPredecessor, Precedes, IsCurrent}
 use Rattle.hg_replica.specs.Evolution.Precedes.{step, further as precedes_further}
 use Rattle.hg_replica.proofs.MarkerLemmas.{holds-from, in_from_holds}
 use Rattle.hg_instab.specs.Walk.{IsReached, IsNext, Leads}
@@ -28,6 +28,15 @@ pub precedes-predecessor : (f : Content) (Kind : Fields → Type 0) (p n : Node)
 precedes-predecessor f Kind p n (step {m = m} held kind at is) = (m, held, is)
 precedes-predecessor f Kind p n (precedes_further {m = m} held kind at r) = precedes-predecessor f Kind p
     m.predecessor r
+
+-- steps over markers of the one content are steps over markers of the other, as long as they lead over what is so
+pub precedes-along : (f g : Content) (Kind : Fields → Type 0) (P : Node → Type 0)
+    → ((m : Fields) (n : Node) → IsMarker f m → Contains m.successors n → P n → IsMarker g m × P m.predecessor)
+    → (p n : Node) → P n → Precedes f Kind p n → Precedes g Kind p n
+precedes-along f g Kind P moves p n so (step {m = m} held kind at is) = step (moves m n held at so).0 kind at is
+precedes-along f g Kind P moves p n so (precedes_further {m = m} held kind at r) =
+    let there = moves m n held at so in
+    precedes_further there.0 kind at (precedes-along f g Kind P moves p m.predecessor there.1 r)
 
 -- of what was reached from predecessors that are so the current ones are those that such a one precedes: no predecessor
 -- is current

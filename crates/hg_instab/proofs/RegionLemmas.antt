@@ -23,7 +23,7 @@ use Rattle.hg_instab.specs.declared.walk.Way.TheVariants.{Both}
 use Rattle.hg_instab.specs.Changed.{IsFresh}
 use Rattle.hg_instab.specs.Instabilities.{IsContentDivergent}
 use Rattle.hg_instab.specs.Near.{IsForked, IsNamed, IsClosed, IsRegion}
-use Rattle.hg_instab.specs.Region.{IsTouched, IsStart}
+use Rattle.hg_instab.specs.Region.{IsTouched, IsStart, AreStarts}
 use Rattle.hg_instab.specs.Walk.{IsReached, IsNext, IsStep, IsFork, IsOfOneAt, Adds}
 use Rattle.hg_instab.proofs.AmongLemmas.{IsAlso}
 use Rattle.hg_instab.proofs.NearLemmas.{so-forward, so-backward}
@@ -114,21 +114,42 @@ module _ (s : ReplicaState) (starts region : List Node)
   region-closed m a b held named also h =
       let at = in_from_holds s.markers m held in down m b at also (up m a at named h)
 
-  pub is-region : (change : ChangeValue) (near xs ys : List Node)
-      → Adds (IsStart s.markers near change.markers) xs ys
-      → Adds (λ n. Contains change.added n × Contains near n) ys starts
+  pub is-region : (change : ChangeValue) (near : List Node) → AreStarts s.markers change near starts
       → IsRegion (content_of s) change s.markers near region
-  is-region change near xs ys a b = record {
+  is-region change near are = record {
     closed = region-closed;
     fresh = λ m n at named close. begun m at (inr (n, named, close));
     forked = λ m at forked. begun m at (inl (forked-fork s m.predecessor forked));
-    added = λ n at close. (walked n).1 (inl ((b.members n).1 (inr (at, close))));
+    added = λ n at close. (walked n).1 (inl ((are n).1 (inr (at, close))));
   }
     where
       begun : (m : Fields) → IsFresh s.markers change m → IsTouched s.markers near m → Contains region m.predecessor
       begun m at touched = (walked m.predecessor).1
-          (inl ((b.members m.predecessor).1
-          (inl ((a.members m.predecessor).1 (inr (at.0, at.1, m, at.2, (touched, refl)))))))
+          (inl ((are m.predecessor).1 (inl (at.0, at.1, m, at.2, (touched, refl)))))
+
+-- what was added to no starts
+pub starts-are : (ms : List Fields) (change : ChangeValue) (near xs ys starts : List Node) → xs ≡ []
+    → Adds (IsStart ms near change.markers) xs ys → Adds (λ n. Contains change.added n × Contains near n) ys starts
+    → AreStarts ms change near starts
+starts-are ms change near xs ys starts none a b n = (
+  λ h. elim ((b.members n).0 h) [
+    | inl first ↦ elim ((a.members n).0 first) [
+      | inl before ↦ absurd (Contains-none n (subst (λ ns. Contains ns n) none before))
+      | inr new ↦ inl new
+    ]
+    | inr added ↦ inr added
+  ],
+  λ h. (b.members n).1 (elim h [ inl new ↦ inl ((a.members n).1 (inr new)) | inr added ↦ inr added ]),
+)
+
+-- what begins nowhere is empty
+pub no-region : (s : ReplicaState) (change : ChangeValue) (near starts : List Node) → starts ≡ []
+    → AreStarts s.markers change near starts → IsRegion (content_of s) change s.markers near []
+no-region s change near starts none are = is-region s [] []
+    (λ n. (
+      λ h. absurd (Contains-none n h),
+      λ h. elim h [ inl first ↦ absurd (Contains-none n first) | inr far ↦ absurd (Contains-none far.0 far.1) ],
+    )) change near (subst (AreStarts s.markers change near) none are)
 
 -- ---- what has several successors sets is the predecessor of a marker
 

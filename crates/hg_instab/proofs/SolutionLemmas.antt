@@ -63,6 +63,24 @@ module _ (s : ReplicaState) (v : IsValid s) (A B : Node → Type 0) where
             λ h. let x = (b n held).0 h in (a n held).1 (x.0, λ c parent. (same c parent).1 (x.1 c parent)),
           )
 
+-- of what is held, what is so exactly where neighbours tell it
+module _ (s : ReplicaState) (v : IsValid s) (A : Node → Type 0)
+    (held : (n : Node) → A n → IsHeld (content_of s).0 n) where
+  pub orphans-solved : ((n : Node) → IsHeld (content_of s).0 n → A n ↔ StandsUnstably (content_of s) A n)
+      → (n : Node) → A n ↔ IsOrphan (content_of s) n
+  orphans-solved told n = (λ h. (one (held n h)).0 h, λ h. (one (h.0.0.0, h.0.0.1)).1 h)
+    where
+      one : IsHeld (content_of s).0 n → A n ↔ IsOrphan (content_of s) n
+      one there = one-orphan s v A (IsOrphan (content_of s)) told (λ m _. orphan-by_parents s v m) n
+          ((content-valid s v).grounded n) there
+
+  pub extinct-solved : ((n : Node) → IsHeld (content_of s).0 n → A n ↔ HoldsNothing (content_of s) A n)
+      → (n : Node) → A n ↔ IsExtinct (content_of s) n
+  extinct-solved told n = (λ h. (one (held n h)).0 h, λ h. (one (h.0.0.0, h.0.0.1)).1 h)
+    where
+      one : IsHeld (content_of s).0 n → A n ↔ IsExtinct (content_of s) n
+      one there = one-extinct s v A (IsExtinct (content_of s)) told (λ m _. extinct-by_children s v m) n there
+
 -- ---- after a change
 
 module _ (s t : ReplicaState) (change : ChangeValue) (v : IsValid s) (w : IsValid t)
@@ -153,10 +171,7 @@ module _ (s t : ReplicaState) (change : ChangeValue) (v : IsValid s) (w : IsVali
       pub orphans-settled : (turned : List Node)
           → IsSettling (changesets t.history) (StandsUnstably (content_of t)) orphan starts turned [] → (n : Node)
           → IsNow orphan turned n ↔ IsOrphan (content_of t) n
-      orphans-settled turned settling n = (
-        λ h. (one n (held n h)).0 h,
-        λ h. (one n (h.0.0.0, h.0.0.1)).1 h,
-      )
+      orphans-settled turned settling = orphans-solved t w (IsNow orphan turned) held told
         where
           held : (n : Node) → IsNow orphan turned n → IsHeld (content_of t).0 n
           held n h = elim h [
@@ -169,10 +184,6 @@ module _ (s t : ReplicaState) (change : ChangeValue) (v : IsValid s) (w : IsVali
           told n there =
               let k = placed-node t w n there in
               settling.told orphans-told n k.0 k.1 (Contains-none k.0)
-
-          one : (n : Node) → IsHeld (content_of t).0 n → IsNow orphan turned n ↔ IsOrphan (content_of t) n
-          one n there = one-orphan t w (IsNow orphan turned) (IsOrphan (content_of t)) told
-              (λ m _. orphan-by_parents t w m) n ((content-valid t w).grounded n) there
 
     module _ (extinct : List Node) (kept : (n : Node) → Contains extinct n ↔ IsExtinct (content_of s) n)
         (below : (k : ℕ) → IsBesideOne Parents (changesets t.history) seeds k → Contains starts k) where
@@ -206,10 +217,7 @@ module _ (s t : ReplicaState) (change : ChangeValue) (v : IsValid s) (w : IsVali
       pub extinct-settled : (turned : List Node)
           → IsSettling (changesets t.history) (HoldsNothing (content_of t)) extinct starts turned [] → (n : Node)
           → IsNow extinct turned n ↔ IsExtinct (content_of t) n
-      extinct-settled turned settling n = (
-        λ h. (one n (held n h)).0 h,
-        λ h. (one n (h.0.0.0, h.0.0.1)).1 h,
-      )
+      extinct-settled turned settling = extinct-solved t w (IsNow extinct turned) held told
         where
           held : (n : Node) → IsNow extinct turned n → IsHeld (content_of t).0 n
           held n h = elim h [
@@ -222,7 +230,3 @@ module _ (s t : ReplicaState) (change : ChangeValue) (v : IsValid s) (w : IsVali
           told n there =
               let k = placed-node t w n there in
               settling.told extinct-told n k.0 k.1 (Contains-none k.0)
-
-          one : (n : Node) → IsHeld (content_of t).0 n → IsNow extinct turned n ↔ IsExtinct (content_of t) n
-          one n there = one-extinct t w (IsNow extinct turned) (IsExtinct (content_of t)) told
-              (λ m _. extinct-by_children t w m) n there

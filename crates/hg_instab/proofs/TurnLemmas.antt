@@ -1,6 +1,6 @@
 -- What comes to a set and goes from it.
-use Rattle.std.proofs.Common.{◌≡◌, ◌≢◌, Bool, false, true≢false, cond, IsTrue, ◌↔◌, ◌⊎◌, inl, inr, List}
-use Rattle.std.proofs.Common.{Contains, sym, ap, ◌∙◌}
+use Rattle.std.proofs.Common.{◌≡◌, ◌≢◌, Bool, false, true≢false, cond, IsTrue, ◌↔◌, ◌⊎◌, inl, inr, List, []}
+use Rattle.std.proofs.Common.{Contains, sym, ap, subst, ◌∙◌}
 use Rattle.std.specs.BTreeMap.{is_at}
 use Rattle.std.specs.BTreeSet.{BTreeSet, Updates, contains}
 use Rattle.std.specs.Cmp.{Equal-is}
@@ -9,9 +9,11 @@ use Rattle.std.proofs.lemmas.Bool.{cases_Bool}
 use Rattle.std.proofs.lemmas.Map.Views.{btree_set_contains_iff}
 use Rattle.hg_changeset.specs.declared.node.Node.{Node}
 use Rattle.hg_changeset.specs.Node.{node_cmp}
+use Rattle.hg_changeset.proofs.ListLemmas.{Contains-none}
 use Rattle.hg_changeset.proofs.NodeLemmas.{node_cmp_total, node_cmp_exact}
 use Rattle.hg_obsstore.proofs.IndexLemmas.{among_or_not}
 use Rattle.hg_succ.proofs.SortedLemmas.{same_members}
+use Rattle.hg_instab.specs.Calm.{IsGrowth, IsRest}
 use Rattle.hg_instab.specs.Changed.{IsNow}
 use Rattle.hg_instab.specs.declared.turn.Turn.{Turn}
 use Rattle.hg_instab.specs.Turns.{IsTurn, IsThen, IsStage, HasCome}
@@ -65,19 +67,67 @@ module _ (set nodes now so : List Node) (turn : Turn)
   )
 
 -- those that turn change sides
-pub turned-now : (set turned now : List Node) → ((n : Node) → Contains now n
-    ↔ (Contains turned n × ¬ (Contains set n))) → (n : Node)
-    → (Contains now n ⊎ (Contains set n × ¬ (Contains turned n))) ↔ IsNow set turned n
-turned-now set turned now is n = (
-  λ h. elim h [ inl those ↦ let x = (is n).0 those in inr (x.1, x.0) | inr stays ↦ inl stays ],
-  λ h. elim h [ inl stays ↦ inr stays | inr new ↦ inl ((is n).1 (new.1, new.0)) ],
-)
+module _ (set turned : List Node) (turn : Turn)
+    (come : (n : Node) → Contains turn.come.items n ↔ (Contains turned n × ¬ (Contains set n)))
+    (gone : (n : Node) → Contains turn.gone.items n ↔ (Contains turned n × Contains set n)) where
+  pub sides-made : IsTurn set turn
+  sides-made = record { come = λ n h. ((come n).0 h).1; gone = λ n h. ((gone n).0 h).1 }
+
+  pub sides-then : (n : Node) → IsThen set turn n ↔ IsNow set turned n
+  sides-then n = (
+    λ h. elim h [
+      | inl c ↦ let x = (come n).0 c in inr (x.1, x.0)
+      | inr stays ↦ inl (stays.0, λ t. stays.1 ((gone n).1 (t, stays.0)))
+    ],
+    λ h. elim h [
+      | inl stays ↦ inr (stays.0, λ g. stays.1 ((gone n).0 g).0)
+      | inr new ↦ inl ((come n).1 (new.1, new.0))
+    ],
+  )
 
 -- what neither comes nor goes is as it was
 pub others-then : (set : List Node) (turn : Turn) (n : Node) → ¬ (Contains turn.come.items n)
     → ¬ (Contains turn.gone.items n) → IsThen set turn n ↔ Contains set n
 others-then set turn n come gone =
     (λ h. elim h [ inl c ↦ absurd (come c) | inr stays ↦ stays.0 ], λ h. inr (h, gone))
+
+-- what comes wasn't there, and nothing goes
+pub grown : (set nodes : List Node) (turn : Turn) → turn.gone.items ≡ []
+    → ((n : Node) → Contains turn.come.items n ↔ (Contains nodes n × ¬ (Contains set n)))
+    → IsGrowth set turn (Contains nodes)
+grown set nodes turn none come n =
+    let stays : Contains set n → IsThen set turn n =
+    λ there. inr (there, λ gone. Contains-none n (subst (λ ns. Contains ns n) none gone)) in (
+      λ h. elim h [ inl c ↦ inr ((come n).0 c).0 | inr was ↦ inl was.0 ],
+      λ h. elim h [
+        | inl there ↦ stays there
+        | inr those ↦ elim (among_or_not set n)
+            [ inl there ↦ stays there | inr out ↦ inl ((come n).1 (those, out)) ]
+      ],
+    )
+
+-- the same of an equal set, by what an equal list of nodes tells
+pub grown-by : (xs set ys nodes : List Node) (turn : Turn) (P : Node → Type 0) → xs ≡ set → ys ≡ nodes
+    → ((n : Node) → Contains nodes n ↔ P n) → IsGrowth xs turn (Contains ys) → IsGrowth set turn P
+grown-by xs set ys nodes turn P same all is grows n =
+    let by : IsThen set turn n ↔ (Contains set n ⊎ Contains nodes n) =
+    subst (λ zs. IsThen set turn n ↔ (Contains set n ⊎ Contains zs n)) all
+    (subst (λ zs. IsThen zs turn n ↔ (Contains zs n ⊎ Contains ys n)) same (grows n)) in (
+      λ h. elim (by.0 h) [ inl was ↦ inl was | inr new ↦ inr ((is n).0 new) ],
+      λ h. by.1 (elim h [ inl was ↦ inl was | inr new ↦ inr ((is n).1 new) ]),
+    )
+
+-- the same of an equal set, to which an equal list of nodes comes
+pub grown-to : (xs set ys nodes : List Node) (turn : Turn) → xs ≡ set → ys ≡ nodes → IsGrowth xs turn (Contains ys)
+    → IsGrowth set turn (Contains nodes)
+grown-to xs set ys nodes turn same all = grown-by xs set ys nodes turn (Contains nodes) same all
+    (λ n. ((λ h. h), (λ h. h)))
+
+-- nothing comes or goes
+pub rested : (set : List Node) (turn : Turn) → turn.come.items ≡ [] → turn.gone.items ≡ [] → IsRest set turn
+rested set turn come gone n = others-then set turn n
+    (λ h. Contains-none n (subst (λ ns. Contains ns n) come h))
+    (λ h. Contains-none n (subst (λ ns. Contains ns n) gone h))
 
 -- what came is taken out again
 pub given_back : (turn : Turn) (before now after : List Node) → IsTurn before turn
@@ -116,11 +166,3 @@ asked-then set nodes now turn Was Is told is was others n = (
     | inr other ↦ inr ((was n).1 ((others n other).0 h), other)
   ]),
 )
-
--- what isn't missing is there
-pub not_missing : (ns : List Node) (n : Node) (missing : Bool) → IsTrue missing ↔ (¬ (Contains ns n))
-    → missing ≡ false → Contains ns n
-not_missing ns n missing told h = elim (among_or_not ns n) [
-  | inl there ↦ there
-  | inr none ↦ absurd (true≢false (sym (told.1 none) ∙ h))
-]

@@ -1,4 +1,6 @@
 pub mod AfterPublic
+pub mod Amend
+pub mod Calm
 pub mod Changed
 pub mod Instabilities
 pub mod Local

@@ -1,7 +1,8 @@
 -- Where the region begins that is asked again.
-use Rattle.std.specs.Prelude.{◌≡◌, ◌⊎◌, ℕ, List, Contains}
+use Rattle.std.specs.Prelude.{◌≡◌, ◌↔◌, ◌⊎◌, ℕ, List, Contains}
 use Rattle.hg_changeset.specs.declared.node.Node.{Node}
 use Rattle.hg_marker.specs.Fields.{Fields}
+use Rattle.hg_replica.specs.Change.{ChangeValue}
 use Rattle.hg_instab.specs.Near.{IsNamed}
 use Rattle.hg_instab.specs.Walk.{IsFork, IsOfOneAt}
 
@@ -20,3 +21,9 @@ IsStartOf ms near m n = IsTouched ms near m × (m.predecessor ≡ n)
 -- such a marker at one of the places rewrote it
 abbrev pub IsStart : List Fields → List Node → List ℕ → Node → Type 0
 IsStart ms near places n = IsOfOneAt (IsStartOf ms near) ms places n
+
+-- they are where the region begins that is asked again: what such new markers rewrote, and what was added where it was
+-- near forks
+abbrev pub AreStarts : List Fields → ChangeValue → List Node → List Node → Type 0
+AreStarts ms change near starts = (n : Node)
+    → Contains starts n ↔ (IsStart ms near change.markers n ⊎ (Contains change.added n × Contains near n))

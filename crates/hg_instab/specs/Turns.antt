@@ -41,6 +41,10 @@ pub record AreTurns (sets : InstabilitySets) (turns : Turns) : Type 0 where
   pub after_public : IsTurn sets.after_public turns.after_public
   pub near_forks : IsTurn sets.near_forks turns.near_forks
 
+-- a turn of the content-divergent changesets, and one of the ids near forks
+abbrev pub AreDivergenceTurns : InstabilitySets → Turn × Turn → Type 0
+AreDivergenceTurns sets turns = IsTurn sets.content_divergent turns.0 × IsTurn sets.near_forks turns.1
+
 pub record AreStages (turns : Turns) (before now : InstabilitySets) : Type 0 where
   pub obsolete : IsStage turns.obsolete.come.items before.obsolete now.obsolete
   pub orphan : IsStage turns.orphan.come.items before.orphan now.orphan
@@ -73,6 +77,11 @@ pub record AreThen (before : InstabilitySets) (turns : Turns) (after : Instabili
       ↔ IsThen before.content_divergent turns.content_divergent n
   pub after_public : (n : Node) → Contains after.after_public n ↔ IsThen before.after_public turns.after_public n
   pub near_forks : (n : Node) → Contains after.near_forks n ↔ IsThen before.near_forks turns.near_forks n
+
+-- what the two turns leave of content-divergent changesets and of ids near forks is what those sets of g are to have
+pub record IsDivergenceTold (g : Content) (sets : InstabilitySets) (turns : Turn × Turn) : Type 0 where
+  pub content_divergent : (n : Node) → IsThen sets.content_divergent turns.0 n ↔ IsContentDivergent g n
+  pub near_forks : AreNearForks g (IsThen sets.near_forks turns.1)
 
 -- what each turn leaves is what the set of g is to have
 pub record AreTold (g : Content) (sets : InstabilitySets) (turns : Turns) : Type 0 where

@@ -60,6 +60,24 @@ pub(crate) fn current_among(
     )
 }
 
+// Those of the nodes that the set has.
+pub(crate) fn inside(
+    alloc: Global,
+    nodes: &[Node],
+    set: &BTreeSet<Node>,
+) -> Result<Vec<Node>, AllocError>
+    ensures { IfOk result (λ found. (n : Node) → Contains found.items n
+        ↔ (Contains nodes.now n × Contains set.now.keys n)) }
+{
+    among(alloc, nodes, |node| has(set, node))
+}
+
+pub(crate) fn has(set: &BTreeSet<Node>, node: Node) -> bool
+    ensures { IsTrue result ↔ Contains set.now.keys node }
+{
+    set.contains(&node)
+}
+
 // Those of the nodes that the set hasn't.
 pub(crate) fn outside(
     alloc: Global,

@@ -6,7 +6,9 @@
 #![tactic(auto)]
 
 mod after_public;
+mod amend;
 mod among;
+mod calm;
 mod divergence;
 mod extinct_walk;
 mod first;

@@ -2,11 +2,12 @@
 //!
 //! Nothing far from a fork became different changesets with the markers that are followed, so where a change comes near
 //! none nothing is asked.
-ghost use Rattle.std.specs.Prelude.{◌↔◌, Contains, IfOk, OnOk, IsTrue};
+ghost use Rattle.std.specs.Prelude.{◌↔◌, List, Contains, IfOk, OnOk, IsTrue};
 ghost use Rattle.hg_changeset.specs.declared.node.Node.{Node};
+ghost use Rattle.hg_replica.specs.Change.{ChangeValue};
 ghost use Rattle.hg_replica.specs.Content.{content_of};
 ghost use Rattle.hg_instab.specs.Near.{IsNamed, IsRegion};
-ghost use Rattle.hg_instab.specs.Region.{IsOneNear, IsTouched, IsStartOf, IsStart};
+ghost use Rattle.hg_instab.specs.Region.{IsOneNear, IsTouched, IsStartOf, IsStart, AreStarts};
 ghost use Rattle.hg_instab.specs.Walk.{Adds};
 
 use crate::divergence::is_fork;
@@ -29,9 +30,35 @@ pub(crate) fn region(
     ensures { IfOk result (λ region. IsRegion (content_of replica.now) change.now replica.now.markers near.now.keys
         region.keys) }
 {
+    let starts = region_starts(alloc, replica, change, near)?;
+    region_from(replica, starts)
+}
+
+// Where the region begins: at what those new markers rewrote that make a fork, or name an id that was near one; and at
+// what was added and was near one.
+pub(crate) fn region_starts(
+    alloc: Global,
+    replica: &Replica,
+    change: &Change,
+    near: &BTreeSet<Node>,
+) -> Result<IndexSet<Node>, AllocError>
+    ensures { IfOk result (λ starts. AreStarts replica.now.markers change.now near.now.keys starts.keys) }
+{
     let mut starts = IndexSet::new(alloc);
     add_rewritten(replica.store(), &change.markers, near, &mut starts)?;
     add_near(&change.added, near, &mut starts)?;
+    Ok(starts)
+}
+
+// The region that begins so.
+pub(crate) fn region_from(
+    replica: &Replica,
+    starts: IndexSet<Node>,
+) -> Result<IndexSet<Node>, AllocError>
+    ensures { IfOk result (λ region. (change : ChangeValue) (near : List Node)
+        → AreStarts replica.now.markers change near starts.keys
+        → IsRegion (content_of replica.now) change replica.now.markers near region.keys) }
+{
     reached(replica.store(), Way::Both, starts)
 }
 
@@ -86,7 +113,7 @@ fn is_one_near(nodes: &[Node], near: &BTreeSet<Node>) -> bool
     nodes.iter().any(|node| near.contains(node))
 }
 
-fn is_near(node: Node, near: &BTreeSet<Node>) -> bool
+pub(crate) fn is_near(node: Node, near: &BTreeSet<Node>) -> bool
     ensures { IsTrue result ↔ Contains near.now.keys node }
 {
     near.contains(&node)

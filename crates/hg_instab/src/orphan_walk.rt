@@ -69,7 +69,7 @@ pub(crate) fn is_orphan_now(
 }
 
 // Whether a parent is obsolete, or an orphan now.
-fn stands_on_unstable(
+pub(crate) fn stands_on_unstable(
     replica: &Replica,
     orphan: &BTreeSet<Node>,
     turned: &BTreeSet<Node>,

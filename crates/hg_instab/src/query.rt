@@ -80,7 +80,7 @@ fn is_mutable(replica: &Replica, node: Node) -> bool
 }
 
 // Whether some marker has it as its predecessor.
-fn is_predecessor(replica: &Replica, node: Node) -> bool
+pub(crate) fn is_predecessor(replica: &Replica, node: Node) -> bool
     ensures { IsTrue result ↔ IsPredecessor (content_of replica.now) node }
 {
     is_predecessor_near(replica, node, Hint::NOWHERE)

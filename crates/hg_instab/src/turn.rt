@@ -6,10 +6,11 @@ ghost use Rattle.std.specs.Prelude.{◌≡◌, ◌↔◌, ◌⊎◌, List, Conta
 ghost use Rattle.std.specs.List.Sorted.{IsStrictlySortedBy};
 ghost use Rattle.hg_changeset.specs.declared.node.Node.{Node};
 ghost use Rattle.hg_changeset.specs.Node.{node_cmp};
+ghost use Rattle.hg_instab.specs.Calm.{IsGrowth, IsRest};
 ghost use Rattle.hg_instab.specs.Changed.{IsNow};
 ghost use Rattle.hg_instab.specs.Turns.{IsTurn, IsThen, IsStage, HasCome};
 
-use crate::among::{among, is_missing, outside, set_of};
+use crate::among::{among, has, inside, is_missing, outside, set_of};
 use hg_changeset::Node;
 use std::alloc::{AllocError, Global};
 use std::collections::BTreeSet;
@@ -48,8 +49,36 @@ impl Turn {
         ensures turn { IfOk result (IsTurn set.now.keys) }
         ensures then { IfOk result (λ turn. (n : Node) → IsThen set.now.keys turn n ↔ IsNow set.now.keys turned.now n) }
     {
-        let now = outside(alloc, turned, set)?;
-        Turn::to(alloc, set, turned, now)
+        let come = outside(alloc, turned, set)?;
+        let gone = inside(alloc, turned, set)?;
+        Ok(Turn { come, gone })
+    }
+
+    // Those of the nodes that the set hasn't come to it, and nothing goes.
+    pub(crate) fn growing(
+        alloc: Global,
+        set: &BTreeSet<Node>,
+        nodes: &[Node],
+    ) -> Result<Turn, AllocError>
+        ensures turn { IfOk result (IsTurn set.now.keys) }
+        ensures then { IfOk result (λ turn. IsGrowth set.now.keys turn (Contains nodes.now)) }
+    {
+        let come = outside(alloc, nodes, set)?;
+        Ok(Turn {
+            come,
+            gone: Vec::new(alloc),
+        })
+    }
+
+    // Nothing comes, and nothing goes.
+    pub(crate) fn none(alloc: Global) -> Turn
+        ensures turn { (set : List Node) → IsTurn set result }
+        ensures then { (set : List Node) → IsRest set result }
+    {
+        Turn {
+            come: Vec::new(alloc),
+            gone: Vec::new(alloc),
+        }
     }
 
     // All that comes and all that goes.
@@ -111,7 +140,7 @@ fn going(
 fn goes(set: &BTreeSet<Node>, now: &BTreeSet<Node>, node: Node) -> bool
     ensures { IsTrue result ↔ (Contains set.now.keys node × ¬ (Contains now.now.keys node)) }
 {
-    !is_missing(set, node) && is_missing(now, node)
+    has(set, node) && is_missing(now, node)
 }
 
 // Inserts the nodes. Where memory is refused, some of them may be there.

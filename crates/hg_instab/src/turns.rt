@@ -7,16 +7,20 @@ ghost use Rattle.hg_replica.specs.Content.{Content, content_of};
 ghost use Rattle.hg_replica.specs.Evolution.{IsObsolete, IsCurrent, IsOrphan, IsSuspended, IsExtinct, IsPhaseDivergent};
 ghost use Rattle.hg_instab.specs.Changed.{Follows, IsChangedTo, IsSeed, IsNow};
 ghost use Rattle.hg_instab.specs.Instabilities.{AreInstabilities, IsContentDivergent};
-ghost use Rattle.hg_instab.specs.Near.{IsClosed};
+ghost use Rattle.hg_instab.specs.Near.{IsAfterPublic, IsClosed};
+ghost use Rattle.hg_instab.specs.Region.{AreStarts};
 ghost use Rattle.hg_instab.specs.Turns.{AreTurns, AreTold, IsTurn, IsThen};
+ghost use Rattle.hg_instab.specs.Turns.{AreDivergenceTurns, IsDivergenceTold};
 
 use crate::after_public::newly_after_public;
-use crate::among::{among, current_among, obsolete_among, set_of};
+use crate::amend::{amend_of, turns_by_amend};
+use crate::among::{among, has, obsolete_among, set_of};
+use crate::calm::{are_calm, calm_turns};
 use crate::divergence::divergent_within;
 use crate::extinct_walk::turned_extinct;
 use crate::holders::Holders;
 use crate::instabilities::Instabilities;
-use crate::near::region;
+use crate::near::{region_from, region_starts};
 use crate::orphan_walk::turned_orphans;
 use crate::query::{is_current, is_obsolete};
 use crate::seeds::seeds;
@@ -71,15 +75,43 @@ impl Turns {
         // It says that the replica is in a valid state.
         let _graph = replica.graph();
         let seeds = seeds(alloc, replica, change)?;
-        let obsolete = obsolete_turn(alloc, replica, sets.obsolete(), &seeds)?;
-        let orphan = orphan_turn(alloc, replica, sets.orphan(), &seeds, &obsolete)?;
-        let held = turned_extinct(alloc, replica, sets.extinct(), holders, &seeds)?;
-        let extinct = turn_of_set(alloc, sets.extinct(), &held)?;
-        let suspended = suspended_turn(alloc, replica, sets, &seeds, &held)?;
         let met = newly_after_public(alloc, replica, change, sets.after_public())?;
-        let phase_divergent = phase_turn(alloc, replica, sets, &seeds, &met)?;
-        let region = region(alloc, replica, change, sets.near_forks())?;
-        let content_divergent = content_turn(alloc, replica, sets, &seeds, &region)?;
+        let starts = region_starts(alloc, replica, change, sets.near_forks())?;
+        if met.is_empty() && starts.is_empty() && are_calm(alloc, replica, sets, holders, &seeds) {
+            return calm_turns(alloc, replica, sets, &seeds);
+        }
+        Turns::asked(alloc, sets, holders, replica, change, &seeds, &met, starts)
+    }
+
+    // The same by asking again whatever can have turned.
+    fn asked(
+        alloc: Global,
+        sets: &Instabilities,
+        holders: &mut Holders,
+        replica: &Replica,
+        change: &Change,
+        seeds: &[Node],
+        met: &IndexSet<Node>,
+        starts: IndexSet<Node>,
+    ) -> Result<Turns, AllocError>
+        ensures turns { IfOk result (AreTurns sets.now) }
+        ensures told { IfOk result (λ turns. (s : ReplicaState) → IsValid replica.now
+            → IsChangedTo s change.now replica.now → AreInstabilities (content_of s) sets.now
+            → ((n : Node) → IsSeed replica.now.markers change.now n → Contains seeds.now n)
+            → ((n : Node) → IsAfterPublic (content_of replica.now) n
+            ↔ (Contains sets.now.after_public n ⊎ Contains met.now.keys n))
+            → AreStarts replica.now.markers change.now sets.now.near_forks starts.keys
+            → AreTold (content_of replica.now) sets.now turns) }
+    {
+        let obsolete = obsolete_turn(alloc, replica, sets.obsolete(), seeds)?;
+        let orphan = orphan_turn(alloc, replica, sets.orphan(), seeds, &obsolete)?;
+        let held = turned_extinct(alloc, replica, sets.extinct(), holders, seeds)?;
+        let extinct = turn_of_set(alloc, sets.extinct(), &held)?;
+        let suspended = suspended_turn(alloc, replica, sets, seeds, &held)?;
+        let phase_divergent = phase_turn(alloc, replica, sets, seeds, met)?;
+        let (content_divergent, near_forks) = divergence_turns(
+            alloc, replica, change, sets, seeds, starts,
+        )?;
         Ok(Turns {
             obsolete,
             orphan,
@@ -87,8 +119,8 @@ impl Turns {
             extinct,
             phase_divergent,
             content_divergent,
-            after_public: growth(alloc, sets.after_public(), &met)?,
-            near_forks: growth(alloc, sets.near_forks(), &region)?,
+            after_public: Turn::growing(alloc, sets.after_public(), met.as_slice())?,
+            near_forks,
         })
     }
 }
@@ -237,6 +269,48 @@ fn is_current_after(
     is_current(replica, node) && (has(after_public, node) || has_met(met, node))
 }
 
+// The content-divergent changesets, and the ids near forks: an amend turns two ids, and any other change the region
+// that begins so.
+fn divergence_turns(
+    alloc: Global,
+    replica: &Replica,
+    change: &Change,
+    sets: &Instabilities,
+    seeds: &[Node],
+    starts: IndexSet<Node>,
+) -> Result<(Turn, Turn), AllocError>
+    ensures turns { IfOk result (AreDivergenceTurns sets.now) }
+    ensures told { IfOk result (λ turns. (s : ReplicaState) → IsValid replica.now
+        → IsChangedTo s change.now replica.now → ((n : Node) → IsSeed replica.now.markers change.now n
+        → Contains seeds.now n) → AreStarts replica.now.markers change.now sets.now.near_forks starts.keys
+        → AreInstabilities (content_of s) sets.now → IsDivergenceTold (content_of replica.now) sets.now turns) }
+{
+    match amend_of(replica, change, sets.near_forks()) {
+        Some(amend) => turns_by_amend(alloc, replica, sets, amend),
+        None => turns_by_region(alloc, replica, sets, seeds, starts),
+    }
+}
+
+// The same by the region that is asked again.
+fn turns_by_region(
+    alloc: Global,
+    replica: &Replica,
+    sets: &Instabilities,
+    seeds: &[Node],
+    starts: IndexSet<Node>,
+) -> Result<(Turn, Turn), AllocError>
+    ensures turns { IfOk result (AreDivergenceTurns sets.now) }
+    ensures told { IfOk result (λ turns. (s : ReplicaState) (change : ChangeValue) → IsValid replica.now
+        → IsChangedTo s change replica.now → ((n : Node) → IsSeed replica.now.markers change n
+        → Contains seeds.now n) → AreStarts replica.now.markers change sets.now.near_forks starts.keys
+        → AreInstabilities (content_of s) sets.now → IsDivergenceTold (content_of replica.now) sets.now turns) }
+{
+    let region = region_from(replica, starts)?;
+    let content_divergent = content_turn(alloc, replica, sets, seeds, &region)?;
+    let near_forks = Turn::growing(alloc, sets.near_forks(), region.as_slice())?;
+    Ok((content_divergent, near_forks))
+}
+
 // The content-divergent changesets: those of the region are asked again, and those of the seeds whether they are
 // current still.
 fn content_turn(
@@ -310,16 +384,6 @@ fn is_divergent_now(
     has(set, node) && is_current(replica, node)
 }
 
-// What comes to a set that only grows.
-fn growth(alloc: Global, set: &BTreeSet<Node>, met: &IndexSet<Node>) -> Result<Turn, AllocError>
-    ensures turn { IfOk result (IsTurn set.now.keys) }
-    ensures told { IfOk result (λ turn. (n : Node) → IsThen set.now.keys turn n
-        ↔ (Contains set.now.keys n ⊎ Contains met.now.keys n)) }
-{
-    let met = met.as_slice().to_vec(alloc)?;
-    Turn::to(alloc, set, &[], met)
-}
-
 // The turn of those that a walk found to turn.
 fn turn_of_set(
     alloc: Global,
@@ -332,12 +396,6 @@ fn turn_of_set(
 {
     let turned = list_of(alloc, turned)?;
     Turn::of(alloc, set, &turned)
-}
-
-fn has(set: &BTreeSet<Node>, node: Node) -> bool
-    ensures { IsTrue result ↔ Contains set.now.keys node }
-{
-    set.contains(&node)
 }
 
 fn has_met(met: &IndexSet<Node>, node: Node) -> bool

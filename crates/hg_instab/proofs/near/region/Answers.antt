@@ -1,32 +1,6 @@
-use Rattle.std.proofs.Common.{◌≡◌, ℕ, List, Contains, ◌↔◌, ap, subst, ◌∙◌}
 use Rattle.std.proofs.lemmas.Result.{IfOk-weaker}
-use Rattle.hg_changeset.specs.declared.node.Node.{Node}
-use Rattle.hg_marker.specs.Fields.{Fields}
-use Rattle.hg_replica.specs.Change.{ChangeValue}
-use Rattle.hg_instab.specs.declared.walk.Way.TheVariants.{Both}
-use Rattle.hg_instab.specs.Region.{IsStart}
-use Rattle.hg_instab.specs.Walk.{IsReached, IsStep, Adds}
-use Rattle.hg_instab.proofs.RegionLemmas.{is-region}
 use Rattle.hg_instab.proofs.near.region.Goals as goal
 
 pub returns : goal.returns
-returns c =
-    let s = c.args.replica.now in
-    let change = c.args.change.now in
-    let near = c.args.near.now.keys in
-    let xs = c.new-starts.result.keys in
-    let ys = c.add_rewritten.new.starts.keys in
-    let starts = c.add_near.new.starts.keys in
-    let markers : c.deref.result.now ≡ change.markers =
-    c.deref.ensures.value ∙ ap (λ (v : ChangeValue). v.markers) c.change.view_is in
-    let added : c.deref-2.result.now ≡ change.added =
-    c.deref-2.ensures.value ∙ ap (λ (v : ChangeValue). v.added) c.change.view_is in
-    let rewritten = subst (λ (ms : List Fields). Adds (IsStart ms near change.markers) xs ys) c.store.ensures
-    (subst (λ (ps : List ℕ). Adds (IsStart c.store.result.now near ps) xs ys) markers
-    c.in_ok-add_rewritten.ensures) in
-    let new = subst (λ (ns : List Node). Adds (λ n. Contains ns n × Contains near n) ys starts) added
-    c.in_ok-add_near.ensures in
-    IfOk-weaker c.reached.result _ _
-    (λ region walked. is-region s starts region.keys
-    (subst (λ (ms : List Fields). (n : Node) → Contains region.keys n ↔ IsReached (IsStep Both ms) starts n)
-    c.store-2.ensures walked) change near xs ys rewritten new) c.reached.ensures
+returns c = IfOk-weaker c.region_from.result _ _
+    (λ region is. is c.args.change.now c.args.near.now.keys c.in_ok-starts.ensures) c.region_from.ensures

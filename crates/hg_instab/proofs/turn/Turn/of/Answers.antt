@@ -1,9 +1,10 @@
-use Rattle.std.proofs.lemmas.Result.{IfOk-weaker}
-use Rattle.hg_instab.proofs.SetLemmas.{along}
-use Rattle.hg_instab.proofs.TurnLemmas.{turned-now}
+use Rattle.hg_instab.proofs.TurnLemmas.{sides-made, sides-then}
 use Rattle.hg_instab.proofs.turn.Turn.of.Goals as goal
 
+pub returns-clause-turn : goal.returns-clause-turn
+returns-clause-turn c = sides-made c.args.set.now.keys c.args.turned.now
+    (record { come = c.in_ok-come.come; gone = c.in_ok-gone.gone }) c.in_ok-come.ensures c.in_ok-gone.ensures
+
 pub returns-clause-then : goal.returns-clause-then
-returns-clause-then c = IfOk-weaker c.to.result _ _
-    (λ turn told n. along (told n) (turned-now c.args.set.now.keys c.args.turned.now c.in_ok-now.now.items
-    c.in_ok-now.ensures n)) c.to.ensures.then
+returns-clause-then c = sides-then c.args.set.now.keys c.args.turned.now
+    (record { come = c.in_ok-come.come; gone = c.in_ok-gone.gone }) c.in_ok-come.ensures c.in_ok-gone.ensures

@@ -1,0 +1,282 @@
+-- Where all that a change touched is calm, only what it rewrote turns.
+use Rattle.std.proofs.Common.{◌≡◌, ◌↔◌, ◌⊎◌, inl, inr, sym, subst, ◌∙◌, List, [], Contains}
+use Rattle.hg_changeset.specs.declared.node.Node.{Node}
+use Rattle.hg_changeset.proofs.ListLemmas.{Contains-none}
+use Rattle.hg_obsstore.proofs.IndexLemmas.{among_or_not}
+use Rattle.hg_graph.specs.Graph.{IsParent}
+use Rattle.hg_phases.specs.State.{changesets}
+use Rattle.hg_history.specs.Content.{IsHeld}
+use Rattle.hg_history.proofs.ContentLemmas.{node_in_content, content-node}
+use Rattle.hg_history.proofs.FirstFaultLemmas.{held_or_not}
+use Rattle.hg_replica.specs.State.{ReplicaState, IsValid}
+use Rattle.hg_replica.specs.Change.{ChangeValue}
+use Rattle.hg_replica.specs.Content.{Content, content_of}
+use Rattle.hg_replica.specs.Evolution.{IsPredecessor, IsObsolete, IsCurrent, IsOrphan, IsSuspended, IsExtinct}
+use Rattle.hg_replica.specs.Evolution.{IsPhaseDivergent}
+use Rattle.hg_instab.specs.Calm.{IsCalm, IsRetired, AreCalmTurns}
+use Rattle.hg_instab.specs.Changed.{Follows, IsSeed}
+use Rattle.hg_instab.specs.declared.turns.Turns.{Turns}
+use Rattle.hg_instab.specs.Instabilities.{IsContentDivergent, InstabilitySets, AreInstabilities}
+use Rattle.hg_instab.specs.Local.{IsParentOf, StandsUnstably, HoldsNothing}
+use Rattle.hg_instab.specs.Near.{IsAfterPublic, IsRegion}
+use Rattle.hg_instab.specs.Turns.{IsThen, AreTold}
+use Rattle.hg_instab.proofs.ChangedLemmas.{predecessor-after, obsolete-untouched, current-untouched}
+use Rattle.hg_instab.proofs.KeptLemmas.{suspended-told, near-same, flip}
+use Rattle.hg_instab.proofs.LocalLemmas.{orphan-by_parents, extinct-by_children}
+use Rattle.hg_instab.proofs.NearLemmas.{near-after, outside-divergent}
+use Rattle.hg_instab.proofs.SetLemmas.{along}
+use Rattle.hg_instab.proofs.SettlingLemmas.{parent-held}
+use Rattle.hg_instab.proofs.SolutionLemmas.{orphans-solved, extinct-solved}
+
+-- neither of two that both need a third
+neither : {A B : Type 0} → ¬ A → ¬ B → A ↔ B
+neither a b = (λ h. absurd (a h), λ h. absurd (b h))
+
+module _ (s t : ReplicaState) (change : ChangeValue) (v : IsValid s) (w : IsValid t)
+    (follows : Follows (content_of s) (content_of t) change t.markers) (sets : InstabilitySets)
+    (at : AreInstabilities (content_of s) sets) (seeds : List Node)
+    (seeded : (n : Node) → IsSeed t.markers change n → Contains seeds n)
+    (calm : (n : Node) → Contains seeds n → IsHeld (content_of t).0 n → IsCalm (content_of t) sets n) where
+  abbrev f : Content
+  f = content_of s
+
+  abbrev g : Content
+  g = content_of t
+
+  still-held : (n : Node) → IsHeld f.0 n → IsHeld g.0 n
+  still-held n held = let h = follows.above n held.0 held.1 in (h.0, h.1)
+
+  module _ (n : Node) (out : ¬ (Contains seeds n)) where
+    still-obsolete : IsObsolete g n ↔ IsObsolete f n
+    still-obsolete = obsolete-untouched f g change t.markers follows n (λ seed. out (seeded n seed))
+
+    still-current : IsCurrent g n ↔ IsCurrent f n
+    still-current = current-untouched f g change t.markers follows n (λ seed. out (seeded n seed))
+
+    still : g.0 n ≡ f.0 n
+    still = follows.same n (λ moved. out (seeded n (inl moved)))
+
+  -- what was obsolete, and what is retired
+  calm-obsolete : (n : Node) → (Contains sets.obsolete n ⊎ IsRetired g seeds n) ↔ IsObsolete g n
+  calm-obsolete n = (
+    λ h. elim h [
+      | inl was ↦ let o = (at.obsolete n).0 was in elim (among_or_not seeds n) [
+        | inl in_it ↦ elim (calm n in_it (still-held n (o.0.0, o.0.1))).rewritten [
+          | inl nothing ↦ nothing.0
+          | inr none ↦ absurd (none (predecessor-after f g change t.markers follows n o.1))
+        ]
+        | inr out ↦ (still-obsolete n out).1 o
+      ]
+      | inr retired ↦ retired.1
+    ],
+    λ o. elim (among_or_not seeds n) [
+      | inl in_it ↦ inr (in_it, o)
+      | inr out ↦ inl ((at.obsolete n).1 ((still-obsolete n out).0 o))
+    ],
+  )
+
+  -- what stands on what is retired was extinct
+  on-retired : (p c : Node) → IsRetired g seeds p → IsParentOf g p c → IsExtinct f c
+  on-retired p c retired parent =
+      let o = retired.1 in
+      elim (calm p retired.0 (o.0.0, o.0.1)).rewritten [
+        | inl nothing ↦ (at.extinct c).0 (nothing.1 c parent)
+        | inr none ↦ absurd (none o.1)
+      ]
+
+  -- ---- orphans
+
+  orphan-told : (n : Node) → IsHeld g.0 n
+      → Contains sets.orphan n ↔ StandsUnstably g (Contains sets.orphan) n
+  orphan-told n held = elim (among_or_not seeds n) [
+    | inl in_it ↦
+        let here = calm n in_it held in
+        neither here.apart.orphan (λ h. here.parents h.1.0 h.1.1 h.1.2)
+    | inr out ↦ (
+      λ h. let x = (orphan-by_parents s v n).0 ((at.orphan n).0 h) in (
+        (still-current n out).1 x.0,
+        (
+          x.1.0,
+          (x.1.1.0, still n out ∙ x.1.1.1, x.1.1.2),
+          elim x.1.2 [
+            | inl o ↦ inl ((calm-obsolete x.1.0).0 (inl ((at.obsolete x.1.0).1 o)))
+            | inr o ↦ inr ((at.orphan x.1.0).1 o)
+          ],
+        ),
+      ),
+      λ h.
+          let current = (still-current n out).0 h.0 in
+          let was : (IsObsolete g h.1.0 ⊎ Contains sets.orphan h.1.0) → IsObsolete f h.1.0 ⊎ IsOrphan f h.1.0 =
+          λ x. elim x [
+            | inl o ↦ elim ((calm-obsolete h.1.0).1 o) [
+              | inl old ↦ inl ((at.obsolete h.1.0).0 old)
+              | inr retired ↦ absurd (current.1 (on-retired h.1.0 n retired h.1.1).0)
+            ]
+            | inr o ↦ inr ((at.orphan h.1.0).0 o)
+          ] in
+          (at.orphan n).1 ((orphan-by_parents s v n).1
+          (current, (h.1.0, (h.1.1.0, sym (still n out) ∙ h.1.1.1, h.1.1.2), was h.1.2))),
+    )
+  ]
+
+  calm-orphan : (n : Node) → Contains sets.orphan n ↔ IsOrphan g n
+  calm-orphan = orphans-solved t w (Contains sets.orphan)
+      (λ n h. let o = (at.orphan n).0 h in still-held n (o.0.0.0, o.0.0.1)) orphan-told
+
+  -- ---- extinct
+
+  abbrev IsGone : Node → Type 0
+  IsGone n = Contains sets.extinct n ⊎ IsRetired g seeds n
+
+  extinct-told : (n : Node) → IsHeld g.0 n → IsGone n ↔ HoldsNothing g IsGone n
+  extinct-told n held = elim (among_or_not seeds n) [
+    | inl in_it ↦ elim (calm n in_it held).rewritten [
+      | inl nothing ↦ (
+        λ _. (nothing.0, λ c parent. inl (nothing.1 c parent)),
+        λ _. inr (in_it, nothing.0),
+      )
+      | inr none ↦ neither
+          (λ h. elim h [
+            | inl was ↦ none (predecessor-after f g change t.markers follows n ((at.extinct n).0 was).0.1)
+            | inr retired ↦ none retired.1.1
+          ])
+          (λ h. none h.0.1)
+    ]
+    | inr out ↦
+        let apart : (c : Node) → IsParentOf g n c → IsObsolete g n → ¬ (Contains seeds c) =
+        λ c parent o there. (calm c there (parent.0, parent.1)).parents n parent (inl o) in (
+          λ h.
+              let was : IsExtinct f n = elim h
+              [ inl x ↦ (at.extinct n).0 x | inr retired ↦ absurd (out retired.0) ] in
+              let x = (extinct-by_children s v n).0 was in
+              let o = (still-obsolete n out).1 x.0 in (
+                o,
+                λ c parent. inl ((at.extinct c).1 (x.1 c
+                    (parent.0, sym (still c (apart c parent o)) ∙ parent.1, parent.2))),
+              ),
+          λ h. inl ((at.extinct n).1 ((extinct-by_children s v n).1 (
+            (still-obsolete n out).0 h.0,
+            λ c parent.
+                let after = follows.above c parent.0 parent.1 in
+                let now : IsParentOf g n c = (after.0, after.1, subst (λ d. IsParent d n) (sym after.2) parent.2) in
+                elim (h.1 c now)
+                [ inl x ↦ (at.extinct c).0 x | inr retired ↦ absurd (apart c now h.0 retired.0) ],
+          ))),
+        )
+  ]
+
+  calm-extinct : (n : Node) → IsGone n ↔ IsExtinct g n
+  calm-extinct = extinct-solved t w IsGone held extinct-told
+    where
+      held : (n : Node) → IsGone n → IsHeld g.0 n
+      held n h = elim h [
+        | inl x ↦ let o = ((at.extinct n).0 x).0 in still-held n (o.0.0, o.0.1)
+        | inr retired ↦ let o = retired.1 in (o.0.0, o.0.1)
+      ]
+
+  -- ---- suspended
+
+  gone-or : (n : Node) → IsGone n ⊎ (¬ (IsGone n))
+  gone-or n = elim (among_or_not sets.extinct n) [
+    | inl x ↦ inl (inl x)
+    | inr none ↦ elim (among_or_not seeds n) [
+      | inl in_it ↦ elim (held_or_not (changesets t.history) n) [
+        | inl held ↦ elim (calm n in_it (content-node t.history w.graph n held)).rewritten [
+          | inl nothing ↦ inl (inr (in_it, nothing.0))
+          | inr not ↦ inr (λ h. elim h [ inl x ↦ none x | inr retired ↦ not retired.1.1 ])
+        ]
+        | inr not ↦ inr (λ h. elim h [
+          | inl x ↦ none x
+          | inr retired ↦
+              let m = retired.1.0 in not (node_in_content t.history w.graph n (m.0, m.1))
+        ])
+      ]
+      | inr out ↦ inr (λ h. elim h [ inl x ↦ none x | inr retired ↦ out retired.0 ])
+    ]
+  ]
+
+  calm-suspended : (n : Node) → Contains sets.suspended n ↔ IsSuspended g n
+  calm-suspended n = along by (flip (suspended-told t w IsGone gone-or calm-extinct n))
+    where
+      was : IsSuspended f n ↔ (IsObsolete f n × ¬ (Contains sets.extinct n))
+      was = suspended-told s v (Contains sets.extinct) (among_or_not sets.extinct) at.extinct n
+
+      by : Contains sets.suspended n ↔ (IsObsolete g n × ¬ (IsGone n))
+      by = elim (among_or_not seeds n) [
+        | inl in_it ↦ neither
+            (λ h.
+            let o = ((at.suspended n).0 h).0 in
+            (calm n in_it (still-held n (o.0.0, o.0.1))).apart.suspended h)
+            (λ h. h.1 (inr (in_it, h.0)))
+        | inr out ↦ (
+          λ h. let x = was.0 ((at.suspended n).0 h) in (
+            (still-obsolete n out).1 x.0,
+            λ gone. elim gone [ inl e ↦ x.1 e | inr retired ↦ out retired.0 ],
+          ),
+          λ h. (at.suspended n).1 (was.1 ((still-obsolete n out).0 h.0, λ e. h.1 (inl e))),
+        )
+      ]
+
+  -- ---- divergent
+
+  module _ (met : List Node) (none : met ≡ [])
+      (after : (n : Node) → IsAfterPublic g n ↔ (Contains sets.after_public n ⊎ Contains met n)) where
+    calm-after : (n : Node) → Contains sets.after_public n ↔ IsAfterPublic g n
+    calm-after n = (
+      λ h. (after n).1 (inl h),
+      λ h. elim ((after n).0 h)
+          [ inl x ↦ x | inr new ↦ absurd (Contains-none n (subst (λ ns. Contains ns n) none new)) ],
+    )
+
+    calm-phase_divergent : (n : Node) → Contains sets.phase_divergent n ↔ IsPhaseDivergent g n
+    calm-phase_divergent n = elim (among_or_not seeds n) [
+      | inl in_it ↦ neither
+          (λ h.
+          let d = (at.phase_divergent n).0 h in
+          (calm n in_it (still-held n (d.0.0.0, d.0.0.1))).apart.after_public ((at.after_public n).1 d.1))
+          (λ h. (calm n in_it (h.0.0.0, h.0.0.1)).apart.after_public ((calm-after n).1 h.1))
+      | inr out ↦ (
+        λ h.
+            let d = (at.phase_divergent n).0 h in
+            ((still-current n out).1 d.0, (calm-after n).0 ((at.after_public n).1 d.1)),
+        λ h. (at.phase_divergent n).1
+            ((still-current n out).0 h.0, (at.after_public n).0 ((calm-after n).1 h.1)),
+      )
+    ]
+
+    module _ (is : IsRegion g change t.markers sets.near_forks []) where
+      calm-content_divergent : (n : Node) → Contains sets.content_divergent n ↔ IsContentDivergent g n
+      calm-content_divergent n =
+          let so = outside-divergent f g change t.markers sets.near_forks [] follows at.near_forks is n
+          (Contains-none n) in
+          elim (among_or_not seeds n) [
+            | inl in_it ↦ neither
+                (λ h.
+                let d = (at.content_divergent n).0 h in
+                (calm n in_it (still-held n (d.0.0.0, d.0.0.1))).apart.content_divergent h)
+                (λ h. (calm n in_it (h.0.0.0, h.0.0.1)).apart.content_divergent
+                ((at.content_divergent n).1 (so.0 h).0))
+            | inr out ↦ (
+              λ h.
+                  let d = (at.content_divergent n).0 h in
+                  so.1 (d, (still-current n out).1 d.0),
+              λ h. (at.content_divergent n).1 (so.0 h).0,
+            )
+          ]
+
+      -- what turns is told
+      pub calm-told : (turns : Turns) → AreCalmTurns g sets seeds turns → AreTold g sets turns
+      calm-told turns are = record {
+        obsolete = λ n. along (are.obsolete n) (calm-obsolete n);
+        orphan = λ n. along (are.orphan n) (calm-orphan n);
+        suspended = λ n. along (are.suspended n) (calm-suspended n);
+        extinct = λ n. along (are.extinct n) (calm-extinct n);
+        phase_divergent = λ n. along (are.phase_divergent n) (calm-phase_divergent n);
+        content_divergent = λ n. along (are.content_divergent n) (calm-content_divergent n);
+        after_public = λ n. along (are.after_public n) (calm-after n);
+        near_forks = near-same g (λ n. Contains sets.near_forks n ⊎ Contains [] n)
+            (IsThen sets.near_forks turns.near_forks)
+            (λ n. along (are.near_forks n)
+            (inl, λ h. elim h [ inl x ↦ x | inr new ↦ absurd (Contains-none n new) ]))
+            (near-after f g change t.markers sets.near_forks [] follows at.near_forks is);
+      }

@@ -1,0 +1,79 @@
+use Rattle.std.proofs.Common.{◌↔◌, List, Contains, subst}
+use Rattle.hg_changeset.specs.declared.node.Node.{Node}
+use Rattle.hg_obsstore.proofs.IndexLemmas.{among_or_not}
+use Rattle.hg_replica.specs.Content.{content_of}
+use Rattle.hg_replica.specs.Evolution.{IsObsolete, IsOrphan, IsExtinct, IsSuspended, IsCurrent}
+use Rattle.hg_instab.specs.Changed.{IsNow}
+use Rattle.hg_instab.specs.Turns.{IsTurn, IsThen}
+use Rattle.hg_instab.proofs.ChangedLemmas.{obsolete-untouched, current-untouched}
+use Rattle.hg_instab.proofs.KeptLemmas.{changed-follows, now-or, suspended-told, both-same, set-along}
+use Rattle.hg_instab.proofs.KeptLemmas.{then-along, flip}
+use Rattle.hg_instab.proofs.SetLemmas.{along}
+use Rattle.hg_instab.proofs.TurnLemmas.{grown-to}
+use Rattle.hg_instab.proofs.turns.Turns.asked.Goals as goal
+
+pub returns-clause-turns : goal.returns-clause-turns
+returns-clause-turns c = record {
+  obsolete = subst (λ (xs : List Node). IsTurn xs c.in_ok-obsolete.obsolete) c.obsolete.ensures
+      c.in_ok-obsolete.ensures.turn;
+  orphan = subst (λ (xs : List Node). IsTurn xs c.in_ok-orphan.orphan) c.orphan.ensures c.in_ok-orphan.ensures.turn;
+  suspended = c.in_ok-suspended.ensures.turn;
+  extinct = subst (λ (xs : List Node). IsTurn xs c.in_ok-extinct.extinct) c.extinct-2.ensures
+      c.in_ok-extinct.ensures.turn;
+  phase_divergent = c.in_ok-phase_divergent.ensures.turn;
+  content_divergent = c.in_ok-content_divergent.ensures.turns.0;
+  after_public = subst (λ (xs : List Node). IsTurn xs c.in_ok-growing.field-0) c.after_public.ensures
+      c.in_ok-growing.ensures.turn;
+  near_forks = c.in_ok-content_divergent.ensures.turns.1;
+}
+
+pub returns-clause-told : goal.returns-clause-told
+returns-clause-told c s valid is at seeded after begun =
+    let t = c.args.replica.now in
+    let f = content_of s in
+    let g = content_of t in
+    let change = c.args.change.now in
+    let sets = c.args.sets.now in
+    let follows = changed-follows s t change valid is in
+    let held = c.in_ok-held.held.keys in
+    let met = c.args.met.now.keys in
+    let obsolete-as : (n : Node) → ¬ (Contains c.args.seeds.now n) → IsObsolete g n ↔ IsObsolete f n =
+    λ n not. obsolete-untouched f g change t.markers follows n (λ h. not (seeded n h)) in
+    let current-as : (n : Node) → ¬ (Contains c.args.seeds.now n) → IsCurrent g n ↔ IsCurrent f n =
+    λ n not. current-untouched f g change t.markers follows n (λ h. not (seeded n h)) in
+    let obsolete : (n : Node) → IsThen sets.obsolete c.in_ok-obsolete.obsolete n ↔ IsObsolete g n =
+    then-along c.obsolete.result.now.keys sets.obsolete c.in_ok-obsolete.obsolete (IsObsolete g) c.obsolete.ensures
+    (c.in_ok-obsolete.ensures.told f obsolete-as
+    (set-along c.obsolete.result.now.keys sets.obsolete (IsObsolete f) c.obsolete.ensures at.obsolete)) in
+    let orphan : (n : Node) → IsThen sets.orphan c.in_ok-orphan.orphan n ↔ IsOrphan g n =
+    then-along c.orphan.result.now.keys sets.orphan c.in_ok-orphan.orphan (IsOrphan g) c.orphan.ensures
+    (c.in_ok-orphan.ensures.told s change sets.obsolete is.valid follows seeded at.obsolete obsolete
+    (set-along c.orphan.result.now.keys sets.orphan (IsOrphan f) c.orphan.ensures at.orphan)) in
+    let extinct_now : (n : Node) → IsNow sets.extinct held n ↔ IsExtinct g n =
+    λ n. subst (λ (xs : List Node). IsNow xs held n ↔ IsExtinct g n) c.extinct.ensures
+    (c.in_ok-held.ensures s change is.valid follows seeded
+    (set-along c.extinct.result.now.keys sets.extinct (IsExtinct f) c.extinct.ensures at.extinct) n) in
+    let extinct : (n : Node) → IsThen sets.extinct c.in_ok-extinct.extinct n ↔ IsExtinct g n =
+    λ n. along (subst (λ (xs : List Node). IsThen xs c.in_ok-extinct.extinct n ↔ IsNow xs held n) c.extinct-2.ensures
+    (c.in_ok-extinct.ensures.told n)) (extinct_now n) in
+    let suspended : (n : Node) → IsThen sets.suspended c.in_ok-suspended.suspended n ↔ IsSuspended g n =
+    λ n. along (c.in_ok-suspended.ensures.told f obsolete-as
+    (λ m. along (at.suspended m)
+    (suspended-told s is.valid (Contains sets.extinct) (among_or_not sets.extinct) at.extinct m)) n)
+    (flip (suspended-told t valid (IsNow sets.extinct held) (now-or sets.extinct held) extinct_now n)) in
+    let divergence = c.in_ok-content_divergent.ensures.told s valid is seeded begun at in
+    record {
+      obsolete = obsolete;
+      orphan = orphan;
+      suspended = suspended;
+      extinct = extinct;
+      phase_divergent = λ n. along (c.in_ok-phase_divergent.ensures.told f current-as
+          (λ m. along (at.phase_divergent m) (both-same (flip (at.after_public m)))) n)
+          (both-same (flip (after n)));
+      content_divergent = divergence.content_divergent;
+      after_public = λ n. along
+          (grown-to c.after_public.result.now.keys sets.after_public c.as_slice.result.now met c.in_ok-growing.field-0
+          c.after_public.ensures c.as_slice.ensures.keys c.in_ok-growing.ensures.then n)
+          (flip (after n));
+      near_forks = divergence.near_forks;
+    }
