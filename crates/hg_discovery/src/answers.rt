@@ -8,7 +8,7 @@ ghost use Rattle.hg_discovery.specs.Rounds.{AreKnown};
 
 use hg_changeset::Node;
 use hg_replica::Replica;
-use hg_view::{Kept, served_marks};
+use hg_view::{Kept, Pins, served_marks};
 use std::alloc::{AllocError, Global};
 
 /// Which of the nodes the replica serves, in their order. What is hidden or secret is answered as what isn't held.
@@ -17,7 +17,7 @@ use std::alloc::{AllocError, Global};
 pub fn known(alloc: Global, replica: &Replica, nodes: &[Node]) -> Result<Vec<bool>, AllocError>
     ensures { IfOk result (λ answers. AreKnown (content_of replica.now) nodes.now answers.items) }
 {
-    let served = served_marks(alloc, replica)?;
+    let served = served_marks(alloc, replica, &Pins::new(alloc))?;
     known_by(alloc, replica, &served, nodes)
 }
 

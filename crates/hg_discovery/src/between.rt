@@ -13,7 +13,7 @@ use crate::discovery::Discovery;
 use crate::error::DiscoveryError;
 use hg_changeset::Node;
 use hg_replica::Replica;
-use hg_view::{Kept, served_marks};
+use hg_view::{Kept, Pins, served_marks};
 use std::alloc::Global;
 
 /// The heads of what the asker has in common with the other replica, ascending: it asks in rounds, and the other tells
@@ -26,7 +26,7 @@ pub fn heads_in_common(
     ensures heads { IfOk result (λ heads. AreHeadsInCommon asker.now other.now heads.items) }
     ensures memory { IfErr result (λ error. error ≡ NoMemory) }
 {
-    let served = served_marks(alloc, other)?;
+    let served = served_marks(alloc, other, &Pins::new(alloc))?;
     ask_in_rounds(alloc, asker, other, &served)
 }
 

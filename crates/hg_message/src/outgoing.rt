@@ -20,7 +20,7 @@ use hg_changeset::Node;
 use hg_obsstore::{Store, markers_len_at, write_markers_at};
 use hg_phases::Phase;
 use hg_replica::Replica;
-use hg_view::{Kept, served_marks};
+use hg_view::{Kept, Pins, served_marks};
 use std::alloc::{AllocError, Global};
 use std::marker::Model;
 
@@ -83,7 +83,7 @@ impl<'a> Outgoing<'a> {
             Some(node) => Err(OfferRefusal::UnknownCommon(node)),
             None if replica.graph().is_empty() => Ok(nothing(alloc, replica)),
             None => {
-                let served = served_marks(alloc, replica)?;
+                let served = served_marks(alloc, replica, &Pins::new(alloc))?;
                 Ok(find(alloc, replica, &served, common)?)
             }
         }

@@ -9,7 +9,7 @@ ghost use Rattle.hg_phases.specs.declared.phase.Phase.TheVariants.{Public as pub
 use hg_changeset::Node;
 use hg_phases::Phase;
 use hg_replica::Replica;
-use hg_view::{Kept, is_visible};
+use hg_view::{Kept, Pins, is_visible};
 use std::alloc::{AllocError, Global};
 
 // Whether it is held.
@@ -69,7 +69,7 @@ pub(crate) fn is_hidden(alloc: Global, replica: &Replica, node: Node) -> Result<
     if !graph.contains(node) {
         return Ok(false);
     }
-    let is_visible = is_visible(alloc, replica, node)?;
+    let is_visible = is_visible(alloc, replica, &Pins::new(alloc), node)?;
     Ok(!is_visible)
 }
 

@@ -1,5 +1,7 @@
 pub mod LawLemmas
 pub mod ViewLemmas
+pub mod PinLemmas
 mod ShownLemmas
 mod HiddenLemmas
 mod KeptLemmas
+mod UpheldLemmas

@@ -24,10 +24,10 @@ use Rattle.hg_history.specs.Content.Leads.{itself as leads_itself}
 use Rattle.hg_history.proofs.ContentLemmas.{content-node, node_in_content, leads_from_reach, reach_from_leads}
 use Rattle.hg_replica.specs.State.{ReplicaState, IsValid}
 use Rattle.hg_replica.specs.Content.{content_of}
-use Rattle.hg_replica.specs.Evolution.{IsObsolete, IsVisible}
 use Rattle.hg_instab.specs.Walk.{Adds}
 use Rattle.hg_changeset.proofs.ListLemmas.{Contains-taken}
 use Rattle.hg_instab.proofs.WalkLemmas.{front-kept}
+use Rattle.hg_view.specs.Pins.{CountsAsObsolete, IsVisibleUnder}
 use Rattle.hg_view.specs.Shown.{IsChild, IsAtOne}
 
 -- one place more
@@ -75,27 +75,28 @@ childless cs graph p missing n child =
     let k = place_from_Contains cs child.0 child.1 in
     missing (Holds-taken cs k.0 p (graph.parents_first k.0 child.0 k.1 p child.3))
 
--- one that isn't obsolete is visible where it is held
-pub current-visible : (s : ReplicaState) → IsValid s → (n : Node) → ¬ (IsObsolete (content_of s) n)
-    → Holds (changesets s.history) n ↔ IsVisible (content_of s) n
-current-visible s valid n not = (
+-- one that doesn't count as obsolete is visible where it is held
+pub shown-visible : (s : ReplicaState) → IsValid s → (pins : List Node) (n : Node)
+    → ¬ (CountsAsObsolete (content_of s) pins n)
+    → Holds (changesets s.history) n ↔ IsVisibleUnder (content_of s) pins n
+shown-visible s valid pins n not = (
   λ held. (n, (content-node s.history valid.graph n held, not), leads_itself),
   λ v. Holds-reaching (changesets s.history)
       (reach_from_leads s.history valid.graph n v.0 (node_in_content s.history valid.graph v.0 v.1.0) v.2),
 )
 
--- how far the walk has come: of the first i that were met all are obsolete, and their children were met
-pub record IsSearched (s : ReplicaState) (start : Node) (met : List Node) (i : ℕ) : Type 0 where
+-- how far the walk has come: of the first i that were met all count as obsolete, and their children were met
+pub record IsSearched (s : ReplicaState) (pins : List Node) (start : Node) (met : List Node) (i : ℕ) : Type 0 where
   pub sound : (n : Node) → Contains met n → Reaches (changesets s.history) start n
   pub begun : Contains met start
   pub closed : (p n : Node) → Contains (take i met) p → IsChild (changesets s.history) p n → Contains met n
-  pub obsolete : (p : Node) → Contains (take i met) p → IsObsolete (content_of s) p
+  pub obsolete : (p : Node) → Contains (take i met) p → CountsAsObsolete (content_of s) pins p
 
-module _ (s : ReplicaState) (valid : IsValid s) (start : Node) where
-  pub search-start : (met : List Node) → IsObsolete (content_of s) start → Adds (λ n. start ≡ n) [] met
-      → IsSearched s start met 0
+module _ (s : ReplicaState) (valid : IsValid s) (pins : List Node) (start : Node) where
+  pub search-start : (met : List Node) → CountsAsObsolete (content_of s) pins start → Adds (λ n. start ≡ n) [] met
+      → IsSearched s pins start met 0
   search-start met o a =
-      let held = node_in_content s.history valid.graph start (o.0.0, o.0.1) in
+      let held = node_in_content s.history valid.graph start (o.0.0.0, o.0.0.1) in
       record {
         sound = λ n h. elim ((a.members n).0 h) [
           | inl none ↦ absurd (Contains-none n none)
@@ -108,8 +109,8 @@ module _ (s : ReplicaState) (valid : IsValid s) (start : Node) where
       }
 
   pub search-step : (met new : List Node) (i : ℕ) (x : Node) → i < length met
-      → get_or met i x ≡ x → IsSearched s start met i → IsObsolete (content_of s) x
-      → Adds (IsChild (changesets s.history) x) met new → IsSearched s start new (i + 1)
+      → get_or met i x ≡ x → IsSearched s pins start met i → CountsAsObsolete (content_of s) pins x
+      → Adds (IsChild (changesets s.history) x) met new → IsSearched s pins start new (i + 1)
   search-step met new i x l at w o a = record {
     sound = λ n h. elim ((a.members n).0 h) [
       | inl old ↦ w.sound n old
@@ -121,23 +122,23 @@ module _ (s : ReplicaState) (valid : IsValid s) (start : Node) where
       | inr e ↦ inr (subst (λ y. IsChild (changesets s.history) y n) (sym e) child)
     ]);
     obsolete = λ p h. elim ((Contains-taken met i x p l at).0 (before p h))
-        [ inl old ↦ w.obsolete p old | inr e ↦ subst (IsObsolete (content_of s)) e o ];
+        [ inl old ↦ w.obsolete p old | inr e ↦ subst (CountsAsObsolete (content_of s) pins) e o ];
   }
     where
       before : (p : Node) → Contains (take (i + 1) new) p → Contains (take (i + 1) met) p
       before p h = subst (λ zs. Contains zs p) (front-kept met new (i + 1) a.kept (omega (arith, l))) h
 
   -- all that was met is held, so the walk ends
-  pub search-within : (met : List Node) (i : ℕ) → IsSearched s start met i → IsDistinct node_eq met
+  pub search-within : (met : List Node) (i : ℕ) → IsSearched s pins start met i → IsDistinct node_eq met
       → length met ≤ length (nodes (changesets s.history))
   search-within met i w distinct =
       length-le_from_is_member node_eq_laws met (nodes (changesets s.history)) distinct
       (λ q e. list_any-from_Contains node_eq_laws q (nodes (changesets s.history))
       (Holds-reached (changesets s.history) (w.sound q (Contains-from_any same_node q met e))))
 
-  -- one that isn't obsolete was met
-  pub search-found : (met : List Node) (i : ℕ) → IsSearched s start met i → (x : Node) → Contains met x
-      → ¬ (IsObsolete (content_of s) x) → IsVisible (content_of s) start
+  -- one that doesn't count as obsolete was met
+  pub search-found : (met : List Node) (i : ℕ) → IsSearched s pins start met i → (x : Node) → Contains met x
+      → ¬ (CountsAsObsolete (content_of s) pins x) → IsVisibleUnder (content_of s) pins start
   search-found met i w x h not =
       let reach = w.sound x h in (
         x,
@@ -145,9 +146,10 @@ module _ (s : ReplicaState) (valid : IsValid s) (start : Node) where
         leads_from_reach s.history valid.graph start x reach,
       )
 
-  -- what was met has a child that isn't obsolete
-  pub search-child : (met : List Node) (i : ℕ) → IsSearched s start met i → (p x : Node) → Contains met p
-      → IsChild (changesets s.history) p x → ¬ (IsObsolete (content_of s) x) → IsVisible (content_of s) start
+  -- what was met has a child that doesn't count as obsolete
+  pub search-child : (met : List Node) (i : ℕ) → IsSearched s pins start met i → (p x : Node) → Contains met p
+      → IsChild (changesets s.history) p x → ¬ (CountsAsObsolete (content_of s) pins x)
+      → IsVisibleUnder (content_of s) pins start
   search-child met i w p x h child not =
       let reach = below (w.sound p h) child.3 child.1 child.2 in (
         x,
@@ -155,9 +157,9 @@ module _ (s : ReplicaState) (valid : IsValid s) (start : Node) where
         leads_from_reach s.history valid.graph start x reach,
       )
 
-  -- all that was met is obsolete, and that is all that there is
-  pub search-end : (met : List Node) (i : ℕ) → IsSearched s start met i
-      → length met ≤ i → ¬ (IsVisible (content_of s) start)
+  -- all that was met counts as obsolete, and that is all that there is
+  pub search-end : (met : List Node) (i : ℕ) → IsSearched s pins start met i
+      → length met ≤ i → ¬ (IsVisibleUnder (content_of s) pins start)
   search-end met i w ended v =
       v.1.1 (w.obsolete v.0
       (subst (λ zs. Contains zs v.0) (sym (take_all i met ended))

@@ -9,16 +9,16 @@ use Rattle.hg_phases.specs.State.{changesets}
 use Rattle.hg_history.proofs.ContentLemmas.{content-node, node_in_content, leads_from_reach, reach_from_leads}
 use Rattle.hg_replica.specs.State.{ReplicaState, IsValid}
 use Rattle.hg_replica.specs.Content.{content_of}
-use Rattle.hg_replica.specs.Evolution.{IsObsolete, IsRevealed, IsVisible}
 use Rattle.hg_instab.proofs.OrphanLemmas.{selected}
+use Rattle.hg_view.specs.Pins.{CountsAsObsolete, IsShown, IsVisibleUnder}
 
--- the revealed changesets and their ancestors are visible
-pub visible-marked : (s : ReplicaState) → IsValid s → (revealed visible : List Bool)
-    → ((n : Node) → IsMarkedNode (changesets s.history) revealed n ↔ IsRevealed (content_of s) n)
+-- the shown changesets and their ancestors are visible
+pub visible-marked : (s : ReplicaState) → IsValid s → (pins : List Node) (shown visible : List Bool)
+    → ((n : Node) → IsMarkedNode (changesets s.history) shown n ↔ IsShown (content_of s) pins n)
     → ((n : Node) → IsMarkedNode (changesets s.history) visible n
-    ↔ ((d : Node) × IsMarkedNode (changesets s.history) revealed d × Reaches (changesets s.history) n d))
-    → (n : Node) → IsMarkedNode (changesets s.history) visible n ↔ IsVisible (content_of s) n
-visible-marked s valid revealed visible are above n = (
+    ↔ ((d : Node) × IsMarkedNode (changesets s.history) shown d × Reaches (changesets s.history) n d))
+    → (n : Node) → IsMarkedNode (changesets s.history) visible n ↔ IsVisibleUnder (content_of s) pins n
+visible-marked s valid pins shown visible are above n = (
   λ h. let d = (above n).0 h in (d.0, (are d.0).0 d.1, leads_from_reach s.history valid.graph n d.0 d.2),
   λ v. (above n).1 (
     v.0,
@@ -35,8 +35,9 @@ marked-are cs marks found select n =
     let told = selected cs (IsMarkedNode cs marks) found select n in
     (λ h. (told.0 h).1, λ m. told.1 (Contains-from_place (nodes cs) m.0 n m.1, m))
 
--- what is held and isn't obsolete is revealed
-pub revealed-are : (s : ReplicaState) → IsValid s → (n : Node)
-    → (Contains (nodes (changesets s.history)) n × ¬ (IsObsolete (content_of s) n)) ↔ IsRevealed (content_of s) n
-revealed-are s valid n =
+-- what is held and doesn't count as obsolete is shown
+pub shown-are : (s : ReplicaState) → IsValid s → (pins : List Node) (n : Node)
+    → (Contains (nodes (changesets s.history)) n × ¬ (CountsAsObsolete (content_of s) pins n))
+    ↔ IsShown (content_of s) pins n
+shown-are s valid pins n =
     (λ h. (content-node s.history valid.graph n h.0, h.1), λ h. (node_in_content s.history valid.graph n h.0, h.1))

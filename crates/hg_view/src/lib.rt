@@ -1,21 +1,30 @@
 //! Views: which changesets are shown, and which are given to others.
 //!
 //! An obsolete changeset is hidden, unless something that isn't obsolete stands on it. What is visible and not secret
-//! is served: others may be told of it.
+//! is served: others may be told of it. A node may pin what something of its own stands on: that stays in view, with
+//! its ancestors, though it is obsolete.
 //!
-//! Views are found from a replica alone. Who keeps its instabilities beside it, as [`Kept`] does, asks of one changeset
-//! by two look-ups whether it is visible.
+//! Views are found from a replica and pins alone. Who keeps its instabilities beside it, as [`Kept`] does, asks of one
+//! changeset by two look-ups whether it is visible.
 #![tactic(auto)]
 
 mod kept;
 mod laws;
+mod pins;
+mod refusal;
 mod shown;
 mod view;
 
 pub use kept::Kept;
 pub use laws::{
-    hidden_is_extinct, states_of_one_content_have_the_same_views,
+    hidden_is_extinct, no_pins_change_no_view, pins_only_add_to_what_is_visible,
+    states_of_one_content_have_the_same_views,
+    states_of_one_content_have_the_same_views_under_pins,
     views_hold_the_ancestors_of_their_members,
+    views_under_pins_hold_the_ancestors_of_their_members, what_is_hidden_under_pins_is_extinct,
+    what_pins_uphold_is_visible,
 };
+pub use pins::Pins;
+pub use refusal::PinRefusal;
 pub use shown::is_visible;
 pub use view::{served, served_marks, visible};

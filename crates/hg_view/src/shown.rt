@@ -1,37 +1,44 @@
-//! Whether one changeset is visible, by a walk to what stands on it.
+//! Whether one changeset is visible under pins, by a walk to what stands on it.
 ghost use Rattle.std.specs.Prelude.{◌↔◌, IfOk, OnOk, OnErr, IsTrue};
 ghost use Rattle.hg_changeset.specs.declared.node.Node.{Node};
 ghost use Rattle.hg_phases.specs.State.{changesets};
 ghost use Rattle.hg_replica.specs.Content.{content_of};
-ghost use Rattle.hg_replica.specs.Evolution.{IsObsolete, IsVisible};
 ghost use Rattle.hg_instab.specs.Walk.{Adds};
+ghost use Rattle.hg_view.specs.Pins.{CountsAsObsolete, IsVisibleUnder};
 ghost use Rattle.hg_view.specs.Shown.{IsChild, IsAtOne};
 
+use crate::pins::{Pins, counts_as_obsolete};
 use hg_changeset::Node;
 use hg_graph::Graph;
-use hg_instab::is_obsolete;
 use hg_replica::Replica;
 use indexmap::IndexSet;
 use std::alloc::{AllocError, Global};
 
-/// Whether a changeset is visible. One that isn't obsolete costs two look-ups; for any other the answer costs what the
-/// walk to its descendants visits, and that ends at the first that isn't obsolete.
-pub fn is_visible(alloc: Global, replica: &Replica, node: Node) -> Result<bool, AllocError>
-    ensures answer { IfOk result (λ answer. IsTrue answer ↔ IsVisible (content_of replica.now) node) }
+/// Whether a changeset is visible under the pins. One that isn't obsolete, or is pinned, costs a few look-ups; for any
+/// other the answer costs what the walk to its descendants visits, and that ends at the first that is so.
+pub fn is_visible(
+    alloc: Global,
+    replica: &Replica,
+    pins: &Pins,
+    node: Node,
+) -> Result<bool, AllocError>
+    ensures answer { IfOk result (λ answer. IsTrue answer
+        ↔ IsVisibleUnder (content_of replica.now) pins.now node) }
 
-    // Memory is wanted only for one that is obsolete.
-    ensures memory { OnErr result (IsObsolete (content_of replica.now) node) }
+    // Memory is wanted only for one that is obsolete and not pinned.
+    ensures memory { OnErr result (CountsAsObsolete (content_of replica.now) pins.now node) }
 {
-    if !is_obsolete(replica, node) {
+    if !counts_as_obsolete(replica, pins, node) {
         return Ok(replica.graph().contains(node));
     }
-    has_revealed(alloc, replica, node)
+    has_shown(alloc, replica, pins, node)
 }
 
-// Whether an obsolete changeset has a descendant that isn't obsolete. The set of those that were met is its own queue.
-fn has_revealed(alloc: Global, replica: &Replica, node: Node) -> Result<bool, AllocError>
-    requires { IsObsolete (content_of replica.now) node }
-    ensures { IfOk result (λ answer. IsTrue answer ↔ IsVisible (content_of replica.now) node) }
+// Whether a changeset that counts as obsolete has a descendant that doesn't. The set of those that were met is its own
+// queue.
+fn has_shown(alloc: Global, replica: &Replica, pins: &Pins, node: Node) -> Result<bool, AllocError>
+    requires { CountsAsObsolete (content_of replica.now) pins.now node }
+    ensures { IfOk result (λ answer. IsTrue answer ↔ IsVisibleUnder (content_of replica.now) pins.now node) }
 {
     let graph = replica.graph();
     let mut met = IndexSet::new(alloc);
@@ -39,10 +46,10 @@ fn has_revealed(alloc: Global, replica: &Replica, node: Node) -> Result<bool, Al
     let mut next = 0;
     while next < met.len() {
         let node = met.as_slice()[next];
-        if !is_obsolete(replica, node) {
+        if !counts_as_obsolete(replica, pins, node) {
             return Ok(true);
         }
-        if has_current_child(replica, node) {
+        if has_shown_child(replica, pins, node) {
             return Ok(true);
         }
         add_children(graph, node, &mut met)?;
@@ -51,30 +58,31 @@ fn has_revealed(alloc: Global, replica: &Replica, node: Node) -> Result<bool, Al
     Ok(false)
 }
 
-// Whether some child of a changeset isn't obsolete. The walk would come to it anyway; a look ahead spares it the other
-// children, of which there may be many.
-fn has_current_child(replica: &Replica, node: Node) -> bool
+// Whether some child of a changeset doesn't count as obsolete. The walk would come to it anyway; a look ahead spares it
+// the other children, of which there may be many.
+fn has_shown_child(replica: &Replica, pins: &Pins, node: Node) -> bool
     ensures { IsTrue result
-        → ((n : Node) × IsChild (changesets replica.now.history) node n × ¬ (IsObsolete (content_of replica.now) n)) }
+        → ((n : Node) × IsChild (changesets replica.now.history) node n
+        × ¬ (CountsAsObsolete (content_of replica.now) pins.now n)) }
 {
     let graph = replica.graph();
     match graph.place(node) {
-        Some(place) => has_current_at(replica, graph.children(place)),
+        Some(place) => has_shown_at(replica, pins, graph.children(place)),
         None => false,
     }
 }
 
-// Whether some changeset at the places isn't obsolete.
-fn has_current_at(replica: &Replica, places: &[usize]) -> bool
+// Whether some changeset at the places doesn't count as obsolete.
+fn has_shown_at(replica: &Replica, pins: &Pins, places: &[usize]) -> bool
     ensures { IsTrue result
         → ((n : Node) × IsAtOne (changesets replica.now.history) places.now n
-        × ¬ (IsObsolete (content_of replica.now) n)) }
+        × ¬ (CountsAsObsolete (content_of replica.now) pins.now n)) }
 {
     let graph = replica.graph();
     for place in places {
         match graph.node_at(*place) {
             Some(node) => {
-                if !is_obsolete(replica, node) {
+                if !counts_as_obsolete(replica, pins, node) {
                     return true;
                 }
             }

@@ -4,15 +4,16 @@ use Rattle.hg_changeset.specs.declared.node.Node.{Node}
 use Rattle.hg_graph.specs.Marks.{IsMarkedNode}
 use Rattle.hg_phases.specs.State.{changesets}
 use Rattle.hg_replica.specs.Content.{content_of}
-use Rattle.hg_replica.specs.Evolution.{IsVisible}
+use Rattle.hg_view.specs.Pins.{IsVisibleUnder}
 use Rattle.hg_view.proofs.view.served_marks.Goals as goal
 
 pub returns-clause-exact : goal.returns-clause-exact
 returns-clause-exact c =
     let s = c.args.replica.now in
+    let pins = c.args.pins.now in
     let cs = changesets s.history in
-    let visible : (n : Node) → IsMarkedNode cs c.deref.result.now n ↔ IsVisible (content_of s) n =
-    subst (λ (marks : List Bool). (n : Node) → IsMarkedNode cs marks n ↔ IsVisible (content_of s) n)
+    let visible : (n : Node) → IsMarkedNode cs c.deref.result.now n ↔ IsVisibleUnder (content_of s) pins n =
+    subst (λ (marks : List Bool). (n : Node) → IsMarkedNode cs marks n ↔ IsVisibleUnder (content_of s) pins n)
     (sym c.deref.ensures.value) c.in_ok-visible.ensures.exact in
     IfOk-weaker c.not_secret.result _ _
     (λ marks told n. (λ h. let x = (told n).0 h in ((visible n).0 x.0, x.1), λ h. (told n).1 ((visible n).1 h.0, h.1)))

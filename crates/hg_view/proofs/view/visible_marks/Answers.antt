@@ -39,4 +39,5 @@ returns-clause-exact c =
     ↔ ((d : Node) × IsMarkedNode ds c.deref_mut.result.now d × Reaches ds n d)) c.graph.ensures.graph
     c.add_ancestors.ensures.marked) in
     rw (whole c)
-    (visible-marked s c.graph.ensures.valid c.in_ok-marks.marks.items visible c.in_ok-marks.ensures.exact above)
+    (visible-marked s c.graph.ensures.valid c.args.pins.now c.in_ok-marks.marks.items visible
+    c.in_ok-marks.ensures.exact above)

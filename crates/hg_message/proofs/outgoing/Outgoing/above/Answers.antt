@@ -1,5 +1,8 @@
 use Rattle.std.proofs.Common.{◌≡◌, ◌∙◌, [], sym, subst}
 use Rattle.hg_phases.specs.State.{changesets}
+use Rattle.hg_replica.specs.Content.{content_of}
+use Rattle.hg_instab.proofs.SetLemmas.{along}
+use Rattle.hg_view.proofs.PinLemmas.{served-without}
 use Rattle.hg_message.specs.Offer.{IsOffer}
 use Rattle.hg_message.specs.Outgoing.{AreServed}
 use Rattle.hg_message.proofs.OfferLemmas.{nothing-offered}
@@ -16,5 +19,8 @@ returns-in-None c =
     )
 
 pub find-requires-clause-served : goal.find-requires-clause-served
-find-requires-clause-served c = subst (AreServed c.args.replica.now) (sym c.deref.ensures.value)
-    (record { len = c.in_ok-served-in-None-2.ensures.len; exact = c.in_ok-served-in-None-2.ensures.exact })
+find-requires-clause-served c = subst (AreServed c.args.replica.now) (sym c.deref.ensures.value) (record {
+  len = c.in_ok-served-in-None-2.ensures.len;
+  exact = λ n. along (c.in_ok-served-in-None-2.ensures.exact n)
+      (served-without (content_of c.args.replica.now) c.new.result c.new.ensures n);
+})

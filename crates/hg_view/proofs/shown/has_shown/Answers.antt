@@ -5,71 +5,76 @@ use Rattle.hg_changeset.specs.declared.node.Node.{Node}
 use Rattle.hg_changeset.specs.Contents.{Contents}
 use Rattle.hg_phases.specs.State.{changesets}
 use Rattle.hg_replica.specs.Content.{content_of}
-use Rattle.hg_replica.specs.Evolution.{IsObsolete}
 use Rattle.hg_instab.specs.Walk.{Adds}
 use Rattle.hg_instab.proofs.WalkLemmas.{adds-one}
+use Rattle.hg_view.specs.Pins.{CountsAsObsolete}
 use Rattle.hg_view.specs.Shown.{IsChild}
 use Rattle.hg_view.proofs.ShownLemmas.{search-start, search-step, search-within, search-found, search-child, search-end}
-use Rattle.hg_view.proofs.shown.has_revealed.Goals as goal
+use Rattle.hg_view.proofs.shown.has_shown.Goals as goal
 
 pub loop-next-init : goal.loop-next-init
 loop-next-init c =
     let node = c.args.node in
     let new = c.insert.new.self.keys in
-    search-start c.args.replica.now c.graph-graph.ensures.valid node new c.requires
+    search-start c.args.replica.now c.graph-graph.ensures.valid c.args.pins.now node new c.requires
     (subst (λ (ks : List Node). Adds (λ n. node ≡ n) ks new) c.new-met.ensures.empty
     (adds-one c.new-met.result.keys new node c.in_ok-insert.ensures.keys))
 
 pub loop-next-smaller : goal.loop-next-smaller
 loop-next-smaller c =
-    let within = search-within c.args.replica.now c.graph-graph.ensures.valid c.args.node c.loop-next.met.keys
-    c.loop-next.next c.loop-next.invariant c.len.ensures.unique in
+    let within = search-within c.args.replica.now c.graph-graph.ensures.valid c.args.pins.now c.args.node
+    c.loop-next.met.keys c.loop-next.next c.loop-next.invariant c.len.ensures.unique in
     omega (arith, within, c.loop-next-test.true, c.len.ensures.len)
 
 pub loop-next-preserved : goal.loop-next-preserved
 loop-next-preserved c =
     let s = c.args.replica.now in
+    let pins = c.args.pins.now in
     let met = c.loop-next.met.keys in
     let i = c.loop-next.next in
     let first : Node = record { 0 = [] } in
     let node = get_or met i first in
     let new = c.add_children.new.met.keys in
     let l : i < length met = omega (arith, c.loop-next-test.true, c.len.ensures.len) in
-    let o : IsObsolete (content_of s) node = subst (λ (ns : List Node). IsObsolete (content_of s) (get_or ns i first))
-    c.as_slice.ensures.keys (c.is_obsolete.ensures.0 c.if-not-is_obsolete.false) in
-    search-step s c.graph-graph.ensures.valid c.args.node met new i node l (get_or_default met i node first l)
+    let o : CountsAsObsolete (content_of s) pins node =
+    subst (λ (ns : List Node). CountsAsObsolete (content_of s) pins (get_or ns i first))
+    c.as_slice.ensures.keys (c.counts_as_obsolete.ensures.0 c.if-not-counts_as_obsolete.false) in
+    search-step s c.graph-graph.ensures.valid pins c.args.node met new i node l (get_or_default met i node first l)
     c.loop-next.invariant o
     (subst (λ (cs : List Contents). Adds (IsChild cs node) met new) c.graph-graph.ensures.graph
     (subst (λ (ns : List Node). Adds (IsChild c.graph-graph.result.now (get_or ns i first)) met new)
     c.as_slice.ensures.keys c.in_ok-add_children.ensures))
 
-pub returns-then-not-is_obsolete : goal.returns-then-not-is_obsolete
-returns-then-not-is_obsolete c =
+pub returns-then-not-counts_as_obsolete : goal.returns-then-not-counts_as_obsolete
+returns-then-not-counts_as_obsolete c =
     let s = c.args.replica.now in
+    let pins = c.args.pins.now in
     let met = c.loop-next.met.keys in
     let i = c.loop-next.next in
     let first : Node = record { 0 = [] } in
     let node = get_or met i first in
     let l : i < length met = omega (arith, c.loop-next-test.true, c.len.ensures.len) in
-    let not : ¬ (IsObsolete (content_of s) node) =
+    let not : ¬ (CountsAsObsolete (content_of s) pins node) =
     λ o. true≢false
-    (sym (c.is_obsolete.ensures.1 (subst (λ (ns : List Node). IsObsolete (content_of s) (get_or ns i first))
-    (sym c.as_slice.ensures.keys) o)) ∙ c.if-not-is_obsolete.true) in (
-      λ t. search-found s c.graph-graph.ensures.valid c.args.node met i c.loop-next.invariant node
+    (sym (c.counts_as_obsolete.ensures.1
+    (subst (λ (ns : List Node). CountsAsObsolete (content_of s) pins (get_or ns i first))
+    (sym c.as_slice.ensures.keys) o)) ∙ c.if-not-counts_as_obsolete.true) in (
+      λ t. search-found s c.graph-graph.ensures.valid pins c.args.node met i c.loop-next.invariant node
           (Contains-get_or met i first l) not,
       λ v. refl,
     )
 
-pub returns-then-has_current_child : goal.returns-then-has_current_child
-returns-then-has_current_child c =
+pub returns-then-has_shown_child : goal.returns-then-has_shown_child
+returns-then-has_shown_child c =
     let s = c.args.replica.now in
+    let pins = c.args.pins.now in
     let met = c.loop-next.met.keys in
     let i = c.loop-next.next in
     let first : Node = record { 0 = [] } in
     let node = get_or met i first in
     let l : i < length met = omega (arith, c.loop-next-test.true, c.len.ensures.len) in
-    let child = c.has_current_child.ensures c.if-has_current_child.true in (
-      λ t. search-child s c.graph-graph.ensures.valid c.args.node met i c.loop-next.invariant node child.0
+    let child = c.has_shown_child.ensures c.if-has_shown_child.true in (
+      λ t. search-child s c.graph-graph.ensures.valid pins c.args.node met i c.loop-next.invariant node child.0
           (Contains-get_or met i first l)
           (subst (λ (ns : List Node). IsChild (changesets s.history) (get_or ns i first) child.0)
           c.as_slice.ensures.keys child.1) child.2,
@@ -78,6 +83,7 @@ returns-then-has_current_child c =
 
 pub returns : goal.returns
 returns c =
-    let none = search-end c.args.replica.now c.graph-graph.ensures.valid c.args.node c.loop-next.met.keys
-    c.loop-next.next c.loop-next.invariant (omega (arith, c.loop-next-test.false, c.len.ensures.len)) in
+    let none = search-end c.args.replica.now c.graph-graph.ensures.valid c.args.pins.now c.args.node
+    c.loop-next.met.keys c.loop-next.next c.loop-next.invariant
+    (omega (arith, c.loop-next-test.false, c.len.ensures.len)) in
     (λ t. absurd (true≢false (sym t)), λ v. absurd (none v))

@@ -7,7 +7,7 @@ use Rattle.hg_graph.specs.Graph.{nodes}
 use Rattle.hg_graph.specs.Places.{IsOnlyAt, IsParentPlace}
 use Rattle.hg_phases.specs.State.{changesets}
 use Rattle.hg_view.proofs.ShownLemmas.{children-at}
-use Rattle.hg_view.proofs.shown.has_current_child.Goals as goal
+use Rattle.hg_view.proofs.shown.has_shown_child.Goals as goal
 
 pub children-requires : goal.children-requires
 children-requires c =
@@ -28,5 +28,5 @@ returns-in-Some c =
     c.in-Some.ensures.place in
     let exact = subst (λ (ds : List Contents). (k : ℕ) → Contains places k ↔ IsParentPlace ds k place)
     c.graph-graph.ensures.graph c.children.ensures.exact in
-    λ t. let found = c.has_current_at.ensures t in
+    λ t. let found = c.has_shown_at.ensures t in
     (found.0, (children-at cs c.args.node place places only exact found.0).1 found.1, found.2)

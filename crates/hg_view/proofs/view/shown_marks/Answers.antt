@@ -2,27 +2,31 @@ use Rattle.std.proofs.Common.{◌≤◌, ◌+◌, not, length, sym, subst, arith
 use Rattle.hg_graph.proofs.MarkLemmas.{TellsFirst, tells_none, tells_more, tells_all}
 use Rattle.hg_phases.specs.State.{changesets}
 use Rattle.hg_replica.specs.Content.{content_of}
-use Rattle.hg_replica.specs.Evolution.{IsObsolete}
 use Rattle.hg_instab.proofs.QueryLemmas.{isnt_so}
 use Rattle.hg_instab.proofs.SetLemmas.{along}
-use Rattle.hg_view.proofs.ViewLemmas.{revealed-are}
-use Rattle.hg_view.proofs.view.revealed_marks.Goals as goal
+use Rattle.hg_view.specs.Pins.{CountsAsObsolete}
+use Rattle.hg_view.proofs.ViewLemmas.{shown-are}
+use Rattle.hg_view.proofs.view.shown_marks.Goals as goal
 
 pub loop-place-init : goal.loop-place-init
 loop-place-init c =
     let s = c.args.replica.now in
-    subst (TellsFirst (changesets s.history) (λ n. ¬ (IsObsolete (content_of s) n)) 0) (sym c.in_ok-marks.ensures.items)
-    (tells_none (changesets s.history) (λ n. ¬ (IsObsolete (content_of s) n)))
+    let pins = c.args.pins.now in
+    subst (TellsFirst (changesets s.history) (λ n. ¬ (CountsAsObsolete (content_of s) pins n)) 0)
+    (sym c.in_ok-marks.ensures.items)
+    (tells_none (changesets s.history) (λ n. ¬ (CountsAsObsolete (content_of s) pins n)))
 
 pub loop-place-preserved : goal.loop-place-preserved
 loop-place-preserved c =
     let s = c.args.replica.now in
+    let pins = c.args.pins.now in
     let i = c.loop-place.place in
-    let told = c.is_obsolete_at.result in
-    subst (TellsFirst (changesets s.history) (λ n. ¬ (IsObsolete (content_of s) n)) (i + 1))
+    let told = c.counts_as_obsolete_at.result in
+    subst (TellsFirst (changesets s.history) (λ n. ¬ (CountsAsObsolete (content_of s) pins n)) (i + 1))
     (sym c.in_ok-push.ensures.items)
-    (tells_more (changesets s.history) (λ n. ¬ (IsObsolete (content_of s) n)) i c.loop-place.marks.items (not told)
-    c.loop-place.invariant (λ n at. isnt_so told (IsObsolete (content_of s) n) (c.is_obsolete_at.ensures n at)))
+    (tells_more (changesets s.history) (λ n. ¬ (CountsAsObsolete (content_of s) pins n)) i c.loop-place.marks.items
+    (not told) c.loop-place.invariant (λ n at. isnt_so told (CountsAsObsolete (content_of s) pins n)
+    (c.counts_as_obsolete_at.ensures n at)))
 
 ended : (c : goal.After-loop-place) → length (changesets c.args.replica.now.history) ≤ c.loop-place.place
 ended c = omega (arith, c.loop-place-test.false, c.len-place-end.ensures.len, ap length c.graph-graph.ensures.graph)
@@ -41,5 +45,7 @@ returns-clause-len c =
 pub returns-clause-exact : goal.returns-clause-exact
 returns-clause-exact c n =
     let s = c.args.replica.now in
-    along (tells_all (changesets s.history) (λ m. ¬ (IsObsolete (content_of s) m)) c.loop-place.place
-    c.loop-place.marks.items (ended c) c.loop-place.invariant n) (revealed-are s c.graph-graph.ensures.valid n)
+    let pins = c.args.pins.now in
+    along (tells_all (changesets s.history) (λ m. ¬ (CountsAsObsolete (content_of s) pins m)) c.loop-place.place
+    c.loop-place.marks.items (ended c) c.loop-place.invariant n)
+    (shown-are s c.graph-graph.ensures.valid pins n)
