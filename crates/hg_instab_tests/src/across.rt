@@ -5,7 +5,7 @@ use hg_instab::Instabilities;
 use hg_phases::Phase;
 use hg_replica::Replica;
 use hg_succ::{Sets, successors_sets};
-use hg_view::is_visible;
+use hg_view::{Pins, is_visible};
 use std::alloc::Global;
 
 // A draft root.
@@ -19,7 +19,7 @@ fn two_roots(alloc: Global, replica: &mut Replica) -> Option<(Node, Node)> {
 
 // Whether the node is hidden and has no successors sets.
 fn is_gone(alloc: Global, replica: &Replica, node: Node) -> Option<bool> {
-    let in_view = is_visible(alloc, replica, node).ok()?;
+    let in_view = is_visible(alloc, replica, &Pins::new(alloc), node).ok()?;
     match successors_sets(alloc, replica, node).ok()? {
         Sets::Family(family) => Some(family.is_empty() && !in_view),
         Sets::Overfull => Some(false),

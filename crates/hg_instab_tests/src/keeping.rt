@@ -52,8 +52,8 @@ impl Keeper {
     }
 }
 
-// Takes the part in, after which the sets are right.
-fn step(rt: &impl Abort, alloc: Global, keeper: &mut Keeper, part: &Part) {
+/// Takes the part in, after which the sets are right.
+pub fn step(rt: &impl Abort, alloc: Global, keeper: &mut Keeper, part: &Part) {
     let taken = keeper.take(part);
     assert!(rt; taken == Some(true));
     let right = keeper.is_right(alloc);

@@ -4,6 +4,8 @@
 #[cfg(test)]
 mod across;
 #[cfg(test)]
+mod amends;
+#[cfg(test)]
 mod chance;
 #[cfg(test)]
 mod keeping;
@@ -12,6 +14,8 @@ mod kept;
 #[cfg(test)]
 mod kinds;
 #[cfg(test)]
+mod pins;
+#[cfg(test)]
 mod plain;
 mod same;
 #[cfg(test)]
@@ -19,4 +23,4 @@ mod scene;
 #[cfg(test)]
 mod views;
 
-pub use same::{are_same, is_up_to_date};
+pub use same::{are_same, has_exactly, is_up_to_date};

@@ -4,7 +4,7 @@ use hg_changeset::Node;
 use hg_instab::Instabilities;
 use hg_phases::Phase;
 use hg_replica::Replica;
-use hg_view::{is_visible, served, visible};
+use hg_view::{Pins, is_visible, served, visible};
 use std::alloc::Global;
 
 // A changeset or a successor that isn't there.
@@ -182,11 +182,12 @@ fn views_agree(
     nodes: &[Node; 4],
     history: &History,
 ) -> Option<bool> {
-    let view = visible(alloc, replica).ok()?;
-    let given = served(alloc, replica).ok()?;
+    let pins = Pins::new(alloc);
+    let view = visible(alloc, replica, &pins).ok()?;
+    let given = served(alloc, replica, &pins).ok()?;
     for one in 0..4usize {
         let node = nodes[one];
-        let alone = is_visible(alloc, replica, node).ok()?;
+        let alone = is_visible(alloc, replica, &pins, node).ok()?;
         let in_view = is_in_view(history, one);
         if alone != in_view || view.contains(&node) != in_view {
             return Some(false);

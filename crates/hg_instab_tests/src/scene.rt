@@ -1,11 +1,11 @@
 //! Changesets and markers for a replica to take in, and what it is expected to say. `None` where memory ran out.
+use crate::same::has_exactly;
 use hg_changeset::{Changeset, Node};
 use hg_instab::Instabilities;
 use hg_marker::{Marker, decode};
 use hg_phases::Phase;
 use hg_replica::{Part, Replica};
 use std::alloc::Global;
-use std::collections::BTreeSet;
 use std::process::Abort;
 
 /// Ids under which nothing is held.
@@ -108,16 +108,6 @@ pub fn rewrite(
     push_marker(alloc, &mut part, old, new, flags)?;
     replica.absorb(&part).ok()?;
     Some(())
-}
-
-/// Whether the set has exactly these nodes, which are listed once each.
-pub fn has_exactly(set: &BTreeSet<Node>, nodes: &[Node]) -> bool {
-    for node in nodes {
-        if !set.contains(node) {
-            return false;
-        }
-    }
-    set.len() == nodes.len()
 }
 
 /// The instabilities are these, and a copy has them too.

@@ -1,21 +1,23 @@
 //! Small histories, and what of them is in view.
-use crate::scene::{ELSEWHERE, commit, has_exactly, rewrite};
+use crate::same::has_exactly;
+use crate::scene::{ELSEWHERE, commit, rewrite};
 use hg_changeset::Node;
 use hg_phases::Phase;
 use hg_replica::Replica;
-use hg_view::{is_visible, served, visible};
+use hg_view::{Pins, is_visible, served, visible};
 use std::alloc::Global;
 use std::process::Abort;
 
 fn expect_views(rt: &impl Abort, alloc: Global, replica: &Replica, seen: &[Node], given: &[Node]) {
-    let view = visible(alloc, replica).expect(rt, "memory");
+    let pins = Pins::new(alloc);
+    let view = visible(alloc, replica, &pins).expect(rt, "memory");
     assert!(rt; has_exactly(&view, seen));
-    let view = served(alloc, replica).expect(rt, "memory");
+    let view = served(alloc, replica, &pins).expect(rt, "memory");
     assert!(rt; has_exactly(&view, given));
 }
 
 fn expect_visible(rt: &impl Abort, alloc: Global, replica: &Replica, node: Node, expected: bool) {
-    let answer = is_visible(alloc, replica, node).expect(rt, "memory");
+    let answer = is_visible(alloc, replica, &Pins::new(alloc), node).expect(rt, "memory");
     assert!(rt; answer == expected);
 }
 
@@ -55,10 +57,11 @@ fn what_was_rewritten_in_a_circle_is_hidden(rt: HostRuntime) {
 
 // Whether the views are told where growth was refused before, at most once.
 fn told_again(alloc: Global, replica: &Replica) -> bool {
-    if visible(alloc, replica).is_ok() {
-        return served(alloc, replica).is_ok() || served(alloc, replica).is_ok();
+    let pins = Pins::new(alloc);
+    if visible(alloc, replica, &pins).is_ok() {
+        return served(alloc, replica, &pins).is_ok() || served(alloc, replica, &pins).is_ok();
     }
-    visible(alloc, replica).is_ok() && served(alloc, replica).is_ok()
+    visible(alloc, replica, &pins).is_ok() && served(alloc, replica, &pins).is_ok()
 }
 
 // A root that was pruned, with a child.
@@ -75,7 +78,7 @@ fn refused_growth_of_a_walk_is_passed_on(rt: HostRuntime) {
     let Some(root) = pruned(alloc, &mut replica) else {
         return;
     };
-    if is_visible(alloc, &replica, root).is_err() {
+    if is_visible(alloc, &replica, &Pins::new(alloc), root).is_err() {
         expect_visible(&rt, alloc, &replica, root, true);
     }
 }

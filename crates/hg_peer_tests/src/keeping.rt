@@ -3,7 +3,7 @@
 use crate::operations::{entry_of, some_node, some_operation};
 use hg_changeset::Node;
 use hg_history::Fault;
-use hg_instab_tests::{are_same, is_up_to_date};
+use hg_instab_tests::{are_same, has_exactly, is_up_to_date};
 use hg_join_tests::Dice;
 use hg_message::{Message, OfferRefusal, Outgoing};
 use hg_phases::Phase;
@@ -303,10 +303,6 @@ fn pull(alloc: Global, kept: &mut Kept, other: &Kept) -> Option<()> {
 }
 
 // Whether a set has exactly these.
-fn has_exactly(set: &BTreeSet<Node>, nodes: &[Node]) -> bool {
-    nodes.iter().all(|node| set.contains(node)) && set.len() == nodes.len()
-}
-
 fn expect_right(rt: &impl Abort, pair: &Pair) {
     assert_eq!(rt; pair.is_right(), Some(true));
 }
