@@ -1,6 +1,7 @@
 //! Histories that come step by step: parts of which the first is what there was before.
-use crate::chain::{add_draft, bottom_of, chain_on, empty};
+use crate::chain::{add_draft, bottom_of, chain_on, empty, tip_of};
 use crate::markers::{add_marker, node};
+use crate::states::FEW;
 use hg_changeset::{Changeset, Node};
 use hg_phases::Phase;
 use hg_replica::Part;
@@ -9,6 +10,8 @@ use std::alloc::{AllocError, Global};
 /// Which history.
 #[derive(Clone, Copy)]
 pub enum History {
+    /// A chain of this size, and a thousand commits on its tip.
+    Commits,
     /// Commits on the tip, each of which is then amended.
     Amends,
     /// Amends of the bottom of a stack, the first of it and each further one of what the one before made.
@@ -39,6 +42,7 @@ fn push_history(
     history: History,
 ) -> Result<(), AllocError> {
     match history {
+        History::Commits => push_commits(alloc, parts, size),
         History::Amends => push_amended_commits(alloc, parts, size),
         History::Orphans => push_stack(alloc, parts, size),
         History::Publications => push_publications(alloc, parts, size),
@@ -47,6 +51,16 @@ fn push_history(
         History::Hub => push_hub(alloc, parts, size),
         History::HubBackwards => push_hub_backwards(alloc, parts, size),
     }
+}
+
+fn push_commits(alloc: Global, parts: &mut Vec<Part>, size: usize) -> Result<(), AllocError> {
+    let chain = chain_on(alloc, Node::NULL, size)?;
+    let mut tip = tip_of(&chain);
+    parts.push(chain)?;
+    for number in 0..FEW {
+        tip = push_commit(alloc, parts, tip, size.wrapping_add(number))?;
+    }
+    Ok(())
 }
 
 fn push_amended_commits(

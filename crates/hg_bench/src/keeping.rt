@@ -2,6 +2,7 @@
 //! to tell them from scratch.
 use crate::chain::replica_of;
 use crate::histories::{History, parts_of};
+use crate::states::time_absorbing;
 use hg_instab::Instabilities;
 use hg_replica::{Part, Replica};
 use hg_view::Kept;
@@ -44,6 +45,20 @@ fn count_orphans(kept: &mut Kept, steps: &[Part]) -> usize {
         count = count.wrapping_add(kept.instabilities().orphan().len());
     }
     count
+}
+
+/// The same steps, each absorbed by a replica that keeps no sets: what they cost without.
+pub fn absorb(
+    rt: &(impl CpuClock + AllocGlobal),
+    size: usize,
+    history: History,
+) -> io::Result<Duration> {
+    let alloc = rt.alloc();
+    let parts = parts_of(alloc, size, history)?;
+    match parts.split_first() {
+        Some((start, steps)) => time_absorbing(rt, &mut replica_of(alloc, start), steps),
+        None => Ok(Duration::ZERO),
+    }
 }
 
 /// The sets at the end of a history, told from scratch ten times.

@@ -16,7 +16,7 @@ mod successors;
 
 use discoveries::discover;
 use histories::History;
-use keeping::{keep, tell};
+use keeping::{absorb, keep, tell};
 use markers::{Shape, add_markers, list_markers, read_markers, write_markers};
 use messages::{find_offer, make_offer, read_offer, send_offer, take_offer, write_offer};
 use rewrites::{amend_bottom, tell_instabilities};
@@ -104,6 +104,7 @@ fn spent_on_keeping(
     size: usize,
 ) -> io::Result<Duration> {
     match case {
+        "keep-commits" => keep(rt, size, History::Commits),
         "keep-amends" => keep(rt, size, History::Amends),
         "keep-orphans" => keep(rt, size, History::Orphans),
         "keep-publications" => keep(rt, size, History::Publications),
@@ -111,6 +112,7 @@ fn spent_on_keeping(
         "keep-amends-above-fork" => keep(rt, size, History::AmendsAboveFork),
         "keep-hub" => keep(rt, size, History::Hub),
         "keep-hub-backwards" => keep(rt, size, History::HubBackwards),
+        "absorb-amends" => absorb(rt, size, History::Amends),
         "tell-amends" => tell(rt, size, History::Amends),
         _ => Ok(Duration::ZERO),
     }

@@ -4,7 +4,7 @@ use hg_changeset::{Entry, Node};
 use hg_instab::Instabilities;
 use hg_replica::Replica;
 use hg_rewrite::{Op, decide};
-use hg_view::{served, visible};
+use hg_view::{Pins, served, visible};
 use std::alloc::{AllocError, Global};
 use std::collections::BTreeMap;
 use std::io;
@@ -34,9 +34,10 @@ pub fn tell_instabilities(rt: &(impl CpuClock + AllocGlobal), size: usize) -> io
 
 fn time_telling(rt: &impl CpuClock, alloc: Global, replica: &Replica) -> io::Result<Duration> {
     let before = rt.thread_cpu_time()?;
+    let pins = Pins::new(alloc);
     let _sets = Instabilities::from_scratch(alloc, replica)?;
-    let _visible = visible(alloc, replica)?;
-    let _served = served(alloc, replica)?;
+    let _visible = visible(alloc, replica, &pins)?;
+    let _served = served(alloc, replica, &pins)?;
     Ok(rt.thread_cpu_time()?.saturating_sub(before))
 }
 

@@ -6,8 +6,8 @@ use std::alloc::{AllocError, Global};
 use std::io;
 use std::time::{CpuClock, Duration};
 
-// How many changesets are absorbed one by one, and how often roots are told.
-const FEW: usize = 1000;
+/// How many changesets are absorbed one by one, and how often roots are told.
+pub const FEW: usize = 1000;
 
 /// A thousand changesets, each absorbed alone into a replica of this size.
 pub fn absorb_one_by_one(rt: &(impl CpuClock + AllocGlobal), size: usize) -> io::Result<Duration> {
@@ -37,7 +37,8 @@ pub fn absorb_at_once(rt: &(impl CpuClock + AllocGlobal), size: usize) -> io::Re
     time_absorbing(rt, &mut Replica::new(alloc), &parts)
 }
 
-fn time_absorbing(
+/// How long a replica takes to absorb each of the parts.
+pub fn time_absorbing(
     rt: &impl CpuClock,
     replica: &mut Replica,
     parts: &[Part],
