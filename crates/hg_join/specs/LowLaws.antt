@@ -10,7 +10,7 @@ pub as_low_same : (a : Option ℕ) → IsAsLow a a
 as_low_same None = tt
 as_low_same (Some m) = omega arith
 
-as_low_along : (a b c : Option ℕ) → IsAsLow a b → IsAsLow b c → IsAsLow a c
+pub as_low_along : (a b c : Option ℕ) → IsAsLow a b → IsAsLow b c → IsAsLow a c
 as_low_along None b c p q = tt
 as_low_along (Some m) None c p q = absurd p
 as_low_along (Some m) (Some n) None p q = absurd q

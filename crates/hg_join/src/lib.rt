@@ -55,11 +55,14 @@
 //! # States that act
 //!
 //! An [`Actor`] is a state that also decides what its owner asks for, offers what it holds as bytes, and reads what
-//! others offered. Each of that gives a part or bytes and changes nothing, so that all a node ever does to its state
-//! is to absorb. What follows for many nodes that exchange messages is proved once for all of them, in `hg_world`.
+//! others offered. Each of that gives a part or bytes and changes nothing, so that all a node ever does to what its
+//! state says is to absorb. Beside that a state may have something of its own, as what its owner looks at, which a mark
+//! changes and no other node hears of. What follows for many nodes that exchange messages is proved once for all of
+//! them, in `hg_world`.
 //!
 //! `Prices` of the crate `hg_join_tests` is the plain example: over a [`LowMap`], the lowest price that was heard of
-//! for each item. It is told of a price, tells others the prices of some items, and hears of theirs.
+//! for each item. It is told of a price, tells others the prices of some items, and hears of theirs. Its own is the
+//! item that it keeps back from others, if there is one.
 //!
 //! 1. **What an operation comes to.** `Decides s op p` gives the part by a formula over what the state says, so that
 //!    states with one content decide alike (`decided_once`). For `Prices`, `Lowers`: a quote below the price that is
@@ -76,16 +79,22 @@
 //!    (`offered_alike`). It can be read, and says no more than the state says (`offered_is_covered`): nothing is
 //!    invented, and [`offers_are_known`] says what follows. `Prices` offers the quotes of those of the asked items that
 //!    have a price, so it has no reason against an ask.
-//! 5. **Parts that no code made.** The clauses `due` hold also where memory ran out, so they speak of parts that no
+//! 5. **What is the state's own.** `owned` gives what a mark changes, free of order, as `content` gives what a state
+//!    says; for `Prices` the item that is kept back. `own_of_empty` is what it is before the first mark; for `Prices`
+//!    no item. What absorbing a part tells has to say that it leaves that (`told_leaves_own`), and a mark leaves the
+//!    content (`marked_says_the_same`). Where it changes what is decided or offered, as at `Prices` what is offered,
+//!    the laws of deciding and offering take it as a premise beside the content. A state without anything of its own
+//!    has a mark of one value, which changes nothing.
+//! 6. **Parts that no code made.** The clauses `due` hold also where memory ran out, so they speak of parts that no
 //!    code made. Let contracts see a part as a plain value: `Quotes` is a list to them, while a `Vec` also has room and
 //!    an address, which no formula gives.
-//! 6. **Invariants.** A law ranges over every value that contracts see as a state, and not only over those that its
+//! 7. **Invariants.** A law ranges over every value that contracts see as a state, and not only over those that its
 //!    type admits. Where a law needs the type's invariant, say in `Decides`, in `Offers` and in the reasons that it
 //!    holds; the methods know it, and each clause can hand it on.
 //!
-//! The laws of acting have their limits too. An actor that has a reason against each operation, each ask and all bytes
-//! keeps them, and so does code that always answers want of memory. The former shows in the definitions, and the
-//! latter is for tests: call each method once with ample memory.
+//! The laws of acting have their limits too. An actor that has a reason against each operation, each ask, each mark and
+//! all bytes keeps them, and so does code that always answers want of memory. The former shows in the definitions, and
+//! the latter is for tests: call each method once with ample memory.
 #![tactic(auto)]
 
 mod actor;

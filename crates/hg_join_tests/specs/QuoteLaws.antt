@@ -6,12 +6,12 @@ use Rattle.std.specs.FinMap.{nat_cmp-IsAntisymmetric}
 use Rattle.std.proofs.Common.{arith, sym, ◌∙◌, ap, subst}
 use Rattle.std.proofs.lemmas.Map.Views.{tells_apart}
 use Rattle.hg_join.specs.Order.{SaySame, IsDue}
-use Rattle.hg_join.specs.Lows.{IsAsLow, given, lowest_given, LowsCover}
-use Rattle.hg_join.specs.LowLaws.{as_low_same, lower_least}
-use Rattle.hg_join_tests.specs.Quotes.{Lowers, IsAgainstQuote, quote_of, quotes_of, bytes_of, AreBytesOf}
-use Rattle.hg_join_tests.specs.Quotes.{IsAgainstBytesOf, IsNoMemory}
+use Rattle.hg_join.specs.Lows.{IsAsLow, given, lowest_given, lows_of, LowsCover}
+use Rattle.hg_join.specs.LowLaws.{as_low_same, as_low_along, lower_least}
+use Rattle.hg_join_tests.specs.Quotes.{PricesValue, Lowers, IsAgainstQuote, quote_of, quotes_of, bytes_of, AreBytesOf}
+use Rattle.hg_join_tests.specs.Quotes.{is_kept_back, told, IsAgainstBytesOf, IsNoMemory, KeepsBack, HasNoPrice}
 use Rattle.hg_join_tests.specs.declared.prices.PriceRefusal.{PriceRefusal}
-use Rattle.hg_join_tests.specs.declared.prices.PriceRefusal.TheVariants.{NotLower, OddBytes}
+use Rattle.hg_join_tests.specs.declared.prices.PriceRefusal.TheVariants.{NotLower, OddBytes, NoPrice}
 
 -- ---- quoting
 
@@ -67,6 +67,10 @@ given_as_low : (b : Bool) (price : ℕ) (there : Option ℕ) → (b ≡ true →
 given_as_low true price there h = subst (IsAsLow (Some price)) (sym (h refl)) (as_low_same (Some price))
 given_as_low false price there h = tt
 
+told_if : (b : Bool) (price : Option ℕ) → IsAsLow (cond b None price) price
+told_if true price = tt
+told_if false price = as_low_same price
+
 module _ (price : ℕ → Option ℕ) where
   quote_as_low : (item k : ℕ) (p : Option ℕ) (quotes : List (ℕ × ℕ)) → price item ≡ p →
       IsAsLow (lowest_given nat_cmp quotes k) (price k) →
@@ -81,19 +85,42 @@ module _ (price : ℕ → Option ℕ) where
   quotes_as_low [] k = tt
   quotes_as_low (item ∷ items) k = quote_as_low item k (price item) (quotes_of price items) refl (quotes_as_low items k)
 
-  -- the quotes of prices say no more than the prices
-  pub quotes_are_covered : (items bytes : List ℕ) (p : List (ℕ × ℕ)) → AreBytesOf bytes (quotes_of price items) →
-      AreBytesOf bytes p → LowsCover nat_cmp price p
-  quotes_are_covered items bytes p h k =
-      subst (LowsCover nat_cmp price) (spelled_tell bytes (quotes_of price items) p h k) (quotes_as_low items)
+-- what others are told of an item is as low as its price
+told_as_low : (prices : PricesValue) (k : ℕ) → IsAsLow (told prices k) (lows_of nat_cmp prices.lows k)
+told_as_low prices k = told_if (is_kept_back prices.kept_back k) (lows_of nat_cmp prices.lows k)
 
--- equal prices are quoted alike
-pub quotes_say_same : (f g : ℕ → Option ℕ) (items bytes others : List ℕ) (p q : List (ℕ × ℕ)) → f ≡ g →
-    AreBytesOf bytes (quotes_of f items) → AreBytesOf others (quotes_of g items) → AreBytesOf bytes p →
+-- the quotes of prices say no more than the prices
+pub quotes_are_covered : (prices : PricesValue) (items bytes : List ℕ) (p : List (ℕ × ℕ)) →
+    AreBytesOf bytes (quotes_of (told prices) items) → AreBytesOf bytes p →
+    LowsCover nat_cmp (lows_of nat_cmp prices.lows) p
+quotes_are_covered prices items bytes p h k =
+    subst (LowsCover nat_cmp (lows_of nat_cmp prices.lows))
+    (spelled_tell bytes (quotes_of (told prices) items) p h k)
+    (λ key. as_low_along (lowest_given nat_cmp (quotes_of (told prices) items) key) (told prices key)
+    (lows_of nat_cmp prices.lows key) (quotes_as_low (told prices) items key) (told_as_low prices key))
+
+-- equal prices that keep the same item back are quoted alike
+pub quotes_say_same : (s t : PricesValue) (items bytes others : List ℕ) (p q : List (ℕ × ℕ)) →
+    lows_of nat_cmp s.lows ≡ lows_of nat_cmp t.lows → s.kept_back ≡ t.kept_back →
+    AreBytesOf bytes (quotes_of (told s) items) → AreBytesOf others (quotes_of (told t) items) → AreBytesOf bytes p →
     AreBytesOf others q →
     SaySame (λ _. ⊤) (LowsCover nat_cmp) p q
-quotes_say_same f g items bytes others p q e h k x y =
+quotes_say_same s t items bytes others p q e kept h k x y =
+    let alike : told s ≡ told t =
+    (λ i item. cond (is_kept_back (kept i) item) None (e i item)) in
     let same : p ≡ q =
-    sym (spelled_tell bytes (quotes_of f items) p h x) ∙ ap (λ (price : ℕ → Option ℕ). quotes_of price items) e
-    ∙ spelled_tell others (quotes_of g items) q k y in
+    sym (spelled_tell bytes (quotes_of (told s) items) p h x)
+    ∙ ap (λ (price : ℕ → Option ℕ). quotes_of price items) alike
+    ∙ spelled_tell others (quotes_of (told t) items) q k y in
     λ c v. (λ covers. subst (LowsCover nat_cmp c) same covers, λ covers. subst (LowsCover nat_cmp c) (sym same) covers)
+
+-- ---- what is kept back
+
+pub keeping_back_is_due : (s : PricesValue) (item : ℕ) → IsDue (KeepsBack s item) (HasNoPrice s item)
+keeping_back_is_due s item f g =
+    let next : PricesValue = record { lows = s.lows; kept_back = Some item } in
+    f next ((λ none. g NoPrice (none, refl)), refl, refl)
+
+pub memory_is_not_priceless : (s : PricesValue) (item : ℕ) (refusal : PriceRefusal) → IsNoMemory refusal →
+    HasNoPrice s item refusal → ⊥
+memory_is_not_priceless s item refusal h k = let e : refusal ≡ NoPrice = k.1 in cc

@@ -1,11 +1,17 @@
 -- What prices decide, offer and read: the definitions that an `Actor` takes.
-use Rattle.std.specs.Prelude.{◌≡◌, ℕ, ◌%◌, Option, Some, None, List, [], ◌∷◌, ◌++◌, length}
+use Rattle.std.specs.Prelude.{◌≡◌, ◌≢◌, ℕ, ◌==◌, ◌%◌, Bool, false, Option, Some, None, List, [], ◌∷◌, ◌++◌, length}
+use Rattle.std.specs.Prelude.{if◌then◌else◌}
 use Rattle.std.specs.Ordering.{nat_cmp}
 use Rattle.std.specs.declared.vec.Vec.{Vec}
 use Rattle.std.specs.declared.alloc.Global.{Global}
 use Rattle.hg_join.specs.Lows.{IsAsLow, lows_of}
 use Rattle.hg_join_tests.specs.declared.prices.PriceRefusal.{PriceRefusal}
-use Rattle.hg_join_tests.specs.declared.prices.PriceRefusal.TheVariants.{NotLower, OddBytes, NoMemory}
+use Rattle.hg_join_tests.specs.declared.prices.PriceRefusal.TheVariants.{NotLower, OddBytes, NoPrice, NoMemory}
+
+-- the prices as they came, and the item that is kept back from others, if one is
+pub record PricesValue : Type 0 where
+  pub lows : List (ℕ × ℕ)
+  pub kept_back : Option ℕ
 
 -- the item has a price as low already
 abbrev pub IsKnown : List (ℕ × ℕ) → ℕ × ℕ → Type 0
@@ -34,9 +40,18 @@ abbrev pub bytes_of : List (ℕ × ℕ) → List ℕ
 bytes_of [] = []
 bytes_of (quote ∷ quotes) = quote.0 ∷ quote.1 ∷ bytes_of quotes
 
+-- whether the item is the one that is kept back
+abbrev pub is_kept_back : Option ℕ → ℕ → Bool
+is_kept_back None item = false
+is_kept_back (Some kept) item = kept == item
+
+-- what others are told of an item: its price, if it has one and isn't kept back
+abbrev pub told : PricesValue → ℕ → Option ℕ
+told prices item = if is_kept_back prices.kept_back item then None else lows_of nat_cmp prices.lows item
+
 -- the bytes are those of the quotes of what is asked for
-abbrev pub Quotes : List (ℕ × ℕ) → Vec ℕ Global → List ℕ → Type 0
-Quotes prices items bytes = bytes ≡ bytes_of (quotes_of (lows_of nat_cmp prices) items.items)
+abbrev pub Quotes : PricesValue → Vec ℕ Global → List ℕ → Type 0
+Quotes prices items bytes = bytes ≡ bytes_of (quotes_of (told prices) items.items)
 
 -- the bytes are those of the part
 abbrev pub AreBytesOf : List ℕ → List (ℕ × ℕ) → Type 0
@@ -45,6 +60,16 @@ AreBytesOf bytes part = bytes ≡ bytes_of part
 -- the bytes are refused since the last item has no price
 abbrev pub IsAgainstBytesOf : List ℕ → PriceRefusal → Type 0
 IsAgainstBytesOf bytes refusal = (length bytes % 2 ≡ 1) × (refusal ≡ OddBytes)
+
+-- the item has a price and is kept back from then on, and the prices stay
+abbrev pub KeepsBack : PricesValue → ℕ → PricesValue → Type 0
+KeepsBack old item new =
+    (lows_of nat_cmp old.lows item ≢ None) × (new.kept_back ≡ Some item)
+    × (lows_of nat_cmp new.lows ≡ lows_of nat_cmp old.lows)
+
+-- the item is not kept back since it has no price
+abbrev pub HasNoPrice : PricesValue → ℕ → PriceRefusal → Type 0
+HasNoPrice prices item refusal = (lows_of nat_cmp prices.lows item ≡ None) × (refusal ≡ NoPrice)
 
 -- the refusal is want of memory
 abbrev pub IsNoMemory : PriceRefusal → Type 0

@@ -56,6 +56,28 @@ fn prices_that_are_asked_for_are_told_and_heard(rt: HostRuntime) {
 }
 
 #[test]
+fn an_item_that_is_kept_back_is_not_told(rt: HostRuntime) {
+    let alloc = rt.alloc();
+    let mut prices = told_of(alloc, &[(1, 9), (2, 4)]).expect(&rt, "memory");
+    assert!(rt; prices.mark(&1).is_ok());
+    let items = [1, 2].to_vec(alloc).expect(&rt, "memory");
+    let bytes = prices.offer(alloc, &items).expect(&rt, "memory");
+    assert_eq!(rt; bytes.as_slice(), [2, 4].as_slice());
+    assert_eq!(rt; prices.get(1), Some(9));
+}
+
+#[test]
+fn a_mark_of_an_item_without_price_is_refused(rt: HostRuntime) {
+    let alloc = rt.alloc();
+    let mut prices = told_of(alloc, &[(1, 9), (2, 4)]).expect(&rt, "memory");
+    assert!(rt; prices.mark(&2).is_ok());
+    assert_eq!(rt; prices.mark(&3).err(), Some(PriceRefusal::NoPrice));
+    let items = [1, 2, 3].to_vec(alloc).expect(&rt, "memory");
+    let bytes = prices.offer(alloc, &items).expect(&rt, "memory");
+    assert_eq!(rt; bytes.as_slice(), [1, 9].as_slice());
+}
+
+#[test]
 fn an_item_without_its_price_is_refused(rt: HostRuntime) {
     assert_eq!(rt;
         Prices::read(rt.alloc(), &[1, 2, 3]).err(),

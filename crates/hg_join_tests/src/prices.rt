@@ -1,14 +1,14 @@
 //! A small state that acts, as an example for one of your own: the lowest price that was heard of for each item.
-ghost use Rattle.std.specs.Prelude.{◌≡◌, ℕ, Option, List, ⊤, IfOk, IfErr};
+ghost use Rattle.std.specs.Prelude.{◌≡◌, ℕ, Option, None as Nothing, List, ⊤, refl, IfOk, IfErr, OnOk};
 ghost use Rattle.std.specs.Ordering.{nat_cmp};
 ghost use Rattle.std.proofs.Common.{sym, ◌∙◌};
 ghost use Rattle.hg_join.specs.Lows.{LowsBelow, LowsJoined, LowsCover, LowsAfter, lows_of};
 ghost use Rattle.hg_join.specs.LowLaws.{lows_ordered, lows_commute, lows_associate, lows_idempotent, lows_least};
 ghost use Rattle.hg_join.specs.LowLaws.{lows_stay_covered, lows_absorbed, lows_again, lows_swap};
-ghost use Rattle.hg_join_tests.specs.Quotes.{Lowers, IsAgainstQuote, Quotes as AreQuoted, quotes_of, AreBytesOf};
-ghost use Rattle.hg_join_tests.specs.Quotes.{IsAgainstBytesOf, IsNoMemory};
+ghost use Rattle.hg_join_tests.specs.Quotes.{PricesValue, Lowers, IsAgainstQuote, Quotes as AreQuoted, quotes_of};
+ghost use Rattle.hg_join_tests.specs.Quotes.{told, AreBytesOf, IsAgainstBytesOf, IsNoMemory, KeepsBack, HasNoPrice};
 ghost use Rattle.hg_join_tests.specs.QuoteLaws.{memory_is_not_known, spelled_tell, spelled_is_even, memory_is_not_odd};
-ghost use Rattle.hg_join_tests.specs.QuoteLaws.{quotes_are_covered, quotes_say_same};
+ghost use Rattle.hg_join_tests.specs.QuoteLaws.{quotes_are_covered, quotes_say_same, memory_is_not_priceless};
 ghost use Rattle.hg_join_tests.specs.declared.prices.PriceRefusal.TheVariants.{NoMemory as OutOfMemory};
 
 use hg_join::{Actor, JoinState, LowMap, NoMemory};
@@ -29,27 +29,31 @@ impl Model for Quotes {
     ghost view = { λ quotes. quotes.pairs.items };
 }
 
-/// From items to the lowest price that was heard of for each.
+/// From items to the lowest price that was heard of for each, with the item that is kept back from others, if one is.
 ///
 /// An operation quotes an item at a price, and an offer tells the prices of some items. Its bytes are each item that
-/// has a price, and that price after it.
+/// has a price and isn't kept back, and that price after it. A mark says which item is kept back from now on.
 #[derive(Drop)]
 pub struct Prices {
     lows: LowMap<u8>,
+    kept_back: Option<u8>,
 }
 
 impl Model for Prices {
-    ghost use Rattle.std.specs.Prelude.{List, ℕ};
+    ghost use Rattle.std.specs.Coded.{codes};
+    ghost use Rattle.hg_join_tests.specs.Quotes.{PricesValue};
 
-    ghost Value = { List (ℕ × ℕ) };
+    ghost Value = { PricesValue };
 
-    ghost view = { λ prices. prices.lows };
+    ghost coded = { Prim.hlevel (codes) };
+
+    ghost view = { λ prices. record { lows = prices.lows; kept_back = prices.kept_back } };
 }
 
 impl Prices {
     /// The lowest price that was heard of for an item, if any was.
     pub fn get(&self, item: u8) -> Option<u8>
-        ensures { result ≡ lows_of nat_cmp self.now item }
+        ensures { result ≡ lows_of nat_cmp self.now.lows item }
     {
         self.lows.get(item)
     }
@@ -63,6 +67,9 @@ pub enum PriceRefusal {
 
     /// The last item has no price.
     OddBytes,
+
+    /// The item that is to be kept back has no price.
+    NoPrice,
 
     /// Memory ran out.
     NoMemory,
@@ -93,7 +100,7 @@ impl JoinState for Prices {
 
     ghost Content = { ℕ → Option ℕ };
 
-    ghost content = { λ prices. lows_of nat_cmp prices };
+    ghost content = { λ prices. lows_of nat_cmp prices.lows };
 
     ghost IsValid = { λ f. ⊤ };
 
@@ -115,7 +122,7 @@ impl JoinState for Prices {
 
     ghost IsFirstFault = { λ f quotes fault. ⊥ };
 
-    ghost Tells = { λ old change new. ⊤ };
+    ghost Tells = { λ old change new. new.kept_back ≡ old.kept_back };
 
     ghost IsWantOfMemory = { λ fault. ⊤ };
 
@@ -154,6 +161,7 @@ impl JoinState for Prices {
     fn copy(&self) -> Result<Prices, NoMemory> {
         Ok(Prices {
             lows: self.lows.copy()?,
+            kept_back: self.kept_back,
         })
     }
 
@@ -175,16 +183,29 @@ impl Actor for Prices {
 
     type Ask = Vec<u8>;
 
+    // The item that is kept back from now on.
+    type Mark = u8;
+
     type Refusal = PriceRefusal;
 
-    ghost Decides = { Lowers };
+    ghost Own = { Option ℕ };
 
-    ghost IsAgainstOp = { IsAgainstQuote };
+    ghost owned = { λ prices. prices.kept_back };
+
+    ghost own_of_empty = { Nothing };
+
+    ghost Decides = { λ prices. Lowers prices.lows };
+
+    ghost IsAgainstOp = { λ prices. IsAgainstQuote prices.lows };
 
     ghost Offers = { AreQuoted };
 
     // Items without a price are left out, so there is no reason against an offer.
     ghost IsAgainstAsk = { λ prices items refusal. ⊥ };
+
+    ghost Marks = { KeepsBack };
+
+    ghost IsAgainstMark = { HasNoPrice };
 
     ghost Spells = { AreBytesOf };
 
@@ -192,7 +213,7 @@ impl Actor for Prices {
 
     ghost IsRefusalOfMemory = { IsNoMemory };
 
-    ghost decided_once = { λ s t quote p q v e h k. h.1 ∙ sym k.1 };
+    ghost decided_once = { λ s t quote p q v e own h k. h.1 ∙ sym k.1 };
 
     ghost decided_is_not_refused = { λ s quote p refusal v h k. h.0 k.0 };
 
@@ -200,26 +221,36 @@ impl Actor for Prices {
 
     ghost offered_is_not_refused = { λ s items bytes refusal v h k. k };
 
-    ghost offered_is_spelled = { λ s items bytes v h. (quotes_of (lows_of nat_cmp s) items.items, h) };
+    ghost offered_is_spelled = { λ s items bytes v h. (quotes_of (told s) items.items, h) };
 
-    ghost offered_is_covered = { λ s items bytes p v. quotes_are_covered (lows_of nat_cmp s) items.items bytes p };
+    ghost offered_is_covered = { λ s items bytes p v. quotes_are_covered s items.items bytes p };
 
-    ghost offered_alike = { λ s t items bytes others p q v. quotes_say_same (lows_of nat_cmp s) (lows_of nat_cmp t)
-        items.items bytes others p q };
+    ghost offered_alike = { λ s t items bytes others p q v. quotes_say_same s t items.items bytes others p q };
+
+    ghost marked_says_the_same = { λ s t item h. h.2 };
+
+    ghost marked_once = { λ s t next follow item e own h k. h.1 ∙ sym k.1 };
+
+    ghost marked_is_not_refused = { λ s t item refusal h k. h.0 k.0 };
+
+    ghost told_leaves_own = { λ s t change h. h };
 
     ghost spelled_once = { spelled_tell };
 
     ghost spelled_is_not_refused = { spelled_is_even };
 
-    ghost memory_is_not_against_op = { memory_is_not_known };
+    ghost memory_is_not_against_op = { λ s. memory_is_not_known s.lows };
 
     ghost memory_is_not_against_ask = { λ s items refusal h k. k };
+
+    ghost memory_is_not_against_mark = { memory_is_not_priceless };
 
     ghost memory_is_not_against_bytes = { memory_is_not_odd };
 
     fn empty(alloc: Global) -> Result<Prices, NoMemory> {
         Ok(Prices {
             lows: LowMap::new(alloc),
+            kept_back: None,
         })
     }
 
@@ -234,7 +265,15 @@ impl Actor for Prices {
     }
 
     fn offer(&self, alloc: Global, items: &Vec<u8>) -> Result<Vec<u8>, PriceRefusal> {
-        bytes_of_quotes(alloc, &self.lows, items)
+        bytes_of_quotes(alloc, self, items)
+    }
+
+    fn mark(&mut self, item: &u8) -> Result<(), PriceRefusal> {
+        if self.lows.get(*item).is_none() {
+            return Err(PriceRefusal::NoPrice);
+        }
+        self.kept_back = Some(*item);
+        Ok(())
     }
 
     fn read(alloc: Global, bytes: &[u8]) -> Result<Quotes, PriceRefusal> {
@@ -252,17 +291,27 @@ impl Actor for Prices {
     }
 }
 
-/// Each of the items that has a price, and that price after it.
-fn bytes_of_quotes(alloc: Global, lows: &LowMap<u8>, items: &[u8]) -> Result<Vec<u8>, PriceRefusal>
-    ensures ok { IfOk result (λ bytes. AreBytesOf bytes.items (quotes_of (lows_of nat_cmp lows.now) items.now)) }
+/// Each of the items that has a price and isn't kept back, and that price after it.
+fn bytes_of_quotes(alloc: Global, prices: &Prices, items: &[u8]) -> Result<Vec<u8>, PriceRefusal>
+    ensures ok { IfOk result (λ bytes. AreBytesOf bytes.items (quotes_of (told prices.now) items.now)) }
     ensures err { IfErr result IsNoMemory }
 {
     let mut bytes = Vec::new(alloc);
     for item in items {
-        if let Some(price) = lows.get(*item) {
+        if let Some(price) = told_price(prices, *item) {
             bytes.push(*item)?;
             bytes.push(price)?;
         }
     }
     Ok(bytes)
+}
+
+/// The price of an item that isn't kept back, if it has one.
+fn told_price(prices: &Prices, item: u8) -> Option<u8>
+    ensures { result ≡ told prices.now item }
+{
+    if prices.kept_back == Some(item) {
+        return None;
+    }
+    prices.get(item)
 }

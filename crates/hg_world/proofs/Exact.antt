@@ -1,14 +1,14 @@
--- What may be accepted or offered is refused for want of memory alone, and what is missing is told.
+-- What may be accepted, offered or marked is refused for want of memory alone, and what is missing is told.
 use Rattle.std.proofs.Common.{◌≡◌, ◌↔◌, ℕ, Option, Some, None, List, refl, ap, subst, inl, inr}
 use Rattle.std.specs.Prelude.{slice_get}
 use Rattle.hg_join.specs.declared.state.JoinState.{Ghosts as StateWords}
 use Rattle.hg_join.specs.declared.actor.Actor.{Ghosts as ActorWords}
 use Rattle.hg_world.specs.declared.event.Event.{Event}
-use Rattle.hg_world.specs.declared.event.Event.TheVariants.{Local, Offer, Take}
+use Rattle.hg_world.specs.declared.event.Event.TheVariants.{Local, Offer, Take, Mark}
 use Rattle.hg_world.specs.declared.event.EventRefusal.{EventRefusal}
 use Rattle.hg_world.specs.declared.event.EventRefusal.TheVariants.{NoNode, NoMessage, ByActor, ByState}
 use Rattle.hg_world.specs.declared.event.Answer.{Answer}
-use Rattle.hg_world.specs.declared.event.Answer.TheVariants.{Accepted, Offered, Refused}
+use Rattle.hg_world.specs.declared.event.Answer.TheVariants.{Accepted, Offered, Marked, Refused}
 use Rattle.hg_world.specs.Runs.{Snapshot, place_of, IsPartOf, IsReason, IsMemory, Happens, AllValid}
 use Rattle.hg_world.proofs.Places.{one_at}
 
@@ -19,14 +19,15 @@ refused_same : {C R F : Type 0} (a b : Answer C R F) (r q : EventRefusal R F) �
     r ≡ q
 refused_same a b r q h k e = cc
 
-module _ {S O A R P C F : Type 0} (J : StateWords S P C F) (W : ActorWords S O A R P C F) where
-  no_node_is_no_reason : (messages : List (List ℕ)) (node : S) (event : Event O A) →
+module _ {S O A M R P C F : Type 0} (J : StateWords S P C F) (W : ActorWords S O A M R P C F) where
+  no_node_is_no_reason : (messages : List (List ℕ)) (node : S) (event : Event O A M) →
       IsReason J W messages node event NoNode → ⊥
   no_node_is_no_reason messages node (Local at op) h = h
   no_node_is_no_reason messages node (Offer at ask) h = h
   no_node_is_no_reason messages node (Take at message) h = h
+  no_node_is_no_reason messages node (Mark at mark) h = h
 
-  pub no_node_exact : (old new : Snapshot S) (event : Event O A) (answer : Answer C R F) (part : Option P) →
+  pub no_node_exact : (old new : Snapshot S) (event : Event O A M) (answer : Answer C R F) (part : Option P) →
       Happens J W old event answer part new → (answer ≡ Refused NoNode) ↔ (slice_get old.nodes (place_of event) ≡ None)
   no_node_exact old new event (Accepted change) None h = absurd h
   no_node_exact old new event (Accepted change) (Some part) h =
@@ -34,7 +35,14 @@ module _ {S O A R P C F : Type 0} (J : StateWords S P C F) (W : ActorWords S O A
   no_node_exact old new event (Offered number) (Some part) h = absurd h
   no_node_exact old new (Local at op) (Offered number) None h = absurd h
   no_node_exact old new (Take at message) (Offered number) None h = absurd h
+  no_node_exact old new (Mark at mark) (Offered number) None h = absurd h
   no_node_exact old new (Offer at ask) (Offered number) None h =
+      (λ e. absurd cc, λ e. absurd (some_is_not_none (slice_get old.nodes at) h.0 h.2 e))
+  no_node_exact old new event Marked (Some part) h = absurd h
+  no_node_exact old new (Local at op) Marked None h = absurd h
+  no_node_exact old new (Offer at ask) Marked None h = absurd h
+  no_node_exact old new (Take at message) Marked None h = absurd h
+  no_node_exact old new (Mark at mark) Marked None h =
       (λ e. absurd cc, λ e. absurd (some_is_not_none (slice_get old.nodes at) h.0 h.2 e))
   no_node_exact old new event (Refused refusal) (Some part) h = absurd h
   no_node_exact old new event (Refused refusal) None h = (
@@ -70,6 +78,8 @@ module _ {S O A R P C F : Type 0} (J : StateWords S P C F) (W : ActorWords S O A
       (λ e. absurd cc, λ e. absurd (some_is_not_none (slice_get old.messages message) h.3.0 h.3.1 e))
   no_message_exact old new at message node (Offered number) None h there = absurd h
   no_message_exact old new at message node (Offered number) (Some part) h there = absurd h
+  no_message_exact old new at message node Marked None h there = absurd h
+  no_message_exact old new at message node Marked (Some part) h there = absurd h
   no_message_exact old new at message node (Refused refusal) (Some part) h there = absurd h
   no_message_exact old new at message node (Refused refusal) None h there = (
     λ e.
@@ -96,11 +106,12 @@ module _ {S O A R P C F : Type 0} (J : StateWords S P C F) (W : ActorWords S O A
       (spelled_is_not_refused : (bytes : List ℕ) (p : P) (r : R) → W.Spells bytes p → W.IsAgainstBytes bytes r →
       ⊥) where
     -- the reason why a node does not take what it takes
-    only_memory : (messages : List (List ℕ)) (node next : S) (event : Event O A) (part : P)
+    only_memory : (messages : List (List ℕ)) (node next : S) (event : Event O A M) (part : P)
         (refusal : EventRefusal R F) → J.IsValid (J.content node) → IsPartOf J W messages node event part →
         J.After (J.content node) (J.part_content part) (J.content next) → IsReason J W messages node event refusal →
         IsMemory J W refusal
     only_memory messages node next (Offer at ask) part refusal v h after k = absurd h
+    only_memory messages node next (Mark at mark) part refusal v h after k = absurd h
     only_memory messages node next (Local at op) part NoNode v h after k = absurd k
     only_memory messages node next (Local at op) part NoMessage v h after k = absurd k
     only_memory messages node next (Local at op) part (ByActor r) v h after k = elim k [
@@ -131,7 +142,7 @@ module _ {S O A R P C F : Type 0} (J : StateWords S P C F) (W : ActorWords S O A
           | inr memory ↦ memory
         ]
 
-    pub accepted_exact : (old new : Snapshot S) (event : Event O A) (change : C) (refusal : EventRefusal R F)
+    pub accepted_exact : (old new : Snapshot S) (event : Event O A M) (change : C) (refusal : EventRefusal R F)
         (part other : Option P) (next : Snapshot S) → AllValid J old →
         Happens J W old event (Accepted change) part new → Happens J W old event (Refused refusal) other next →
         IsMemory J W refusal
@@ -157,13 +168,14 @@ module _ {S O A R P C F : Type 0} (J : StateWords S P C F) (W : ActorWords S O A
     ]
     only_memory_to_offer messages node at ask bytes (ByState f) v h k = absurd k
 
-    pub offered_exact : (old new : Snapshot S) (event : Event O A) (number : ℕ) (refusal : EventRefusal R F)
+    pub offered_exact : (old new : Snapshot S) (event : Event O A M) (number : ℕ) (refusal : EventRefusal R F)
         (part other : Option P) (next : Snapshot S) → AllValid J old →
         Happens J W old event (Offered number) part new → Happens J W old event (Refused refusal) other next →
         IsMemory J W refusal
     offered_exact old new event number refusal (Some part) other next v h k = absurd h
     offered_exact old new (Local at op) number refusal None other next v h k = absurd h
     offered_exact old new (Take at message) number refusal None other next v h k = absurd h
+    offered_exact old new (Mark at mark) number refusal None other next v h k = absurd h
     offered_exact old new (Offer at ask) number refusal None (Some other) next v h k = absurd k
     offered_exact old new (Offer at ask) number refusal None None next v h k = elim k.0 [
       | inl missing ↦ absurd (some_is_not_none (slice_get old.nodes at) h.0 h.2 missing.1)
@@ -171,4 +183,34 @@ module _ {S O A R P C F : Type 0} (J : StateWords S P C F) (W : ActorWords S O A
           let same : why.0 ≡ h.0 = one_at old.nodes at why.0 h.0 why.1 h.2 in
           only_memory_to_offer old.messages h.0 at ask h.1 refusal (v at h.0 h.2) h.3
           (subst (λ (s : S). IsReason J W old.messages s (Offer at ask) refusal) same why.2)
+    ]
+
+  module _ (marked_is_not_refused : (s t : S) (mark : M) (r : R) → W.Marks s mark t → W.IsAgainstMark s mark r →
+      ⊥) where
+    -- the reason why a node is not marked so as it is marked
+    only_memory_to_mark : (messages : List (List ℕ)) (node next : S) (at : ℕ) (mark : M)
+        (refusal : EventRefusal R F) → W.Marks node mark next →
+        IsReason J W messages node (Mark at mark) refusal → IsMemory J W refusal
+    only_memory_to_mark messages node next at mark NoNode h k = absurd k
+    only_memory_to_mark messages node next at mark NoMessage h k = absurd k
+    only_memory_to_mark messages node next at mark (ByActor r) h k = elim k [
+      | inl against ↦ absurd (marked_is_not_refused node next mark r h against)
+      | inr memory ↦ memory
+    ]
+    only_memory_to_mark messages node next at mark (ByState f) h k = absurd k
+
+    pub marked_exact : (old new : Snapshot S) (event : Event O A M) (refusal : EventRefusal R F)
+        (part other : Option P) (next : Snapshot S) → Happens J W old event Marked part new →
+        Happens J W old event (Refused refusal) other next → IsMemory J W refusal
+    marked_exact old new event refusal (Some part) other next h k = absurd h
+    marked_exact old new (Local at op) refusal None other next h k = absurd h
+    marked_exact old new (Offer at ask) refusal None other next h k = absurd h
+    marked_exact old new (Take at message) refusal None other next h k = absurd h
+    marked_exact old new (Mark at mark) refusal None (Some other) next h k = absurd k
+    marked_exact old new (Mark at mark) refusal None None next h k = elim k.0 [
+      | inl missing ↦ absurd (some_is_not_none (slice_get old.nodes at) h.0 h.2 missing.1)
+      | inr why ↦
+          let same : why.0 ≡ h.0 = one_at old.nodes at why.0 h.0 why.1 h.2 in
+          only_memory_to_mark old.messages h.0 h.1 at mark refusal h.3
+          (subst (λ (s : S). IsReason J W old.messages s (Mark at mark) refusal) same why.2)
     ]

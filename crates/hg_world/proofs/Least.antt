@@ -11,11 +11,12 @@ use Rattle.hg_join.specs.declared.state.JoinState.{Ghosts as StateWords}
 use Rattle.hg_join.specs.declared.actor.Actor.{Ghosts as ActorWords}
 use Rattle.hg_join.specs.Order.{IsPartialOrder, IsLeastCovering, IsLeastOf}
 use Rattle.hg_world.specs.declared.event.Event.{Event}
-use Rattle.hg_world.specs.declared.event.Event.TheVariants.{Local, Offer, Take}
+use Rattle.hg_world.specs.declared.event.Event.TheVariants.{Local, Offer, Take, Mark}
 use Rattle.hg_world.specs.declared.event.Answer.{Answer}
-use Rattle.hg_world.specs.declared.event.Answer.TheVariants.{Accepted, Offered, Refused}
+use Rattle.hg_world.specs.declared.event.Answer.TheVariants.{Accepted, Offered, Marked, Refused}
 use Rattle.hg_world.specs.Runs.{Snapshot, place_of, Happens, Runs, accepted_at, AllLeast, AllValid, AllEmpty}
 use Rattle.hg_world.proofs.Places.{some_at, one_at, get_set_same, get_set_other}
+use Rattle.hg_world.proofs.Marks.{mark_leaves_contents, mark_leaves_count}
 
 module _ {C P : Type 0} {IsValid : C → Type 0} {Below : C → C → Type 0} {Covers : C → P → Type 0}
     (order : IsPartialOrder IsValid Below)
@@ -34,18 +35,19 @@ module _ {C P : Type 0} {IsValid : C → Type 0} {Below : C → C → Type 0} {C
     least = λ c w up cov. k.least c w (h.least c w up (cov.0, tt)) cov.1;
   }
 
-module _ {S O A R P C F : Type 0} (J : StateWords S P C F) (W : ActorWords S O A R P C F)
+module _ {S O A M R P C F : Type 0} (J : StateWords S P C F) (W : ActorWords S O A M R P C F)
     (order : IsPartialOrder J.IsValid J.Below)
     (stays : (a b : J.Content) (p : J.PartContent) → J.IsValid a → J.IsValid b → J.Below a b → J.Covers a p →
     J.Covers b p)
     (absorbed : (a b : J.Content) (p : J.PartContent) → J.IsValid a → J.After a p b →
-    IsLeastCovering J.IsValid J.Below J.Covers a (p ∷ []) b) where
+    IsLeastCovering J.IsValid J.Below J.Covers a (p ∷ []) b)
+    (marked : (s t : S) (mark : M) → W.Marks s mark t → J.content t ≡ J.content s) where
   -- what holds of each place stays where the nodes do
-  same_nodes : (old mid new : Snapshot S) (events : List (Event O A)) (parts : List (Option P)) →
+  same_nodes : (old mid new : Snapshot S) (events : List (Event O A M)) (parts : List (Option P)) →
       mid.nodes ≡ old.nodes → AllLeast J mid events parts new → AllLeast J old events parts new
   same_nodes old mid new events parts e h place before at = h place before (rw e at)
 
-  pub valid_after : (old mid : Snapshot S) (event : Event O A) (answer : Answer C R F) (part : Option P) →
+  pub valid_after : (old mid : Snapshot S) (event : Event O A M) (answer : Answer C R F) (part : Option P) →
       AllValid J old → Happens J W old event answer part mid → AllValid J mid
   valid_after old mid event (Accepted change) None v h = absurd h
   valid_after old mid event (Accepted change) (Some part) v h = λ place now at.
@@ -65,14 +67,26 @@ module _ {S O A R P C F : Type 0} (J : StateWords S P C F) (W : ActorWords S O A
       ]
   valid_after old mid (Local i op) (Offered number) None v h = absurd h
   valid_after old mid (Take i m) (Offered number) None v h = absurd h
+  valid_after old mid (Mark i m) (Offered number) None v h = absurd h
   valid_after old mid (Offer i ask) (Offered number) None v h = λ place now at. v place now (rw (← h.5) at)
   valid_after old mid event (Offered number) (Some part) v h = absurd h
+  valid_after old mid event Marked (Some part) v h = absurd h
+  valid_after old mid (Local i op) Marked None v h = absurd h
+  valid_after old mid (Offer i ask) Marked None v h = absurd h
+  valid_after old mid (Take i m) Marked None v h = absurd h
+  valid_after old mid (Mark i m) Marked None v h = λ place now at.
+      let within : place < length old.nodes =
+      subst (λ (n : ℕ). place < n) (mark_leaves_count J W marked old mid i m h)
+      (slice_get_within mid.nodes place now at) in
+      let before = some_at old.nodes place within in
+      subst J.IsValid (sym (mark_leaves_contents J W marked old mid i m h place now before.0 at before.1))
+      (v place before.0 before.1)
   valid_after old mid event (Refused refusal) None v h = rw h.1 v
   valid_after old mid event (Refused refusal) (Some part) v h = absurd h
 
   -- one event, and then the others
-  pub least_after : (old mid new : Snapshot S) (event : Event O A) (answer : Answer C R F) (part : Option P)
-      (events : List (Event O A)) (parts : List (Option P)) →
+  pub least_after : (old mid new : Snapshot S) (event : Event O A M) (answer : Answer C R F) (part : Option P)
+      (events : List (Event O A M)) (parts : List (Option P)) →
       AllValid J old → Happens J W old event answer part mid → AllLeast J mid events parts new →
       AllLeast J old (event ∷ events) (part ∷ parts) new
   least_after old mid new event (Accepted change) None events parts v h k = absurd h
@@ -115,13 +129,29 @@ module _ {S O A R P C F : Type 0} (J : StateWords S P C F) (W : ActorWords S O A
       ]
   least_after old mid new (Local i op) (Offered number) None events parts v h k = absurd h
   least_after old mid new (Take i m) (Offered number) None events parts v h k = absurd h
+  least_after old mid new (Mark i m) (Offered number) None events parts v h k = absurd h
   least_after old mid new (Offer i ask) (Offered number) None events parts v h k =
       same_nodes old mid new events parts h.5 k
   least_after old mid new event (Offered number) (Some part) events parts v h k = absurd h
+  least_after old mid new event Marked (Some part) events parts v h k = absurd h
+  least_after old mid new (Local i op) Marked None events parts v h k = absurd h
+  least_after old mid new (Offer i ask) Marked None events parts v h k = absurd h
+  least_after old mid new (Take i m) Marked None events parts v h k = absurd h
+  least_after old mid new (Mark i m) Marked None events parts v h k = λ place before at.
+      let within : place < length mid.nodes =
+      subst (λ (n : ℕ). place < n) (sym (mark_leaves_count J W marked old mid i m h))
+      (slice_get_within old.nodes place before at) in
+      let next = some_at mid.nodes place within in
+      let later = k place next.0 next.1 in (
+        later.0,
+        later.1,
+        subst (λ (c : J.Content). IsLeastCovering J.IsValid J.Below J.Covers c (accepted_at J place events parts)
+            (J.content later.0)) (mark_leaves_contents J W marked old mid i m h place next.0 before next.1 at) later.2,
+      )
   least_after old mid new event (Refused refusal) None events parts v h k = rw (← h.1) k
   least_after old mid new event (Refused refusal) (Some part) events parts v h k = absurd h
 
-  pub run_is_least : (old new : Snapshot S) (events : List (Event O A)) (answers : List (Answer C R F))
+  pub run_is_least : (old new : Snapshot S) (events : List (Event O A M)) (answers : List (Answer C R F))
       (parts : List (Option P)) → AllValid J old → Runs J W old events answers parts new →
       AllLeast J old events parts new
   run_is_least old new [] [] [] v h =
@@ -134,7 +164,7 @@ module _ {S O A R P C F : Type 0} (J : StateWords S P C F) (W : ActorWords S O A
       least_after old h.0 new event answer part events parts v h.1
       (run_is_least h.0 new events answers parts (valid_after old h.0 event answer part v h.1) h.2)
 
-  pub run_is_valid : (old new : Snapshot S) (events : List (Event O A)) (answers : List (Answer C R F))
+  pub run_is_valid : (old new : Snapshot S) (events : List (Event O A M)) (answers : List (Answer C R F))
       (parts : List (Option P)) → AllValid J old → Runs J W old events answers parts new → AllValid J new
   run_is_valid old new [] [] [] v h = rw h v
   run_is_valid old new [] [] (part ∷ parts) v h = absurd h
@@ -144,18 +174,24 @@ module _ {S O A R P C F : Type 0} (J : StateWords S P C F) (W : ActorWords S O A
   run_is_valid old new (event ∷ events) (answer ∷ answers) (part ∷ parts) v h =
       run_is_valid h.0 new events answers parts (valid_after old h.0 event answer part v h.1) h.2
 
-  same_count : (old new : Snapshot S) (event : Event O A) (answer : Answer C R F) (part : Option P) →
+  same_count : (old new : Snapshot S) (event : Event O A M) (answer : Answer C R F) (part : Option P) →
       Happens J W old event answer part new → length new.nodes ≡ length old.nodes
   same_count old new event (Accepted change) None h = absurd h
   same_count old new event (Accepted change) (Some part) h = ap length h.5 ∙ simp length-set
   same_count old new (Local i op) (Offered number) None h = absurd h
   same_count old new (Take i m) (Offered number) None h = absurd h
+  same_count old new (Mark i m) (Offered number) None h = absurd h
   same_count old new (Offer i ask) (Offered number) None h = ap length h.5
   same_count old new event (Offered number) (Some part) h = absurd h
+  same_count old new event Marked (Some part) h = absurd h
+  same_count old new (Local i op) Marked None h = absurd h
+  same_count old new (Offer i ask) Marked None h = absurd h
+  same_count old new (Take i m) Marked None h = absurd h
+  same_count old new (Mark i m) Marked None h = mark_leaves_count J W marked old new i m h
   same_count old new event (Refused refusal) None h = ap (λ (w : Snapshot S). length w.nodes) h.1
   same_count old new event (Refused refusal) (Some part) h = absurd h
 
-  pub same_counts : (old new : Snapshot S) (events : List (Event O A)) (answers : List (Answer C R F))
+  pub same_counts : (old new : Snapshot S) (events : List (Event O A M)) (answers : List (Answer C R F))
       (parts : List (Option P)) → Runs J W old events answers parts new → length new.nodes ≡ length old.nodes
   same_counts old new [] [] [] h = ap (λ (w : Snapshot S). length w.nodes) h
   same_counts old new [] [] (part ∷ parts) h = absurd h
@@ -165,7 +201,7 @@ module _ {S O A R P C F : Type 0} (J : StateWords S P C F) (W : ActorWords S O A
   same_counts old new (event ∷ events) (answer ∷ answers) (part ∷ parts) h =
       same_counts h.0 new events answers parts h.2 ∙ same_count old h.0 event answer part h.1
 
-  pub run_is_least_of_all : (old new : Snapshot S) (events : List (Event O A)) (answers : List (Answer C R F))
+  pub run_is_least_of_all : (old new : Snapshot S) (events : List (Event O A M)) (answers : List (Answer C R F))
       (parts : List (Option P)) (place : ℕ) (node : S) → AllEmpty J old → Runs J W old events answers parts new →
       slice_get new.nodes place ≡ Some node → IsLeastOf J.IsValid J.Below J.Covers (accepted_at J place events parts)
       (J.content node)
@@ -186,7 +222,7 @@ module _ {S O A R P C F : Type 0} (J : StateWords S P C F) (W : ActorWords S O A
         least = λ c v cov. k.least c v ((e place before.0 before.1).least c v) cov;
       }
 
-  pub runs_agree : (old new : Snapshot S) (events : List (Event O A)) (answers : List (Answer C R F))
+  pub runs_agree : (old new : Snapshot S) (events : List (Event O A M)) (answers : List (Answer C R F))
       (parts : List (Option P)) (a b : ℕ) (first second : S) → AllEmpty J old → Runs J W old events answers parts new →
       slice_get new.nodes a ≡ Some first → slice_get new.nodes b ≡ Some second →
       AllByRecursion (J.Covers (J.content first)) (accepted_at J b events parts) →

@@ -8,8 +8,8 @@ use Rattle.hg_world.specs.declared.event.Event.{Event}
 use Rattle.hg_world.specs.declared.event.Answer.{Answer}
 use Rattle.hg_world.specs.Runs.{Snapshot, Happens, Runs}
 
-module _ {S O A R P C F : Type 0} (J : StateWords S P C F) (W : ActorWords S O A R P C F) where
-  pub run_on : (old mid new : Snapshot S) (events more : List (Event O A)) (answers others : List (Answer C R F))
+module _ {S O A M R P C F : Type 0} (J : StateWords S P C F) (W : ActorWords S O A M R P C F) where
+  pub run_on : (old mid new : Snapshot S) (events more : List (Event O A M)) (answers others : List (Answer C R F))
       (parts next : List (Option P)) →
       Runs J W old events answers parts mid → Runs J W mid more others next new →
       Runs J W old (events ++ more) (answers ++ others) (parts ++ next) new
@@ -21,7 +21,7 @@ module _ {S O A R P C F : Type 0} (J : StateWords S P C F) (W : ActorWords S O A
   run_on old mid new (event ∷ events) more (answer ∷ answers) others (part ∷ parts) next h k =
       (h.0, h.1, run_on h.0 mid new events more answers others parts next h.2 k)
 
-  pub run_last : (old mid new : Snapshot S) (events : List (Event O A)) (event : Event O A)
+  pub run_last : (old mid new : Snapshot S) (events : List (Event O A M)) (event : Event O A M)
       (answers : List (Answer C R F)) (answer : Answer C R F) (parts : List (Option P)) (part : Option P) →
       Runs J W old events answers parts mid → Happens J W mid event answer part new →
       Runs J W old (events ++ event ∷ []) (answers ++ answer ∷ []) (parts ++ part ∷ []) new

@@ -6,27 +6,27 @@ use Rattle.std.proofs.lemmas.List.{append-nil, length-append}
 use Rattle.hg_join.specs.declared.state.JoinState.{Ghosts as StateWords}
 use Rattle.hg_join.specs.declared.actor.Actor.{Ghosts as ActorWords}
 use Rattle.hg_world.specs.declared.event.Event.{Event}
-use Rattle.hg_world.specs.declared.event.Event.TheVariants.{Local, Offer, Take}
+use Rattle.hg_world.specs.declared.event.Event.TheVariants.{Local, Offer, Take, Mark}
 use Rattle.hg_world.specs.declared.event.Answer.{Answer}
-use Rattle.hg_world.specs.declared.event.Answer.TheVariants.{Accepted, Offered, Refused}
+use Rattle.hg_world.specs.declared.event.Answer.TheVariants.{Accepted, Offered, Marked, Refused}
 use Rattle.hg_world.specs.Runs.{Snapshot, Trace, Happens, Runs}
 use Rattle.hg_world.specs.Made.{IsMade}
 use Rattle.hg_world.proofs.Places.{none_there}
 
-module _ {S O A R P C F : Type 0} (J : StateWords S P C F) (W : ActorWords S O A R P C F) where
-  abbrev trace : List (Event O A) → List (Answer C R F) → List (Option P) → Trace O A P C R F
+module _ {S O A M R P C F : Type 0} (J : StateWords S P C F) (W : ActorWords S O A M R P C F) where
+  abbrev trace : List (Event O A M) → List (Answer C R F) → List (Option P) → Trace O A M P C R F
   trace events answers parts = record { events = events; answers = answers; parts = parts }
 
   -- the messages that a run adds to those that were there, each with its maker
-  abbrev Adds : Snapshot S → List (Event O A) → List (Answer C R F) → List (Option P) → Snapshot S → Type 0
+  abbrev Adds : Snapshot S → List (Event O A M) → List (Answer C R F) → List (Option P) → Snapshot S → Type 0
   Adds old events answers parts new =
       (added : List (List ℕ)) × (new.messages ≡ old.messages ++ added)
       × ((i : ℕ) (bytes : List ℕ) → slice_get added i ≡ Some bytes →
       IsMade J W old (trace events answers parts) (length old.messages + i) bytes)
 
   -- what was made later was made in the whole
-  made_later : (old mid : Snapshot S) (event : Event O A) (answer : Answer C R F) (part : Option P)
-      (events : List (Event O A)) (answers : List (Answer C R F)) (parts : List (Option P)) (number : ℕ)
+  made_later : (old mid : Snapshot S) (event : Event O A M) (answer : Answer C R F) (part : Option P)
+      (events : List (Event O A M)) (answers : List (Answer C R F)) (parts : List (Option P)) (number : ℕ)
       (bytes : List ℕ) →
       Happens J W old event answer part mid → IsMade J W mid (trace events answers parts) number bytes →
       IsMade J W old (trace (event ∷ events) (answer ∷ answers) (part ∷ parts)) number bytes
@@ -44,8 +44,8 @@ module _ {S O A R P C F : Type 0} (J : StateWords S P C F) (W : ActorWords S O A
   }
 
   -- an event that adds no message
-  adds_none : (old mid new : Snapshot S) (event : Event O A) (answer : Answer C R F) (part : Option P)
-      (events : List (Event O A)) (answers : List (Answer C R F)) (parts : List (Option P)) →
+  adds_none : (old mid new : Snapshot S) (event : Event O A M) (answer : Answer C R F) (part : Option P)
+      (events : List (Event O A M)) (answers : List (Answer C R F)) (parts : List (Option P)) →
       mid.messages ≡ old.messages → Happens J W old event answer part mid → Adds mid events answers parts new →
       Adds old (event ∷ events) (answer ∷ answers) (part ∷ parts) new
   adds_none old mid new event answer part events answers parts same h k = (
@@ -57,7 +57,7 @@ module _ {S O A R P C F : Type 0} (J : StateWords S P C F) (W : ActorWords S O A
   )
 
   -- an event that adds one
-  made_of : (old mid new : Snapshot S) (at : ℕ) (ask : A) (number : ℕ) (events : List (Event O A))
+  made_of : (old mid new : Snapshot S) (at : ℕ) (ask : A) (number : ℕ) (events : List (Event O A M))
       (answers : List (Answer C R F)) (parts : List (Option P)) →
       (h : Happens J W old (Offer at ask) (Offered number) None mid) → (k : Adds mid events answers parts new) →
       (i : ℕ) (bytes : List ℕ) → slice_get (h.1 ∷ k.0) i ≡ Some bytes →
@@ -86,8 +86,8 @@ module _ {S O A R P C F : Type 0} (J : StateWords S P C F) (W : ActorWords S O A
       (made_later old mid (Offer at ask) (Offered number) None events answers parts (length mid.messages + i) bytes h
       (k.2 i bytes e))
 
-  adds_more : (old mid new : Snapshot S) (event : Event O A) (answer : Answer C R F) (part : Option P)
-      (events : List (Event O A)) (answers : List (Answer C R F)) (parts : List (Option P)) →
+  adds_more : (old mid new : Snapshot S) (event : Event O A M) (answer : Answer C R F) (part : Option P)
+      (events : List (Event O A M)) (answers : List (Answer C R F)) (parts : List (Option P)) →
       Happens J W old event answer part mid → Adds mid events answers parts new →
       Adds old (event ∷ events) (answer ∷ answers) (part ∷ parts) new
   adds_more old mid new event (Accepted change) None events answers parts h k = absurd h
@@ -95,18 +95,25 @@ module _ {S O A R P C F : Type 0} (J : StateWords S P C F) (W : ActorWords S O A
       adds_none old mid new event (Accepted change) (Some part) events answers parts h.6 h k
   adds_more old mid new (Local at op) (Offered number) None events answers parts h k = absurd h
   adds_more old mid new (Take at m) (Offered number) None events answers parts h k = absurd h
+  adds_more old mid new (Mark at m) (Offered number) None events answers parts h k = absurd h
   adds_more old mid new (Offer at ask) (Offered number) None events answers parts h k = (
     h.1 ∷ k.0,
     k.1 ∙ ap (λ (ms : List (List ℕ)). ms ++ k.0) h.6 ∙ append_assoc old.messages (h.1 ∷ []) k.0,
     made_of old mid new at ask number events answers parts h k,
   )
   adds_more old mid new event (Offered number) (Some part) events answers parts h k = absurd h
+  adds_more old mid new event Marked (Some part) events answers parts h k = absurd h
+  adds_more old mid new (Local at op) Marked None events answers parts h k = absurd h
+  adds_more old mid new (Offer at ask) Marked None events answers parts h k = absurd h
+  adds_more old mid new (Take at m) Marked None events answers parts h k = absurd h
+  adds_more old mid new (Mark at m) Marked None events answers parts h k =
+      adds_none old mid new (Mark at m) Marked None events answers parts h.5 h k
   adds_more old mid new event (Refused refusal) None events answers parts h k =
       adds_none old mid new event (Refused refusal) None events answers parts (ap (λ (w : Snapshot S). w.messages) h.1)
       h k
   adds_more old mid new event (Refused refusal) (Some part) events answers parts h k = absurd h
 
-  pub adds_all : (old new : Snapshot S) (events : List (Event O A)) (answers : List (Answer C R F))
+  pub adds_all : (old new : Snapshot S) (events : List (Event O A M)) (answers : List (Answer C R F))
       (parts : List (Option P)) → Runs J W old events answers parts new → Adds old events answers parts new
   adds_all old new [] [] [] h = (
     [],

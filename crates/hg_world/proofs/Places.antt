@@ -1,7 +1,8 @@
 -- What is at a place, and what absorbing a part there leaves.
 use Rattle.std.proofs.Common.{◌≡◌, ◌⊎◌, ℕ, zero, suc, ◌<◌, Some, List, [], ◌∷◌, ◌++◌, length, vec_len, get_or, Result}
 use Rattle.std.proofs.Common.{Ok, Err, IfOk, IfErr, OnOk, OnErr, MatchResult, slice_get, slice_set, refl, sym, ap, ◌∙◌}
-use Rattle.std.proofs.Common.{arith}
+use Rattle.std.proofs.Common.{subst, inl, inr, arith}
+use Rattle.std.proofs.lemmas.Bool.Decides.{eqb_tells}
 use Rattle.std.proofs.lemmas.List.{set-get_or, length-map, map-append}
 use Rattle.std.proofs.lemmas.Option.{slice_get_read, get_or_from_slice_get, slice_get-map}
 use Rattle.hg_join.specs.declared.state.JoinState.{Ghosts as StateWords}
@@ -22,7 +23,8 @@ none_there i x e = cc
 pub one_at : {X : Type 0} (xs : List X) (i : ℕ) (x y : X) → slice_get xs i ≡ Some x → slice_get xs i ≡ Some y → x ≡ y
 one_at xs i x y h k = cc
 
-set_what_was : {X : Type 0} (xs : List X) (i : ℕ) (x y : X) → slice_get xs i ≡ Some x → y ≡ x → slice_set xs i y ≡ xs
+pub set_what_was : {X : Type 0} (xs : List X) (i : ℕ) (x y : X) → slice_get xs i ≡ Some x → y ≡ x →
+    slice_set xs i y ≡ xs
 set_what_was xs i x y h e = ap (slice_set xs i) (e ∙ sym (get_or_from_slice_get xs i x x h)) ∙ set-get_or xs i x
 
 module _ {S P C F : Type 0} (J : StateWords S P C F) where
@@ -73,3 +75,35 @@ get_set_other (z ∷ xs) zero zero y ne = absurd (ne refl)
 get_set_other (z ∷ xs) zero (suc j) y ne = refl
 get_set_other (z ∷ xs) (suc i) zero y ne = refl
 get_set_other (z ∷ xs) (suc i) (suc j) y ne = get_set_other xs i j y (λ e. ne (ap suc e))
+
+module _ {X Y : Type 0} (f : X → Y) where
+  -- two lists that agree at each place still do, once the elements at one place are exchanged for others that agree
+  pub exchanged_same : (xs ys us vs : List X) (i : ℕ) (x y next follow : X) →
+      ((j : ℕ) (a b : X) → slice_get xs j ≡ Some a → slice_get ys j ≡ Some b → f a ≡ f b) →
+      slice_get xs i ≡ Some x → slice_get ys i ≡ Some y → f next ≡ f follow → us ≡ slice_set xs i next →
+      vs ≡ slice_set ys i follow →
+      (j : ℕ) (a b : X) → slice_get us j ≡ Some a → slice_get vs j ≡ Some b → f a ≡ f b
+  exchanged_same xs ys us vs i x y next follow agree at_x at_y same h k j a b at_a at_b =
+      let in_a : slice_get (slice_set xs i next) j ≡ Some a = rw (← h) at_a in
+      let in_b : slice_get (slice_set ys i follow) j ≡ Some b = rw (← k) at_b in
+      elim (eqb_tells i j) [
+        | inl t ↦
+            let got_a : slice_get (slice_set xs i next) j ≡ Some next =
+            subst (λ (n : ℕ). slice_get (slice_set xs i next) n ≡ Some next) t.1 (get_set_same xs i x next at_x) in
+            let got_b : slice_get (slice_set ys i follow) j ≡ Some follow =
+            subst (λ (n : ℕ). slice_get (slice_set ys i follow) n ≡ Some follow) t.1 (get_set_same ys i y follow at_y)
+            in
+            let same_a : next ≡ a = cc in
+            let same_b : follow ≡ b = cc in
+            sym (ap f same_a) ∙ same ∙ ap f same_b
+        | inr ne ↦
+            agree j a b (sym (get_set_other xs i j next ne.1) ∙ in_a) (sym (get_set_other ys i j follow ne.1) ∙ in_b)
+      ]
+
+  -- a list agrees with itself, once the element at one place is exchanged for another that agrees
+  pub changed_same : (xs us : List X) (i : ℕ) (x next : X) → slice_get xs i ≡ Some x → f next ≡ f x →
+      us ≡ slice_set xs i next →
+      (j : ℕ) (a b : X) → slice_get us j ≡ Some a → slice_get xs j ≡ Some b → f a ≡ f b
+  changed_same xs us i x next at_x same h =
+      exchanged_same xs xs us xs i x x next x (λ j a b at_a at_b. ap f (one_at xs j a b at_a at_b)) at_x at_x same h
+      (sym (set_what_was xs i x x at_x refl))

@@ -6,10 +6,10 @@ use Rattle.hg_world.specs.declared.event.Event.TheVariants.{Offer}
 use Rattle.hg_world.specs.declared.event.Answer.TheVariants.{Offered}
 use Rattle.hg_world.specs.Runs.{Snapshot, Trace, front, Ran}
 
-module _ {S O A R P C F : Type 0} (J : StateWords S P C F) (W : ActorWords S O A R P C F) where
+module _ {S O A M R P C F : Type 0} (J : StateWords S P C F) (W : ActorWords S O A M R P C F) where
   -- an event of the run made the message: an offer, answered with its number, of a node as the events before it had
   -- left it
-  pub record IsMade (old : Snapshot S) (t : Trace O A P C R F) (number : ℕ) (bytes : List ℕ) : Type 0 where
+  pub record IsMade (old : Snapshot S) (t : Trace O A M P C R F) (number : ℕ) (bytes : List ℕ) : Type 0 where
     pub event : ℕ
     pub at : ℕ
     pub ask : A

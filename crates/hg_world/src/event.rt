@@ -4,15 +4,19 @@ ghost use Rattle.std.specs.Prelude.{◌≡◌};
 use std::error::Error;
 use std::fmt;
 
-/// What is to be done at a node: an operation of its own, an offer, or a message of the pool that it is to take.
+/// What is to be done at a node: an operation of its own, an offer, a message of the pool that it is to take, or a
+/// mark.
 #[derive(Drop)]
-pub enum Event<O, A> {
+pub enum Event<O, A, M> {
     Local { at: usize, op: O },
     Offer { at: usize, ask: A },
     Take { at: usize, message: usize },
+
+    /// What is to be done to what is the node's own.
+    Mark { at: usize, mark: M },
 }
 
-impl<O, A> Event<O, A> {
+impl<O, A, M> Event<O, A, M> {
     ghost use Rattle.hg_world.specs.Runs.{place_of};
 
     /// The place of the node at which the event is to be done, counted from 0.
@@ -23,6 +27,7 @@ impl<O, A> Event<O, A> {
             Event::Local { at, op: _ } => *at,
             Event::Offer { at, ask: _ } => *at,
             Event::Take { at, message: _ } => *at,
+            Event::Mark { at, mark: _ } => *at,
         }
     }
 }
@@ -37,7 +42,7 @@ pub enum EventRefusal<R, F> {
     /// The pool has no such message.
     NoMessage,
 
-    /// The node refuses the operation, the offer or the bytes.
+    /// The node refuses the operation, the offer, the bytes or the mark.
     ByActor(R),
 
     /// The node does not absorb the part.
@@ -70,6 +75,9 @@ pub enum Answer<C, R, F> {
 
     /// The offer is the message with this number, counted from 0.
     Offered(usize),
+
+    /// The node marked what is its own. No content and no message changed.
+    Marked,
 
     /// Nothing changed.
     Refused(EventRefusal<R, F>),

@@ -2,19 +2,22 @@
 //!
 //! A [`World`] has nodes, each with a state that acts ([`Actor`](hg_join::Actor)), and a pool of every message that was
 //! ever offered. It is given a list of [`Event`]s and gives an [`Answer`] for each: a node does an operation of its
-//! own, offers what it holds, or takes a message of the pool. A message that nobody takes is lost. Any node may take
-//! any message, late, again, and before older ones, so whatever a network does to messages is a list of events.
+//! own, offers what it holds, takes a message of the pool, or marks what is its own. A message that nobody takes is
+//! lost. Any node may take any message, late, again, and before older ones, so whatever a network does to messages is a
+//! list of events.
 //!
 //! # What a run is
 //!
 //! The contract of [`World::run`] says that what happened is a run (`HasRun` of `specs/Runs.antt`): the events happen
-//! one after the other (`Runs`), each with one of three outcomes (`Happens`):
+//! one after the other (`Runs`), each with one of four outcomes (`Happens`):
 //!
 //! - It is accepted: the node at its place absorbs the part that it decided, or that the message spells. No other node
 //!   changes, and no message.
 //! - It is offered: the bytes that the node offers become the last message, and nothing else changes.
+//! - It is marked: the node at its place changes what is its own, and nothing that it says. No other node changes, and
+//!   no message.
 //! - It is refused, and nothing changes: the world has no such node; or else the pool has no such message; or else the
-//!   node has a reason against the operation, the ask, the bytes or the part; or memory ran out.
+//!   node has a reason against the operation, the ask, the bytes, the part or the mark; or memory ran out.
 //!
 //! What each node accepted is not kept anywhere. The contract gives it as a list of its own, `parts`, with one part or
 //! none for each event, and says that afterwards each node is the least valid state above what it was that covers the
@@ -32,6 +35,7 @@
 //! | [`runs_compose`] | two runs, one after the other, are one: a list of events may be given in one call or in several |
 //! | [`messages_are_offers`] | messages stay, and each that a run adds is what a node offered at an event of it |
 //! | [`answers_are_exact`] | what is missing is told exactly, and what may succeed is refused for want of memory alone |
+//! | [`marks_say_nothing`] | a mark changes what is one node's own and nothing that it says; nothing else does so |
 //! | [`events_and_answers_tell`] | events and answers alone tell what became of every node |
 //!
 //! # What is not promised
@@ -49,7 +53,7 @@ mod world;
 
 pub use event::{Answer, Event, EventRefusal};
 pub use laws::{
-    answers_are_exact, covering_nodes_agree, events_and_answers_tell, messages_are_offers,
-    runs_compose, states_are_least,
+    answers_are_exact, covering_nodes_agree, events_and_answers_tell, marks_say_nothing,
+    messages_are_offers, runs_compose, states_are_least,
 };
 pub use world::World;

@@ -92,12 +92,29 @@ fn offer_at<S: Actor>(
     }
 }
 
+/// The node at a place marks what is its own. Whatever the messages are, they stay.
+fn mark_at<S: Actor>(
+    nodes: &mut [S],
+    at: usize,
+    mark: &S::Mark,
+) -> Answer<S::Change, S::Refusal, S::Fault>
+    requires { at < length nodes.old }
+    ensures { (messages : List (List ℕ)) → (part : Option S.Part)
+        × Happens S.JoinState S.Actor.own (record { nodes = nodes.old; messages = messages }) (Event.Mark at mark.now)
+        result part (record { nodes = nodes.new; messages = messages }) }
+{
+    match nodes[at].mark(mark) {
+        Ok(()) => Answer::Marked,
+        Err(refusal) => Answer::Refused(EventRefusal::ByActor(refusal)),
+    }
+}
+
 /// Does one event.
 fn happen<S: Actor>(
     alloc: Global,
     nodes: &mut [S],
     messages: &mut Vec<Vec<u8>>,
-    event: &Event<S::Op, S::Ask>,
+    event: &Event<S::Op, S::Ask, S::Mark>,
 ) -> Answer<S::Change, S::Refusal, S::Fault>
     requires valid { AllValid S.JoinState (snapshot nodes.old messages.old.items) }
     requires room { vec_len messages.old < vec_capacity messages.old }
@@ -113,6 +130,7 @@ fn happen<S: Actor>(
         Event::Local { at, op } => decide_at(alloc, nodes, *at, op),
         Event::Offer { at, ask } => offer_at(alloc, nodes, messages, *at, ask),
         Event::Take { at, message } => take_at(alloc, nodes, messages.as_slice(), *at, *message),
+        Event::Mark { at, mark } => mark_at(nodes, *at, mark),
     }
 }
 
@@ -121,7 +139,7 @@ pub fn run_all<S: Actor>(
     alloc: Global,
     nodes: &mut [S],
     messages: &mut Vec<Vec<u8>>,
-    events: &[Event<S::Op, S::Ask>],
+    events: &[Event<S::Op, S::Ask, S::Mark>],
 ) -> Result<Vec<Answer<S::Change, S::Refusal, S::Fault>>, NoMemory>
     requires { AllValid S.JoinState (snapshot nodes.old messages.old.items) }
     ensures ran { IfOk result (λ answers. (parts : List (Option S.Part))

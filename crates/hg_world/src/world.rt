@@ -1,7 +1,7 @@
 //! A world of nodes, with the pool of all that was offered.
 ghost use Rattle.std.specs.Prelude.{◌≡◌, ◌<◌, [], length, IfOk, OnErr, vec_len, slice_get};
 ghost use Rattle.std.specs.Option.{option_copied};
-ghost use Rattle.hg_world.specs.Runs.{HasRun, AllEmpty, AllValid};
+ghost use Rattle.hg_world.specs.Runs.{HasRun, AllEmpty, AllUnmarked, AllValid};
 
 use crate::event::{Answer, Event};
 use crate::steps::run_all;
@@ -41,10 +41,11 @@ impl<S: Actor> Model for World<S> {
 }
 
 impl<S: Actor> World<S> {
-    /// A world of so many empty nodes, and no message.
+    /// A world of so many empty nodes, none of them marked, and no message.
     pub fn new(alloc: Global, count: usize) -> Result<World<S>, NoMemory>
         ensures nodes { IfOk result (λ world. length world.nodes ≡ count) }
         ensures empty { IfOk result (λ world. AllEmpty S.JoinState world) }
+        ensures unmarked { IfOk result (λ world. AllUnmarked S.JoinState S.Actor.own world) }
         ensures messages { IfOk result (λ world. world.messages ≡ []) }
         ensures memory { OnErr result (0 < count) }
     {
@@ -61,12 +62,12 @@ impl<S: Actor> World<S> {
 
     /// Does the events one after another and gives their answers, one for each.
     ///
-    /// What happened is a run: each event was accepted, offered or refused as its definition says. Afterwards each node
-    /// is the least valid state above what it was that covers the parts that it accepted. Memory runs out here only
-    /// before the first event, and where there is one; within an event it is that event's refusal.
+    /// What happened is a run: each event was accepted, offered, marked or refused as its definition says. Afterwards
+    /// each node is the least valid state above what it was that covers the parts that it accepted. Memory runs out
+    /// here only before the first event, and where there is one; within an event it is that event's refusal.
     pub fn run(
         &mut self,
-        events: &[Event<S::Op, S::Ask>],
+        events: &[Event<S::Op, S::Ask, S::Mark>],
     ) -> Result<Vec<Answer<S::Change, S::Refusal, S::Fault>>, NoMemory>
         ensures ran { IfOk result
             (λ answers. HasRun S.JoinState S.Actor.own self.old events.now answers.items self.new) }

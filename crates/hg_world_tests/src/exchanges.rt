@@ -86,6 +86,31 @@ fn late_reordered_and_repeated_messages_leave_the_same(rt: HostRuntime) {
 }
 
 #[test]
+fn an_item_that_is_kept_back_reaches_no_other_node(rt: HostRuntime) {
+    let alloc = rt.alloc();
+    let mut world = World::<Prices>::new(alloc, 2).expect(&rt, "memory");
+    let events = [
+        Event::Mark { at: 0, mark: 1 },
+        Event::Local { at: 0, op: (1, 9) },
+        Event::Mark { at: 0, mark: 1 },
+        Event::Mark { at: 2, mark: 1 },
+        offer_at(alloc, 0).expect(&rt, "memory"),
+        Event::Take { at: 1, message: 0 },
+    ];
+    let answers = world.run(&events).expect(&rt, "memory");
+    let expected: [PriceAnswer; 6] = [
+        Answer::Refused(EventRefusal::ByActor(PriceRefusal::NoPrice)),
+        Answer::Accepted(()),
+        Answer::Marked,
+        Answer::Refused(EventRefusal::NoNode),
+        Answer::Offered(0),
+        Answer::Accepted(()),
+    ];
+    assert!(rt; answers.as_slice() == expected.as_slice());
+    assert_eq!(rt; [price_at(&world, 0), price_at(&world, 1)], [Some(9), None]);
+}
+
+#[test]
 fn refusals_show_their_names(rt: HostRuntime) {
     let refusals: [EventRefusal<NoMemory, NoMemory>; 3] = [
         EventRefusal::NoNode,

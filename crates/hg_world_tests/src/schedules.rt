@@ -1,4 +1,4 @@
-//! A long list of events in any order, beside plain lists of what each node accepted.
+//! A long list of events in any order, beside plain lists of what each node accepted, and what it keeps back.
 use crate::words::{PriceAnswer, PriceEvent};
 use hg_join_tests::{Dice, PriceRefusal, Prices};
 use hg_world::{Answer, Event, EventRefusal, World};
@@ -17,17 +17,26 @@ fn some_event(alloc: Global, dice: &mut Dice) -> Option<PriceEvent> {
     let message = dice.roll(80);
     let op = (some_item(dice), dice.roll(250) as u8);
     let ask = [some_item(dice), some_item(dice)].to_vec(alloc).ok()?;
-    Some(match dice.roll(4) {
+    let mark = some_item(dice);
+    Some(match dice.roll(5) {
         0 => Event::Offer { at, ask },
         1 => Event::Take { at, message },
+        2 => Event::Mark { at, mark },
         _ => Event::Local { at, op },
     })
 }
 
-/// What each node accepted and what each message tells, quote after quote.
+/// What a node accepted, quote after quote, and the item that it keeps back.
+#[derive(Drop)]
+struct Node {
+    quotes: Vec<(u8, u8)>,
+    kept: Option<u8>,
+}
+
+/// The nodes, and what each message tells, quote after quote.
 #[derive(Drop)]
 struct Heard {
-    nodes: Vec<Vec<(u8, u8)>>,
+    nodes: Vec<Node>,
     messages: Vec<Vec<(u8, u8)>>,
 }
 
@@ -35,7 +44,8 @@ struct Heard {
 fn nothing_heard(alloc: Global) -> Option<Heard> {
     let mut nodes = Vec::new(alloc);
     for _ in 0..5 {
-        nodes.push(Vec::new(alloc)).ok()?;
+        let quotes = Vec::new(alloc);
+        nodes.push(Node { quotes, kept: None }).ok()?;
     }
     Some(Heard {
         nodes,
@@ -54,12 +64,13 @@ fn lowest(quotes: &[(u8, u8)], item: u8) -> Option<u8> {
     low
 }
 
-/// The quotes of those of the items that have a price.
-fn quotes_of(alloc: Global, quotes: &[(u8, u8)], items: &[u8]) -> Option<Vec<(u8, u8)>> {
+/// The quotes of those of the items that have a price and aren't kept back.
+fn quotes_of(alloc: Global, node: &Node, items: &[u8]) -> Option<Vec<(u8, u8)>> {
     let mut told = Vec::new(alloc);
     for item in items {
-        if let Some(price) = lowest(quotes, *item) {
-            told.push((*item, price)).ok()?;
+        match lowest(node.quotes.as_slice(), *item) {
+            Some(price) if node.kept != Some(*item) => told.push((*item, price)).ok()?,
+            _ => {}
         }
     }
     Some(told)
@@ -77,15 +88,24 @@ fn quoted(quotes: &mut Vec<(u8, u8)>, quote: (u8, u8)) -> Option<PriceAnswer> {
     Some(Answer::Accepted(()))
 }
 
+/// A node keeps an item back from now on.
+fn kept_back(node: &mut Node, item: u8) -> PriceAnswer {
+    if lowest(node.quotes.as_slice(), item).is_none() {
+        return Answer::Refused(EventRefusal::ByActor(PriceRefusal::NoPrice));
+    }
+    node.kept = Some(item);
+    Answer::Marked
+}
+
 /// What an event is to be answered, after which it is heard. `None` where memory ran out.
 fn hear(alloc: Global, heard: &mut Heard, event: &PriceEvent) -> Option<PriceAnswer> {
-    let Some(quotes) = heard.nodes.get_mut(event.place()) else {
+    let Some(node) = heard.nodes.get_mut(event.place()) else {
         return Some(Answer::Refused(EventRefusal::NoNode));
     };
     match event {
-        Event::Local { at: _, op } => quoted(quotes, *op),
+        Event::Local { at: _, op } => quoted(&mut node.quotes, *op),
         Event::Offer { at: _, ask } => {
-            let told = quotes_of(alloc, quotes, ask)?;
+            let told = quotes_of(alloc, node, ask)?;
             let number = heard.messages.len();
             heard.messages.push(told).ok()?;
             Some(Answer::Offered(number))
@@ -94,9 +114,10 @@ fn hear(alloc: Global, heard: &mut Heard, event: &PriceEvent) -> Option<PriceAns
             let Some(told) = heard.messages.get(*message) else {
                 return Some(Answer::Refused(EventRefusal::NoMessage));
             };
-            quotes.extend_from_slice(told).ok()?;
+            node.quotes.extend_from_slice(told).ok()?;
             Some(Answer::Accepted(()))
         }
+        Event::Mark { at: _, mark } => Some(kept_back(node, *mark)),
     }
 }
 
@@ -132,23 +153,31 @@ fn has_heard(world: &World<Prices>, at: usize, quotes: &[(u8, u8)]) -> bool {
 
 /// Whether each node has the lowest prices of what it accepted.
 fn have_heard(world: &World<Prices>, heard: &Heard) -> bool {
-    for (at, quotes) in heard.nodes.iter().enumerate() {
-        if !has_heard(world, at, quotes) {
+    for (at, node) in heard.nodes.iter().enumerate() {
+        if !has_heard(world, at, node.quotes.as_slice()) {
             return false;
         }
     }
     true
 }
 
-/// Each node offers all that it has, and then each takes all five messages, of which `first` is the first.
+/// A node keeps an item back and offers all others that it has.
+fn all_but_one(alloc: Global, events: &mut Vec<PriceEvent>, at: usize, mark: u8) -> Option<()> {
+    let ask = [0, 1, 2, 3, 4, 5, 6, 7].to_vec(alloc).ok()?;
+    events.push(Event::Mark { at, mark }).ok()?;
+    events.push(Event::Offer { at, ask }).ok()
+}
+
+/// Each node offers all that it has in two messages, since one item is always kept back, and then each takes all ten
+/// messages, of which `first` is the first.
 fn all_tell_all(alloc: Global, first: usize) -> Option<Vec<PriceEvent>> {
     let mut events = Vec::new(alloc);
     for at in 0..5 {
-        let ask = [0, 1, 2, 3, 4, 5, 6, 7].to_vec(alloc).ok()?;
-        events.push(Event::Offer { at, ask }).ok()?;
+        all_but_one(alloc, &mut events, at, 0)?;
+        all_but_one(alloc, &mut events, at, 1)?;
     }
     for at in 0..5 {
-        for place in 0..5 {
+        for place in 0..10 {
             events
                 .push(Event::Take {
                     at,
@@ -163,8 +192,8 @@ fn all_tell_all(alloc: Global, first: usize) -> Option<Vec<PriceEvent>> {
 /// All that any node accepted.
 fn all_heard(alloc: Global, heard: &Heard) -> Option<Vec<(u8, u8)>> {
     let mut all = Vec::new(alloc);
-    for quotes in &heard.nodes {
-        all.extend_from_slice(quotes).ok()?;
+    for node in &heard.nodes {
+        all.extend_from_slice(node.quotes.as_slice()).ok()?;
     }
     Some(all)
 }

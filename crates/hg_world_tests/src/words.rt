@@ -3,8 +3,8 @@ use hg_join::NoMemory;
 use hg_join_tests::PriceRefusal;
 use hg_world::{Answer, Event};
 
-/// A quote, an offer of the prices of some items, or a message that is taken.
-pub type PriceEvent = Event<(u8, u8), Vec<u8>>;
+/// A quote, an offer of the prices of some items, a message that is taken, or an item that is to be kept back.
+pub type PriceEvent = Event<(u8, u8), Vec<u8>, u8>;
 
 /// What becomes of it.
 pub type PriceAnswer = Answer<(), PriceRefusal, NoMemory>;

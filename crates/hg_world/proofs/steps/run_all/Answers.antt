@@ -28,6 +28,7 @@ loop-event-preserved g c =
       left = omega (arith, before.left, c.happen-answer.ensures.len, c.happen-answer.ensures.capacity);
       valid =
           valid_after g.S.JoinState g.S.Actor laws.ordered laws.stays_covered laws.absorbed
+          g.met.S.Actor.marked_says_the_same
           (snapshot c.loop-event.nodes c.loop-event.messages.items)
           (snapshot c.happen-answer.new.nodes c.happen-answer.new.messages.items) c.event-item.result
           c.happen-answer.result happened.0 before.valid happened.1;

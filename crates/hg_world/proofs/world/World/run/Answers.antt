@@ -17,9 +17,9 @@ invariant_of-self g c =
     let before : AllValid J old = rw c.as_mut_slice.ensures.value c.self.invariant in
     let now : AllValid J new =
     either_way c.run_all.result (AllValid J new)
-    (λ answers ran. run_is_valid J g.S.Actor laws.ordered laws.stays_covered laws.absorbed old new c.args.events.now
-    answers.items ran.0 before ran.1) (λ same. subst (AllValid J) (sym same) before) c.run_all.ensures.ran
-    c.run_all.ensures.unchanged in
+    (λ answers ran. run_is_valid J g.S.Actor laws.ordered laws.stays_covered laws.absorbed
+    g.met.S.Actor.marked_says_the_same old new c.args.events.now answers.items ran.0 before ran.1)
+    (λ same. subst (AllValid J) (sym same) before) c.run_all.ensures.ran c.run_all.ensures.unchanged in
     rw whole now
 
 pub returns-clause-ran : goal.returns-clause-ran
@@ -41,6 +41,6 @@ returns-clause-ran g c =
     (λ answers h. (
       h.0,
       h.1,
-      run_is_least J g.S.Actor laws.ordered laws.stays_covered laws.absorbed old new c.args.events.now
-          answers.items h.0 c.self.invariant h.1,
+      run_is_least J g.S.Actor laws.ordered laws.stays_covered laws.absorbed
+          g.met.S.Actor.marked_says_the_same old new c.args.events.now answers.items h.0 c.self.invariant h.1,
     )) ran)
