@@ -31,4 +31,4 @@ pub use instabilities::Instabilities;
 pub use laws::{
     neighbours_decide_what_is_orphan_and_extinct, states_of_one_content_have_the_same_instabilities,
 };
-pub use query::{has_phase, has_phase_at, is_obsolete, is_obsolete_at};
+pub use query::{has_phase, has_phase_at, is_mutable, is_obsolete, is_obsolete_at};

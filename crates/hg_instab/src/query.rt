@@ -69,8 +69,8 @@ pub(crate) fn is_current(replica: &Replica, node: Node) -> bool
     is_mutable(replica, node) && !is_predecessor(replica, node)
 }
 
-// Whether it is held and not public.
-fn is_mutable(replica: &Replica, node: Node) -> bool
+/// Whether it is held and not public.
+pub fn is_mutable(replica: &Replica, node: Node) -> bool
     ensures { IsTrue result ↔ IsMutable (content_of replica.now) node }
 {
     match phase_in(replica, node) {

@@ -11,7 +11,7 @@ use std::alloc::Global;
 const COUNT: usize = 12;
 
 // The changesets that may come, each on at most two of the four before it.
-fn planned(alloc: Global, dice: &mut Dice) -> Option<Vec<Changeset>> {
+pub fn planned(alloc: Global, dice: &mut Dice) -> Option<Vec<Changeset>> {
     let mut plan = Vec::new(alloc);
     for number in 0..COUNT {
         let (p, q) = some_parents(&plan, dice);
@@ -46,7 +46,7 @@ fn some_parent(plan: &[Changeset], dice: &mut Dice) -> Node {
 }
 
 // The id of a changeset, come or not, or one of two others under which nothing comes.
-fn some_node(plan: &[Changeset], dice: &mut Dice) -> Node {
+pub fn some_node(plan: &[Changeset], dice: &mut Dice) -> Node {
     let number = dice.roll(14);
     match plan.get(number) {
         Some(changeset) => changeset.node(),
@@ -94,7 +94,7 @@ fn push_some_marker(
 }
 
 // A part of some changesets, often a bound, and markers as often as is said, out of eight.
-fn some_part(alloc: Global, plan: &[Changeset], dice: &mut Dice, often: usize) -> Option<Part> {
+pub fn some_part(alloc: Global, plan: &[Changeset], dice: &mut Dice, often: usize) -> Option<Part> {
     let mut part = empty(alloc);
     push_changesets(plan, dice, &mut part)?;
     if dice.roll(3) == 0 {

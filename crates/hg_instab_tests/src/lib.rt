@@ -14,6 +14,8 @@ mod kept;
 #[cfg(test)]
 mod kinds;
 #[cfg(test)]
+mod pinned;
+#[cfg(test)]
 mod pins;
 #[cfg(test)]
 mod plain;

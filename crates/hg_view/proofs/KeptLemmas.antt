@@ -1,9 +1,8 @@
 -- What is kept beside a replica that absorbs, and what is in view by it.
-use Rattle.std.proofs.Common.{◌≡◌, Bool, List, [], ◌∷◌, Contains, Result}
+use Rattle.std.proofs.Common.{◌≡◌, [], ◌∷◌, Contains, Result}
 use Rattle.std.proofs.Common.{Ok, Err, IfOk, OnOk, ◌↔◌, ◌⊎◌, inl, inr, sym, subst, ◌∙◌}
 use Rattle.hg_changeset.specs.declared.node.Node.{Node}
 use Rattle.hg_graph.specs.Graph.{Holds}
-use Rattle.hg_graph.specs.Marks.{IsMarkedNode}
 use Rattle.hg_graph.proofs.PlaceLemmas.{Holds-reaching}
 use Rattle.hg_phases.specs.State.{changesets}
 use Rattle.hg_phases.proofs.FormLemmas.{Below-itself}
@@ -26,7 +25,6 @@ use Rattle.hg_replica.proofs.LeastLemmas.{least-above, least-valid}
 use Rattle.hg_replica.proofs.ContentLemmas.{told-change}
 use Rattle.hg_instab.specs.Changed.{IsChangedTo}
 use Rattle.hg_instab.specs.Instabilities.{AreInstabilities, InstabilitySets}
-use Rattle.hg_instab.proofs.SetLemmas.{along}
 use Rattle.hg_instab.proofs.TurnedLemmas.{contains-or}
 use Rattle.hg_view.specs.Kept.{FindsAgain, KeepsUp}
 use Rattle.hg_view.proofs.HiddenLemmas.{obsolete-or, visible-not_extinct}
@@ -53,16 +51,6 @@ visible-outside s valid sets are n = (
     λ h. visible-not_extinct s valid n seen ((are.extinct n).0 h),
   ),
 )
-
--- marks of what isn't among the extinct ones are those of what is visible
-pub marks-visible : (s : ReplicaState) → IsValid s → (sets : InstabilitySets) → AreInstabilities (content_of s) sets
-    → (extinct : List Node) → extinct ≡ sets.extinct → (marks : List Bool)
-    → ((n : Node) → IsMarkedNode (changesets s.history) marks n
-    ↔ (Holds (changesets s.history) n × ¬ (Contains extinct n)))
-    → (n : Node) → IsMarkedNode (changesets s.history) marks n ↔ IsVisible (content_of s) n
-marks-visible s valid sets are extinct same marks exact n = along (exact n)
-    (subst (λ (ns : List Node). (Holds (changesets s.history) n × ¬ (Contains ns n)) ↔ IsVisible (content_of s) n)
-    (sym same) (visible-outside s valid sets are n))
 
 module _ (s : ReplicaState) (sets : InstabilitySets) (valid : IsValid s)
     (are : AreInstabilities (content_of s) sets) where

@@ -1,34 +1,53 @@
 -- What pins uphold is what of the extinct changesets they show, and more that is in view anyway.
-use Rattle.std.proofs.Common.{◌≡◌, ℕ, zero, suc, ◌+◌, ◌<◌, ◌≤◌, List, length, take, get_or, Contains, ◌↔◌, ◌⊎◌, inl}
-use Rattle.std.proofs.Common.{inr, sym, subst, arith}
+use Rattle.std.proofs.Common.{◌≡◌, ◌≢◌, ℕ, zero, suc, ◌+◌, ◌<◌, ◌≤◌, List, [], ◌∷◌, ◌++◌, length, take, get_or}
+use Rattle.std.proofs.Common.{Contains, Bool, Option, Some, None, Result, Ok, Err, slice_get, ◌↔◌, ◌⊎◌, inl, inr}
+use Rattle.std.proofs.Common.{refl, sym, ap, subst, ◌∙◌, arith}
+use Rattle.std.proofs.Common.{append_assoc, append-nil}
 use Rattle.std.specs.List.{IsDistinct}
 use Rattle.std.proofs.lemmas.List.{take_all}
 use Rattle.std.proofs.lemmas.List.Elements.{Contains-get_or}
 use Rattle.std.proofs.lemmas.Map.Made.{length-le_from_is_member}
 use Rattle.std.proofs.lemmas.Map.Views.{Contains-from_any, list_any-from_Contains}
+use Rattle.std.proofs.lemmas.Option.{same_Some, none-some}
+use Rattle.indexmap.specs.IndexSet.{insert_key}
 use Rattle.hg_changeset.specs.declared.node.Node.{Node}
 use Rattle.hg_changeset.specs.Node.{node_eq}
-use Rattle.hg_changeset.proofs.ListLemmas.{Contains-none, Contains-taken}
+use Rattle.hg_changeset.proofs.ListLemmas.{Contains-none, Contains-taken, Contains-first, Contains-later}
+use Rattle.hg_changeset.proofs.ListLemmas.{Contains-cons_cases}
 use Rattle.hg_changeset.proofs.NodeLemmas.{same_node, node_eq_laws}
-use Rattle.hg_graph.specs.Graph.{nodes, Holds}
-use Rattle.hg_graph.specs.Places.{IsAt}
+use Rattle.hg_graph.specs.Graph.{nodes, Holds, IsParent}
+use Rattle.hg_graph.specs.Marks.{IsMarkedNode}
+use Rattle.hg_graph.specs.Places.{IsAt, IsParentPlace}
 use Rattle.hg_graph.proofs.PlaceLemmas.{Holds-reaching, placed_within, parent_first}
-use Rattle.hg_phases.specs.State.{changesets}
+use Rattle.hg_phases.specs.declared.phase.Phase.TheVariants.{Public}
+use Rattle.hg_phases.specs.State.{changesets, rank}
+use Rattle.hg_phases.proofs.RankLemmas.{rank-apart}
+use Rattle.hg_history.specs.declared.fault.Fault.{Fault}
 use Rattle.hg_history.specs.Content.{IsHeld, Leads}
-use Rattle.hg_history.specs.Content.Leads.{itself, below}
+use Rattle.hg_history.specs.Content.Leads.{itself, below as leads-below}
 use Rattle.hg_history.proofs.ContentLemmas.{node_in_content, reach_from_leads}
-use Rattle.hg_replica.specs.State.{ReplicaState, IsValid}
-use Rattle.hg_replica.specs.Content.{Content, content_of}
-use Rattle.hg_replica.specs.Evolution.{IsObsolete, IsExtinct, IsUnder}
+use Rattle.hg_replica.specs.State.{ReplicaState, IsValid, Below}
+use Rattle.hg_replica.specs.Least.{PartValue}
+use Rattle.hg_replica.specs.Change.{ChangeValue}
+use Rattle.hg_replica.specs.Answer.{AbsorbAnswer, JoinAnswer}
+use Rattle.hg_replica.specs.Content.{Content, content_of, ContentBelow}
+use Rattle.hg_replica.specs.Evolution.{IsMutable, IsObsolete, IsExtinct, IsUnder}
+use Rattle.hg_replica.proofs.ContentLemmas.{content-below}
+use Rattle.hg_replica.proofs.LeastLemmas.{least-above, least-valid}
 use Rattle.hg_instab.specs.Instabilities.{AreInstabilities, InstabilitySets}
 use Rattle.hg_instab.specs.Local.{IsParentOf}
 use Rattle.hg_instab.proofs.LocalLemmas.{leads-from_parent}
-use Rattle.hg_instab.proofs.SettlingLemmas.{place-from_parent, parent-held, placed-node}
+use Rattle.hg_instab.proofs.SettlingLemmas.{parent-from_place, place-from_parent, parent-held, placed-node}
 use Rattle.hg_instab.specs.Walk.{Adds}
 use Rattle.hg_instab.proofs.TurnedLemmas.{contains-or}
-use Rattle.hg_instab.proofs.WalkLemmas.{front-kept}
-use Rattle.hg_view.specs.Pins.{IsVisibleUnder}
-use Rattle.hg_view.specs.Upheld.{AreUpheld, Comes, Goes, HasChildAmong, IsDue, IsDueParent}
+use Rattle.hg_instab.proofs.SetLemmas.{along}
+use Rattle.hg_instab.proofs.WalkLemmas.{front-kept, adds-nothing, adds-one, adds-same, adds-then}
+use Rattle.hg_view.specs.declared.refusal.PinRefusal.{PinRefusal}
+use Rattle.hg_view.specs.declared.refusal.PinRefusal.TheVariants.{Unknown, NotPinned}
+use Rattle.hg_view.specs.declared.refusal.PinRefusal.TheVariants as pin
+use Rattle.hg_view.specs.Kept.{KeptUnpinAnswer}
+use Rattle.hg_view.specs.Pins.{IsVisibleUnder, PinAnswer, UnpinAnswer}
+use Rattle.hg_view.specs.Upheld.{AreUpheld, IsUpholding, IsMutableParent, IsPinnedBut}
 use Rattle.hg_view.proofs.HiddenLemmas.{obsolete-or, visible-not_extinct}
 use Rattle.hg_view.proofs.KeptLemmas.{visible-outside}
 use Rattle.hg_view.proofs.PinLemmas.{visible-pinned, visible-under}
@@ -67,17 +86,17 @@ module _ (s : ReplicaState) (v : IsValid s) where
     upheld-down : (n d : Node) → IsExtinct (content_of s) n → Leads (content_of s).0 n d → Contains upheld d
         → Contains upheld n
     upheld-down n d x itself there = there
-    upheld-down n d x (below {p = p} {h = h} down e is) there =
+    upheld-down n d x (leads-below {p = p} {h = h} down e is) there =
         let parent : IsParentOf (content_of s) p d = (h, e, is) in
         upheld-down n p x down
-        (are.closed p (d, there, parent) (extinct-below n p x down (parent-held s v p d parent)))
+        (are.closed p (d, there, parent) (extinct-below n p x down (parent-held s v p d parent)).0)
 
     -- what is extinct and visible under the pins is upheld
     pub upheld-visible : (n : Node) → IsVisibleUnder (content_of s) pins n → IsExtinct (content_of s) n
         → Contains upheld n
     upheld-visible n seen x = elim (contains-or pins seen.0) [
       | inl pinned ↦ upheld-down n seen.0 x seen.2
-          (are.begun seen.0 pinned (extinct-below n seen.0 x seen.2 seen.1.0))
+          (are.begun seen.0 pinned (extinct-below n seen.0 x seen.2 seen.1.0).0)
       | inr none ↦ absurd (seen.1.1 (extinct-below n seen.0 x seen.2 seen.1.0, none))
     ]
 
@@ -100,127 +119,384 @@ module _ (s : ReplicaState) (v : IsValid s) where
       ),
     )
 
--- ---- more pins, or more of what is obsolete
+-- ---- the replica grows
 
-module _ (f g : Content) (pins more upheld starts come all : List Node) (are : AreUpheld f pins upheld)
-    (comes : Comes g upheld starts come)
-    (both : (n : Node) → Contains all n ↔ (Contains upheld n ⊎ Contains come n)) where
-  pub upheld-more : ((n : Node) → IsHeld f.0 n → IsHeld g.0 n)
-      → ((n c : Node) → IsParentOf f n c → IsParentOf g n c)
-      → ((n : Node) → Contains pins n → Contains more n) → ((n : Node) → Contains more n → IsHeld g.0 n)
-      → ((n : Node) → Contains starts n → Contains more n ⊎ HasChildAmong g upheld n)
-      → ((n : Node) → Contains more n ⊎ HasChildAmong g upheld n → IsObsolete g n
-      → Contains upheld n ⊎ Contains come n)
-      → AreUpheld g more all
-  upheld-more held parents added known from_starts asked = record {
-    pinned = known;
-    held = λ n h. elim ((both n).0 h) [ inl old ↦ held n (are.held n old) | inr new ↦ comes.held n new ];
-    stands = λ n h. elim ((both n).0 h) [
-      | inl old ↦ elim (are.stands n old) [
-        | inl pinned ↦ inl (added n pinned)
-        | inr child ↦ inr (child.0, (both child.0).1 (inl child.1), parents n child.0 child.2)
-      ]
-      | inr new ↦ elim (comes.stands n new) [
-        | inl start ↦ elim (from_starts n start) [
-          | inl pinned ↦ inl pinned
-          | inr child ↦ inr (child.0, (both child.0).1 (inl child.1), child.2)
-        ]
-        | inr child ↦ inr (child.0, (both child.0).1 (inr child.1), child.2)
-      ]
-    ];
-    begun = λ n pinned obsolete. (both n).1 (asked n (inl pinned) obsolete);
-    closed = λ n child obsolete. (both n).1 (elim ((both child.0).0 child.1) [
-      | inl old ↦ asked n (inr (child.0, old, child.2)) obsolete
-      | inr new ↦ comes.closed n (child.0, new, child.2) obsolete
-    ]);
-  }
+module _ (s t : ReplicaState) (v : IsValid s) (w : IsValid t) (up : Below s t) (pins upheld : List Node)
+    (are : AreUpheld (content_of s) pins upheld) where
+  below : ContentBelow (content_of s) (content_of t)
+  below = content-below s t w up
 
--- ---- fewer pins
+  parent-kept : (n c : Node) → IsParentOf (content_of s) n c → IsParentOf (content_of t) n c
+  parent-kept n c parent =
+      let g = below.0 c parent.0 parent.1 in
+      (g.0, g.1, subst (λ d. IsParent d n) (sym g.2) parent.2)
 
-module _ (f : Content) (pins fewer upheld gone rest : List Node) (are : AreUpheld f pins upheld)
-    (goes : Goes f fewer upheld gone)
-    (left : (n : Node) → Contains rest n ↔ (Contains upheld n × ¬ (Contains gone n))) where
-  pub upheld-fewer : ((n : Node) → Contains fewer n → Contains pins n) → AreUpheld f fewer rest
-  upheld-fewer within = record {
-    pinned = λ n h. are.pinned n (within n h);
-    held = λ n h. are.held n ((left n).0 h).0;
-    stands = λ n h. let x = (left n).0 h in elim (goes.stands n x.0 x.1) [
+  -- a parent of what was held was one before
+  parent-before : (n c : Node) → IsHeld (content_of s).0 c → IsParentOf (content_of t) n c
+      → IsParentOf (content_of s) n c
+  parent-before n c held parent =
+      let g = below.0 c held.0 held.1 in
+      let same : g.0 ≡ parent.0 = same_Some g.0 parent.0 (sym g.1 ∙ parent.1) in
+      (held.0, held.1, subst (λ d. IsParent d n) (sym (ap (λ h. h.changeset) same) ∙ g.2) parent.2)
+
+  -- what isn't public and was held wasn't public
+  mutable-before : (n : Node) → IsHeld (content_of s).0 n → IsMutable (content_of t) n → IsMutable (content_of s) n
+  mutable-before n held m =
+      let g = below.0 n held.0 held.1 in
+      let same : g.0 ≡ m.0 = same_Some g.0 m.0 (sym g.1 ∙ m.1) in (
+        held.0,
+        held.1,
+        λ public. m.2 (rank-apart m.0.phase Public
+            (let top : rank held.0.phase ≡ 0 = ap rank public in
+            let now : rank g.0.phase ≡ rank m.0.phase = ap (λ h. rank h.phase) same in
+            omega (arith, g.3, top, now))),
+      )
+
+  -- the same is upheld
+  pub upheld-above : AreUpheld (content_of t) pins upheld
+  upheld-above = record {
+    pinned = λ n h. held-above n (are.pinned n h);
+    held = λ n h. held-above n (are.held n h);
+    stands = λ n h. elim (are.stands n h) [
       | inl pinned ↦ inl pinned
-      | inr child ↦ inr (child.0, (left child.0).1 (child.1, child.2), child.3)
+      | inr child ↦ inr (child.0, child.1, parent-kept n child.0 child.2)
     ];
-    begun = λ n pinned obsolete. (left n).1 (are.begun n (within n pinned) obsolete, λ g. goes.loose n g pinned);
-    closed = λ n child obsolete.
-        let c = (left child.0).0 child.1 in
-        (left n).1 (
-          are.closed n (child.0, c.0, child.2) obsolete,
-          λ g. c.1 (goes.childless n child.0 g c.0 child.2),
-        );
+    begun = λ n pinned m. are.begun n pinned (mutable-before n (are.pinned n pinned) m);
+    closed = λ n child m.
+        let parent = parent-before n child.0 (are.held child.0 child.1) child.2 in
+        are.closed n (child.0, child.1, parent) (mutable-before n (parent-held s v n child.0 parent) m);
   }
+    where
+      held-above : (n : Node) → IsHeld (content_of s).0 n → IsHeld (content_of t).0 n
+      held-above n h = let g = below.0 n h.0 h.1 in (g.0, g.1)
+
+module _ (s after : ReplicaState) (v : IsValid s) (pins upheld : List Node)
+    (are : AreUpheld (content_of s) pins upheld) where
+  pub upheld-absorbed : (k : PartValue) (result : Result ChangeValue Fault) → AbsorbAnswer s k result after
+      → AreUpheld (content_of after) pins upheld
+  unfolding AbsorbAnswer
+  upheld-absorbed k (Ok change) answer =
+      upheld-above s after v (least-valid s (k ∷ []) after answer.least v) (least-above s (k ∷ []) after answer.least)
+      pins upheld are
+  upheld-absorbed k (Err fault) answer =
+      subst (λ (u : ReplicaState). AreUpheld (content_of u) pins upheld) (sym answer.1) are
+
+  pub upheld-joined : (o : ReplicaState) (result : Result (Unit {0}) Fault) → JoinAnswer s o result after
+      → AreUpheld (content_of after) pins upheld
+  unfolding JoinAnswer
+  upheld-joined o (Ok done) answer =
+      upheld-above s after v answer.0 (record {
+        history = answer.1.history.first;
+        markers = λ m at. (answer.1.markers m).1 (inl at);
+      }) pins upheld are
+  upheld-joined o (Err fault) answer =
+      subst (λ (u : ReplicaState). AreUpheld (content_of u) pins upheld) (sym answer.1) are
 
 -- ---- the walk down
 
--- how far the walk has come: of the first i that came the due parents came
-pub record IsComing (f : Content) (upheld starts come : List Node) (i : ℕ) : Type 0 where
-  pub begun : (n : Node) → Contains starts n → Contains come n
-  pub due : (n : Node) → Contains come n → IsDue f upheld n
-  pub stands : (n : Node) → Contains come n → Contains starts n ⊎ HasChildAmong f come n
-  pub closed : (n c : Node) → Contains (take i come) c → IsDueParent f upheld c n → Contains come n
+-- the same, and more behind it
+abbrev pub Extends : List Node → List Node → Type 0
+Extends old new = (more : List Node) × (new ≡ old ++ more)
 
-module _ (f : Content) (upheld starts : List Node) where
-  pub coming-start : ((n : Node) → Contains starts n → IsDue f upheld n) → IsComing f upheld starts starts 0
-  coming-start due = record {
-    begun = λ n h. h;
-    due = due;
-    stands = λ n h. inl h;
+pub extends-same : (xs : List Node) → Extends xs xs
+extends-same xs = ([], sym (append-nil xs))
+
+pub extends-then : (xs ys zs : List Node) → Extends xs ys → Extends ys zs → Extends xs zs
+extends-then xs ys zs a b =
+    (a.0 ++ b.0, b.1 ∙ ap (λ l. l ++ b.0) a.1 ∙ append_assoc xs a.0 b.0)
+
+-- what came behind is taken away
+pub extends-back : (xs ys : List Node) (n : ℕ) → n ≡ length xs → Extends xs ys → take n ys ≡ xs
+extends-back xs ys n is e =
+    ap (λ k. take k ys) is ∙ front-kept xs ys (length xs) e (omega arith) ∙ take_all (length xs) xs (omega arith)
+
+module _ (f : Content) where
+  -- one more pin
+  pub upholding-one_more : (pins more upheld now : List Node) (node : Node) → AreUpheld f pins upheld
+      → ((n : Node) → Contains more n ↔ (Contains pins n ⊎ (node ≡ n)))
+      → Adds (λ n. (node ≡ n) × IsMutable f n) upheld now
+      → IsUpholding f more upheld now (length upheld)
+  upholding-one_more pins more upheld now node are members a = record {
+    kept = a.kept;
+    held = λ n h. elim ((a.members n).0 h) [ inl old ↦ are.held n old | inr new ↦ (new.1.0, new.1.1) ];
+    stands = λ n h. elim ((a.members n).0 h) [
+      | inl old ↦ elim (are.stands n old) [
+        | inl pinned ↦ inl ((members n).1 (inl pinned))
+        | inr child ↦ inr (child.0, (a.members child.0).1 (inl child.1), child.2)
+      ]
+      | inr new ↦ inl ((members n).1 (inr new.0))
+    ];
+    begun = λ n pinned m. (a.members n).1 (elim ((members n).0 pinned) [
+      | inl old ↦ inl (are.begun n old m)
+      | inr e ↦ inr (e, m)
+    ]);
+    closed = λ n c h parent.
+        let there : Contains upheld c = subst (λ zs. Contains zs c)
+        (extends-back upheld now (length upheld) refl a.kept) h in
+        (a.members n).1 (inl (are.closed n (c, there, parent.0) parent.1));
+  }
+
+  -- the pins, and nothing below them yet
+  pub upholding-start : (pins fewer now : List Node) (but : Option Node)
+      → ((n : Node) → Contains now n ↔ (IsPinnedBut pins but n × IsMutable f n))
+      → ((n : Node) → Contains fewer n ↔ IsPinnedBut pins but n) → IsUpholding f fewer now now 0
+  upholding-start pins fewer now but are members = record {
+    kept = extends-same now;
+    held = λ n h. let m = ((are n).0 h).1 in (m.0, m.1);
+    stands = λ n h. inl ((members n).1 ((are n).0 h).0);
+    begun = λ n pinned m. (are n).1 ((members n).0 pinned, m);
     closed = λ n c h parent. absurd (Contains-none c h);
   }
 
-  pub coming-step : (come new : List Node) (i : ℕ) (x : Node) → i < length come → get_or come i x ≡ x
-      → IsComing f upheld starts come i → Adds (IsDueParent f upheld x) come new
-      → IsComing f upheld starts new (i + 1)
-  coming-step come new i x l at w a = record {
-    begun = λ n h. (a.members n).1 (inl (w.begun n h));
-    due = λ n h. elim ((a.members n).0 h) [ inl old ↦ w.due n old | inr parent ↦ parent.1 ];
+  pub upholding-step : (pins old now new : List Node) (i : ℕ) (x : Node) → i < length now → get_or now i x ≡ x
+      → IsUpholding f pins old now i → Adds (IsMutableParent f x) now new → IsUpholding f pins old new (i + 1)
+  upholding-step pins old now new i x l at w a = record {
+    kept = extends-then old now new w.kept a.kept;
+    held = λ n h. elim ((a.members n).0 h) [ inl was ↦ w.held n was | inr parent ↦ (parent.1.0, parent.1.1) ];
     stands = λ n h. elim ((a.members n).0 h) [
-      | inl old ↦ elim (w.stands n old) [
-        | inl start ↦ inl start
+      | inl was ↦ elim (w.stands n was) [
+        | inl pinned ↦ inl pinned
         | inr child ↦ inr (child.0, (a.members child.0).1 (inl child.1), child.2)
       ]
       | inr parent ↦ inr (
         x,
-        (a.members x).1 (inl (subst (Contains come) at (Contains-get_or come i x l))),
+        (a.members x).1 (inl (subst (Contains now) at (Contains-get_or now i x l))),
         parent.0,
       )
     ];
+    begun = λ n pinned m. (a.members n).1 (inl (w.begun n pinned m));
     closed = λ n c h parent.
-        let before : Contains (take (i + 1) come) c = subst (λ zs. Contains zs c)
-        (front-kept come new (i + 1) a.kept (omega (arith, l))) h in
-        (a.members n).1 (elim ((Contains-taken come i x c l at).0 before) [
-          | inl old ↦ inl (w.closed n c old parent)
-          | inr e ↦ inr (subst (λ y. IsDueParent f upheld y n) (sym e) parent)
+        let before : Contains (take (i + 1) now) c = subst (λ zs. Contains zs c)
+        (front-kept now new (i + 1) a.kept (omega (arith, l))) h in
+        (a.members n).1 (elim ((Contains-taken now i x c l at).0 before) [
+          | inl was ↦ inl (w.closed n c was parent)
+          | inr e ↦ inr (subst (λ y. IsMutableParent f y n) (sym e) parent)
         ]);
   }
 
-  pub coming-end : (come : List Node) (i : ℕ) → length come ≤ i → IsComing f upheld starts come i
-      → Comes f upheld starts come
-  coming-end come i ended w = record {
-    begun = w.begun;
-    held = λ n h. let o = (w.due n h).0 in (o.0.0, o.0.1);
-    fresh = λ n h. (w.due n h).1;
+  -- the walk has come to the end
+  pub upholding-end : (pins old now : List Node) (i : ℕ) → length now ≤ i → IsUpholding f pins old now i
+      → IsUpholding f pins old now (length now)
+  upholding-end pins old now i ended w = record {
+    kept = w.kept;
+    held = w.held;
     stands = w.stands;
-    closed = λ n child obsolete. elim (contains-or upheld n) [
-      | inl there ↦ inl there
-      | inr none ↦ inr (w.closed n child.0 (subst (λ zs. Contains zs child.0) (sym (take_all i come ended)) child.1)
-          (child.2, (obsolete, none)))
-    ];
+    begun = w.begun;
+    closed = λ n c h parent. w.closed n c (subst (λ zs. Contains zs c)
+        (take_all (length now) now (omega arith) ∙ sym (take_all i now ended)) h) parent;
   }
 
--- all that comes is held, so the walk ends
-pub coming-within : (s : ReplicaState) → IsValid s → (upheld starts come : List Node) (i : ℕ)
-    → IsComing (content_of s) upheld starts come i → IsDistinct node_eq come
-    → length come ≤ length (nodes (changesets s.history))
-coming-within s v upheld starts come i w distinct =
-    length-le_from_is_member node_eq_laws come (nodes (changesets s.history)) distinct
+  pub upheld-then : (pins old now : List Node) → ((n : Node) → Contains pins n → IsHeld f.0 n)
+      → IsUpholding f pins old now (length now) → AreUpheld f pins now
+  upheld-then pins old now known w = record {
+    pinned = known;
+    held = w.held;
+    stands = w.stands;
+    begun = w.begun;
+    closed = λ n child m.
+        w.closed n child.0 (subst (λ zs. Contains zs child.0) (sym (take_all (length now) now (omega arith))) child.1)
+        (child.2, m);
+  }
+
+-- all that is upheld is held, so the walk ends
+pub upheld-within : (s : ReplicaState) → IsValid s → (now : List Node)
+    → ((n : Node) → Contains now n → IsHeld (content_of s).0 n) → IsDistinct node_eq now
+    → length now ≤ length (nodes (changesets s.history))
+upheld-within s v now held distinct =
+    length-le_from_is_member node_eq_laws now (nodes (changesets s.history)) distinct
     (λ q e. list_any-from_Contains node_eq_laws q (nodes (changesets s.history))
-    (let o = (w.due q (Contains-from_any same_node q come e)).0 in
-    node_in_content s.history v.graph q (o.0.0, o.0.1)))
+    (node_in_content s.history v.graph q (held q (Contains-from_any same_node q now e))))
+
+-- without pins nothing is upheld
+pub upheld-none : (f : Content) → AreUpheld f [] []
+upheld-none f = record {
+  pinned = λ n h. absurd (Contains-none n h);
+  held = λ n h. absurd (Contains-none n h);
+  stands = λ n h. absurd (Contains-none n h);
+  begun = λ n h m. absurd (Contains-none n h);
+  closed = λ n child m. absurd (Contains-none child.0 child.1);
+}
+
+-- ---- what one step adds
+
+-- one that isn't public
+pub adds-mutable : (f : Content) (old new : List Node) (node : Node) → IsMutable f node
+    → new ≡ insert_key node_eq old node → Adds (λ n. (node ≡ n) × IsMutable f n) old new
+adds-mutable f old new node m is =
+    adds-same (λ n. node ≡ n) (λ n. (node ≡ n) × IsMutable f n) old new
+    (λ n. (λ h. h.0, λ e. (e, subst (IsMutable f) e m))) (adds-one old new node is)
+
+-- what stands at a place
+abbrev pub IsMutableAt : ReplicaState → Option ℕ → Node → Type 0
+IsMutableAt s place n =
+    (k : ℕ) × (place ≡ Some k) × IsAt (changesets s.history) n k × IsMutable (content_of s) n
+
+pub adds-at : (s : ReplicaState) (old new : List Node) (k : ℕ) (node : Node) → IsAt (changesets s.history) node k
+    → Adds (λ n. (node ≡ n) × IsMutable (content_of s) n) old new → Adds (IsMutableAt s (Some k)) old new
+adds-at s old new k node at adds =
+    adds-same (λ n. (node ≡ n) × IsMutable (content_of s) n) (IsMutableAt s (Some k)) old new
+    (λ n. (
+      λ h.
+          let same : k ≡ h.0 = same_Some k h.0 h.1 in
+          (same_Some node n (sym at ∙ ap (slice_get (nodes (changesets s.history))) same ∙ h.2), h.3),
+      λ h. (k, refl, subst (λ x. IsAt (changesets s.history) x k) h.0 at, h.1),
+    )) adds
+
+pub adds-nowhere : (s : ReplicaState) (old : List Node) (k : ℕ) → slice_get (nodes (changesets s.history)) k ≡ None
+    → Adds (IsMutableAt s (Some k)) old old
+adds-nowhere s old k none = adds-nothing (IsMutableAt s (Some k)) old
+    (λ n h. absurd (none-some n
+    (sym none ∙ ap (slice_get (nodes (changesets s.history))) (same_Some k h.0 h.1) ∙ h.2)))
+
+-- the parents of one that is held are what stands at two places
+pub parents-added : (s : ReplicaState) → IsValid s → (node : Node) (k : ℕ) → IsAt (changesets s.history) node k
+    → (first second : Option ℕ)
+    → ((j : ℕ) → IsParentPlace (changesets s.history) k j ↔ ((first ≡ Some j) ⊎ (second ≡ Some j)))
+    → (old mid new : List Node) → Adds (IsMutableAt s first) old mid → Adds (IsMutableAt s second) mid new
+    → Adds (IsMutableParent (content_of s) node) old new
+parents-added s v node k at first second are old mid new =
+    adds-then (IsMutableAt s first) (IsMutableAt s second) (IsMutableParent (content_of s) node) old mid new (λ n. (
+      λ h.
+          let j = placed-node s v n (parent-held s v n node h.0) in
+          elim ((are j.0).0 (place-from_parent s v node n k j.0 at j.1 h.0)) [
+            | inl is ↦ inl (j.0, is, j.1, h.1)
+            | inr is ↦ inr (j.0, is, j.1, h.1)
+          ],
+      λ h. elim h [
+        | inl x ↦ (parent-from_place s v node n k x.0 at x.2 ((are x.0).1 (inl x.1)), x.3)
+        | inr x ↦ (parent-from_place s v node n k x.0 at x.2 ((are x.0).1 (inr x.1)), x.3)
+      ],
+    ))
+
+-- what isn't held has no parents
+pub parents-none : (s : ReplicaState) → IsValid s → (node : Node) → ¬ (Holds (changesets s.history) node)
+    → (old : List Node) → Adds (IsMutableParent (content_of s) node) old old
+parents-none s v node out old = adds-nothing (IsMutableParent (content_of s) node) old
+    (λ n h. absurd (out (node_in_content s.history v.graph node (h.0.0, h.0.1))))
+
+-- ---- marks
+
+-- marks of what isn't extinct or is upheld are those of what is visible under the pins
+pub marks-upheld : (s : ReplicaState) → IsValid s → (pins upheld : List Node)
+    → AreUpheld (content_of s) pins upheld → (sets : InstabilitySets) → AreInstabilities (content_of s) sets
+    → (marks : List Bool)
+    → ((n : Node) → IsMarkedNode (changesets s.history) marks n
+    ↔ (Holds (changesets s.history) n × (¬ (Contains sets.extinct n) ⊎ Contains upheld n)))
+    → (n : Node) → IsMarkedNode (changesets s.history) marks n ↔ IsVisibleUnder (content_of s) pins n
+marks-upheld s v pins upheld are sets kept marks exact n =
+    along (exact n) (visible-upheld s v pins upheld are sets kept n)
+
+-- ---- answers
+
+module _ (f : Content) (before : List Node) (node : Node) where
+  -- a second pin changes nothing
+  pub pinned-again : IsHeld f.0 node → Contains before node → PinAnswer f before node (Ok tt) before
+  pinned-again held there =
+      (held, (λ n. (λ h. inl h, λ h. elim h [ inl old ↦ old | inr e ↦ subst (Contains before) e there ])), λ h. refl)
+
+  -- what is refused changes nothing
+  pub unpinned-same : (refusal : PinRefusal) (after : List Node) → PinAnswer f before node (Err refusal) after
+      → after ≡ before
+  unpinned-same (Unknown n) after answer = answer.2
+  unpinned-same (NotPinned n) after answer = absurd answer
+  unpinned-same pin.NoMemory after answer = answer.2
+
+-- all pins, and all but one
+pub pinned-all : (pins : List Node) (n : Node) → Contains pins n ↔ IsPinnedBut pins None n
+pinned-all pins n = (λ h. (h, λ e. absurd cc), λ h. h.0)
+
+pub pinned-others : (pins fewer : List Node) (node : Node)
+    → ((n : Node) → Contains fewer n ↔ (Contains pins n × (n ≢ node))) → (n : Node)
+    → Contains fewer n ↔ IsPinnedBut pins (Some node) n
+pinned-others pins fewer node are n = (
+  λ h. let x = (are n).0 h in (x.0, λ e. x.1 (sym (same_Some node n e))),
+  λ h. (are n).1 (h.0, λ e. h.1 (ap (λ m. Some m) (sym e))),
+)
+
+-- an unpin of what is pinned takes it away
+pub unpinned-others : (before after : List Node) (node : Node) (result : Result (Unit {0}) PinRefusal)
+    → Contains before node → UnpinAnswer before node result after → (n : Node)
+    → Contains after n ↔ IsPinnedBut before (Some node) n
+unpinned-others before after node (Ok done) there answer = pinned-others before after node answer.1
+unpinned-others before after node (Err (Unknown n)) there answer = absurd answer
+unpinned-others before after node (Err (NotPinned n)) there answer = absurd (answer.1 there)
+unpinned-others before after node (Err pin.NoMemory) there answer = absurd answer
+
+pub kept-unpinned : (before after : List Node) (node : Node) (result : Result (Unit {0}) PinRefusal)
+    → UnpinAnswer before node result after → KeptUnpinAnswer before node result after
+kept-unpinned before after node (Ok done) answer = answer
+kept-unpinned before after node (Err (Unknown n)) answer = absurd answer
+kept-unpinned before after node (Err (NotPinned n)) answer = answer
+kept-unpinned before after node (Err pin.NoMemory) answer = absurd answer
+
+-- one more pin
+pub pinned-more : (f : Content) (before after : List Node) (node : Node) → PinAnswer f before node (Ok tt) after
+    → (n : Node) → Contains after n ↔ (Contains before n ⊎ (node ≡ n))
+pinned-more f before after node answer = answer.1
+
+-- ---- the pins, one after the other
+
+-- what is found of the pins before those that are left
+pub record AreGathered (f : Content) (pins : List Node) (but : Option Node) (found rest : List Node) : Type 0 where
+  pub pinned : (n : Node) → Contains rest n → Contains pins n
+  pub right : (n : Node) → Contains found n → IsPinnedBut pins but n × IsMutable f n
+  pub all : (n : Node) → IsPinnedBut pins but n → IsMutable f n → Contains found n ⊎ Contains rest n
+
+module _ (f : Content) (pins : List Node) (but : Option Node) where
+  pub gathered-none : (found : List Node) → found ≡ [] → AreGathered f pins but found pins
+  gathered-none found none = record {
+    pinned = λ n h. h;
+    right = λ n h. absurd (Contains-none n (subst (λ ns. Contains ns n) none h));
+    all = λ n h m. inr h.0;
+  }
+
+  module _ (found left rest : List Node) (node : Node) (is : left ≡ node ∷ rest)
+      (w : AreGathered f pins but found left) where
+    first : Contains left node
+    first = subst (λ ns. Contains ns node) (sym is) (Contains-first node rest)
+
+    later : (n : Node) → Contains rest n → Contains left n
+    later n h = subst (λ ns. Contains ns n) (sym is) (Contains-later node rest n h)
+
+    among : (n : Node) → Contains left n → (node ≡ n) ⊎ Contains rest n
+    among n h = Contains-cons_cases node rest n (subst (λ ns. Contains ns n) is h)
+
+    pub gathered-more : (new : List Node) → ¬ (but ≡ Some node)
+        → Adds (λ n. (node ≡ n) × IsMutable f n) found new → AreGathered f pins but new rest
+    gathered-more new other a = record {
+      pinned = λ n h. w.pinned n (later n h);
+      right = λ n h. elim ((a.members n).0 h) [
+        | inl old ↦ w.right n old
+        | inr x ↦ (subst (IsPinnedBut pins but) x.0 (w.pinned node first, other), x.1)
+      ];
+      all = λ n h m. elim (w.all n h m) [
+        | inl old ↦ inl ((a.members n).1 (inl old))
+        | inr there ↦ elim (among n there) [
+          | inl e ↦ inl ((a.members n).1 (inr (e, m)))
+          | inr more ↦ inr more
+        ]
+      ];
+    }
+
+    pub gathered-but : but ≡ Some node → AreGathered f pins but found rest
+    gathered-but one = record {
+      pinned = λ n h. w.pinned n (later n h);
+      right = w.right;
+      all = λ n h m. elim (w.all n h m) [
+        | inl old ↦ inl old
+        | inr there ↦ elim (among n there) [
+          | inl e ↦ absurd (h.1 (one ∙ ap (λ x. Some x) e))
+          | inr more ↦ inr more
+        ]
+      ];
+    }
+
+  pub gathered-all : (found left : List Node) → left ≡ [] → AreGathered f pins but found left → (n : Node)
+      → Contains found n ↔ (IsPinnedBut pins but n × IsMutable f n)
+  gathered-all found left ended w n = (
+    w.right n,
+    λ h. elim (w.all n h.0 h.1) [
+      | inl there ↦ there
+      | inr more ↦ absurd (Contains-none n (subst (λ ns. Contains ns n) ended more))
+    ],
+  )

@@ -1,5 +1,6 @@
 -- What is kept beside a replica that absorbs.
-use Rattle.std.specs.Prelude.{◌≡◌, ◌⊎◌, Result, Ok, Err}
+use Rattle.std.specs.Prelude.{◌≡◌, ◌⊎◌, List, Contains, Result, Ok, Err}
+use Rattle.hg_changeset.specs.declared.node.Node.{Node}
 use Rattle.hg_history.specs.declared.fault.Fault.{Fault}
 use Rattle.hg_history.specs.declared.fault.Fault.TheVariants.{NoMemory}
 use Rattle.hg_replica.specs.State.{ReplicaState}
@@ -9,6 +10,22 @@ use Rattle.hg_replica.specs.Undo.{LeadsBack, UndoValue}
 use Rattle.hg_replica.specs.declared.undo.Absorbed.{Absorbed}
 use Rattle.hg_instab.specs.Changed.{IsChangedTo}
 use Rattle.hg_instab.specs.Instabilities.{AreInstabilities, InstabilitySets}
+use Rattle.hg_view.specs.declared.refusal.PinRefusal.{PinRefusal}
+use Rattle.hg_view.specs.declared.refusal.PinRefusal.TheVariants.{Unknown, NotPinned}
+use Rattle.hg_view.specs.declared.refusal.PinRefusal.TheVariants as pin
+use Rattle.hg_view.specs.Pins.{UnpinAnswer}
+
+-- a replica, and what its node pins
+pub record KeptValue : Type 0 where
+  pub replica : ReplicaState
+  pub pins : List Node
+
+-- the answer to `Kept::unpin`: as that to `Pins::unpin`, but memory can be wanting where there is a pin
+abbrev pub KeptUnpinAnswer : List Node → Node → Result (Unit {0}) PinRefusal → List Node → Type 0
+KeptUnpinAnswer before node (Ok done) after = UnpinAnswer before node (Ok done) after
+KeptUnpinAnswer before node (Err (NotPinned n)) after = UnpinAnswer before node (Err (NotPinned n)) after
+KeptUnpinAnswer before node (Err (Unknown n)) after = ⊥
+KeptUnpinAnswer before node (Err pin.NoMemory) after = Contains before node × (after ≡ before)
 
 -- where the replica, now t, answered so: it stays, and the sets follow the change that it told, or stay where that is
 -- nothing; or memory was refused, where it is something, and both are as they were before that. Where it refused,

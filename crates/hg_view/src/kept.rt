@@ -1,19 +1,23 @@
-//! A replica whose instabilities are kept up to date.
-ghost use Rattle.std.specs.Prelude.{◌≡◌, ◌↔◌, Contains, IfOk, IsErrOf, IsTrue, length};
+//! A replica whose instabilities are kept up to date, with the pins of its node.
+ghost use Rattle.std.specs.Prelude.{◌≡◌, ◌↔◌, ◌⊎◌, [], Contains, IfOk, IsErrOf, IsTrue, length};
 ghost use Rattle.hg_changeset.specs.declared.node.Node.{Node};
 ghost use Rattle.hg_graph.specs.Graph.{Holds};
 ghost use Rattle.hg_graph.specs.Marks.{IsMarkedNode};
 ghost use Rattle.hg_graph.specs.Places.{IsAt};
 ghost use Rattle.hg_phases.specs.State.{changesets};
+ghost use Rattle.hg_history.specs.Content.{IsHeld};
 ghost use Rattle.hg_replica.specs.State.{ReplicaState, IsValid};
 ghost use Rattle.hg_replica.specs.Least.{part_of};
 ghost use Rattle.hg_replica.specs.Answer.{AbsorbAnswer, JoinAnswer, IsGrowthBeforeFault};
 ghost use Rattle.hg_replica.specs.Content.{content_of};
-ghost use Rattle.hg_replica.specs.Evolution.{IsServed, IsVisible};
 ghost use Rattle.hg_replica.specs.Undo.{LeadsBack};
 ghost use Rattle.hg_instab.specs.Instabilities.{AreInstabilities};
-ghost use Rattle.hg_view.specs.Kept.{FindsAgain, KeepsUp};
+ghost use Rattle.hg_view.specs.Kept.{FindsAgain, KeepsUp, KeptUnpinAnswer};
+ghost use Rattle.hg_view.specs.Pins.{IsServedUnder, IsVisibleUnder, PinAnswer};
 
+use crate::pins::Pins;
+use crate::refusal::PinRefusal;
+use crate::upheld::{upheld_by, uphold};
 use crate::view::{not_secret, set_at};
 use hg_changeset::Node;
 use hg_graph::Graph;
@@ -21,16 +25,21 @@ use hg_history::Fault;
 use hg_instab::{Instabilities, has_phase};
 use hg_phases::Phase;
 use hg_replica::{Absorbed, Change, NoMemory, Part, Replica, Undo};
+use indexmap::IndexSet;
 use std::alloc::{AllocError, Global};
 use std::collections::BTreeSet;
 use std::marker::Model;
 
-/// A replica with its instabilities, which are kept up to date with each part that it absorbs. Contracts see it as its
-/// replica.
+/// A replica with its instabilities, which are kept up to date with each part that it absorbs, and with what its node
+/// pins. Contracts see it as its replica and its pins.
 pub struct Kept {
     alloc: Global,
     replica: Replica,
     instabilities: Instabilities,
+    pins: Pins,
+
+    // What the pins uphold.
+    upheld: IndexSet<Node>,
 }
 
 // Whoever owns one calls this once, and is proved without a look at what it holds.
@@ -40,6 +49,8 @@ impl Drop for Kept {
             alloc: _,
             replica: _,
             instabilities: _,
+            pins: _,
+            upheld: _,
         } = self;
     }
 }
@@ -47,23 +58,27 @@ impl Drop for Kept {
 impl Model for Kept {
     ghost use Rattle.std.specs.Coded.{codes};
     ghost use Rattle.hg_marker.specs.Fields.{fields_code};
-    ghost use Rattle.hg_replica.specs.State.{ReplicaState, IsValid};
+    ghost use Rattle.hg_replica.specs.State.{IsValid};
     ghost use Rattle.hg_replica.specs.Content.{content_of};
     ghost use Rattle.hg_instab.specs.Instabilities.{AreInstabilities};
+    ghost use Rattle.hg_view.specs.Kept.{KeptValue};
+    ghost use Rattle.hg_view.specs.Upheld.{AreUpheld};
 
-    ghost Value = { ReplicaState };
+    ghost Value = { KeptValue };
 
     ghost coded = { Prim.hlevel (codes, fields_code) };
 
-    ghost view = { λ kept. kept.replica };
+    ghost view = { λ kept. record { replica = kept.replica; pins = kept.pins } };
 
-    ghost invariant = { λ kept. AreInstabilities (content_of kept.replica) kept.instabilities × IsValid kept.replica };
+    ghost invariant = { λ kept. AreInstabilities (content_of kept.replica) kept.instabilities × IsValid kept.replica
+        × AreUpheld (content_of kept.replica) kept.pins kept.upheld.keys };
 }
 
 impl Kept {
-    /// The replica, with its instabilities found from scratch.
+    /// The replica, with its instabilities found from scratch, and no pins.
     pub fn new(alloc: Global, replica: Replica) -> Result<Kept, AllocError>
-        ensures { IfOk result (λ kept. kept ≡ replica) }
+        ensures replica { IfOk result (λ kept. kept.replica ≡ replica) }
+        ensures pins { IfOk result (λ kept. kept.pins ≡ []) }
     {
         let instabilities = Instabilities::from_scratch(alloc, &replica)?;
 
@@ -73,45 +88,108 @@ impl Kept {
             alloc,
             replica,
             instabilities,
+            pins: Pins::new(alloc),
+            upheld: IndexSet::new(alloc),
         })
     }
 
-    /// An equal replica, in the same order, with equal instabilities.
+    /// An equal replica, in the same order, with equal instabilities and equal pins.
     pub fn copy(&self) -> Result<Kept, NoMemory>
         ensures { IfOk result (λ copy. copy ≡ self.now) }
     {
         let instabilities = self.instabilities.copy()?;
         let replica = self.replica.copy()?;
+        let pins = self.pins.copy()?;
+        let upheld = upheld_by(self.alloc, &self.replica, &self.pins, None)?;
         Ok(Kept {
             alloc: self.alloc,
             replica,
             instabilities,
+            pins,
+            upheld,
         })
     }
 
     /// The replica.
     pub fn replica(&self) -> &Replica
-        ensures replica { result.now ≡ self.now }
-        ensures valid { IsValid self.now }
+        ensures replica { result.now ≡ self.now.replica }
+        ensures valid { IsValid self.now.replica }
     {
         &self.replica
     }
 
     /// The instabilities of the replica as it is now.
     pub fn instabilities(&self) -> &Instabilities
-        ensures { AreInstabilities (content_of self.now) result.now }
+        ensures { AreInstabilities (content_of self.now.replica) result.now }
     {
         &self.instabilities
     }
 
+    /// The pins. What is pinned is held.
+    pub fn pins(&self) -> &Pins
+        ensures pins { result.now ≡ self.now.pins }
+        ensures held { (n : Node) → Contains self.now.pins n → IsHeld (content_of self.now.replica).0 n }
+    {
+        &self.pins
+    }
+
+    /// Pins a changeset that the replica holds, as [`Pins::pin`] does. It costs those of its ancestors that aren't
+    /// public and that no pin upheld before.
+    ///
+    /// Refuses [`PinRefusal::Unknown`] alone, where the replica doesn't hold it. The null id is held by none.
+    pub fn pin(&mut self, node: Node) -> Result<(), PinRefusal>
+        ensures answer { PinAnswer (content_of self.old.replica) self.old.pins node result self.new.pins }
+        ensures replica { self.new.replica ≡ self.old.replica }
+    {
+        if self.pins.is_pinned(node) {
+            return Ok(());
+        }
+        if !self.replica.graph().contains(node) {
+            return Err(PinRefusal::Unknown(node));
+        }
+        let from = self.upheld.len();
+        match uphold(&self.replica, &mut self.upheld, node) {
+            Ok(()) => {}
+            Err(AllocError) => return Err(PinRefusal::NoMemory),
+        }
+        match self.pins.pin(&self.replica, node) {
+            Ok(()) => Ok(()),
+            Err(refusal) => {
+                self.upheld.truncate(from);
+                Err(refusal)
+            }
+        }
+    }
+
+    /// Takes the pin of a changeset away, as [`Pins::unpin`] does, and finds from scratch what the other pins uphold.
+    ///
+    /// Refuses [`PinRefusal::NotPinned`] alone, where there is none.
+    pub fn unpin(&mut self, node: Node) -> Result<(), PinRefusal>
+        ensures answer { KeptUnpinAnswer self.old.pins node result self.new.pins }
+        ensures replica { self.new.replica ≡ self.old.replica }
+    {
+        if !self.pins.is_pinned(node) {
+            return Err(PinRefusal::NotPinned(node));
+        }
+        match upheld_by(self.alloc, &self.replica, &self.pins, Some(node)) {
+            Ok(upheld) => {
+                self.upheld = upheld;
+                self.pins.unpin(node)
+            }
+            Err(AllocError) => Err(PinRefusal::NoMemory),
+        }
+    }
+
     /// Takes in a part as [`Replica::absorb`] does, and brings the instabilities up to date, at the cost of what the
-    /// part changes. Where memory is refused for that, the replica takes the part back. So want of memory is told only
-    /// where something grew before a fault was met, and a part that is covered is absorbed without memory.
+    /// part changes. The pins stay. Where memory is refused for the instabilities, the replica takes the part back. So
+    /// want of memory is told only where something grew before a fault was met, and a part that is covered is absorbed
+    /// without memory.
     pub fn absorb(&mut self, part: &Part) -> Result<Change, Fault>
-        ensures answer { AbsorbAnswer self.old part.now result self.new }
-        ensures memory { IsErrOf result Fault.NoMemory → IsGrowthBeforeFault self.old part.now }
-        ensures valid { IsValid self.old }
-        ensures still_valid { IsValid self.new }
+        ensures answer { AbsorbAnswer self.old.replica part.now result self.new.replica }
+        ensures memory { IsErrOf result Fault.NoMemory → IsGrowthBeforeFault self.old.replica part.now }
+        ensures pins { self.new.pins ≡ self.old.pins }
+        ensures valid { IsValid self.old.replica }
+        ensures still_valid { IsValid self.new.replica }
     {
         let answer = self.replica.absorb_with_undo(part);
         keep_up(&mut self.replica, &mut self.instabilities, answer)
@@ -120,24 +198,27 @@ impl Kept {
     /// Takes in a part as [`absorb`](Kept::absorb) does, but moves what isn't held in place of copying it, as
     /// [`Replica::absorb_owned`] does.
     pub fn absorb_owned(&mut self, part: Part) -> Result<Change, Fault>
-        ensures answer { AbsorbAnswer self.old part result self.new }
-        ensures memory { IsErrOf result Fault.NoMemory → IsGrowthBeforeFault self.old part }
-        ensures valid { IsValid self.old }
-        ensures still_valid { IsValid self.new }
+        ensures answer { AbsorbAnswer self.old.replica part result self.new.replica }
+        ensures memory { IsErrOf result Fault.NoMemory → IsGrowthBeforeFault self.old.replica part }
+        ensures pins { self.new.pins ≡ self.old.pins }
+        ensures valid { IsValid self.old.replica }
+        ensures still_valid { IsValid self.new.replica }
     {
         let answer = self.replica.absorb_owned_with_undo(part);
         keep_up(&mut self.replica, &mut self.instabilities, answer)
     }
 
     /// Takes in all that another replica holds, as [`Replica::join`] does, and finds the instabilities from scratch.
-    /// Where memory is refused for that, the replica takes the other back. What is below this one is joined without
-    /// memory.
+    /// The pins stay, and the other's are left to it. Where memory is refused for the instabilities, the replica takes
+    /// the other back. What is below this one is joined without memory.
     pub fn join(&mut self, other: &Kept) -> Result<(), Fault>
-        ensures answer { JoinAnswer self.old other.now result self.new }
-        ensures memory { IsErrOf result Fault.NoMemory → IsGrowthBeforeFault self.old (part_of other.now) }
-        ensures valid { IsValid self.old }
-        ensures other_valid { IsValid other.now }
-        ensures still_valid { IsValid self.new }
+        ensures answer { JoinAnswer self.old.replica other.now.replica result self.new.replica }
+        ensures memory { IsErrOf result Fault.NoMemory
+            → IsGrowthBeforeFault self.old.replica (part_of other.now.replica) }
+        ensures pins { self.new.pins ≡ self.old.pins }
+        ensures valid { IsValid self.old.replica }
+        ensures other_valid { IsValid other.now.replica }
+        ensures still_valid { IsValid self.new.replica }
     {
         if other.replica.is_below(&self.replica) {
             return Ok(());
@@ -151,36 +232,39 @@ impl Kept {
         )
     }
 
-    /// Whether a changeset is visible: held and not extinct. It costs two look-ups.
+    /// Whether a changeset is visible under the pins: held, and not extinct or upheld by a pin. It costs three look-ups
+    /// at most.
     pub fn is_visible(&self, node: Node) -> bool
-        ensures { IsTrue result ↔ IsVisible (content_of self.now) node }
+        ensures { IsTrue result ↔ IsVisibleUnder (content_of self.now.replica) self.now.pins node }
     {
-        // Where changesets can be pinned, one that is will count as not obsolete here.
-        self.replica.graph().contains(node) && !self.instabilities.extinct().contains(&node)
+        self.replica.graph().contains(node) && is_shown(&self.instabilities, &self.upheld, node)
     }
 
-    /// Whether a changeset is served: visible and not secret. It costs three look-ups.
+    /// Whether a changeset is served under the pins: visible and not secret. It costs a look-up more.
     pub fn is_served(&self, node: Node) -> bool
-        ensures { IsTrue result ↔ IsServed (content_of self.now) node }
+        ensures { IsTrue result ↔ IsServedUnder (content_of self.now.replica) self.now.pins node }
     {
         self.is_visible(node) && !has_phase(&self.replica, node, Phase::Secret)
     }
 
-    /// The visible changesets: those held that aren't extinct. Mercurial's view `visible`.
+    /// The visible changesets under the pins. Mercurial's view `visible`.
     pub fn visible(&self) -> Result<BTreeSet<Node>, AllocError>
-        ensures { IfOk result (λ set. (n : Node) → Contains set.keys n ↔ IsVisible (content_of self.now) n) }
+        ensures { IfOk result (λ set. (n : Node) → Contains set.keys n
+            ↔ IsVisibleUnder (content_of self.now.replica) self.now.pins n) }
     {
-        let marks = marks_outside(self.alloc, &self.replica, self.instabilities.extinct())?;
+        let marks = shown_marks(self.alloc, &self.replica, &self.instabilities, &self.upheld)?;
         set_at(self.alloc, &self.replica, &marks)
     }
 
     /// A mark for each place of the graph: whether the changeset there is [served](Kept::is_served).
     pub fn served_marks(&self) -> Result<Vec<bool>, AllocError>
-        ensures len { IfOk result (λ marks. length marks.items ≡ length (changesets self.now.history)) }
-        ensures exact { IfOk result (λ marks. (n : Node) → IsMarkedNode (changesets self.now.history) marks.items n
-            ↔ IsServed (content_of self.now) n) }
+        ensures len { IfOk result
+            (λ marks. length marks.items ≡ length (changesets self.now.replica.history)) }
+        ensures exact { IfOk result (λ marks. (n : Node)
+            → IsMarkedNode (changesets self.now.replica.history) marks.items n
+            ↔ IsServedUnder (content_of self.now.replica) self.now.pins n) }
     {
-        let visible = marks_outside(self.alloc, &self.replica, self.instabilities.extinct())?;
+        let visible = shown_marks(self.alloc, &self.replica, &self.instabilities, &self.upheld)?;
         not_secret(self.alloc, &self.replica, &visible)
     }
 }
@@ -239,30 +323,48 @@ fn find_again(
     }
 }
 
-// A mark for each place of the graph: whether the changeset there isn't in the set.
-fn marks_outside(
+// A mark for each place of the graph: whether the changeset there isn't extinct or is upheld.
+fn shown_marks(
     alloc: Global,
     replica: &Replica,
-    set: &BTreeSet<Node>,
+    instabilities: &Instabilities,
+    upheld: &IndexSet<Node>,
 ) -> Result<Vec<bool>, AllocError>
     ensures len { IfOk result (λ marks. length marks.items ≡ length (changesets replica.now.history)) }
     ensures exact { IfOk result (λ marks. (n : Node) → IsMarkedNode (changesets replica.now.history) marks.items n
-        ↔ (Holds (changesets replica.now.history) n × ¬ (Contains set.now.keys n))) }
+        ↔ (Holds (changesets replica.now.history) n
+        × (¬ (Contains instabilities.now.extinct n) ⊎ Contains upheld.now.keys n))) }
 {
     let graph = replica.graph();
     let mut marks = Vec::with_capacity(alloc, graph.len())?;
     for place in 0..graph.len() {
-        marks.push(!is_in(graph, place, set))?;
+        marks.push(is_shown_at(graph, place, instabilities, upheld))?;
     }
     Ok(marks)
 }
 
-// Whether the changeset at a place is in the set.
-fn is_in(graph: &Graph, place: usize, set: &BTreeSet<Node>) -> bool
-    ensures { (n : Node) → IsAt graph.now n place → (IsTrue result ↔ Contains set.now.keys n) }
+// Whether the changeset at a place isn't extinct or is upheld.
+fn is_shown_at(
+    graph: &Graph,
+    place: usize,
+    instabilities: &Instabilities,
+    upheld: &IndexSet<Node>,
+) -> bool
+    ensures { (n : Node) → IsAt graph.now n place
+        → (IsTrue result ↔ (¬ (Contains instabilities.now.extinct n) ⊎ Contains upheld.now.keys n)) }
 {
     match graph.node_at(place) {
-        Some(node) => set.contains(&node),
+        Some(node) => is_shown(instabilities, upheld, node),
         None => false,
     }
+}
+
+// Whether a changeset that is held isn't extinct or is upheld.
+fn is_shown(instabilities: &Instabilities, upheld: &IndexSet<Node>, node: Node) -> bool
+    ensures { IsTrue result ↔ (¬ (Contains instabilities.now.extinct node) ⊎ Contains upheld.now.keys node) }
+{
+    if instabilities.extinct().contains(&node) {
+        return upheld.contains(&node);
+    }
+    true
 }

@@ -76,9 +76,9 @@ pub fn what_is_hidden_under_pins_is_extinct()
         → IsHiddenUnder (content_of s) pins n → IsExtinct (content_of s) n }
 {}
 
-/// What pins uphold tells what they show: where the sets of instabilities are right, and `upheld` has the obsolete
-/// changesets that are pinned, and from there down each obsolete parent, what is held is visible under the pins exactly
-/// where it isn't extinct or is upheld. So one set beside the others answers by two look-ups.
+/// What pins uphold tells what they show: where the sets of instabilities are right, and `upheld` has the changesets
+/// that are pinned, and their ancestors down to the public ones, what is held is visible under the pins exactly where
+/// it isn't extinct or is upheld. So one set beside the others answers by two look-ups.
 pub fn what_pins_uphold_is_visible()
     ensures { (s : ReplicaState) (pins upheld : List Node) (sets : InstabilitySets) (n : Node) → IsValid s
         → AreInstabilities (content_of s) sets → AreUpheld (content_of s) pins upheld

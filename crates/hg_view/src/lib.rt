@@ -4,8 +4,8 @@
 //! is served: others may be told of it. A node may pin what something of its own stands on: that stays in view, with
 //! its ancestors, though it is obsolete.
 //!
-//! Views are found from a replica and pins alone. Who keeps its instabilities beside it, as [`Kept`] does, asks of one
-//! changeset by two look-ups whether it is visible.
+//! Views are found from a replica and pins alone. Who keeps its instabilities beside it, and what its pins uphold, as
+//! [`Kept`] does, asks of one changeset by three look-ups whether it is visible.
 #![tactic(auto)]
 
 mod kept;
@@ -13,6 +13,7 @@ mod laws;
 mod pins;
 mod refusal;
 mod shown;
+mod upheld;
 mod view;
 
 pub use kept::Kept;

@@ -1,9 +1,11 @@
 use Rattle.std.proofs.Common.{Ok, true≢false, sym, subst, ◌∙◌}
 use Rattle.std.proofs.lemmas.Result.{IfOk-weaker}
-use Rattle.hg_replica.specs.State.{ReplicaState, Below}
+use Rattle.hg_replica.specs.State.{Below}
 use Rattle.hg_replica.specs.Least.{part_of}
 use Rattle.hg_replica.specs.Answer.{JoinAnswer, IsGrowthBeforeFault}
+use Rattle.hg_view.specs.Kept.{KeptValue}
 use Rattle.hg_view.proofs.KeptLemmas.{joined-answer, joined-memory, joined-sets, within-joined}
+use Rattle.hg_view.proofs.UpheldLemmas.{upheld-joined}
 use Rattle.hg_view.proofs.kept.Kept.join.Goals as goal
 
 pub find_again-requires : goal.find_again-requires
@@ -15,16 +17,25 @@ pub invariant_of-self : goal.invariant_of-self
 invariant_of-self c =
     let told = c.join_with_undo-answer in
     let found = c.find_again in
-    joined-sets c.self.inside.replica c.other.inside.replica told.new.self found.new.replica
-    c.self.inside.instabilities found.new.instabilities told.ensures.valid c.self.invariant.0 told.result found.result
-    told.ensures.answer told.ensures.back found.ensures
+    let s = c.self.inside.replica in
+    let o = c.other.inside.replica in
+    let sets = joined-sets s o told.new.self found.new.replica c.self.inside.instabilities found.new.instabilities
+    told.ensures.valid c.self.invariant.0 told.result found.result told.ensures.answer told.ensures.back
+    found.ensures in
+    let answer = joined-answer s o told.new.self found.new.replica c.self.inside.instabilities
+    found.new.instabilities told.result found.result told.ensures.answer told.ensures.back found.ensures in (
+      sets.0,
+      sets.1,
+      upheld-joined s found.new.replica told.ensures.valid c.self.inside.pins c.self.inside.upheld.keys
+          c.self.invariant.2 o found.result answer,
+    )
 
 pub returns-then-is_below-clause-answer : goal.returns-then-is_below-clause-answer
 returns-then-is_below-clause-answer c =
     let o = c.other.inside.replica in
     let s = c.self.inside.replica in
-    subst (λ (u : ReplicaState). JoinAnswer u c.args.other.now (Ok tt) u) c.self.view_is
-    (subst (λ (u : ReplicaState). JoinAnswer s u (Ok tt) s) c.other.view_is
+    subst (λ (k : KeptValue). JoinAnswer k.replica c.args.other.now.replica (Ok tt) k.replica) c.self.view_is
+    (subst (λ (k : KeptValue). JoinAnswer s k.replica (Ok tt) s) c.other.view_is
     (within-joined s o c.is_below.ensures.other_valid (c.is_below.ensures.answer.0 c.if-is_below.true)))
 
 pub returns-clause-answer : goal.returns-clause-answer
@@ -33,8 +44,9 @@ returns-clause-answer c =
     let found = c.find_again in
     let s = c.self.inside.replica in
     let o = c.other.inside.replica in
-    subst (λ (u : ReplicaState). JoinAnswer u c.args.other.now found.result found.new.replica) c.self.view_is
-    (subst (λ (u : ReplicaState). JoinAnswer s u found.result found.new.replica) c.other.view_is
+    subst (λ (k : KeptValue). JoinAnswer k.replica c.args.other.now.replica found.result found.new.replica)
+    c.self.view_is
+    (subst (λ (k : KeptValue). JoinAnswer s k.replica found.result found.new.replica) c.other.view_is
     (joined-answer s o told.new.self found.new.replica c.self.inside.instabilities found.new.instabilities told.result
     found.result told.ensures.answer told.ensures.back found.ensures))
 
@@ -46,7 +58,7 @@ returns-clause-memory c is =
     let o = c.other.inside.replica in
     let more : Below o s → ⊥ = λ below.
     true≢false (sym (c.is_below.ensures.answer.1 below) ∙ c.if-is_below.false) in
-    subst (λ (u : ReplicaState). IsGrowthBeforeFault u (part_of c.args.other.now)) c.self.view_is
-    (subst (λ (u : ReplicaState). IsGrowthBeforeFault s (part_of u)) c.other.view_is
+    subst (λ (k : KeptValue). IsGrowthBeforeFault k.replica (part_of c.args.other.now.replica)) c.self.view_is
+    (subst (λ (k : KeptValue). IsGrowthBeforeFault s (part_of k.replica)) c.other.view_is
     (joined-memory s o told.new.self found.new.replica c.self.inside.instabilities found.new.instabilities told.result
     found.result more told.ensures.answer told.ensures.memory told.ensures.growth found.ensures is))
