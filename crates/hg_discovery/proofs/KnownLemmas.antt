@@ -10,7 +10,8 @@ use Rattle.hg_graph.specs.Marks.{IsMarkedNode}
 use Rattle.hg_phases.specs.State.{changesets}
 use Rattle.hg_replica.specs.State.{ReplicaState}
 use Rattle.hg_replica.specs.Content.{content_of}
-use Rattle.hg_replica.specs.Evolution.{IsServed}
+use Rattle.hg_instab.proofs.SetLemmas.{along}
+use Rattle.hg_view.specs.Pins.{IsServedUnder}
 
 pub known_none : (P : Node → Type 0) → AreAnswers P [] []
 known_none P = (refl, λ i n b at at_b. absurd (none-some n at))
@@ -34,9 +35,15 @@ known_more P ns answers i d b lt told before =
       ],
     )
 
+-- answers that say whether P holds say whether Q does, where that is the same
+pub answers_along : (P Q : Node → Type 0) (ns : List Node) (answers : List Bool) → ((n : Node) → P n ↔ Q n)
+    → AreAnswers P ns answers → AreAnswers Q ns answers
+answers_along P Q ns answers same are =
+    (are.0, λ i n answer at_n at_answer. along (are.1 i n answer at_n at_answer) (same n))
+
 -- marks that are the same mark what is served
-pub served_as : (s : ReplicaState) (marks same : List Bool) → same ≡ marks
-    → ((n : Node) → IsMarkedNode (changesets s.history) marks n ↔ IsServed (content_of s) n)
-    → (n : Node) → IsMarkedNode (changesets s.history) same n ↔ IsServed (content_of s) n
-served_as s marks same e h = subst (λ (ms : List Bool). (n : Node)
-    → IsMarkedNode (changesets s.history) ms n ↔ IsServed (content_of s) n) (sym e) h
+pub served_as : (s : ReplicaState) (pins : List Node) (marks same : List Bool) → same ≡ marks
+    → ((n : Node) → IsMarkedNode (changesets s.history) marks n ↔ IsServedUnder (content_of s) pins n)
+    → (n : Node) → IsMarkedNode (changesets s.history) same n ↔ IsServedUnder (content_of s) pins n
+served_as s pins marks same e h = subst (λ (ms : List Bool). (n : Node)
+    → IsMarkedNode (changesets s.history) ms n ↔ IsServedUnder (content_of s) pins n) (sym e) h

@@ -5,7 +5,7 @@ use Rattle.hg_changeset.specs.Contents.{Contents}
 use Rattle.hg_changeset.specs.Changeset.{node_of}
 use Rattle.hg_graph.specs.Graph.{Holds}
 use Rattle.hg_replica.specs.Content.{Content}
-use Rattle.hg_replica.specs.Evolution.{IsServed}
+use Rattle.hg_view.specs.Pins.{IsServedUnder}
 use Rattle.hg_discovery.specs.declared.status.Status.{Status}
 use Rattle.hg_discovery.specs.declared.status.Status.TheVariants.{Undecided, Common, Missing}
 use Rattle.hg_discovery.specs.declared.status.Spot.{Spot}
@@ -32,9 +32,9 @@ abbrev pub AreAnswers : (Node → Type 0) → List Node → List Bool → Type 0
 AreAnswers P ns answers = (length answers ≡ length ns) × ((i : ℕ) (n : Node) (answer : Bool) → slice_get ns i ≡ Some n
     → slice_get answers i ≡ Some answer → IsTrue answer ↔ P n)
 
--- the answers say which of the nodes are served
-abbrev pub AreKnown : Content → List Node → List Bool → Type 0
-AreKnown f ns answers = AreAnswers (IsServed f) ns answers
+-- the answers say which of the nodes are served under the pins
+abbrev pub AreKnown : Content → List Node → List Node → List Bool → Type 0
+AreKnown f pins ns answers = AreAnswers (IsServedUnder f pins) ns answers
 
 -- these answers lead from s to t, and each says whether P holds
 abbrev pub AreAnsweredRounds : (Node → Type 0) → Search → List (List Bool) → Search → Type 0
@@ -42,9 +42,9 @@ AreAnsweredRounds P s [] t = t ≡ s
 AreAnsweredRounds P s (answers ∷ rest) t = (mid : Search) × IsRound s answers mid
     × AreAnswers P (nodes_of s.asked) answers × AreAnsweredRounds P mid rest t
 
--- these answers lead from s to t, and each says what is served, while the other side stands still
-abbrev pub AreKnownRounds : Content → Search → List (List Bool) → Search → Type 0
-AreKnownRounds f s rounds t = AreAnsweredRounds (IsServed f) s rounds t
+-- these answers lead from s to t, and each says what is served under the pins, while the other side stands still
+abbrev pub AreKnownRounds : Content → List Node → Search → List (List Bool) → Search → Type 0
+AreKnownRounds f pins s rounds t = AreAnsweredRounds (IsServedUnder f pins) s rounds t
 
 -- these answers lead from s to t
 abbrev pub AreRounds : Search → List (List Bool) → Search → Type 0

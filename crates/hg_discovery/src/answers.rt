@@ -1,31 +1,37 @@
 //! The other side's answers.
-ghost use Rattle.std.specs.Prelude.{◌≡◌, ◌↔◌, IfOk, length};
+ghost use Rattle.std.specs.Prelude.{◌≡◌, IfOk, length};
 ghost use Rattle.hg_graph.specs.Marks.{IsMarkedNode};
 ghost use Rattle.hg_phases.specs.State.{changesets};
 ghost use Rattle.hg_replica.specs.Content.{content_of};
-ghost use Rattle.hg_replica.specs.Evolution.{IsServed};
-ghost use Rattle.hg_discovery.specs.Rounds.{AreKnown};
+ghost use Rattle.hg_discovery.specs.Rounds.{AreAnswers, AreKnown};
 
 use hg_changeset::Node;
 use hg_replica::Replica;
 use hg_view::{Kept, Pins, served_marks};
 use std::alloc::{AllocError, Global};
 
-/// Which of the nodes the replica serves, in their order. What is hidden or secret is answered as what isn't held.
+/// Which of the nodes the replica serves under the pins, in their order. What is hidden or secret is answered as what
+/// isn't held.
 ///
 /// It costs one sweep for what is served, and one look-up for each node.
-pub fn known(alloc: Global, replica: &Replica, nodes: &[Node]) -> Result<Vec<bool>, AllocError>
-    ensures { IfOk result (λ answers. AreKnown (content_of replica.now) nodes.now answers.items) }
+pub fn known(
+    alloc: Global,
+    replica: &Replica,
+    pins: &Pins,
+    nodes: &[Node],
+) -> Result<Vec<bool>, AllocError>
+    ensures { IfOk result (λ answers. AreKnown (content_of replica.now) pins.now nodes.now answers.items) }
 {
-    let served = served_marks(alloc, replica, &Pins::new(alloc))?;
+    let served = served_marks(alloc, replica, pins)?;
     known_by(alloc, replica, &served, nodes)
 }
 
-/// Which of the nodes a kept replica serves, as [`known`] tells it.
+/// Which of the nodes a kept replica serves under its pins, as [`known`] tells it.
 ///
 /// It costs three look-ups for each node.
 pub fn known_kept(alloc: Global, kept: &Kept, nodes: &[Node]) -> Result<Vec<bool>, AllocError>
-    ensures { IfOk result (λ answers. AreKnown (content_of kept.now) nodes.now answers.items) }
+    ensures { IfOk result
+        (λ answers. AreKnown (content_of kept.now.replica) kept.now.pins nodes.now answers.items) }
 {
     let mut answers = Vec::with_capacity(alloc, nodes.len())?;
     for node in nodes {
@@ -34,7 +40,8 @@ pub fn known_kept(alloc: Global, kept: &Kept, nodes: &[Node]) -> Result<Vec<bool
     Ok(answers)
 }
 
-/// [`known`] of a replica whose served changesets are marked already: it costs one look-up for each node.
+/// Which of the nodes are marked, as [`known`] of a replica whose served changesets are: it costs one look-up for each
+/// node.
 pub(crate) fn known_by(
     alloc: Global,
     replica: &Replica,
@@ -42,9 +49,8 @@ pub(crate) fn known_by(
     nodes: &[Node],
 ) -> Result<Vec<bool>, AllocError>
     requires len { length served.now ≡ length (changesets replica.now.history) }
-    requires exact { (n : Node) → IsMarkedNode (changesets replica.now.history) served.now n
-        ↔ IsServed (content_of replica.now) n }
-    ensures { IfOk result (λ answers. AreKnown (content_of replica.now) nodes.now answers.items) }
+    ensures { IfOk result (λ answers. AreAnswers
+        (IsMarkedNode (changesets replica.now.history) served.now) nodes.now answers.items) }
 {
     let graph = replica.graph();
     let mut answers = Vec::with_capacity(alloc, nodes.len())?;

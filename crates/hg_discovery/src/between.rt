@@ -1,10 +1,10 @@
 //! A whole discovery between two replicas of one process.
-ghost use Rattle.std.specs.Prelude.{◌≡◌, ◌↔◌, IfOk, IfErr, length};
+ghost use Rattle.std.specs.Prelude.{◌≡◌, ◌↔◌, List, IfOk, IfErr, length};
 ghost use Rattle.hg_changeset.specs.declared.node.Node.{Node};
 ghost use Rattle.hg_graph.specs.Marks.{IsMarkedNode};
 ghost use Rattle.hg_phases.specs.State.{changesets};
 ghost use Rattle.hg_replica.specs.Content.{content_of};
-ghost use Rattle.hg_replica.specs.Evolution.{IsServed};
+ghost use Rattle.hg_view.specs.Pins.{IsServedUnder};
 ghost use Rattle.hg_discovery.specs.declared.error.DiscoveryError.TheVariants.{NoMemory};
 ghost use Rattle.hg_discovery.specs.Between.{AreHeadsInCommon};
 
@@ -17,34 +17,37 @@ use hg_view::{Kept, Pins, served_marks};
 use std::alloc::Global;
 
 /// The heads of what the asker has in common with the other replica, ascending: it asks in rounds, and the other tells
-/// which of the asked changesets it serves. It is refused for want of memory alone.
+/// which of the asked changesets it serves under its pins. It is refused for want of memory alone.
 pub fn heads_in_common(
     alloc: Global,
     asker: &Replica,
     other: &Replica,
+    pins: &Pins,
 ) -> Result<Vec<Node>, DiscoveryError>
-    ensures heads { IfOk result (λ heads. AreHeadsInCommon asker.now other.now heads.items) }
+    ensures heads { IfOk result (λ heads. AreHeadsInCommon asker.now other.now pins.now heads.items) }
     ensures memory { IfErr result (λ error. error ≡ NoMemory) }
 {
-    let served = served_marks(alloc, other, &Pins::new(alloc))?;
+    let served = served_marks(alloc, other, pins)?;
     ask_in_rounds(alloc, asker, other, &served)
 }
 
-/// The heads of what two have in common, as [`heads_in_common`] finds them, by what is kept: what the other serves is
-/// told by look-ups, without a walk to what is visible. It is refused for want of memory alone.
+/// The heads of what two have in common, as [`heads_in_common`] finds them, by what is kept: what the other serves,
+/// under the pins that it holds, is told by look-ups, without a walk to what is visible. It is refused for want of
+/// memory alone.
 pub fn heads_in_common_kept(
     alloc: Global,
     asker: &Kept,
     other: &Kept,
 ) -> Result<Vec<Node>, DiscoveryError>
-    ensures heads { IfOk result (λ heads. AreHeadsInCommon asker.now other.now heads.items) }
+    ensures heads { IfOk result
+        (λ heads. AreHeadsInCommon asker.now.replica other.now.replica other.now.pins heads.items) }
     ensures memory { IfErr result (λ error. error ≡ NoMemory) }
 {
     let served = other.served_marks()?;
     ask_in_rounds(alloc, asker.replica(), other.replica(), &served)
 }
 
-// The heads of what the asker has in common with the other replica, whose served changesets are marked.
+// The heads of what the asker has in common with the other replica, under pins with which it serves what is marked.
 fn ask_in_rounds(
     alloc: Global,
     asker: &Replica,
@@ -52,9 +55,10 @@ fn ask_in_rounds(
     served: &[bool],
 ) -> Result<Vec<Node>, DiscoveryError>
     requires len { length served.now ≡ length (changesets other.now.history) }
-    requires exact { (n : Node) → IsMarkedNode (changesets other.now.history) served.now n
-        ↔ IsServed (content_of other.now) n }
-    ensures heads { IfOk result (λ heads. AreHeadsInCommon asker.now other.now heads.items) }
+    ensures heads { IfOk result (λ heads. (pins : List Node)
+        → ((n : Node) → IsMarkedNode (changesets other.now.history) served.now n
+        ↔ IsServedUnder (content_of other.now) pins n)
+        → AreHeadsInCommon asker.now other.now pins heads.items) }
     ensures memory { IfErr result (λ error. error ≡ NoMemory) }
 {
     let mut discovery = Discovery::start(alloc, asker)?;

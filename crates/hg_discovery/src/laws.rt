@@ -7,7 +7,7 @@ ghost use Rattle.hg_phases.specs.declared.phase.Phase.TheVariants.{Secret};
 ghost use Rattle.hg_phases.specs.State.{State, changesets, IsPhaseOf};
 ghost use Rattle.hg_replica.specs.State.{ReplicaState, IsValid};
 ghost use Rattle.hg_replica.specs.Content.{content_of};
-ghost use Rattle.hg_replica.specs.Evolution.{IsServed};
+ghost use Rattle.hg_view.specs.Pins.{IsServedUnder};
 ghost use Rattle.hg_discovery.specs.Search.{Search, IsSearch};
 ghost use Rattle.hg_discovery.specs.Start.{IsStart};
 ghost use Rattle.hg_discovery.specs.Rounds.{Round, AreTrueRounds, AreKnownRounds, AreRounds, AreWithin, AreFree};
@@ -23,15 +23,16 @@ pub fn what_is_common_is_held_by_both()
         → (n : Node) → IsCommon t n → Holds ours n × Holds theirs n }
 {}
 
-/// Where the other side stands still and its answers are those of its [`known`](crate::known()), what is common when
-/// nothing is undecided any more is exactly what the asker held at the start, wasn't secret there, and is served by the
-/// other side. The two hold no two changesets of one id.
+/// Where the other side and its pins stand still and its answers are those of its [`known`](crate::known()), what is
+/// common when nothing is undecided any more is exactly what the asker held at the start, wasn't secret there, and is
+/// served by the other side under its pins. The two hold no two changesets of one id.
 pub fn what_is_common_is_what_is_served()
-    ensures { (ours theirs : ReplicaState) (start t : Search) (rounds : List (List Bool)) → IsValid ours
-        → IsValid theirs → AreFree (changesets ours.history) (changesets theirs.history)
-        → IsStart ours.history start → AreKnownRounds (content_of theirs) start rounds t → undecided t.decided ≡ 0
+    ensures { (ours theirs : ReplicaState) (pins : List Node) (start t : Search) (rounds : List (List Bool))
+        → IsValid ours → IsValid theirs → AreFree (changesets ours.history) (changesets theirs.history)
+        → IsStart ours.history start → AreKnownRounds (content_of theirs) pins start rounds t
+        → undecided t.decided ≡ 0
         → (n : Node) → IsCommon t n ↔ (Holds (changesets ours.history) n × ¬ (IsPhaseOf ours.history n Secret)
-        × IsServed (content_of theirs) n) }
+        × IsServedUnder (content_of theirs) pins n) }
 {}
 
 /// Each round decides 200 of the undecided changesets at least, or all of them: so n of them take at most n / 200

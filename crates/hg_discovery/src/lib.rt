@@ -6,8 +6,8 @@
 //! children. An answer is spread by a walk that stops at what is decided, so all answers together cost what they
 //! decide. A sample is drawn from the first undecided changeset on, in the order of ids, and ends where it is full.
 //!
-//! The asker calls [`Discovery`], and the other side answers by [`known`]. Both may go on in the meantime. Where both
-//! stand in one process, [`heads_in_common`] does all of it.
+//! The asker calls [`Discovery`], and the other side answers by [`known`], under its pins. Both may go on in the
+//! meantime. Where both stand in one process, [`heads_in_common`] does all of it.
 #![tactic(auto)]
 
 mod answers;

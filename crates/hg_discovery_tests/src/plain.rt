@@ -4,6 +4,7 @@ use hg_changeset::{Changeset, Node};
 use hg_discovery::{Discovery, known};
 use hg_phases::Phase;
 use hg_replica::Replica;
+use hg_view::Pins;
 use std::alloc::Global;
 
 // How many changesets there are, by number. More than two samples have.
@@ -166,7 +167,7 @@ fn replica_of(alloc: Global, changesets: &[Changeset], side: &Side) -> Option<Re
 // One round.
 fn ask(alloc: Global, discovery: &mut Discovery, other: &Replica) -> Option<()> {
     let sample = discovery.sample().ok()?;
-    let answers = known(alloc, other, &sample).ok()?;
+    let answers = known(alloc, other, &Pins::new(alloc), &sample).ok()?;
     discovery.answer(&answers).ok()
 }
 

@@ -5,7 +5,7 @@ use hg_discovery::{Discovery, DiscoveryError, heads_in_common_kept, known, known
 use hg_message::offer;
 use hg_phases::Phase;
 use hg_replica::Replica;
-use hg_view::Kept;
+use hg_view::{Kept, Pins};
 use std::alloc::Global;
 
 // Draft roots of different texts.
@@ -33,7 +33,7 @@ fn roots_are_asked_200_at_a_time(rt: HostRuntime) {
         assert!(rt; !discovery.done());
         let sample = discovery.sample().expect(&rt, "memory");
         assert!(rt; sample.len() == count);
-        let answers = known(alloc, &other, &sample).expect(&rt, "memory");
+        let answers = known(alloc, &other, &Pins::new(alloc), &sample).expect(&rt, "memory");
         assert!(rt; discovery.answer(&answers) == Ok(()));
     }
     assert!(rt; discovery.done());
@@ -51,7 +51,7 @@ fn a_chain_asks_one_that_holds_all_but_its_head(rt: HostRuntime) {
     let sample = discovery.sample().expect(&rt, "memory");
     let [first, second] = ascending(a, b);
     assert!(rt; sample.as_slice() == [c, first, second].as_slice());
-    let answers = known(alloc, &other, &sample).expect(&rt, "memory");
+    let answers = known(alloc, &other, &Pins::new(alloc), &sample).expect(&rt, "memory");
     assert!(rt; answers.as_slice() == [false, true, true].as_slice());
     assert!(rt; discovery.answer(&[false, true]) == Err(DiscoveryError::WrongCount));
     assert!(rt; discovery.sample().expect(&rt, "memory") == sample && !discovery.done());
@@ -70,12 +70,12 @@ fn what_is_above_the_common_heads_is_offered(rt: HostRuntime) {
     let mut discovery = Discovery::start(alloc, &asker).expect(&rt, "memory");
     let sample = discovery.sample().expect(&rt, "memory");
     assert!(rt; sample.as_slice() == [b, a].as_slice());
-    let answers = known(alloc, &other, &sample).expect(&rt, "memory");
+    let answers = known(alloc, &other, &Pins::new(alloc), &sample).expect(&rt, "memory");
     assert!(rt; answers.as_slice() == [true, true].as_slice());
     assert!(rt; discovery.answer(&answers) == Ok(()));
     let heads = discovery.common_heads().expect(&rt, "memory");
     assert!(rt; heads.as_slice() == [b].as_slice());
-    let message = offer(alloc, &other, &heads).expect(&rt, "an offer");
+    let message = offer(alloc, &other, &Pins::new(alloc), &heads).expect(&rt, "an offer");
     assert!(rt; message.changesets().len() == 1 && message.markers().is_empty());
     assert!(rt; message.bounds() == [(c, Phase::Draft)].as_slice());
 }
@@ -102,7 +102,7 @@ fn what_is_hidden_or_secret_is_not_known(rt: HostRuntime) {
     prune(alloc, &mut other, hidden).expect(&rt, "memory");
     prune(alloc, &mut other, a).expect(&rt, "memory");
     let asked = [secret, a, hidden, Node([0x11; 20]), b];
-    let answers = known(alloc, &other, &asked).expect(&rt, "memory");
+    let answers = known(alloc, &other, &Pins::new(alloc), &asked).expect(&rt, "memory");
     assert!(rt; answers.as_slice() == [false, true, false, false, true].as_slice());
 }
 
@@ -119,6 +119,36 @@ fn a_kept_replica_knows_what_it_serves(rt: HostRuntime) {
     let asked = [secret, a, c, Node([0x11; 20]), b];
     let answers = known_kept(alloc, &other, &asked).expect(&rt, "memory");
     assert!(rt; answers.as_slice() == [false, true, false, false, true].as_slice());
+}
+
+// A pruned head is extinct: it is known where it is pinned, and not without the pin.
+#[test]
+fn what_is_pinned_is_known(rt: HostRuntime) {
+    let alloc = rt.alloc();
+    let mut other = Replica::new(alloc);
+    let [_, b, _] = chain(alloc, &mut other, b"ab").expect(&rt, "memory");
+    prune(alloc, &mut other, b).expect(&rt, "memory");
+    let mut pins = Pins::new(alloc);
+    let unpinned = known(alloc, &other, &pins, &[b]).expect(&rt, "memory");
+    assert!(rt; unpinned.as_slice() == [false].as_slice());
+    assert!(rt; pins.pin(&other, b) == Ok(()));
+    let pinned = known(alloc, &other, &pins, &[b]).expect(&rt, "memory");
+    assert!(rt; pinned.as_slice() == [true].as_slice());
+}
+
+// The same of a kept replica, under the pins that it holds.
+#[test]
+fn a_kept_replica_knows_what_it_pins(rt: HostRuntime) {
+    let alloc = rt.alloc();
+    let mut other = Replica::new(alloc);
+    let [_, b, _] = chain(alloc, &mut other, b"ab").expect(&rt, "memory");
+    prune(alloc, &mut other, b).expect(&rt, "memory");
+    let mut other = Kept::new(alloc, other).expect(&rt, "memory");
+    let unpinned = known_kept(alloc, &other, &[b]).expect(&rt, "memory");
+    assert!(rt; unpinned.as_slice() == [false].as_slice());
+    assert!(rt; other.pin(b) == Ok(()));
+    let pinned = known_kept(alloc, &other, &[b]).expect(&rt, "memory");
+    assert!(rt; pinned.as_slice() == [true].as_slice());
 }
 
 // What the asker hides is common, where the other side serves it.
@@ -146,10 +176,15 @@ fn what_is_pruned_after_a_yes_stays_common(rt: HostRuntime) {
     let [_, b, c] = chain(alloc, &mut other, b"abc").expect(&rt, "memory");
     let mut discovery = Discovery::start(alloc, &asker).expect(&rt, "memory");
     let sample = discovery.sample().expect(&rt, "memory");
-    let answers = known(alloc, &other, &sample).expect(&rt, "memory");
+    let answers = known(alloc, &other, &Pins::new(alloc), &sample).expect(&rt, "memory");
     prune(alloc, &mut other, c).expect(&rt, "memory");
     prune(alloc, &mut other, b).expect(&rt, "memory");
-    assert!(rt; known(alloc, &other, &[b]).expect(&rt, "memory").as_slice() == [false].as_slice());
+    assert!(rt;
+        known(alloc, &other, &Pins::new(alloc), &[b])
+            .expect(&rt, "memory")
+            .as_slice()
+            == [false].as_slice()
+    );
     assert!(rt; discovery.answer(&answers) == Ok(()));
     assert!(rt; discovery.done());
     assert!(rt; discovery.common_heads().expect(&rt, "memory").as_slice() == [b].as_slice());
@@ -178,9 +213,9 @@ fn refused_growth_starts_nothing_and_knows_nothing(rt: HostRuntime) {
         Err(_) => Discovery::start(alloc, &replica).expect(&rt, "memory"),
     };
     assert!(rt; !discovery.done());
-    let answers = match known(alloc, &replica, &nodes[..2]) {
+    let answers = match known(alloc, &replica, &Pins::new(alloc), &nodes[..2]) {
         Ok(answers) => answers,
-        Err(_) => known(alloc, &replica, &nodes[..2]).expect(&rt, "memory"),
+        Err(_) => known(alloc, &replica, &Pins::new(alloc), &nodes[..2]).expect(&rt, "memory"),
     };
     assert!(rt; answers.as_slice() == [true, true].as_slice());
 }

@@ -156,17 +156,17 @@ heads-exist s valid P held none =
       ascending = up.ascending;
     }))
 
-pub offer-exists : (s : ReplicaState) (common : List Node) → IsValid s → ((m : MessageValue) → IsOffer s common m → ⊥)
-    → ⊥
-offer-exists s common valid none =
+pub offer-exists : (s : ReplicaState) (pins common : List Node) → IsValid s
+    → ((m : MessageValue) → IsOffer s pins common m → ⊥) → ⊥
+offer-exists s pins common valid none =
     let f = content_of s in
-    those-exist (IsOutgoing f common) (changesets s.history) (λ cs out.
-    those-exist (IsOfferedMarker f) s.markers (λ ms relevant.
-    heads-exist s valid (IsServedAs f Public) (λ n h. (h.1.0, h.1.1)) (λ public public_heads.
-    heads-exist s valid (IsServedAs f Draft) (λ n h. (h.1.0, h.1.1)) (λ draft draft_heads.
+    those-exist (IsOutgoing f pins common) (changesets s.history) (λ cs out.
+    those-exist (IsOfferedMarker f pins) s.markers (λ ms relevant.
+    heads-exist s valid (IsServedAs f pins Public) (λ n h. (h.1.0, h.1.1)) (λ public public_heads.
+    heads-exist s valid (IsServedAs f pins Draft) (λ n h. (h.1.0, h.1.1)) (λ draft draft_heads.
     let bounds = bounds_in Public public ++ bounds_in Draft draft in
     none (record { changesets = cs; bounds = bounds; markers = ms })
-    (is-offer s valid common cs bounds ms out
+    (is-offer s valid pins common cs bounds ms out
     (record {
       public = public;
       draft = draft;

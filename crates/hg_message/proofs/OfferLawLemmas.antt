@@ -22,12 +22,14 @@ use Rattle.hg_relevant.specs.Relevant.{IsRelevant}
 use Rattle.hg_relevant.specs.Relevant.IsRelevant.{direct, further}
 use Rattle.hg_replica.specs.State.{ReplicaState}
 use Rattle.hg_replica.specs.Content.{Content, IsValidContent, ContentCovers, content_of}
-use Rattle.hg_replica.specs.Evolution.{IsMarker, IsServed}
+use Rattle.hg_replica.specs.Evolution.{IsMarker}
 use Rattle.hg_replica.proofs.MarkerLemmas.{holds-from, in_from_holds}
+use Rattle.hg_view.specs.Pins.{AreSamePins, IsServedUnder}
+use Rattle.hg_view.proofs.PinLemmas.{rest-alike, visible-members}
 use Rattle.hg_message.specs.Value.{MessageValue}
 use Rattle.hg_message.specs.Part.{draft_bounds, part_of}
 use Rattle.hg_message.specs.Offer.{IsOutgoing, IsServedAs, SaysOffer, SayTheSame, AreHeads, bounds_in, AreOfferedBounds}
-use Rattle.hg_message.specs.Offer.{IsOffer}
+use Rattle.hg_message.specs.Offer.{IsHead, IsOffer, IsOfferedMarker}
 use Rattle.hg_message.proofs.ThoseLemmas.{those-once}
 
 pub relevant-held : (H : Fields → Type 0) (N : Node → Type 0) (m : Fields) → IsRelevant H N m → H m
@@ -41,11 +43,11 @@ not_secret Secret no_secret = absurd (no_secret refl)
 
 -- ---- an offer says no more than the content
 
-module _ (f : Content) (common : List Node) (m : MessageValue) (says : SaysOffer f common m) where
-  pub served-changesets : (c : Contents) → Contains m.changesets c → IsServed f (node_of c)
+module _ (f : Content) (pins common : List Node) (m : MessageValue) (says : SaysOffer f pins common m) where
+  pub served-changesets : (c : Contents) → Contains m.changesets c → IsServedUnder f pins (node_of c)
   served-changesets c at = ((says.changesets c).0 at).1
 
-  pub served-bounds : (b : Node × Phase) → Contains m.bounds b → IsServed f b.0
+  pub served-bounds : (b : Node × Phase) → Contains m.bounds b → IsServedUnder f pins b.0
   served-bounds b at = ((says.bounds b).0 at).0.0
 
   kept-bounds : (b : Node × Phase) → Contains (m.bounds ++ draft_bounds m.changesets) b
@@ -71,18 +73,59 @@ module _ (f : Content) (common : List Node) (m : MessageValue) (says : SaysOffer
           let x = kept-bounds b at in
           ((x.0, x.1), λ n h e leads. let low = leads-low f.0 v n b.0 leads h x.0 e x.1 in omega (arith, low, x.2));
     },
-    λ k e. relevant-held (IsMarker f) (IsServed f) k ((says.markers k).0 (in_from_holds m.markers k e)),
+    λ k e. relevant-held (IsMarker f) (IsServedUnder f pins) k ((says.markers k).0 (in_from_holds m.markers k e)),
   )
 
 -- ---- what is offered of one content says the same
 
-pub offers-say_the_same : (f : Content) (common : List Node) (m n : MessageValue) → SaysOffer f common m
-    → SaysOffer f common n → SayTheSame m n
-offers-say_the_same f common m n a b = record {
+pub offers-say_the_same : (f : Content) (pins common : List Node) (m n : MessageValue) → SaysOffer f pins common m
+    → SaysOffer f pins common n → SayTheSame m n
+offers-say_the_same f pins common m n a b = record {
   changesets = λ c. (λ h. (b.changesets c).1 ((a.changesets c).0 h), λ h. (a.changesets c).1 ((b.changesets c).0 h));
   bounds = λ x. (λ h. (b.bounds x).1 ((a.bounds x).0 h), λ h. (a.bounds x).1 ((b.bounds x).0 h));
   markers = λ k. (λ h. (b.markers k).1 ((a.markers k).0 h), λ h. (a.markers k).1 ((b.markers k).0 h));
 }
+
+-- pins with the same members have the same offers
+module _ (f : Content) (pins others : List Node) (same : AreSamePins pins others) where
+  served-members : (n : Node) → IsServedUnder f pins n ↔ IsServedUnder f others n
+  served-members n = rest-alike (visible-members f pins others same n)
+
+  head-members : (phase : Phase) (n : Node) → IsHead f (IsServedAs f others phase) n
+      → IsHead f (IsServedAs f pins phase) n
+  head-members phase n h = (
+    ((served-members n).1 h.0.0, h.0.1),
+    λ d so leads. h.1 d ((served-members d).0 so.0, so.1) leads,
+  )
+
+  outgoing-members : (common : List Node) (c : Contents) → IsOutgoing f others common c → IsOutgoing f pins common c
+  outgoing-members common c h = (h.0, (served-members (node_of c)).1 h.1, h.2)
+
+  marker-members : (k : Fields) → IsOfferedMarker f others k → IsOfferedMarker f pins k
+  marker-members k (direct {n = n} one h touches) = direct ((served-members n).1 one) h touches
+  marker-members k (further {before = b} r h touches) = further (marker-members b r) h touches
+
+same-members : (pins others : List Node) → AreSamePins pins others → AreSamePins others pins
+same-members pins others same n = ((same n).1, (same n).0)
+
+pub says-members : (f : Content) (pins others common : List Node) (m : MessageValue) → AreSamePins pins others
+    → SaysOffer f others common m → SaysOffer f pins common m
+says-members f pins others common m same says =
+    let back = same-members pins others same in
+    record {
+      changesets = λ c. (
+        λ at. outgoing-members f pins others same common c ((says.changesets c).0 at),
+        λ h. (says.changesets c).1 (outgoing-members f others pins back common c h),
+      );
+      bounds = λ b. (
+        λ at. head-members f pins others same b.1 b.0 ((says.bounds b).0 at),
+        λ h. (says.bounds b).1 (head-members f others pins back b.1 b.0 h),
+      );
+      markers = λ k. (
+        λ at. marker-members f pins others same k ((says.markers k).0 at),
+        λ h. (says.markers k).1 (marker-members f others pins back k h),
+      );
+    }
 
 same-bounds : (m n : MessageValue) → SayTheSame m n → (b : Node × Phase)
     → Contains (n.bounds ++ draft_bounds n.changesets) b → Contains (m.bounds ++ draft_bounds m.changesets) b
@@ -134,21 +177,22 @@ heads-once : (f : Content) (P : Node → Type 0) (xs ys : List Node) → AreHead
 heads-once f P xs ys a b = sorted-once xs ys a.ascending b.ascending
     (λ n. (λ h. (b.exact n).1 ((a.exact n).0 h), λ h. (a.exact n).1 ((b.exact n).0 h)))
 
-bounds-once : (f : Content) (xs ys : List (Node × Phase)) → AreOfferedBounds f xs → AreOfferedBounds f ys → xs ≡ ys
-bounds-once f xs ys a b =
+bounds-once : (f : Content) (pins : List Node) (xs ys : List (Node × Phase)) → AreOfferedBounds f pins xs
+    → AreOfferedBounds f pins ys → xs ≡ ys
+bounds-once f pins xs ys a b =
     a.both
     ∙ ap (λ ns. bounds_in Public ns ++ bounds_in Draft a.draft)
-    (heads-once f (IsServedAs f Public) a.public b.public a.public_heads b.public_heads)
+    (heads-once f (IsServedAs f pins Public) a.public b.public a.public_heads b.public_heads)
     ∙ ap (λ ns. bounds_in Public b.public ++ bounds_in Draft ns)
-    (heads-once f (IsServedAs f Draft) a.draft b.draft a.draft_heads b.draft_heads)
+    (heads-once f (IsServedAs f pins Draft) a.draft b.draft a.draft_heads b.draft_heads)
     ∙ sym b.both
 
-pub offer-once : (s : ReplicaState) (common : List Node) (m n : MessageValue) → IsOffer s common m
-    → IsOffer s common n → m ≡ n
-offer-once s common m n a b i = record {
-  changesets = (those-once (IsOutgoing (content_of s) common)
+pub offer-once : (s : ReplicaState) (pins common : List Node) (m n : MessageValue) → IsOffer s pins common m
+    → IsOffer s pins common n → m ≡ n
+offer-once s pins common m n a b i = record {
+  changesets = (those-once (IsOutgoing (content_of s) pins common)
       (changesets s.history) m.changesets n.changesets a.changesets b.changesets) i;
-  bounds = (bounds-once (content_of s) m.bounds n.bounds a.bounds b.bounds) i;
-  markers = (those-once (IsRelevant (IsMarker (content_of s)) (IsServed (content_of s))) s.markers m.markers n.markers
-      a.markers b.markers) i;
+  bounds = (bounds-once (content_of s) pins m.bounds n.bounds a.bounds b.bounds) i;
+  markers = (those-once (IsRelevant (IsMarker (content_of s)) (IsServedUnder (content_of s) pins)) s.markers
+      m.markers n.markers a.markers b.markers) i;
 }

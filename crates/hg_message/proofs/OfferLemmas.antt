@@ -30,12 +30,13 @@ use Rattle.hg_relevant.specs.Relevant.{IsRelevant}
 use Rattle.hg_relevant.specs.Relevant.IsRelevant.{direct, further}
 use Rattle.hg_replica.specs.State.{ReplicaState, IsValid}
 use Rattle.hg_replica.specs.Content.{Content, content_of}
-use Rattle.hg_replica.specs.Evolution.{IsMarker, IsServed}
+use Rattle.hg_replica.specs.Evolution.{IsMarker}
 use Rattle.hg_replica.proofs.MarkerLemmas.{holds-from, in_from_holds}
 use Rattle.std.specs.Result.{IfOk}
 use Rattle.hg_obsstore.specs.Places.{picked}
 use Rattle.hg_obsstore.specs.Spelling.{store_spelling}
 use Rattle.hg_obsstore.proofs.PlaceLemmas.{picked-some}
+use Rattle.hg_view.specs.Pins.{IsServedUnder}
 use Rattle.hg_message.specs.declared.refusal.OfferRefusal.{OfferRefusal}
 use Rattle.hg_message.specs.declared.refusal.OfferRefusal.TheVariants.{UnknownCommon, TooLarge, NoMemory}
 use Rattle.hg_message.specs.Value.{MessageValue, IsMessage, count_limit, is_too_large}
@@ -55,29 +56,29 @@ relevant-along H K M N held named m (further {before = b} r h touches) =
     further (relevant-along H K M N held named b r) (held m h) touches
 
 -- what is relevant to a list of what is served, among the markers of the store
-pub relevant-offered : (s : ReplicaState) (served : List Node)
-    → ((n : Node) → Contains served n ↔ IsServed (content_of s) n) → (m : Fields)
-    → IsRelevant (Contains s.markers) (Contains served) m ↔ IsOfferedMarker (content_of s) m
-relevant-offered s served are m = (
-  relevant-along (Contains s.markers) (IsMarker (content_of s)) (Contains served) (IsServed (content_of s))
+pub relevant-offered : (s : ReplicaState) (pins served : List Node)
+    → ((n : Node) → Contains served n ↔ IsServedUnder (content_of s) pins n) → (m : Fields)
+    → IsRelevant (Contains s.markers) (Contains served) m ↔ IsOfferedMarker (content_of s) pins m
+relevant-offered s pins served are m = (
+  relevant-along (Contains s.markers) (IsMarker (content_of s)) (Contains served) (IsServedUnder (content_of s) pins)
       (holds-from s.markers) (λ n. (are n).0) m,
-  relevant-along (IsMarker (content_of s)) (Contains s.markers) (IsServed (content_of s)) (Contains served)
+  relevant-along (IsMarker (content_of s)) (Contains s.markers) (IsServedUnder (content_of s) pins) (Contains served)
       (in_from_holds s.markers) (λ n. (are n).1) m,
 )
 
 -- the places that are told of a store are those of what is offered
-pub places-offered : (s : ReplicaState) (served : List Node) (store : List Fields) (places : List ℕ)
-    → ((n : Node) → Contains served n ↔ IsServed (content_of s) n) → store ≡ s.markers
+pub places-offered : (s : ReplicaState) (pins served : List Node) (store : List Fields) (places : List ℕ)
+    → ((n : Node) → Contains served n ↔ IsServedUnder (content_of s) pins n) → store ≡ s.markers
     → ArePlaces (IsRelevant (Contains store) (Contains served)) store places
-    → ArePlaces (IsOfferedMarker (content_of s)) s.markers places
-places-offered s served store places are here all =
+    → ArePlaces (IsOfferedMarker (content_of s) pins) s.markers places
+places-offered s pins served store places are here all =
     let listed = subst (λ (ms : List Fields). ArePlaces (IsRelevant (Contains ms) (Contains served)) ms places) here
     all in
     record {
       ascending = listed.ascending;
       exact = λ k. (
-        λ h. let x = (listed.exact k).0 h in (x.0, x.1, (relevant-offered s served are x.0).0 x.2),
-        λ h. (listed.exact k).1 (h.0, h.1, (relevant-offered s served are h.0).1 h.2),
+        λ h. let x = (listed.exact k).0 h in (x.0, x.1, (relevant-offered s pins served are x.0).0 x.2),
+        λ h. (listed.exact k).1 (h.0, h.1, (relevant-offered s pins served are h.0).1 h.2),
       );
     }
 
@@ -193,46 +194,46 @@ module _ {X : Type 0} (P : X → Type 0) (xs : List X) (places : List ℕ) (are 
 
 -- ---- what is said
 
-module _ (s : ReplicaState) (valid : IsValid s) (common : List Node) where
-  outgoing-said : (cs : List Contents) → AreThose (IsOutgoing (content_of s) common) (changesets s.history) cs
-      → (c : Contents) → Contains cs c ↔ IsOutgoing (content_of s) common c
+module _ (s : ReplicaState) (valid : IsValid s) (pins common : List Node) where
+  outgoing-said : (cs : List Contents) → AreThose (IsOutgoing (content_of s) pins common) (changesets s.history) cs
+      → (c : Contents) → Contains cs c ↔ IsOutgoing (content_of s) pins common c
   outgoing-said cs are c =
-      let told = those-member (IsOutgoing (content_of s) common) (changesets s.history) cs are c in
+      let told = those-member (IsOutgoing (content_of s) pins common) (changesets s.history) cs are c in
       (λ h. (told.0 h).1, λ h. told.1 ((changeset_in_content s.history valid.graph (node_of c) c h.0).0, h))
 
-  markers-said : (ms : List Fields) → AreThose (IsOfferedMarker (content_of s)) s.markers ms → (m : Fields)
-      → Contains ms m ↔ IsOfferedMarker (content_of s) m
+  markers-said : (ms : List Fields) → AreThose (IsOfferedMarker (content_of s) pins) s.markers ms → (m : Fields)
+      → Contains ms m ↔ IsOfferedMarker (content_of s) pins m
   markers-said ms are m =
-      let told = those-member (IsOfferedMarker (content_of s)) s.markers ms are m in (
+      let told = those-member (IsOfferedMarker (content_of s) pins) s.markers ms are m in (
         λ h. (told.0 h).1,
         λ h. told.1 (
           in_from_holds s.markers m
-              (relevant-held (IsMarker (content_of s)) (IsServed (content_of s)) m h),
+              (relevant-held (IsMarker (content_of s)) (IsServedUnder (content_of s) pins) m h),
           h,
         ),
       )
 
 -- what is secret isn't served
-never-secret : (f : Content) (n : Node) → ¬ (IsServedAs f Secret n)
-never-secret f n h = h.0.1 h.1
+never-secret : (f : Content) (pins : List Node) (n : Node) → ¬ (IsServedAs f pins Secret n)
+never-secret f pins n h = h.0.1 h.1
 
-module _ (f : Content) (bounds : List (Node × Phase)) (are : AreOfferedBounds f bounds) where
-  from_heads : (phase : Phase) (heads : List Node) (b : Node × Phase) → AreHeads f (IsServedAs f phase) heads
-      → Contains (bounds_in phase heads) b → IsOfferedBound f b
+module _ (f : Content) (pins : List Node) (bounds : List (Node × Phase)) (are : AreOfferedBounds f pins bounds) where
+  from_heads : (phase : Phase) (heads : List Node) (b : Node × Phase) → AreHeads f (IsServedAs f pins phase) heads
+      → Contains (bounds_in phase heads) b → IsOfferedBound f pins b
   from_heads phase heads b exact h =
       let n = Contains-map_from (λ (x : Node). (x, phase)) heads b h in
-      subst (IsOfferedBound f) n.2 ((exact.exact n.0).0 n.1)
+      subst (IsOfferedBound f pins) n.2 ((exact.exact n.0).0 n.1)
 
-  to_bound : (n : Node) (phase : Phase) → IsHead f (IsServedAs f phase) n → Contains bounds (n, phase)
+  to_bound : (n : Node) (phase : Phase) → IsHead f (IsServedAs f pins phase) n → Contains bounds (n, phase)
   to_bound n Public h = subst (λ bs. Contains bs (n, Public)) (sym are.both)
       (Contains-append_left (bounds_in Public are.public) (bounds_in Draft are.draft) (n, Public)
       (Contains-map (λ (x : Node). (x, Public)) are.public n ((are.public_heads.exact n).1 h)))
   to_bound n Draft h = subst (λ bs. Contains bs (n, Draft)) (sym are.both)
       (Contains-append_right (bounds_in Public are.public) (bounds_in Draft are.draft) (n, Draft)
       (Contains-map (λ (x : Node). (x, Draft)) are.draft n ((are.draft_heads.exact n).1 h)))
-  to_bound n Secret h = absurd (never-secret f n h.0)
+  to_bound n Secret h = absurd (never-secret f pins n h.0)
 
-  pub bounds-said : (b : Node × Phase) → Contains bounds b ↔ IsOfferedBound f b
+  pub bounds-said : (b : Node × Phase) → Contains bounds b ↔ IsOfferedBound f pins b
   bounds-said b = (
     λ h. elim (Contains-append_cases (bounds_in Public are.public) (bounds_in Draft are.draft) b
         (subst (λ bs. Contains bs b) are.both h)) [
@@ -242,16 +243,16 @@ module _ (f : Content) (bounds : List (Node × Phase)) (are : AreOfferedBounds f
     λ h. to_bound b.0 b.1 h,
   )
 
-pub is-offer : (s : ReplicaState) → IsValid s → (common : List Node) (cs : List Contents)
-    (bounds : List (Node × Phase)) (ms : List Fields) → AreThose (IsOutgoing (content_of s) common)
+pub is-offer : (s : ReplicaState) → IsValid s → (pins common : List Node) (cs : List Contents)
+    (bounds : List (Node × Phase)) (ms : List Fields) → AreThose (IsOutgoing (content_of s) pins common)
     (changesets s.history) cs
-    → AreOfferedBounds (content_of s) bounds → AreThose (IsOfferedMarker (content_of s)) s.markers ms
-    → IsOffer s common (record { changesets = cs; bounds = bounds; markers = ms })
-is-offer s valid common cs bounds ms out heads rel = record {
+    → AreOfferedBounds (content_of s) pins bounds → AreThose (IsOfferedMarker (content_of s) pins) s.markers ms
+    → IsOffer s pins common (record { changesets = cs; bounds = bounds; markers = ms })
+is-offer s valid pins common cs bounds ms out heads rel = record {
   says = record {
-    changesets = outgoing-said s valid common cs out;
-    bounds = bounds-said (content_of s) bounds heads;
-    markers = markers-said s valid common ms rel;
+    changesets = outgoing-said s valid pins common cs out;
+    bounds = bounds-said (content_of s) pins bounds heads;
+    markers = markers-said s valid pins common ms rel;
   };
   changesets = out;
   bounds = heads;
@@ -260,30 +261,31 @@ is-offer s valid common cs bounds ms out heads rel = record {
 
 -- ---- without a changeset nothing is offered
 
-module _ (s : ReplicaState) (valid : IsValid s) (none : changesets s.history ≡ []) where
+module _ (s : ReplicaState) (valid : IsValid s) (none : changesets s.history ≡ []) (pins : List Node) where
   not-held : (n : Node) → ¬ (IsHeld (content_of s).0 n)
   not-held n held = let at = node_in_content s.history valid.graph n held in
       absurd (Contains-none n (subst (λ (cs : List Contents). Contains (nodes cs) n) none at))
 
-  not-served : (n : Node) → ¬ (IsServed (content_of s) n)
+  not-served : (n : Node) → ¬ (IsServedUnder (content_of s) pins n)
   not-served n h = not-held h.0.0 h.0.1.0
 
-  not-offered : (m : Fields) → ¬ (IsOfferedMarker (content_of s) m)
+  not-offered : (m : Fields) → ¬ (IsOfferedMarker (content_of s) pins m)
   not-offered m (direct {n = n} one h touches) = not-served n one
   not-offered m (further {before = b} r h touches) = not-offered b r
 
-  no-heads : (phase : Phase) → AreHeads (content_of s) (IsServedAs (content_of s) phase) []
+  no-heads : (phase : Phase) → AreHeads (content_of s) (IsServedAs (content_of s) pins phase) []
   unfolding IsStrictlySortedBy
   no-heads phase = record {
     exact = λ n. ((λ h. absurd (Contains-none n h)), λ h. absurd (not-served n h.0.0));
     ascending = tt;
   }
 
-  pub nothing-offered : (common : List Node) → IsOffer s common (record { changesets = []; bounds = []; markers = [] })
-  nothing-offered common = is-offer s valid common [] [] []
-      (subst (λ (cs : List Contents). AreThose (IsOutgoing (content_of s) common) cs []) (sym none) refl)
+  pub nothing-offered : (common : List Node)
+      → IsOffer s pins common (record { changesets = []; bounds = []; markers = [] })
+  nothing-offered common = is-offer s valid pins common [] [] []
+      (subst (λ (cs : List Contents). AreThose (IsOutgoing (content_of s) pins common) cs []) (sym none) refl)
       (record { public = []; draft = []; public_heads = no-heads Public; draft_heads = no-heads Draft; both = refl })
-      (those-none (IsOfferedMarker (content_of s)) s.markers not-offered)
+      (those-none (IsOfferedMarker (content_of s) pins) s.markers not-offered)
 
 -- ---- heads
 
@@ -323,11 +325,11 @@ common-are s valid common held n = (
 )
 
 -- a changeset of the graph that is served and isn't common is outgoing
-pub outgoing-at : (s : ReplicaState) → IsValid s → (common : List Node) (i : ℕ) (c : Contents)
+pub outgoing-at : (s : ReplicaState) → IsValid s → (pins common : List Node) (i : ℕ) (c : Contents)
     → slice_get (changesets s.history) i ≡ Some c
-    → (IsServed (content_of s) (node_of c) × ¬ (IsCommon (content_of s) common (node_of c)))
-    ↔ IsOutgoing (content_of s) common c
-outgoing-at s valid common i c at = (
+    → (IsServedUnder (content_of s) pins (node_of c) × ¬ (IsCommon (content_of s) common (node_of c)))
+    ↔ IsOutgoing (content_of s) pins common c
+outgoing-at s valid pins common i c at = (
   λ h. (
     content-changeset s.history valid.graph (node_of c) c
         (Contains-from_place (changesets s.history) i c at) refl,
@@ -338,19 +340,19 @@ outgoing-at s valid common i c at = (
 )
 
 -- what the marks at its place tell
-pub outgoing-marked : (s : ReplicaState) → IsValid s → (common : List Node) → AreHeld (content_of s) common
+pub outgoing-marked : (s : ReplicaState) → IsValid s → (pins common : List Node) → AreHeld (content_of s) common
     → (served known : List Bool)
-    → ((n : Node) → IsMarkedNode (changesets s.history) served n ↔ IsServed (content_of s) n)
+    → ((n : Node) → IsMarkedNode (changesets s.history) served n ↔ IsServedUnder (content_of s) pins n)
     → ((n : Node) → IsMarkedNode (changesets s.history) known n ↔ IsAncestorOfOne (changesets s.history) common n)
     → (i : ℕ) → i < length served → i < length known → (c : Contents) → slice_get (changesets s.history) i ≡ Some c
-    → ((get_or served i false ≡ true) × ¬ (get_or known i false ≡ true)) ↔ IsOutgoing (content_of s) common c
-outgoing-marked s valid common held served known is_served is_known i l k c at =
+    → ((get_or served i false ≡ true) × ¬ (get_or known i false ≡ true)) ↔ IsOutgoing (content_of s) pins common c
+outgoing-marked s valid pins common held served known is_served is_known i l k c at =
     let cs = changesets s.history in
     let n = node_of c in
     let here = IsAt-from cs i c n at refl in
     let one = mark_at cs valid.graph served i n l here in
     let two = mark_at cs valid.graph known i n k here in
-    let out = outgoing-at s valid common i c at in
+    let out = outgoing-at s valid pins common i c at in
     let same = common-are s valid common held n in (
       λ h. out.0 ((is_served n).0 (one.0 h.0), λ x. h.1 (two.1 ((is_known n).1 (same.1 x)))),
       λ h. let x = out.1 h in (one.1 ((is_served n).1 x.0), λ m. x.1 (same.0 ((is_known n).0 (two.0 m)))),
@@ -391,16 +393,16 @@ small-or-large m h e =
     refl)
 
 -- to find and to copy is to offer, where there is a changeset
-pub find-then-copy : (s : ReplicaState) (common : List Node) (found : MessageValue)
+pub find-then-copy : (s : ReplicaState) (pins common : List Node) (found : MessageValue)
     (r : Result MessageValue OfferRefusal) → (changesets s.history ≢ [])
-    → FindAnswer s common (Ok found) → CopyAnswer found r → OfferAnswer s common r
-find-then-copy s common found (Ok m) some h k = (h.0, subst (IsOffer s common) (sym k.1) h.1)
-find-then-copy s common found (Err (UnknownCommon n)) some h k = absurd k
-find-then-copy s common found (Err TooLarge) some h k = (h.0, (found, h.1, k))
-find-then-copy s common found (Err NoMemory) some h k = (h.0, some)
+    → FindAnswer s pins common (Ok found) → CopyAnswer found r → OfferAnswer s pins common r
+find-then-copy s pins common found (Ok m) some h k = (h.0, subst (IsOffer s pins common) (sym k.1) h.1)
+find-then-copy s pins common found (Err (UnknownCommon n)) some h k = absurd k
+find-then-copy s pins common found (Err TooLarge) some h k = (h.0, (found, h.1, k))
+find-then-copy s pins common found (Err NoMemory) some h k = (h.0, some)
 
-pub find-refused : (s : ReplicaState) (common : List Node) (refusal : OfferRefusal)
-    → FindAnswer s common (Err refusal) → OfferAnswer s common (Err refusal)
-find-refused s common (UnknownCommon n) h = h
-find-refused s common TooLarge h = absurd h
-find-refused s common NoMemory h = h
+pub find-refused : (s : ReplicaState) (pins common : List Node) (refusal : OfferRefusal)
+    → FindAnswer s pins common (Err refusal) → OfferAnswer s pins common (Err refusal)
+find-refused s pins common (UnknownCommon n) h = h
+find-refused s pins common TooLarge h = absurd h
+find-refused s pins common NoMemory h = h

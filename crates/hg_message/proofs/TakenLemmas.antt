@@ -18,18 +18,20 @@ use Rattle.hg_history.proofs.ContentLemmas.{node_in_content, reach_from_leads}
 use Rattle.hg_marker.specs.Fields.{Fields}
 use Rattle.hg_replica.specs.State.{ReplicaState, IsValid}
 use Rattle.hg_replica.specs.Content.{Content, content_of, IsValidContent, ContentBelow, ContentAdmits, ContentAfter}
-use Rattle.hg_replica.specs.Evolution.{IsServed}
 use Rattle.hg_replica.proofs.ContentLemmas.{content-valid}
 use Rattle.hg_replica.proofs.MarkerLemmas.{holds-from}
-use Rattle.hg_view.proofs.LawLemmas.{served-above, leads-along}
+use Rattle.hg_view.specs.Pins.{IsServedUnder}
+use Rattle.hg_view.proofs.LawLemmas.{leads-along}
+use Rattle.hg_view.proofs.PinLemmas.{served_under-above}
 use Rattle.hg_message.specs.Value.{MessageValue}
 use Rattle.hg_message.specs.Part.{draft_bounds, part_of}
 use Rattle.hg_message.specs.Offer.{AreHeld, IsCommon, IsHead, IsServedAs, IsOffer}
 use Rattle.hg_message.specs.Taken.{DontCollide, HoldsServed}
 use Rattle.hg_message.proofs.AdmittedLemmas.{offer-admitted, known}
 
-module _ (s : ReplicaState) (valid : IsValid s) (common : List Node) (m : MessageValue) (offer : IsOffer s common m)
-    (g : Content) (vg : IsValidContent g) (has : AreHeld g common) (free : DontCollide (content_of s) g) where
+module _ (s : ReplicaState) (valid : IsValid s) (pins common : List Node) (m : MessageValue)
+    (offer : IsOffer s pins common m) (g : Content) (vg : IsValidContent g) (has : AreHeld g common)
+    (free : DontCollide (content_of s) g) where
   -- the ancestors of the common nodes are held too
   common_held : (n k : Node) → Leads (content_of s).0 n k → IsHeld g.0 k → IsHeld g.0 n
   common_held n k itself held = held
@@ -42,30 +44,30 @@ module _ (s : ReplicaState) (valid : IsValid s) (common : List Node) (m : Messag
   has_common n c = common_held n c.0 c.2 (has c.0 c.1)
 
   pub taken-admitted : ContentAdmits g (part_of m)
-  taken-admitted = offer-admitted s valid common m offer g has_common free
+  taken-admitted = offer-admitted s valid pins common m offer g has_common free
 
   module _ (after : Content) (taken : ContentAfter g (part_of m) after) where
     vf : IsValidContent (content_of s)
     vf = content-valid s valid
 
     -- what is served is held afterwards
-    served_held : (n : Node) (h : Held) → (content_of s).0 n ≡ Some h → IsServed (content_of s) n
+    served_held : (n : Node) (h : Held) → (content_of s).0 n ≡ Some h → IsServedUnder (content_of s) pins n
         → IsHeldAs after.0 n h.changeset
-    served_held n h e served = elim (known s valid common m offer g has_common free n h e served) [
+    served_held n h e served = elim (known s valid pins common m offer g has_common free n h e served) [
       | inl held ↦ (taken.0.union n h.changeset).1 (inl (held.0, held.1, sym (free n h held.0 e held.1)))
       | inr out ↦ (taken.0.union n h.changeset).1 (inr ((offer.says.changesets h.changeset).1 out, (vf.named n h e).0))
     ]
 
     -- and so are its ancestors, with their order
-    leads_served : (a n : Node) → Leads (content_of s).0 a n → IsServed (content_of s) n → Leads after.0 a n
+    leads_served : (a n : Node) → Leads (content_of s).0 a n → IsServedUnder (content_of s) pins n → Leads after.0 a n
     leads_served a n itself served = itself
     leads_served a n (below {p = p} {h = h} r e is) served =
         let x = served_held n h e served in
-        let parent = served-above (content_of s) p n vf served (below itself e is) in
+        let parent = served_under-above (content_of s) pins p n vf served (below itself e is) in
         below (leads_served a p r parent) x.1 (subst (λ (c : Contents). IsParent c p) (sym x.2) is)
 
     -- a bound of the offer is kept
-    bound_kept : (d : Node) (phase : Phase) → IsHead (content_of s) (IsServedAs (content_of s) phase) d
+    bound_kept : (d : Node) (phase : Phase) → IsHead (content_of s) (IsServedAs (content_of s) pins phase) d
         → (n : Node) (k : Held) → after.0 n ≡ Some k → Leads (content_of s).0 n d → rank k.phase ≤ rank phase
     bound_kept d phase head n k at leads =
         let all = contents_absorbed g.0 after.0 (part_of m).history vg taken.0 in
@@ -75,9 +77,9 @@ module _ (s : ReplicaState) (valid : IsValid s) (common : List Node) (m : Messag
 
     -- a served changeset is a head where no later one with its phase is a descendant
     last_head : (phase : Phase) (n d : Node) (p : ℕ) → IsAt (changesets s.history) d p
-        → IsServedAs (content_of s) phase d → Leads (content_of s).0 n d
-        → ((e : Node) (q : ℕ) → IsAt (changesets s.history) e q → p < q → IsServedAs (content_of s) phase e
-        → Leads (content_of s).0 n e → ⊥) → IsHead (content_of s) (IsServedAs (content_of s) phase) d
+        → IsServedAs (content_of s) pins phase d → Leads (content_of s).0 n d
+        → ((e : Node) (q : ℕ) → IsAt (changesets s.history) e q → p < q → IsServedAs (content_of s) pins phase e
+        → Leads (content_of s).0 n e → ⊥) → IsHead (content_of s) (IsServedAs (content_of s) pins phase) d
     last_head phase n d p at_p so leads later = (
       so,
       λ e so_e up.
@@ -94,7 +96,7 @@ module _ (s : ReplicaState) (valid : IsValid s) (common : List Node) (m : Messag
     -- so there is a head above each, which has a bound: what stands last
     none_above : (n : Node) (phase : Phase) (k : Held) → after.0 n ≡ Some k → rank phase < rank k.phase
         → (j : ℕ) (d : Node) (p : ℕ) → IsAt (changesets s.history) d p → length (changesets s.history) ≤ p + j
-        → IsServedAs (content_of s) phase d → Leads (content_of s).0 n d → ⊥
+        → IsServedAs (content_of s) pins phase d → Leads (content_of s).0 n d → ⊥
     none_above n phase k at high zero d p at_p far so leads =
         omega (arith, placed_within (changesets s.history) d p at_p, far)
     none_above n phase k at high (suc j) d p at_p far so leads =
@@ -102,7 +104,7 @@ module _ (s : ReplicaState) (valid : IsValid s) (common : List Node) (m : Messag
         (omega arith) so_e up) in
         omega (arith, bound_kept d phase head n k at leads, high)
 
-    served_low : (n : Node) → IsServed (content_of s) n → IsBelowAt ((content_of s).0 n) (after.0 n)
+    served_low : (n : Node) → IsServedUnder (content_of s) pins n → IsBelowAt ((content_of s).0 n) (after.0 n)
     served_low n served h e =
         let x = served_held n h e served in (
           x.0,
@@ -117,7 +119,7 @@ module _ (s : ReplicaState) (valid : IsValid s) (common : List Node) (m : Messag
           ],
         )
 
-    pub taken-served : HoldsServed (content_of s) after
+    pub taken-served : HoldsServed (content_of s) pins after
     taken-served = record {
       changesets = served_low;
       markers = λ k relevant. ap (λ (u : Fields → _). u k) taken.1

@@ -8,9 +8,10 @@ use Rattle.hg_marker.specs.Grammar.{IsMarker}
 use Rattle.hg_phases.specs.State.{Held}
 use Rattle.hg_replica.specs.State.{ReplicaState, IsValid}
 use Rattle.hg_replica.specs.Content.{content_of}
-use Rattle.hg_replica.specs.Evolution.{IsServed, IsMarker as IsHeldMarker}
+use Rattle.hg_replica.specs.Evolution.{IsMarker as IsHeldMarker}
 use Rattle.hg_replica.proofs.ContentLemmas.{content-valid}
 use Rattle.hg_replica.proofs.MarkerLemmas.{in_from_holds}
+use Rattle.hg_view.specs.Pins.{IsServedUnder}
 use Rattle.hg_message.specs.Value.{MessageValue, is_too_large}
 use Rattle.hg_message.specs.Message.{message_at}
 use Rattle.hg_message.specs.Spelling.{HasNode, IsWritable, message_spelling}
@@ -28,9 +29,9 @@ module _ (s : ReplicaState) (valid : IsValid s) (markers : All IsMarker s.marker
       let named = (content-valid s valid).named n h e in
       (subst IsNode named.0 named.1.node, named.1)
 
-  pub offer-writable : (common : List Node) (m : MessageValue) → IsOffer s common m → is_too_large m ≡ false
+  pub offer-writable : (pins common : List Node) (m : MessageValue) → IsOffer s pins common m → is_too_large m ≡ false
       → IsWritable m
-  offer-writable common m offer e = record {
+  offer-writable pins common m offer e = record {
     message = not-too-large m e;
     changesets = all_by_members IsChangeset m.changesets (λ c at.
         let held = ((offer.says.changesets c).0 at).0 in
@@ -40,11 +41,12 @@ module _ (s : ReplicaState) (valid : IsValid s) (markers : All IsMarker s.marker
         record { is_node = (held_is b.0 held.0 held.1).0 });
     markers = all_by_members IsMarker m.markers (λ k at.
         All-contains IsMarker s.markers k markers (in_from_holds s.markers k
-        (relevant-held (IsHeldMarker (content_of s)) (IsServed (content_of s)) k ((offer.says.markers k).0 at))));
+        (relevant-held (IsHeldMarker (content_of s)) (IsServedUnder (content_of s) pins) k
+        ((offer.says.markers k).0 at))));
   }
 
   -- and is read back from its bytes
-  pub offer-read : (common : List Node) (m : MessageValue) → IsOffer s common m → is_too_large m ≡ false
+  pub offer-read : (pins common : List Node) (m : MessageValue) → IsOffer s pins common m → is_too_large m ≡ false
       → message_at (message_spelling m) ≡ Ok m
-  offer-read common m offer e = spelling_is_read m (message_spelling m)
-      (writable_spells m (offer-writable common m offer e))
+  offer-read pins common m offer e = spelling_is_read m (message_spelling m)
+      (writable_spells m (offer-writable pins common m offer e))

@@ -1,5 +1,5 @@
--- What a replica offers to one that has some common nodes: first over what it contains, free of order, and then in
--- which order it stands.
+-- What a replica offers, under the pins of its node, to one that has some common nodes: first over what it contains,
+-- free of order, and then in which order it stands.
 use Rattle.std.specs.Prelude.{◌≡◌, ◌≢◌, ℕ, true, List, [], ◌++◌, map, take, slice_get, Some, Contains, ◌↔◌, Result, Ok}
 use Rattle.std.specs.Prelude.{Err}
 use Rattle.std.specs.List.Sorted.{IsStrictlySortedBy}
@@ -15,7 +15,8 @@ use Rattle.hg_history.specs.Content.{IsHeld, IsHeldAs, Leads}
 use Rattle.hg_relevant.specs.Relevant.{IsRelevant}
 use Rattle.hg_replica.specs.State.{ReplicaState}
 use Rattle.hg_replica.specs.Content.{Content, content_of}
-use Rattle.hg_replica.specs.Evolution.{HasPhase, IsMarker, IsServed}
+use Rattle.hg_replica.specs.Evolution.{HasPhase, IsMarker}
+use Rattle.hg_view.specs.Pins.{IsServedUnder}
 use Rattle.hg_message.specs.declared.refusal.OfferRefusal.{OfferRefusal}
 use Rattle.hg_message.specs.declared.refusal.OfferRefusal.TheVariants.{UnknownCommon, TooLarge, NoMemory}
 use Rattle.hg_message.specs.Value.{MessageValue, is_too_large}
@@ -31,31 +32,32 @@ AreHeld f common = (k : Node) → Contains common k → IsHeld f.0 k
 abbrev pub IsCommon : Content → List Node → Node → Type 0
 IsCommon f common n = (k : Node) × Contains common k × Leads f.0 n k
 
--- a changeset that is served and isn't common: Mercurial's outgoing
-abbrev pub IsOutgoing : Content → List Node → Contents → Type 0
-IsOutgoing f common c = IsHeldAs f.0 (node_of c) c × IsServed f (node_of c) × ¬ (IsCommon f common (node_of c))
+-- a changeset that is served under the pins and isn't common: Mercurial's outgoing
+abbrev pub IsOutgoing : Content → List Node → List Node → Contents → Type 0
+IsOutgoing f pins common c = IsHeldAs f.0 (node_of c) c × IsServedUnder f pins (node_of c)
+    × ¬ (IsCommon f common (node_of c))
 
 -- served, with this phase
-abbrev pub IsServedAs : Content → Phase → Node → Type 0
-IsServedAs f phase n = IsServed f n × HasPhase f n phase
+abbrev pub IsServedAs : Content → List Node → Phase → Node → Type 0
+IsServedAs f pins phase n = IsServedUnder f pins n × HasPhase f n phase
 
 -- so, and without a descendant that is so
 abbrev pub IsHead : Content → (Node → Type 0) → Node → Type 0
 IsHead f P n = P n × ((d : Node) → P d → Leads f.0 n d → d ≡ n)
 
 -- the bound that tells the phase of a head of what is served with this phase
-abbrev pub IsOfferedBound : Content → Node × Phase → Type 0
-IsOfferedBound f b = IsHead f (IsServedAs f b.1) b.0
+abbrev pub IsOfferedBound : Content → List Node → Node × Phase → Type 0
+IsOfferedBound f pins b = IsHead f (IsServedAs f pins b.1) b.0
 
 -- relevant to what is served
-abbrev pub IsOfferedMarker : Content → Fields → Type 0
-IsOfferedMarker f m = IsRelevant (IsMarker f) (IsServed f) m
+abbrev pub IsOfferedMarker : Content → List Node → Fields → Type 0
+IsOfferedMarker f pins m = IsRelevant (IsMarker f) (IsServedUnder f pins) m
 
 -- the message says exactly what is offered, in whatever order and however often
-pub record SaysOffer (f : Content) (common : List Node) (m : MessageValue) : Type 0 where
-  pub changesets : (c : Contents) → Contains m.changesets c ↔ IsOutgoing f common c
-  pub bounds : (b : Node × Phase) → Contains m.bounds b ↔ IsOfferedBound f b
-  pub markers : (k : Fields) → Contains m.markers k ↔ IsOfferedMarker f k
+pub record SaysOffer (f : Content) (pins common : List Node) (m : MessageValue) : Type 0 where
+  pub changesets : (c : Contents) → Contains m.changesets c ↔ IsOutgoing f pins common c
+  pub bounds : (b : Node × Phase) → Contains m.bounds b ↔ IsOfferedBound f pins b
+  pub markers : (k : Fields) → Contains m.markers k ↔ IsOfferedMarker f pins k
 
 -- the same changesets, bounds and markers, in whatever order and however often
 pub record SayTheSame (m n : MessageValue) : Type 0 where
@@ -75,28 +77,28 @@ abbrev pub bounds_in : Phase → List Node → List (Node × Phase)
 bounds_in phase nodes = map (λ n. (n, phase)) nodes
 
 -- public heads, and then draft ones
-pub record AreOfferedBounds (f : Content) (bounds : List (Node × Phase)) : Type 0 where
+pub record AreOfferedBounds (f : Content) (pins : List Node) (bounds : List (Node × Phase)) : Type 0 where
   pub public : List Node
   pub draft : List Node
-  pub public_heads : AreHeads f (IsServedAs f Public) public
-  pub draft_heads : AreHeads f (IsServedAs f Draft) draft
+  pub public_heads : AreHeads f (IsServedAs f pins Public) public
+  pub draft_heads : AreHeads f (IsServedAs f pins Draft) draft
   pub both : bounds ≡ bounds_in Public public ++ bounds_in Draft draft
 
 -- the offer of a replica: it says what is offered, the changesets in the graph's order, and the markers in the store's
-pub record IsOffer (s : ReplicaState) (common : List Node) (m : MessageValue) : Type 0 where
-  pub says : SaysOffer (content_of s) common m
-  pub changesets : AreThose (IsOutgoing (content_of s) common) (changesets s.history) m.changesets
-  pub bounds : AreOfferedBounds (content_of s) m.bounds
-  pub markers : AreThose (IsOfferedMarker (content_of s)) s.markers m.markers
+pub record IsOffer (s : ReplicaState) (pins common : List Node) (m : MessageValue) : Type 0 where
+  pub says : SaysOffer (content_of s) pins common m
+  pub changesets : AreThose (IsOutgoing (content_of s) pins common) (changesets s.history) m.changesets
+  pub bounds : AreOfferedBounds (content_of s) pins m.bounds
+  pub markers : AreThose (IsOfferedMarker (content_of s) pins) s.markers m.markers
 
 -- the first of the common nodes that isn't held
 abbrev pub IsFirstUnknown : Content → List Node → Node → Type 0
 IsFirstUnknown f common n = (i : ℕ) × (slice_get common i ≡ Some n) × ¬ (IsHeld f.0 n) × AreHeld f (take i common)
 
 -- the answer to `offer`; memory can be wanting only where each common node is held, and there is a changeset
-abbrev pub OfferAnswer : ReplicaState → List Node → Result MessageValue OfferRefusal → Type 0
-OfferAnswer s common (Ok m) = AreHeld (content_of s) common × IsOffer s common m
-OfferAnswer s common (Err (UnknownCommon n)) = IsFirstUnknown (content_of s) common n
-OfferAnswer s common (Err TooLarge) = AreHeld (content_of s) common
-    × ((m : MessageValue) × IsOffer s common m × (is_too_large m ≡ true))
-OfferAnswer s common (Err NoMemory) = AreHeld (content_of s) common × (changesets s.history ≢ [])
+abbrev pub OfferAnswer : ReplicaState → List Node → List Node → Result MessageValue OfferRefusal → Type 0
+OfferAnswer s pins common (Ok m) = AreHeld (content_of s) common × IsOffer s pins common m
+OfferAnswer s pins common (Err (UnknownCommon n)) = IsFirstUnknown (content_of s) common n
+OfferAnswer s pins common (Err TooLarge) = AreHeld (content_of s) common
+    × ((m : MessageValue) × IsOffer s pins common m × (is_too_large m ≡ true))
+OfferAnswer s pins common (Err NoMemory) = AreHeld (content_of s) common × (changesets s.history ≢ [])

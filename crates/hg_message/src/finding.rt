@@ -1,12 +1,13 @@
-//! How an offer is found: which changesets and markers are offered, as places, and which bounds.
-ghost use Rattle.std.specs.Prelude.{◌≡◌, ◌↔◌, ◌++◌, Contains, IfOk, MatchOption, OnOk, length};
+//! How an offer is found: which changesets and markers are offered, as places, and which bounds. Marks tell what is
+//! served, under whatever pins.
+ghost use Rattle.std.specs.Prelude.{◌≡◌, ◌↔◌, ◌++◌, List, Contains, IfOk, MatchOption, OnOk, length};
 ghost use Rattle.hg_changeset.specs.declared.node.Node.{Node};
 ghost use Rattle.hg_graph.specs.Marks.{IsMarkedNode};
 ghost use Rattle.hg_obsstore.specs.Markers.{ArePlaces};
 ghost use Rattle.hg_phases.specs.State.{changesets};
 ghost use Rattle.hg_replica.specs.State.{IsValid};
 ghost use Rattle.hg_replica.specs.Content.{content_of};
-ghost use Rattle.hg_replica.specs.Evolution.{HasPhase, IsServed};
+ghost use Rattle.hg_replica.specs.Evolution.{HasPhase};
 ghost use Rattle.hg_message.specs.Offer.{AreHeads, AreHeld, AreOfferedBounds, IsFirstUnknown, IsOfferedMarker};
 ghost use Rattle.hg_message.specs.Offer.{IsOutgoing, IsServedAs, bounds_in};
 ghost use Rattle.hg_message.specs.Outgoing.{ArePlacesOf, AreServed};
@@ -39,10 +40,11 @@ pub(crate) fn outgoing_places(
     served: &[bool],
     common: &[Node],
 ) -> Result<Vec<usize>, AllocError>
-    requires served { AreServed replica.now served.now }
+    requires len { length served.now ≡ length (changesets replica.now.history) }
     requires common { AreHeld (content_of replica.now) common.now }
-    ensures places { IfOk result (λ found. ArePlacesOf (IsOutgoing (content_of replica.now) common.now)
-        (changesets replica.now.history) found.items) }
+    ensures places { IfOk result (λ found. (pins : List Node) → AreServed replica.now pins served.now
+        → ArePlacesOf (IsOutgoing (content_of replica.now) pins common.now) (changesets replica.now.history)
+        found.items) }
     ensures valid { IsValid replica.now }
 {
     let graph = replica.graph();
@@ -62,9 +64,9 @@ pub(crate) fn relevant_places(
     replica: &Replica,
     served: &[bool],
 ) -> Result<Vec<usize>, AllocError>
-    requires { AreServed replica.now served.now }
-    ensures { IfOk result
-        (λ found. ArePlaces (IsOfferedMarker (content_of replica.now)) replica.now.markers found.items) }
+    requires { length served.now ≡ length (changesets replica.now.history) }
+    ensures { IfOk result (λ found. (pins : List Node) → AreServed replica.now pins served.now
+        → ArePlaces (IsOfferedMarker (content_of replica.now) pins) replica.now.markers found.items) }
 {
     let nodes = replica.graph().marked(served)?;
     let hints = marked_hints(alloc, replica, served)?;
@@ -88,8 +90,9 @@ pub(crate) fn head_bounds(
     replica: &Replica,
     served: &[bool],
 ) -> Result<Vec<(Node, Phase)>, AllocError>
-    requires { AreServed replica.now served.now }
-    ensures { IfOk result (λ bounds. AreOfferedBounds (content_of replica.now) bounds.items) }
+    requires { length served.now ≡ length (changesets replica.now.history) }
+    ensures { IfOk result (λ bounds. (pins : List Node) → AreServed replica.now pins served.now
+        → AreOfferedBounds (content_of replica.now) pins bounds.items) }
 {
     let public = heads_in(alloc, replica, served, Phase::Public)?;
     let draft = heads_in(alloc, replica, served, Phase::Draft)?;
@@ -106,9 +109,9 @@ fn heads_in(
     served: &[bool],
     phase: Phase,
 ) -> Result<Vec<Node>, AllocError>
-    requires { AreServed replica.now served.now }
-    ensures { IfOk result (λ heads. AreHeads (content_of replica.now)
-        (IsServedAs (content_of replica.now) phase) heads.items) }
+    requires { length served.now ≡ length (changesets replica.now.history) }
+    ensures { IfOk result (λ heads. (pins : List Node) → AreServed replica.now pins served.now
+        → AreHeads (content_of replica.now) (IsServedAs (content_of replica.now) pins phase) heads.items) }
 {
     let marks = marks_in(alloc, replica, served, phase)?;
     replica.graph().marked_heads(&marks)

@@ -5,8 +5,8 @@
 //! spelled in further ways, and no bytes at all are a store without markers. What a replica takes in of it is its
 //! [part](Message::part).
 //!
-//! What a replica tells one that has some common nodes is its [`offer`]: what it serves above them, and nothing that is
-//! secret or hidden.
+//! What a replica tells one that has some common nodes is its [`offer`]: what it serves above them under the pins of
+//! its node, and nothing that is secret or hidden. No message carries a pin.
 #![tactic(auto)]
 
 mod bound;

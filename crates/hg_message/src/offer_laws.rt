@@ -10,55 +10,58 @@ ghost use Rattle.hg_history.specs.Content.{IsHeld};
 ghost use Rattle.hg_replica.specs.State.{ReplicaState, IsValid, IsSameState};
 ghost use Rattle.hg_replica.specs.Content.{Content, content_of, IsValidContent, ContentBelow, ContentCovers};
 ghost use Rattle.hg_replica.specs.Content.{ContentAdmits, ContentAfter};
-ghost use Rattle.hg_replica.specs.Evolution.{HasPhase, IsHidden, IsServed};
+ghost use Rattle.hg_replica.specs.Evolution.{HasPhase};
+ghost use Rattle.hg_view.specs.Pins.{AreSamePins, IsHiddenUnder, IsServedUnder};
 ghost use Rattle.hg_message.specs.Value.{MessageValue};
 ghost use Rattle.hg_message.specs.Part.{part_of};
 ghost use Rattle.hg_message.specs.Offer.{AreHeld, IsCommon, IsOffer, SaysOffer, SayTheSame};
 ghost use Rattle.hg_message.specs.Taken.{DontCollide, HoldsServed};
 
-/// No changeset that is secret or hidden stands in an offer, neither as a record nor as a bound: all of them are
-/// served.
+/// No changeset that is secret, or hidden under the pins, stands in an offer, neither as a record nor as a bound: all
+/// of them are served.
 pub fn offers_hold_what_is_served()
-    ensures changesets { (f : Content) (common : List Node) (m : MessageValue) → SaysOffer f common m → (c : Contents)
-        → Contains m.changesets c → IsServed f (node_of c) }
-    ensures bounds { (f : Content) (common : List Node) (m : MessageValue) → SaysOffer f common m → (b : Node × Phase)
-        → Contains m.bounds b → IsServed f b.0 }
-    ensures secret { (f : Content) (n : Node) → HasPhase f n secret_phase → ¬ (IsServed f n) }
-    ensures hidden { (f : Content) (n : Node) → IsHidden f n → ¬ (IsServed f n) }
+    ensures changesets { (f : Content) (pins common : List Node) (m : MessageValue) → SaysOffer f pins common m
+        → (c : Contents) → Contains m.changesets c → IsServedUnder f pins (node_of c) }
+    ensures bounds { (f : Content) (pins common : List Node) (m : MessageValue) → SaysOffer f pins common m
+        → (b : Node × Phase) → Contains m.bounds b → IsServedUnder f pins b.0 }
+    ensures secret { (f : Content) (pins : List Node) (n : Node) → HasPhase f n secret_phase
+        → ¬ (IsServedUnder f pins n) }
+    ensures hidden { (f : Content) (pins : List Node) (n : Node) → IsHiddenUnder f pins n → ¬ (IsServedUnder f pins n) }
 {}
 
 /// An offer says no more than the replica that makes it: the replica covers its part already.
 pub fn offers_are_covered()
-    ensures { (f : Content) (common : List Node) (m : MessageValue) → IsValidContent f → SaysOffer f common m
+    ensures { (f : Content) (pins common : List Node) (m : MessageValue) → IsValidContent f → SaysOffer f pins common m
         → ContentCovers f (part_of m) }
 {}
 
-/// States that are below each other offer the same, in whatever order each keeps what it holds: what covers the part of
-/// one offer covers that of the other.
+/// States that are below each other offer the same under pins with the same members, in whatever order each keeps what
+/// it holds: what covers the part of one offer covers that of the other.
 pub fn states_of_one_content_offer_the_same()
-    ensures same { (s t : ReplicaState) (common : List Node) (m n : MessageValue) → IsValid s → IsValid t
-        → IsSameState s t → IsOffer s common m → IsOffer t common n → SayTheSame m n }
+    ensures same { (s t : ReplicaState) (pins others common : List Node) (m n : MessageValue)
+        → IsValid s → IsValid t → IsSameState s t → AreSamePins pins others
+        → IsOffer s pins common m → IsOffer t others common n → SayTheSame m n }
     ensures covered { (m n : MessageValue) → SayTheSame m n → (f : Content)
         → ContentCovers f (part_of m) ↔ ContentCovers f (part_of n) }
 {}
 
-/// A state has one offer above some common nodes.
+/// A state has one offer under some pins above some common nodes.
 pub fn an_offer_is_one()
-    ensures once { (s : ReplicaState) (common : List Node) (m n : MessageValue) → IsOffer s common m
-        → IsOffer s common n → m ≡ n }
-    ensures exists { (s : ReplicaState) (common : List Node) → IsValid s
-        → ((m : MessageValue) → IsOffer s common m → ⊥) → ⊥ }
+    ensures once { (s : ReplicaState) (pins common : List Node) (m n : MessageValue) → IsOffer s pins common m
+        → IsOffer s pins common n → m ≡ n }
+    ensures exists { (s : ReplicaState) (pins common : List Node) → IsValid s
+        → ((m : MessageValue) → IsOffer s pins common m → ⊥) → ⊥ }
 {}
 
 /// An offer's part is admitted wherever the common nodes and their ancestors are held, and no id stands for another
 /// changeset: so at an empty replica where there are no common nodes.
 pub fn offers_are_admitted()
-    ensures above { (s : ReplicaState) (common : List Node) (m : MessageValue) (g : Content) → IsValid s
-        → IsOffer s common m
+    ensures above { (s : ReplicaState) (pins common : List Node) (m : MessageValue) (g : Content) → IsValid s
+        → IsOffer s pins common m
         → ((n : Node) → IsCommon (content_of s) common n → IsHeld g.0 n)
         → ((n : Node) (h k : Held) → (content_of s).0 n ≡ Some h → g.0 n ≡ Some k → h.changeset ≡ k.changeset)
         → ContentAdmits g (part_of m) }
-    ensures empty { (s : ReplicaState) (m : MessageValue) → IsValid s → IsOffer s [] m
+    ensures empty { (s : ReplicaState) (pins : List Node) (m : MessageValue) → IsValid s → IsOffer s pins [] m
         → ContentAdmits (content_of (record { history = state_of [] []; markers = [] })) (part_of m) }
 {}
 
@@ -66,12 +69,12 @@ pub fn offers_are_admitted()
 /// stays held. Once it is taken in, the replica holds all that was served when the offer was made, at phases no higher,
 /// with the markers relevant to it. No id may stand for two changesets.
 pub fn offers_above_what_is_held_are_taken()
-    ensures admitted { (s : ReplicaState) (common : List Node) (m : MessageValue) (g later : Content) → IsValid s
-        → IsOffer s common m
+    ensures admitted { (s : ReplicaState) (pins common : List Node) (m : MessageValue) (g later : Content) → IsValid s
+        → IsOffer s pins common m
         → AreHeld g common → ContentBelow g later → IsValidContent later → DontCollide (content_of s) later
         → ContentAdmits later (part_of m) }
-    ensures taken { (s : ReplicaState) (common : List Node) (m : MessageValue) (g later after : Content) → IsValid s
-        → IsOffer s common m
+    ensures taken { (s : ReplicaState) (pins common : List Node) (m : MessageValue) (g later after : Content)
+        → IsValid s → IsOffer s pins common m
         → AreHeld g common → ContentBelow g later → IsValidContent later → DontCollide (content_of s) later
-        → ContentAfter later (part_of m) after → HoldsServed (content_of s) after }
+        → ContentAfter later (part_of m) after → HoldsServed (content_of s) pins after }
 {}

@@ -2,7 +2,8 @@
 //!
 //! To find it takes memory, for marks and for a queue. Whether it is too large shows as soon as it is found, without
 //! memory and before anything is copied or written: from there on want of memory never stands for what is too large.
-ghost use Rattle.std.specs.Prelude.{◌≡◌, ◌<◌, ◌≤◌, IfOk, MatchOption, [], true, false, length};
+ghost use Rattle.std.specs.Prelude.{◌≡◌, ◌<◌, ◌≤◌, List, IfOk, MatchOption, [], true, false, length};
+ghost use Rattle.hg_changeset.specs.declared.node.Node.{Node};
 ghost use Rattle.hg_obsstore.specs.Places.{picked};
 ghost use Rattle.hg_obsstore.specs.Spelling.{IsStoreSpelling, store_spelling};
 ghost use Rattle.hg_replica.specs.Content.{content_of};
@@ -69,28 +70,30 @@ impl<'a> Model for Outgoing<'a> {
 }
 
 impl<'a> Outgoing<'a> {
-    /// What goes out above the common nodes. Without a changeset nothing does, and no memory is taken.
+    /// What goes out above the common nodes, where the node of the replica has these pins. Without a changeset nothing
+    /// does, and no memory is taken.
     ///
     /// Refuses [`OfferRefusal::UnknownCommon`] alone, for the first that isn't held.
     pub fn above(
         alloc: Global,
         replica: &'a Replica,
+        pins: &Pins,
         common: &[Node],
     ) -> Result<Outgoing<'a>, OfferRefusal>
-        ensures { FindAnswer replica.now common.now result }
+        ensures { FindAnswer replica.now pins.now common.now result }
     {
         match first_unknown(replica, common) {
             Some(node) => Err(OfferRefusal::UnknownCommon(node)),
             None if replica.graph().is_empty() => Ok(nothing(alloc, replica)),
             None => {
-                let served = served_marks(alloc, replica, &Pins::new(alloc))?;
+                let served = served_marks(alloc, replica, pins)?;
                 Ok(find(alloc, replica, &served, common)?)
             }
         }
     }
 
     /// What goes out above the common nodes, as [`above`](Outgoing::above) finds it, of a replica whose instabilities
-    /// are kept up to date: what is served is told by look-ups, without a walk to what is visible.
+    /// are kept up to date, under its pins: what is served is told by look-ups, without a walk to what is visible.
     ///
     /// Refuses [`OfferRefusal::UnknownCommon`] alone, for the first that isn't held.
     pub fn above_kept(
@@ -98,7 +101,7 @@ impl<'a> Outgoing<'a> {
         kept: &'a Kept,
         common: &[Node],
     ) -> Result<Outgoing<'a>, OfferRefusal>
-        ensures { FindAnswer kept.now common.now result }
+        ensures { FindAnswer kept.now.replica kept.now.pins common.now result }
     {
         above_by(alloc, kept, kept.replica(), common)
     }
@@ -200,8 +203,8 @@ fn above_by<'a>(
     replica: &'a Replica,
     common: &[Node],
 ) -> Result<Outgoing<'a>, OfferRefusal>
-    requires { replica.now ≡ kept.now }
-    ensures { FindAnswer replica.now common.now result }
+    requires { replica.now ≡ kept.now.replica }
+    ensures { FindAnswer replica.now kept.now.pins common.now result }
 {
     match first_unknown(replica, common) {
         Some(node) => Err(OfferRefusal::UnknownCommon(node)),
@@ -220,9 +223,10 @@ fn find<'a>(
     served: &[bool],
     common: &[Node],
 ) -> Result<Outgoing<'a>, AllocError>
-    requires served { AreServed replica.now served.now }
+    requires served { (pins : List Node) × AreServed replica.now pins served.now }
     requires common { AreHeld (content_of replica.now) common.now }
-    ensures { IfOk result (IsOffer replica.now common.now) }
+    ensures { IfOk result (λ found. (pins : List Node) → AreServed replica.now pins served.now
+        → IsOffer replica.now pins common.now found) }
 {
     let changesets = outgoing_places(alloc, replica, served, common)?;
     let bounds = head_bounds(alloc, replica, served)?;

@@ -5,7 +5,7 @@ use hg_marker::{Marker, Metadata};
 use hg_message::{Message, OfferRefusal, Outgoing, offer};
 use hg_phases::Phase;
 use hg_replica::{Part, Replica};
-use hg_view::Kept;
+use hg_view::{Kept, Pins};
 use std::alloc::Global;
 
 fn empty(alloc: Global) -> Part {
@@ -101,7 +101,7 @@ fn offers_what_is_served(rt: HostRuntime) {
     let alloc = rt.alloc();
     let mut replica = Replica::new(alloc);
     let nodes = scene(alloc, &mut replica).expect(&rt, "memory");
-    let message = offer(alloc, &replica, &[]).expect(&rt, "an offer");
+    let message = offer(alloc, &replica, &Pins::new(alloc), &[]).expect(&rt, "an offer");
     assert!(rt; are(&message, &[nodes.a, nodes.b, nodes.c]));
     let [first, second] = ascending(nodes.b, nodes.c);
     let bounds = [
@@ -121,7 +121,7 @@ fn leaves_out_common_changesets_and_tells_their_phases(rt: HostRuntime) {
     let alloc = rt.alloc();
     let mut replica = Replica::new(alloc);
     let nodes = scene(alloc, &mut replica).expect(&rt, "memory");
-    let message = offer(alloc, &replica, &[nodes.b]).expect(&rt, "an offer");
+    let message = offer(alloc, &replica, &Pins::new(alloc), &[nodes.b]).expect(&rt, "an offer");
     assert!(rt; are(&message, &[nodes.c]));
     assert!(rt; message.bounds().len() == 3 && message.markers().len() == 2);
 }
@@ -131,7 +131,9 @@ fn finds_what_goes_out_before_it_is_copied(rt: HostRuntime) {
     let alloc = rt.alloc();
     let mut replica = Replica::new(alloc);
     let nodes = scene(alloc, &mut replica).expect(&rt, "memory");
-    let found = Outgoing::above(alloc, &replica, &[nodes.b]).expect(&rt, "memory");
+    let found = Outgoing::above(alloc, &replica, &Pins::new(alloc), &[nodes.b]).expect(
+        &rt, "memory",
+    );
     assert!(rt; !found.is_too_large());
     let message = found.message().expect(&rt, "memory");
     assert!(rt; are(&message, &[nodes.c]) && message.markers().len() == 2);
@@ -151,6 +153,48 @@ fn finds_what_goes_out_of_a_kept_replica(rt: HostRuntime) {
     assert!(rt; refusal == Some(OfferRefusal::UnknownCommon(unknown)));
 }
 
+// A public a, a draft b on it, and a draft c on b; b and c were pruned.
+fn extinct(alloc: Global, replica: &mut Replica) -> Option<[Node; 3]> {
+    let a = commit(alloc, replica, Node::NULL, b"a", Phase::Public)?;
+    let b = commit(alloc, replica, a, b"b", Phase::Draft)?;
+    let c = commit(alloc, replica, b, b"c", Phase::Draft)?;
+    rewrite(alloc, replica, b, &[], a)?;
+    rewrite(alloc, replica, c, &[], b)?;
+    Some([a, b, c])
+}
+
+// All that goes out of a kept replica.
+fn message_of(alloc: Global, kept: &Kept) -> Option<Message> {
+    Outgoing::above_kept(alloc, kept, &[]).ok()?.message().ok()
+}
+
+#[test]
+fn offers_what_is_pinned_with_its_ancestors(rt: HostRuntime) {
+    let alloc = rt.alloc();
+    let mut replica = Replica::new(alloc);
+    let nodes = extinct(alloc, &mut replica).expect(&rt, "memory");
+    let mut pins = Pins::new(alloc);
+    pins.pin(&replica, nodes[2]).expect(&rt, "a pin");
+    let found = Outgoing::above(alloc, &replica, &pins, &[]).expect(&rt, "memory");
+    assert!(rt; are(&found.message().expect(&rt, "memory"), &nodes));
+    let none = Pins::new(alloc);
+    let found = Outgoing::above(alloc, &replica, &none, &[]).expect(&rt, "memory");
+    assert!(rt; are(&found.message().expect(&rt, "memory"), &[nodes[0]]));
+}
+
+#[test]
+fn offers_what_is_pinned_of_a_kept_replica(rt: HostRuntime) {
+    let alloc = rt.alloc();
+    let mut replica = Replica::new(alloc);
+    let nodes = extinct(alloc, &mut replica).expect(&rt, "memory");
+    let mut kept = Kept::new(alloc, replica).expect(&rt, "memory");
+    let message = message_of(alloc, &kept).expect(&rt, "memory");
+    assert!(rt; are(&message, &[nodes[0]]));
+    kept.pin(nodes[2]).expect(&rt, "a pin");
+    let message = message_of(alloc, &kept).expect(&rt, "memory");
+    assert!(rt; are(&message, &nodes));
+}
+
 // A replica of ROOT, and of what the bytes bring it.
 fn with_child(alloc: Global, bytes: &[u8]) -> Option<Replica> {
     let mut replica = Replica::new(alloc);
@@ -166,7 +210,7 @@ fn writes_what_goes_out(rt: HostRuntime) {
     let alloc = rt.alloc();
     let bytes = child_above_root(alloc).expect(&rt, "memory");
     let replica = with_child(alloc, &bytes).expect(&rt, "a message");
-    let found = Outgoing::above(alloc, &replica, &[ROOT]).expect(&rt, "memory");
+    let found = Outgoing::above(alloc, &replica, &Pins::new(alloc), &[ROOT]).expect(&rt, "memory");
     assert!(rt; found.to_bytes().expect(&rt, "memory") == bytes);
 }
 
@@ -176,7 +220,12 @@ fn refuses_the_first_common_node_that_is_not_held(rt: HostRuntime) {
     let mut replica = Replica::new(alloc);
     let nodes = scene(alloc, &mut replica).expect(&rt, "memory");
     let unknown = Node([0x33; 20]);
-    let refused = offer(alloc, &replica, &[nodes.a, unknown, Node::NULL]);
+    let refused = offer(
+        alloc,
+        &replica,
+        &Pins::new(alloc),
+        &[nodes.a, unknown, Node::NULL],
+    );
     assert!(rt; refused == Err(OfferRefusal::UnknownCommon(unknown)));
 }
 
@@ -187,7 +236,7 @@ fn an_offer_is_taken_in_by_an_empty_replica(rt: HostRuntime) {
     let mut replica = Replica::new(alloc);
     scene(alloc, &mut replica).expect(&rt, "memory");
     let mut other = Replica::new(alloc);
-    let message = offer(alloc, &replica, &[]).expect(&rt, "an offer");
+    let message = offer(alloc, &replica, &Pins::new(alloc), &[]).expect(&rt, "an offer");
     let part = message.into_part().expect(&rt, "memory");
     let change = other.absorb(&part).expect(&rt, "a part that is admitted");
     assert!(rt; change.added.len() == 3 && change.markers.len() == 2);
@@ -210,11 +259,11 @@ fn refused_growth_offers_nothing(rt: HostRuntime) {
     if scene(alloc, &mut replica).is_none() {
         return;
     }
-    let message = match offer(alloc, &replica, &[]) {
+    let message = match offer(alloc, &replica, &Pins::new(alloc), &[]) {
         Ok(message) => message,
         Err(refusal) => {
             assert!(rt; refusal == OfferRefusal::NoMemory);
-            offer(alloc, &replica, &[]).expect(&rt, "memory")
+            offer(alloc, &replica, &Pins::new(alloc), &[]).expect(&rt, "memory")
         }
     };
     assert!(rt; message.changesets().len() == 3 && message.markers().len() == 2);
@@ -229,7 +278,7 @@ fn refused_growth_writes_nothing_that_goes_out(rt: HostRuntime) {
     let Some(replica) = with_child(alloc, &bytes) else {
         return;
     };
-    let Ok(found) = Outgoing::above(alloc, &replica, &[ROOT]) else {
+    let Ok(found) = Outgoing::above(alloc, &replica, &Pins::new(alloc), &[ROOT]) else {
         return;
     };
     let written = match found.to_bytes() {

@@ -1,5 +1,6 @@
 -- The table of refusals, one check after the other.
 use Rattle.std.proofs.Common.{◌≡◌, inr, List, ◌++◌, map, Ok, sym, subst}
+use Rattle.hg_changeset.specs.declared.node.Node.{Node}
 use Rattle.hg_phases.specs.State.{IsValid}
 use Rattle.hg_replica.specs.State.{ReplicaState}
 use Rattle.hg_replica.specs.Least.{PartValue, IsAdmitted}
@@ -28,6 +29,16 @@ writes_nothing s (Relocate node p q entry) r h = absurd h
 writes_nothing s (Advance node phase) r h = absurd h
 
 module _ (s : ReplicaState) (op : Op) where
+  -- the users are some, and so are the markers
+  pub none_unmarked : NoneApplies (bad_users op) → NoneApplies (map marker_refused (markers s.history op))
+      → NoneApplies (not_marked s op)
+  none_unmarked named marked = none_both (bad_users op) (map marker_refused (markers s.history op)) named marked
+
+  pub marks_refused : (r : Refusal) → NoneApplies (bad_users op)
+      → IsRefusal (map marker_refused (markers s.history op)) r → IsRefusal (not_marked s op) r
+  marks_refused r named h = later (bad_users op) (map marker_refused (markers s.history op)) r named h
+
+module _ (s : ReplicaState) (pins : List Node) (op : Op) where
   -- the rows from those of one refusal on
   abbrev rows_from_existing : List Row
   rows_from_existing = existing_ids s op
@@ -54,72 +65,72 @@ module _ (s : ReplicaState) (op : Op) where
   rows_from_public = public_nodes s op ++ rows_from_obsolete
 
   abbrev rows_from_hidden : List Row
-  rows_from_hidden = hidden_parents s op ++ rows_from_public
+  rows_from_hidden = hidden_parents s pins op ++ rows_from_public
 
   -- a check refuses, after those before it have passed
-  pub refused_unknown : (r : Refusal) → IsRefusal (unknown_nodes s op) r → IsRefusal (refusals s op) r
+  pub refused_unknown : (r : Refusal) → IsRefusal (unknown_nodes s op) r → IsRefusal (refusals s pins op) r
   unfolding refusals
   refused_unknown r h = sooner (unknown_nodes s op) rows_from_hidden r h
 
-  pub refused_hidden : (r : Refusal) → NoneApplies (unknown_nodes s op) → IsRefusal (hidden_parents s op) r
-      → IsRefusal (refusals s op) r
+  pub refused_hidden : (r : Refusal) → NoneApplies (unknown_nodes s op) → IsRefusal (hidden_parents s pins op) r
+      → IsRefusal (refusals s pins op) r
   unfolding refusals
   refused_hidden r known h = later (unknown_nodes s op) rows_from_hidden r known
-      (sooner (hidden_parents s op) rows_from_public r h)
+      (sooner (hidden_parents s pins op) rows_from_public r h)
 
-  pub refused_public : (r : Refusal) → NoneApplies (unknown_nodes s op) → NoneApplies (hidden_parents s op)
-      → IsRefusal (public_nodes s op) r → IsRefusal (refusals s op) r
+  pub refused_public : (r : Refusal) → NoneApplies (unknown_nodes s op) → NoneApplies (hidden_parents s pins op)
+      → IsRefusal (public_nodes s op) r → IsRefusal (refusals s pins op) r
   unfolding refusals
   refused_public r known visible h = later (unknown_nodes s op) rows_from_hidden r known
-      (later (hidden_parents s op) rows_from_public r visible (sooner (public_nodes s op) rows_from_obsolete r h))
+      (later (hidden_parents s pins op) rows_from_public r visible (sooner (public_nodes s op) rows_from_obsolete r h))
 
-  pub refused_obsolete : (r : Refusal) → NoneApplies (unknown_nodes s op) → NoneApplies (hidden_parents s op)
-      → NoneApplies (public_nodes s op) → IsRefusal (obsolete_nodes s op) r → IsRefusal (refusals s op) r
+  pub refused_obsolete : (r : Refusal) → NoneApplies (unknown_nodes s op) → NoneApplies (hidden_parents s pins op)
+      → NoneApplies (public_nodes s op) → IsRefusal (obsolete_nodes s op) r → IsRefusal (refusals s pins op) r
   unfolding refusals
   refused_obsolete r known visible unpublished h = later (unknown_nodes s op) rows_from_hidden r known
-      (later (hidden_parents s op) rows_from_public r visible
+      (later (hidden_parents s pins op) rows_from_public r visible
       (later (public_nodes s op) rows_from_obsolete r unpublished
       (sooner (obsolete_nodes s op) rows_from_not_linear r h)))
 
-  pub refused_not_linear : (r : Refusal) → NoneApplies (unknown_nodes s op) → NoneApplies (hidden_parents s op)
+  pub refused_not_linear : (r : Refusal) → NoneApplies (unknown_nodes s op) → NoneApplies (hidden_parents s pins op)
       → NoneApplies (public_nodes s op) → NoneApplies (obsolete_nodes s op) → IsRefusal (not_linear s op) r
-      → IsRefusal (refusals s op) r
+      → IsRefusal (refusals s pins op) r
   unfolding refusals
   refused_not_linear r known visible unpublished current h = later (unknown_nodes s op) rows_from_hidden r known
-      (later (hidden_parents s op) rows_from_public r visible
+      (later (hidden_parents s pins op) rows_from_public r visible
       (later (public_nodes s op) rows_from_obsolete r unpublished
       (later (obsolete_nodes s op) rows_from_not_linear r current
       (sooner (not_linear s op) rows_from_count r h))))
 
-  pub refused_count : (r : Refusal) → NoneApplies (unknown_nodes s op) → NoneApplies (hidden_parents s op)
+  pub refused_count : (r : Refusal) → NoneApplies (unknown_nodes s op) → NoneApplies (hidden_parents s pins op)
       → NoneApplies (public_nodes s op) → NoneApplies (obsolete_nodes s op) → NoneApplies (not_linear s op)
-      → IsRefusal (wrong_count op) r → IsRefusal (refusals s op) r
+      → IsRefusal (wrong_count op) r → IsRefusal (refusals s pins op) r
   unfolding refusals
   refused_count r known visible unpublished current linear h =
-      later (unknown_nodes s op) rows_from_hidden r known (later (hidden_parents s op) rows_from_public r visible
+      later (unknown_nodes s op) rows_from_hidden r known (later (hidden_parents s pins op) rows_from_public r visible
       (later (public_nodes s op) rows_from_obsolete r unpublished
       (later (obsolete_nodes s op) rows_from_not_linear r current
       (later (not_linear s op) rows_from_count r linear (sooner (wrong_count op) rows_from_raise r h)))))
 
-  pub refused_raise : (r : Refusal) → NoneApplies (unknown_nodes s op) → NoneApplies (hidden_parents s op)
+  pub refused_raise : (r : Refusal) → NoneApplies (unknown_nodes s op) → NoneApplies (hidden_parents s pins op)
       → NoneApplies (public_nodes s op) → NoneApplies (obsolete_nodes s op) → NoneApplies (not_linear s op)
-      → NoneApplies (wrong_count op) → IsRefusal (raise s op) r → IsRefusal (refusals s op) r
+      → NoneApplies (wrong_count op) → IsRefusal (raise s op) r → IsRefusal (refusals s pins op) r
   unfolding refusals
   refused_raise r known visible unpublished current linear counted h =
-      later (unknown_nodes s op) rows_from_hidden r known (later (hidden_parents s op) rows_from_public r visible
+      later (unknown_nodes s op) rows_from_hidden r known (later (hidden_parents s pins op) rows_from_public r visible
       (later (public_nodes s op) rows_from_obsolete r unpublished
       (later (obsolete_nodes s op) rows_from_not_linear r current
       (later (not_linear s op) rows_from_count r linear
       (later (wrong_count op) rows_from_raise r counted
       (sooner (raise s op) rows_from_unwritten r h))))))
 
-  pub refused_unwritten : (r : Refusal) → NoneApplies (unknown_nodes s op) → NoneApplies (hidden_parents s op)
+  pub refused_unwritten : (r : Refusal) → NoneApplies (unknown_nodes s op) → NoneApplies (hidden_parents s pins op)
       → NoneApplies (public_nodes s op) → NoneApplies (obsolete_nodes s op) → NoneApplies (not_linear s op)
       → NoneApplies (wrong_count op) → NoneApplies (raise s op) → IsRefusal (not_written s op) r
-      → IsRefusal (refusals s op) r
+      → IsRefusal (refusals s pins op) r
   unfolding refusals
   refused_unwritten r known visible unpublished current linear counted lowered h =
-      later (unknown_nodes s op) rows_from_hidden r known (later (hidden_parents s op) rows_from_public r visible
+      later (unknown_nodes s op) rows_from_hidden r known (later (hidden_parents s pins op) rows_from_public r visible
       (later (public_nodes s op) rows_from_obsolete r unpublished
       (later (obsolete_nodes s op) rows_from_not_linear r current
       (later (not_linear s op) rows_from_count r linear
@@ -127,13 +138,13 @@ module _ (s : ReplicaState) (op : Op) where
       (later (raise s op) rows_from_unwritten r lowered
       (sooner (not_written s op) rows_from_unmarked r h)))))))
 
-  pub refused_unmarked : (r : Refusal) → NoneApplies (unknown_nodes s op) → NoneApplies (hidden_parents s op)
+  pub refused_unmarked : (r : Refusal) → NoneApplies (unknown_nodes s op) → NoneApplies (hidden_parents s pins op)
       → NoneApplies (public_nodes s op) → NoneApplies (obsolete_nodes s op) → NoneApplies (not_linear s op)
       → NoneApplies (wrong_count op) → NoneApplies (raise s op) → NoneApplies (not_written s op)
-      → IsRefusal (not_marked s op) r → IsRefusal (refusals s op) r
+      → IsRefusal (not_marked s op) r → IsRefusal (refusals s pins op) r
   unfolding refusals
   refused_unmarked r known visible unpublished current linear counted lowered written h =
-      later (unknown_nodes s op) rows_from_hidden r known (later (hidden_parents s op) rows_from_public r visible
+      later (unknown_nodes s op) rows_from_hidden r known (later (hidden_parents s pins op) rows_from_public r visible
       (later (public_nodes s op) rows_from_obsolete r unpublished
       (later (obsolete_nodes s op) rows_from_not_linear r current
       (later (not_linear s op) rows_from_count r linear
@@ -143,39 +154,30 @@ module _ (s : ReplicaState) (op : Op) where
       (sooner (not_marked s op) rows_from_existing r h))))))))
 
   -- an entry, which is tried before anything is written
-  pub refused_entry : (r : Refusal) → NoneApplies (unknown_nodes s op) → NoneApplies (hidden_parents s op)
+  pub refused_entry : (r : Refusal) → NoneApplies (unknown_nodes s op) → NoneApplies (hidden_parents s pins op)
       → NoneApplies (public_nodes s op) → NoneApplies (obsolete_nodes s op) → NoneApplies (not_linear s op)
       → NoneApplies (wrong_count op) → NoneApplies (raise s op) → IsFirstRefusal (bad_entries op) r
-      → IsRefusal (refusals s op) r
+      → IsRefusal (refusals s pins op) r
   refused_entry r known visible unpublished current linear counted lowered h =
       refused_unwritten r known visible unpublished current linear counted lowered
       (sooner (bad_entries op) (map changeset_refused (new_changesets s.history op)) r (inr h))
 
   -- the user of a prune, which is tried before anything is written
-  pub refused_user : (r : Refusal) → NoneApplies (unknown_nodes s op) → NoneApplies (hidden_parents s op)
+  pub refused_user : (r : Refusal) → NoneApplies (unknown_nodes s op) → NoneApplies (hidden_parents s pins op)
       → NoneApplies (public_nodes s op) → NoneApplies (obsolete_nodes s op) → NoneApplies (not_linear s op)
       → NoneApplies (wrong_count op) → NoneApplies (raise s op) → IsFirstRefusal (bad_users op) r
-      → IsRefusal (refusals s op) r
+      → IsRefusal (refusals s pins op) r
   refused_user r known visible unpublished current linear counted lowered h =
       refused_unmarked r known visible unpublished current linear counted lowered (writes_nothing s op r h)
       (sooner (bad_users op) (map marker_refused (markers s.history op)) r (inr h))
 
-  -- the users are some, and so are the markers
-  pub none_unmarked : NoneApplies (bad_users op) → NoneApplies (map marker_refused (markers s.history op))
-      → NoneApplies (not_marked s op)
-  none_unmarked named marked = none_both (bad_users op) (map marker_refused (markers s.history op)) named marked
-
-  pub marks_refused : (r : Refusal) → NoneApplies (bad_users op)
-      → IsRefusal (map marker_refused (markers s.history op)) r → IsRefusal (not_marked s op) r
-  marks_refused r named h = later (bad_users op) (map marker_refused (markers s.history op)) r named h
-
-  pub refused_existing : (r : Refusal) → NoneApplies (unknown_nodes s op) → NoneApplies (hidden_parents s op)
+  pub refused_existing : (r : Refusal) → NoneApplies (unknown_nodes s op) → NoneApplies (hidden_parents s pins op)
       → NoneApplies (public_nodes s op) → NoneApplies (obsolete_nodes s op) → NoneApplies (not_linear s op)
       → NoneApplies (wrong_count op) → NoneApplies (raise s op) → NoneApplies (not_written s op)
-      → NoneApplies (not_marked s op) → IsRefusal (existing_ids s op) r → IsRefusal (refusals s op) r
+      → NoneApplies (not_marked s op) → IsRefusal (existing_ids s op) r → IsRefusal (refusals s pins op) r
   unfolding refusals
   refused_existing r known visible unpublished current linear counted lowered written marked h =
-      later (unknown_nodes s op) rows_from_hidden r known (later (hidden_parents s op) rows_from_public r visible
+      later (unknown_nodes s op) rows_from_hidden r known (later (hidden_parents s pins op) rows_from_public r visible
       (later (public_nodes s op) rows_from_obsolete r unpublished
       (later (obsolete_nodes s op) rows_from_not_linear r current
       (later (not_linear s op) rows_from_count r linear
@@ -184,13 +186,14 @@ module _ (s : ReplicaState) (op : Op) where
       (later (not_written s op) rows_from_unmarked r written
       (later (not_marked s op) rows_from_existing r marked h))))))))
 
-  none_of_table : NoneApplies (unknown_nodes s op) → NoneApplies (hidden_parents s op)
+  none_of_table : NoneApplies (unknown_nodes s op) → NoneApplies (hidden_parents s pins op)
       → NoneApplies (public_nodes s op) → NoneApplies (obsolete_nodes s op) → NoneApplies (not_linear s op)
       → NoneApplies (wrong_count op) → NoneApplies (raise s op) → NoneApplies (not_written s op)
-      → NoneApplies (not_marked s op) → NoneApplies (existing_ids s op) → NoneApplies (refusals s op)
+      → NoneApplies (not_marked s op) → NoneApplies (existing_ids s op) → NoneApplies (refusals s pins op)
   unfolding refusals
   none_of_table known visible unpublished current linear counted lowered written marked new =
-      none_both (unknown_nodes s op) rows_from_hidden known (none_both (hidden_parents s op) rows_from_public visible
+      none_both (unknown_nodes s op) rows_from_hidden known
+      (none_both (hidden_parents s pins op) rows_from_public visible
       (none_both (public_nodes s op) rows_from_obsolete unpublished
       (none_both (obsolete_nodes s op) rows_from_not_linear current
       (none_both (not_linear s op) rows_from_count linear
@@ -200,11 +203,11 @@ module _ (s : ReplicaState) (op : Op) where
       (none_both (not_marked s op) rows_from_existing marked new))))))))
 
   -- all checks have passed
-  pub decided : IsValid s.history → NoneApplies (unknown_nodes s op) → NoneApplies (hidden_parents s op)
+  pub decided : IsValid s.history → NoneApplies (unknown_nodes s op) → NoneApplies (hidden_parents s pins op)
       → NoneApplies (public_nodes s op) → NoneApplies (obsolete_nodes s op) → NoneApplies (not_linear s op)
       → NoneApplies (wrong_count op) → NoneApplies (raise s op) → NoneApplies (not_written s op)
       → NoneApplies (not_marked s op) → NoneApplies (existing_ids s op) → (part : PartValue)
-      → part ≡ part_of s op → DecideAnswer s op (Ok part)
+      → part ≡ part_of s op → DecideAnswer s pins op (Ok part)
   decided valid known visible unpublished current linear counted lowered written marked new part is = (
     none_of_table known visible unpublished current linear counted lowered written marked new,
     is,

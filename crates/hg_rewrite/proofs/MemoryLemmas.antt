@@ -42,23 +42,23 @@ told answer passed r is same memory = let e : passed ≡ NoMemory = cc in sym sa
 pub never : {A : Type 0} (rows : List Row) (r : Refusal) → AreTelling rows → IsFirstRefusal rows r → r ≡ NoMemory → A
 never rows r tells first is = absurd (no_memory rows tells (subst (IsFirstRefusal rows) is first))
 
-module _ (s : ReplicaState) (op : Op) (known : NoneApplies (unknown_nodes s op)) where
-  pub wanting_hidden : WalksForHidden s op → MayWantMemory s op
+module _ (s : ReplicaState) (pins : List Node) (op : Op) (known : NoneApplies (unknown_nodes s op)) where
+  pub wanting_hidden : WalksForHidden s op → MayWantMemory s pins op
   wanting_hidden walks = inl (known, walks)
 
-  module _ (visible : NoneApplies (hidden_parents s op)) (unpublished : NoneApplies (public_nodes s op))
+  module _ (visible : NoneApplies (hidden_parents s pins op)) (unpublished : NoneApplies (public_nodes s op))
       (current : NoneApplies (obsolete_nodes s op)) where
-    before : NoneApplies (rows_before_descendants s op)
+    before : NoneApplies (rows_before_descendants s pins op)
     before =
         none_both (unknown_nodes s op) _ known
-        (none_both (hidden_parents s op) _ visible
+        (none_both (hidden_parents s pins op) _ visible
         (none_both (public_nodes s op) (obsolete_nodes s op) unpublished current))
 
-    pub wanting_descendants : WalksForDescendants s.history op → MayWantMemoryLater s op
+    pub wanting_descendants : WalksForDescendants s.history op → MayWantMemoryLater s pins op
     wanting_descendants walks = inl (before, walks)
 
     pub wanting_later : NoneApplies (not_linear s op) → NoneApplies (wrong_count op) → NoneApplies (raise s op)
-        → NoneApplies (bad_entries op) → NoneApplies (bad_users op) → MayWantMemoryLater s op
+        → NoneApplies (bad_entries op) → NoneApplies (bad_users op) → MayWantMemoryLater s pins op
     wanting_later linear counted lowered entered named =
         inr (
           before,

@@ -97,8 +97,8 @@ module _ (s : ReplicaState) (op : Op) where
       (mapped (unknown s.history) (λ n. where_so_tells _ (Unknown n) (λ e. cc)) (targets op))
       (mapped (unknown_parent s.history) (λ n. where_so_tells _ (Unknown n) (λ e. cc)) (new_parents op))
 
-  hidden_tells : AreTelling (hidden_parents s op)
-  hidden_tells = mapped (hidden s) (λ n. where_so_tells _ (Hidden n) (λ e. cc)) (new_parents op)
+  hidden_tells : (pins : List Node) → AreTelling (hidden_parents s pins op)
+  hidden_tells pins = mapped (hidden s pins) (λ n. where_so_tells _ (Hidden n) (λ e. cc)) (new_parents op)
 
   pub public_tells : AreTelling (public_nodes s op)
   public_tells = mapped (is_public s.history) (λ n. where_so_tells _ (Public n) (λ e. cc)) (rewritten op)
@@ -131,11 +131,11 @@ module _ (s : ReplicaState) (op : Op) where
   existing_ids_tells : AreTelling (existing_ids s op)
   existing_ids_tells = existing_tells s.history (new_ids s.history op)
 
-  pub table_tells : AreTelling (refusals s op)
+  pub table_tells : (pins : List Node) → AreTelling (refusals s pins op)
   unfolding refusals
-  table_tells =
+  table_tells pins =
       both (unknown_nodes s op) _ unknown_tells
-      (both (hidden_parents s op) _ hidden_tells
+      (both (hidden_parents s pins op) _ (hidden_tells pins)
       (both (public_nodes s op) _ public_tells
       (both (obsolete_nodes s op) _ obsolete_tells (
         not_linear_tells.0,

@@ -2,6 +2,7 @@
 use Rattle.std.specs.Prelude.{◌≡◌, ◌⊎◌, ℕ, List, map, Result, Ok, Err}
 use Rattle.std.specs.declared.vec.Vec.{Vec}
 use Rattle.std.specs.declared.alloc.Global.{Global}
+use Rattle.hg_changeset.specs.declared.node.Node.{Node}
 use Rattle.hg_changeset.specs.declared.entry.EntryError.{EntryError}
 use Rattle.hg_changeset.specs.declared.entry.EntryError.TheVariants as error
 use Rattle.hg_changeset.specs.EntryValue.{EntryValue}
@@ -19,10 +20,10 @@ use Rattle.hg_rewrite.specs.Refusals.{Row, refusals, entry_refused, NoneApplies,
 abbrev pub IsRefusal : List Row → Refusal → Type 0
 IsRefusal rows r = (r ≡ NoMemory) ⊎ IsFirstRefusal rows r
 
--- the operation's part, which can be absorbed here, or the first refusal that applies
-abbrev pub DecideAnswer : ReplicaState → Op → Result PartValue Refusal → Type 0
-DecideAnswer s op (Ok part) = NoneApplies (refusals s op) × (part ≡ part_of s op) × IsAdmitted s part
-DecideAnswer s op (Err r) = IsRefusal (refusals s op) r
+-- the operation's part, which can be absorbed here, or the first refusal that applies under the pins
+abbrev pub DecideAnswer : ReplicaState → List Node → Op → Result PartValue Refusal → Type 0
+DecideAnswer s pins op (Ok part) = NoneApplies (refusals s pins op) × (part ≡ part_of s op) × IsAdmitted s part
+DecideAnswer s pins op (Err r) = IsRefusal (refusals s pins op) r
 
 -- the answer of a check that tries these rows, and takes no memory
 abbrev pub Checked : List Row → Result (Unit {0}) Refusal → Type 0

@@ -45,19 +45,20 @@ WalksForDescendants s (Relocate node p q entry) = StandsBeforeParent s node p q
 WalksForDescendants s (Advance node phase) = ⊥
 
 -- the rows that are tried before that walk
-abbrev pub rows_before_descendants : ReplicaState → Op → List Row
-rows_before_descendants s op = unknown_nodes s op ++ (hidden_parents s op ++ (public_nodes s op ++ obsolete_nodes s op))
+abbrev pub rows_before_descendants : ReplicaState → List Node → Op → List Row
+rows_before_descendants s pins op =
+    unknown_nodes s op ++ (hidden_parents s pins op ++ (public_nodes s op ++ obsolete_nodes s op))
 
 -- the rows that are tried after it, before anything is written
 abbrev pub rows_before_writing : ReplicaState → Op → List Row
 rows_before_writing s op = not_linear s op ++ (wrong_count op ++ (raise s op ++ (bad_entries op ++ bad_users op)))
 
 -- memory may be wanting at one of the two later steps, and no row that is tried before it applies
-abbrev pub MayWantMemoryLater : ReplicaState → Op → Type 0
-MayWantMemoryLater s op =
-    (NoneApplies (rows_before_descendants s op) × WalksForDescendants s.history op)
-    ⊎ (NoneApplies (rows_before_descendants s op) × NoneApplies (rows_before_writing s op))
+abbrev pub MayWantMemoryLater : ReplicaState → List Node → Op → Type 0
+MayWantMemoryLater s pins op =
+    (NoneApplies (rows_before_descendants s pins op) × WalksForDescendants s.history op)
+    ⊎ (NoneApplies (rows_before_descendants s pins op) × NoneApplies (rows_before_writing s op))
 
 -- memory may be wanting at one of the three steps, and no row that is tried before it applies
-abbrev pub MayWantMemory : ReplicaState → Op → Type 0
-MayWantMemory s op = (NoneApplies (unknown_nodes s op) × WalksForHidden s op) ⊎ MayWantMemoryLater s op
+abbrev pub MayWantMemory : ReplicaState → List Node → Op → Type 0
+MayWantMemory s pins op = (NoneApplies (unknown_nodes s op) × WalksForHidden s op) ⊎ MayWantMemoryLater s pins op

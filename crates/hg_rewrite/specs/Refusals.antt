@@ -16,7 +16,8 @@ use Rattle.hg_marker.specs.Fields.{Fields}
 use Rattle.hg_marker.specs.Making.{marker_of}
 use Rattle.hg_replica.specs.State.{ReplicaState}
 use Rattle.hg_replica.specs.Content.{content_of}
-use Rattle.hg_replica.specs.Evolution.{IsObsolete, IsHidden}
+use Rattle.hg_replica.specs.Evolution.{IsObsolete}
+use Rattle.hg_view.specs.Pins.{IsHiddenUnder}
 use Rattle.hg_rewrite.specs.declared.op.Op.{Op}
 use Rattle.hg_rewrite.specs.declared.op.Op.TheVariants.{Commit, Amend, Split, Fold, Prune, Relocate, Advance}
 use Rattle.hg_rewrite.specs.declared.refusal.Refusal.{Refusal}
@@ -79,13 +80,13 @@ unknown_parent s n = where_so ((n ≢ null_node) × ¬ (Holds s n)) (Unknown n)
 abbrev pub unknown_nodes : ReplicaState → Op → List Row
 unknown_nodes s op = map (unknown s.history) (targets op) ++ map (unknown_parent s.history) (new_parents op)
 
--- ---- 2: a new parent is hidden
+-- ---- 2: a new parent is hidden under the pins
 
-abbrev pub hidden : ReplicaState → Node → Row
-hidden s n = where_so (IsHidden (content_of s) n) (Hidden n)
+abbrev pub hidden : ReplicaState → List Node → Node → Row
+hidden s pins n = where_so (IsHiddenUnder (content_of s) pins n) (Hidden n)
 
-abbrev pub hidden_parents : ReplicaState → Op → List Row
-hidden_parents s op = map (hidden s) (new_parents op)
+abbrev pub hidden_parents : ReplicaState → List Node → Op → List Row
+hidden_parents s pins op = map (hidden s pins) (new_parents op)
 
 -- ---- 3 and 4: a node to be rewritten is public, or is obsolete
 
@@ -206,10 +207,10 @@ existing_ids s op = existing s.history (new_ids s.history op)
 -- ---- the table
 
 -- all rows, in the order in which they are tried
-unfoldable pub refusals : ReplicaState → Op → List Row
-refusals s op =
+unfoldable pub refusals : ReplicaState → List Node → Op → List Row
+refusals s pins op =
     unknown_nodes s op
-    ++ (hidden_parents s op
+    ++ (hidden_parents s pins op
     ++ (public_nodes s op
     ++ (obsolete_nodes s op
     ++ (not_linear s op

@@ -19,7 +19,7 @@ use crate::refusal::{Cause, Refusal};
 use hg_changeset::{Entry, Node, check_entry, check_user, trimmed_user};
 use hg_instab::is_obsolete;
 use hg_replica::Replica;
-use hg_view::Kept;
+use hg_view::{Kept, Pins};
 use std::alloc::{AllocError, Global};
 use std::slice;
 
@@ -107,34 +107,45 @@ fn check_parents_held(replica: &Replica, p: Node, q: Node) -> Result<(), Refusal
     Ok(())
 }
 
-// Refuses a new parent that is hidden.
-pub(crate) fn check_visible(alloc: Global, replica: &Replica, op: &Op) -> Result<(), Refusal>
-    ensures answer { CheckedInMemory (hidden_parents replica.now op.now) result }
+// Refuses a new parent that is hidden under the pins.
+pub(crate) fn check_visible(
+    alloc: Global,
+    replica: &Replica,
+    pins: &Pins,
+    op: &Op,
+) -> Result<(), Refusal>
+    ensures answer { CheckedInMemory (hidden_parents replica.now pins.now op.now) result }
     ensures memory { IsErrOf result Refusal.NoMemory → WalksForHidden replica.now op.now }
 {
     match new_parents(op) {
-        Some((p, q)) => check_parents_visible(alloc, replica, p, q),
+        Some((p, q)) => check_parents_visible(alloc, replica, pins, p, q),
         None => Ok(()),
     }
 }
 
-fn check_parents_visible(alloc: Global, replica: &Replica, p: Node, q: Node) -> Result<(), Refusal>
-    ensures answer { CheckedInMemory (map (hidden replica.now) (p ∷ q ∷ [])) result }
+fn check_parents_visible(
+    alloc: Global,
+    replica: &Replica,
+    pins: &Pins,
+    p: Node,
+    q: Node,
+) -> Result<(), Refusal>
+    ensures answer { CheckedInMemory (map (hidden replica.now pins.now) (p ∷ q ∷ [])) result }
     ensures memory { IsErrOf result Refusal.NoMemory → IsObsolete (content_of replica.now) p
         ⊎ IsObsolete (content_of replica.now) q }
 {
-    if is_hidden(alloc, replica, p)? {
+    if is_hidden(alloc, replica, pins, p)? {
         return Err(Refusal::Hidden(p));
     }
-    if is_hidden(alloc, replica, q)? {
+    if is_hidden(alloc, replica, pins, q)? {
         return Err(Refusal::Hidden(q));
     }
     Ok(())
 }
 
-// Refuses a new parent that is hidden, by what is kept.
+// Refuses a new parent that is hidden under the pins that are kept, by what is kept.
 pub(crate) fn check_shown(kept: &Kept, op: &Op) -> Result<(), Refusal>
-    ensures { Checked (hidden_parents kept.now op.now) result }
+    ensures { Checked (hidden_parents kept.now.replica kept.now.pins op.now) result }
 {
     match new_parents(op) {
         Some((p, q)) => check_parents_shown(kept, p, q),
@@ -143,7 +154,7 @@ pub(crate) fn check_shown(kept: &Kept, op: &Op) -> Result<(), Refusal>
 }
 
 fn check_parents_shown(kept: &Kept, p: Node, q: Node) -> Result<(), Refusal>
-    ensures { Checked (map (hidden kept.now) (p ∷ q ∷ [])) result }
+    ensures { Checked (map (hidden kept.now.replica kept.now.pins) (p ∷ q ∷ [])) result }
 {
     if is_hidden_in(kept, p) {
         return Err(Refusal::Hidden(p));

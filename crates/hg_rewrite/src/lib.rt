@@ -1,10 +1,10 @@
 //! The rewriting of history: what an operation does at a replica, or why it is refused.
 //!
-//! An operation is decided from the state of one replica, and gives a part, which that replica can absorb, and any
-//! other one that admits it. Nothing is changed here. The table of operations is read column by column: the new
-//! changesets come from the parents of the first and the texts of the entries, the bound stands on the last of them,
-//! and each node that is rewritten has a marker that names them all. The table of refusals is tried row by row before
-//! that, each number over the whole operation.
+//! An operation is decided from the state of one replica and the pins of its node, and gives a part, which that replica
+//! can absorb, and any other one that admits it. Nothing is changed here. The table of operations is read column by
+//! column: the new changesets come from the parents of the first and the texts of the entries, the bound stands on the
+//! last of them, and each node that is rewritten has a marker that names them all. The table of refusals is tried row
+//! by row before that, each number over the whole operation.
 #![tactic(auto)]
 
 mod bounds;

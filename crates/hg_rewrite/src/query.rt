@@ -2,7 +2,8 @@
 ghost use Rattle.std.specs.Prelude.{◌≡◌, ◌↔◌, Contains, IfOk, OnErr, IsTrue};
 ghost use Rattle.hg_phases.specs.State.{Holds};
 ghost use Rattle.hg_replica.specs.Content.{content_of};
-ghost use Rattle.hg_replica.specs.Evolution.{IsObsolete, IsHidden};
+ghost use Rattle.hg_replica.specs.Evolution.{IsObsolete};
+ghost use Rattle.hg_view.specs.Pins.{IsHiddenUnder};
 ghost use Rattle.hg_rewrite.specs.Reading.{phase_in, parents_in, highest};
 ghost use Rattle.hg_phases.specs.declared.phase.Phase.TheVariants.{Public as public_phase};
 
@@ -60,22 +61,28 @@ pub(crate) fn contains(nodes: &[Node], node: Node) -> bool
     nodes.contains(&node)
 }
 
-// Whether it is hidden. Memory is wanted only for one that is obsolete.
-pub(crate) fn is_hidden(alloc: Global, replica: &Replica, node: Node) -> Result<bool, AllocError>
-    ensures answer { IfOk result (λ answer. IsTrue answer ↔ IsHidden (content_of replica.now) node) }
+// Whether it is hidden under the pins. Memory is wanted only for one that is obsolete.
+pub(crate) fn is_hidden(
+    alloc: Global,
+    replica: &Replica,
+    pins: &Pins,
+    node: Node,
+) -> Result<bool, AllocError>
+    ensures answer { IfOk result (λ answer. IsTrue answer
+        ↔ IsHiddenUnder (content_of replica.now) pins.now node) }
     ensures memory { OnErr result (IsObsolete (content_of replica.now) node) }
 {
     let graph = replica.graph();
     if !graph.contains(node) {
         return Ok(false);
     }
-    let is_visible = is_visible(alloc, replica, &Pins::new(alloc), node)?;
+    let is_visible = is_visible(alloc, replica, pins, node)?;
     Ok(!is_visible)
 }
 
-// Whether it is hidden, by what is kept: it takes no memory.
+// Whether it is hidden under the pins that are kept, by what is kept: it takes no memory.
 pub(crate) fn is_hidden_in(kept: &Kept, node: Node) -> bool
-    ensures { IsTrue result ↔ IsHidden (content_of kept.now) node }
+    ensures { IsTrue result ↔ IsHiddenUnder (content_of kept.now.replica) kept.now.pins node }
 {
     holds(kept.replica(), node) && !kept.is_visible(node)
 }

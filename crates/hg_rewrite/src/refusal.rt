@@ -25,7 +25,7 @@ pub enum Cause {
 pub enum Refusal {
     /// A named node isn't held.
     Unknown(Node),
-    /// A parent that a commit or a relocate names is hidden.
+    /// A parent that a commit or a relocate names is hidden under the pins.
     Hidden(Node),
     /// A node to be rewritten is public.
     Public(Node),

@@ -4,7 +4,7 @@ use hg_marker::{Parents, encode};
 use hg_phases::Phase;
 use hg_replica::{Part, Replica};
 use hg_rewrite::{Cause, Op, Refusal, decide, decide_kept};
-use hg_view::Kept;
+use hg_view::{Kept, Pins};
 use std::alloc::{AllocError, Global};
 use std::collections::BTreeMap;
 use std::process::Abort;
@@ -25,6 +25,8 @@ const S3_ON_S2: &[u8] = b"b1b9de87b803f6cae0961ebcca03ea0477b3a31a";
 const F: &[u8] = b"bfb2e47e53835cfaa68462f9ef32b1b28c1bd073";
 
 const G_FOR_F: &[u8] = b"93d0cacec425cc7e930eda2b087f625a5bb084c3";
+
+const H_ON_A: &[u8] = b"b628cfffb3d62cd819f8855d31f2d2bf4d8b9b84";
 
 const B_TEXT: &[u8] =
     b"0000000000000000000000000000000000000000\nfleet\n0 0 amend_source:f96ca39738e6588d0bf7020cd1d44a23774c1b77\n\nb";
@@ -95,7 +97,7 @@ fn relocate(node: Node, p: Node, entry: Entry) -> Op {
 }
 
 fn decided(rt: &impl Abort, alloc: Global, replica: &Replica, op: &Op) -> Part {
-    decide(alloc, replica, op).expect(rt, "a part")
+    decide(alloc, replica, &Pins::new(alloc), op).expect(rt, "a part")
 }
 
 fn absorb(rt: &impl Abort, replica: &mut Replica, part: &Part) {
@@ -140,7 +142,8 @@ fn expect_marker(
 }
 
 fn expect_refusal(rt: &impl Abort, alloc: Global, replica: &Replica, op: Op, refusal: Refusal) {
-    assert_eq!(rt; decide(alloc, replica, &op).err(), Some(refusal));
+    let answer = decide(alloc, replica, &Pins::new(alloc), &op);
+    assert_eq!(rt; answer.err(), Some(refusal));
 }
 
 // A replica that holds the draft root `a`.
@@ -235,6 +238,28 @@ fn a_kept_replica_lets_nothing_stand_on_what_is_hidden(rt: HostRuntime) {
     let op = commit(id(&rt, A), entry(&rt, alloc, b"h"));
     let refusal = decide_kept(alloc, &kept, &op).err();
     assert_eq!(rt; refusal, Some(Refusal::Hidden(id(&rt, A))));
+}
+
+#[test]
+fn what_is_hidden_has_a_child_where_it_is_pinned(rt: HostRuntime) {
+    let alloc = rt.alloc();
+    let mut replica = start(&rt, alloc);
+    let node = id(&rt, A);
+    let op = amend(node, entry(&rt, alloc, b"b"));
+    run(&rt, alloc, &mut replica, op, &[B_FOR_A], Phase::Draft);
+    let op = commit(node, entry(&rt, alloc, b"h"));
+    let mut pins = Pins::new(alloc);
+    let refusal = decide(alloc, &replica, &pins, &op).err();
+    assert_eq!(rt; refusal, Some(Refusal::Hidden(node)));
+    pins.pin(&replica, node).expect(&rt, "a pin");
+    let part = decide(alloc, &replica, &pins, &op).expect(&rt, "a part");
+    expect_ids(&rt, &part, &[H_ON_A], Phase::Draft);
+    let mut kept = Kept::new(alloc, replica).expect(&rt, "memory");
+    let refusal = decide_kept(alloc, &kept, &op).err();
+    assert_eq!(rt; refusal, Some(Refusal::Hidden(node)));
+    kept.pin(node).expect(&rt, "a pin");
+    let part = decide_kept(alloc, &kept, &op).expect(&rt, "a part");
+    expect_ids(&rt, &part, &[H_ON_A], Phase::Draft);
 }
 
 #[test]
@@ -335,7 +360,7 @@ fn with_colon(rt: &impl Abort, alloc: Global) -> Entry {
 
 // Where one growth is refused, the answer tells it, and the next answer is right.
 fn decided_at_last(rt: &impl Abort, alloc: Global, replica: &Replica, op: &Op) -> Part {
-    match decide(alloc, replica, op) {
+    match decide(alloc, replica, &Pins::new(alloc), op) {
         Ok(part) => part,
         Err(refusal) => {
             assert_eq!(rt; refusal, Refusal::NoMemory);

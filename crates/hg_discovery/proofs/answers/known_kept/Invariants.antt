@@ -4,4 +4,4 @@ use Rattle.hg_discovery.specs.Rounds.{AreKnown}
 use Rattle.hg_discovery.proofs.answers.known_kept.Given as goal
 
 abbrev pub invariant-loop-node : goal.invariant-loop-node
-invariant-loop-node l = AreKnown (content_of l.kept) (take l.node-index l.nodes) l.answers.items
+invariant-loop-node l = AreKnown (content_of l.kept.replica) l.kept.pins (take l.node-index l.nodes) l.answers.items

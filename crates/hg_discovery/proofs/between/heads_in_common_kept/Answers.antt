@@ -1,15 +1,13 @@
-use Rattle.std.proofs.Common.{◌↔◌, sym, subst}
-use Rattle.hg_changeset.specs.declared.node.Node.{Node}
-use Rattle.hg_graph.specs.Marks.{IsMarkedNode}
-use Rattle.hg_phases.specs.State.{changesets}
-use Rattle.hg_replica.specs.State.{ReplicaState}
-use Rattle.hg_replica.specs.Content.{content_of}
-use Rattle.hg_replica.specs.Evolution.{IsServed}
+use Rattle.std.proofs.lemmas.Result.{IfOk-weaker}
 use Rattle.hg_discovery.proofs.KnownLemmas.{served_as}
 use Rattle.hg_discovery.proofs.between.heads_in_common_kept.Goals as goal
 
-pub ask_in_rounds-requires-clause-exact : goal.ask_in_rounds-requires-clause-exact
-ask_in_rounds-requires-clause-exact c = subst (λ (s : ReplicaState). (n : Node)
-    → IsMarkedNode (changesets s.history) c.deref.result.now n ↔ IsServed (content_of s) n)
-    (sym c.replica-2.ensures.replica)
-    (served_as c.args.other.now _ _ c.deref.ensures.value c.in_ok-served.ensures.exact)
+pub returns-clause-heads : goal.returns-clause-heads
+returns-clause-heads c =
+    let asker = c.replica.ensures.replica in
+    let other = c.replica-2.ensures.replica in
+    let told = rw other at c.ask_in_rounds.ensures.heads in
+    let heads = rw asker at told in
+    IfOk-weaker c.ask_in_rounds.result _ _ (λ heads found. found c.args.other.now.pins
+    (served_as c.args.other.now.replica c.args.other.now.pins _ _ c.deref.ensures.value
+    c.in_ok-served.ensures.exact)) heads

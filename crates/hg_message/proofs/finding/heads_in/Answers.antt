@@ -22,12 +22,13 @@ returns c =
     subst (λ (ms : List Bool). (n : Node) → IsMarkedNode cs ms n
     ↔ (IsMarkedNode cs c.args.served.now n × HasPhase f n c.args.phase))
     (sym c.deref.ensures.value) c.in_ok-marks.ensures.exact in
-    let are : (n : Node) → IsMarkedNode cs marks n ↔ IsServedAs f c.args.phase n = λ n. (
-      λ h. let x = (told n).0 h in ((c.requires.exact n).0 x.0, x.1),
-      λ h. (told n).1 ((c.requires.exact n).1 h.0, h.1),
-    ) in
     IfOk-weaker c.marked_heads.result _ _
-    (λ heads is. heads-are s c.graph.ensures.valid (IsServedAs f c.args.phase) (IsMarkedNode cs marks)
+    (λ heads is pins served.
+    let are : (n : Node) → IsMarkedNode cs marks n ↔ IsServedAs f pins c.args.phase n = λ n. (
+      λ h. let x = (told n).0 h in ((served.exact n).0 x.0, x.1),
+      λ h. (told n).1 ((served.exact n).1 h.0, h.1),
+    ) in
+    heads-are s c.graph.ensures.valid (IsServedAs f pins c.args.phase) (IsMarkedNode cs marks)
     (λ n h. (h.1.0, h.1.1)) heads.items are
     (subst (λ (ds : List Contents). (n : Node) → Contains heads.items n ↔ IsHeadAmong ds (IsMarkedNode ds marks) n)
     c.graph.ensures.graph is.0)

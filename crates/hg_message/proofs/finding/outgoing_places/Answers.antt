@@ -19,13 +19,13 @@ use Rattle.hg_message.proofs.finding.outgoing_places.Goals.{else-served-place-vi
 use Rattle.hg_message.proofs.finding.outgoing_places.Goals.{else-served-place-via-else-served-place}
 
 pub loop-place-preserved : goal.loop-place-preserved
-loop-place-preserved c =
+loop-place-preserved c = λ pins are.
     let s = c.args.replica.now in
     let cs = changesets s.history in
     let common = c.args.common.now in
     let known = c.in_ok-known.known.items in
     let i = c.loop-place.place in
-    let Q : ℕ → Type 0 = λ k. (x : Contents) × (slice_get cs k ≡ Some x) × IsOutgoing (content_of s) common x in
+    let Q : ℕ → Type 0 = λ k. (x : Contents) × (slice_get cs k ≡ Some x) × IsOutgoing (content_of s) pins common x in
     let so_far = c.loop-place.found.items in
     let is_known : (n : Node) → IsMarkedNode cs known n ↔ IsAncestorOfOne cs common n =
     subst (λ (ds : List Contents). (n : Node) → IsMarkedNode ds known n ↔ IsAncestorOfOne ds common n)
@@ -33,20 +33,20 @@ loop-place-preserved c =
     let within : i < length known = omega (
       arith,
       c.loop-place-test.true,
-      c.requires.served.len,
+      c.requires.len,
       c.in_ok-known.ensures.len,
       ap length c.graph-graph.ensures.graph,
     ) in
-    let told = outgoing-marked s c.graph-graph.ensures.valid common c.requires.common c.args.served.now known
-    c.requires.served.exact is_known i c.loop-place-test.true within in
-    let there = slice_get_some cs i (omega (arith, c.loop-place-test.true, c.requires.served.len)) in
+    let told = outgoing-marked s c.graph-graph.ensures.valid pins common c.requires.common c.args.served.now known
+    are.exact is_known i c.loop-place-test.true within in
+    let there = slice_get_some cs i (omega (arith, c.loop-place-test.true, c.requires.len)) in
     elim c.if-served-place.branch [
       | then-served-place+then-not-index+in_ok-push w ↦
           let read = get_or_read known i w.index.result.now within w.index.ensures false in
           let not : ¬ (get_or known i false ≡ true) = λ h. true≢false (sym h ∙ sym read ∙ w.if-not-index.true) in
-          rw (w.found-is, w.in_ok-push.ensures.items) (one_more Q so_far i c.loop-place.invariant
+          rw (w.found-is, w.in_ok-push.ensures.items) (one_more Q so_far i (c.loop-place.invariant pins are)
           (there.0, there.1, (told there.0 there.1).0 (w.if-served-place.true, not)))
-      | else-served-place w ↦ rw w.found-is (no_more Q so_far i c.loop-place.invariant (λ q.
+      | else-served-place w ↦ rw w.found-is (no_more Q so_far i (c.loop-place.invariant pins are) (λ q.
           let marks = (told q.0 q.1).1 q.2 in
           elim w.else-served-place.branch [
             | else-served-place-via-then-served-place+else-not-index v ↦
@@ -57,9 +57,9 @@ loop-place-preserved c =
     ]
 
 pub returns-clause-places : goal.returns-clause-places
-returns-clause-places c =
+returns-clause-places c = λ pins are.
     let s = c.args.replica.now in
     let cs = changesets s.history in
-    all_listed (λ k. (x : Contents) × (slice_get cs k ≡ Some x) × IsOutgoing (content_of s) c.args.common.now x)
-    c.loop-place.found.items c.loop-place.place c.loop-place.invariant
-    (λ k q. omega (arith, slice_get_within cs k q.0 q.1, c.requires.served.len, c.loop-place-test.false))
+    all_listed (λ k. (x : Contents) × (slice_get cs k ≡ Some x) × IsOutgoing (content_of s) pins c.args.common.now x)
+    c.loop-place.found.items c.loop-place.place (c.loop-place.invariant pins are)
+    (λ k q. omega (arith, slice_get_within cs k q.0 q.1, c.requires.len, c.loop-place-test.false))

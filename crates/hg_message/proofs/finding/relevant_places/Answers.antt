@@ -8,8 +8,8 @@ use Rattle.hg_obsstore.specs.Markers.{ArePlaces}
 use Rattle.hg_phases.specs.State.{changesets}
 use Rattle.hg_relevant.specs.Relevant.{IsRelevant}
 use Rattle.hg_replica.specs.Content.{content_of}
-use Rattle.hg_replica.specs.Evolution.{IsServed}
 use Rattle.hg_instab.proofs.SetLemmas.{along}
+use Rattle.hg_view.specs.Pins.{IsServedUnder}
 use Rattle.hg_view.proofs.ViewLemmas.{marked-are}
 use Rattle.hg_message.proofs.OfferLemmas.{places-offered}
 use Rattle.hg_message.proofs.finding.relevant_places.Goals as goal
@@ -21,10 +21,11 @@ returns c =
     let nodes = c.in_ok-nodes.nodes.items in
     let select = subst (λ (ds : List Contents). Selects ds (IsMarkedNode ds c.args.served.now) nodes)
     c.graph.ensures.graph c.in_ok-nodes.ensures in
-    let are : (n : Node) → Contains nodes n ↔ IsServed (content_of s) n =
-    λ n. along (marked-are cs c.args.served.now nodes select n) (c.requires.exact n) in
     IfOk-weaker c.relevant_near.result _ _
-    (λ places all. places-offered s nodes c.store.result.now places.items are c.store.ensures
+    (λ places all pins served.
+    let are : (n : Node) → Contains nodes n ↔ IsServedUnder (content_of s) pins n =
+    λ n. along (marked-are cs c.args.served.now nodes select n) (served.exact n) in
+    places-offered s pins nodes c.store.result.now places.items are c.store.ensures
     (subst (λ (ns : List Node). ArePlaces (IsRelevant (Contains c.store.result.now) (Contains ns)) c.store.result.now
     places.items) c.deref.ensures.value all))
     c.relevant_near.ensures

@@ -8,7 +8,7 @@ pub returns-clause-bounds : goal.returns-clause-bounds
 returns-clause-bounds c = served-bounds
 
 pub returns-clause-secret : goal.returns-clause-secret
-returns-clause-secret c = λ f n secret served. served.1 secret
+returns-clause-secret c = λ f pins n secret served. served.1 secret
 
 pub returns-clause-hidden : goal.returns-clause-hidden
-returns-clause-hidden c = λ f n hidden served. hidden.1 served.0
+returns-clause-hidden c = λ f pins n hidden served. hidden.1 served.0

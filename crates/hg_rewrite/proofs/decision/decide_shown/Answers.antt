@@ -15,89 +15,89 @@ use Rattle.hg_rewrite.proofs.MemoryLemmas.{told, never, wanting_descendants, wan
 use Rattle.hg_rewrite.proofs.decision.decide_shown.Goals as goal
 
 pub returns-in_err-check_not_public-clause-answer : goal.returns-in_err-check_not_public-clause-answer
-returns-in_err-check_not_public-clause-answer c =
+returns-in_err-check_not_public-clause-answer c = λ pins shown.
     let p = err_from_is_err_and c.from_residual.result
     c.from_residual.ensures.1 in
-    rw (p.1, p.2) (refused_public c.args.replica.now c.args.op.now c.in_err-check_not_public.field-0.0
-    c.requires.known c.requires.shown (inr c.in_err-check_not_public.ensures))
+    rw (p.1, p.2) (refused_public c.args.replica.now pins c.args.op.now c.in_err-check_not_public.field-0.0
+    c.requires.known shown (inr c.in_err-check_not_public.ensures))
 
 pub returns-in_err-check_not_obsolete-clause-answer : goal.returns-in_err-check_not_obsolete-clause-answer
-returns-in_err-check_not_obsolete-clause-answer c =
+returns-in_err-check_not_obsolete-clause-answer c = λ pins shown.
     let p = err_from_is_err_and c.from_residual-in_err-check_not_obsolete.result
     c.from_residual-in_err-check_not_obsolete.ensures.1 in
-    rw (p.1, p.2) (refused_obsolete c.args.replica.now c.args.op.now c.in_err-check_not_obsolete.field-0.0
-    c.requires.known c.requires.shown c.in_ok-check_not_public.ensures
+    rw (p.1, p.2) (refused_obsolete c.args.replica.now pins c.args.op.now c.in_err-check_not_obsolete.field-0.0
+    c.requires.known shown c.in_ok-check_not_public.ensures
     (inr c.in_err-check_not_obsolete.ensures))
 
 pub returns-in_err-check_linear-clause-answer : goal.returns-in_err-check_linear-clause-answer
-returns-in_err-check_linear-clause-answer c =
+returns-in_err-check_linear-clause-answer c = λ pins shown.
     let p = err_from_is_err_and c.from_residual-in_err-check_linear.result
     c.from_residual-in_err-check_linear.ensures.1 in
-    rw (p.1, p.2) (refused_not_linear c.args.replica.now c.args.op.now c.in_err-check_linear.field-0.0
-    c.requires.known c.requires.shown c.in_ok-check_not_public.ensures
+    rw (p.1, p.2) (refused_not_linear c.args.replica.now pins c.args.op.now c.in_err-check_linear.field-0.0
+    c.requires.known shown c.in_ok-check_not_public.ensures
     c.in_ok-check_not_obsolete.ensures c.in_err-check_linear.ensures.answer)
 
 pub returns-in_err-check_count-clause-answer : goal.returns-in_err-check_count-clause-answer
-returns-in_err-check_count-clause-answer c =
+returns-in_err-check_count-clause-answer c = λ pins shown.
     let p = err_from_is_err_and c.from_residual-in_err-check_count.result c.from_residual-in_err-check_count.ensures.1
     in
-    rw (p.1, p.2) (refused_count c.args.replica.now c.args.op.now c.in_err-check_count.field-0.0
-    c.requires.known c.requires.shown c.in_ok-check_not_public.ensures
+    rw (p.1, p.2) (refused_count c.args.replica.now pins c.args.op.now c.in_err-check_count.field-0.0
+    c.requires.known shown c.in_ok-check_not_public.ensures
     c.in_ok-check_not_obsolete.ensures c.in_ok-check_linear.ensures.answer (inr c.in_err-check_count.ensures))
 
 pub returns-in_err-check_raise-clause-answer : goal.returns-in_err-check_raise-clause-answer
-returns-in_err-check_raise-clause-answer c =
+returns-in_err-check_raise-clause-answer c = λ pins shown.
     let p = err_from_is_err_and c.from_residual-in_err-check_raise.result c.from_residual-in_err-check_raise.ensures.1
     in
-    rw (p.1, p.2) (refused_raise c.args.replica.now c.args.op.now c.in_err-check_raise.field-0.0
-    c.requires.known c.requires.shown c.in_ok-check_not_public.ensures
+    rw (p.1, p.2) (refused_raise c.args.replica.now pins c.args.op.now c.in_err-check_raise.field-0.0
+    c.requires.known shown c.in_ok-check_not_public.ensures
     c.in_ok-check_not_obsolete.ensures c.in_ok-check_linear.ensures.answer c.in_ok-check_count.ensures
     (inr c.in_err-check_raise.ensures))
 
 pub returns-in_err-check_entries-clause-answer : goal.returns-in_err-check_entries-clause-answer
-returns-in_err-check_entries-clause-answer c =
+returns-in_err-check_entries-clause-answer c = λ pins shown.
     let p = err_from_is_err_and c.from_residual-in_err-check_entries.result
     c.from_residual-in_err-check_entries.ensures.1 in
-    rw (p.1, p.2) (refused_entry c.args.replica.now c.args.op.now c.in_err-check_entries.field-0.0
-    c.requires.known c.requires.shown c.in_ok-check_not_public.ensures
+    rw (p.1, p.2) (refused_entry c.args.replica.now pins c.args.op.now c.in_err-check_entries.field-0.0
+    c.requires.known shown c.in_ok-check_not_public.ensures
     c.in_ok-check_not_obsolete.ensures c.in_ok-check_linear.ensures.answer c.in_ok-check_count.ensures
     c.in_ok-check_raise.ensures c.in_err-check_entries.ensures)
 
 pub returns-in_err-check_pruner-clause-answer : goal.returns-in_err-check_pruner-clause-answer
-returns-in_err-check_pruner-clause-answer c =
+returns-in_err-check_pruner-clause-answer c = λ pins shown.
     let p = err_from_is_err_and c.from_residual-in_err-check_pruner.result
     c.from_residual-in_err-check_pruner.ensures.1 in
-    rw (p.1, p.2) (refused_user c.args.replica.now c.args.op.now c.in_err-check_pruner.field-0.0
-    c.requires.known c.requires.shown c.in_ok-check_not_public.ensures
+    rw (p.1, p.2) (refused_user c.args.replica.now pins c.args.op.now c.in_err-check_pruner.field-0.0
+    c.requires.known shown c.in_ok-check_not_public.ensures
     c.in_ok-check_not_obsolete.ensures c.in_ok-check_linear.ensures.answer c.in_ok-check_count.ensures
     c.in_ok-check_raise.ensures c.in_err-check_pruner.ensures)
 
 pub returns-in_err-changesets-clause-answer : goal.returns-in_err-changesets-clause-answer
-returns-in_err-changesets-clause-answer c =
+returns-in_err-changesets-clause-answer c = λ pins shown.
     let p = err_from_is_err_and c.from_residual-in_err-changesets.result c.from_residual-in_err-changesets.ensures.1 in
-    rw (p.1, p.2) (refused_unwritten c.args.replica.now c.args.op.now c.in_err-changesets.field-0.0
-    c.requires.known c.requires.shown c.in_ok-check_not_public.ensures
+    rw (p.1, p.2) (refused_unwritten c.args.replica.now pins c.args.op.now c.in_err-changesets.field-0.0
+    c.requires.known shown c.in_ok-check_not_public.ensures
     c.in_ok-check_not_obsolete.ensures c.in_ok-check_linear.ensures.answer c.in_ok-check_count.ensures
     c.in_ok-check_raise.ensures c.in_err-changesets.ensures.answer)
 
 pub returns-in_err-markers-clause-answer : goal.returns-in_err-markers-clause-answer
-returns-in_err-markers-clause-answer c =
+returns-in_err-markers-clause-answer c = λ pins shown.
     let p = err_from_is_err_and c.from_residual-in_err-markers.result c.from_residual-in_err-markers.ensures.1 in
-    rw (p.1, p.2) (refused_unmarked c.args.replica.now c.args.op.now c.in_err-markers.field-0.0
-    c.requires.known c.requires.shown c.in_ok-check_not_public.ensures
+    rw (p.1, p.2) (refused_unmarked c.args.replica.now pins c.args.op.now c.in_err-markers.field-0.0
+    c.requires.known shown c.in_ok-check_not_public.ensures
     c.in_ok-check_not_obsolete.ensures c.in_ok-check_linear.ensures.answer c.in_ok-check_count.ensures
     c.in_ok-check_raise.ensures c.in_ok-changesets.ensures.answer.0
     (marks_refused c.args.replica.now c.args.op.now c.in_err-markers.field-0.0
     c.in_ok-check_pruner.ensures c.in_err-markers.ensures))
 
 pub returns-in_err-check_new-clause-answer : goal.returns-in_err-check_new-clause-answer
-returns-in_err-check_new-clause-answer c =
+returns-in_err-check_new-clause-answer c = λ pins shown.
     let p = err_from_is_err_and c.from_residual-in_err-check_new.result c.from_residual-in_err-check_new.ensures.1 in
     let ids : c.deref-3.result.now ≡ new_ids c.args.replica.now.history c.args.op.now =
     c.deref-3.ensures.value ∙ c.in_ok-ids.ensures ∙ ap nodes (c.deref.ensures.value
     ∙ c.in_ok-changesets.ensures.answer.1) in
-    rw (p.1, p.2) (refused_existing c.args.replica.now c.args.op.now c.in_err-check_new.field-0.0
-    c.requires.known c.requires.shown c.in_ok-check_not_public.ensures
+    rw (p.1, p.2) (refused_existing c.args.replica.now pins c.args.op.now c.in_err-check_new.field-0.0
+    c.requires.known shown c.in_ok-check_not_public.ensures
     c.in_ok-check_not_obsolete.ensures c.in_ok-check_linear.ensures.answer c.in_ok-check_count.ensures
     c.in_ok-check_raise.ensures c.in_ok-changesets.ensures.answer.0
     (none_unmarked c.args.replica.now c.args.op.now c.in_ok-check_pruner.ensures
@@ -107,12 +107,12 @@ returns-in_err-check_new-clause-answer c =
     c.in_err-check_new.ensures)))
 
 pub returns-clause-answer : goal.returns-clause-answer
-returns-clause-answer c =
+returns-clause-answer c = λ pins shown.
     let ids : c.deref-3.result.now ≡ new_ids c.args.replica.now.history c.args.op.now =
     c.deref-3.ensures.value ∙ c.in_ok-ids.ensures ∙ ap nodes (c.deref.ensures.value
     ∙ c.in_ok-changesets.ensures.answer.1) in
-    decided c.args.replica.now c.args.op.now c.requires.valid c.requires.known
-    c.requires.shown c.in_ok-check_not_public.ensures c.in_ok-check_not_obsolete.ensures
+    decided c.args.replica.now pins c.args.op.now c.requires.valid c.requires.known
+    shown c.in_ok-check_not_public.ensures c.in_ok-check_not_obsolete.ensures
     c.in_ok-check_linear.ensures.answer c.in_ok-check_count.ensures c.in_ok-check_raise.ensures
     c.in_ok-changesets.ensures.answer.0
     (none_unmarked c.args.replica.now c.args.op.now c.in_ok-check_pruner.ensures
@@ -130,7 +130,7 @@ returns-clause-answer c =
     c.in_ok-markers.ensures.1)
 
 pub returns-in_err-check_not_public-clause-later : goal.returns-in_err-check_not_public-clause-later
-returns-in_err-check_not_public-clause-later c =
+returns-in_err-check_not_public-clause-later c = λ pins shown.
     let s = c.args.replica.now in
     let op = c.args.op.now in
     let p = err_from_is_err_and c.from_residual.result
@@ -140,7 +140,7 @@ returns-in_err-check_not_public-clause-later c =
     (told c.from_residual.result _ c.in_err-check_not_public.field-0.0 p.1 p.2 e)
 
 pub returns-in_err-check_not_obsolete-clause-later : goal.returns-in_err-check_not_obsolete-clause-later
-returns-in_err-check_not_obsolete-clause-later c =
+returns-in_err-check_not_obsolete-clause-later c = λ pins shown.
     let s = c.args.replica.now in
     let op = c.args.op.now in
     let p = err_from_is_err_and c.from_residual-in_err-check_not_obsolete.result
@@ -150,7 +150,7 @@ returns-in_err-check_not_obsolete-clause-later c =
     (told c.from_residual-in_err-check_not_obsolete.result _ c.in_err-check_not_obsolete.field-0.0 p.1 p.2 e)
 
 pub returns-in_err-check_count-clause-later : goal.returns-in_err-check_count-clause-later
-returns-in_err-check_count-clause-later c =
+returns-in_err-check_count-clause-later c = λ pins shown.
     let s = c.args.replica.now in
     let op = c.args.op.now in
     let p = err_from_is_err_and c.from_residual-in_err-check_count.result c.from_residual-in_err-check_count.ensures.1
@@ -159,7 +159,7 @@ returns-in_err-check_count-clause-later c =
     (told c.from_residual-in_err-check_count.result _ c.in_err-check_count.field-0.0 p.1 p.2 e)
 
 pub returns-in_err-check_raise-clause-later : goal.returns-in_err-check_raise-clause-later
-returns-in_err-check_raise-clause-later c =
+returns-in_err-check_raise-clause-later c = λ pins shown.
     let s = c.args.replica.now in
     let op = c.args.op.now in
     let p = err_from_is_err_and c.from_residual-in_err-check_raise.result c.from_residual-in_err-check_raise.ensures.1
@@ -168,7 +168,7 @@ returns-in_err-check_raise-clause-later c =
     (told c.from_residual-in_err-check_raise.result _ c.in_err-check_raise.field-0.0 p.1 p.2 e)
 
 pub returns-in_err-check_entries-clause-later : goal.returns-in_err-check_entries-clause-later
-returns-in_err-check_entries-clause-later c =
+returns-in_err-check_entries-clause-later c = λ pins shown.
     let op = c.args.op.now in
     let p = err_from_is_err_and c.from_residual-in_err-check_entries.result
     c.from_residual-in_err-check_entries.ensures.1 in
@@ -176,7 +176,7 @@ returns-in_err-check_entries-clause-later c =
     (told c.from_residual-in_err-check_entries.result _ c.in_err-check_entries.field-0.0 p.1 p.2 e)
 
 pub returns-in_err-check_pruner-clause-later : goal.returns-in_err-check_pruner-clause-later
-returns-in_err-check_pruner-clause-later c =
+returns-in_err-check_pruner-clause-later c = λ pins shown.
     let op = c.args.op.now in
     let p = err_from_is_err_and c.from_residual-in_err-check_pruner.result
     c.from_residual-in_err-check_pruner.ensures.1 in
@@ -184,40 +184,40 @@ returns-in_err-check_pruner-clause-later c =
     (told c.from_residual-in_err-check_pruner.result _ c.in_err-check_pruner.field-0.0 p.1 p.2 e)
 
 pub returns-in_err-check_linear-clause-later : goal.returns-in_err-check_linear-clause-later
-returns-in_err-check_linear-clause-later c =
+returns-in_err-check_linear-clause-later c = λ pins shown.
     let p = err_from_is_err_and c.from_residual-in_err-check_linear.result
     c.from_residual-in_err-check_linear.ensures.1 in
-    λ e. wanting_descendants c.args.replica.now c.args.op.now c.requires.known
-    c.requires.shown c.in_ok-check_not_public.ensures c.in_ok-check_not_obsolete.ensures
+    λ e. wanting_descendants c.args.replica.now pins c.args.op.now c.requires.known
+    shown c.in_ok-check_not_public.ensures c.in_ok-check_not_obsolete.ensures
     (c.in_err-check_linear.ensures.memory (ap (λ x. Err x)
     (told c.from_residual-in_err-check_linear.result _ c.in_err-check_linear.field-0.0 p.1 p.2 e)))
 
 pub returns-in_err-changesets-clause-later : goal.returns-in_err-changesets-clause-later
-returns-in_err-changesets-clause-later c = λ e. wanting_later c.args.replica.now c.args.op.now
-    c.requires.known c.requires.shown c.in_ok-check_not_public.ensures
+returns-in_err-changesets-clause-later c = λ pins shown e. wanting_later c.args.replica.now pins c.args.op.now
+    c.requires.known shown c.in_ok-check_not_public.ensures
     c.in_ok-check_not_obsolete.ensures c.in_ok-check_linear.ensures.answer c.in_ok-check_count.ensures
     c.in_ok-check_raise.ensures c.in_ok-check_entries.ensures c.in_ok-check_pruner.ensures
 
 pub returns-in_err-ids-clause-later : goal.returns-in_err-ids-clause-later
-returns-in_err-ids-clause-later c = λ e. wanting_later c.args.replica.now c.args.op.now
-    c.requires.known c.requires.shown c.in_ok-check_not_public.ensures
+returns-in_err-ids-clause-later c = λ pins shown e. wanting_later c.args.replica.now pins c.args.op.now
+    c.requires.known shown c.in_ok-check_not_public.ensures
     c.in_ok-check_not_obsolete.ensures c.in_ok-check_linear.ensures.answer c.in_ok-check_count.ensures
     c.in_ok-check_raise.ensures c.in_ok-check_entries.ensures c.in_ok-check_pruner.ensures
 
 pub returns-in_err-markers-clause-later : goal.returns-in_err-markers-clause-later
-returns-in_err-markers-clause-later c = λ e. wanting_later c.args.replica.now c.args.op.now
-    c.requires.known c.requires.shown c.in_ok-check_not_public.ensures
+returns-in_err-markers-clause-later c = λ pins shown e. wanting_later c.args.replica.now pins c.args.op.now
+    c.requires.known shown c.in_ok-check_not_public.ensures
     c.in_ok-check_not_obsolete.ensures c.in_ok-check_linear.ensures.answer c.in_ok-check_count.ensures
     c.in_ok-check_raise.ensures c.in_ok-check_entries.ensures c.in_ok-check_pruner.ensures
 
 pub returns-in_err-check_new-clause-later : goal.returns-in_err-check_new-clause-later
-returns-in_err-check_new-clause-later c = λ e. wanting_later c.args.replica.now c.args.op.now
-    c.requires.known c.requires.shown c.in_ok-check_not_public.ensures
+returns-in_err-check_new-clause-later c = λ pins shown e. wanting_later c.args.replica.now pins c.args.op.now
+    c.requires.known shown c.in_ok-check_not_public.ensures
     c.in_ok-check_not_obsolete.ensures c.in_ok-check_linear.ensures.answer c.in_ok-check_count.ensures
     c.in_ok-check_raise.ensures c.in_ok-check_entries.ensures c.in_ok-check_pruner.ensures
 
 pub returns-in_err-bounds-clause-later : goal.returns-in_err-bounds-clause-later
-returns-in_err-bounds-clause-later c = λ e. wanting_later c.args.replica.now c.args.op.now
-    c.requires.known c.requires.shown c.in_ok-check_not_public.ensures
+returns-in_err-bounds-clause-later c = λ pins shown e. wanting_later c.args.replica.now pins c.args.op.now
+    c.requires.known shown c.in_ok-check_not_public.ensures
     c.in_ok-check_not_obsolete.ensures c.in_ok-check_linear.ensures.answer c.in_ok-check_count.ensures
     c.in_ok-check_raise.ensures c.in_ok-check_entries.ensures c.in_ok-check_pruner.ensures

@@ -3,9 +3,6 @@ use Rattle.hg_changeset.specs.Contents.{Contents}
 use Rattle.hg_changeset.proofs.ListLemmas.{on_err_anyway}
 use Rattle.hg_graph.specs.Graph.{Holds}
 use Rattle.hg_history.proofs.ContentLemmas.{content-node, node_in_content}
-use Rattle.hg_replica.specs.Content.{content_of}
-use Rattle.hg_instab.proofs.SetLemmas.{along}
-use Rattle.hg_view.proofs.PinLemmas.{visible-without}
 use Rattle.hg_rewrite.proofs.ListLemmas.{not_true, not_untrue}
 use Rattle.hg_rewrite.proofs.query.is_hidden.Goals as goal
 
@@ -26,8 +23,7 @@ returns-clause-answer c =
     let told = subst (λ (ds : List Contents). IsTrue c.contains.result ↔ Holds ds c.args.node)
     c.graph-graph.ensures.graph c.contains.ensures in
     let held = content-node s.history c.graph-graph.ensures.valid.graph c.args.node (told.0 c.if-not-contains.false) in
-    let is = along c.in_ok-is_visible.ensures.answer
-    (visible-without (content_of s) c.new.result c.new.ensures c.args.node) in (
+    let is = c.in_ok-is_visible.ensures.answer in (
       (λ t. (held, λ v. not_true c.in_ok-is_visible.is_visible t (is.1 v))),
       (λ hidden. not_untrue c.in_ok-is_visible.is_visible (λ t. hidden.1 (is.0 t))),
     )

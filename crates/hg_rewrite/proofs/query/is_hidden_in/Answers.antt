@@ -9,7 +9,7 @@ pub returns-then-holds : goal.returns-then-holds
 returns-then-holds c =
     let told = subst (λ (s : ReplicaState). IsTrue c.holds.result ↔ Holds s.history c.args.node)
     c.replica.ensures.replica c.holds.ensures in
-    let held = content-node c.args.kept.now.history c.replica.ensures.valid.graph c.args.node
+    let held = content-node c.args.kept.now.replica.history c.replica.ensures.valid.graph c.args.node
     (told.0 c.if-holds.true) in (
       (λ t. (held, λ v. not_true c.is_visible.result t (c.is_visible.ensures.1 v))),
       (λ hidden. not_untrue c.is_visible.result (λ t. hidden.1 (c.is_visible.ensures.0 t))),
@@ -20,5 +20,6 @@ returns-else-holds c =
     let told = subst (λ (s : ReplicaState). IsTrue c.holds.result ↔ Holds s.history c.args.node)
     c.replica.ensures.replica c.holds.ensures in (
       (λ t. absurd (true≢false (sym t ∙ c.if-holds.false))),
-      (λ hidden. told.1 (node_in_content c.args.kept.now.history c.replica.ensures.valid.graph c.args.node hidden.0)),
+      (λ hidden. told.1
+          (node_in_content c.args.kept.now.replica.history c.replica.ensures.valid.graph c.args.node hidden.0)),
     )
