@@ -15,21 +15,23 @@ use Rattle.hg_replica.specs.Content.{Content, content_of, IsValidContent, Conten
 use Rattle.hg_replica.specs.ContentLaws.{replicas_ordered, replicas_stay_covered, replicas_absorbed}
 use Rattle.hg_replica.proofs.ContentLemmas.{content-valid, content-after}
 use Rattle.hg_replica.proofs.LeastLemmas.{least-valid, forms-same}
-use Rattle.hg_world.specs.declared.event.Event.TheVariants.{Local, Offer, Take}
-use Rattle.hg_world.specs.declared.event.Answer.TheVariants.{Accepted, Offered, Refused}
+use Rattle.hg_view.specs.Kept.{KeptValue}
+use Rattle.hg_world.specs.declared.event.Event.TheVariants.{Local, Offer, Take, Mark}
+use Rattle.hg_world.specs.declared.event.Answer.TheVariants.{Accepted, Offered, Marked, Refused}
 use Rattle.hg_world.specs.Runs.{place_of, Happens, Runs, accepted_at, AllLeast, AllEmpty}
 use Rattle.hg_world.proofs.Places.{some_at, one_at, get_set_same, get_set_other}
 use Rattle.hg_peer.proofs.PeerLemmas.{empty_is_least}
 use Rattle.hg_peer.proofs.SmallestLemmas.{smallest}
 use Rattle.hg_peer.specs.Laws.{IsLeastByFormula}
+use Rattle.hg_peer.specs.MarkLaws.{marked_says_the_same}
 use Rattle.hg_peer.specs.Words.{peer_words, peer_state, PeerEvent, PeerAnswer, PeerWorld, PeerTrace, PeersRan}
 use Rattle.hg_peer.specs.Words.{accepted_by}
 
 -- from any state with the content of the node at a place, what it accepts is admitted part after part
 abbrev AdmittedFrom : ℕ → PeerWorld → List PartValue → Type 0
 AdmittedFrom place w ks =
-    (node s : ReplicaState) → slice_get w.nodes place ≡ Some node → IsValid s → content_of s ≡ content_of node →
-    AreAdmitted s ks
+    (node : KeptValue) (s : ReplicaState) → slice_get w.nodes place ≡ Some node → IsValid s →
+    content_of s ≡ content_of node.replica → AreAdmitted s ks
 
 -- one part, and then the others
 admitted_part : (s next : ReplicaState) (part : PartValue) (rest : List PartValue) → IsValid s →
@@ -63,11 +65,12 @@ admitted_step old mid event (Accepted change) (Some part) events parts place h k
           let there : slice_get old.nodes place ≡ Some h.0 =
           subst (λ (i : ℕ). slice_get old.nodes i ≡ Some h.0) t.1 h.2 in
           let same : node ≡ h.0 = one_at old.nodes place node h.0 at there in
-          let from : content_of s ≡ content_of h.0 = e ∙ ap content_of same in
-          let after : ContentAfter (content_of s) part (content_of h.1) =
-          subst (λ (c : Content). ContentAfter c part (content_of h.1)) (sym from) h.4.after in
+          let from : content_of s ≡ content_of h.0.replica =
+          e ∙ ap (λ (peer : KeptValue). content_of peer.replica) same in
+          let after : ContentAfter (content_of s) part (content_of h.1.replica) =
+          subst (λ (c : Content). ContentAfter c part (content_of h.1.replica)) (sym from) h.4.after in
           subst (AreAdmitted s) (sym (cond-true (place_of event == place) (part ∷ rest) rest t.0))
-          (admitted_part s h.1 part rest v after (λ u w same_u. k h.1 u got w same_u))
+          (admitted_part s h.1.replica part rest v after (λ u w same_u. k h.1 u got w same_u))
       | inr ne ↦
           let got : slice_get mid.nodes place ≡ Some node =
           rw h.5 (get_set_other old.nodes (place_of event) place h.1 ne.1 ∙ at) in
@@ -75,9 +78,31 @@ admitted_step old mid event (Accepted change) (Some part) events parts place h k
     ]
 admitted_step old mid (Local i op) (Offered number) None events parts place h k = absurd h
 admitted_step old mid (Take i m) (Offered number) None events parts place h k = absurd h
+admitted_step old mid (Mark i mark) (Offered number) None events parts place h k = absurd h
 admitted_step old mid (Offer i ask) (Offered number) None events parts place h k =
     λ node s at v e. k node s (rw h.5 at) v e
 admitted_step old mid event (Offered number) (Some part) events parts place h k = absurd h
+admitted_step old mid (Local i op) Marked None events parts place h k = absurd h
+admitted_step old mid (Offer i ask) Marked None events parts place h k = absurd h
+admitted_step old mid (Take i m) Marked None events parts place h k = absurd h
+admitted_step old mid (Mark i mark) Marked None events parts place h k = λ node s at v e.
+    elim (eqb_tells i place) [
+      | inl t ↦
+          let got : slice_get mid.nodes place ≡ Some h.1 =
+          rw h.4 (subst (λ (j : ℕ). slice_get (slice_set old.nodes i h.1) j ≡ Some h.1) t.1
+          (get_set_same old.nodes i h.0 h.1 h.2)) in
+          let there : slice_get old.nodes place ≡ Some h.0 =
+          subst (λ (j : ℕ). slice_get old.nodes j ≡ Some h.0) t.1 h.2 in
+          let same : node ≡ h.0 = one_at old.nodes place node h.0 at there in
+          let from : content_of s ≡ content_of h.1.replica =
+          e ∙ ap (λ (peer : KeptValue). content_of peer.replica) same ∙ sym (marked_says_the_same h.0 h.1 mark h.3) in
+          k h.1 s got v from
+      | inr ne ↦
+          let got : slice_get mid.nodes place ≡ Some node =
+          rw h.4 (get_set_other old.nodes i place h.1 ne.1 ∙ at) in
+          k node s got v e
+    ]
+admitted_step old mid event Marked (Some part) events parts place h k = absurd h
 admitted_step old mid event (Refused refusal) None events parts place h k = λ node s at v e. k node s (rw h.1 at) v e
 admitted_step old mid event (Refused refusal) (Some part) events parts place h k = absurd h
 
@@ -93,22 +118,23 @@ admitted_each old new (event ∷ events) (answer ∷ answers) (part ∷ parts) p
     admitted_step old h.0 event answer part events parts place h.1
     (admitted_each h.0 new events answers parts place h.2)
 
-pub by_formula : (old new : PeerWorld) (t : PeerTrace) (place : ℕ) (before after : ReplicaState) → PeersRan old t new →
+pub by_formula : (old new : PeerWorld) (t : PeerTrace) (place : ℕ) (before after : KeptValue) → PeersRan old t new →
     AllLeast peer_state old t.events t.parts new → slice_get old.nodes place ≡ Some before →
-    slice_get new.nodes place ≡ Some after → IsValid before → IsValid after →
-    IsLeastByFormula before (accepted_by t place) after
+    slice_get new.nodes place ≡ Some after → IsValid before.replica → IsValid after.replica →
+    IsLeastByFormula before.replica (accepted_by t place) after.replica
 by_formula old new t place before after h all at_b at_a v w =
     let ks : List PartValue = accepted_by t place in
     let found = all place before at_b in
     let same : found.0 ≡ after = one_at new.nodes place found.0 after found.1 at_a in
-    let covering : IsLeastCovering IsValidContent ContentBelow ContentCovers (content_of before) ks (content_of after) =
-    subst (λ (s : ReplicaState). IsLeastCovering IsValidContent ContentBelow ContentCovers (content_of before) ks
-    (content_of s))
+    let covering : IsLeastCovering IsValidContent ContentBelow ContentCovers (content_of before.replica) ks
+    (content_of after.replica) =
+    subst (λ (s : KeptValue). IsLeastCovering IsValidContent ContentBelow ContentCovers (content_of before.replica) ks
+    (content_of s.replica))
     same found.2 in
-    let small = smallest before after ks v w covering in
-    let admitted : AreAdmitted before ks =
-    admitted_each old new t.events t.answers t.parts place h before before at_b v refl in
-    (admitted, (forms-same before after ks v admitted).1 small)
+    let small = smallest before.replica after.replica ks v w covering in
+    let admitted : AreAdmitted before.replica ks =
+    admitted_each old new t.events t.answers t.parts place h before before.replica at_b v refl in
+    (admitted, (forms-same before.replica after.replica ks v admitted).1 small)
 
 -- ---- from a new world on
 
@@ -125,11 +151,11 @@ smallest_of_all t ks w h = smallest nothing_held t ks nothing_valid w (record {
   least = λ other v up covers. h.least other v covers;
 })
 
-pub by_formula_of_all : (old new : PeerWorld) (t : PeerTrace) (place : ℕ) (after : ReplicaState) →
+pub by_formula_of_all : (old new : PeerWorld) (t : PeerTrace) (place : ℕ) (after : KeptValue) →
     AllEmpty peer_state old → PeersRan old t new → length new.nodes ≡ length old.nodes →
-    IsLeastOf IsValidContent ContentBelow ContentCovers (accepted_by t place) (content_of after) →
-    slice_get new.nodes place ≡ Some after → IsValid after →
-    IsLeastByFormula nothing_held (accepted_by t place) after
+    IsLeastOf IsValidContent ContentBelow ContentCovers (accepted_by t place) (content_of after.replica) →
+    slice_get new.nodes place ≡ Some after → IsValid after.replica →
+    IsLeastByFormula nothing_held (accepted_by t place) after.replica
 by_formula_of_all old new t place after e h count least at w =
     let ks : List PartValue = accepted_by t place in
     let within : place < length old.nodes =
@@ -137,9 +163,11 @@ by_formula_of_all old new t place after e h count least at w =
     let before = some_at old.nodes place within in
     let there = e place before.0 before.1 in
     let nothing = empty_is_least nothing_held refl in
-    let same : content_of nothing_held ≡ content_of before.0 =
-    replicas_ordered.antisymmetric (content_of nothing_held) (content_of before.0) nothing.valid there.valid
-    (nothing.least (content_of before.0) there.valid) (there.least (content_of nothing_held) nothing.valid) in
+    let same : content_of nothing_held ≡ content_of before.0.replica =
+    replicas_ordered.antisymmetric (content_of nothing_held) (content_of before.0.replica) nothing.valid there.valid
+    (nothing.least (content_of before.0.replica) there.valid) (there.least (content_of nothing_held) nothing.valid) in
     let admitted : AreAdmitted nothing_held ks =
-    admitted_each old new t.events t.answers t.parts place h before.0 nothing_held before.1 nothing_valid same in
-    (admitted, (forms-same nothing_held after ks nothing_valid admitted).1 (smallest_of_all after ks w least))
+    admitted_each old new t.events t.answers t.parts place h before.0 nothing_held before.1 nothing_valid same in (
+      admitted,
+      (forms-same nothing_held after.replica ks nothing_valid admitted).1 (smallest_of_all after.replica ks w least),
+    )

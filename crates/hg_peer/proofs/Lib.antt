@@ -4,3 +4,4 @@ pub mod SecretLemmas
 pub mod SmallestLemmas
 pub mod FormulaLemmas
 pub mod TakenLemmas
+pub mod MarkedLemmas

@@ -1,7 +1,7 @@
 -- What the calls of a peer tell.
 use Rattle.std.proofs.Common.{◌≡◌, Bool, true, false, All, ℕ, Option, Some, None, List, [], Result, Ok, Err, Contains}
 use Rattle.std.proofs.Common.{refl, sym, ap, subst, ◌∙◌, inl, inr, ◌⊎◌}
-use Rattle.std.specs.Prelude.{IfOk, IfErr, IsErrOf}
+use Rattle.std.specs.Prelude.{IfOk, IfErr, OnOk, OnErr, IsErrOf}
 use Rattle.std.specs.declared.vec.Vec.{Vec}
 use Rattle.std.specs.declared.alloc.Global.{Global}
 use Rattle.hg_join.specs.Order.{IsLeastOfAll, IsDue}
@@ -13,7 +13,12 @@ use Rattle.hg_history.specs.Content.IsGrounded.{grounded}
 use Rattle.hg_history.proofs.ContentLemmas.{content-admits}
 use Rattle.hg_replica.specs.State.{ReplicaState, IsValid}
 use Rattle.hg_replica.specs.Least.{PartValue}
+use Rattle.hg_replica.specs.Change.{ChangeValue, TellsChange}
 use Rattle.hg_replica.specs.Content.{content_of, IsValidContent, ContentBelow, ContentAdmits}
+use Rattle.hg_view.specs.declared.refusal.PinRefusal.{PinRefusal}
+use Rattle.hg_view.specs.declared.refusal.PinRefusal.TheVariants as pin
+use Rattle.hg_view.specs.Kept.{KeptValue, KeptUnpinAnswer}
+use Rattle.hg_view.specs.Pins.{PinAnswer}
 use Rattle.hg_rewrite.specs.declared.op.Op.{Op}
 use Rattle.hg_rewrite.specs.declared.refusal.Refusal.{Refusal}
 use Rattle.hg_rewrite.specs.declared.refusal.Refusal.TheVariants as operation
@@ -36,8 +41,10 @@ use Rattle.hg_message.proofs.ExistLemmas.{offer-exists}
 use Rattle.hg_message.proofs.OfferLemmas.{not-too-large}
 use Rattle.hg_message.proofs.WritableLemmas.{offer-read}
 use Rattle.hg_peer.specs.declared.refusal.PeerRefusal.{PeerRefusal}
-use Rattle.hg_peer.specs.declared.refusal.PeerRefusal.TheVariants.{Offer, Message, NoMemory}
-use Rattle.hg_peer.specs.Refusals.{rewrite_refusal, offer_refusal, message_refusal}
+use Rattle.hg_peer.specs.declared.refusal.PeerRefusal.TheVariants.{Offer, Message, View, NoMemory}
+use Rattle.hg_peer.specs.declared.mark.Mark.TheVariants.{Pin, Unpin}
+use Rattle.hg_peer.specs.Marks.{Tells, Marks, IsAgainstMark, ChangesPins}
+use Rattle.hg_peer.specs.Refusals.{rewrite_refusal, offer_refusal, message_refusal, pin_refusal}
 use Rattle.hg_peer.specs.Peers.{CanBeWritten, Offers, IsAgainstOffer, IsAgainstWriting, IsMemory}
 
 -- ---- a replica that holds nothing says nothing
@@ -58,10 +65,10 @@ empty_is_least s e = rw e (record {
 
 -- ---- operations
 
-pub decided-admitted : (s : ReplicaState) (op : Op) (part : PartValue) → IsValid s →
-    ((c : Contents) → Contains part.history.changesets c → IsChangeset c) → DecideAnswer s op (Ok part) →
+pub decided-admitted : (s : ReplicaState) (pins : List Node) (op : Op) (part : PartValue) → IsValid s →
+    ((c : Contents) → Contains part.history.changesets c → IsChangeset c) → DecideAnswer s pins op (Ok part) →
     ContentAdmits (content_of s) part
-decided-admitted s op part v all h = content-admits s.history part.history v.graph all h.2
+decided-admitted s pins op part v all h = content-admits s.history part.history v.graph all h.2
 
 -- want of memory is told where deciding tells it
 rewrite-memory : (r : Refusal) → rewrite_refusal r ≡ NoMemory → r ≡ operation.NoMemory
@@ -80,10 +87,11 @@ same_error : {X : Type 0} (told other : PeerRefusal) → ◌≡◌ {A = Result X
     told ≡ other
 same_error told other e = cc
 
-pub decide-memory : (s : ReplicaState) (op : Op) (r : Refusal) (told : PeerRefusal) → told ≡ rewrite_refusal r →
-    (IsErrOf {T = PartValue} (Err r) operation.NoMemory → MayWantMemory s op) →
-    IsErrOf {T = PartValue} (Err told) NoMemory → MayWantMemory s op
-decide-memory s op r told is may e = may (ap Err (rewrite-memory r (sym is ∙ same_error told NoMemory e)))
+pub decide-memory : (s : ReplicaState) (pins : List Node) (op : Op) (r : Refusal) (told : PeerRefusal) →
+    told ≡ rewrite_refusal r →
+    (IsErrOf {T = PartValue} (Err r) operation.NoMemory → MayWantMemory s pins op) →
+    IsErrOf {T = PartValue} (Err told) NoMemory → MayWantMemory s pins op
+decide-memory s pins op r told is may e = may (ap Err (rewrite-memory r (sym is ∙ same_error told NoMemory e)))
 
 -- ---- bytes
 
@@ -97,37 +105,42 @@ read-memory (Err fault) (reading.Fault other) told is fails e =
 
 -- ---- offers
 
-pub offered : (s : ReplicaState) (common : Vec Node Global) (lent : List Node) (m : MessageValue) {E : Type 0}
-    (r : Result (Vec ℕ Global) E) → lent ≡ common.items → IsValid s → FindAnswer s lent (Ok m) →
+-- what a peer finds to offer, under its pins
+abbrev Finds : KeptValue → List Node → Result MessageValue OfferRefusal → Type 0
+Finds s common r = FindAnswer s.replica s.pins common r
+
+pub offered : (s : KeptValue) (common : Vec Node Global) (lent : List Node) (m : MessageValue) {E : Type 0}
+    (r : Result (Vec ℕ Global) E) → lent ≡ common.items → IsValid s.replica → Finds s lent (Ok m) →
     IfOk r (λ bytes. CanBeWritten m × (bytes.items ≡ message_spelling m)) →
     IfOk r (λ bytes. Offers s common bytes.items)
 offered s common lent m (Ok bytes) e v h w =
-    let moved : FindAnswer s common.items (Ok m) = subst (λ (ns : List Node). FindAnswer s ns (Ok m)) e h in
+    let moved : Finds s common.items (Ok m) = subst (λ (ns : List Node). Finds s ns (Ok m)) e h in
     record { valid = v; held = moved.0; message = m; offered = moved.1; writable = w.0; written = w.1 }
 offered s common lent m (Err x) e v h w = tt
 
 -- what was found is too large, or memory was wanting
-unwritten : (s : ReplicaState) (common : Vec Node Global) (m : MessageValue) (refusal : PeerRefusal) →
-    FindAnswer s common.items (Ok m) → IsAgainstWriting m refusal ⊎ IsMemory refusal → IsAgainstOffer s common refusal
-    ⊎ IsMemory refusal
+unwritten : (s : KeptValue) (common : Vec Node Global) (m : MessageValue) (refusal : PeerRefusal) →
+    Finds s common.items (Ok m) → IsAgainstWriting m refusal ⊎ IsMemory refusal →
+    IsAgainstOffer s common refusal ⊎ IsMemory refusal
 unwritten s common m refusal h (inl large) =
     inl (subst (IsAgainstOffer s common) (sym large.0) (h.0, (m, h.1, large.1)))
 unwritten s common m refusal h (inr memory) = inr memory
 
-pub large-refused : (s : ReplicaState) (common : Vec Node Global) (lent : List Node) (m : MessageValue) {T : Type 0}
-    (r : Result T PeerRefusal) → lent ≡ common.items → FindAnswer s lent (Ok m) →
+pub large-refused : (s : KeptValue) (common : Vec Node Global) (lent : List Node) (m : MessageValue) {T : Type 0}
+    (r : Result T PeerRefusal) → lent ≡ common.items → Finds s lent (Ok m) →
     IfErr r (λ refusal. IsAgainstWriting m refusal ⊎ IsMemory refusal)
     → IfErr r (λ refusal. IsAgainstOffer s common refusal ⊎ IsMemory refusal)
 large-refused s common lent m (Ok x) e h w = tt
 large-refused s common lent m (Err refusal) e h w =
-    unwritten s common m refusal (subst (λ (ns : List Node). FindAnswer s ns (Ok m)) e h) w
+    unwritten s common m refusal (subst (λ (ns : List Node). Finds s ns (Ok m)) e h) w
 
 -- there is an offer, and it is too large or can be written
-offer-due : (s : ReplicaState) (common : Vec Node Global) → IsValid s → All IsMarker s.markers →
-    AreHeld (content_of s) common.items → IsDue (Offers s common) (IsAgainstOffer s common)
-offer-due s common v markers held f g = offer-exists s common.items v (λ m o. by m o (is_too_large m) refl)
+offer-due : (s : KeptValue) (common : Vec Node Global) → IsValid s.replica → All IsMarker s.replica.markers →
+    AreHeld (content_of s.replica) common.items → IsDue (Offers s common) (IsAgainstOffer s common)
+offer-due s common v markers held f g =
+    offer-exists s.replica s.pins common.items v (λ m o. by m o (is_too_large m) refl)
   where
-    by : (m : MessageValue) → IsOffer s common.items m → (b : Bool) → is_too_large m ≡ b → ⊥
+    by : (m : MessageValue) → IsOffer s.replica s.pins common.items m → (b : Bool) → is_too_large m ≡ b → ⊥
     by m o true e = g (Offer offer.TooLarge) (held, (m, o, e))
     by m o false e =
         f (message_spelling m)
@@ -136,48 +149,48 @@ offer-due s common v markers held f g = offer-exists s common.items v (λ m o. b
           held = held;
           message = m;
           offered = o;
-          writable = (not-too-large m e, offer-read s v markers common.items m o e);
+          writable = (not-too-large m e, offer-read s.replica v markers s.pins common.items m o e);
           written = refl;
         })
 
-one-due : (s : ReplicaState) (common : Vec Node Global) (r : Result MessageValue OfferRefusal) → IsValid s →
-    All IsMarker s.markers → FindAnswer s common.items r → IsDue (Offers s common) (IsAgainstOffer s common)
+one-due : (s : KeptValue) (common : Vec Node Global) (r : Result MessageValue OfferRefusal) → IsValid s.replica →
+    All IsMarker s.replica.markers → Finds s common.items r → IsDue (Offers s common) (IsAgainstOffer s common)
 one-due s common (Ok m) v markers h = offer-due s common v markers h.0
 one-due s common (Err (offer.UnknownCommon node)) v markers h = λ f g. g (Offer (offer.UnknownCommon node)) h
 one-due s common (Err offer.TooLarge) v markers h = absurd h
 one-due s common (Err offer.NoMemory) v markers h = offer-due s common v markers h.0
 
-pub answered-due : (s : ReplicaState) (common : Vec Node Global) (lent : List Node)
-    (r : Result MessageValue OfferRefusal) → lent ≡ common.items → IsValid s → All IsMarker s.markers →
-    FindAnswer s lent r → IsDue (Offers s common) (IsAgainstOffer s common)
+pub answered-due : (s : KeptValue) (common : Vec Node Global) (lent : List Node)
+    (r : Result MessageValue OfferRefusal) → lent ≡ common.items → IsValid s.replica → All IsMarker s.replica.markers →
+    Finds s lent r → IsDue (Offers s common) (IsAgainstOffer s common)
 answered-due s common lent r e v markers h =
-    one-due s common r v markers (subst (λ (ns : List Node). FindAnswer s ns r) e h)
+    one-due s common r v markers (subst (λ (ns : List Node). Finds s ns r) e h)
 
-one-refused : (s : ReplicaState) (common : Vec Node Global) (r : OfferRefusal) → FindAnswer s common.items (Err r) →
+one-refused : (s : KeptValue) (common : Vec Node Global) (r : OfferRefusal) → Finds s common.items (Err r) →
     IsAgainstOffer s common (offer_refusal r) ⊎ IsMemory (offer_refusal r)
 one-refused s common (offer.UnknownCommon node) h = inl h
 one-refused s common offer.TooLarge h = absurd h
 one-refused s common offer.NoMemory h = inr refl
 
-pub refused-offer : (s : ReplicaState) (common : Vec Node Global) (lent : List Node) (r : OfferRefusal)
-    (told : PeerRefusal) → lent ≡ common.items → told ≡ offer_refusal r → FindAnswer s lent (Err r) →
+pub refused-offer : (s : KeptValue) (common : Vec Node Global) (lent : List Node) (r : OfferRefusal)
+    (told : PeerRefusal) → lent ≡ common.items → told ≡ offer_refusal r → Finds s lent (Err r) →
     IsAgainstOffer s common told ⊎ IsMemory told
 refused-offer s common lent r told e is h =
     subst (λ (x : PeerRefusal). IsAgainstOffer s common x ⊎ IsMemory x) (sym is)
-    (one-refused s common r (subst (λ (ns : List Node). FindAnswer s ns (Err r)) e h))
+    (one-refused s common r (subst (λ (ns : List Node). Finds s ns (Err r)) e h))
 
 -- memory is wanting only where each common node is held
-one-wants : (s : ReplicaState) (common : List Node) (r : OfferRefusal) → FindAnswer s common (Err r) →
-    offer_refusal r ≡ NoMemory → AreHeld (content_of s) common
+one-wants : (s : KeptValue) (common : List Node) (r : OfferRefusal) → Finds s common (Err r) →
+    offer_refusal r ≡ NoMemory → AreHeld (content_of s.replica) common
 one-wants s common (offer.UnknownCommon node) h e = absurd cc
 one-wants s common offer.TooLarge h e = absurd h
 one-wants s common offer.NoMemory h e = h.0
 
-pub refused-wants : (s : ReplicaState) (common : Vec Node Global) (lent : List Node) (r : OfferRefusal)
-    (told : PeerRefusal) → lent ≡ common.items → told ≡ offer_refusal r → FindAnswer s lent (Err r) →
-    IsErrOf {T = Vec ℕ Global} (Err told) NoMemory → AreHeld (content_of s) common.items
+pub refused-wants : (s : KeptValue) (common : Vec Node Global) (lent : List Node) (r : OfferRefusal)
+    (told : PeerRefusal) → lent ≡ common.items → told ≡ offer_refusal r → Finds s lent (Err r) →
+    IsErrOf {T = Vec ℕ Global} (Err told) NoMemory → AreHeld (content_of s.replica) common.items
 refused-wants s common lent r told e is h wants =
-    subst (AreHeld (content_of s)) e (one-wants s lent r h (sym is ∙ same_error told NoMemory wants))
+    subst (AreHeld (content_of s.replica)) e (one-wants s lent r h (sym is ∙ same_error told NoMemory wants))
 
 -- what is written says the message
 pub written-well : (m : MessageValue) (bytes : List ℕ) → WriteAnswer {A = List ℕ} (λ b. b) m (Ok bytes) →
@@ -196,3 +209,73 @@ pub refused-writing : (m : MessageValue) (r : OfferRefusal) (told : PeerRefusal)
     WriteAnswer {A = Vec ℕ Global} (λ v. v.items) m (Err r) → IsAgainstWriting m told ⊎ IsMemory told
 refused-writing m r told is h =
     subst (λ (x : PeerRefusal). IsAgainstWriting m x ⊎ IsMemory x) (sym is) (one-unwritten m r h)
+
+-- ---- marks
+
+pub pinned : (s t : KeptValue) (n : Node) (r : Result (Unit {0}) PinRefusal) → t.replica ≡ s.replica →
+    PinAnswer (content_of s.replica) s.pins n r t.pins → OnOk r (Marks s (Pin n) t)
+pinned s t n (Ok done) e h = (e, h)
+pinned s t n (Err x) e h = tt
+
+pub unpinned : (s t : KeptValue) (n : Node) (r : Result (Unit {0}) PinRefusal) → t.replica ≡ s.replica →
+    KeptUnpinAnswer s.pins n r t.pins → OnOk r (Marks s (Unpin n) t)
+unpinned s t n (Ok done) e h = (e, h)
+unpinned s t n (Err x) e h = tt
+
+pub pin-refused : (s : KeptValue) (n : Node) (r : PinRefusal) (after : List Node) (told : PeerRefusal) →
+    told ≡ pin_refusal r → PinAnswer (content_of s.replica) s.pins n (Err r) after →
+    IsAgainstMark s (Pin n) told ⊎ IsMemory told
+pin-refused s n (pin.Unknown m) after told is h =
+    inl (is ∙ ap (λ (k : Node). View (pin.Unknown k)) h.0, h.1)
+pin-refused s n (pin.NotPinned m) after told is h = absurd h
+pin-refused s n pin.NoMemory after told is h = inr is
+
+pub unpin-refused : (s : KeptValue) (n : Node) (r : PinRefusal) (after : List Node) (told : PeerRefusal) →
+    told ≡ pin_refusal r → KeptUnpinAnswer s.pins n (Err r) after → IsAgainstMark s (Unpin n) told ⊎ IsMemory told
+unpin-refused s n (pin.Unknown m) after told is h = absurd h
+unpin-refused s n (pin.NotPinned m) after told is h =
+    inl (is ∙ ap (λ (k : Node). View (pin.NotPinned k)) h.0, h.1)
+unpin-refused s n pin.NoMemory after told is h = inr is
+
+-- memory is wanting only where there is something to change
+pub pin-wants : (s : KeptValue) (n : Node) (r : PinRefusal) (after : List Node) (told : PeerRefusal) →
+    told ≡ pin_refusal r → PinAnswer (content_of s.replica) s.pins n (Err r) after →
+    IsErrOf {T = Unit {0}} (Err told) NoMemory → ChangesPins s (Pin n)
+pin-wants s n (pin.Unknown m) after told is h e = let same = sym is ∙ same_error told NoMemory e in absurd cc
+pin-wants s n (pin.NotPinned m) after told is h e = absurd h
+pin-wants s n pin.NoMemory after told is h e = (h.0, h.1)
+
+pub unpin-wants : (s : KeptValue) (n : Node) (r : PinRefusal) (after : List Node) (told : PeerRefusal) →
+    told ≡ pin_refusal r → KeptUnpinAnswer s.pins n (Err r) after → IsErrOf {T = Unit {0}} (Err told) NoMemory →
+    ChangesPins s (Unpin n)
+unpin-wants s n (pin.Unknown m) after told is h e = absurd h
+unpin-wants s n (pin.NotPinned m) after told is h e = let same = sym is ∙ same_error told NoMemory e in absurd cc
+unpin-wants s n pin.NoMemory after told is h e = h.0
+
+-- what is refused leaves the pins, and so the state
+same_kept : (s t : KeptValue) → t.replica ≡ s.replica → t.pins ≡ s.pins → t ≡ s
+same_kept s t e f i = record { replica = e i; pins = f i }
+
+pub pin-unchanged : (s t : KeptValue) (n : Node) (r : PinRefusal) → t.replica ≡ s.replica →
+    PinAnswer (content_of s.replica) s.pins n (Err r) t.pins → t ≡ s
+pin-unchanged s t n (pin.Unknown m) e h = same_kept s t e h.2
+pin-unchanged s t n (pin.NotPinned m) e h = absurd h
+pin-unchanged s t n pin.NoMemory e h = same_kept s t e h.2
+
+pub unpin-unchanged : (s t : KeptValue) (n : Node) (r : PinRefusal) → t.replica ≡ s.replica →
+    KeptUnpinAnswer s.pins n (Err r) t.pins → t ≡ s
+unpin-unchanged s t n (pin.Unknown m) e h = absurd h
+unpin-unchanged s t n (pin.NotPinned m) e h = same_kept s t e h.2
+unpin-unchanged s t n pin.NoMemory e h = same_kept s t e h.1
+
+-- ---- what is absorbed and joined leaves the pins
+
+pub told-peer : (s t : KeptValue) {F : Type 0} (r : Result ChangeValue F) → t.pins ≡ s.pins →
+    IfOk r (λ change. TellsChange s.replica change t.replica) → IfOk r (λ change. Tells s change t)
+told-peer s t (Ok change) e h = (h, e)
+told-peer s t (Err x) e h = tt
+
+pub unchanged-peer : (s t : KeptValue) {T F : Type 0} (r : Result T F) → t.pins ≡ s.pins →
+    OnErr r (t.replica ≡ s.replica) → OnErr r (t ≡ s)
+unchanged-peer s t (Ok x) e h = tt
+unchanged-peer s t (Err x) e h = same_kept s t h e

@@ -13,10 +13,10 @@ use Rattle.hg_peer.specs.Words.{PeerWorld, PeerTrace, peer_state, peer_words}
 use Rattle.hg_peer.specs.Secrets.{HoldsNoSecret, IsMadeWithoutSecrets}
 
 -- all of an offer is served, and nothing that is secret is
-no_secret : (f : Content) (common : List Node) (m : MessageValue) → SaysOffer f common m → HoldsNoSecret f m
-no_secret f common m says = record {
-  changesets = λ c at. (served-changesets f common m says c at).1;
-  bounds = λ b at. (served-bounds f common m says b at).1;
+no_secret : (f : Content) (pins common : List Node) (m : MessageValue) → SaysOffer f pins common m → HoldsNoSecret f m
+no_secret f pins common m says = record {
+  changesets = λ c at. (served-changesets f pins common m says c at).1;
+  bounds = λ b at. (served-bounds f pins common m says b at).1;
 }
 
 from_first : (i : ℕ) → 0 + i ≡ i
@@ -38,7 +38,8 @@ module _ (old new : PeerWorld) (t : PeerTrace) where
         made = made;
         message = h.message;
         says = bytes_say_offer made.maker made.ask bytes h;
-        secrets = no_secret (content_of made.maker) made.ask.items h.message h.offered.says;
+        secrets =
+            no_secret (content_of made.maker.replica) made.maker.pins made.ask.items h.message h.offered.says;
       }
 
   module _ (added : List (List ℕ)) (longer : new.messages ≡ old.messages ++ added) (made : (i : ℕ) (bytes : List ℕ) →

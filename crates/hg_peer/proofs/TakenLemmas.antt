@@ -3,10 +3,10 @@ use Rattle.std.proofs.Common.{◌≡◌, ℕ, inl, inr, List, Some, slice_get, r
 use Rattle.std.proofs.lemmas.Option.{none-some, same_Some}
 use Rattle.hg_history.specs.declared.fault.Fault.{Fault}
 use Rattle.hg_history.specs.ContentLaws.{admitted_faultless}
-use Rattle.hg_replica.specs.State.{ReplicaState}
 use Rattle.hg_replica.specs.Least.{PartValue}
 use Rattle.hg_replica.specs.Change.{ChangeValue}
 use Rattle.hg_replica.specs.Content.{content_of, IsValidContent, ContentBelow, ContentAdmits, ContentAfter}
+use Rattle.hg_view.specs.Kept.{KeptValue}
 use Rattle.hg_message.specs.Part.{part_of}
 use Rattle.hg_message.specs.Offer.{AreHeld}
 use Rattle.hg_message.specs.Taken.{HoldsServed}
@@ -23,20 +23,21 @@ use Rattle.hg_peer.specs.OfferLaws.{part_offered, bytes_say_offer}
 use Rattle.hg_peer.specs.Words.{peer_state, peer_words}
 use Rattle.hg_peer.specs.Taken.{IsAboveHeld}
 
-module _ (now : Snapshot ReplicaState) (place number : ℕ) (h : IsAboveHeld now place number)
+module _ (now : Snapshot KeptValue) (place number : ℕ) (h : IsAboveHeld now place number)
     (least : AllLeast peer_state h.earlier h.since.events h.since.parts now) where
-  there_valid : IsValidContent (content_of h.node)
+  there_valid : IsValidContent (content_of h.node.replica)
   there_valid =
       let l = least place h.before h.was in
-      subst (λ (s : ReplicaState). IsValidContent (content_of s)) (same_Some l.0 h.node (sym l.1 ∙ h.there)) l.2.valid
+      subst (λ (s : KeptValue). IsValidContent (content_of s.replica)) (same_Some l.0 h.node (sym l.1 ∙ h.there))
+      l.2.valid
 
-  there_held : AreHeld (content_of h.node) h.common.items
+  there_held : AreHeld (content_of h.node.replica) h.common.items
   there_held =
       let l = least place h.before h.was in
-      let up : ContentBelow (content_of h.before) (content_of h.node) =
-      subst (λ (s : ReplicaState). ContentBelow (content_of h.before) (content_of s))
+      let up : ContentBelow (content_of h.before.replica) (content_of h.node.replica) =
+      subst (λ (s : KeptValue). ContentBelow (content_of h.before.replica) (content_of s.replica))
       (same_Some l.0 h.node (sym l.1 ∙ h.there)) l.2.above in
-      common_later h.common.items (content_of h.before) (content_of h.node) h.held up
+      common_later h.common.items (content_of h.before.replica) (content_of h.node.replica) h.held up
 
   -- the part of the message, whoever reads it
   part_is : (bytes : List ℕ) (part : PartValue) → slice_get now.messages number ≡ Some bytes → SpellsPart bytes part →
@@ -46,11 +47,11 @@ module _ (now : Snapshot ReplicaState) (place number : ℕ) (h : IsAboveHeld now
       part_offered h.maker h.common h.bytes part h.offered (subst (λ (b : List ℕ). SpellsPart b part) same spells)
 
   admitted : (bytes : List ℕ) (part : PartValue) → slice_get now.messages number ≡ Some bytes → SpellsPart bytes part →
-      ContentAdmits (content_of h.node) part
+      ContentAdmits (content_of h.node.replica) part
   admitted bytes part at spells =
-      subst (ContentAdmits (content_of h.node)) (part_is bytes part at spells)
-      (taken-admitted h.maker h.offered.valid h.common.items h.offered.message h.offered.offered (content_of h.node)
-      there_valid there_held h.free)
+      subst (ContentAdmits (content_of h.node.replica)) (part_is bytes part at spells)
+      (taken-admitted h.maker.replica h.offered.valid h.maker.pins h.common.items h.offered.message h.offered.offered
+      (content_of h.node.replica) there_valid there_held h.free)
 
   reason : (refusal : EventRefusal PeerRefusal Fault) →
       IsReason peer_state peer_words now.messages h.node (Take place number) refusal →
@@ -67,33 +68,34 @@ module _ (now : Snapshot ReplicaState) (place number : ℕ) (h : IsAboveHeld now
   ]
   reason (ByState fault) r = elim r.4 [
     | inl is ↦
-        absurd (admitted_faultless (content_of h.node).0 r.2.history fault there_valid (admitted r.0 r.2 r.1 r.3) is)
+        absurd
+        (admitted_faultless (content_of h.node.replica).0 r.2.history fault there_valid (admitted r.0 r.2 r.1 r.3) is)
     | inr memory ↦ memory
   ]
 
-  pub only_memory : (refusal : EventRefusal PeerRefusal Fault) (new : Snapshot ReplicaState) →
+  pub only_memory : (refusal : EventRefusal PeerRefusal Fault) (new : Snapshot KeptValue) →
       Refuses peer_state peer_words now (Take place number) refusal new → IsMemory peer_state peer_words refusal
   only_memory refusal new r = elim r.0 [
     | inl gone ↦ absurd (none-some h.node (sym gone.1 ∙ h.there))
     | inr w ↦
         reason refusal
-        (subst (λ (s : ReplicaState). IsReason peer_state peer_words now.messages s (Take place number) refusal)
+        (subst (λ (s : KeptValue). IsReason peer_state peer_words now.messages s (Take place number) refusal)
         (same_Some w.0 h.node (sym w.1 ∙ h.there)) w.2)
   ]
 
-  pub taken_there : (change : ChangeValue) (part : PartValue) (new : Snapshot ReplicaState) →
+  pub taken_there : (change : ChangeValue) (part : PartValue) (new : Snapshot KeptValue) →
       Accepts peer_state peer_words now (Take place number) change part new →
-      (next : ReplicaState) × (slice_get new.nodes place ≡ Some next)
-      × HoldsServed (content_of h.maker) (content_of next)
+      (next : KeptValue) × (slice_get new.nodes place ≡ Some next)
+      × HoldsServed (content_of h.maker.replica) h.maker.pins (content_of next.replica)
   taken_there change part new a =
       let same : a.0 ≡ h.node = same_Some a.0 h.node (sym a.2 ∙ h.there) in
-      let after : ContentAfter (content_of h.node) part (content_of a.1) =
-      subst (λ (s : ReplicaState). ContentAfter (content_of s) part (content_of a.1)) same a.4.after in
-      let told : ContentAfter (content_of h.node) (part_of h.offered.message) (content_of a.1) =
-      subst (λ (p : PartValue). ContentAfter (content_of h.node) p (content_of a.1))
+      let after : ContentAfter (content_of h.node.replica) part (content_of a.1.replica) =
+      subst (λ (s : KeptValue). ContentAfter (content_of s.replica) part (content_of a.1.replica)) same a.4.after in
+      let told : ContentAfter (content_of h.node.replica) (part_of h.offered.message) (content_of a.1.replica) =
+      subst (λ (p : PartValue). ContentAfter (content_of h.node.replica) p (content_of a.1.replica))
       (sym (part_is a.3.0 part a.3.1 a.3.2)) after in (
         a.1,
-        ap (λ (nodes : List ReplicaState). slice_get nodes place) a.5 ∙ get_set_same now.nodes place a.0 a.1 a.2,
-        taken-served h.maker h.offered.valid h.common.items h.offered.message h.offered.offered (content_of h.node)
-            there_valid there_held h.free (content_of a.1) told,
+        ap (λ (nodes : List KeptValue). slice_get nodes place) a.5 ∙ get_set_same now.nodes place a.0 a.1 a.2,
+        taken-served h.maker.replica h.offered.valid h.maker.pins h.common.items h.offered.message h.offered.offered
+            (content_of h.node.replica) there_valid there_held h.free (content_of a.1.replica) told,
       )

@@ -6,7 +6,7 @@ use Rattle.hg_replica.specs.Least.{PartValue}
 use Rattle.hg_message.specs.Part.{part_of}
 use Rattle.hg_message.proofs.SpellingLemmas.{said_once, said_is_not_refused, said_or_refused}
 use Rattle.hg_peer.specs.declared.refusal.PeerRefusal.{PeerRefusal}
-use Rattle.hg_peer.specs.declared.refusal.PeerRefusal.TheVariants.{Rewrite, Offer, Message, NoMemory}
+use Rattle.hg_peer.specs.declared.refusal.PeerRefusal.TheVariants.{Rewrite, Offer, Message, View, NoMemory}
 use Rattle.hg_peer.specs.Peers.{SpellsPart, IsAgainstBytes, IsMemory}
 
 pub spelled_once : (bytes : List ℕ) (p q : PartValue) → SpellsPart bytes p → SpellsPart bytes q → p ≡ q
@@ -17,6 +17,7 @@ pub spelled_not_refused : (bytes : List ℕ) (p : PartValue) (refusal : PeerRefu
 spelled_not_refused bytes p (Rewrite refusal) h k = k
 spelled_not_refused bytes p (Offer refusal) h k = k
 spelled_not_refused bytes p (Message fault) h k = said_is_not_refused h.0 fault bytes h.1 k
+spelled_not_refused bytes p (View refusal) h k = k
 spelled_not_refused bytes p NoMemory h k = k
 
 pub memory_not_against_bytes : (bytes : List ℕ) (refusal : PeerRefusal) → IsMemory refusal →
@@ -24,6 +25,7 @@ pub memory_not_against_bytes : (bytes : List ℕ) (refusal : PeerRefusal) → Is
 memory_not_against_bytes bytes (Rewrite refusal) h k = k
 memory_not_against_bytes bytes (Offer refusal) h k = k
 memory_not_against_bytes bytes (Message fault) h k = cc
+memory_not_against_bytes bytes (View refusal) h k = k
 memory_not_against_bytes bytes NoMemory h k = k
 
 pub bytes_due : (bytes : List ℕ) → IsDue (SpellsPart bytes) (IsAgainstBytes bytes)

@@ -11,6 +11,7 @@ use Rattle.hg_phases.specs.Content.{content_of as history_content}
 use Rattle.hg_replica.specs.State.{ReplicaState, IsValid}
 use Rattle.hg_replica.specs.Least.{PartValue}
 use Rattle.hg_replica.specs.Content.{Content, content_of, IsValidContent}
+use Rattle.hg_view.specs.Kept.{KeptValue}
 use Rattle.hg_rewrite.specs.declared.op.Op.{Op}
 use Rattle.hg_rewrite.specs.declared.op.Op.TheVariants.{Commit, Amend, Split, Fold, Prune, Relocate, Advance}
 use Rattle.hg_rewrite.specs.declared.refusal.Refusal.{Refusal}
@@ -19,23 +20,26 @@ use Rattle.hg_rewrite.specs.Parts.{parents_of_first, base, new_ids, last, bounds
 use Rattle.hg_rewrite.specs.Refusals.{Row, Applies, NoneApplies, IsFirstRefusal, refusals}
 use Rattle.hg_rewrite.proofs.TableLemmas.{none_refused}
 use Rattle.hg_peer.specs.declared.refusal.PeerRefusal.{PeerRefusal}
-use Rattle.hg_peer.specs.declared.refusal.PeerRefusal.TheVariants.{Rewrite, Offer, Message, NoMemory}
+use Rattle.hg_peer.specs.declared.refusal.PeerRefusal.TheVariants.{Rewrite, Offer, Message, View, NoMemory}
+use Rattle.hg_peer.specs.Marks.{own}
 use Rattle.hg_peer.specs.Peers.{Decides, IsAgainstOperation, IsMemory}
 
 -- ---- a part and a refusal exclude each other, and one of them is due
 
-pub decided_not_refused : (s : ReplicaState) (op : Op) (p : PartValue) (refusal : PeerRefusal) →
-    IsValidContent (content_of s) → Decides s op p → IsAgainstOperation s op refusal → ⊥
-decided_not_refused s op p (Rewrite refusal) v h k = none_refused (refusals s op) refusal h.1 k
+pub decided_not_refused : (s : KeptValue) (op : Op) (p : PartValue) (refusal : PeerRefusal) →
+    IsValidContent (content_of s.replica) → Decides s op p → IsAgainstOperation s op refusal → ⊥
+decided_not_refused s op p (Rewrite refusal) v h k = none_refused (refusals s.replica s.pins op) refusal h.1 k
 decided_not_refused s op p (Offer refusal) v h k = k
 decided_not_refused s op p (Message fault) v h k = k
+decided_not_refused s op p (View refusal) v h k = k
 decided_not_refused s op p NoMemory v h k = k
 
-pub memory_not_against_operation : (s : ReplicaState) (op : Op) (refusal : PeerRefusal) → IsMemory refusal →
+pub memory_not_against_operation : (s : KeptValue) (op : Op) (refusal : PeerRefusal) → IsMemory refusal →
     IsAgainstOperation s op refusal → ⊥
 memory_not_against_operation s op (Rewrite refusal) h k = cc
 memory_not_against_operation s op (Offer refusal) h k = k
 memory_not_against_operation s op (Message fault) h k = k
+memory_not_against_operation s op (View refusal) h k = k
 memory_not_against_operation s op NoMemory h k = k
 
 -- no row applies or one is the first
@@ -45,8 +49,10 @@ rows_due (row ∷ rows) f g =
     let not : ¬ (Applies row) = λ a. g a.0 (inl a.1) in
     rows_due rows (λ none. f (not, none)) (λ r h. g r (inr (not, h)))
 
-pub operation_due : (s : ReplicaState) (op : Op) → IsValid s → IsDue (Decides s op) (IsAgainstOperation s op)
-operation_due s op v f g = rows_due (refusals s op) (λ none. f (part_of s op) (v, none, refl)) (λ r h. g (Rewrite r) h)
+pub operation_due : (s : KeptValue) (op : Op) → IsValid s.replica → IsDue (Decides s op) (IsAgainstOperation s op)
+operation_due s op v f g =
+    rows_due (refusals s.replica s.pins op) (λ none. f (part_of s.replica op) (v, none, refl))
+    (λ r h. g (Rewrite r) h)
 
 -- ---- what is read of states with one content is one
 
@@ -106,6 +112,8 @@ part_same s t e op =
       metadata_same s.history t.history e op,
     ) refl
 
-pub decided_once : (s t : ReplicaState) (op : Op) (p q : PartValue) → IsValidContent (content_of s) →
-    content_of s ≡ content_of t → Decides s op p → Decides t op q → p ≡ q
-decided_once s t op p q v e h k = h.2 ∙ part_same s t (ap (λ (f : Content). f.0) e) op ∙ sym k.2
+-- the part follows the content alone, and the pins only tell whether there is one
+pub decided_once : (s t : KeptValue) (op : Op) (p q : PartValue) → IsValidContent (content_of s.replica) →
+    content_of s.replica ≡ content_of t.replica → own s ≡ own t → Decides s op p → Decides t op q → p ≡ q
+decided_once s t op p q v e same h k =
+    h.2 ∙ part_same s.replica t.replica (ap (λ (f : Content). f.0) e) op ∙ sym k.2

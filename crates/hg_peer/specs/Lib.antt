@@ -2,6 +2,8 @@ pub mod Agreement
 pub mod BytesLaws
 pub mod DecisionLaws
 pub mod Laws
+pub mod MarkLaws
+pub mod Marks
 pub mod OfferLaws
 pub mod Peers
 pub mod Refusals

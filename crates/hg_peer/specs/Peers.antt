@@ -3,9 +3,10 @@ use Rattle.std.specs.Prelude.{◌≡◌, ℕ, List, true, Ok, Err}
 use Rattle.std.specs.declared.vec.Vec.{Vec}
 use Rattle.std.specs.declared.alloc.Global.{Global}
 use Rattle.hg_changeset.specs.declared.node.Node.{Node}
-use Rattle.hg_replica.specs.State.{ReplicaState, IsValid}
+use Rattle.hg_replica.specs.State.{IsValid}
 use Rattle.hg_replica.specs.Least.{PartValue}
 use Rattle.hg_replica.specs.Content.{content_of}
+use Rattle.hg_view.specs.Kept.{KeptValue}
 use Rattle.hg_rewrite.specs.declared.op.Op.{Op}
 use Rattle.hg_rewrite.specs.Parts.{part_of as operation_part}
 use Rattle.hg_rewrite.specs.Refusals.{NoneApplies, IsFirstRefusal, refusals}
@@ -17,7 +18,7 @@ use Rattle.hg_message.specs.Spelling.{message_spelling}
 use Rattle.hg_message.specs.Part.{part_of as message_part}
 use Rattle.hg_message.specs.Offer.{AreHeld, IsFirstUnknown, IsOffer}
 use Rattle.hg_peer.specs.declared.refusal.PeerRefusal.{PeerRefusal}
-use Rattle.hg_peer.specs.declared.refusal.PeerRefusal.TheVariants.{Rewrite, Offer, Message, NoMemory}
+use Rattle.hg_peer.specs.declared.refusal.PeerRefusal.TheVariants.{Rewrite, Offer, Message, View, NoMemory}
 
 -- the refusal says no more than that memory ran out
 abbrev pub IsMemory : PeerRefusal → Type 0
@@ -25,15 +26,17 @@ IsMemory refusal = refusal ≡ NoMemory
 
 -- ---- operations
 
--- the state is valid, no refusal applies, and the part is that of the table of operations
-abbrev pub Decides : ReplicaState → Op → PartValue → Type 0
-Decides s op part = IsValid s × NoneApplies (refusals s op) × (part ≡ operation_part s op)
+-- the state is valid, no refusal applies under its pins, and the part is that of the table of operations
+abbrev pub Decides : KeptValue → Op → PartValue → Type 0
+Decides s op part =
+    IsValid s.replica × NoneApplies (refusals s.replica s.pins op) × (part ≡ operation_part s.replica op)
 
--- the first refusal that applies
-abbrev pub IsAgainstOperation : ReplicaState → Op → PeerRefusal → Type 0
-IsAgainstOperation s op (Rewrite refusal) = IsFirstRefusal (refusals s op) refusal
+-- the first refusal that applies under the state's pins
+abbrev pub IsAgainstOperation : KeptValue → Op → PeerRefusal → Type 0
+IsAgainstOperation s op (Rewrite refusal) = IsFirstRefusal (refusals s.replica s.pins op) refusal
 IsAgainstOperation s op (Offer refusal) = ⊥
 IsAgainstOperation s op (Message fault) = ⊥
+IsAgainstOperation s op (View refusal) = ⊥
 IsAgainstOperation s op NoMemory = ⊥
 
 -- ---- offers
@@ -42,23 +45,26 @@ IsAgainstOperation s op NoMemory = ⊥
 abbrev pub CanBeWritten : MessageValue → Type 0
 CanBeWritten m = IsMessage m × (message_at (message_spelling m) ≡ Ok m)
 
--- the state is valid and holds the common nodes, and the bytes are what is written of its offer above them
-pub record Offers (s : ReplicaState) (common : Vec Node Global) (bytes : List ℕ) : Type 0 where
-  pub valid : IsValid s
-  pub held : AreHeld (content_of s) common.items
+-- the state is valid and holds the common nodes, and the bytes are what is written of its offer above them, under its
+-- pins
+pub record Offers (s : KeptValue) (common : Vec Node Global) (bytes : List ℕ) : Type 0 where
+  pub valid : IsValid s.replica
+  pub held : AreHeld (content_of s.replica) common.items
   pub message : MessageValue
-  pub offered : IsOffer s common.items message
+  pub offered : IsOffer s.replica s.pins common.items message
   pub writable : CanBeWritten message
   pub written : bytes ≡ message_spelling message
 
 -- the first of the common nodes that isn't held; or the offer above them is too large, by its numbers
-abbrev pub IsAgainstOffer : ReplicaState → Vec Node Global → PeerRefusal → Type 0
+abbrev pub IsAgainstOffer : KeptValue → Vec Node Global → PeerRefusal → Type 0
 IsAgainstOffer s common (Rewrite refusal) = ⊥
-IsAgainstOffer s common (Offer (UnknownCommon node)) = IsFirstUnknown (content_of s) common.items node
+IsAgainstOffer s common (Offer (UnknownCommon node)) = IsFirstUnknown (content_of s.replica) common.items node
 IsAgainstOffer s common (Offer TooLarge) =
-    AreHeld (content_of s) common.items × ((m : MessageValue) × IsOffer s common.items m × (is_too_large m ≡ true))
+    AreHeld (content_of s.replica) common.items
+    × ((m : MessageValue) × IsOffer s.replica s.pins common.items m × (is_too_large m ≡ true))
 IsAgainstOffer s common (Offer offer.NoMemory) = ⊥
 IsAgainstOffer s common (Message fault) = ⊥
+IsAgainstOffer s common (View refusal) = ⊥
 IsAgainstOffer s common NoMemory = ⊥
 
 -- what was found is too large to be written
@@ -76,4 +82,5 @@ abbrev pub IsAgainstBytes : List ℕ → PeerRefusal → Type 0
 IsAgainstBytes bytes (Rewrite refusal) = ⊥
 IsAgainstBytes bytes (Offer refusal) = ⊥
 IsAgainstBytes bytes (Message fault) = message_at bytes ≡ Err fault
+IsAgainstBytes bytes (View refusal) = ⊥
 IsAgainstBytes bytes NoMemory = ⊥

@@ -23,4 +23,4 @@ pub record IsMadeWithoutSecrets (old : PeerWorld) (t : PeerTrace) (number : ℕ)
   pub made : IsMade peer_state peer_words old t number bytes
   pub message : MessageValue
   pub says : message_at bytes ≡ Ok message
-  pub secrets : HoldsNoSecret (content_of made.maker) message
+  pub secrets : HoldsNoSecret (content_of made.maker.replica) message

@@ -3,8 +3,8 @@ use Rattle.std.specs.Prelude.{◌≡◌, ℕ, List, Some, slice_get}
 use Rattle.std.specs.declared.vec.Vec.{Vec}
 use Rattle.std.specs.declared.alloc.Global.{Global}
 use Rattle.hg_changeset.specs.declared.node.Node.{Node}
-use Rattle.hg_replica.specs.State.{ReplicaState}
 use Rattle.hg_replica.specs.Content.{content_of}
+use Rattle.hg_view.specs.Kept.{KeptValue}
 use Rattle.hg_message.specs.Offer.{AreHeld}
 use Rattle.hg_message.specs.Taken.{DontCollide}
 use Rattle.hg_world.specs.Runs.{AllValid}
@@ -14,7 +14,7 @@ use Rattle.hg_peer.specs.Words.{PeerWorld, PeerTrace, PeersRan, peer_state}
 -- the message with this number was offered above common nodes, and the peer at the place held these before some events,
 -- or holds them now. No id stands for two changesets
 pub record IsAboveHeld (now : PeerWorld) (place number : ℕ) : Type 0 where
-  pub maker : ReplicaState
+  pub maker : KeptValue
   pub common : Vec Node Global
   pub bytes : List ℕ
   pub offered : Offers maker common bytes
@@ -23,9 +23,9 @@ pub record IsAboveHeld (now : PeerWorld) (place number : ℕ) : Type 0 where
   pub since : PeerTrace
   pub valid : AllValid peer_state earlier
   pub ran : PeersRan earlier since now
-  pub before : ReplicaState
+  pub before : KeptValue
   pub was : slice_get earlier.nodes place ≡ Some before
-  pub held : AreHeld (content_of before) common.items
-  pub node : ReplicaState
+  pub held : AreHeld (content_of before.replica) common.items
+  pub node : KeptValue
   pub there : slice_get now.nodes place ≡ Some node
-  pub free : DontCollide (content_of maker) (content_of node)
+  pub free : DontCollide (content_of maker.replica) (content_of node.replica)

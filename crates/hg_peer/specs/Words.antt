@@ -1,34 +1,58 @@
 -- The words of peers, as runs use them.
-use Rattle.std.specs.Prelude.{ℕ, List}
+use Rattle.std.specs.Prelude.{◌≡◌, ℕ, List, Bool, false}
 use Rattle.std.specs.declared.vec.Vec.{Vec}
 use Rattle.std.specs.declared.alloc.Global.{Global}
 use Rattle.hg_join.specs.declared.state.JoinState.{Ghosts as StateWords}
 use Rattle.hg_join.specs.declared.actor.Actor.{Ghosts as ActorWords}
 use Rattle.hg_changeset.specs.declared.node.Node.{Node}
 use Rattle.hg_history.specs.declared.fault.Fault.{Fault}
-use Rattle.hg_replica.specs.State.{ReplicaState}
+use Rattle.hg_history.specs.declared.fault.Fault.TheVariants as fault
 use Rattle.hg_replica.specs.Least.{PartValue}
 use Rattle.hg_replica.specs.Change.{ChangeValue}
-use Rattle.hg_replica.specs.Words.{replica_words}
+use Rattle.hg_replica.specs.Content.{Content, content_of, IsValidContent, ContentBelow, ContentsJoined, ContentsCollide}
+use Rattle.hg_replica.specs.Content.{ContentCovers, ContentAdmits, ContentAfter, IsContentFault}
+use Rattle.hg_view.specs.Kept.{KeptValue}
 use Rattle.hg_rewrite.specs.declared.op.Op.{Op}
 use Rattle.hg_world.specs.declared.event.Event.{Event}
 use Rattle.hg_world.specs.declared.event.Answer.{Answer}
 use Rattle.hg_world.specs.Runs.{Snapshot, Trace, Ran, accepted_in}
+use Rattle.hg_peer.specs.declared.mark.Mark.{Mark}
 use Rattle.hg_peer.specs.declared.refusal.PeerRefusal.{PeerRefusal}
+use Rattle.hg_peer.specs.Marks.{own, Tells, Marks, IsAgainstMark}
 use Rattle.hg_peer.specs.Peers.{Decides, IsAgainstOperation, Offers, IsAgainstOffer, SpellsPart, IsAgainstBytes}
 use Rattle.hg_peer.specs.Peers.{IsMemory}
 
--- as a state that joins: those of a replica
-abbrev pub peer_state : StateWords ReplicaState PartValue ChangeValue Fault
-peer_state = replica_words
+-- as a state that joins: those of its replica, and what it absorbs leaves its pins
+abbrev pub peer_state : StateWords KeptValue PartValue ChangeValue Fault
+peer_state = record {
+  Content = Content;
+  content = λ s. content_of s.replica;
+  IsValid = IsValidContent;
+  Below = ContentBelow;
+  Joined = ContentsJoined;
+  Collides = ContentsCollide;
+  PartContent = PartValue;
+  part_content = λ part. part;
+  Covers = ContentCovers;
+  Admits = ContentAdmits;
+  After = ContentAfter;
+  IsFirstFault = IsContentFault;
+  Tells = Tells;
+  IsWantOfMemory = λ cause. cause ≡ fault.NoMemory;
+}
 
 -- as a state that acts
-abbrev pub peer_words : ActorWords ReplicaState Op (Vec Node Global) PeerRefusal PartValue ChangeValue Fault
+abbrev pub peer_words : ActorWords KeptValue Op (Vec Node Global) Mark PeerRefusal PartValue ChangeValue Fault
 peer_words = record {
+  Own = Node → Bool;
+  owned = own;
+  own_of_empty = λ n. false;
   Decides = Decides;
   IsAgainstOp = IsAgainstOperation;
   Offers = Offers;
   IsAgainstAsk = IsAgainstOffer;
+  Marks = Marks;
+  IsAgainstMark = IsAgainstMark;
   Spells = SpellsPart;
   IsAgainstBytes = IsAgainstBytes;
   IsRefusalOfMemory = IsMemory;
@@ -37,16 +61,16 @@ peer_words = record {
 -- ---- worlds of peers
 
 abbrev pub PeerEvent : Type 0
-PeerEvent = Event Op (Vec Node Global)
+PeerEvent = Event Op (Vec Node Global) Mark
 
 abbrev pub PeerAnswer : Type 0
 PeerAnswer = Answer ChangeValue PeerRefusal Fault
 
 abbrev pub PeerWorld : Type 0
-PeerWorld = Snapshot ReplicaState
+PeerWorld = Snapshot KeptValue
 
 abbrev pub PeerTrace : Type 0
-PeerTrace = Trace Op (Vec Node Global) PartValue ChangeValue PeerRefusal Fault
+PeerTrace = Trace Op (Vec Node Global) Mark PartValue ChangeValue PeerRefusal Fault
 
 -- the trace may be that of what happened from old to new
 abbrev pub PeersRan : PeerWorld → PeerTrace → PeerWorld → Type 0

@@ -1,17 +1,21 @@
 //! What holds of every run of peers.
-ghost use Rattle.hg_peer.specs.Laws.{CoveringPeersAgree, CoveringPeersAreInOneState};
+ghost use Rattle.hg_peer.specs.Laws.{CoveringPeersAgree, CoveringPeersSeeTheSame};
+ghost use Rattle.hg_peer.specs.Laws.{CoveringPeersAreInOneState};
 ghost use Rattle.hg_peer.specs.Laws.{EachPeerIsLeast, EachPeerIsLeastOfAll};
 ghost use Rattle.hg_peer.specs.Laws.{NoAddedMessageHoldsASecret, NoMessageHoldsASecret};
 ghost use Rattle.hg_peer.specs.Laws.{AboveHeldIsRefusedForMemoryAlone, AboveHeldBringsWhatWasServed};
+ghost use Rattle.hg_peer.specs.Laws.{MarksChangePinsOfOnePeerAlone};
 
 use crate::peer::Peer;
-use hg_world::{covering_nodes_agree, messages_are_offers, states_are_least};
+use hg_world::{covering_nodes_agree, marks_say_nothing, messages_are_offers, states_are_least};
 
 /// After any run from a new world, peers that cover each other's accepted parts agree: on changesets, phases and
-/// markers; on which changesets are obsolete, orphan, suspended, extinct, phase-divergent and content-divergent; and on
-/// the visible set. They are in one state: each is below the other.
+/// markers; on which changesets are obsolete, orphan, suspended, extinct, phase-divergent and content-divergent; and,
+/// where their pins are equal, on the visible set and on what they serve. Their replicas are in one state: each is below
+/// the other.
 pub fn covering_peers_agree()
     ensures sets { CoveringPeersAgree }
+    ensures visible { CoveringPeersSeeTheSame }
     ensures state { CoveringPeersAreInOneState }
 {
     covering_nodes_agree::<Peer>();
@@ -38,10 +42,19 @@ pub fn no_message_holds_a_secret()
 
 /// A message that was offered above common nodes which a peer holds is taken by it then and at any later time, unless
 /// memory is wanting: it is refused for nothing else, collisions aside. Afterwards the peer holds all that was served
-/// at the message's maker when it was offered, at phases no higher, and the markers relevant to it.
+/// at the message's maker when it was offered, under the pins that the maker had then, at phases no higher, and the
+/// markers relevant to it.
 pub fn messages_above_what_is_held_are_taken()
     ensures refused { AboveHeldIsRefusedForMemoryAlone }
     ensures taken { AboveHeldBringsWhatWasServed }
 {
     states_are_least::<Peer>();
+}
+
+/// A mark that is set changes the pins of the peer at its place, by the changeset that it names: that is pinned, or its
+/// pin is taken away, and each other pin stays. The peer's replica stays, and so do each other peer and each message.
+pub fn marks_change_pins_of_one_peer_alone()
+    ensures { MarksChangePinsOfOnePeerAlone }
+{
+    marks_say_nothing::<Peer>();
 }

@@ -2,15 +2,16 @@
 //!
 //! A [`Peer`] is a [`Replica`](hg_replica::Replica) as a state that acts: it decides an operation
 //! ([`Op`](hg_rewrite::Op)), offers what it serves above some common nodes, as the bytes of a message
-//! ([`Message`](hg_message::Message)), and reads such bytes. So a [`World`](hg_world::World) runs lists of events over
-//! peers: operations of their own, offers, and messages that they take.
+//! ([`Message`](hg_message::Message)), and reads such bytes. Beside the replica it has pins, which a [`Mark`] changes:
+//! what it pins is visible to it, though it is obsolete. So a [`World`](hg_world::World) runs lists of events over
+//! peers: operations of their own, offers, messages that they take, and marks.
 //!
 //! # What holds
 //!
 //! **For every list of local operations, offers, losses, repeats and late or reordered deliveries among any number of
 //! peers, each peer's state is the least valid state covering every operation and message it accepted; so peers that
-//! cover each other's contributions agree on changesets, phases, markers, every instability and the visible set; and no
-//! message holds a changeset that was secret at its maker.**
+//! cover each other's contributions agree on changesets, phases, markers and every instability, and on the visible set
+//! where their pins are equal; and no message holds a changeset that was secret at its maker.**
 //!
 //! | In the sentence | What it means | Where it is said |
 //! |---|---|---|
@@ -20,7 +21,8 @@
 //! | | by the formula: the changesets and markers of the parts, and for each changeset the lowest phase that a bound gives it; from a new world on, those and nothing else | [`peers_are_least`], `specs/Laws.antt` |
 //! | every operation and message it accepted | those that were answered [`Accepted`](hg_world::Answer::Accepted); the part of an operation is that of the table of operations, at the state in which it was decided | [`World::run`](hg_world::World::run), `specs/Peers.antt` |
 //! | cover each other's contributions | the state of each covers each part that the other accepted | [`covering_peers_agree`] |
-//! | agree on changesets, phases, markers, every instability and the visible set | the sets of obsolete, orphan, suspended, extinct, phase-divergent and content-divergent changesets are among them | [`covering_peers_agree`], `specs/Agreement.antt` |
+//! | agree on changesets, phases, markers and every instability | the sets of obsolete, orphan, suspended, extinct, phase-divergent and content-divergent changesets are among them | [`covering_peers_agree`], `specs/Agreement.antt` |
+//! | on the visible set where their pins are equal | each sees the same under its own pins, and serves the same, where both pin the same changesets, in whatever order | [`covering_peers_agree`], `specs/Agreement.antt` |
 //! | no message holds | neither as a record nor as a bound; a marker may name any id | [`no_message_holds_a_secret`] |
 //! | secret at its maker | in the state that the Offer read | [`no_message_holds_a_secret`], `specs/Secrets.antt` |
 //!
@@ -31,7 +33,8 @@
 //! # The premises
 //!
 //! - The world began new, where a law says so: each of its peers was empty, and its pool too.
-//! - Nothing raises a phase, and nothing is taken away: no operation does either.
+//! - Nothing raises a phase, and nothing is taken away: no operation does either. A mark changes pins alone: they are a
+//!   peer's own, no part of what it holds, and in no message ([`marks_change_pins_of_one_peer_alone`]).
 //! - Two changesets under one id never stand in one state: the part that would bring the second is refused by the id,
 //!   as [`Fault::Collision`](hg_history::Fault::Collision).
 //! - Where memory is wanting, nothing changes.
@@ -39,12 +42,14 @@
 #![tactic(auto)]
 
 mod laws;
+mod mark;
 mod peer;
 mod refusal;
 
 pub use laws::{
-    covering_peers_agree, messages_above_what_is_held_are_taken, no_message_holds_a_secret,
-    peers_are_least,
+    covering_peers_agree, marks_change_pins_of_one_peer_alone,
+    messages_above_what_is_held_are_taken, no_message_holds_a_secret, peers_are_least,
 };
+pub use mark::Mark;
 pub use peer::Peer;
 pub use refusal::{Numbered, PeerRefusal};

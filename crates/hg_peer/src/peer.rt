@@ -1,8 +1,8 @@
-//! A replica that decides, offers and reads.
-ghost use Rattle.std.specs.Prelude.{◌≡◌, ◌↔◌, ◌⊎◌, Ok, IsTrue, IsOkAnd, IfOk, IfErr, OnOk, OnErr, IsErrOf};
+//! A replica that decides, offers and reads, with the pins of its node.
+ghost use Rattle.std.specs.Prelude.{◌≡◌, ◌↔◌, ◌⊎◌, Bool, false, Ok, IsTrue, IsOkAnd, IfOk, IfErr, OnOk, OnErr, IsErrOf};
+ghost use Rattle.hg_changeset.specs.declared.node.Node.{Node};
 ghost use Rattle.hg_join.specs.Order.{IsDue};
 ghost use Rattle.hg_replica.specs.Answer.{IsGrowthBeforeFault};
-ghost use Rattle.hg_replica.specs.Change.{TellsChange};
 ghost use Rattle.hg_replica.specs.Content.{content_of, IsValidContent, ContentBelow, ContentsJoined, ContentsCollide};
 ghost use Rattle.hg_replica.specs.Content.{ContentAdmits, ContentAfter, IsContentFault};
 ghost use Rattle.hg_replica.specs.ContentLaws.{replicas_ordered, replicas_stay_covered, replicas_absorbed};
@@ -19,15 +19,21 @@ ghost use Rattle.hg_message.specs.Message.{message_at};
 ghost use Rattle.hg_message.specs.Offer.{AreHeld};
 ghost use Rattle.hg_message.specs.Part.{part_of as message_part};
 ghost use Rattle.hg_message.specs.Spelling.{message_spelling};
+ghost use Rattle.hg_peer.specs.declared.mark.Mark.TheVariants.{Pin, Unpin};
 ghost use Rattle.hg_peer.specs.declared.refusal.PeerRefusal.TheVariants.{NoMemory as OutOfMemory};
 ghost use Rattle.hg_peer.specs.Peers.{Decides as DecidesPart, IsAgainstOperation, Offers as OffersBytes};
 ghost use Rattle.hg_peer.specs.Peers.{IsAgainstOffer, IsAgainstWriting, SpellsPart, IsAgainstBytes as AgainstBytes};
 ghost use Rattle.hg_peer.specs.Peers.{IsMemory, CanBeWritten};
+ghost use Rattle.hg_peer.specs.Marks.{own, Tells as TellsPeer, Marks as MarksPins, IsAgainstMark as AgainstMark};
+ghost use Rattle.hg_peer.specs.Marks.{ChangesPins};
 ghost use Rattle.hg_peer.specs.DecisionLaws.{decided_once, decided_not_refused, memory_not_against_operation};
 ghost use Rattle.hg_peer.specs.OfferLaws.{offered_once, offered_not_refused, offered_spelled, offered_covered};
 ghost use Rattle.hg_peer.specs.OfferLaws.{offered_alike, memory_not_against_offer};
 ghost use Rattle.hg_peer.specs.BytesLaws.{spelled_once, spelled_not_refused, memory_not_against_bytes};
+ghost use Rattle.hg_peer.specs.MarkLaws.{marked_says_the_same, marked_once, marked_not_refused, told_leaves_own};
+ghost use Rattle.hg_peer.specs.MarkLaws.{memory_not_against_mark};
 
+use crate::mark::Mark;
 use crate::refusal::PeerRefusal;
 use hg_changeset::Node;
 use hg_history::Fault;
@@ -40,8 +46,8 @@ use std::alloc::Global;
 use std::marker::Model;
 
 /// A replica as a state that acts: it decides operations, offers what it serves above some common nodes, and reads
-/// messages. It keeps its instabilities, so that each of these asks what is visible by look-ups. Contracts see the
-/// replica.
+/// messages. It keeps its instabilities, so that each of these asks what is visible by look-ups. What it pins is its
+/// own, and a [`Mark`] changes that. Contracts see the replica and the pins.
 #[derive(Drop)]
 pub struct Peer {
     kept: Kept,
@@ -50,9 +56,9 @@ pub struct Peer {
 impl Model for Peer {
     ghost use Rattle.std.specs.Coded.{codes};
     ghost use Rattle.hg_marker.specs.Fields.{fields_code};
-    ghost use Rattle.hg_replica.specs.State.{ReplicaState};
+    ghost use Rattle.hg_view.specs.Kept.{KeptValue};
 
-    ghost Value = { ReplicaState };
+    ghost Value = { KeptValue };
 
     ghost coded = { Prim.hlevel (codes, fields_code) };
 
@@ -60,7 +66,7 @@ impl Model for Peer {
 }
 
 impl Peer {
-    /// The peer of this replica.
+    /// The peer of this replica, with the pins that are kept beside it.
     pub fn new(kept: Kept) -> Peer
         ensures { result ≡ kept }
     {
@@ -69,12 +75,12 @@ impl Peer {
 
     /// Its replica.
     pub fn replica(&self) -> &Replica
-        ensures { result.now ≡ self.now }
+        ensures { result.now ≡ self.now.replica }
     {
         self.kept.replica()
     }
 
-    /// Its replica with the instabilities that are kept beside it.
+    /// Its replica with the instabilities and the pins that are kept beside it.
     pub fn kept(&self) -> &Kept
         ensures { result.now ≡ self.now }
     {
@@ -91,7 +97,7 @@ impl JoinState for Peer {
 
     ghost Content = { replica_words.Content };
 
-    ghost content = { replica_words.content };
+    ghost content = { λ peer. content_of peer.replica };
 
     ghost IsValid = { replica_words.IsValid };
 
@@ -113,7 +119,7 @@ impl JoinState for Peer {
 
     ghost IsFirstFault = { replica_words.IsFirstFault };
 
-    ghost Tells = { replica_words.Tells };
+    ghost Tells = { TellsPeer };
 
     ghost IsWantOfMemory = { replica_words.IsWantOfMemory };
 
@@ -156,44 +162,51 @@ impl JoinState for Peer {
     }
 
     fn absorb(&mut self, part: &Part) -> Result<Change, Fault>
-        ensures after { OnOk result (ContentAfter (content_of self.old) part.now (content_of self.new)) }
-        ensures change { IfOk result (λ change. TellsChange self.old change self.new) }
-        ensures valid { OnOk result (IsValidContent (content_of self.old)) }
-        ensures fault { IfErr result (λ fault. IsContentFault (content_of self.old) part.now fault
+        ensures after { OnOk result
+            (ContentAfter (content_of self.old.replica) part.now (content_of self.new.replica)) }
+        ensures change { IfOk result (λ change. TellsPeer self.old change self.new) }
+        ensures valid { OnOk result (IsValidContent (content_of self.old.replica)) }
+        ensures fault { IfErr result (λ fault. IsContentFault (content_of self.old.replica) part.now fault
             ⊎ (fault ≡ Fault.NoMemory)) }
         ensures err { OnErr result (self.new ≡ self.old) }
+        ensures pins { self.new.pins ≡ self.old.pins }
 
         // Want of memory is told only where something grows before a fault is met.
-        ensures memory { IsErrOf result Fault.NoMemory → IsGrowthBeforeFault self.old part.now }
+        ensures memory { IsErrOf result Fault.NoMemory → IsGrowthBeforeFault self.old.replica part.now }
     {
         self.kept.absorb(part)
     }
 
     fn absorb_owned(&mut self, part: Part) -> Result<Change, Fault>
-        ensures after { OnOk result (ContentAfter (content_of self.old) part (content_of self.new)) }
-        ensures change { IfOk result (λ change. TellsChange self.old change self.new) }
-        ensures valid { OnOk result (IsValidContent (content_of self.old)) }
-        ensures fault { IfErr result (λ fault. IsContentFault (content_of self.old) part fault
+        ensures after { OnOk result
+            (ContentAfter (content_of self.old.replica) part (content_of self.new.replica)) }
+        ensures change { IfOk result (λ change. TellsPeer self.old change self.new) }
+        ensures valid { OnOk result (IsValidContent (content_of self.old.replica)) }
+        ensures fault { IfErr result (λ fault. IsContentFault (content_of self.old.replica) part fault
             ⊎ (fault ≡ Fault.NoMemory)) }
         ensures err { OnErr result (self.new ≡ self.old) }
+        ensures pins { self.new.pins ≡ self.old.pins }
 
         // Want of memory is told only where something grows before a fault is met.
-        ensures memory { IsErrOf result Fault.NoMemory → IsGrowthBeforeFault self.old part }
+        ensures memory { IsErrOf result Fault.NoMemory → IsGrowthBeforeFault self.old.replica part }
     {
         self.kept.absorb_owned(part)
     }
 
     fn join(&mut self, other: &Peer) -> Result<(), Fault>
-        ensures joined { OnOk result
-            (ContentsJoined (content_of self.old) (content_of other.now) (content_of self.new)) }
-        ensures valid { OnOk result (IsValidContent (content_of self.old)) }
-        ensures other_valid { OnOk result (IsValidContent (content_of other.now)) }
+        ensures joined { OnOk result (ContentsJoined (content_of self.old.replica) (content_of other.now.replica)
+            (content_of self.new.replica)) }
+        ensures valid { OnOk result (IsValidContent (content_of self.old.replica)) }
+        ensures other_valid { OnOk result (IsValidContent (content_of other.now.replica)) }
         ensures fault { IfErr result
-            (λ fault. ContentsCollide (content_of self.old) (content_of other.now) fault ⊎ (fault ≡ Fault.NoMemory)) }
+            (λ fault. ContentsCollide (content_of self.old.replica) (content_of other.now.replica) fault
+            ⊎ (fault ≡ Fault.NoMemory)) }
         ensures err { OnErr result (self.new ≡ self.old) }
+        ensures pins { self.new.pins ≡ self.old.pins }
 
         // Want of memory is told only where something grows before a fault is met.
-        ensures memory { IsErrOf result Fault.NoMemory → IsGrowthBeforeFault self.old (part_of_replica other.now) }
+        ensures memory { IsErrOf result Fault.NoMemory
+            → IsGrowthBeforeFault self.old.replica (part_of_replica other.now.replica) }
     {
         self.kept.join(&other.kept)
     }
@@ -201,9 +214,9 @@ impl JoinState for Peer {
     fn below(&self, other: &Peer) -> Result<bool, NoMemory>
         // It takes no memory, so it is never refused.
         ensures answer { IsOkAnd result
-            (λ answer. IsTrue answer ↔ ContentBelow (content_of self.now) (content_of other.now)) }
-        ensures valid { IsValidContent (content_of self.now) }
-        ensures other_valid { IsValidContent (content_of other.now) }
+            (λ answer. IsTrue answer ↔ ContentBelow (content_of self.now.replica) (content_of other.now.replica)) }
+        ensures valid { IsValidContent (content_of self.now.replica) }
+        ensures other_valid { IsValidContent (content_of other.now.replica) }
     {
         self.replica().below(other.replica())
     }
@@ -215,7 +228,16 @@ impl Actor for Peer {
     // The common nodes.
     type Ask = Vec<Node>;
 
+    type Mark = Mark;
+
     type Refusal = PeerRefusal;
+
+    // Which changesets it pins.
+    ghost Own = { Node → Bool };
+
+    ghost owned = { own };
+
+    ghost own_of_empty = { λ n. false };
 
     ghost Decides = { DecidesPart };
 
@@ -224,6 +246,10 @@ impl Actor for Peer {
     ghost Offers = { OffersBytes };
 
     ghost IsAgainstAsk = { IsAgainstOffer };
+
+    ghost Marks = { MarksPins };
+
+    ghost IsAgainstMark = { AgainstMark };
 
     ghost Spells = { SpellsPart };
 
@@ -245,6 +271,14 @@ impl Actor for Peer {
 
     ghost offered_alike = { offered_alike };
 
+    ghost marked_says_the_same = { marked_says_the_same };
+
+    ghost marked_once = { marked_once };
+
+    ghost marked_is_not_refused = { marked_not_refused };
+
+    ghost told_leaves_own = { told_leaves_own };
+
     ghost spelled_once = { spelled_once };
 
     ghost spelled_is_not_refused = { spelled_not_refused };
@@ -252,6 +286,8 @@ impl Actor for Peer {
     ghost memory_is_not_against_op = { memory_not_against_operation };
 
     ghost memory_is_not_against_ask = { memory_not_against_offer };
+
+    ghost memory_is_not_against_mark = { memory_not_against_mark };
 
     ghost memory_is_not_against_bytes = { memory_not_against_bytes };
 
@@ -263,12 +299,12 @@ impl Actor for Peer {
 
     fn decide(&self, alloc: Global, op: &Op) -> Result<Part, PeerRefusal>
         ensures ok { IfOk result (DecidesPart self.now op.now) }
-        ensures admitted { IfOk result (λ part. ContentAdmits (content_of self.now) part) }
+        ensures admitted { IfOk result (λ part. ContentAdmits (content_of self.now.replica) part) }
         ensures err { IfErr result (λ refusal. IsAgainstOperation self.now op.now refusal ⊎ IsMemory refusal) }
         ensures due { IsDue (DecidesPart self.now op.now) (IsAgainstOperation self.now op.now) }
 
         // Want of memory is told only where none of the rows applies that are tried before the first growth.
-        ensures memory { IsErrOf result OutOfMemory → MayWantMemory self.now op.now }
+        ensures memory { IsErrOf result OutOfMemory → MayWantMemory self.now.replica self.now.pins op.now }
     {
         match decide_kept(alloc, &self.kept, op) {
             Ok(part) => Ok(part),
@@ -282,7 +318,7 @@ impl Actor for Peer {
         ensures due { IsDue (OffersBytes self.now common.now) (IsAgainstOffer self.now common.now) }
 
         // Want of memory is told only where each common node is held.
-        ensures memory { IsErrOf result OutOfMemory → AreHeld (content_of self.now) common.now.items }
+        ensures memory { IsErrOf result OutOfMemory → AreHeld (content_of self.now.replica) common.now.items }
     {
         // They say that the replica is in a valid state, and that each of its markers can be written.
         let replica = self.kept.replica();
@@ -290,6 +326,21 @@ impl Actor for Peer {
         match Outgoing::above_kept(alloc, &self.kept, common) {
             Ok(found) => written(&found),
             Err(refusal) => Err(refusal.into()),
+        }
+    }
+
+    fn mark(&mut self, mark: &Mark) -> Result<(), PeerRefusal>
+        ensures ok { OnOk result (MarksPins self.old mark.now self.new) }
+        ensures err { IfErr result (λ refusal. AgainstMark self.old mark.now refusal ⊎ IsMemory refusal) }
+        ensures unchanged { OnErr result (self.new ≡ self.old) }
+        ensures due { IsDue (MarksPins self.old mark.now) (AgainstMark self.old mark.now) }
+
+        // Want of memory is told only where the mark has something to change.
+        ensures memory { IsErrOf result OutOfMemory → ChangesPins self.old mark.now }
+    {
+        match mark {
+            Mark::Pin(node) => pin(&mut self.kept, *node),
+            Mark::Unpin(node) => unpin(&mut self.kept, *node),
         }
     }
 
@@ -305,6 +356,32 @@ impl Actor for Peer {
             Ok(message) => part_of(message),
             Err(error) => Err(error.into()),
         }
+    }
+}
+
+/// Pins a changeset.
+fn pin(kept: &mut Kept, node: Node) -> Result<(), PeerRefusal>
+    ensures ok { OnOk result (MarksPins kept.old (Pin node) kept.new) }
+    ensures err { IfErr result (λ refusal. AgainstMark kept.old (Pin node) refusal ⊎ IsMemory refusal) }
+    ensures unchanged { OnErr result (kept.new ≡ kept.old) }
+    ensures memory { IsErrOf result OutOfMemory → ChangesPins kept.old (Pin node) }
+{
+    match kept.pin(node) {
+        Ok(()) => Ok(()),
+        Err(refusal) => Err(refusal.into()),
+    }
+}
+
+/// Takes the pin of a changeset away.
+fn unpin(kept: &mut Kept, node: Node) -> Result<(), PeerRefusal>
+    ensures ok { OnOk result (MarksPins kept.old (Unpin node) kept.new) }
+    ensures err { IfErr result (λ refusal. AgainstMark kept.old (Unpin node) refusal ⊎ IsMemory refusal) }
+    ensures unchanged { OnErr result (kept.new ≡ kept.old) }
+    ensures memory { IsErrOf result OutOfMemory → ChangesPins kept.old (Unpin node) }
+{
+    match kept.unpin(node) {
+        Ok(()) => Ok(()),
+        Err(refusal) => Err(refusal.into()),
     }
 }
 

@@ -2,19 +2,20 @@
 ghost use Rattle.std.specs.Prelude.{◌≡◌, ℕ, Option, Some};
 ghost use Rattle.hg_peer.specs.declared.refusal.PeerRefusal.TheVariants.{NoMemory as OutOfMemory};
 ghost use Rattle.hg_peer.specs.Refusals.{peer_refusal_number, peer_refusal_text, rewrite_refusal, offer_refusal};
-ghost use Rattle.hg_peer.specs.Refusals.{message_refusal};
+ghost use Rattle.hg_peer.specs.Refusals.{message_refusal, pin_refusal};
 
 use hg_history::Fault;
 use hg_marker::ReadError;
 use hg_message::{MessageFault, OfferRefusal};
 use hg_rewrite::Refusal;
+use hg_view::PinRefusal;
 use hg_world::EventRefusal;
 use std::alloc::AllocError;
 use std::error::Error;
 use std::fmt;
 
-/// Why a peer refuses an operation, an offer or bytes. Want of memory is [`NoMemory`](PeerRefusal::NoMemory) for each
-/// of them.
+/// Why a peer refuses an operation, an offer, bytes or a mark. Want of memory is [`NoMemory`](PeerRefusal::NoMemory)
+/// for each of them.
 #[derive(Clone, Copy, PartialEq, Eq, Debug)]
 pub enum PeerRefusal {
     /// The operation is refused.
@@ -23,13 +24,15 @@ pub enum PeerRefusal {
     Offer(OfferRefusal),
     /// The bytes are no message.
     Message(MessageFault),
+    /// The changeset is not pinned, or its pin not taken away.
+    View(PinRefusal),
     /// Memory was wanting.
     NoMemory,
 }
 
 impl PeerRefusal {
-    /// The number that a user reads: that of the operation's refusal, of the offer's, or of the message's fault. Want
-    /// of memory has none.
+    /// The number that a user reads: that of the operation's refusal, of the offer's, of the message's fault or of the
+    /// pin's refusal. Want of memory has none.
     pub fn number(self) -> Option<u8>
         ensures { result ≡ peer_refusal_number self }
     {
@@ -37,6 +40,7 @@ impl PeerRefusal {
             PeerRefusal::Rewrite(refusal) => refusal.number(),
             PeerRefusal::Offer(refusal) => refusal.number(),
             PeerRefusal::Message(fault) => Some(fault.number()),
+            PeerRefusal::View(refusal) => refusal.number(),
             PeerRefusal::NoMemory => None,
         }
     }
@@ -77,6 +81,7 @@ impl fmt::Display for PeerRefusal {
             PeerRefusal::Rewrite(refusal) => write!(f, "{refusal}"),
             PeerRefusal::Offer(refusal) => write!(f, "{refusal}"),
             PeerRefusal::Message(fault) => write!(f, "{fault}"),
+            PeerRefusal::View(refusal) => write!(f, "{refusal}"),
             PeerRefusal::NoMemory => write!(f, "NoMemory"),
         }
     }
@@ -113,6 +118,17 @@ impl From<ReadError<MessageFault>> for PeerRefusal {
         match error {
             ReadError::Fault(fault) => PeerRefusal::Message(fault),
             ReadError::NoMemory => PeerRefusal::NoMemory,
+        }
+    }
+}
+
+impl From<PinRefusal> for PeerRefusal {
+    ghost from_gives = { λ refusal e. e ≡ pin_refusal refusal };
+
+    fn from(refusal: PinRefusal) -> PeerRefusal {
+        match refusal {
+            PinRefusal::NoMemory => PeerRefusal::NoMemory,
+            _ => PeerRefusal::View(refusal),
         }
     }
 }

@@ -6,7 +6,7 @@ use hg_message::{MessageFault, OfferRefusal};
 use hg_peer::{Numbered, Peer, PeerRefusal};
 use hg_replica::Replica;
 use hg_rewrite::Refusal;
-use hg_view::Kept;
+use hg_view::{Kept, PinRefusal};
 use hg_world::EventRefusal;
 
 /// A message of nothing: the magic, version 1, no records, no bounds, and a store of 1 byte, which is its version 0.
@@ -40,13 +40,17 @@ fn refusals_show_their_numbers_and_names(rt: HostRuntime) {
     let operation = PeerRefusal::Rewrite(Refusal::Count);
     let offer = PeerRefusal::Offer(OfferRefusal::TooLarge);
     let message = PeerRefusal::Message(MessageFault::Trailing);
+    let pin = PeerRefusal::View(PinRefusal::NotPinned(Node::NULL));
     let memory = PeerRefusal::NoMemory;
     assert_eq!(rt; [operation.number(), offer.number()], [Some(6), Some(2)]);
-    assert_eq!(rt; [message.number(), memory.number()], [Some(8), None]);
-    let text = format!(in rt.alloc(); "{operation} {offer} {message} {memory}").expect(
+    assert_eq!(rt;
+        [message.number(), pin.number(), memory.number()],
+        [Some(8), Some(2), None]
+    );
+    let text = format!(in rt.alloc(); "{operation} {offer} {message} {pin} {memory}").expect(
         &rt, "memory",
     );
-    assert_eq!(rt; text.as_str(), "Count TooLarge Trailing NoMemory");
+    assert_eq!(rt; text.as_str(), "Count TooLarge Trailing NotPinned NoMemory");
 }
 
 #[test]

@@ -1,16 +1,17 @@
 //! Short lists of events over peers, and what each is answered; each growth refused in turn.
 use hg_changeset::{Entry, Node};
 use hg_history::Fault;
-use hg_peer::{Peer, PeerRefusal};
+use hg_peer::{Mark, Peer, PeerRefusal};
 use hg_phases::Phase;
 use hg_replica::Change;
 use hg_rewrite::Op;
+use hg_view::PinRefusal;
 use hg_world::{Answer, Event, EventRefusal, World};
 use std::alloc::Global;
 use std::collections::BTreeMap;
 use std::process::Abort;
 
-type PeerEvent = Event<Op, Vec<Node>>;
+type PeerEvent = Event<Op, Vec<Node>, Mark>;
 
 type PeerAnswer = Answer<Change, PeerRefusal, Fault>;
 
@@ -18,11 +19,12 @@ type PeerAnswer = Answer<Change, PeerRefusal, Fault>;
 const A: &[u8] = b"f96ca39738e6588d0bf7020cd1d44a23774c1b77";
 
 /// What an answer tells: how many changesets were added and lowered and how many markers are new, which number a
-/// message has, or why the event was refused.
+/// message has, that the peer was marked, or why the event was refused.
 #[derive(Clone, Copy, Debug, PartialEq, Eq)]
 enum Outcome {
     Changed(usize, usize, usize),
     Offered(usize),
+    Marked,
     NoNode,
     NoMessage,
     ByPeer(PeerRefusal),
@@ -39,6 +41,7 @@ fn outcome_of(answer: &PeerAnswer) -> Outcome {
             )
         }
         Answer::Offered(number) => Outcome::Offered(*number),
+        Answer::Marked => Outcome::Marked,
         Answer::Refused(EventRefusal::NoNode) => Outcome::NoNode,
         Answer::Refused(EventRefusal::NoMessage) => Outcome::NoMessage,
         Answer::Refused(EventRefusal::ByActor(refusal)) => Outcome::ByPeer(*refusal),
@@ -89,6 +92,31 @@ fn publish(at: usize, node: Node) -> PeerEvent {
         phase: Phase::Public,
     };
     Event::Local { at, op }
+}
+
+fn mark(at: usize, mark: Mark) -> PeerEvent {
+    Event::Mark { at, mark }
+}
+
+/// An amend of a changeset, with the description `b`.
+fn amend(alloc: Global, at: usize, node: Node) -> Option<PeerEvent> {
+    let entry = Entry {
+        user: Vec::from_slice(alloc, b"fleet").ok()?,
+        secs: 0,
+        offset: 0,
+        extra: BTreeMap::new(alloc),
+        desc: Vec::from_slice(alloc, b"b").ok()?,
+    };
+    let op = Op::Amend { node, entry };
+    Some(Event::Local { at, op })
+}
+
+fn is_visible_at(world: &World<Peer>, at: usize, node: Node) -> Option<bool> {
+    Some(world.state(at)?.kept().is_visible(node))
+}
+
+fn is_pinned_at(world: &World<Peer>, at: usize, node: Node) -> Option<bool> {
+    Some(world.state(at)?.kept().pins().is_pinned(node))
 }
 
 fn phase_at(world: &World<Peer>, at: usize, node: Node) -> Option<Phase> {
@@ -158,6 +186,93 @@ fn what_is_secret_stays_with_its_maker(rt: HostRuntime) {
     expect_answers(&rt, &answers, &expected);
     assert_eq!(rt; phase_at(&world, 0, a), Some(Phase::Secret));
     assert_eq!(rt; phase_at(&world, 1, a), None);
+}
+
+#[test]
+fn what_a_peer_pins_is_in_its_own_view_alone(rt: HostRuntime) {
+    let alloc = rt.alloc();
+    let a = Node::from_hex(A).expect(&rt, "an id");
+    let mut world = World::<Peer>::new(alloc, 2).expect(&rt, "memory");
+    let events = [
+        commit(alloc, 0, false).expect(&rt, "memory"),
+        mark(0, Mark::Pin(a)),
+        amend(alloc, 0, a).expect(&rt, "memory"),
+        offer(alloc, 0),
+        take(1, 0),
+    ];
+    let answers = world.run(&events).expect(&rt, "memory");
+    let expected = [
+        Outcome::Changed(1, 0, 0),
+        Outcome::Marked,
+        Outcome::Changed(1, 0, 1),
+        Outcome::Offered(0),
+        Outcome::Changed(2, 0, 1),
+    ];
+    expect_answers(&rt, &answers, &expected);
+    assert_eq!(rt; is_visible_at(&world, 0, a), Some(true));
+    assert_eq!(rt; is_visible_at(&world, 1, a), Some(false));
+    assert_eq!(rt; is_pinned_at(&world, 1, a), Some(false));
+}
+
+#[test]
+fn an_own_pin_stays_when_a_message_is_taken_and_goes_by_a_mark(rt: HostRuntime) {
+    let alloc = rt.alloc();
+    let a = Node::from_hex(A).expect(&rt, "an id");
+    let mut world = World::<Peer>::new(alloc, 2).expect(&rt, "memory");
+    let events = [
+        commit(alloc, 0, false).expect(&rt, "memory"),
+        commit(alloc, 1, false).expect(&rt, "memory"),
+        mark(1, Mark::Pin(a)),
+        amend(alloc, 0, a).expect(&rt, "memory"),
+        offer(alloc, 0),
+        take(1, 0),
+    ];
+    world.run(&events).expect(&rt, "memory");
+    assert_eq!(rt; is_visible_at(&world, 0, a), Some(false));
+    assert_eq!(rt; is_visible_at(&world, 1, a), Some(true));
+    let answers = world.run(&[mark(1, Mark::Unpin(a))]).expect(&rt, "memory");
+    expect_answers(&rt, &answers, &[Outcome::Marked]);
+    assert_eq!(rt; is_visible_at(&world, 1, a), Some(false));
+}
+
+#[test]
+fn what_cannot_be_marked_is_told(rt: HostRuntime) {
+    let alloc = rt.alloc();
+    let a = Node::from_hex(A).expect(&rt, "an id");
+    let mut world = World::<Peer>::new(alloc, 1).expect(&rt, "memory");
+    let events = [
+        mark(0, Mark::Pin(a)),
+        mark(0, Mark::Pin(Node::NULL)),
+        mark(0, Mark::Unpin(a)),
+        mark(1, Mark::Unpin(a)),
+    ];
+    let answers = world.run(&events).expect(&rt, "memory");
+    let expected = [
+        Outcome::ByPeer(PeerRefusal::View(PinRefusal::Unknown(a))),
+        Outcome::ByPeer(PeerRefusal::View(PinRefusal::Unknown(Node::NULL))),
+        Outcome::ByPeer(PeerRefusal::View(PinRefusal::NotPinned(a))),
+        Outcome::NoNode,
+    ];
+    expect_answers(&rt, &answers, &expected);
+}
+
+#[test]
+fn refused_growth_of_a_mark_changes_nothing(rt: HostRuntime) {
+    let alloc = rt.alloc();
+    let a = Node::from_hex(A).expect(&rt, "an id");
+    let Ok(mut world) = World::<Peer>::new(alloc, 1) else {
+        return;
+    };
+    let Some(event) = commit(alloc, 0, false) else {
+        return;
+    };
+    let marked = match world.run(&[event, mark(0, Mark::Pin(a))]) {
+        Ok(answers) => answers
+            .iter()
+            .any(|answer| outcome_of(answer) == Outcome::Marked),
+        Err(_) => false,
+    };
+    assert_eq!(rt; is_pinned_at(&world, 0, a), Some(marked));
 }
 
 #[test]

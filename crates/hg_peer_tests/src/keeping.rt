@@ -27,7 +27,7 @@ fn absorb(kept: &mut Kept, part: Part) -> Option<bool> {
 
 // Does the operation, unless it is refused.
 fn rewrite(alloc: Global, kept: &mut Kept, op: &Op) -> Option<bool> {
-    match decide(alloc, kept.replica(), op) {
+    match decide(alloc, kept.replica(), kept.pins(), op) {
         Ok(part) => absorb(kept, part),
         Err(Refusal::NoMemory) => None,
         Err(_) => Some(false),
@@ -42,7 +42,7 @@ fn take(alloc: Global, kept: &mut Kept, message: &[u8]) -> Option<bool> {
 
 // The bytes of what the replica offers above the common node, or of nothing where that is refused.
 fn offer(alloc: Global, kept: &Kept, common: &[Node]) -> Option<Vec<u8>> {
-    match Outgoing::above(alloc, kept.replica(), common) {
+    match Outgoing::above(alloc, kept.replica(), kept.pins(), common) {
         Ok(found) => found.to_bytes().ok(),
         Err(OfferRefusal::NoMemory) => None,
         Err(_) => Some(Vec::new(alloc)),
@@ -263,7 +263,7 @@ impl Pair {
 
 // Does an operation that isn't refused, and gives the last changeset that it made, or the null id.
 fn make(alloc: Global, kept: &mut Kept, op: &Op) -> Option<Node> {
-    let part = decide(alloc, kept.replica(), op).ok()?;
+    let part = decide(alloc, kept.replica(), kept.pins(), op).ok()?;
     let made = match part.changesets.last() {
         Some(changeset) => changeset.node(),
         None => Node::NULL,

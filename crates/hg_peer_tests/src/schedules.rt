@@ -1,28 +1,31 @@
-//! Long lists of events over five peers, in any order, beside plain lists of the parts that each accepted.
+//! Long lists of events over five peers, in any order, beside plain lists of the parts that each accepted and of what
+//! each pinned.
 use crate::heard::Heard;
 use crate::operations::{some_node, some_operation, some_rewrite};
 use hg_changeset::Node;
 use hg_history::Fault;
 use hg_join::{Actor, JoinState};
 use hg_join_tests::Dice;
-use hg_peer::{Peer, PeerRefusal};
+use hg_peer::{Mark, Peer, PeerRefusal};
 use hg_replica::{Change, Part};
 use hg_rewrite::Op;
 use hg_world::{Answer, Event, World};
 use std::alloc::Global;
+use std::collections::BTreeSet;
 
-type PeerEvent = Event<Op, Vec<Node>>;
+type PeerEvent = Event<Op, Vec<Node>, Mark>;
 
 type PeerAnswer = Answer<Change, PeerRefusal, Fault>;
 
 const PEERS: usize = 5;
 
-/// A world of five peers, the bytes of its messages, and what each peer accepted.
+/// A world of five peers, the bytes of its messages, what each peer accepted, and what each pinned.
 struct Schedule {
     alloc: Global,
     world: World<Peer>,
     messages: Vec<Vec<u8>>,
     heard: Vec<Heard>,
+    pins: Vec<BTreeSet<Node>>,
     dice: Dice,
 }
 
@@ -33,6 +36,7 @@ impl Drop for Schedule {
             world: _,
             messages: _,
             heard: _,
+            pins: _,
             dice: _,
         } = self;
     }
@@ -41,23 +45,27 @@ impl Drop for Schedule {
 impl Schedule {
     fn new(alloc: Global, seed: u64) -> Option<Schedule> {
         let mut heard = Vec::new(alloc);
+        let mut pins = Vec::new(alloc);
         for _ in 0..PEERS {
             heard.push(Heard::new(alloc)).ok()?;
+            pins.push(BTreeSet::new(alloc)).ok()?;
         }
         Some(Schedule {
             alloc,
             world: World::new(alloc, PEERS).ok()?,
             messages: Vec::new(alloc),
             heard,
+            pins,
             dice: Dice::new(seed),
         })
     }
 
-    /// Runs one event. An accepted one is heard, an offered message is kept; `None` where an answer is none of those
-    /// that the states before allow, or memory ran out.
+    /// Runs one event. An accepted one is heard, an offered message is kept, a mark is noted; `None` where an answer is
+    /// none of those that the states before allow, or memory ran out.
     fn run(&mut self, event: PeerEvent) -> Option<()> {
         let part = self.part_of(&event);
         let bytes = self.bytes_of(&event);
+        let mark = self.mark_of(&event);
         let at = event.place();
         let answers = self.world.run(&[event]).ok()?;
         match answers.first()? {
@@ -66,6 +74,8 @@ impl Schedule {
                 self.messages.push(bytes?).ok()
             }
             Answer::Offered(_) => None,
+            Answer::Marked => self.note(at, mark?),
+            Answer::Refused(_) if mark.is_some() => None,
             Answer::Refused(_) => Some(()),
         }
     }
@@ -75,6 +85,7 @@ impl Schedule {
         match event {
             Event::Local { at, op } => self.world.state(*at)?.decide(self.alloc, op).ok(),
             Event::Offer { at: _, ask: _ } => None,
+            Event::Mark { at: _, mark: _ } => None,
             Event::Take { at: _, message } => {
                 Peer::read(self.alloc, self.messages.get(*message)?.as_slice()).ok()
             }
@@ -87,6 +98,32 @@ impl Schedule {
             Event::Offer { at, ask } => self.world.state(*at)?.offer(self.alloc, ask).ok(),
             _ => None,
         }
+    }
+
+    /// The mark of an event that asks for one which the state before allows.
+    fn mark_of(&self, event: &PeerEvent) -> Option<Mark> {
+        let Event::Mark { at, mark } = event else {
+            return None;
+        };
+        let is_allowed = match mark {
+            Mark::Pin(node) => self.world.state(*at)?.replica().graph().contains(*node),
+            Mark::Unpin(node) => self.pins.get(*at)?.contains(node),
+        };
+        if is_allowed { Some(*mark) } else { None }
+    }
+
+    /// A peer was marked so.
+    fn note(&mut self, at: usize, mark: Mark) -> Option<()> {
+        let pins = self.pins.get_mut(at)?;
+        match mark {
+            Mark::Pin(node) => {
+                pins.insert(node).ok()?;
+            }
+            Mark::Unpin(node) => {
+                pins.remove(&node);
+            }
+        }
+        Some(())
     }
 
     /// One of the last 40 changesets of a peer, or at times none.
@@ -111,7 +148,7 @@ impl Schedule {
     /// aren't there yet.
     fn some_event(&mut self, number: usize) -> Option<PeerEvent> {
         let at = self.dice.roll(PEERS + 1);
-        Some(match self.dice.roll(5) {
+        Some(match self.dice.roll(6) {
             0 => Event::Offer {
                 at,
                 ask: self.some_common(at % PEERS)?,
@@ -120,10 +157,24 @@ impl Schedule {
                 at,
                 message: self.dice.roll(500),
             },
+            3 => Event::Mark {
+                at,
+                mark: self.some_mark(at % PEERS)?,
+            },
             _ => Event::Local {
                 at,
                 op: self.some_operation(at % PEERS, number)?,
             },
+        })
+    }
+
+    /// A pin, or at times that one is to be taken away, whether the changeset is held and pinned or not.
+    fn some_mark(&mut self, at: usize) -> Option<Mark> {
+        let node = self.some_node(at)?;
+        Some(if self.dice.roll(3) == 0 {
+            Mark::Unpin(node)
+        } else {
+            Mark::Pin(node)
         })
     }
 
@@ -167,6 +218,16 @@ impl Schedule {
         Some(())
     }
 
+    /// Whether each peer's pins are those that it was marked with.
+    fn is_as_marked(&self) -> Option<bool> {
+        for (at, pins) in self.pins.iter().enumerate() {
+            if self.world.state(at)?.kept().pins().nodes() != pins {
+                return Some(false);
+            }
+        }
+        Some(true)
+    }
+
     /// Whether each peer's state is what the parts say that it accepted.
     fn is_as_heard(&self) -> Option<bool> {
         for (at, heard) in self.heard.iter().enumerate() {
@@ -192,6 +253,7 @@ fn each_peer_has_what_a_plain_list_of_parts_gives(rt: HostRuntime) {
         .run_any(2_000)
         .expect(&rt, "answers that the states allow");
     assert_eq!(rt; schedule.is_as_heard(), Some(true));
+    assert_eq!(rt; schedule.is_as_marked(), Some(true));
 }
 
 #[test]

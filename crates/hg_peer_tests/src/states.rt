@@ -2,7 +2,7 @@
 use hg_changeset::{Changeset, Node};
 use hg_history::Fault;
 use hg_join::{Actor, JoinState};
-use hg_peer::Peer;
+use hg_peer::{Mark, Peer};
 use hg_phases::Phase;
 use hg_replica::Part;
 use std::alloc::Global;
@@ -41,6 +41,24 @@ fn a_copy_that_absorbed_is_above_and_is_joined(rt: HostRuntime) {
     assert_eq!(rt; copy.below(&peer), Ok(false));
     assert_eq!(rt; peer.join(&copy), Ok(()));
     assert_eq!(rt; copy.below(&peer), Ok(true));
+}
+
+#[test]
+fn a_copy_has_the_pins_and_what_grows_keeps_its_own(rt: HostRuntime) {
+    let alloc = rt.alloc();
+    let mut peer = Peer::empty(alloc).expect(&rt, "memory");
+    let part = child_of(alloc, Node::NULL).expect(&rt, "memory");
+    let node = part.changesets.first().expect(&rt, "one").node();
+    peer.absorb(&part).expect(&rt, "a change");
+    let mut copy = peer.copy().expect(&rt, "memory");
+    assert_eq!(rt; copy.mark(&Mark::Pin(node)), Ok(()));
+    peer.join(&copy).expect(&rt, "one state");
+    assert!(rt; !peer.kept().pins().is_pinned(node));
+    let more = child_of(alloc, node).expect(&rt, "memory");
+    copy.absorb(&more).expect(&rt, "a change");
+    copy.absorb_owned(more).expect(&rt, "no change");
+    let second = copy.copy().expect(&rt, "memory");
+    assert!(rt; second.kept().pins().is_pinned(node));
 }
 
 #[test]

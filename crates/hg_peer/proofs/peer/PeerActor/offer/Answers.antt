@@ -25,7 +25,7 @@ returns-in-Ok-clause-due c =
 
 pub returns-in-Ok-clause-memory : goal.returns-in-Ok-clause-memory
 returns-in-Ok-clause-memory c =
-    rw (← c.self.view_is) (λ h. subst (AreHeld (content_of c.self.inside.kept)) c.deref.ensures.value
+    rw (← c.self.view_is) (λ h. subst (AreHeld (content_of c.self.inside.kept.replica)) c.deref.ensures.value
     c.in-Ok.ensures.0)
 
 pub returns-in-Err-clause-err : goal.returns-in-Err-clause-err
