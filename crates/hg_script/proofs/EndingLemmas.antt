@@ -15,14 +15,15 @@ use Rattle.hg_changeset.specs.declared.node.Node.{Node}
 use Rattle.hg_changeset.proofs.ListLemmas.{slice_get-append_seam}
 use Rattle.hg_graph.specs.Graph.{nodes}
 use Rattle.hg_history.specs.declared.fault.Fault.{Fault}
-use Rattle.hg_replica.specs.State.{ReplicaState}
 use Rattle.hg_replica.specs.Least.{PartValue}
+use Rattle.hg_view.specs.Kept.{KeptValue}
 use Rattle.hg_rewrite.specs.declared.op.Op.{Op}
 use Rattle.hg_world.specs.Runs.{Snapshot, IsReason, Makes, Refuses, Happens}
 use Rattle.hg_world.specs.declared.event.Event.TheVariants as event
 use Rattle.hg_world.specs.declared.event.EventRefusal.{EventRefusal}
 use Rattle.hg_world.specs.declared.event.EventRefusal.TheVariants.{NoNode, NoMessage, ByActor, ByState}
-use Rattle.hg_world.specs.declared.event.Answer.TheVariants.{Accepted, Offered, Refused}
+use Rattle.hg_world.specs.declared.event.Answer.TheVariants.{Accepted, Offered, Marked, Refused}
+use Rattle.hg_peer.specs.declared.mark.Mark.{Mark}
 use Rattle.hg_peer.specs.declared.refusal.PeerRefusal.{PeerRefusal}
 use Rattle.hg_peer.specs.Peers.{Decides}
 use Rattle.hg_peer.specs.Words.{peer_words, peer_state}
@@ -50,7 +51,7 @@ use Rattle.hg_script.proofs.LabelLemmas.{twice_taken, nothing_free, new_apart, m
 
 -- ---- names that stand for nothing
 
-pub node_from_place : (f : Fleet) (name : Text) (place : ℕ) (found : Option ReplicaState) → places f name ≡ Some place
+pub node_from_place : (f : Fleet) (name : Text) (place : ℕ) (found : Option KeptValue) → places f name ≡ Some place
     → slice_get f.world.nodes place ≡ found → node_named f name ≡ found
 node_from_place f name place found at is = ap (option_and_then (slice_get f.world.nodes)) at ∙ is
 
@@ -115,7 +116,7 @@ unknown_at names (w ∷ labels) (suc i) d l h = inr (unknown_at names labels i d
 
 -- ---- events
 
-reason_absent : (world : Snapshot ReplicaState) (node : ReplicaState) (asked : PeerEvent)
+reason_absent : (world : Snapshot KeptValue) (node : KeptValue) (asked : PeerEvent)
     (refusal : EventRefusal PeerRefusal Fault)
     → IsReason peer_state peer_words world.messages node asked refusal → IsAbsence refusal → LacksMessage world asked
 reason_absent world node (event.Local at op) NoNode h absent = h
@@ -130,10 +131,14 @@ reason_absent world node (event.Take at message) NoNode h absent = absurd h
 reason_absent world node (event.Take at message) NoMessage h absent = h
 reason_absent world node (event.Take at message) (ByActor r) h absent = absurd absent
 reason_absent world node (event.Take at message) (ByState r) h absent = absurd absent
+reason_absent world node (event.Mark at mark) NoNode h absent = h
+reason_absent world node (event.Mark at mark) NoMessage h absent = h
+reason_absent world node (event.Mark at mark) (ByActor r) h absent = absent
+reason_absent world node (event.Mark at mark) (ByState r) h absent = absent
 
 -- where the refusal says that nothing is there for an event, it has no node or no message
-pub nowhere : (world : Snapshot ReplicaState) (asked : PeerEvent) (refusal : EventRefusal PeerRefusal Fault)
-    (answer : PeerAnswer) (new : Snapshot ReplicaState) → answer ≡ Refused refusal
+pub nowhere : (world : Snapshot KeptValue) (asked : PeerEvent) (refusal : EventRefusal PeerRefusal Fault)
+    (answer : PeerAnswer) (new : Snapshot KeptValue) → answer ≡ Refused refusal
     → (part : Option PartValue) × Happens peer_state peer_words world asked answer part new → IsAbsence refusal
     → IsNowhere world asked
 nowhere world asked refusal answer new e (part, h) absent =
@@ -149,7 +154,7 @@ nowhere world asked refusal answer new e (part, h) absent =
     by None h = refused h
 
 -- the taker of a pull is there, and so is what was offered
-pub offered_is_there : (old mid : Snapshot ReplicaState) (giver taker : ℕ) (common : Vec Node Global) (number : ℕ)
+pub offered_is_there : (old mid : Snapshot KeptValue) (giver taker : ℕ) (common : Vec Node Global) (number : ℕ)
     (answer : PeerAnswer) → AreCommonAt old taker giver common.items → answer ≡ Offered number
     → (part : Option PartValue) × Happens peer_state peer_words old (event.Offer giver common) answer part mid
     → ¬ (IsNowhere mid (event.Take taker number))
@@ -159,7 +164,7 @@ offered_is_there old mid giver taker common number answer heads e (part, h) noth
     made : Makes peer_state peer_words old (event.Offer giver common) number mid
         → IsNowhere mid (event.Take taker number) → ⊥
     made m (inl none) = let at = heads.2 in let same : slice_get mid.nodes taker ≡ slice_get old.nodes taker =
-        ap (λ (ns : List ReplicaState). slice_get ns taker) m.5 in cc
+        ap (λ (ns : List KeptValue). slice_get ns taker) m.5 in cc
     made m (inr none) =
         let there : slice_get mid.messages number ≡ Some m.1 =
         ap (λ (ms : List Text). slice_get ms number) m.6
@@ -190,6 +195,11 @@ pub local_nowhere : (f : Fleet) (at : Word) (place : ℕ) (op : Op) → places f
 local_nowhere f at place op is (inl none) = node_from_place f at.now place None is none
 local_nowhere f at place op is (inr h) = absurd h
 
+pub mark_nowhere : (f : Fleet) (at : Word) (place : ℕ) (mark : Mark) → places f at.now ≡ Some place
+    → IsNowhere f.world (event.Mark place mark) → node_named f at.now ≡ None
+mark_nowhere f at place mark is (inl none) = node_from_place f at.now place None is none
+mark_nowhere f at place mark is (inr h) = absurd h
+
 -- one of the two of a pull
 pub pull_nodes : (number : ℕ) (f : Fleet) (to from : Word) (taker giver : ℕ) (fault : RunFault)
     → places f from.now ≡ Some giver → places f to.now ≡ Some taker
@@ -203,7 +213,7 @@ pull_nodes number f to from taker giver fault gives takes (inr (inr h)) =
     node_fault number f (Pull to from) from.now giver fault gives (λ none. inr none) h
 
 -- what is taken of an offer lacks nothing
-pub taken_fails : (number : ℕ) (f : Fleet) (command : Command) (mid : Snapshot ReplicaState) (giver taker : ℕ)
+pub taken_fails : (number : ℕ) (f : Fleet) (command : Command) (mid : Snapshot KeptValue) (giver taker : ℕ)
     (common : Vec Node Global) (answer : PeerAnswer) (fault : RunFault) → AreCommonAt f.world taker giver common.items
     → (part : Option PartValue) × Happens peer_state peer_words f.world (event.Offer giver common) answer part mid
     → IsTakeFault number mid taker answer fault → IsCommandFault number f command fault
@@ -214,8 +224,8 @@ taken_fails number f command mid giver taker common answer fault heads happens (
 -- ---- new labels
 
 -- labels that are free to name whatever the operation makes are free to name what it brought
-pub free_brought : (names : Meaning Node) (labels : List Text) (state : ReplicaState) (old : Snapshot ReplicaState)
-    (place : ℕ) (op : Op) (answer : PeerAnswer) (part : Option PartValue) (new : Snapshot ReplicaState)
+pub free_brought : (names : Meaning Node) (labels : List Text) (state : KeptValue) (old : Snapshot KeptValue)
+    (place : ℕ) (op : Op) (answer : PeerAnswer) (part : Option PartValue) (new : Snapshot KeptValue)
     → slice_get old.nodes place ≡ Some state → AreLabelsFree names labels state op
     → Happens peer_state peer_words old (event.Local place op) answer part new
     → IsTrue (may_be_bound names labels (brought (part ∷ [])))
@@ -223,12 +233,13 @@ free_brought names labels state old place op answer None new at free h = nothing
 free_brought names labels state old place op (Accepted change) (Some part) new at free h =
     let same : h.0 ≡ state = same_Some h.0 state (sym h.2 ∙ at) in
     subst (λ (ns : List Node). IsTrue (may_be_bound names labels ns)) (sym (append-nil (nodes part.history.changesets)))
-    (free part (subst (λ (s : ReplicaState). Decides s op part) same h.3))
+    (free part (subst (λ (s : KeptValue). Decides s op part) same h.3))
 free_brought names labels state old place op (Offered number) (Some part) new at free h = absurd h
+free_brought names labels state old place op Marked (Some part) new at free h = absurd h
 free_brought names labels state old place op (Refused refusal) (Some part) new at free h = absurd h
 
 -- an operation that isn't refused makes a changeset for each label, each with an id of its own
-pub taken_fault : (number : ℕ) (f : Fleet) (at : Word) (op : Operation) (asked : Op) (state : ReplicaState)
+pub taken_fault : (number : ℕ) (f : Fleet) (at : Word) (op : Operation) (asked : Op) (state : KeptValue)
     (labels : List Word) (fault : RunFault) → texts labels ≡ new_labels op
     → IsOperation (ids f) op asked → node_named f at.now ≡ Some state
     → IsTakenFault number (ids f) labels state asked fault → IsCommandFault number f (operation at op) fault
@@ -265,21 +276,21 @@ taken_fault number f at op asked state labels NoMemory same meant held h = tt
 
 -- no form of a command shows such a fault, and what is no command is an unknown one
 not_too_long : (word : Text) (rest : List Word) → LineAnswer word rest (Err TooLong) → ⊥
-not_too_long word rest (a, b, c, d, e, f, other) =
-    let (g, h, i, j, k, l, m, none) = other (a, b, c, d, e, f) in
-    let is = none (g, h, i, j, k, l, m) in
+not_too_long word rest (a, b, c, d, e, f, g, h, other) =
+    let (i, j, k, l, m, n, o, none) = other (a, b, c, d, e, f, g, h) in
+    let is = none (i, j, k, l, m, n, o) in
     cc
 
 not_unknown_name : (word : Text) (rest : List Word) → LineAnswer word rest (Err UnknownName) → ⊥
-not_unknown_name word rest (a, b, c, d, e, f, other) =
-    let (g, h, i, j, k, l, m, none) = other (a, b, c, d, e, f) in
-    let is = none (g, h, i, j, k, l, m) in
+not_unknown_name word rest (a, b, c, d, e, f, g, h, other) =
+    let (i, j, k, l, m, n, o, none) = other (a, b, c, d, e, f, g, h) in
+    let is = none (i, j, k, l, m, n, o) in
     cc
 
 not_taken : (word : Text) (rest : List Word) → LineAnswer word rest (Err NameTaken) → ⊥
-not_taken word rest (a, b, c, d, e, f, other) =
-    let (g, h, i, j, k, l, m, none) = other (a, b, c, d, e, f) in
-    let is = none (g, h, i, j, k, l, m) in
+not_taken word rest (a, b, c, d, e, f, g, h, other) =
+    let (i, j, k, l, m, n, o, none) = other (a, b, c, d, e, f, g, h) in
+    let is = none (i, j, k, l, m, n, o) in
     cc
 
 -- the faults that the words of a line show

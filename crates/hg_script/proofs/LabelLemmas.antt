@@ -17,6 +17,7 @@ use Rattle.hg_graph.specs.Graph.{nodes}
 use Rattle.hg_phases.specs.State.{State}
 use Rattle.hg_replica.specs.State.{ReplicaState}
 use Rattle.hg_replica.specs.Least.{PartValue}
+use Rattle.hg_view.specs.Kept.{KeptValue}
 use Rattle.hg_rewrite.specs.declared.op.Op.{Op}
 use Rattle.hg_rewrite.specs.declared.op.Op.TheVariants as asks
 use Rattle.hg_rewrite.specs.declared.refusal.Refusal.{Refusal}
@@ -174,9 +175,10 @@ new_ids_apart : (s : State) (ns : List Node) → NoneApplies (existing s ns) →
 new_ids_apart s [] h = tt
 new_ids_apart s (n ∷ ns) h = (λ again. h.0 (Exists n, (inr again, refl)), new_ids_apart s ns h.1)
 
-none_exists : (s : ReplicaState) (op : Op) → NoneApplies (refusals s op) → NoneApplies (existing_ids s op)
+none_exists : (s : ReplicaState) (pins : List Node) (op : Op) → NoneApplies (refusals s pins op)
+    → NoneApplies (existing_ids s op)
 unfolding refusals
-none_exists s op h =
+none_exists s pins op h =
     let r9 = existing_ids s op in
     let r8 = not_marked s op ++ r9 in
     let r7 = not_written s op ++ r8 in
@@ -185,7 +187,7 @@ none_exists s op h =
     let r4 = not_linear s op ++ r5 in
     let r3 = obsolete_nodes s op ++ r4 in
     let r2 = public_nodes s op ++ r3 in
-    let r1 = hidden_parents s op ++ r2 in
+    let r1 = hidden_parents s pins op ++ r2 in
     rows_after (not_marked s op) r9
     (rows_after (not_written s op) r8
     (rows_after (raise s op) r7
@@ -193,16 +195,17 @@ none_exists s op h =
     (rows_after (not_linear s op) r5
     (rows_after (obsolete_nodes s op) r4
     (rows_after (public_nodes s op) r3
-    (rows_after (hidden_parents s op) r2
+    (rows_after (hidden_parents s pins op) r2
     (rows_after (unknown_nodes s op) r1 h))))))))
 
 -- no two of the new changesets have one id
-pub new_apart : (s : ReplicaState) (op : Op) (part : PartValue) → Decides s op part
+pub new_apart : (s : KeptValue) (op : Op) (part : PartValue) → Decides s op part
     → NoneAgain (nodes part.history.changesets)
 unfolding part_of
 new_apart s op part d =
     subst (λ (k : PartValue). NoneAgain (nodes k.history.changesets)) (sym d.2)
-    (new_ids_apart s.history (nodes (part_of s op).history.changesets) (none_exists s op d.1))
+    (new_ids_apart s.replica.history (nodes (part_of s.replica op).history.changesets)
+    (none_exists s.replica s.pins op d.1))
 
 chain_length : (on : Node × Node) (ts : List (List ℕ)) → length (chain on ts) ≡ length ts
 unfolding chain
@@ -240,11 +243,11 @@ entries_for names (Relocate old new parents) asked (n, p, q, at, are, e) = ap (�
 entries_for names (Advance label phase) asked (n, at, e) = ap (λ (o : Op). length (entries o)) e
 
 -- a changeset for each new label
-pub made_for : (names : Meaning Node) (op : Operation) (s : ReplicaState) (asked : Op) (part : PartValue)
+pub made_for : (names : Meaning Node) (op : Operation) (s : KeptValue) (asked : Op) (part : PartValue)
     → IsOperation names op asked → Decides s asked part
     → length (nodes part.history.changesets) ≡ length (new_labels op)
 made_for names op s asked part meant d =
-    ap (λ (k : PartValue). length (nodes k.history.changesets)) d.2 ∙ made_length s asked
+    ap (λ (k : PartValue). length (nodes k.history.changesets)) d.2 ∙ made_length s.replica asked
     ∙ entries_for names op asked meant
 
 -- ---- labels and changesets, pair by pair
@@ -279,24 +282,25 @@ each_end names (w ∷ labels) (d ∷ cs) (inr h) = absurd (omega arith)
 -- ---- what a check of the labels finds
 
 -- what isn't decided is refused first by some row
-pub refused_first : (state : ReplicaState) (op : Op) (r : Refusal) (n : ℕ) → refusal_number r ≡ Some n
-    → IsRefusal (refusals state op) r → (part : PartValue) → ¬ (Decides state op part)
+pub refused_first : (state : KeptValue) (op : Op) (r : Refusal) (n : ℕ) → refusal_number r ≡ Some n
+    → IsRefusal (refusals state.replica state.pins op) r → (part : PartValue) → ¬ (Decides state op part)
 refused_first state op r n told (inl e) part d = let none : refusal_number r ≡ None = ap refusal_number e in cc
-refused_first state op r n told (inr first) part d = none_refused (refusals state op) r d.1 first
+refused_first state op r n told (inr first) part d =
+    none_refused (refusals state.replica state.pins op) r d.1 first
 
 -- labels that are all different and name nothing yet are free to name whatever is made
-pub free_unbound : (names : Meaning Node) (words : List Word) (state : ReplicaState) (op : Op) → AreDistinct words
+pub free_unbound : (names : Meaning Node) (words : List Word) (state : KeptValue) (op : Op) → AreDistinct words
     → list_all (λ w. is_none (names w.now)) words ≡ true → AreLabelsFree names (texts words) state op
 free_unbound names words state op distinct unbound part d =
     distinct_free names words (nodes part.history.changesets) distinct
     ∙ unbound_free names words (nodes part.history.changesets) unbound
 
 -- two parts of one operation are one
-one_part : (state : ReplicaState) (op : Op) (part other : PartValue) → Decides state op part → Decides state op other
+one_part : (state : KeptValue) (op : Op) (part other : PartValue) → Decides state op part → Decides state op other
     → part ≡ other
 one_part state op part other d e = d.2 ∙ sym e.2
 
-pub free_made : (names : Meaning Node) (words : List Word) (state : ReplicaState) (op : Op) (made : PartValue)
+pub free_made : (names : Meaning Node) (words : List Word) (state : KeptValue) (op : Op) (made : PartValue)
     (distinct : Bool) → (IsTrue distinct → AreDistinct words) → Decides state op made
     → (distinct && each_may_name names (texts words) (nodes made.history.changesets)) ≡ true
     → AreLabelsFree names (texts words) state op
@@ -307,7 +311,7 @@ free_made names words state op made distinct leads d free part e =
     subst (λ (k : PartValue). may_be_bound names (texts words) (nodes k.history.changesets) ≡ true)
     (one_part state op made part d e) at_made
 
-pub taken_made : (number : ℕ) (names : Meaning Node) (words : List Word) (state : ReplicaState) (op : Op)
+pub taken_made : (number : ℕ) (names : Meaning Node) (words : List Word) (state : KeptValue) (op : Op)
     (made : PartValue) (distinct : Bool) → IsTrue distinct ↔ AreDistinct words → Decides state op made
     → (distinct && each_may_name names (texts words) (nodes made.history.changesets)) ≡ false
     → IsTakenFault number names words state op (Line number NameTaken)

@@ -20,6 +20,7 @@ use Rattle.hg_history.specs.Content.{IsHeld}
 use Rattle.hg_instab.proofs.QueryLemmas.{isnt_so}
 use Rattle.hg_replica.specs.Content.{content_of}
 use Rattle.hg_replica.specs.State.{ReplicaState, IsValid}
+use Rattle.hg_view.specs.Kept.{KeptValue}
 use Rattle.hg_script.specs.declared.report.RowWords.{RowWords}
 use Rattle.hg_script.specs.Commands.{Text, Word}
 use Rattle.hg_script.specs.Reports.{AreRowLines, AreRows, AreWordsOf, IsRowLine, RowValue, label_of, row_cmp, row_line}
@@ -110,37 +111,38 @@ places_within s rows are k d l =
 -- ---- lines
 
 -- the line of the next row, and those of the rows after it
-pub next_lines : (s : ReplicaState) (rows : List (Word × ℕ)) (i : ℕ) (d : Word × ℕ) (first rest : Text)
+pub next_lines : (s : KeptValue) (rows : List (Word × ℕ)) (i : ℕ) (d : Word × ℕ) (first rest : Text)
     → i < length rows → IsRowLine s ((get_or rows i d).0.now, (get_or rows i d).1) first
     → AreRowLines s (row_values (drop (i + 1) rows)) rest → AreRowLines s (row_values (drop i rows)) (first ++ rest)
 next_lines s rows i d first rest within line later =
     subst (λ (rs : List (Word × ℕ)). AreRowLines s (row_values rs) (first ++ rest)) (sym (drop_more rows i d within))
     (first, rest, line, later, refl)
 
-pub no_lines : (s : ReplicaState) (rows : List (Word × ℕ)) (i : ℕ) → length rows ≤ i
+pub no_lines : (s : KeptValue) (rows : List (Word × ℕ)) (i : ℕ) → length rows ≤ i
     → AreRowLines s (row_values (drop i rows)) []
 no_lines s rows i past =
     subst (λ (rs : List (Word × ℕ)). AreRowLines s (row_values rs) []) (sym (drop_all i rows past)) refl
 
 -- the changeset at a place has the node that stands there, and is held
-pub row_of : (s : ReplicaState) (place : ℕ) (node : Node) (phase : Phase) (label text : Text) (words : RowWords)
-    → IsValid s → Some node ≡ slice_get (nodes (changesets s.history)) place
-    → (h : Held) × (slice_get s.history.held place ≡ Some h) × (h.phase ≡ phase)
-    → (IsHeld (content_of s).0 node → AreWordsOf (content_of s) node words) → text ≡ row_line label phase words
+pub row_of : (s : KeptValue) (place : ℕ) (node : Node) (phase : Phase) (label text : Text) (words : RowWords)
+    → IsValid s.replica → Some node ≡ slice_get (nodes (changesets s.replica.history)) place
+    → (h : Held) × (slice_get s.replica.history.held place ≡ Some h) × (h.phase ≡ phase)
+    → (IsHeld (content_of s.replica).0 node → AreWordsOf (content_of s.replica) s.pins node words) → text ≡ row_line label phase words
     → IsRowLine s (label, place) text
 row_of s place node phase label text words valid at (h, held, is) tells e =
-    let cs = changesets s.history in
+    let cs = changesets s.replica.history in
     let there : slice_get cs place ≡ Some h.changeset =
-    slice_get-map (λ (k : Held). k.changeset) s.history.held place
+    slice_get-map (λ (k : Held). k.changeset) s.replica.history.held place
     ∙ ap (option_map (λ (k : Held). k.changeset)) held in
     let node_is : node ≡ node_of h.changeset =
     same_Some node (node_of h.changeset) (at ∙ slice_get-map node_of cs place ∙ ap (option_map node_of) there) in
-    let known = content-held s.history valid.graph node h (Contains-from_place s.history.held place h held)
+    let known = content-held s.replica.history valid.graph node h
+    (Contains-from_place s.replica.history.held place h held)
     (sym node_is) in (
       h,
       words,
       held,
-      subst (λ (n : Node). AreWordsOf (content_of s) n words) node_is (tells (h, known)),
+      subst (λ (n : Node). AreWordsOf (content_of s.replica) s.pins n words) node_is (tells (h, known)),
       e ∙ ap (λ (k : Phase). row_line label k words) (sym is),
     )
 

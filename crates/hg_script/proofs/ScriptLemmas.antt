@@ -15,10 +15,11 @@ use Rattle.hg_replica.specs.Content.{ContentBelow, content_of}
 use Rattle.hg_replica.proofs.ContentLemmas.{below_from_content, content-below}
 use Rattle.hg_replica.specs.Least.{PartValue}
 use Rattle.hg_history.specs.declared.fault.Fault.{Fault}
+use Rattle.hg_view.specs.Kept.{KeptValue}
 use Rattle.hg_world.specs.Runs.{Snapshot, Happens}
 use Rattle.hg_world.specs.declared.event.Event.TheVariants.{Offer, Take}
 use Rattle.hg_world.specs.declared.event.EventRefusal.{EventRefusal}
-use Rattle.hg_world.specs.declared.event.Answer.TheVariants.{Accepted, Offered, Refused}
+use Rattle.hg_world.specs.declared.event.Answer.TheVariants.{Accepted, Offered, Marked, Refused}
 use Rattle.hg_peer.specs.declared.refusal.PeerRefusal.{PeerRefusal}
 use Rattle.hg_peer.specs.Words.{peer_state, peer_words}
 use Rattle.hg_script.specs.declared.command.Command.TheVariants.{Node as node, Pull, Report, Agree}
@@ -33,7 +34,7 @@ use Rattle.hg_script.specs.Words.{has_node}
 
 -- two runs, one after the other, are one
 abbrev pub Compose : Type 0
-Compose = (old mid new : Snapshot ReplicaState) (t u : Trace) → Ran old t mid → Ran mid u new → Ran old (joined t u) new
+Compose = (old mid new : Snapshot KeptValue) (t u : Trace) → Ran old t mid → Ran mid u new → Ran old (joined t u) new
 
 does_words_ran : (old : Fleet) (words : List Word) (t : Trace) (new : Fleet) → DoesWords old words t new
     → Ran old.world t new.world
@@ -60,14 +61,14 @@ does_lines_ran compose old (line ∷ lines) t new (mid, here, later, did, more, 
 abbrev pub one : PeerEvent → PeerAnswer → Option PartValue → Trace
 one event answer part = record { events = event ∷ []; answers = answer ∷ []; parts = part ∷ [] }
 
-pub one_ran : (old : Snapshot ReplicaState) (event : PeerEvent) (answer : PeerAnswer) (part : Option PartValue)
-    (new : Snapshot ReplicaState) → Happens peer_state peer_words old event answer part new
+pub one_ran : (old : Snapshot KeptValue) (event : PeerEvent) (answer : PeerAnswer) (part : Option PartValue)
+    (new : Snapshot KeptValue) → Happens peer_state peer_words old event answer part new
     → Ran old (one event answer part) new
 one_ran old event answer part new h = (new, h, refl)
 
 -- what is refused changes nothing
-pub refused_stays : (old : Snapshot ReplicaState) (event : PeerEvent) (answer : PeerAnswer)
-    (refusal : EventRefusal PeerRefusal Fault) (new : Snapshot ReplicaState) → answer ≡ Refused refusal
+pub refused_stays : (old : Snapshot KeptValue) (event : PeerEvent) (answer : PeerAnswer)
+    (refusal : EventRefusal PeerRefusal Fault) (new : Snapshot KeptValue) → answer ≡ Refused refusal
     → (part : Option PartValue) × Happens peer_state peer_words old event answer part new → new ≡ old
 refused_stays old event answer refusal new e (part, h) =
     by part (subst (λ a. Happens peer_state peer_words old event a part new) e h)
@@ -81,6 +82,7 @@ taken_first : (taker : ℕ) (answer : PeerAnswer) (answers : List PeerAnswer)
     → taken taker (answer ∷ []) ≡ taken taker (answer ∷ answers)
 taken_first taker (Accepted change) answers = refl
 taken_first taker (Offered number) answers = refl
+taken_first taker Marked answers = refl
 taken_first taker (Refused refusal) answers = refl
 
 -- what is printed of an answer is what is printed of it alone
@@ -95,8 +97,8 @@ printed_answer {V} contents line answer told held v w same is grew =
     subst (λ (u : V). Printed held (answer_line line answer) (contents u)) (sym same)
     (subst (λ (a : PeerAnswer). Printed held (answer_line line a) (contents w)) (sym is) grew)
 
-pub has_taken : (line : ℕ) (old : Snapshot ReplicaState) (at number : ℕ) (offered answer : PeerAnswer)
-    (new : Snapshot ReplicaState) (held holds : Option Text) → offered ≡ Offered number → IsTold answer
+pub has_taken : (line : ℕ) (old : Snapshot KeptValue) (at number : ℕ) (offered answer : PeerAnswer)
+    (new : Snapshot KeptValue) (held holds : Option Text) → offered ≡ Offered number → IsTold answer
     → (part : Option PartValue) × Happens peer_state peer_words old (Take at number) answer part new
     → Printed held (answer_line line answer) holds → PrintsTaken line old at offered new held holds
 has_taken line old at number offered answer new held holds e told (part, h) grew =
@@ -108,7 +110,7 @@ has_taken line old at number offered answer new held holds e told (part, h) grew
       subst (λ (text : Text). Printed held text holds) (one_line line answer) grew,
     )
 
-pub takes_nothing : (line : ℕ) (old : Snapshot ReplicaState) (at : ℕ) (answer : PeerAnswer) (held : Option Text)
+pub takes_nothing : (line : ℕ) (old : Snapshot KeptValue) (at : ℕ) (answer : PeerAnswer) (held : Option Text)
     → taken at (answer ∷ []) ≡ [] → PrintsTaken line old at answer old held held
 takes_nothing line old at answer held e = (no_trace, sym e, refl, tt, Appends-nil held)
 
@@ -118,7 +120,7 @@ before event answer part t = record { events = event ∷ t.events; answers = ans
 
 -- an offer, and then what the taker takes of it
 pub pulled : (line : ℕ) (old : Fleet) (to from : Word) (giver taker : ℕ) (common : Vec Node Global)
-    (answer : PeerAnswer) (mid : Snapshot ReplicaState) (new : Fleet) (held between holds : Option Text)
+    (answer : PeerAnswer) (mid : Snapshot KeptValue) (new : Fleet) (held between holds : Option Text)
     → places old from.now ≡ Some giver → places old to.now ≡ Some taker → AreCommonAt old.world taker giver common.items
     → IsTold answer
     → (part : Option PartValue) × Happens peer_state peer_words old.world (Offer giver common) answer part mid
@@ -148,7 +150,7 @@ pulled line old to from giver taker common answer mid new held between holds at_
     )
 
 -- an event, and then what came after it without an event
-pub ran_after : (old mid new : Snapshot ReplicaState) (event : PeerEvent) (answer : PeerAnswer)
+pub ran_after : (old mid new : Snapshot KeptValue) (event : PeerEvent) (answer : PeerAnswer)
     → (part : Option PartValue) × Happens peer_state peer_words old event answer part mid → new ≡ mid
     → (t : Trace) × Ran old t new
 ran_after old mid new event answer (part, h) same = (one event answer part, (mid, h, same))
@@ -162,7 +164,7 @@ pub added : {E : Type 0} (line : ℕ) (old : Fleet) (at : Word) (new : Fleet) (h
 added line old at new held (Ok x) does = (no_trace, [], does, refl, Appends-nil held)
 added line old at new held (Err e) does = tt
 
-pub reported : (line : ℕ) (f : Fleet) (at : Word) (state : ReplicaState) (held holds : Option Text)
+pub reported : (line : ℕ) (f : Fleet) (at : Word) (state : KeptValue) (held holds : Option Text)
     → node_named f at.now ≡ Some state → (text : Text) × IsReport at.now state text × Printed held text holds
     → IsDone line f (Report at) f held holds
 reported line f at state held holds there (text, report, grew) = (
@@ -181,9 +183,9 @@ below_told s t (Ok answer) v w told =
     (λ h. below_from_content s t v (told.0 h), λ below. told.1 (content-below s t w below))
 below_told s t (Err e) v w told = tt
 
-pub agreed : (line : ℕ) (f : Fleet) (one other : Word) (first second : ReplicaState) (answer : Bool)
+pub agreed : (line : ℕ) (f : Fleet) (one other : Word) (first second : KeptValue) (answer : Bool)
     (held holds : Option Text) → node_named f one.now ≡ Some first → node_named f other.now ≡ Some second
-    → IsTrue answer ↔ IsSameState first second → Printed held (agree_line one.now other.now answer) holds
+    → IsTrue answer ↔ IsSameState first.replica second.replica → Printed held (agree_line one.now other.now answer) holds
     → IsDone line f (Agree one other) f held holds
 agreed line f one other first second answer held holds there too same grew = (
   no_trace,
@@ -209,7 +211,7 @@ does_printed number old (line ∷ ls) t new text (mid, here, later, first, rest,
 
 -- what the lines of a script print, from a new fleet on, is what its run prints
 pub printed_run : Compose → (text : Text) (start : Fleet) (t : Trace) (end : Fleet) (output : Text)
-    (world : Snapshot ReplicaState) (held holds : Option Text) → IsNewFleet (count_by has_node (lines text)) start
+    (world : Snapshot KeptValue) (held holds : Option Text) → IsNewFleet (count_by has_node (lines text)) start
     → PrintsLines 1 start (lines text) t end output → Printed held output holds → world ≡ end.world
     → PrintsRun text world held holds
 printed_run compose text start t end output world held holds new prints grew e =
@@ -223,7 +225,7 @@ printed_run compose text start t end output world held holds new prints grew e =
         end = end;
         did = did;
         ended = sym e;
-        ran = subst (λ (w : Snapshot ReplicaState). Ran start.world t w) (sym e) ran;
+        ran = subst (λ (w : Snapshot KeptValue). Ran start.world t w) (sym e) ran;
       };
       output = output;
       prints = prints;

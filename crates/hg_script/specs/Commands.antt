@@ -7,8 +7,10 @@ use Rattle.hg_phases.specs.declared.phase.Phase.{Phase}
 use Rattle.hg_phases.specs.declared.phase.Phase.TheVariants.{Public, Draft, Secret}
 use Rattle.hg_script.specs.Words.{is_name}
 use Rattle.hg_script.specs.declared.command.Command.{Command}
-use Rattle.hg_script.specs.declared.command.Command.TheVariants.{Node, Operation as operation, Offer, Take, Pull}
-use Rattle.hg_script.specs.declared.command.Command.TheVariants.{Report, Agree}
+use Rattle.hg_script.specs.declared.command.Command.TheVariants.{Node, Operation as operation, Mark, Offer, Take}
+use Rattle.hg_script.specs.declared.command.Command.TheVariants.{Pull, Report, Agree}
+use Rattle.hg_script.specs.declared.marking.Marking.{Marking}
+use Rattle.hg_script.specs.declared.marking.Marking.TheVariants.{Pin, Unpin}
 use Rattle.hg_script.specs.declared.operation.Operation.{Operation}
 use Rattle.hg_script.specs.declared.operation.Operation.TheVariants.{Commit, Amend, Split, Fold, Prune, Relocate}
 use Rattle.hg_script.specs.declared.operation.Operation.TheVariants.{Advance}
@@ -52,10 +54,15 @@ operation_words at (Prune old) = codes "prune" ∷ at ∷ old.now ∷ []
 operation_words at (Relocate old new parents) = codes "relocate" ∷ at ∷ old.now ∷ new.now ∷ parent_words parents
 operation_words at (Advance label phase) = codes "phase" ∷ at ∷ label.now ∷ phase_word phase ∷ []
 
+abbrev pub marking_words : Text → Marking → List Text
+marking_words at (Pin label) = codes "pin" ∷ at ∷ label.now ∷ []
+marking_words at (Unpin label) = codes "unpin" ∷ at ∷ label.now ∷ []
+
 -- the words of the line that says this command
 abbrev pub words_of_command : Command → List Text
 words_of_command (Node at) = codes "node" ∷ at.now ∷ []
 words_of_command (operation at op) = operation_words at.now op
+words_of_command (Mark at marking) = marking_words at.now marking
 words_of_command (Offer at message labels) = codes "offer" ∷ at.now ∷ message.now ∷ texts labels.now
 words_of_command (Take at message) = codes "take" ∷ at.now ∷ message.now ∷ []
 words_of_command (Pull to from) = codes "pull" ∷ to.now ∷ from.now ∷ []
@@ -115,6 +122,12 @@ advance_form =
       phases =
           codes "public" ∷ codes "draft" ∷ codes "secret" ∷ [];
     }
+
+abbrev pub pin_form : Form
+pin_form = names_alone (codes "pin") 2 (Some 2)
+
+abbrev pub unpin_form : Form
+unpin_form = names_alone (codes "unpin") 2 (Some 2)
 
 abbrev pub offer_form : Form
 offer_form = names_alone (codes "offer") 2 None
@@ -192,13 +205,15 @@ OperationAnswer word words result =
 -- no command but an operation begins with this word
 abbrev pub IsOther : Text → Type 0
 IsOther word =
-    (word ≢ codes "node") × (word ≢ codes "offer") × (word ≢ codes "take") × (word ≢ codes "pull")
-    × (word ≢ codes "report") × (word ≢ codes "agree")
+    (word ≢ codes "node") × (word ≢ codes "pin") × (word ≢ codes "unpin") × (word ≢ codes "offer")
+    × (word ≢ codes "take") × (word ≢ codes "pull") × (word ≢ codes "report") × (word ≢ codes "agree")
 
 -- what is answered to a line with this first word and these after it, by the command that the first word names
 abbrev pub LineAnswer : Text → List Word → Result Command LineFault → Type 0
 LineAnswer word words result =
     (word ≡ codes "node" → FormAnswer node_form words result)
+    × (word ≡ codes "pin" → FormAnswer pin_form words result)
+    × (word ≡ codes "unpin" → FormAnswer unpin_form words result)
     × (word ≡ codes "offer" → FormAnswer offer_form words result)
     × (word ≡ codes "take" → FormAnswer take_form words result)
     × (word ≡ codes "pull" → FormAnswer pull_form words result)

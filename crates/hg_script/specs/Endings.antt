@@ -4,14 +4,14 @@ use Rattle.std.specs.Prelude.{IsTrue, Option, Some, None, IsSome, IfSome, Ok, Er
 use Rattle.std.specs.Str.Lines.{lines}
 use Rattle.hg_changeset.specs.declared.node.Node.{Node}
 use Rattle.hg_graph.specs.Graph.{nodes}
-use Rattle.hg_replica.specs.State.{ReplicaState}
+use Rattle.hg_view.specs.Kept.{KeptValue}
 use Rattle.hg_replica.specs.Least.{PartValue}
 use Rattle.hg_rewrite.specs.declared.op.Op.{Op}
 use Rattle.hg_world.specs.Runs.{Snapshot}
 use Rattle.hg_peer.specs.Peers.{Decides}
 use Rattle.hg_script.specs.declared.command.Command.{Command}
-use Rattle.hg_script.specs.declared.command.Command.TheVariants.{Node as node, Operation as operation, Offer, Take}
-use Rattle.hg_script.specs.declared.command.Command.TheVariants.{Pull, Report, Agree}
+use Rattle.hg_script.specs.declared.command.Command.TheVariants.{Node as node, Operation as operation, Mark, Offer}
+use Rattle.hg_script.specs.declared.command.Command.TheVariants.{Take, Pull, Report, Agree}
 use Rattle.hg_script.specs.declared.operation.Operation.{Operation}
 use Rattle.hg_script.specs.declared.fault.LineFault.{LineFault}
 use Rattle.hg_script.specs.declared.fault.LineFault.TheVariants.{TooLong}
@@ -21,6 +21,7 @@ use Rattle.hg_script.specs.declared.fault.RunFault.TheVariants.{Line, ScriptTooL
 use Rattle.hg_script.specs.declared.fleet.Fleet.{Fleet}
 use Rattle.hg_script.specs.Commands.{Text, Word, texts, CommandAnswer}
 use Rattle.hg_script.specs.Events.{Trace, Ran, Meaning, HasUnknown, AreIds, IsOperation, old_labels, new_labels}
+use Rattle.hg_script.specs.Events.{marked_label}
 use Rattle.hg_script.specs.Limits.{line_limit, script_limit}
 use Rattle.hg_script.specs.Names.{AreDistinct}
 use Rattle.hg_script.specs.Scripts.{places, ids, numbers, node_named, message_named, may_be_bound, DoesLines}
@@ -33,6 +34,7 @@ use Rattle.hg_script.specs.Words.{has_node, words_of}
 abbrev pub UsesUnknown : Fleet → Command → Type 0
 UsesUnknown f (node at) = ⊥
 UsesUnknown f (operation at op) = (node_named f at.now ≡ None) ⊎ HasUnknown (ids f) (old_labels op)
+UsesUnknown f (Mark at marking) = (node_named f at.now ≡ None) ⊎ HasUnknown (ids f) (marked_label marking ∷ [])
 UsesUnknown f (Offer at message labels) = (node_named f at.now ≡ None) ⊎ HasUnknown (ids f) (texts labels.now)
 UsesUnknown f (Take at message) = (node_named f at.now ≡ None) ⊎ (message_named f message.now ≡ None)
 UsesUnknown f (Pull to from) = (node_named f to.now ≡ None) ⊎ (node_named f from.now ≡ None)
@@ -43,7 +45,7 @@ UsesUnknown f (Agree one other) = (node_named f one.now ≡ None) ⊎ (node_name
 pub record MakesUnderTaken (f : Fleet) (at : Text) (op : Operation) : Type 0 where
   pub asked : Op
   pub meant : IsOperation (ids f) op asked
-  pub state : ReplicaState
+  pub state : KeptValue
   pub held : node_named f at ≡ Some state
   pub part : PartValue
   pub decided : Decides state asked part
@@ -60,18 +62,18 @@ GivesTaken f (Offer at message labels) =
 GivesTaken f _ = ⊥
 
 -- what was decided of the operation in this state: its part, or that it is refused
-abbrev pub IsDecided : ReplicaState → Op → Option PartValue → Type 0
+abbrev pub IsDecided : KeptValue → Op → Option PartValue → Type 0
 IsDecided state op None = (part : PartValue) → ¬ (Decides state op part)
 IsDecided state op (Some part) = Decides state op part
 
 -- no label would name another id than the one that the operation makes in this state, where it isn't refused
-abbrev pub AreLabelsFree : Meaning Node → List Text → ReplicaState → Op → Type 0
+abbrev pub AreLabelsFree : Meaning Node → List Text → KeptValue → Op → Type 0
 AreLabelsFree names labels state op =
     (part : PartValue) → Decides state op part → IsTrue (may_be_bound names labels (nodes part.history.changesets))
 
 -- the operation isn't refused, and the labels aren't free to name what it makes, or one of them comes twice; or want of
 -- memory
-abbrev pub IsTakenFault : ℕ → Meaning Node → List Word → ReplicaState → Op → RunFault → Type 0
+abbrev pub IsTakenFault : ℕ → Meaning Node → List Word → KeptValue → Op → RunFault → Type 0
 IsTakenFault number names labels state op (Line told fault) =
     (told ≡ number) × (fault ≡ NameTaken)
     × ((part : PartValue) × Decides state op part
@@ -155,7 +157,7 @@ abbrev pub IsScriptOf : Option Text → Text → Type 0
 IsScriptOf known text = (length text ≤ script_limit) × IfSome known (λ bytes. bytes ≡ text)
 
 -- the world is as the script leaves it
-abbrev pub IsLeftWorld : Option Text → Snapshot ReplicaState → Type 0
+abbrev pub IsLeftWorld : Option Text → Snapshot KeptValue → Type 0
 IsLeftWorld known world = (text : Text) × IsScriptOf known text × IsRunOf text world
 
 -- the script was stopped by this fault: at a line, or while it was read

@@ -10,8 +10,8 @@ use Rattle.hg_changeset.specs.Node.{null_node}
 use Rattle.hg_graph.specs.Graph.{nodes}
 use Rattle.hg_history.specs.declared.fault.Fault.{Fault}
 use Rattle.hg_history.specs.Fault.{number as fault_number}
-use Rattle.hg_replica.specs.State.{ReplicaState}
 use Rattle.hg_replica.specs.Least.{PartValue}
+use Rattle.hg_view.specs.Kept.{KeptValue}
 use Rattle.hg_rewrite.specs.declared.op.Op.{Op}
 use Rattle.hg_rewrite.specs.declared.op.Op.TheVariants as asks
 use Rattle.hg_world.specs.Runs.{Snapshot, place_of}
@@ -19,7 +19,9 @@ use Rattle.hg_world.specs.Runs as worlds
 use Rattle.hg_world.specs.declared.event.Event.TheVariants as event
 use Rattle.hg_world.specs.declared.event.EventRefusal.{EventRefusal}
 use Rattle.hg_world.specs.declared.event.EventRefusal.TheVariants.{NoNode, NoMessage, ByActor, ByState}
-use Rattle.hg_world.specs.declared.event.Answer.TheVariants.{Accepted, Offered, Refused}
+use Rattle.hg_world.specs.declared.event.Answer.TheVariants.{Accepted, Offered, Marked, Refused}
+use Rattle.hg_peer.specs.declared.mark.Mark.{Mark as PeerMark}
+use Rattle.hg_peer.specs.declared.mark.Mark.TheVariants as marks
 use Rattle.hg_peer.specs.declared.refusal.PeerRefusal.{PeerRefusal}
 use Rattle.hg_peer.specs.Refusals.{peer_refusal_number}
 use Rattle.hg_peer.specs.Words as peers
@@ -28,8 +30,10 @@ use Rattle.hg_script.specs.declared.fault.LineFault.TheVariants.{UnknownName}
 use Rattle.hg_script.specs.declared.fault.RunFault.{RunFault}
 use Rattle.hg_script.specs.declared.fault.RunFault.TheVariants.{Line, ScriptTooLong, Read, Write, NoMemory}
 use Rattle.hg_script.specs.declared.command.Command.{Command}
-use Rattle.hg_script.specs.declared.command.Command.TheVariants.{Node as node, Operation as operation, Offer, Take}
-use Rattle.hg_script.specs.declared.command.Command.TheVariants.{Pull, Report, Agree}
+use Rattle.hg_script.specs.declared.command.Command.TheVariants.{Node as node, Operation as operation, Mark, Offer}
+use Rattle.hg_script.specs.declared.command.Command.TheVariants.{Take, Pull, Report, Agree}
+use Rattle.hg_script.specs.declared.marking.Marking.{Marking}
+use Rattle.hg_script.specs.declared.marking.Marking.TheVariants.{Pin, Unpin}
 use Rattle.hg_script.specs.declared.operation.Operation.{Operation}
 use Rattle.hg_script.specs.declared.operation.Operation.TheVariants.{Commit, Amend, Split, Fold, Prune, Relocate}
 use Rattle.hg_script.specs.declared.operation.Operation.TheVariants.{Advance}
@@ -59,7 +63,7 @@ abbrev pub joined : Trace → Trace → Trace
 joined t u = worlds.joined t u
 
 -- the world's events were answered so, with these parts
-abbrev pub Ran : Snapshot ReplicaState → Trace → Snapshot ReplicaState → Type 0
+abbrev pub Ran : Snapshot KeptValue → Trace → Snapshot KeptValue → Type 0
 Ran old t new = peers.PeersRan old t new
 
 -- the refusal has a number, which is printed. Want of memory has none, and what a script names is there
@@ -73,6 +77,7 @@ HasNumber (ByState fault) = IsSome (fault_number fault)
 abbrev pub IsTold : PeerAnswer → Type 0
 IsTold (Accepted change) = Unit {0}
 IsTold (Offered number) = Unit {0}
+IsTold Marked = Unit {0}
 IsTold (Refused refusal) = HasNumber refusal
 
 abbrev pub AreTold : List PeerAnswer → Type 0
@@ -94,13 +99,14 @@ IsAbsence (ByActor refusal) = ⊥
 IsAbsence (ByState fault) = ⊥
 
 -- the message that the event takes isn't there
-abbrev pub LacksMessage : Snapshot ReplicaState → PeerEvent → Type 0
+abbrev pub LacksMessage : Snapshot KeptValue → PeerEvent → Type 0
 LacksMessage world (event.Local at op) = ⊥
 LacksMessage world (event.Offer at ask) = ⊥
 LacksMessage world (event.Take at message) = slice_get world.messages message ≡ None
+LacksMessage world (event.Mark at mark) = ⊥
 
 -- there is no node at the event's place, or no message that it takes
-abbrev pub IsNowhere : Snapshot ReplicaState → PeerEvent → Type 0
+abbrev pub IsNowhere : Snapshot KeptValue → PeerEvent → Type 0
 IsNowhere world asked = (slice_get world.nodes (place_of asked) ≡ None) ⊎ LacksMessage world asked
 
 -- `unknown name` at the line with this number, where this is so; or a write fault, or want of memory
@@ -118,11 +124,11 @@ abbrev pub Meaning : Type 0 → Type 0
 Meaning V = Text → Option V
 
 -- the state of the node that a name stands for, if there is one
-abbrev pub node_at : Snapshot ReplicaState → Meaning ℕ → Text → Option ReplicaState
+abbrev pub node_at : Snapshot KeptValue → Meaning ℕ → Text → Option KeptValue
 node_at world places name = option_and_then (slice_get world.nodes) (places name)
 
 -- the bytes of the message that a name stands for
-abbrev pub message_at : Snapshot ReplicaState → Meaning ℕ → Text → Option (List ℕ)
+abbrev pub message_at : Snapshot KeptValue → Meaning ℕ → Text → Option (List ℕ)
 message_at world numbers name = option_and_then (slice_get world.messages) (numbers name)
 
 -- one of the labels stands for nothing
@@ -180,6 +186,18 @@ new_labels (Prune old) = []
 new_labels (Relocate old new parents) = new.now ∷ []
 new_labels (Advance label phase) = []
 
+-- ---- marks
+
+-- what the mark asks of a node, where labels stand for these ids
+abbrev pub IsMark : Meaning Node → Marking → PeerMark → Type 0
+IsMark ids (Pin label) mark = (n : Node) × (ids label.now ≡ Some n) × (mark ≡ marks.Pin n)
+IsMark ids (Unpin label) mark = (n : Node) × (ids label.now ≡ Some n) × (mark ≡ marks.Unpin n)
+
+-- the label of what is to be there already
+abbrev pub marked_label : Marking → Text
+marked_label (Pin label) = label.now
+marked_label (Unpin label) = label.now
+
 -- ---- commands
 
 -- what the taker of a pull takes: the message that was offered, if one was
@@ -187,28 +205,32 @@ abbrev pub taken : ℕ → List PeerAnswer → List PeerEvent
 taken taker [] = []
 taken taker (Accepted change ∷ answers) = []
 taken taker (Offered number ∷ answers) = event.Take taker number ∷ []
+taken taker (Marked ∷ answers) = []
 taken taker (Refused refusal ∷ answers) = []
 
 -- how what the taker takes of an offer can end the script
-abbrev pub IsTakeFault : ℕ → Snapshot ReplicaState → ℕ → PeerAnswer → RunFault → Type 0
+abbrev pub IsTakeFault : ℕ → Snapshot KeptValue → ℕ → PeerAnswer → RunFault → Type 0
 IsTakeFault number world taker answer fault =
     (message : ℕ) × (answer ≡ Offered message)
     × IsUnknownWhere number (IsNowhere world (event.Take taker message)) fault
 
--- the heads of what the peer at one place has in common with the peer at another
-abbrev pub AreCommonAt : Snapshot ReplicaState → ℕ → ℕ → List Node → Type 0
+-- the heads of what the peer at one place has in common with the peer at another, under the pins of the latter
+abbrev pub AreCommonAt : Snapshot KeptValue → ℕ → ℕ → List Node → Type 0
 AreCommonAt world taker giver heads =
-    (ours : ReplicaState) × (theirs : ReplicaState) × (slice_get world.nodes taker ≡ Some ours)
-    × (slice_get world.nodes giver ≡ Some theirs) × AreHeadsInCommon ours theirs heads
+    (ours : KeptValue) × (theirs : KeptValue) × (slice_get world.nodes taker ≡ Some ours)
+    × (slice_get world.nodes giver ≡ Some theirs) × AreHeadsInCommon ours.replica theirs.replica theirs.pins heads
 
 -- the events of a command in a world, where names stand for these places, ids and numbers: a pull asks for what is
 -- offered above what both have in common, and what it takes hangs on the answer
-abbrev pub AreEventsOf : Snapshot ReplicaState → Meaning ℕ → Meaning Node → Meaning ℕ → Command → List PeerAnswer
+abbrev pub AreEventsOf : Snapshot KeptValue → Meaning ℕ → Meaning Node → Meaning ℕ → Command → List PeerAnswer
     → List PeerEvent → Type 0
 AreEventsOf world places ids numbers (node at) answers events = events ≡ []
 AreEventsOf world places ids numbers (operation at op) answers events =
     (place : ℕ) × (asked : Op) × (places at.now ≡ Some place) × IsOperation ids op asked
     × (events ≡ event.Local place asked ∷ [])
+AreEventsOf world places ids numbers (Mark at marking) answers events =
+    (place : ℕ) × (asked : PeerMark) × (places at.now ≡ Some place) × IsMark ids marking asked
+    × (events ≡ event.Mark place asked ∷ [])
 AreEventsOf world places ids numbers (Offer at message labels) answers events =
     (place : ℕ) × (common : Vec Node Global) × (places at.now ≡ Some place) × AreIds ids labels.now common.items
     × (events ≡ event.Offer place common ∷ [])

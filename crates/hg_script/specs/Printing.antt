@@ -5,13 +5,14 @@ use Rattle.std.specs.List.{flat_map}
 use Rattle.std.specs.Str.Lines.{lines}
 use Rattle.hg_history.specs.declared.fault.Fault.{Fault}
 use Rattle.hg_history.specs.Fault.{number as fault_number, name as fault_name}
-use Rattle.hg_replica.specs.State.{ReplicaState, IsSameState}
+use Rattle.hg_replica.specs.State.{IsSameState}
+use Rattle.hg_view.specs.Kept.{KeptValue}
 use Rattle.hg_world.specs.Runs.{Snapshot}
 use Rattle.hg_world.specs.declared.event.EventRefusal.{EventRefusal}
 use Rattle.hg_world.specs.declared.event.EventRefusal.TheVariants.{NoNode, NoMessage, ByActor, ByState}
-use Rattle.hg_world.specs.declared.event.Answer.TheVariants.{Accepted, Offered, Refused}
+use Rattle.hg_world.specs.declared.event.Answer.TheVariants.{Accepted, Offered, Marked, Refused}
 use Rattle.hg_peer.specs.declared.refusal.PeerRefusal.{PeerRefusal}
-use Rattle.hg_peer.specs.declared.refusal.PeerRefusal.TheVariants.{Rewrite, Offer, Message, NoMemory}
+use Rattle.hg_peer.specs.declared.refusal.PeerRefusal.TheVariants.{Rewrite, Offer, Message, View, NoMemory}
 use Rattle.hg_peer.specs.Refusals.{peer_refusal_number, peer_refusal_text}
 use Rattle.hg_script.specs.declared.command.Command.{Command}
 use Rattle.hg_script.specs.declared.command.Command.TheVariants.{Report, Agree}
@@ -32,11 +33,12 @@ refusal_line line word None name = []
 refusal_line line word (Some number) name =
     line_of (decimal line ++ (codes ": " ++ (word ++ (codes " " ++ (decimal number ++ (codes " " ++ name))))))
 
--- what refuses: an operation, an offer or the bytes of a message
+-- what refuses: an operation, an offer, the bytes of a message or a pin
 abbrev pub refusing_word : PeerRefusal → Text
 refusing_word (Rewrite refusal) = codes "rewrite"
 refusing_word (Offer refusal) = codes "offer"
 refusing_word (Message fault) = codes "message"
+refusing_word (View refusal) = codes "view"
 refusing_word NoMemory = codes "memory"
 
 -- the line of a refused event: by the peer, or by its replica
@@ -51,6 +53,7 @@ refused_line line (ByState fault) = refusal_line line (codes "replica") (fault_n
 abbrev pub answer_line : ℕ → PeerAnswer → Text
 answer_line line (Accepted change) = []
 answer_line line (Offered message) = []
+answer_line line Marked = []
 answer_line line (Refused refusal) = refused_line line refusal
 
 -- what is printed of answers, in order
@@ -64,14 +67,14 @@ abbrev pub agree_line : Text → Text → Bool → Text
 agree_line one other answer =
     line_of (codes "agree " ++ one ++ codes " " ++ other ++ (if answer then codes ": yes" else codes ": no"))
 
--- what the command of the line with this number prints: a report; whether two replicas are in the same state; and of
--- any other command the refusals of its events
+-- what the command of the line with this number prints: a report; whether two replicas are in the same state, whatever
+-- their nodes pin; and of any other command the refusals of its events
 abbrev pub Prints : ℕ → Fleet → Command → Trace → Text → Type 0
 Prints line f (Report at) t text =
-    (state : ReplicaState) × (node_named f at.now ≡ Some state) × IsReport at.now state text
+    (state : KeptValue) × (node_named f at.now ≡ Some state) × IsReport at.now state text
 Prints line f (Agree one other) t text =
-    (first : ReplicaState) × (second : ReplicaState) × (answer : Bool) × (node_named f one.now ≡ Some first)
-    × (node_named f other.now ≡ Some second) × (IsTrue answer ↔ IsSameState first second)
+    (first : KeptValue) × (second : KeptValue) × (answer : Bool) × (node_named f one.now ≡ Some first)
+    × (node_named f other.now ≡ Some second) × (IsTrue answer ↔ IsSameState first.replica second.replica)
     × (text ≡ agree_line one.now other.now answer)
 Prints line f command t text = text ≡ answer_lines line t.answers
 
@@ -81,7 +84,7 @@ IsDone line old command new held holds =
     (t : Trace) × (text : Text) × Does old command t new × Prints line old command t text × Printed held text holds
 
 -- the world ran what the taker takes of an offer, and what the writer holds grew by its refusal, if it is refused
-abbrev pub PrintsTaken : ℕ → Snapshot ReplicaState → ℕ → PeerAnswer → Snapshot ReplicaState → Option Text
+abbrev pub PrintsTaken : ℕ → Snapshot KeptValue → ℕ → PeerAnswer → Snapshot KeptValue → Option Text
     → Option Text → Type 0
 PrintsTaken line old taker answer new held holds =
     (t : Trace) × (t.events ≡ taken taker (answer ∷ [])) × Ran old t new × AreTold t.answers
@@ -106,12 +109,12 @@ PrintsLines number old (line ∷ lines) t new text =
 -- ---- whole scripts
 
 -- the script leaves the world so, and what the writer holds grew by what its lines print, which count from 1
-pub record PrintsRun (text : Text) (world : Snapshot ReplicaState) (held holds : Option Text) : Type 0 where
+pub record PrintsRun (text : Text) (world : Snapshot KeptValue) (held holds : Option Text) : Type 0 where
   pub run : IsRunOf text world
   pub output : Text
   pub prints : PrintsLines 1 run.start (lines text) run.trace run.end output
   pub printed : Printed held output holds
 
 -- the same of the script that was read
-abbrev pub PrintsScript : Option Text → Snapshot ReplicaState → Option Text → Option Text → Type 0
+abbrev pub PrintsScript : Option Text → Snapshot KeptValue → Option Text → Option Text → Type 0
 PrintsScript known world held holds = (text : Text) × IsScriptOf known text × PrintsRun text world held holds

@@ -1,4 +1,4 @@
--- The report of a replica: a line for each changeset, by the definitions of what is so of it.
+-- The report of a replica: a line for each changeset, by the definitions of what is so of it, under its node's pins.
 use Rattle.std.specs.Prelude.{ℕ, ◌≡◌, ◌+◌, ◌==◌, ◌↔◌, List, [], ◌∷◌, ◌++◌, map, codes, decimal, slice_get, length, Bool}
 use Rattle.std.specs.Prelude.{IsTrue, Some, Contains, if◌then◌else◌}
 use Rattle.std.specs.declared.cmp.Ordering.{Ordering}
@@ -14,8 +14,9 @@ use Rattle.hg_phases.specs.State.{Held, changesets}
 use Rattle.hg_replica.specs.State.{ReplicaState}
 use Rattle.hg_replica.specs.Content.{Content, content_of}
 use Rattle.hg_replica.specs.Evolution.{IsObsolete, IsOrphan, IsSuspended, IsExtinct, IsPhaseDivergent}
-use Rattle.hg_replica.specs.Evolution.{IsHidden}
 use Rattle.hg_instab.specs.Instabilities.{IsContentDivergent}
+use Rattle.hg_view.specs.Kept.{KeptValue}
+use Rattle.hg_view.specs.Pins.{IsHiddenUnder}
 use Rattle.hg_script.specs.declared.report.RowWords.{RowWords}
 use Rattle.hg_script.specs.Commands.{Text, Word, phase_word}
 
@@ -54,14 +55,14 @@ row_values rows = map (λ r. (r.0.now, r.1)) rows
 -- ---- the words of a row
 
 -- each word is there exactly where what it says is so
-pub record AreWordsOf (f : Content) (n : Node) (words : RowWords) : Type 0 where
+pub record AreWordsOf (f : Content) (pins : List Node) (n : Node) (words : RowWords) : Type 0 where
   pub obsolete : IsTrue words.obsolete ↔ IsObsolete f n
   pub suspended : IsTrue words.suspended ↔ IsSuspended f n
   pub extinct : IsTrue words.extinct ↔ IsExtinct f n
   pub orphan : IsTrue words.orphan ↔ IsOrphan f n
   pub phase_divergent : IsTrue words.phase_divergent ↔ IsPhaseDivergent f n
   pub content_divergent : IsTrue words.content_divergent ↔ IsContentDivergent f n
-  pub hidden : IsTrue words.hidden ↔ IsHidden f n
+  pub hidden : IsTrue words.hidden ↔ IsHiddenUnder f pins n
 
 abbrev pub text_where : Bool → Text → Text
 text_where is_so text = if is_so then text else []
@@ -81,13 +82,13 @@ abbrev pub row_line : Text → Phase → RowWords → Text
 row_line label phase words = line_of (with_words (label ++ (codes " " ++ phase_word phase)) words)
 
 -- the line of the changeset at the row's place
-abbrev pub IsRowLine : ReplicaState → RowValue → Text → Type 0
+abbrev pub IsRowLine : KeptValue → RowValue → Text → Type 0
 IsRowLine s row text =
-    (h : Held) × (words : RowWords) × (slice_get s.history.held row.1 ≡ Some h)
-    × AreWordsOf (content_of s) (node_of h.changeset) words × (text ≡ row_line row.0 h.phase words)
+    (h : Held) × (words : RowWords) × (slice_get s.replica.history.held row.1 ≡ Some h)
+    × AreWordsOf (content_of s.replica) s.pins (node_of h.changeset) words × (text ≡ row_line row.0 h.phase words)
 
 -- the lines of these rows, one after the other
-abbrev pub AreRowLines : ReplicaState → List RowValue → Text → Type 0
+abbrev pub AreRowLines : KeptValue → List RowValue → Text → Type 0
 AreRowLines s [] text = text ≡ []
 AreRowLines s (row ∷ rows) text =
     (first : Text) × (rest : Text) × IsRowLine s row first × AreRowLines s rows rest × (text ≡ first ++ rest)
@@ -100,8 +101,9 @@ abbrev pub totals : ℕ → ℕ → Text
 totals changesets markers =
     line_of (decimal changesets ++ (codes " changesets " ++ (decimal markers ++ codes " markers")))
 
--- the report of the replica under this name
-abbrev pub IsReport : Text → ReplicaState → Text → Type 0
+-- the report of the replica under this name, and its node's pins
+abbrev pub IsReport : Text → KeptValue → Text → Type 0
 IsReport name s text =
-    (rows : List RowValue) × (middle : Text) × AreRows s rows × AreRowLines s rows middle
-    × (text ≡ heading name ++ middle ++ totals (length (changesets s.history)) (length s.markers))
+    (rows : List RowValue) × (middle : Text) × AreRows s.replica rows × AreRowLines s rows middle
+    × (text ≡ heading name ++ middle
+    ++ totals (length (changesets s.replica.history)) (length s.replica.markers))

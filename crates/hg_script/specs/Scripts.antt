@@ -10,13 +10,13 @@ use Rattle.std.specs.Str.{bytes_eq}
 use Rattle.std.specs.Str.Lines.{lines}
 use Rattle.hg_changeset.specs.declared.node.Node.{Node}
 use Rattle.hg_changeset.specs.Node.{node_eq}
-use Rattle.hg_replica.specs.State.{ReplicaState}
-use Rattle.hg_world.specs.Runs.{Snapshot, AllEmpty}
-use Rattle.hg_world.specs.declared.event.Answer.TheVariants.{Accepted, Offered, Refused}
-use Rattle.hg_peer.specs.Words.{peer_state}
+use Rattle.hg_view.specs.Kept.{KeptValue}
+use Rattle.hg_world.specs.Runs.{Snapshot, AllEmpty, AllUnmarked}
+use Rattle.hg_world.specs.declared.event.Answer.TheVariants.{Accepted, Offered, Marked, Refused}
+use Rattle.hg_peer.specs.Words.{peer_state, peer_words}
 use Rattle.hg_script.specs.declared.command.Command.{Command}
-use Rattle.hg_script.specs.declared.command.Command.TheVariants.{Node as node, Operation as operation, Offer, Take}
-use Rattle.hg_script.specs.declared.command.Command.TheVariants.{Pull, Report, Agree}
+use Rattle.hg_script.specs.declared.command.Command.TheVariants.{Node as node, Operation as operation, Mark, Offer}
+use Rattle.hg_script.specs.declared.command.Command.TheVariants.{Take, Pull, Report, Agree}
 use Rattle.hg_script.specs.declared.fleet.Fleet.{Fleet}
 use Rattle.hg_script.specs.Commands.{Text, Word, CommandAnswer}
 use Rattle.hg_script.specs.Events.{Trace, no_trace, joined, Ran, AreTold, PeerAnswer, Meaning, brought, node_at}
@@ -37,7 +37,7 @@ abbrev pub numbers : Fleet → Meaning ℕ
 numbers f = value_of f.messages
 
 -- the state of the node with this name, if there is one
-abbrev pub node_named : Fleet → Text → Option ReplicaState
+abbrev pub node_named : Fleet → Text → Option KeptValue
 node_named f name = node_at f.world (places f) name
 
 -- the bytes of the message with this name
@@ -77,6 +77,7 @@ AreLabelled old labels [] new = new ≡ old
 AreLabelled old labels (Accepted change ∷ answers) new = (name : Text)
     → value_of new name ≡ bound_to (value_of old) labels change.added name
 AreLabelled old labels (Offered number ∷ answers) new = new ≡ old
+AreLabelled old labels (Marked ∷ answers) new = new ≡ old
 AreLabelled old labels (Refused refusal ∷ answers) new = new ≡ old
 
 -- the name stands for the message that was offered, if one was
@@ -84,6 +85,7 @@ abbrev pub IsKept : BTreeMap (Vec ℕ Global) ℕ → Text → List PeerAnswer �
 IsKept old name [] new = new ≡ old
 IsKept old name (Accepted change ∷ answers) new = new ≡ old
 IsKept old name (Offered number ∷ answers) new = Binds old name number new
+IsKept old name (Marked ∷ answers) new = new ≡ old
 IsKept old name (Refused refusal ∷ answers) new = new ≡ old
 
 -- the names after a command: a node has the next place, the new labels of an operation name what it added, and a
@@ -96,6 +98,8 @@ AreNamed old (node at) t new =
 AreNamed old (operation at op) t new =
     (new.nodes ≡ old.nodes) × IsTrue (may_be_bound (ids old) (new_labels op) (brought t.parts))
     × AreLabelled old.labels (new_labels op) t.answers new.labels × (new.messages ≡ old.messages)
+AreNamed old (Mark at marking) t new = (new.nodes ≡ old.nodes) × (new.labels ≡ old.labels)
+    × (new.messages ≡ old.messages)
 AreNamed old (Offer at message labels) t new =
     (new.nodes ≡ old.nodes) × (new.labels ≡ old.labels) × (numbers old message.now ≡ None)
     × IsKept old.messages message.now t.answers new.messages
@@ -137,10 +141,11 @@ DoesLines old (line ∷ lines) t new =
 
 -- ---- whole scripts
 
--- a world of so many peers, all empty, and no message; nothing has a name
+-- a world of so many peers, all empty and without pins, and no message; nothing has a name
 pub record IsNewFleet (count : ℕ) (f : Fleet) : Type 0 where
   pub nodes : length f.world.nodes ≡ count
   pub empty : AllEmpty peer_state f.world
+  pub unmarked : AllUnmarked peer_state peer_words f.world
   pub messages : f.world.messages ≡ []
   pub no_place : (name : Text) → places f name ≡ None
   pub no_label : (name : Text) → ids f name ≡ None
@@ -148,7 +153,7 @@ pub record IsNewFleet (count : ℕ) (f : Fleet) : Type 0 where
 
 -- the script leaves the world so: its lines were done from a new fleet on, with a peer for each line whose first word
 -- is `node`, and all events together are one run of the world
-pub record IsRunOf (text : Text) (world : Snapshot ReplicaState) : Type 0 where
+pub record IsRunOf (text : Text) (world : Snapshot KeptValue) : Type 0 where
   pub start : Fleet
   pub is_new : IsNewFleet (count_by has_node (lines text)) start
   pub trace : Trace

@@ -1,4 +1,5 @@
 //! Commands: what a line asks for.
+use crate::marking::Marking;
 use crate::operation::Operation;
 
 /// A line's command.
@@ -8,6 +9,8 @@ pub enum Command<'a> {
     Node(&'a [u8]),
     /// An operation at the replica of this name.
     Operation(&'a [u8], Operation<'a>),
+    /// A mark of what is the own of the node with this name.
+    Mark(&'a [u8], Marking<'a>),
     /// What a replica offers above the changesets of these labels, kept as the message of this name: replica, message,
     /// labels.
     Offer(&'a [u8], &'a [u8], &'a [&'a [u8]]),

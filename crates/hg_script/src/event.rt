@@ -12,7 +12,7 @@ use crate::output::print_refused;
 use hg_changeset::Node;
 use hg_history::Fault;
 use hg_join::NoMemory;
-use hg_peer::{Peer, PeerRefusal};
+use hg_peer::{Mark, Peer, PeerRefusal};
 use hg_replica::Change;
 use hg_rewrite::Op;
 use hg_world::{Answer, Event, World};
@@ -20,7 +20,7 @@ use std::alloc::Global;
 use std::io::Write;
 
 /// What may be asked of a world of peers.
-pub type PeerEvent = Event<Op, Vec<Node>>;
+pub type PeerEvent = Event<Op, Vec<Node>, Mark>;
 
 /// What it answers.
 pub type PeerAnswer = Answer<Change, PeerRefusal, Fault>;
@@ -46,6 +46,7 @@ pub fn run_event<W: Write>(
         Answer::Refused(refusal) => print_refused(alloc, writer, number, refusal)?,
         Answer::Accepted(_) => {}
         Answer::Offered(_) => {}
+        Answer::Marked => {}
     }
     Ok(answer)
 }

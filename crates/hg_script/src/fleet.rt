@@ -17,6 +17,7 @@ ghost use Rattle.hg_script.specs.Scripts.{may_name, places};
 use crate::command::Command;
 use crate::event::{PeerAnswer, run_event};
 use crate::fault::{LineFault, RunFault};
+use crate::marking::Marking;
 use crate::names::{are_distinct, bind, bound};
 use crate::operation::{Names, Operation};
 use crate::output::print_line;
@@ -100,6 +101,7 @@ impl Fleet {
         match command {
             Command::Node(at) => self.add_node(number, at),
             Command::Operation(at, operation) => self.operate(number, at, operation, writer),
+            Command::Mark(at, marking) => self.mark(number, at, marking, writer),
             Command::Offer(at, message, labels) => {
                 self.keep_offer(number, at, message, labels, writer)
             }
@@ -179,6 +181,31 @@ impl Fleet {
             }
             None => Ok(()),
         }
+    }
+
+    // Marks what is a node's own. A refusal is printed, and the script goes on.
+    fn mark<W: Write>(
+        &mut self,
+        number: usize,
+        at: &[u8],
+        marking: Marking<'_>,
+        writer: &mut W,
+    ) -> Result<(), RunFault>
+        ensures ok { OnOk result (IsDone number self.old (Command.Mark at.entry marking.entry) self.new
+            (W.contents writer.old) (W.contents writer.new)) }
+        ensures err { IfErr result
+            (λ fault. IsLeftBy number self.old (Command.Mark at.entry marking.entry) fault self.new) }
+    {
+        let names = Names {
+            alloc: self.alloc,
+            number,
+            labels: &self.labels,
+        };
+        let mark = marking.resolve(&names)?;
+        let place = self.place(number, at)?;
+        let event = Event::Mark { at: place, mark };
+        run_event(self.alloc, number, &mut self.world, event, writer)?;
+        Ok(())
     }
 
     // Keeps what a node offers above the changesets of these labels under the name of a message. A refused offer binds
@@ -318,7 +345,7 @@ impl Fleet {
         }
     }
 
-    // The replica of the node at a place, with its instabilities.
+    // The replica of the node at a place, with its instabilities and its pins.
     fn kept(&self, number: usize, place: usize) -> Result<&Kept, RunFault>
         ensures ok { IfOk result (λ kept. slice_get self.now.world.nodes place ≡ Some kept.now) }
         ensures err { IfErr result (IsNodeFault number self.now place) }
@@ -441,6 +468,7 @@ fn label(
             Ok(())
         }
         Answer::Offered(_) => Ok(()),
+        Answer::Marked => Ok(()),
         Answer::Refused(_) => Ok(()),
     }
 }
@@ -477,7 +505,7 @@ fn keep(
             bind(alloc, names, name, *number)?;
             Ok(())
         }
-        Answer::Accepted(_) | Answer::Refused(_) => Ok(()),
+        Answer::Accepted(_) | Answer::Marked | Answer::Refused(_) => Ok(()),
     }
 }
 
@@ -505,6 +533,7 @@ fn take_offered<W: Write>(
             Ok(())
         }
         Answer::Accepted(_) => Ok(()),
+        Answer::Marked => Ok(()),
         Answer::Refused(_) => Ok(()),
     }
 }

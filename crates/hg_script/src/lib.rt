@@ -17,6 +17,7 @@ mod fleet;
 mod input;
 mod limits;
 mod lines;
+mod marking;
 mod names;
 mod operation;
 mod output;

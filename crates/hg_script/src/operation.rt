@@ -104,8 +104,8 @@ pub struct Names<'a> {
 }
 
 impl Names<'_> {
-    // The id that a label names.
-    fn node(&self, label: &[u8]) -> Result<Node, RunFault>
+    /// The id that a label names.
+    pub fn node(&self, label: &[u8]) -> Result<Node, RunFault>
         ensures ok { IfOk result (λ node. value_of self.now.labels.now label.now ≡ Some node) }
         ensures err { IfErr result (IsUnresolved self.now (label.now ∷ [])) }
     {

@@ -1,5 +1,7 @@
 //! Printing: one write for each line, its LF included.
 ghost use Rattle.std.specs.Prelude.{◌≡◌, ◌⊎◌, [], ◌∷◌, ◌++◌, IfErr, IfSome, OnOk, IsSome, Some, codes, true, false};
+ghost use Rattle.hg_changeset.specs.declared.node.Node.{Node};
+ghost use Rattle.hg_view.specs.declared.refusal.PinRefusal.{PinRefusal};
 ghost use Rattle.hg_script.specs.Events.{HasNumber, IsAbsence, IsUnknownWhere};
 ghost use Rattle.hg_script.specs.Outputs.{Printed};
 ghost use Rattle.hg_script.specs.Printing.{agree_line, refusal_line, refused_line, refusing_word};
@@ -20,6 +22,8 @@ pub fn printed_lines_are_those_of_the_format()
         ≡ codes "4: rewrite 1 Unknown" ++ 10 ∷ [] }
     ensures replica { refused_line 12 (EventRefusal.ByState Fault.NullBound)
         ≡ codes "12: replica 4 NullBound" ++ 10 ∷ [] }
+    ensures view { (n : Node) → refused_line 12 (EventRefusal.ByActor (PeerRefusal.View (PinRefusal.NotPinned n)))
+        ≡ codes "12: view 2 NotPinned" ++ 10 ∷ [] }
     ensures agrees { agree_line (codes "A") (codes "B") true ≡ codes "agree A B: yes" ++ 10 ∷ [] }
     ensures differs { agree_line (codes "A") (codes "B") false ≡ codes "agree A B: no" ++ 10 ∷ [] }
     ensures heading { heading (codes "A") ≡ codes "report A" ++ 10 ∷ [] }
@@ -100,7 +104,7 @@ pub fn print_refused<W: Write>(
     }
 }
 
-// What refuses: an operation, an offer or the bytes of a message.
+// What refuses: an operation, an offer, the bytes of a message or a pin.
 fn word_of(refusal: PeerRefusal) -> &'static str
     ensures { result.now ≡ refusing_word refusal }
 {
@@ -108,6 +112,7 @@ fn word_of(refusal: PeerRefusal) -> &'static str
         PeerRefusal::Rewrite(_) => "rewrite",
         PeerRefusal::Offer(_) => "offer",
         PeerRefusal::Message(_) => "message",
+        PeerRefusal::View(_) => "view",
         PeerRefusal::NoMemory => "memory",
     }
 }

@@ -10,11 +10,13 @@ ghost use Rattle.hg_script.specs.Commands.{AllNames, AreNamesBut, CommandAnswer,
 ghost use Rattle.hg_script.specs.Commands.{FormAnswer, phase_word, asked_word, parent_words, texts, node_form};
 ghost use Rattle.hg_script.specs.Commands.{commit_form, amend_form, split_form, fold_form, prune_form, relocate_form};
 ghost use Rattle.hg_script.specs.Commands.{advance_form, offer_form, take_form, pull_form, report_form, agree_form};
+ghost use Rattle.hg_script.specs.Commands.{pin_form, unpin_form};
 ghost use Rattle.hg_script.specs.declared.fault.LineFault.TheVariants.{BadName, BadPhase, WordCount};
 
 use crate::command::Command;
 use crate::fault::LineFault;
 use crate::limits::NAME_LIMIT;
+use crate::marking::Marking;
 use crate::operation::{Operation, Parents};
 use hg_phases::Phase;
 
@@ -37,6 +39,12 @@ fn read_line<'a>(word: &[u8], words: &'a [&'a [u8]]) -> Result<Command<'a>, Line
 {
     if word == b"node".as_slice() {
         return read_node(words);
+    }
+    if word == b"pin".as_slice() {
+        return read_pin(words);
+    }
+    if word == b"unpin".as_slice() {
+        return read_unpin(words);
     }
     if word == b"offer".as_slice() {
         return read_offer(words);
@@ -191,6 +199,30 @@ fn read_advance<'a>(words: &'a [&'a [u8]]) -> Result<Command<'a>, LineFault>
                 phase,
             };
             Ok(Command::Operation(*at, advance))
+        }
+        _ => Err(LineFault::WordCount),
+    }
+}
+
+fn read_pin<'a>(words: &'a [&'a [u8]]) -> Result<Command<'a>, LineFault>
+    ensures { FormAnswer pin_form words.now result }
+{
+    match words {
+        [at, label] => {
+            check_names(words)?;
+            Ok(Command::Mark(*at, Marking::Pin(*label)))
+        }
+        _ => Err(LineFault::WordCount),
+    }
+}
+
+fn read_unpin<'a>(words: &'a [&'a [u8]]) -> Result<Command<'a>, LineFault>
+    ensures { FormAnswer unpin_form words.now result }
+{
+    match words {
+        [at, label] => {
+            check_names(words)?;
+            Ok(Command::Mark(*at, Marking::Unpin(*label)))
         }
         _ => Err(LineFault::WordCount),
     }

@@ -21,9 +21,10 @@ use std::alloc::{AllocError, Global};
 use std::collections::BTreeSet;
 use std::io::Write;
 
-// The words that hold of a changeset of the replica.
+// The words that hold of a changeset of the replica, under the pins.
 fn words_of(kept: &Kept, node: &Node) -> RowWords
-    ensures { IsHeld (content_of kept.now).0 node.now → AreWordsOf (content_of kept.now) node.now result }
+    ensures { IsHeld (content_of kept.now.replica).0 node.now
+        → AreWordsOf (content_of kept.now.replica) kept.now.pins node.now result }
 {
     let sets = kept.instabilities();
     RowWords {
@@ -127,7 +128,7 @@ fn rows_by_place<'a>(alloc: Global, replica: &'a Replica) -> Result<Vec<Row<'a>>
 }
 
 /// Prints the replica's name, then its changesets in byte order of their labels, each with its phase and the words that
-/// hold of it, and how many changesets and markers there are.
+/// hold of it, and how many changesets and markers there are. What is hidden is so under the node's pins.
 ///
 /// It costs what is printed: the words are those of the sets that are kept.
 pub fn print_report<W: Write>(
@@ -186,7 +187,7 @@ fn print_changesets<W: Write>(
     writer: &mut W,
 ) -> Result<(), RunFault>
     requires { line.old.items ≡ [] }
-    ensures printed { OnOk result ((rows : List RowValue) × (text : Text) × AreRows kept.now rows
+    ensures printed { OnOk result ((rows : List RowValue) × (text : Text) × AreRows kept.now.replica rows
         × AreRowLines kept.now rows text × Printed (W.contents writer.old) text (W.contents writer.new)) }
     ensures emptied { OnOk result (line.new.items ≡ []) }
     ensures err { IfErr result (λ fault. (fault ≡ RunFault.Write) ⊎ (fault ≡ RunFault.NoMemory)) }
@@ -204,7 +205,7 @@ fn print_rows<W: Write>(
     writer: &mut W,
 ) -> Result<(), RunFault>
     requires empty { line.old.items ≡ [] }
-    requires places { All (λ row. row.1 < length (changesets kept.now.history)) rows.now }
+    requires places { All (λ row. row.1 < length (changesets kept.now.replica.history)) rows.now }
     ensures printed { OnOk result ((text : Text) × AreRowLines kept.now (row_values rows.now) text
         × Printed (W.contents writer.old) text (W.contents writer.new)) }
     ensures emptied { OnOk result (line.new.items ≡ []) }
@@ -225,7 +226,7 @@ fn print_row<W: Write>(
     writer: &mut W,
 ) -> Result<(), RunFault>
     requires empty { line.old.items ≡ [] }
-    requires place { place < length (changesets kept.now.history) }
+    requires place { place < length (changesets kept.now.replica.history) }
     ensures printed { OnOk result ((text : Text) × IsRowLine kept.now (label.now, place) text
         × Printed (W.contents writer.old) text (W.contents writer.new)) }
     ensures emptied { OnOk result (line.new.items ≡ []) }

@@ -1,7 +1,7 @@
 //! A script from its first line to its last.
 ghost use Rattle.std.specs.Prelude.{◌≡◌, ◌≤◌, ◌<◌, ◌+◌, ◌⊎◌, IfOk, IfErr, OnOk};
 ghost use Rattle.std.specs.Str.Lines.{lines};
-ghost use Rattle.hg_replica.specs.State.{ReplicaState};
+ghost use Rattle.hg_view.specs.Kept.{KeptValue};
 ghost use Rattle.hg_world.specs.Runs.{Snapshot};
 ghost use Rattle.hg_script.specs.Commands.{Text};
 ghost use Rattle.hg_script.specs.Events.{Trace};
@@ -33,8 +33,8 @@ pub fn run_script<R: CountedRead, W: Write>(
     reader: &mut R,
     writer: &mut W,
 ) -> Result<(), RunFault>
-    ensures ran { OnOk result ((world : Snapshot ReplicaState) × IsLeftWorld (R.remaining reader.old) world) }
-    ensures printed { OnOk result ((world : Snapshot ReplicaState)
+    ensures ran { OnOk result ((world : Snapshot KeptValue) × IsLeftWorld (R.remaining reader.old) world) }
+    ensures printed { OnOk result ((world : Snapshot KeptValue)
         × PrintsScript (R.remaining reader.old) world (W.contents writer.old) (W.contents writer.new)) }
     ensures stopped { IfErr result (IsStop (R.remaining reader.old)) }
     ensures reads { R.reads reader.new ≤ R.reads reader.old + (script_limit + 1) }
@@ -67,8 +67,8 @@ pub fn run_counted<R: Read + Drop, W: Write>(
     reader: R,
     writer: &mut W,
 ) -> Result<(), RunFault>
-    ensures ran { OnOk result ((world : Snapshot ReplicaState) × IsLeftWorld (R.remaining reader) world) }
-    ensures printed { OnOk result ((world : Snapshot ReplicaState)
+    ensures ran { OnOk result ((world : Snapshot KeptValue) × IsLeftWorld (R.remaining reader) world) }
+    ensures printed { OnOk result ((world : Snapshot KeptValue)
         × PrintsScript (R.remaining reader) world (W.contents writer.old) (W.contents writer.new)) }
     ensures stopped { IfErr result (IsStop (R.remaining reader)) }
 {
@@ -84,8 +84,8 @@ fn count_and_run<R: Read + Drop, W: Write, L: Ledger>(
     requires name { blank.name ≡ L.name }
     requires parts { blank.parts ≡ L.parts }
     requires some { 0 < blank.parts }
-    ensures ran { OnOk result ((world : Snapshot ReplicaState) × IsLeftWorld (R.remaining reader) world) }
-    ensures printed { OnOk result ((world : Snapshot ReplicaState)
+    ensures ran { OnOk result ((world : Snapshot KeptValue) × IsLeftWorld (R.remaining reader) world) }
+    ensures printed { OnOk result ((world : Snapshot KeptValue)
         × PrintsScript (R.remaining reader) world (W.contents writer.old) (W.contents writer.new)) }
     ensures stopped { IfErr result (IsStop (R.remaining reader)) }
 {

@@ -6,6 +6,8 @@ mod exchange;
 #[cfg(test)]
 mod labels;
 #[cfg(test)]
+mod pins;
+#[cfg(test)]
 mod streams;
 #[cfg(test)]
 mod tests;

@@ -95,6 +95,8 @@ A script has a command on each line; the words are divided by spaces:
   prune A b           nothing in place of b
   relocate A b c d    another changeset, c, in place of b, on the parent d; a second may follow
   phase A b public    b and its ancestors go to this phase, where theirs is higher
+  pin A b             b and its ancestors stay in view at A, and are given to others, though b is obsolete
+  unpin A b           takes that pin away
   offer A m b         keeps what A gives to whoever has b and its ancestors as the message m; any number of labels
   take B m            B takes the message m in
   pull B A            B takes in what A offers

@@ -4,6 +4,7 @@ use Rattle.hg_script.proofs.EndingLemmas.{nowhere, unknown_where}
 use Rattle.hg_script.proofs.ScriptLemmas.{printed_answer, refused_stays}
 use Rattle.hg_script.proofs.event.run_event.Goals as goal
 use Rattle.hg_script.proofs.event.run_event.Goals.{in-Refused+in_ok-print_refused-in-Refused, in-Accepted, in-Offered}
+use Rattle.hg_script.proofs.event.run_event.Goals.{in-Marked}
 
 pub returns-in_err-print_refused-in-Refused-clause-fault : goal.returns-in_err-print_refused-in-Refused-clause-fault
 returns-in_err-print_refused-in-Refused-clause-fault g c =
@@ -29,4 +30,5 @@ returns-clause-printed g c =
           w.in_ok-print_refused-in-Refused.ensures.printed
       | in-Accepted w ↦ printed_answer contents number _ _ _ _ _ w.writer-is w.in-Accepted.is (Appends-nil _)
       | in-Offered w ↦ printed_answer contents number _ _ _ _ _ w.writer-is w.in-Offered.is (Appends-nil _)
+      | in-Marked w ↦ printed_answer contents number _ _ _ _ _ w.writer-is w.in-Marked.is (Appends-nil _)
     ]

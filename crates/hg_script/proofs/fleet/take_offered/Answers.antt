@@ -16,5 +16,8 @@ returns-in_err-run_event-in-Offered-clause-err g c =
 pub returns-in-Accepted-clause-ok : goal.returns-in-Accepted-clause-ok
 returns-in-Accepted-clause-ok g c = takes_nothing _ _ _ _ _ (rw c.in-Accepted.is refl)
 
+pub returns-in-Marked-clause-ok : goal.returns-in-Marked-clause-ok
+returns-in-Marked-clause-ok g c = takes_nothing _ _ _ _ _ (rw c.in-Marked.is refl)
+
 pub returns-in-Refused-clause-ok : goal.returns-in-Refused-clause-ok
 returns-in-Refused-clause-ok g c = takes_nothing _ _ _ _ _ (rw c.in-Refused.is refl)

@@ -5,6 +5,9 @@ use Rattle.hg_script.proofs.output.printed_lines_are_those_of_the_format.Goals a
 one : decimal 1 ≡ 49 ∷ []
 one = decimal_digit 1 (lit< tt)
 
+two : decimal 2 ≡ 50 ∷ []
+two = decimal_digit 2 (lit< tt)
+
 four : decimal 4 ≡ 52 ∷ []
 four = decimal_digit 4 (lit< tt)
 
@@ -16,6 +19,9 @@ returns-clause-refusal c = rw (four, one) refl
 
 pub returns-clause-replica : goal.returns-clause-replica
 returns-clause-replica c = rw (twelve, four) refl
+
+pub returns-clause-view : goal.returns-clause-view
+returns-clause-view c = λ n. rw (twelve, two) refl
 
 pub returns-clause-totals : goal.returns-clause-totals
 returns-clause-totals c = rw (four, one) refl

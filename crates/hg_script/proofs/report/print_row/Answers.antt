@@ -23,8 +23,8 @@ returns-clause-printed g c =
     ∙ ap (λ (cs : List Contents). slice_get (nodes cs) place) graph in
     let phase_at = subst (λ (t : ReplicaState). MatchOption c.phase_at.result (length t.history.held ≤ place)
     (λ k. (h : Held) × (slice_get t.history.held place ≡ Some h) × (h.phase ≡ k))) same c.phase_at.ensures in
-    let held = subst (λ (o : Option Phase). MatchOption o (length s.history.held ≤ place)
-    (λ k. (h : Held) × (slice_get s.history.held place ≡ Some h) × (h.phase ≡ k))) c.unwrap-phase.ensures
+    let held = subst (λ (o : Option Phase). MatchOption o (length s.replica.history.held ≤ place)
+    (λ k. (h : Held) × (slice_get s.replica.history.held place ≡ Some h) × (h.phase ≡ k))) c.unwrap-phase.ensures
     phase_at in
     let front = c.in_ok-extend_from_slice-2.ensures.items
     ∙ ap (λ (l : Text). l ++ c.phase_word.result.now)

@@ -1,5 +1,5 @@
 use Rattle.std.proofs.lemmas.Result.{err_from_is_err_and}
-use Rattle.hg_replica.specs.State.{ReplicaState}
+use Rattle.hg_view.specs.Kept.{KeptValue}
 use Rattle.hg_world.specs.Runs.{Snapshot}
 use Rattle.hg_script.specs.Commands.{Text}
 use Rattle.hg_script.specs.Printing.{PrintsRun}
@@ -22,7 +22,7 @@ pub returns-clause-printed : goal.returns-clause-printed
 returns-clause-printed g c =
     let held = g.W.Write.contents c.args.writer.now in
     let holds = g.W.Write.contents c.run_text.new.writer in
-    of_script (λ (text : Text) (world : Snapshot ReplicaState). PrintsRun text world held holds) _ _ c.run_text.result
+    of_script (λ (text : Text) (world : Snapshot KeptValue). PrintsRun text world held holds) _ _ c.run_text.result
     (script_of _ _ _ c.deref.ensures.value c.in_ok-text.ensures.limit c.in_ok-text.ensures.whole)
     c.run_text.ensures.printed
 
