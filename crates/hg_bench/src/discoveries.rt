@@ -2,6 +2,7 @@
 use crate::chain::{chain_on, replica_of, tip_of};
 use hg_changeset::Node;
 use hg_discovery::heads_in_common;
+use hg_view::Pins;
 use std::io;
 use std::time::{CpuClock, Duration};
 
@@ -16,6 +17,6 @@ pub fn discover(rt: &(impl CpuClock + AllocGlobal), size: usize) -> io::Result<D
     let mut asker = replica_of(alloc, &common);
     let _absorbed = asker.absorb(&chain_on(alloc, tip_of(&common), MORE)?);
     let before = rt.thread_cpu_time()?;
-    let _heads = heads_in_common(alloc, &asker, &other);
+    let _heads = heads_in_common(alloc, &asker, &other, &Pins::new(alloc));
     Ok(rt.thread_cpu_time()?.saturating_sub(before))
 }

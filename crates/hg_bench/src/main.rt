@@ -10,6 +10,7 @@ mod histories;
 mod keeping;
 mod markers;
 mod messages;
+mod pinning;
 mod rewrites;
 mod states;
 mod successors;
@@ -19,6 +20,7 @@ use histories::History;
 use keeping::{absorb, keep, tell};
 use markers::{Shape, add_markers, list_markers, read_markers, write_markers};
 use messages::{find_offer, make_offer, read_offer, send_offer, take_offer, write_offer};
+use pinning::{Pinned, pin};
 use rewrites::{amend_bottom, tell_instabilities};
 use states::{
     absorb_at_once, absorb_one_by_one, ask_below, join_into_empty, join_into_equal, tell_roots,
@@ -114,6 +116,8 @@ fn spent_on_keeping(
         "keep-hub-backwards" => keep(rt, size, History::HubBackwards),
         "absorb-amends" => absorb(rt, size, History::Amends),
         "tell-amends" => tell(rt, size, History::Amends),
+        "pin-top" => pin(rt, size, Pinned::Top),
+        "pin-bottom" => pin(rt, size, Pinned::Bottom),
         _ => Ok(Duration::ZERO),
     }
 }

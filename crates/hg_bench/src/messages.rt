@@ -5,6 +5,7 @@ use crate::markers::{add_marker, node};
 use hg_changeset::Node;
 use hg_message::{Message, Outgoing, offer};
 use hg_replica::{Part, Replica};
+use hg_view::Pins;
 use std::alloc::{AllocError, Global};
 use std::io;
 use std::time::{CpuClock, Duration};
@@ -14,7 +15,7 @@ pub fn make_offer(rt: &(impl CpuClock + AllocGlobal), size: usize) -> io::Result
     let alloc = rt.alloc();
     let replica = marked(alloc, size)?;
     let before = rt.thread_cpu_time()?;
-    let _offered = offer(alloc, &replica, &[]);
+    let _offered = offer(alloc, &replica, &Pins::new(alloc), &[]);
     Ok(rt.thread_cpu_time()?.saturating_sub(before))
 }
 
@@ -23,7 +24,7 @@ pub fn find_offer(rt: &(impl CpuClock + AllocGlobal), size: usize) -> io::Result
     let alloc = rt.alloc();
     let replica = marked(alloc, size)?;
     let before = rt.thread_cpu_time()?;
-    let _found = Outgoing::above(alloc, &replica, &[]);
+    let _found = Outgoing::above(alloc, &replica, &Pins::new(alloc), &[]);
     Ok(rt.thread_cpu_time()?.saturating_sub(before))
 }
 
@@ -39,7 +40,7 @@ pub fn send_offer(rt: &(impl CpuClock + AllocGlobal), size: usize) -> io::Result
 /// An offer, written.
 pub fn write_offer(rt: &(impl CpuClock + AllocGlobal), size: usize) -> io::Result<Duration> {
     let alloc = rt.alloc();
-    match offer(alloc, &marked(alloc, size)?, &[]) {
+    match offer(alloc, &marked(alloc, size)?, &Pins::new(alloc), &[]) {
         Ok(message) => time_writing(rt, &message),
         Err(_) => Ok(Duration::ZERO),
     }
@@ -78,7 +79,7 @@ fn time_taking(rt: &impl CpuClock, part: Part, replica: &mut Replica) -> io::Res
 
 // All that a replica offers, written.
 fn bytes_of(alloc: Global, replica: &Replica) -> Result<Vec<u8>, AllocError> {
-    match Outgoing::above(alloc, replica, &[]) {
+    match Outgoing::above(alloc, replica, &Pins::new(alloc), &[]) {
         Ok(found) => found.to_bytes().map_err(|_| AllocError),
         Err(_) => Err(AllocError),
     }

@@ -64,7 +64,7 @@ fn amend_again(alloc: Global, replica: &mut Replica, node: Node, count: usize) {
 
 fn amend(alloc: Global, replica: &mut Replica, node: Node, number: usize) -> Option<Node> {
     let op = amend_of(alloc, node, number)?;
-    let part = decide(alloc, replica, &op).ok()?;
+    let part = decide(alloc, replica, &Pins::new(alloc), &op).ok()?;
     let _absorbed = replica.absorb(&part);
     Some(tip_of(&part))
 }
