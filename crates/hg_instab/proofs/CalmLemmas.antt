@@ -4,28 +4,25 @@ use Rattle.hg_changeset.specs.declared.node.Node.{Node}
 use Rattle.hg_changeset.proofs.ListLemmas.{Contains-none}
 use Rattle.hg_obsstore.proofs.IndexLemmas.{among_or_not}
 use Rattle.hg_graph.specs.Graph.{IsParent}
-use Rattle.hg_phases.specs.State.{changesets}
 use Rattle.hg_history.specs.Content.{IsHeld}
-use Rattle.hg_history.proofs.ContentLemmas.{node_in_content, content-node}
-use Rattle.hg_history.proofs.FirstFaultLemmas.{held_or_not}
+use Rattle.hg_history.specs.Content.Leads.{itself, below}
 use Rattle.hg_replica.specs.State.{ReplicaState, IsValid}
 use Rattle.hg_replica.specs.Change.{ChangeValue}
 use Rattle.hg_replica.specs.Content.{Content, content_of}
-use Rattle.hg_replica.specs.Evolution.{IsPredecessor, IsObsolete, IsCurrent, IsOrphan, IsSuspended, IsExtinct}
+use Rattle.hg_replica.specs.Evolution.{IsObsolete, IsCurrent, IsOrphan, IsSuspended, IsExtinct}
 use Rattle.hg_replica.specs.Evolution.{IsPhaseDivergent}
-use Rattle.hg_instab.specs.Calm.{IsCalm, IsRetired, AreCalmTurns}
-use Rattle.hg_instab.specs.Changed.{Follows, IsSeed}
+use Rattle.hg_instab.specs.Calm.{IsCalm, AreRetired, AreCalmTurns}
+use Rattle.hg_instab.specs.Changed.{Follows, IsSeed, IsNow}
 use Rattle.hg_instab.specs.declared.turns.Turns.{Turns}
 use Rattle.hg_instab.specs.Instabilities.{IsContentDivergent, InstabilitySets, AreInstabilities}
 use Rattle.hg_instab.specs.Local.{IsParentOf, StandsUnstably, HoldsNothing}
 use Rattle.hg_instab.specs.Near.{IsAfterPublic, IsRegion}
 use Rattle.hg_instab.specs.Turns.{IsThen, AreTold}
-use Rattle.hg_instab.proofs.ChangedLemmas.{predecessor-after, obsolete-untouched, current-untouched}
-use Rattle.hg_instab.proofs.KeptLemmas.{suspended-told, near-same, flip}
-use Rattle.hg_instab.proofs.LocalLemmas.{orphan-by_parents, extinct-by_children}
+use Rattle.hg_instab.proofs.ChangedLemmas.{obsolete-untouched, current-untouched}
+use Rattle.hg_instab.proofs.KeptLemmas.{suspended-told, now-or, near-same, flip}
+use Rattle.hg_instab.proofs.LocalLemmas.{obsolete-or_current, mutable-above, orphan-by_parents, extinct-by_children}
 use Rattle.hg_instab.proofs.NearLemmas.{near-after, outside-divergent}
 use Rattle.hg_instab.proofs.SetLemmas.{along}
-use Rattle.hg_instab.proofs.SettlingLemmas.{parent-held}
 use Rattle.hg_instab.proofs.SolutionLemmas.{orphans-solved, extinct-solved}
 
 -- neither of two that both need a third
@@ -34,9 +31,10 @@ neither a b = (λ h. absurd (a h), λ h. absurd (b h))
 
 module _ (s t : ReplicaState) (change : ChangeValue) (v : IsValid s) (w : IsValid t)
     (follows : Follows (content_of s) (content_of t) change t.markers) (sets : InstabilitySets)
-    (at : AreInstabilities (content_of s) sets) (seeds : List Node)
+    (at : AreInstabilities (content_of s) sets) (seeds retired : List Node)
     (seeded : (n : Node) → IsSeed t.markers change n → Contains seeds n)
-    (calm : (n : Node) → Contains seeds n → IsHeld (content_of t).0 n → IsCalm (content_of t) sets n) where
+    (those : AreRetired (content_of t) sets.extinct seeds retired)
+    (calm : (n : Node) → Contains seeds n → IsHeld (content_of t).0 n → IsCalm (content_of t) sets retired n) where
   abbrev f : Content
   f = content_of s
 
@@ -56,32 +54,67 @@ module _ (s t : ReplicaState) (change : ChangeValue) (v : IsValid s) (w : IsVali
     still : g.0 n ≡ f.0 n
     still = follows.same n (λ moved. out (seeded n (inl moved)))
 
-  -- what was obsolete, and what is retired
-  calm-obsolete : (n : Node) → (Contains sets.obsolete n ⊎ IsRetired g seeds n) ↔ IsObsolete g n
+  -- ---- gone: extinct already, or retired
+
+  abbrev IsGone : Node → Type 0
+  IsGone = IsNow sets.extinct retired
+
+  gone : (n : Node) → (Contains sets.extinct n ⊎ Contains retired n) ↔ IsGone n
+  gone n = (
+    λ h. elim h
+        [ inl x ↦ inl (x, λ r. ((those n).0 r).1.1 x) | inr r ↦ inr (((those n).0 r).1.1, r) ],
+    λ h. elim h [ inl x ↦ inl x.0 | inr r ↦ inr r.1 ],
+  )
+
+  -- a seed that is obsolete is gone
+  obsolete-gone : (n : Node) → Contains seeds n → IsObsolete g n → IsGone n
+  obsolete-gone n in_it o = elim (among_or_not sets.extinct n)
+      [ inl x ↦ (gone n).0 (inl x) | inr none ↦ (gone n).0 (inr ((those n).1 (in_it, (o, none)))) ]
+
+  -- what was obsolete and is calm was extinct
+  calm-extinct_before : (n : Node) → IsCalm g sets retired n → IsObsolete f n → Contains sets.extinct n
+  calm-extinct_before n here o =
+      (at.extinct n).1 (o, λ suspended. here.apart.suspended ((at.suspended n).1 suspended))
+
+  calm-obsolete : (n : Node) → (Contains sets.obsolete n ⊎ Contains retired n) ↔ IsObsolete g n
   calm-obsolete n = (
     λ h. elim h [
       | inl was ↦ let o = (at.obsolete n).0 was in elim (among_or_not seeds n) [
-        | inl in_it ↦ elim (calm n in_it (still-held n (o.0.0, o.0.1))).rewritten [
+        | inl in_it ↦ (let here = calm n in_it (still-held n (o.0.0, o.0.1)) in elim here.settled [
           | inl nothing ↦ nothing.0
-          | inr none ↦ absurd (none (predecessor-after f g change t.markers follows n o.1))
-        ]
+          | inr other ↦ absurd (other.0 ((gone n).0 (inl (calm-extinct_before n here o))))
+        ])
         | inr out ↦ (still-obsolete n out).1 o
       ]
-      | inr retired ↦ retired.1
+      | inr r ↦ ((those n).0 r).1.0
     ],
     λ o. elim (among_or_not seeds n) [
-      | inl in_it ↦ inr (in_it, o)
+      | inl in_it ↦ elim (obsolete-gone n in_it o)
+          [ inl x ↦ inl ((at.obsolete n).1 ((at.extinct n).0 x.0).0) | inr r ↦ inr r.1 ]
       | inr out ↦ inl ((at.obsolete n).1 ((still-obsolete n out).0 o))
     ],
   )
 
-  -- what stands on what is retired was extinct
-  on-retired : (p c : Node) → IsRetired g seeds p → IsParentOf g p c → IsExtinct f c
-  on-retired p c retired parent =
-      let o = retired.1 in
-      elim (calm p retired.0 (o.0.0, o.0.1)).rewritten [
-        | inl nothing ↦ (at.extinct c).0 (nothing.1 c parent)
-        | inr none ↦ absurd (none o.1)
+  -- what stands on what is retired, and isn't a seed, was extinct
+  on-retired : (p c : Node) → Contains retired p → IsParentOf g p c → ¬ (Contains seeds c) → IsExtinct f c
+  on-retired p c r parent out =
+      let o = (those p).0 r in
+      elim (calm p o.0 (o.1.0.0.0, o.1.0.0.1)).settled [
+        | inl nothing ↦ elim (nothing.1 c parent)
+            [ inl x ↦ (at.extinct c).0 x.0 | inr new ↦ absurd (out ((those c).0 new.1).0) ]
+        | inr other ↦ absurd (other.0 ((gone p).0 (inr r)))
+      ]
+
+  -- what is retired and stood on something obsolete was extinct: it was no orphan, nor suspended
+  retired-above : (p c : Node) → IsObsolete f p → IsParentOf f p c → Contains retired c → IsExtinct f c
+  retired-above p c o parent r =
+      let k = (those c).0 r in
+      let here = calm c k.0 (k.1.0.0.0, k.1.0.0.1) in
+      elim (obsolete-or_current s c
+      (mutable-above s v p c (below itself parent.1 parent.2) (parent.0, parent.1) o.0)) [
+        | inl was ↦ (at.extinct c).0 (calm-extinct_before c here was)
+        | inr current ↦ absurd (here.apart.orphan
+            ((at.orphan c).1 ((orphan-by_parents s v c).1 (current, (p, parent, inl o)))))
       ]
 
   -- ---- orphans
@@ -91,7 +124,8 @@ module _ (s t : ReplicaState) (change : ChangeValue) (v : IsValid s) (w : IsVali
   orphan-told n held = elim (among_or_not seeds n) [
     | inl in_it ↦
         let here = calm n in_it held in
-        neither here.apart.orphan (λ h. here.parents h.1.0 h.1.1 h.1.2)
+        neither here.apart.orphan (λ h. elim here.settled
+        [ inl nothing ↦ h.0.1 nothing.0 | inr other ↦ other.1 h.1.0 h.1.1 h.1.2 ])
     | inr out ↦ (
       λ h. let x = (orphan-by_parents s v n).0 ((at.orphan n).0 h) in (
         (still-current n out).1 x.0,
@@ -110,7 +144,7 @@ module _ (s t : ReplicaState) (change : ChangeValue) (v : IsValid s) (w : IsVali
           λ x. elim x [
             | inl o ↦ elim ((calm-obsolete h.1.0).1 o) [
               | inl old ↦ inl ((at.obsolete h.1.0).0 old)
-              | inr retired ↦ absurd (current.1 (on-retired h.1.0 n retired h.1.1).0)
+              | inr r ↦ absurd (current.1 (on-retired h.1.0 n r h.1.1 out).0)
             ]
             | inr o ↦ inr ((at.orphan h.1.0).0 o)
           ] in
@@ -125,44 +159,38 @@ module _ (s t : ReplicaState) (change : ChangeValue) (v : IsValid s) (w : IsVali
 
   -- ---- extinct
 
-  abbrev IsGone : Node → Type 0
-  IsGone n = Contains sets.extinct n ⊎ IsRetired g seeds n
+  -- a child of an obsolete changeset that isn't a seed is gone if that was extinct
+  child-gone : (n c : Node) → IsObsolete g n → IsExtinct f n → IsParentOf g n c → IsGone c
+  child-gone n c o x parent = elim (among_or_not seeds c) [
+    | inl in_it ↦ elim (calm c in_it (parent.0, parent.1)).settled
+        [ inl nothing ↦ obsolete-gone c in_it nothing.0 | inr other ↦ absurd (other.1 n parent (inl o)) ]
+    | inr out ↦ (gone c).0 (inl ((at.extinct c).1
+        (((extinct-by_children s v n).0 x).1 c (parent.0, sym (still c out) ∙ parent.1, parent.2))))
+  ]
 
   extinct-told : (n : Node) → IsHeld g.0 n → IsGone n ↔ HoldsNothing g IsGone n
   extinct-told n held = elim (among_or_not seeds n) [
-    | inl in_it ↦ elim (calm n in_it held).rewritten [
-      | inl nothing ↦ (
-        λ _. (nothing.0, λ c parent. inl (nothing.1 c parent)),
-        λ _. inr (in_it, nothing.0),
-      )
-      | inr none ↦ neither
-          (λ h. elim h [
-            | inl was ↦ none (predecessor-after f g change t.markers follows n ((at.extinct n).0 was).0.1)
-            | inr retired ↦ none retired.1.1
-          ])
-          (λ h. none h.0.1)
+    | inl in_it ↦ elim (calm n in_it held).settled [
+      | inl nothing ↦ (λ _. nothing, λ _. obsolete-gone n in_it nothing.0)
+      | inr other ↦ neither other.0 (λ h. other.0 (obsolete-gone n in_it h.0))
     ]
-    | inr out ↦
-        let apart : (c : Node) → IsParentOf g n c → IsObsolete g n → ¬ (Contains seeds c) =
-        λ c parent o there. (calm c there (parent.0, parent.1)).parents n parent (inl o) in (
-          λ h.
-              let was : IsExtinct f n = elim h
-              [ inl x ↦ (at.extinct n).0 x | inr retired ↦ absurd (out retired.0) ] in
-              let x = (extinct-by_children s v n).0 was in
-              let o = (still-obsolete n out).1 x.0 in (
-                o,
-                λ c parent. inl ((at.extinct c).1 (x.1 c
-                    (parent.0, sym (still c (apart c parent o)) ∙ parent.1, parent.2))),
-              ),
-          λ h. inl ((at.extinct n).1 ((extinct-by_children s v n).1 (
-            (still-obsolete n out).0 h.0,
+    | inr out ↦ (
+      λ h.
+          let was : IsExtinct f n = elim h
+          [ inl x ↦ (at.extinct n).0 x.0 | inr r ↦ absurd (out ((those n).0 r.1).0) ] in
+          let o = (still-obsolete n out).1 was.0 in
+          (o, λ c parent. child-gone n c o was parent),
+      λ h.
+          let o = (still-obsolete n out).0 h.0 in
+          (gone n).0 (inl ((at.extinct n).1 ((extinct-by_children s v n).1 (
+            o,
             λ c parent.
                 let after = follows.above c parent.0 parent.1 in
                 let now : IsParentOf g n c = (after.0, after.1, subst (λ d. IsParent d n) (sym after.2) parent.2) in
                 elim (h.1 c now)
-                [ inl x ↦ (at.extinct c).0 x | inr retired ↦ absurd (apart c now h.0 retired.0) ],
-          ))),
-        )
+                [ inl x ↦ (at.extinct c).0 x.0 | inr r ↦ retired-above n c o parent r.1 ],
+          )))),
+    )
   ]
 
   calm-extinct : (n : Node) → IsGone n ↔ IsExtinct g n
@@ -170,33 +198,14 @@ module _ (s t : ReplicaState) (change : ChangeValue) (v : IsValid s) (w : IsVali
     where
       held : (n : Node) → IsGone n → IsHeld g.0 n
       held n h = elim h [
-        | inl x ↦ let o = ((at.extinct n).0 x).0 in still-held n (o.0.0, o.0.1)
-        | inr retired ↦ let o = retired.1 in (o.0.0, o.0.1)
+        | inl x ↦ let o = ((at.extinct n).0 x.0).0 in still-held n (o.0.0, o.0.1)
+        | inr r ↦ let o = ((those n).0 r.1).1.0 in (o.0.0, o.0.1)
       ]
 
   -- ---- suspended
 
-  gone-or : (n : Node) → IsGone n ⊎ (¬ (IsGone n))
-  gone-or n = elim (among_or_not sets.extinct n) [
-    | inl x ↦ inl (inl x)
-    | inr none ↦ elim (among_or_not seeds n) [
-      | inl in_it ↦ elim (held_or_not (changesets t.history) n) [
-        | inl held ↦ elim (calm n in_it (content-node t.history w.graph n held)).rewritten [
-          | inl nothing ↦ inl (inr (in_it, nothing.0))
-          | inr not ↦ inr (λ h. elim h [ inl x ↦ none x | inr retired ↦ not retired.1.1 ])
-        ]
-        | inr not ↦ inr (λ h. elim h [
-          | inl x ↦ none x
-          | inr retired ↦
-              let m = retired.1.0 in not (node_in_content t.history w.graph n (m.0, m.1))
-        ])
-      ]
-      | inr out ↦ inr (λ h. elim h [ inl x ↦ none x | inr retired ↦ out retired.0 ])
-    ]
-  ]
-
   calm-suspended : (n : Node) → Contains sets.suspended n ↔ IsSuspended g n
-  calm-suspended n = along by (flip (suspended-told t w IsGone gone-or calm-extinct n))
+  calm-suspended n = along by (flip (suspended-told t w IsGone (now-or sets.extinct retired) calm-extinct n))
     where
       was : IsSuspended f n ↔ (IsObsolete f n × ¬ (Contains sets.extinct n))
       was = suspended-told s v (Contains sets.extinct) (among_or_not sets.extinct) at.extinct n
@@ -207,13 +216,13 @@ module _ (s t : ReplicaState) (change : ChangeValue) (v : IsValid s) (w : IsVali
             (λ h.
             let o = ((at.suspended n).0 h).0 in
             (calm n in_it (still-held n (o.0.0, o.0.1))).apart.suspended h)
-            (λ h. h.1 (inr (in_it, h.0)))
+            (λ h. h.1 (obsolete-gone n in_it h.0))
         | inr out ↦ (
           λ h. let x = was.0 ((at.suspended n).0 h) in (
             (still-obsolete n out).1 x.0,
-            λ gone. elim gone [ inl e ↦ x.1 e | inr retired ↦ out retired.0 ],
+            λ is. elim is [ inl e ↦ x.1 e.0 | inr r ↦ out ((those n).0 r.1).0 ],
           ),
-          λ h. (at.suspended n).1 (was.1 ((still-obsolete n out).0 h.0, λ e. h.1 (inl e))),
+          λ h. (at.suspended n).1 (was.1 ((still-obsolete n out).0 h.0, λ e. h.1 ((gone n).0 (inl e)))),
         )
       ]
 
@@ -265,12 +274,12 @@ module _ (s t : ReplicaState) (change : ChangeValue) (v : IsValid s) (w : IsVali
           ]
 
       -- what turns is told
-      pub calm-told : (turns : Turns) → AreCalmTurns g sets seeds turns → AreTold g sets turns
+      pub calm-told : (turns : Turns) → AreCalmTurns sets retired turns → AreTold g sets turns
       calm-told turns are = record {
         obsolete = λ n. along (are.obsolete n) (calm-obsolete n);
         orphan = λ n. along (are.orphan n) (calm-orphan n);
         suspended = λ n. along (are.suspended n) (calm-suspended n);
-        extinct = λ n. along (are.extinct n) (calm-extinct n);
+        extinct = λ n. along (along (are.extinct n) (gone n)) (calm-extinct n);
         phase_divergent = λ n. along (are.phase_divergent n) (calm-phase_divergent n);
         content_divergent = λ n. along (are.content_divergent n) (calm-content_divergent n);
         after_public = λ n. along (are.after_public n) (calm-after n);

@@ -1,5 +1,5 @@
 -- What comes to a set and goes from it.
-use Rattle.std.proofs.Common.{◌≡◌, ◌≢◌, Bool, false, true≢false, cond, IsTrue, ◌↔◌, ◌⊎◌, inl, inr, List, []}
+use Rattle.std.proofs.Common.{◌≡◌, ◌≢◌, false, true≢false, cond, ◌↔◌, ◌⊎◌, inl, inr, List, []}
 use Rattle.std.proofs.Common.{Contains, sym, ap, subst, ◌∙◌}
 use Rattle.std.specs.BTreeMap.{is_at}
 use Rattle.std.specs.BTreeSet.{BTreeSet, Updates, contains}
@@ -106,22 +106,22 @@ grown set nodes turn none come n =
       ],
     )
 
--- the same of an equal set, by what an equal list of nodes tells
-pub grown-by : (xs set ys nodes : List Node) (turn : Turn) (P : Node → Type 0) → xs ≡ set → ys ≡ nodes
-    → ((n : Node) → Contains nodes n ↔ P n) → IsGrowth xs turn (Contains ys) → IsGrowth set turn P
-grown-by xs set ys nodes turn P same all is grows n =
-    let by : IsThen set turn n ↔ (Contains set n ⊎ Contains nodes n) =
-    subst (λ zs. IsThen set turn n ↔ (Contains set n ⊎ Contains zs n)) all
-    (subst (λ zs. IsThen zs turn n ↔ (Contains zs n ⊎ Contains ys n)) same (grows n)) in (
-      λ h. elim (by.0 h) [ inl was ↦ inl was | inr new ↦ inr ((is n).0 new) ],
-      λ h. by.1 (elim h [ inl was ↦ inl was | inr new ↦ inr ((is n).1 new) ]),
-    )
+-- all of the nodes come, and nothing goes
+pub all-come : (set nodes : List Node) (turn : Turn) → turn.come.items ≡ nodes → turn.gone.items ≡ []
+    → IsGrowth set turn (Contains nodes)
+all-come set nodes turn come none n = (
+  λ h. elim h [ inl c ↦ inr (subst (λ ns. Contains ns n) come c) | inr was ↦ inl was.0 ],
+  λ h. elim h [
+    | inl there ↦ inr (there, λ gone. Contains-none n (subst (λ ns. Contains ns n) none gone))
+    | inr those ↦ inl (subst (λ ns. Contains ns n) (sym come) those)
+  ],
+)
 
 -- the same of an equal set, to which an equal list of nodes comes
 pub grown-to : (xs set ys nodes : List Node) (turn : Turn) → xs ≡ set → ys ≡ nodes → IsGrowth xs turn (Contains ys)
     → IsGrowth set turn (Contains nodes)
-grown-to xs set ys nodes turn same all = grown-by xs set ys nodes turn (Contains nodes) same all
-    (λ n. ((λ h. h), (λ h. h)))
+grown-to xs set ys nodes turn same all grows =
+    subst (λ zs. IsGrowth set turn (Contains zs)) all (subst (λ zs. IsGrowth zs turn (Contains ys)) same grows)
 
 -- nothing comes or goes
 pub rested : (set : List Node) (turn : Turn) → turn.come.items ≡ [] → turn.gone.items ≡ [] → IsRest set turn

@@ -1,44 +1,71 @@
 //! Changes that turn nothing, but that what they rewrote becomes obsolete and extinct at once: commits, publications,
-//! and amends and prunes of what nothing else stands on, wherever nothing near is unstable.
+//! and amends, folds, rebases and prunes of what nothing else stands on, wherever nothing near is unstable.
 //!
-//! Most changes are so. A few look-ups tell it, and then no walk begins.
-ghost use Rattle.std.specs.Prelude.{◌⊎◌, Contains, IfOk, IsTrue};
+//! Most changes are so. One pass over what was touched finds what is retired, which takes no memory where nothing is; a
+//! few look-ups for each then tell whether it is calm, and where all is, no walk begins.
+ghost use Rattle.std.specs.Prelude.{◌↔◌, Contains, IfOk, IsTrue};
 ghost use Rattle.hg_changeset.specs.declared.node.Node.{Node};
 ghost use Rattle.hg_graph.specs.Places.{IsAt};
 ghost use Rattle.hg_phases.specs.State.{changesets};
 ghost use Rattle.hg_history.specs.Content.{IsHeld};
 ghost use Rattle.hg_replica.specs.Content.{content_of};
-ghost use Rattle.hg_replica.specs.Evolution.{IsPredecessor};
-ghost use Rattle.hg_instab.specs.Calm.{IsApart, IsCalm, AreCalmTurns};
-ghost use Rattle.hg_instab.specs.Local.{HoldsNothing};
+ghost use Rattle.hg_replica.specs.Evolution.{IsObsolete};
+ghost use Rattle.hg_instab.specs.Calm.{IsApart, IsSettled, IsCalm, AreRetired, AreCalmTurns};
 ghost use Rattle.hg_instab.specs.Turns.{AreTurns};
 
-use crate::among::{is_missing, obsolete_among};
+use crate::among::{is_missing, list_of};
 use crate::extinct_walk::is_extinct_now;
 use crate::holders::Holders;
 use crate::instabilities::Instabilities;
 use crate::orphan_walk::stands_on_unstable;
-use crate::query::is_predecessor;
+use crate::query::is_obsolete;
 use crate::turn::Turn;
+use crate::turned::has_now;
 use crate::turns::Turns;
 use hg_changeset::Node;
 use hg_replica::Replica;
 use std::alloc::{AllocError, Global};
 use std::collections::BTreeSet;
 
-// Whether each of the nodes that is held is calm.
+// Those of the nodes that are obsolete and aren't among the extinct ones yet.
+pub(crate) fn retired_among(
+    alloc: Global,
+    replica: &Replica,
+    extinct: &BTreeSet<Node>,
+    nodes: &[Node],
+) -> Result<BTreeSet<Node>, AllocError>
+    ensures { IfOk result (λ retired.
+        AreRetired (content_of replica.now) extinct.now.keys nodes.now retired.keys) }
+{
+    let mut retired = BTreeSet::new(alloc);
+    for node in nodes {
+        if is_retired(replica, extinct, *node) {
+            retired.insert(*node)?;
+        }
+    }
+    Ok(retired)
+}
+
+fn is_retired(replica: &Replica, extinct: &BTreeSet<Node>, node: Node) -> bool
+    ensures { IsTrue result ↔ (IsObsolete (content_of replica.now) node × ¬ (Contains extinct.now.keys node)) }
+{
+    is_obsolete(replica, node) && is_missing(extinct, node)
+}
+
+// Whether each of the nodes that is held is calm, where these are retired.
 pub(crate) fn are_calm(
     alloc: Global,
     replica: &Replica,
     sets: &Instabilities,
     holders: &mut Holders,
+    retired: &BTreeSet<Node>,
     nodes: &[Node],
 ) -> bool
     ensures { IsTrue result → (n : Node) → Contains nodes.now n → IsHeld (content_of replica.now).0 n
-        → IsCalm (content_of replica.now) sets.now n }
+        → IsCalm (content_of replica.now) sets.now retired.now.keys n }
 {
     for node in nodes {
-        if !is_calm(alloc, replica, sets, holders, *node) {
+        if !is_calm(alloc, replica, sets, holders, retired, *node) {
             return false;
         }
     }
@@ -51,12 +78,14 @@ fn is_calm(
     replica: &Replica,
     sets: &Instabilities,
     holders: &mut Holders,
+    retired: &BTreeSet<Node>,
     node: Node,
 ) -> bool
-    ensures { IsTrue result → IsHeld (content_of replica.now).0 node → IsCalm (content_of replica.now) sets.now node }
+    ensures { IsTrue result → IsHeld (content_of replica.now).0 node
+        → IsCalm (content_of replica.now) sets.now retired.now.keys node }
 {
     match replica.graph().place(node) {
-        Some(place) => is_calm_at(alloc, replica, sets, holders, place, node),
+        Some(place) => is_calm_at(alloc, replica, sets, holders, retired, place, node),
         None => true,
     }
 }
@@ -67,20 +96,17 @@ fn is_calm_at(
     replica: &Replica,
     sets: &Instabilities,
     holders: &mut Holders,
+    retired: &BTreeSet<Node>,
     place: usize,
     node: Node,
 ) -> bool
     requires { IsAt (changesets replica.now.history) node place }
-    ensures { IsTrue result → IsCalm (content_of replica.now) sets.now node }
+    ensures { IsTrue result → IsCalm (content_of replica.now) sets.now retired.now.keys node }
 {
     if !is_apart(sets, node) {
         return false;
     }
-    let none = BTreeSet::new(alloc);
-    if stands_on_unstable(replica, sets.orphan(), &none, place, node) {
-        return false;
-    }
-    holds_nothing(alloc, replica, sets.extinct(), holders, place, node)
+    is_settled(alloc, replica, sets, holders, retired, place, node)
 }
 
 // Whether it is in none of the sets of what is unstable or suspended, nor after something public.
@@ -93,49 +119,45 @@ fn is_apart(sets: &Instabilities, node: Node) -> bool
         && is_missing(sets.content_divergent(), node)
 }
 
-// Whether no marker rewrote it, or it is obsolete and each of its children was extinct.
-fn holds_nothing(
+// Whether it is obsolete and all that stands on it was extinct or is retired too, or neither was it extinct nor is it
+// retired and it stands on nothing unstable.
+fn is_settled(
     alloc: Global,
     replica: &Replica,
-    extinct: &BTreeSet<Node>,
+    sets: &Instabilities,
     holders: &mut Holders,
+    retired: &BTreeSet<Node>,
     place: usize,
     node: Node,
 ) -> bool
     requires { IsAt (changesets replica.now.history) node place }
-    ensures { IsTrue result → HoldsNothing (content_of replica.now) (Contains extinct.now.keys) node
-        ⊎ ¬ (IsPredecessor (content_of replica.now) node) }
+    ensures { IsTrue result → IsSettled (content_of replica.now) sets.now retired.now.keys node }
 {
-    if is_predecessor(replica, node) {
-        return is_extinct_now(
-            replica,
-            extinct,
-            holders,
-            &BTreeSet::new(alloc),
-            place,
-            node,
-        );
+    if has_now(sets.extinct(), retired, node) {
+        return is_extinct_now(replica, sets.extinct(), holders, retired, place, node);
     }
-    true
+    let none = BTreeSet::new(alloc);
+    !stands_on_unstable(replica, sets.orphan(), &none, place, node)
 }
 
-// What turns where each of the nodes that a change touched is calm: those that are obsolete come to the obsolete and to
+// What turns where each of the nodes that a change touched is calm: those that are retired come to the obsolete and to
 // the extinct changesets.
 pub(crate) fn calm_turns(
     alloc: Global,
-    replica: &Replica,
     sets: &Instabilities,
-    nodes: &[Node],
+    retired: &BTreeSet<Node>,
 ) -> Result<Turns, AllocError>
-    ensures turns { IfOk result (AreTurns sets.now) }
-    ensures calm { IfOk result (AreCalmTurns (content_of replica.now) sets.now nodes.now) }
+    ensures turns { IfOk result (λ turns.
+        ((n : Node) → Contains retired.now.keys n → ¬ (Contains sets.now.extinct n)) → AreTurns sets.now turns) }
+    ensures calm { IfOk result (AreCalmTurns sets.now retired.now.keys) }
 {
-    let retired = obsolete_among(alloc, replica, nodes)?;
+    let nodes = list_of(alloc, retired)?;
+    let obsolete = Turn::growing(alloc, sets.obsolete(), &nodes)?;
     Ok(Turns {
-        obsolete: Turn::growing(alloc, sets.obsolete(), &retired)?,
+        obsolete,
         orphan: Turn::none(alloc),
         suspended: Turn::none(alloc),
-        extinct: Turn::growing(alloc, sets.extinct(), &retired)?,
+        extinct: Turn::coming(alloc, nodes),
         phase_divergent: Turn::none(alloc),
         content_divergent: Turn::none(alloc),
         after_public: Turn::none(alloc),

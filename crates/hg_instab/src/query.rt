@@ -25,7 +25,10 @@ pub fn has_phase(replica: &Replica, node: Node, phase: Phase) -> bool
 pub fn is_obsolete(replica: &Replica, node: Node) -> bool
     ensures { IsTrue result ↔ IsObsolete (content_of replica.now) node }
 {
-    is_mutable(replica, node) && is_predecessor(replica, node)
+    match replica.graph().place(node) {
+        Some(place) => is_obsolete_at(replica, place),
+        None => false,
+    }
 }
 
 /// Whether the changeset at a place of the graph has this phase. It takes no look-up.
@@ -80,7 +83,7 @@ pub fn is_mutable(replica: &Replica, node: Node) -> bool
 }
 
 // Whether some marker has it as its predecessor.
-pub(crate) fn is_predecessor(replica: &Replica, node: Node) -> bool
+fn is_predecessor(replica: &Replica, node: Node) -> bool
     ensures { IsTrue result ↔ IsPredecessor (content_of replica.now) node }
 {
     is_predecessor_near(replica, node, Hint::NOWHERE)

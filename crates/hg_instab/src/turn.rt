@@ -70,6 +70,18 @@ impl Turn {
         })
     }
 
+    // All of the nodes come, and nothing goes.
+    pub(crate) fn coming(alloc: Global, nodes: Vec<Node>) -> Turn
+        ensures turn { (set : List Node) → ((n : Node) → Contains nodes.items n → ¬ (Contains set n))
+            → IsTurn set result }
+        ensures then { (set : List Node) → IsGrowth set result (Contains nodes.items) }
+    {
+        Turn {
+            come: nodes,
+            gone: Vec::new(alloc),
+        }
+    }
+
     // Nothing comes, and nothing goes.
     pub(crate) fn none(alloc: Global) -> Turn
         ensures turn { (set : List Node) → IsTurn set result }

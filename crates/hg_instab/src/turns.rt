@@ -1,5 +1,5 @@
 //! What a change turns in each kept set.
-ghost use Rattle.std.specs.Prelude.{◌≡◌, ◌↔◌, ◌⊎◌, List, Contains, IfOk, IsTrue};
+ghost use Rattle.std.specs.Prelude.{◌↔◌, ◌⊎◌, List, Contains, IfOk, IsTrue};
 ghost use Rattle.hg_changeset.specs.declared.node.Node.{Node};
 ghost use Rattle.hg_replica.specs.State.{ReplicaState, IsValid};
 ghost use Rattle.hg_replica.specs.Change.{ChangeValue};
@@ -14,8 +14,8 @@ ghost use Rattle.hg_instab.specs.Turns.{AreDivergenceTurns, IsDivergenceTold};
 
 use crate::after_public::newly_after_public;
 use crate::amend::{amend_of, turns_by_amend};
-use crate::among::{among, has, obsolete_among, set_of};
-use crate::calm::{are_calm, calm_turns};
+use crate::among::{among, has, list_of, obsolete_among, set_of};
+use crate::calm::{are_calm, calm_turns, retired_among};
 use crate::divergence::divergent_within;
 use crate::extinct_walk::turned_extinct;
 use crate::holders::Holders;
@@ -77,8 +77,11 @@ impl Turns {
         let seeds = seeds(alloc, replica, change)?;
         let met = newly_after_public(alloc, replica, change, sets.after_public())?;
         let starts = region_starts(alloc, replica, change, sets.near_forks())?;
-        if met.is_empty() && starts.is_empty() && are_calm(alloc, replica, sets, holders, &seeds) {
-            return calm_turns(alloc, replica, sets, &seeds);
+        if met.is_empty() && starts.is_empty() {
+            let retired = retired_among(alloc, replica, sets.extinct(), &seeds)?;
+            if are_calm(alloc, replica, sets, holders, &retired, &seeds) {
+                return calm_turns(alloc, sets, &retired);
+            }
         }
         Turns::asked(alloc, sets, holders, replica, change, &seeds, &met, starts)
     }
@@ -402,15 +405,4 @@ fn has_met(met: &IndexSet<Node>, node: Node) -> bool
     ensures { IsTrue result ↔ Contains met.now.keys node }
 {
     met.contains(&node)
-}
-
-// The nodes of a set.
-fn list_of(alloc: Global, set: &BTreeSet<Node>) -> Result<Vec<Node>, AllocError>
-    ensures { IfOk result (λ list. list.items ≡ set.now.keys) }
-{
-    let mut list = Vec::new(alloc);
-    for node in set {
-        list.push(*node)?;
-    }
-    Ok(list)
 }

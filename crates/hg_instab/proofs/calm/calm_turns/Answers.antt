@@ -1,28 +1,37 @@
-use Rattle.std.proofs.Common.{List}
+use Rattle.std.proofs.Common.{List, Contains, subst, ◌∙◌}
 use Rattle.hg_changeset.specs.declared.node.Node.{Node}
-use Rattle.hg_replica.specs.Content.{content_of}
-use Rattle.hg_instab.specs.Calm.{IsGrowth, IsRetired}
-use Rattle.hg_instab.specs.declared.turn.Turn.{Turn}
-use Rattle.hg_instab.proofs.TurnLemmas.{grown-by}
+use Rattle.hg_instab.specs.Calm.{IsGrowth}
+use Rattle.hg_instab.specs.Turns.{IsTurn}
+use Rattle.hg_instab.proofs.TurnLemmas.{grown-to}
 use Rattle.hg_instab.proofs.calm.calm_turns.Goals as goal
+
+pub returns-clause-turns : goal.returns-clause-turns
+returns-clause-turns c = λ outside.
+    let sets = c.args.sets.now in
+    record {
+      obsolete = subst (λ (xs : List Node). IsTurn xs c.in_ok-obsolete.obsolete) c.obsolete.ensures
+          c.in_ok-obsolete.ensures.turn;
+      orphan = c.none.ensures.turn sets.orphan;
+      suspended = c.none-2.ensures.turn sets.suspended;
+      extinct = c.coming.ensures.turn sets.extinct
+          (λ n h. outside n (subst (λ (xs : List Node). Contains xs n) c.in_ok-nodes.ensures h));
+      phase_divergent = c.none-3.ensures.turn sets.phase_divergent;
+      content_divergent = c.none-4.ensures.turn sets.content_divergent;
+      after_public = c.none-5.ensures.turn sets.after_public;
+      near_forks = c.none-6.ensures.turn sets.near_forks;
+    }
 
 pub returns-clause-calm : goal.returns-clause-calm
 returns-clause-calm c =
     let sets = c.args.sets.now in
-    let P : Node → Type 0 = IsRetired (content_of c.args.replica.now) c.args.nodes.now in
-    let obsolete : IsGrowth sets.obsolete c.in_ok-growing.field-0 P =
-    grown-by c.obsolete.result.now.keys sets.obsolete c.deref.result.now c.in_ok-retired.retired.items
-    c.in_ok-growing.field-0 P c.obsolete.ensures c.deref.ensures.value c.in_ok-retired.ensures
-    c.in_ok-growing.ensures.then in
-    let extinct : IsGrowth sets.extinct c.in_ok-growing-2.field-0 P =
-    grown-by c.extinct.result.now.keys sets.extinct c.deref-2.result.now c.in_ok-retired.retired.items
-    c.in_ok-growing-2.field-0 P c.extinct.ensures c.deref-2.ensures.value c.in_ok-retired.ensures
-    c.in_ok-growing-2.ensures.then in
     record {
-      obsolete = obsolete;
+      obsolete = grown-to c.obsolete.result.now.keys sets.obsolete c.deref.result.now c.args.retired.now.keys
+          c.in_ok-obsolete.obsolete c.obsolete.ensures (c.deref.ensures.value ∙ c.in_ok-nodes.ensures)
+          c.in_ok-obsolete.ensures.then;
       orphan = c.none.ensures.then sets.orphan;
       suspended = c.none-2.ensures.then sets.suspended;
-      extinct = extinct;
+      extinct = subst (λ (xs : List Node). IsGrowth sets.extinct c.coming.result (Contains xs)) c.in_ok-nodes.ensures
+          (c.coming.ensures.then sets.extinct);
       phase_divergent = c.none-3.ensures.then sets.phase_divergent;
       content_divergent = c.none-4.ensures.then sets.content_divergent;
       after_public = c.none-5.ensures.then sets.after_public;
