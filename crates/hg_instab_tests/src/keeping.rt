@@ -60,8 +60,8 @@ pub fn step(rt: &impl Abort, alloc: Global, keeper: &mut Keeper, part: &Part) {
     assert!(rt; right == Some(true));
 }
 
-// Takes in a draft changeset of this parent and text.
-fn add(rt: &impl Abort, alloc: Global, keeper: &mut Keeper, parent: Node, text: &[u8]) -> Node {
+/// Takes in a draft changeset of this parent and text.
+pub fn add(rt: &impl Abort, alloc: Global, keeper: &mut Keeper, parent: Node, text: &[u8]) -> Node {
     let mut part = empty(alloc);
     let node = push_child(alloc, &mut part, parent, text, Phase::Draft).expect(rt, "memory");
     step(rt, alloc, keeper, &part);

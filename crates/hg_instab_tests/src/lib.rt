@@ -8,6 +8,8 @@ mod amends;
 #[cfg(test)]
 mod chance;
 #[cfg(test)]
+mod folds;
+#[cfg(test)]
 mod keeping;
 #[cfg(test)]
 mod kept;
@@ -22,6 +24,8 @@ mod plain;
 mod same;
 #[cfg(test)]
 mod scene;
+#[cfg(test)]
+mod shared;
 #[cfg(test)]
 mod views;
 

@@ -22,6 +22,19 @@ fn stack(alloc: Global, pruned: bool) -> Option<(Kept, [Node; 3])> {
     Some((Kept::new(alloc, replica).ok()?, [root, trunk, tip]))
 }
 
+// A public root, a draft trunk on it, and two draft tips on that; all but the root are pruned.
+fn fork(alloc: Global) -> Option<(Kept, [Node; 4])> {
+    let mut replica = Replica::new(alloc);
+    let root = commit(alloc, &mut replica, Node::NULL, b"root", Phase::Public)?;
+    let trunk = commit(alloc, &mut replica, root, b"trunk", Phase::Draft)?;
+    let left = commit(alloc, &mut replica, trunk, b"left", Phase::Draft)?;
+    let right = commit(alloc, &mut replica, trunk, b"right", Phase::Draft)?;
+    for node in [trunk, left, right] {
+        rewrite(alloc, &mut replica, node, &[], 0)?;
+    }
+    Some((Kept::new(alloc, replica).ok()?, [root, trunk, left, right]))
+}
+
 // Markers that prune the two.
 fn prunes(alloc: Global, nodes: &[Node]) -> Option<Part> {
     let mut part = empty(alloc);
@@ -61,6 +74,28 @@ fn a_pin_shows_what_was_hidden_and_an_unpin_hides_it(rt: HostRuntime) {
     assert!(rt; has_exactly(&kept.visible().expect(&rt, "memory"), &[root, trunk]));
     assert!(rt; kept.unpin(trunk).is_ok());
     assert!(rt; has_exactly(&kept.visible().expect(&rt, "memory"), &[root]));
+}
+
+#[test]
+fn an_unpin_leaves_what_another_pin_upholds(rt: HostRuntime) {
+    let alloc = rt.alloc();
+    let (mut kept, [root, trunk, left, right]) = fork(alloc).expect(&rt, "memory");
+    assert!(rt; kept.pin(left).is_ok() && kept.pin(right).is_ok());
+    assert!(rt; kept.unpin(left).is_ok());
+    assert!(rt; has_exactly(&kept.visible().expect(&rt, "memory"), &[root, trunk, right]));
+    assert!(rt; is_right(alloc, &kept).expect(&rt, "memory"));
+    assert!(rt; kept.unpin(right).is_ok());
+    assert!(rt; has_exactly(&kept.visible().expect(&rt, "memory"), &[root]));
+}
+
+#[test]
+fn what_a_pin_above_upholds_stays_once_it_is_unpinned(rt: HostRuntime) {
+    let alloc = rt.alloc();
+    let (mut kept, [root, trunk, tip]) = stack(alloc, true).expect(&rt, "memory");
+    assert!(rt; kept.pin(trunk).is_ok() && kept.pin(tip).is_ok());
+    assert!(rt; kept.unpin(trunk).is_ok());
+    assert!(rt; has_exactly(&kept.visible().expect(&rt, "memory"), &[root, trunk, tip]));
+    assert!(rt; is_right(alloc, &kept).expect(&rt, "memory"));
 }
 
 #[test]

@@ -15,7 +15,7 @@ leads-along f a n d up itself = up
 leads-along f a n d up (below {p = p} r e is) = below (leads-along f a n p up r) e is
 
 -- what is led to from what is held is held
-leads-held : (f : HistoryContent) → IsValidHistory f → (a n : Node) → Leads f a n → IsHeld f n → IsHeld f a
+pub leads-held : (f : HistoryContent) → IsValidHistory f → (a n : Node) → Leads f a n → IsHeld f n → IsHeld f a
 leads-held f v a n itself held = held
 leads-held f v a n (below {p = p} {h = h} r e is) held = let parent = v.parents n h p e is in
     leads-held f v a p r (parent.0, parent.1)

@@ -1,7 +1,9 @@
 pub mod LawLemmas
 pub mod ViewLemmas
 pub mod PinLemmas
+pub mod ShareLemmas
 mod ShownLemmas
 mod HiddenLemmas
 mod KeptLemmas
 mod UpheldLemmas
+mod ReleasedLemmas

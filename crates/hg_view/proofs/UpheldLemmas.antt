@@ -1,5 +1,5 @@
 -- What pins uphold is what of the extinct changesets they show, and more that is in view anyway.
-use Rattle.std.proofs.Common.{◌≡◌, ◌≢◌, ℕ, zero, suc, ◌+◌, ◌<◌, ◌≤◌, List, [], ◌∷◌, ◌++◌, length, take, get_or}
+use Rattle.std.proofs.Common.{◌≡◌, ℕ, zero, suc, ◌+◌, ◌<◌, ◌≤◌, List, [], ◌∷◌, ◌++◌, length, take, get_or}
 use Rattle.std.proofs.Common.{Contains, Bool, Option, Some, None, Result, Ok, Err, slice_get, ◌↔◌, ◌⊎◌, inl, inr}
 use Rattle.std.proofs.Common.{refl, sym, ap, subst, ◌∙◌, arith}
 use Rattle.std.proofs.Common.{append_assoc, append-nil}
@@ -12,8 +12,7 @@ use Rattle.std.proofs.lemmas.Option.{same_Some, none-some}
 use Rattle.indexmap.specs.IndexSet.{insert_key}
 use Rattle.hg_changeset.specs.declared.node.Node.{Node}
 use Rattle.hg_changeset.specs.Node.{node_eq}
-use Rattle.hg_changeset.proofs.ListLemmas.{Contains-none, Contains-taken, Contains-first, Contains-later}
-use Rattle.hg_changeset.proofs.ListLemmas.{Contains-cons_cases}
+use Rattle.hg_changeset.proofs.ListLemmas.{Contains-none, Contains-taken}
 use Rattle.hg_changeset.proofs.NodeLemmas.{same_node, node_eq_laws}
 use Rattle.hg_graph.specs.Graph.{nodes, Holds, IsParent}
 use Rattle.hg_graph.specs.Marks.{IsMarkedNode}
@@ -47,7 +46,8 @@ use Rattle.hg_view.specs.declared.refusal.PinRefusal.TheVariants.{Unknown, NotPi
 use Rattle.hg_view.specs.declared.refusal.PinRefusal.TheVariants as pin
 use Rattle.hg_view.specs.Kept.{KeptUnpinAnswer}
 use Rattle.hg_view.specs.Pins.{IsVisibleUnder, PinAnswer, UnpinAnswer}
-use Rattle.hg_view.specs.Upheld.{AreUpheld, IsUpholding, IsMutableParent, IsPinnedBut}
+use Rattle.hg_view.specs.Released.{IsPinnedBut}
+use Rattle.hg_view.specs.Upheld.{AreUpheld, IsUpholding, IsMutableParent}
 use Rattle.hg_view.proofs.HiddenLemmas.{obsolete-or, visible-not_extinct}
 use Rattle.hg_view.proofs.KeptLemmas.{visible-outside}
 use Rattle.hg_view.proofs.PinLemmas.{visible-pinned, visible-under}
@@ -236,18 +236,6 @@ module _ (f : Content) where
         (a.members n).1 (inl (are.closed n (c, there, parent.0) parent.1));
   }
 
-  -- the pins, and nothing below them yet
-  pub upholding-start : (pins fewer now : List Node) (but : Option Node)
-      → ((n : Node) → Contains now n ↔ (IsPinnedBut pins but n × IsMutable f n))
-      → ((n : Node) → Contains fewer n ↔ IsPinnedBut pins but n) → IsUpholding f fewer now now 0
-  upholding-start pins fewer now but are members = record {
-    kept = extends-same now;
-    held = λ n h. let m = ((are n).0 h).1 in (m.0, m.1);
-    stands = λ n h. inl ((members n).1 ((are n).0 h).0);
-    begun = λ n pinned m. (are n).1 ((members n).0 pinned, m);
-    closed = λ n c h parent. absurd (Contains-none c h);
-  }
-
   pub upholding-step : (pins old now new : List Node) (i : ℕ) (x : Node) → i < length now → get_or now i x ≡ x
       → IsUpholding f pins old now i → Adds (IsMutableParent f x) now new → IsUpholding f pins old new (i + 1)
   upholding-step pins old now new i x l at w a = record {
@@ -401,26 +389,14 @@ module _ (f : Content) (before : List Node) (node : Node) where
   unpinned-same (NotPinned n) after answer = absurd answer
   unpinned-same pin.NoMemory after answer = answer.2
 
--- all pins, and all but one
-pub pinned-all : (pins : List Node) (n : Node) → Contains pins n ↔ IsPinnedBut pins None n
-pinned-all pins n = (λ h. (h, λ e. absurd cc), λ h. h.0)
-
-pub pinned-others : (pins fewer : List Node) (node : Node)
-    → ((n : Node) → Contains fewer n ↔ (Contains pins n × (n ≢ node))) → (n : Node)
-    → Contains fewer n ↔ IsPinnedBut pins (Some node) n
-pinned-others pins fewer node are n = (
-  λ h. let x = (are n).0 h in (x.0, λ e. x.1 (sym (same_Some node n e))),
-  λ h. (are n).1 (h.0, λ e. h.1 (ap (λ m. Some m) (sym e))),
-)
-
 -- an unpin of what is pinned takes it away
-pub unpinned-others : (before after : List Node) (node : Node) (result : Result (Unit {0}) PinRefusal)
+pub unpinned-but : (before after : List Node) (node : Node) (result : Result (Unit {0}) PinRefusal)
     → Contains before node → UnpinAnswer before node result after → (n : Node)
-    → Contains after n ↔ IsPinnedBut before (Some node) n
-unpinned-others before after node (Ok done) there answer = pinned-others before after node answer.1
-unpinned-others before after node (Err (Unknown n)) there answer = absurd answer
-unpinned-others before after node (Err (NotPinned n)) there answer = absurd (answer.1 there)
-unpinned-others before after node (Err pin.NoMemory) there answer = absurd answer
+    → Contains after n ↔ IsPinnedBut before node n
+unpinned-but before after node (Ok done) there answer = answer.1
+unpinned-but before after node (Err (Unknown n)) there answer = absurd answer
+unpinned-but before after node (Err (NotPinned n)) there answer = absurd (answer.1 there)
+unpinned-but before after node (Err pin.NoMemory) there answer = absurd answer
 
 pub kept-unpinned : (before after : List Node) (node : Node) (result : Result (Unit {0}) PinRefusal)
     → UnpinAnswer before node result after → KeptUnpinAnswer before node result after
@@ -433,70 +409,3 @@ kept-unpinned before after node (Err pin.NoMemory) answer = absurd answer
 pub pinned-more : (f : Content) (before after : List Node) (node : Node) → PinAnswer f before node (Ok tt) after
     → (n : Node) → Contains after n ↔ (Contains before n ⊎ (node ≡ n))
 pinned-more f before after node answer = answer.1
-
--- ---- the pins, one after the other
-
--- what is found of the pins before those that are left
-pub record AreGathered (f : Content) (pins : List Node) (but : Option Node) (found rest : List Node) : Type 0 where
-  pub pinned : (n : Node) → Contains rest n → Contains pins n
-  pub right : (n : Node) → Contains found n → IsPinnedBut pins but n × IsMutable f n
-  pub all : (n : Node) → IsPinnedBut pins but n → IsMutable f n → Contains found n ⊎ Contains rest n
-
-module _ (f : Content) (pins : List Node) (but : Option Node) where
-  pub gathered-none : (found : List Node) → found ≡ [] → AreGathered f pins but found pins
-  gathered-none found none = record {
-    pinned = λ n h. h;
-    right = λ n h. absurd (Contains-none n (subst (λ ns. Contains ns n) none h));
-    all = λ n h m. inr h.0;
-  }
-
-  module _ (found left rest : List Node) (node : Node) (is : left ≡ node ∷ rest)
-      (w : AreGathered f pins but found left) where
-    first : Contains left node
-    first = subst (λ ns. Contains ns node) (sym is) (Contains-first node rest)
-
-    later : (n : Node) → Contains rest n → Contains left n
-    later n h = subst (λ ns. Contains ns n) (sym is) (Contains-later node rest n h)
-
-    among : (n : Node) → Contains left n → (node ≡ n) ⊎ Contains rest n
-    among n h = Contains-cons_cases node rest n (subst (λ ns. Contains ns n) is h)
-
-    pub gathered-more : (new : List Node) → ¬ (but ≡ Some node)
-        → Adds (λ n. (node ≡ n) × IsMutable f n) found new → AreGathered f pins but new rest
-    gathered-more new other a = record {
-      pinned = λ n h. w.pinned n (later n h);
-      right = λ n h. elim ((a.members n).0 h) [
-        | inl old ↦ w.right n old
-        | inr x ↦ (subst (IsPinnedBut pins but) x.0 (w.pinned node first, other), x.1)
-      ];
-      all = λ n h m. elim (w.all n h m) [
-        | inl old ↦ inl ((a.members n).1 (inl old))
-        | inr there ↦ elim (among n there) [
-          | inl e ↦ inl ((a.members n).1 (inr (e, m)))
-          | inr more ↦ inr more
-        ]
-      ];
-    }
-
-    pub gathered-but : but ≡ Some node → AreGathered f pins but found rest
-    gathered-but one = record {
-      pinned = λ n h. w.pinned n (later n h);
-      right = w.right;
-      all = λ n h m. elim (w.all n h m) [
-        | inl old ↦ inl old
-        | inr there ↦ elim (among n there) [
-          | inl e ↦ absurd (h.1 (one ∙ ap (λ x. Some x) e))
-          | inr more ↦ inr more
-        ]
-      ];
-    }
-
-  pub gathered-all : (found left : List Node) → left ≡ [] → AreGathered f pins but found left → (n : Node)
-      → Contains found n ↔ (IsPinnedBut pins but n × IsMutable f n)
-  gathered-all found left ended w n = (
-    w.right n,
-    λ h. elim (w.all n h.0 h.1) [
-      | inl there ↦ there
-      | inr more ↦ absurd (Contains-none n (subst (λ ns. Contains ns n) ended more))
-    ],
-  )

@@ -1,6 +1,6 @@
 -- What pins uphold, as a kept replica keeps it: what is pinned, and its ancestors down to the public ones. What of that
 -- is obsolete, now or later, stays in view.
-use Rattle.std.specs.Prelude.{◌≡◌, ◌≢◌, ◌++◌, ◌⊎◌, ℕ, Option, Some, List, Contains, take}
+use Rattle.std.specs.Prelude.{◌≡◌, ◌++◌, ◌⊎◌, ℕ, List, Contains, take}
 use Rattle.hg_changeset.specs.declared.node.Node.{Node}
 use Rattle.hg_history.specs.Content.{IsHeld}
 use Rattle.hg_replica.specs.Content.{Content}
@@ -32,7 +32,3 @@ pub record IsUpholding (f : Content) (pins old now : List Node) (i : ℕ) : Type
   pub stands : (n : Node) → Contains now n → Contains pins n ⊎ HasChildAmong f now n
   pub begun : (n : Node) → Contains pins n → IsMutable f n → Contains now n
   pub closed : (n c : Node) → Contains (take i now) c → IsMutableParent f c n → Contains now n
-
--- it is pinned, and isn't the one that is left out, if one is
-abbrev pub IsPinnedBut : List Node → Option Node → Node → Type 0
-IsPinnedBut pins but n = Contains pins n × (but ≢ Some n)

@@ -17,7 +17,8 @@ ghost use Rattle.hg_view.specs.Pins.{IsServedUnder, IsVisibleUnder, PinAnswer};
 
 use crate::pins::Pins;
 use crate::refusal::PinRefusal;
-use crate::upheld::{upheld_by, uphold};
+use crate::released::{released, take_out};
+use crate::upheld::uphold;
 use crate::view::{not_secret, set_at};
 use hg_changeset::Node;
 use hg_graph::Graph;
@@ -100,7 +101,7 @@ impl Kept {
         let instabilities = self.instabilities.copy()?;
         let replica = self.replica.copy()?;
         let pins = self.pins.copy()?;
-        let upheld = upheld_by(self.alloc, &self.replica, &self.pins, None)?;
+        let upheld = self.upheld.clone()?;
         Ok(Kept {
             alloc: self.alloc,
             replica,
@@ -161,7 +162,9 @@ impl Kept {
         }
     }
 
-    /// Takes the pin of a changeset away, as [`Pins::unpin`] does, and finds from scratch what the other pins uphold.
+    /// Takes the pin of a changeset away, as [`Pins::unpin`] does. It costs what is upheld no longer and its children,
+    /// and its parents, each with its children from the last one down to the first that is upheld still. Where memory
+    /// is refused nothing changes.
     ///
     /// Refuses [`PinRefusal::NotPinned`] alone, where there is none.
     pub fn unpin(&mut self, node: Node) -> Result<(), PinRefusal>
@@ -171,9 +174,9 @@ impl Kept {
         if !self.pins.is_pinned(node) {
             return Err(PinRefusal::NotPinned(node));
         }
-        match upheld_by(self.alloc, &self.replica, &self.pins, Some(node)) {
-            Ok(upheld) => {
-                self.upheld = upheld;
+        match released(self.alloc, &self.replica, &self.pins, &self.upheld, node) {
+            Ok(gone) => {
+                take_out(&mut self.upheld, &gone);
                 self.pins.unpin(node)
             }
             Err(AllocError) => Err(PinRefusal::NoMemory),

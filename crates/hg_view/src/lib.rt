@@ -2,7 +2,7 @@
 //!
 //! An obsolete changeset is hidden, unless something that isn't obsolete stands on it. What is visible and not secret
 //! is served: others may be told of it. A node may pin what something of its own stands on: that stays in view, with
-//! its ancestors, though it is obsolete.
+//! its ancestors, though it is obsolete. What is hidden can still be shared: [`share`] tells all that isn't secret.
 //!
 //! Views are found from a replica and pins alone. Who keeps its instabilities beside it, and what its pins uphold, as
 //! [`Kept`] does, asks of one changeset by three look-ups whether it is visible.
@@ -12,6 +12,8 @@ mod kept;
 mod laws;
 mod pins;
 mod refusal;
+mod released;
+mod shared;
 mod shown;
 mod upheld;
 mod view;
@@ -27,5 +29,6 @@ pub use laws::{
 };
 pub use pins::Pins;
 pub use refusal::PinRefusal;
+pub use shared::{share, shared_marks};
 pub use shown::is_visible;
 pub use view::{served, served_marks, visible};

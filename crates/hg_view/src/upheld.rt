@@ -2,8 +2,7 @@
 //!
 //! Public changesets are never obsolete, and what isn't public now never was. So this has all that can be obsolete
 //! below a pin, now and whatever a replica absorbs later: pins alone change it.
-ghost use Rattle.std.specs.Prelude.{◌≡◌, ◌↔◌, ◌⊎◌, ℕ, [], ◌++◌, List, Some, length, Contains, IfOk, OnOk, OnErr};
-ghost use Rattle.std.specs.Prelude.{IsTrue};
+ghost use Rattle.std.specs.Prelude.{◌≡◌, ◌↔◌, ◌⊎◌, ℕ, ◌++◌, List, Some, length, Contains, OnOk, OnErr};
 ghost use Rattle.hg_changeset.specs.declared.node.Node.{Node};
 ghost use Rattle.hg_graph.specs.Places.{IsAt};
 ghost use Rattle.hg_phases.specs.State.{changesets};
@@ -12,31 +11,13 @@ ghost use Rattle.hg_replica.specs.State.{IsValid};
 ghost use Rattle.hg_replica.specs.Content.{content_of};
 ghost use Rattle.hg_replica.specs.Evolution.{IsMutable};
 ghost use Rattle.hg_instab.specs.Walk.{Adds};
-ghost use Rattle.hg_view.specs.Upheld.{AreUpheld, IsUpholding, IsMutableParent, IsPinnedBut};
+ghost use Rattle.hg_view.specs.Upheld.{AreUpheld, IsUpholding, IsMutableParent};
 
-use crate::pins::Pins;
 use hg_changeset::Node;
 use hg_instab::is_mutable;
 use hg_replica::Replica;
 use indexmap::IndexSet;
-use std::alloc::{AllocError, Global};
-
-// What the pins uphold, but for one of them, if one is given.
-pub(crate) fn upheld_by(
-    alloc: Global,
-    replica: &Replica,
-    pins: &Pins,
-    but: Option<Node>,
-) -> Result<IndexSet<Node>, AllocError>
-    ensures { IfOk result (λ upheld. (fewer : List Node)
-        → ((n : Node) → Contains fewer n ↔ IsPinnedBut pins.now but n)
-        → ((n : Node) → Contains fewer n → IsHeld (content_of replica.now).0 n)
-        → AreUpheld (content_of replica.now) fewer upheld.keys) }
-{
-    let mut upheld = mutable_pins(alloc, replica, pins, but)?;
-    hang_below(replica, &mut upheld, 0)?;
-    Ok(upheld)
-}
+use std::alloc::AllocError;
 
 // Upholds one more, with its ancestors down to the public ones, at the cost of those that weren't upheld. What was
 // there comes first. Where memory is refused nothing changes.
@@ -61,31 +42,6 @@ pub(crate) fn uphold(
             Err(error)
         }
     }
-}
-
-// The pins that aren't public, but for one, if one is given.
-fn mutable_pins(
-    alloc: Global,
-    replica: &Replica,
-    pins: &Pins,
-    but: Option<Node>,
-) -> Result<IndexSet<Node>, AllocError>
-    ensures { IfOk result (λ found. (n : Node) → Contains found.keys n
-        ↔ (IsPinnedBut pins.now but n × IsMutable (content_of replica.now) n)) }
-{
-    let mut found = IndexSet::new(alloc);
-    for node in pins.nodes() {
-        if !is_one(but, *node) {
-            add_mutable(replica, *node, &mut found)?;
-        }
-    }
-    Ok(found)
-}
-
-fn is_one(but: Option<Node>, node: Node) -> bool
-    ensures { IsTrue result ↔ (but ≡ Some node) }
-{
-    but == Some(node)
 }
 
 // Adds the parents that aren't public of each from the place on, and of each that is added.

@@ -26,7 +26,7 @@ pub fn visible(alloc: Global, replica: &Replica, pins: &Pins) -> Result<BTreeSet
     set_at(alloc, replica, &marks)
 }
 
-/// The visible changesets that aren't secret: what others are given. Mercurial's view `served`.
+/// The visible changesets that aren't secret: what others are given by a pull. Mercurial's view `served`.
 pub fn served(alloc: Global, replica: &Replica, pins: &Pins) -> Result<BTreeSet<Node>, AllocError>
     ensures { IfOk result (λ set. (n : Node) → Contains set.keys n
         ↔ IsServedUnder (content_of replica.now) pins.now n) }

@@ -11,8 +11,8 @@ invariant_of-self c =
     let kept = c.keep_up in
     let s = c.self.inside.replica in
     let sets = kept-sets s c.args.part.now told.new.self kept.new.replica c.self.inside.instabilities
-    kept.new.instabilities told.ensures.valid c.self.invariant.0 told.result kept.result told.ensures.answer told.ensures.back
-    told.ensures.nothing kept.ensures in
+    kept.new.instabilities told.ensures.valid c.self.invariant.0 told.result kept.result told.ensures.answer
+    told.ensures.back told.ensures.nothing kept.ensures in
     let answer = kept-answer s c.args.part.now told.new.self kept.new.replica c.self.inside.instabilities
     kept.new.instabilities told.result kept.result told.ensures.answer told.ensures.back kept.ensures in (
       sets.0,
