@@ -2,7 +2,7 @@
 use crate::scene::{ascending, chain, commit, prune};
 use hg_changeset::Node;
 use hg_discovery::{Discovery, DiscoveryError, heads_in_common_kept, known, known_kept};
-use hg_message::offer;
+use hg_message::{Scope, offer};
 use hg_phases::Phase;
 use hg_replica::Replica;
 use hg_view::{Kept, Pins};
@@ -75,7 +75,9 @@ fn what_is_above_the_common_heads_is_offered(rt: HostRuntime) {
     assert!(rt; discovery.answer(&answers) == Ok(()));
     let heads = discovery.common_heads().expect(&rt, "memory");
     assert!(rt; heads.as_slice() == [b].as_slice());
-    let message = offer(alloc, &other, &Pins::new(alloc), &heads).expect(&rt, "an offer");
+    let message = offer(alloc, &other, &Pins::new(alloc), &heads, Scope::Served).expect(
+        &rt, "an offer",
+    );
     assert!(rt; message.changesets().len() == 1 && message.markers().is_empty());
     assert!(rt; message.bounds() == [(c, Phase::Draft)].as_slice());
 }

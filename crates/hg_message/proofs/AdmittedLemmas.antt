@@ -19,40 +19,42 @@ use Rattle.hg_obsstore.proofs.IndexLemmas.{Contains-take}
 use Rattle.hg_replica.specs.State.{ReplicaState, IsValid}
 use Rattle.hg_replica.specs.Content.{Content, content_of, IsValidContent, ContentAdmits}
 use Rattle.hg_replica.proofs.ContentLemmas.{content-valid}
-use Rattle.hg_view.specs.Pins.{IsServedUnder}
-use Rattle.hg_view.proofs.PinLemmas.{served_under-above}
 use Rattle.hg_message.specs.Value.{MessageValue}
 use Rattle.hg_message.specs.Part.{draft_bounds, part_of}
-use Rattle.hg_message.specs.Offer.{IsCommon, IsOutgoing, IsOffer}
+use Rattle.hg_message.specs.Offer.{IsCommon, IsNamed, IsOutgoing, IsOffer}
+use Rattle.hg_message.proofs.NamedLemmas.{named-above}
 use Rattle.hg_message.proofs.ThoseLemmas.{those-member, those-front}
 
 module _ (s : ReplicaState) (valid : IsValid s) (pins common : List Node) (m : MessageValue)
     (offer : IsOffer s pins common m) (g : Content)
     (has : (n : Node) → IsCommon (content_of s) common n → IsHeld g.0 n)
     (apart : (n : Node) (h k : Held) → (content_of s).0 n ≡ Some h → g.0 n ≡ Some k → h.changeset ≡ k.changeset) where
+  abbrev P : Node → Type 0
+  P = IsNamed (content_of s) pins m.scope
+
   vf : IsValidContent (content_of s)
   vf = content-valid s valid
 
-  -- a changeset that is served and isn't common is outgoing
-  outgoing : (n : Node) (h : Held) → (content_of s).0 n ≡ Some h → IsServedUnder (content_of s) pins n
-      → ¬ (IsCommon (content_of s) common n) → IsOutgoing (content_of s) pins common h.changeset
-  outgoing n h e served new =
-      let named = (vf.named n h e).0 in (
-        (h, subst (λ x. (content_of s).0 x ≡ Some h) (sym named) e, refl),
-        subst (IsServedUnder (content_of s) pins) (sym named) served,
-        λ k. new (subst (IsCommon (content_of s) common) named k),
+  -- a changeset that is named and isn't common is outgoing
+  outgoing : (n : Node) (h : Held) → (content_of s).0 n ≡ Some h → P n → ¬ (IsCommon (content_of s) common n)
+      → IsOutgoing (content_of s) P common h.changeset
+  outgoing n h e named new =
+      let id = (vf.named n h e).0 in (
+        (h, subst (λ x. (content_of s).0 x ≡ Some h) (sym id) e, refl),
+        subst P (sym id) named,
+        λ k. new (subst (IsCommon (content_of s) common) id k),
       )
 
-  -- what is served is held, or comes with the offer
-  pub known : (n : Node) (h : Held) → (content_of s).0 n ≡ Some h → IsServedUnder (content_of s) pins n
-      → IsHeld g.0 n ⊎ IsOutgoing (content_of s) pins common h.changeset
-  known n h e served = by (g.0 n) refl
+  -- what is named is held, or comes with the offer
+  pub known : (n : Node) (h : Held) → (content_of s).0 n ≡ Some h → P n
+      → IsHeld g.0 n ⊎ IsOutgoing (content_of s) P common h.changeset
+  known n h e named = by (g.0 n) refl
     where
-      by : (o : Option Held) → g.0 n ≡ o → IsHeld g.0 n ⊎ IsOutgoing (content_of s) pins common h.changeset
+      by : (o : Option Held) → g.0 n ≡ o → IsHeld g.0 n ⊎ IsOutgoing (content_of s) P common h.changeset
       by (Some k) at = inl (k, at)
-      by None at = inr (outgoing n h e served (λ c. let x = has n c in none-some x.0 (sym at ∙ x.1)))
+      by None at = inr (outgoing n h e named (λ c. let x = has n c in none-some x.0 (sym at ∙ x.1)))
 
-  said : (c : Contents) → Contains m.changesets c → IsOutgoing (content_of s) pins common c
+  said : (c : Contents) → Contains m.changesets c → IsOutgoing (content_of s) P common c
   said c at = (offer.says.changesets c).0 at
 
   each : (c : Contents) → Contains m.changesets c → IsChangeset c
@@ -65,10 +67,10 @@ module _ (s : ReplicaState) (valid : IsValid s) (pins common : List Node) (m : M
       let h = out.0 in
       let is_parent : IsParent h.0.changeset p = subst (λ (x : Contents). IsParent x p) (sym h.2) is in
       let parent = vf.parents (node_of c) h.0 p h.1 is_parent in
-      let served = served_under-above (content_of s) pins p (node_of c) vf out.1 (below itself h.1 is_parent) in
-      let front = those-front (IsOutgoing (content_of s) pins common)
+      let named = named-above (content_of s) pins m.scope p (node_of c) vf out.1 (below itself h.1 is_parent) in
+      let front = those-front (IsOutgoing (content_of s) P common)
       (changesets s.history) m.changesets i c offer.changesets at in
-      elim (known p parent.0 parent.1 served) [
+      elim (known p parent.0 parent.1 named) [
         | inl held ↦ inl held
         | inr new ↦
             let d = Contains-map_from node_of (take front.0 (changesets s.history)) p
@@ -80,7 +82,7 @@ module _ (s : ReplicaState) (valid : IsValid s) (pins common : List Node) (m : M
             let first = subst (Contains (take front.0 (changesets s.history))) same d.1 in
             inr (
               parent.0.changeset,
-              (those-member (IsOutgoing (content_of s) pins common) (take front.0 (changesets s.history))
+              (those-member (IsOutgoing (content_of s) P common) (take front.0 (changesets s.history))
                   (take i m.changesets) front.2 parent.0.changeset).1 (first, new),
               (vf.named p parent.0 parent.1).0,
             )

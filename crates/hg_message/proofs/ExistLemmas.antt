@@ -18,7 +18,9 @@ use Rattle.hg_history.proofs.ContentLemmas.{node_in_content}
 use Rattle.hg_replica.specs.State.{ReplicaState, IsValid}
 use Rattle.hg_replica.specs.Content.{content_of}
 use Rattle.hg_message.specs.Value.{MessageValue}
-use Rattle.hg_message.specs.Offer.{IsOutgoing, IsOfferedMarker, IsServedAs, IsHead, AreHeads, bounds_in, IsOffer}
+use Rattle.hg_message.specs.declared.scope.Scope.{Scope}
+use Rattle.hg_message.specs.Offer.{IsNamed, IsNamedMarker, IsOutgoing, IsOneWith, IsHead, AreHeads, bounds_in}
+use Rattle.hg_message.specs.Offer.{IsOfferOf}
 use Rattle.hg_message.proofs.ThoseLemmas.{those-member, those-exist}
 use Rattle.hg_message.proofs.OfferLemmas.{is-offer}
 
@@ -156,21 +158,24 @@ heads-exist s valid P held none =
       ascending = up.ascending;
     }))
 
-pub offer-exists : (s : ReplicaState) (pins common : List Node) → IsValid s
-    → ((m : MessageValue) → IsOffer s pins common m → ⊥) → ⊥
-offer-exists s pins common valid none =
+pub offer-exists : (s : ReplicaState) (pins common : List Node) (scope : Scope) → IsValid s
+    → ((m : MessageValue) → IsOfferOf s pins common scope m → ⊥) → ⊥
+offer-exists s pins common scope valid none =
     let f = content_of s in
-    those-exist (IsOutgoing f pins common) (changesets s.history) (λ cs out.
-    those-exist (IsOfferedMarker f pins) s.markers (λ ms relevant.
-    heads-exist s valid (IsServedAs f pins Public) (λ n h. (h.1.0, h.1.1)) (λ public public_heads.
-    heads-exist s valid (IsServedAs f pins Draft) (λ n h. (h.1.0, h.1.1)) (λ draft draft_heads.
+    let P = IsNamed f pins scope in
+    those-exist (IsOutgoing f P common) (changesets s.history) (λ cs out.
+    those-exist (IsNamedMarker f pins scope) s.markers (λ ms named.
+    heads-exist s valid (IsOneWith f P Public) (λ n h. (h.1.0, h.1.1)) (λ public public_heads.
+    heads-exist s valid (IsOneWith f P Draft) (λ n h. (h.1.0, h.1.1)) (λ draft draft_heads.
     let bounds = bounds_in Public public ++ bounds_in Draft draft in
-    none (record { changesets = cs; bounds = bounds; markers = ms })
-    (is-offer s valid pins common cs bounds ms out
-    (record {
-      public = public;
-      draft = draft;
-      public_heads = public_heads;
-      draft_heads = draft_heads;
-      both = refl;
-    }) relevant)))))
+    none (record { scope = scope; changesets = cs; bounds = bounds; markers = ms }) (
+      is-offer s valid pins common scope cs bounds ms out
+          (record {
+            public = public;
+            draft = draft;
+            public_heads = public_heads;
+            draft_heads = draft_heads;
+            both = refl;
+          }) named,
+      refl,
+    )))))

@@ -1,283 +1,38 @@
 -- The first fault of a message, which is met in reading field by field.
-use Rattle.std.proofs.Common.{◌≡◌, ◌≢◌, ◌<◌, ◌≤◌, ◌+◌, ◌-◌, ◌⊎◌, inl, inr, ℕ, zero, suc, Bool, true, false, cond, not}
-use Rattle.std.proofs.Common.{eqb, ltb, List, [], ◌∷◌, ◌++◌, length, take, drop, get_or, Option, Some, None, Result, Ok}
-use Rattle.std.proofs.Common.{Err, true≢false, refl, sym, ap, subst, ◌∙◌, arith, length-append}
-use Rattle.std.specs.Prelude.{nat_le, ◌&&◌}
-use Rattle.std.specs.Cmp.{unsigned_Decides}
+use Rattle.std.proofs.Common.{◌≡◌, ◌<◌, ◌≤◌, ◌+◌, ◌-◌, inl, inr, ℕ, zero, suc, Bool, true, false, cond, not, eqb, ltb}
+use Rattle.std.proofs.Common.{List, [], ◌∷◌, ◌++◌, length, take, drop, get_or, Option, Some, None, Result, Ok, Err}
+use Rattle.std.proofs.Common.{refl, sym, ap, subst, ◌∙◌, arith, length-append}
+use Rattle.std.specs.Prelude.{nat_le}
 use Rattle.std.specs.Option.{option_or}
-use Rattle.std.specs.Result.{MatchResult}
-use Rattle.std.proofs.lemmas.Bool.{cases_lt, lt-ltb, le-ltb, le-leb, false_from_ne_true}
+use Rattle.std.proofs.lemmas.Bool.{cases_lt, lt-ltb, le-ltb}
 use Rattle.std.proofs.lemmas.List.{take_at, drop_at, take-append-drop, length-take}
 use Rattle.std.proofs.lemmas.Option.{none-some, same_Some}
 use Rattle.hex.specs.Hex.{IsBytes}
 use Rattle.hg_changeset.specs.declared.node.Node.{Node}
-use Rattle.hg_changeset.specs.Node.{null_node, node_eq}
-use Rattle.hg_changeset.specs.Same.{node_eq_decides}
 use Rattle.hg_changeset.specs.Contents.{Contents}
-use Rattle.hg_changeset.specs.Changeset.{node_of, is_given_twice, text_limit}
+use Rattle.hg_changeset.specs.Changeset.{is_given_twice, text_limit}
 use Rattle.hg_marker.specs.Fields.{Fields}
 use Rattle.hg_marker.specs.Reading.{Reader, and_then, ◌>>=◌, says, wants, yields, field, number, byte, node}
 use Rattle.hg_marker.proofs.Formats.{IsBytes-right, IsBytes-take}
 use Rattle.hg_phases.specs.declared.phase.Phase.{Phase}
-use Rattle.hg_phases.specs.declared.phase.Phase.TheVariants.{Public, Draft, Secret}
-use Rattle.hg_obsstore.specs.declared.fault.StoreFault.{StoreFault}
-use Rattle.hg_obsstore.specs.declared.fault.StoreFault.TheVariants as faults
-use Rattle.hg_obsstore.specs.Faults.{store_at, IsStoreFault}
-use Rattle.hg_obsstore.specs.Spelling.{IsStoreSpelling}
-use Rattle.hg_obsstore.proofs.FormatLemmas.{store_told, store_refused}
+use Rattle.hg_obsstore.specs.Faults.{store_at}
 use Rattle.hg_message.specs.declared.error.MessageFault.{MessageFault}
 use Rattle.hg_message.specs.declared.error.MessageFault.TheVariants.{Truncated, BadMagic, BadVersion, HashMismatch}
-use Rattle.hg_message.specs.declared.error.MessageFault.TheVariants.{BadParents, BadPhase, Trailing, TextTooLong}
+use Rattle.hg_message.specs.declared.error.MessageFault.TheVariants.{BadParents, Trailing, TextTooLong}
 use Rattle.hg_message.specs.Value.{MessageValue}
 use Rattle.hg_message.specs.Counted.{counted}
 use Rattle.hg_message.specs.Place.{here, whole}
 use Rattle.hg_message.specs.Record.{RecordFields, contents_of, is_named, fields_at, record_at}
 use Rattle.hg_message.specs.Bound.{numbered_phase, bound_at}
 use Rattle.hg_message.specs.Message.{magic_number, told_in, store_in, parts_at, ended, message_at}
-use Rattle.hg_message.specs.FirstFault.{Field, value, node_in, width, IsMisnamed, HasFault, record_or_entries}
-use Rattle.hg_message.specs.FirstFault.{bound_or_store, next}
+use Rattle.hg_message.specs.FirstFault.{Field, value, node_in, width, HasFault, record_or_entries, bound_or_store, next}
 use Rattle.hg_message.specs.FirstFault.{IsWhole, FaultAfter, IsMessageFault}
 use Rattle.hg_message.specs.FirstFault.Field.{Magic, Version, Count, Id, FirstParent, SecondParent, TextLength, Text}
-use Rattle.hg_message.specs.FirstFault.Field.{Entries, PhaseNumber, BoundNode, StoreLength, Store, End}
-
--- the fault of what was read, where there is one
-abbrev refusal : {A : Type 0} → Result A MessageFault → Option MessageFault
-refusal (Ok x) = None
-refusal (Err fault) = Some fault
-
--- ---- the fault of a field's bytes, as it is tried
-
-abbrev unless : Bool → MessageFault → Option MessageFault
-unless fine fault = cond fine None (Some fault)
-
-abbrev own : Field → ℕ → List ℕ → Option MessageFault
-own Magic place bytes = unless (eqb (value bytes) magic_number) BadMagic
-own Version place bytes = unless (eqb (get_or bytes 0 0) 1) BadVersion
-own Count place bytes = None
-own (Id index after) place bytes = None
-own (FirstParent index after n) place bytes = None
-own (SecondParent index after n p) place bytes = None
-own (TextLength index after n p q) place bytes = unless (nat_le (value bytes) text_limit) (TextTooLong index)
-own (Text index after n p q len) place bytes =
-    option_or (unless (not (is_given_twice p q)) (BadParents index))
-    (unless (is_named (record { id = n; p = p; q = q; text = bytes })) (HashMismatch index))
-own Entries place bytes = None
-own (PhaseNumber after) place bytes = refusal (numbered_phase (value bytes))
-own (BoundNode after) place bytes = None
-own StoreLength place bytes = None
-own (Store len) place bytes = refusal (told_in place (store_at bytes))
-own End place bytes = None
-
-unless_told : (fine : Bool) (fault f : MessageFault) → unless fine fault ≡ Some f → (fine ≡ false) × (f ≡ fault)
-unless_told true fault f e = absurd (none-some f e)
-unless_told false fault f e = (refl, sym (same_Some fault f e))
-
-unless_so : (fine : Bool) (fault f : MessageFault) → fine ≡ false → f ≡ fault → unless fine fault ≡ Some f
-unless_so fine fault f fails is = rw (fails, is) refl
-
-eqb_no : (a b : ℕ) → a ≢ b → eqb a b ≡ false
-eqb_no a b apart = false_from_ne_true (eqb a b) (λ e. apart ((unsigned_Decides a b).0 e))
-
-eqb_apart : (a b : ℕ) → eqb a b ≡ false → a ≢ b
-eqb_apart a b differ e = true≢false (sym ((unsigned_Decides a b).1 e) ∙ differ)
-
--- ---- one byte
-
-one_byte : (bytes : List ℕ) → length bytes ≡ 1 → bytes ≡ get_or bytes 0 0 ∷ []
-one_byte [] e = absurd (omega (arith, e))
-one_byte (b ∷ []) e = refl
-one_byte (b ∷ c ∷ bytes) e = absurd (omega (arith, e))
-
-version_apart : (bytes : List ℕ) → length bytes ≡ 1 → get_or bytes 0 0 ≢ 1 → bytes ≢ 1 ∷ []
-version_apart bytes len apart e = apart (ap (λ (b : List ℕ). get_or b 0 0) e)
-
-version_no : (bytes : List ℕ) → length bytes ≡ 1 → bytes ≢ 1 ∷ [] → get_or bytes 0 0 ≢ 1
-version_no bytes len apart e = apart (one_byte bytes len ∙ ap (λ (b : ℕ). b ∷ []) e)
-
--- ---- the text of a record, and with it the record
-
-and_false : (a b : Bool) → (a && b) ≡ false → (a ≡ false) ⊎ (b ≡ false)
-and_false true b e = inr e
-and_false false b e = inl refl
-
-not_false : (a : Bool) → not a ≡ false → a ≡ true
-not_false true e = refl
-not_false false e = absurd (true≢false e)
-
-not_so : (p q : Node) → p ≢ q → node_eq p q ≡ false
-not_so p q apart = false_from_ne_true (node_eq p q) (λ e. apart ((node_eq_decides p q).0 e))
-
-are_apart : (p q : Node) → node_eq p q ≡ false → p ≢ q
-are_apart p q differ e = true≢false (sym ((node_eq_decides p q).1 e) ∙ differ)
-
-twice_told : (p q : Node) → not (is_given_twice p q) ≡ false → (p ≡ q) × (p ≢ null_node)
-twice_told p q given = by (node_eq p q) (node_eq p null_node) refl refl given
-  where
-    by : (a b : Bool) → node_eq p q ≡ a → node_eq p null_node ≡ b → not (a && not b) ≡ false → (p ≡ q) × (p ≢ null_node)
-    by true false e g h = ((node_eq_decides p q).0 e, are_apart p null_node g)
-    by true true e g h = absurd (true≢false h)
-    by false b e g h = absurd (true≢false h)
-
-twice_so : (p q : Node) → p ≡ q → p ≢ null_node → not (is_given_twice p q) ≡ false
-twice_so p q same some = rw ((node_eq_decides p q).1 same, not_so p null_node some) refl
-
-once_told : (p q : Node) → not (is_given_twice p q) ≡ true → p ≡ q → p ≡ null_node
-once_told p q fine same = by (node_eq p null_node) refl
-  where
-    by : (b : Bool) → node_eq p null_node ≡ b → p ≡ null_node
-    by true e = (node_eq_decides p null_node).0 e
-    by false e = absurd (true≢false (sym fine ∙ twice_so p q same (are_apart p null_node e)))
-
-once_so : (p q : Node) → (p ≡ q → p ≡ null_node) → not (is_given_twice p q) ≡ true
-once_so p q once = by (not (is_given_twice p q)) refl
-  where
-    by : (b : Bool) → not (is_given_twice p q) ≡ b → b ≡ true
-    by true e = refl
-    by false e = let t = twice_told p q e in absurd (t.1 (once t.0))
-
-misnamed_told : (f : RecordFields) → is_named f ≡ false → IsMisnamed f.id (contents_of f)
-misnamed_told f fails =
-    elim (and_false (node_eq (node_of (contents_of f)) f.id) (not (node_eq (node_of (contents_of f)) null_node))
-    fails) [
-      | inl other ↦ inl (are_apart (node_of (contents_of f)) f.id other)
-      | inr absent ↦ by_id (node_eq (node_of (contents_of f)) f.id) refl
-          ((node_eq_decides (node_of (contents_of f)) null_node).0 (not_false _ absent))
-    ]
-  where
-    by_id : (b : Bool) → node_eq (node_of (contents_of f)) f.id ≡ b → node_of (contents_of f) ≡ null_node
-        → IsMisnamed f.id (contents_of f)
-    by_id true e absent = inr (sym ((node_eq_decides (node_of (contents_of f)) f.id).0 e) ∙ absent)
-    by_id false e absent = inl (are_apart (node_of (contents_of f)) f.id e)
-
-misnamed_so : (f : RecordFields) → IsMisnamed f.id (contents_of f) → is_named f ≡ false
-misnamed_so f (inl other) = rw (not_so (node_of (contents_of f)) f.id other) refl
-misnamed_so f (inr absent) = by_id (node_eq (node_of (contents_of f)) f.id) refl
-  where
-    by_id : (b : Bool) → node_eq (node_of (contents_of f)) f.id ≡ b
-        → (b && not (node_eq (node_of (contents_of f)) null_node)) ≡ false
-    by_id true e = rw ((node_eq_decides (node_of (contents_of f)) null_node).1
-        ((node_eq_decides (node_of (contents_of f)) f.id).0 e ∙ absent)) refl
-    by_id false e = refl
-
-text_told : (index after len place : ℕ) (n p q : Node) (bytes : List ℕ) (f : MessageFault)
-    → own (Text index after n p q len) place bytes ≡ Some f → HasFault (Text index after n p q len) place bytes f
-text_told index after len place n p q bytes f e = by (not (is_given_twice p q)) refl e
-  where
-    by : (b : Bool) → not (is_given_twice p q) ≡ b
-        → option_or (unless b (BadParents index)) (unless (is_named (record { id = n; p = p; q = q; text = bytes }))
-        (HashMismatch index)) ≡ Some f
-        → HasFault (Text index after n p q len) place bytes f
-    by true once e =
-        let t = unless_told (is_named (record { id = n; p = p; q = q; text = bytes })) (HashMismatch index) f e in
-        inr (once_told p q once, misnamed_told (record { id = n; p = p; q = q; text = bytes }) t.0, t.1)
-    by false twice e = let t = twice_told p q twice in inl (t.0, t.1, sym (same_Some (BadParents index) f e))
-
-text_so : (index after len place : ℕ) (n p q : Node) (bytes : List ℕ) (f : MessageFault)
-    → HasFault (Text index after n p q len) place bytes f → own (Text index after n p q len) place bytes ≡ Some f
-text_so index after len place n p q bytes f (inl h) = rw (twice_so p q h.0 h.1, h.2) refl
-text_so index after len place n p q bytes f (inr h) =
-    rw (once_so p q h.0, misnamed_so (record { id = n; p = p; q = q; text = bytes }) h.1, h.2) refl
-
--- ---- the phase of a bound, and the store
-
-phase_told : (number : ℕ) (f : MessageFault) → refusal (numbered_phase number) ≡ Some f → (2 < number) × (f ≡ BadPhase)
-phase_told number f e = by (eqb number 0) (eqb number 1) (eqb number 2) refl refl refl e
-  where
-    by : (a b c : Bool) → eqb number 0 ≡ a → eqb number 1 ≡ b → eqb number 2 ≡ c
-        → refusal (cond a (Ok Public) (cond b (Ok Draft) (cond c (Ok Secret) (Err BadPhase)))) ≡ Some f
-        → (2 < number) × (f ≡ BadPhase)
-    by true b c g h k e = absurd (none-some f e)
-    by false true c g h k e = absurd (none-some f e)
-    by false false true g h k e = absurd (none-some f e)
-    by false false false g h k e =
-        let above = eqb_apart number 0 g in
-        let more = eqb_apart number 1 h in
-        let most = eqb_apart number 2 k in
-        (omega (arith, above, more, most), sym (same_Some BadPhase f e))
-
-phase_so : (number : ℕ) (f : MessageFault) → 2 < number → f ≡ BadPhase → refusal (numbered_phase number) ≡ Some f
-phase_so number f more e =
-    rw (
-      eqb_no number 0 (λ z. omega (arith, z, more)),
-      eqb_no number 1 (λ z. omega (arith, z, more)),
-      eqb_no number 2 (λ z. omega (arith, z, more)),
-      e,
-    ) refl
-
-told_unit : (place : ℕ) (cause : StoreFault) (f : MessageFault)
-    → refusal (told_in {A = List Fields} place (Err cause)) ≡ Some f → told_in {A = Unit {0}} place (Err cause) ≡ Err f
-told_unit place (faults.BadVersion v) f e = ap (λ (g : MessageFault). Err g) (same_Some _ f e)
-told_unit place (faults.Bad p c) f e = ap (λ (g : MessageFault). Err g) (same_Some _ f e)
-
-told_list : (place : ℕ) (cause : StoreFault) (f : MessageFault) → told_in {A = Unit {0}} place (Err cause) ≡ Err f
-    → refusal (told_in {A = List Fields} place (Err cause)) ≡ Some f
-told_list place (faults.BadVersion v) f e = ap (λ (r : Result (Unit {0}) MessageFault). refusal r) e
-told_list place (faults.Bad p c) f e = ap (λ (r : Result (Unit {0}) MessageFault). refusal r) e
-
-store_is_told : (len place : ℕ) (bytes : List ℕ) (f : MessageFault) → IsBytes bytes
-    → refusal (told_in place (store_at bytes)) ≡ Some f → HasFault (Store len) place bytes f
-store_is_told len place bytes f fits e = by (store_at bytes) (store_told bytes fits) e
-  where
-    by : (r : Result (List Fields) StoreFault) → MatchResult r (λ ms. IsStoreSpelling ms bytes) (IsStoreFault bytes)
-        → refusal (told_in place r) ≡ Some f → HasFault (Store len) place bytes f
-    by (Ok ms) h e = absurd (none-some f e)
-    by (Err cause) h e = (cause, h, told_unit place cause f e)
-
-store_so : (len place : ℕ) (bytes : List ℕ) (f : MessageFault) → HasFault (Store len) place bytes f
-    → refusal (told_in place (store_at bytes)) ≡ Some f
-store_so len place bytes f h =
-    ap (λ (r : Result (List Fields) StoreFault). refusal (told_in place r)) (store_refused bytes h.0 h.1)
-    ∙ told_list place h.0 f h.2
-
--- ---- each field
-
-own_told : (field : Field) (place : ℕ) (bytes : List ℕ) (f : MessageFault) → length bytes ≡ width field
-    → IsBytes bytes → own field place bytes ≡ Some f → HasFault field place bytes f
-own_told Magic place bytes f len fits e = let t = unless_told (eqb (value bytes) magic_number) BadMagic f e in
-    (eqb_apart (value bytes) magic_number t.0, t.1)
-own_told Version place bytes f len fits e =
-    let t = unless_told (eqb (get_or bytes 0 0) 1) BadVersion f e in
-    (version_apart bytes len (eqb_apart (get_or bytes 0 0) 1 t.0), t.1)
-own_told Count place bytes f len fits e = none-some f e
-own_told (Id index after) place bytes f len fits e = none-some f e
-own_told (FirstParent index after n) place bytes f len fits e = none-some f e
-own_told (SecondParent index after n p) place bytes f len fits e = none-some f e
-own_told (TextLength index after n p q) place bytes f len fits e =
-    let t = unless_told (nat_le (value bytes) text_limit) (TextTooLong index) f e in
-    (longer (value bytes) text_limit t.0, t.1)
-  where
-    longer : (a b : ℕ) → nat_le a b ≡ false → b < a
-    longer a b fails = elim (cases_lt b a) [ inl lt ↦ lt | inr le ↦ absurd (true≢false (sym (le-leb a b le) ∙ fails)) ]
-own_told (Text index after n p q l) place bytes f len fits e = text_told index after l place n p q bytes f e
-own_told Entries place bytes f len fits e = none-some f e
-own_told (PhaseNumber after) place bytes f len fits e = phase_told (value bytes) f e
-own_told (BoundNode after) place bytes f len fits e = none-some f e
-own_told StoreLength place bytes f len fits e = none-some f e
-own_told (Store l) place bytes f len fits e = store_is_told l place bytes f fits e
-own_told End place bytes f len fits e = none-some f e
-
-own_so : (field : Field) (place : ℕ) (bytes : List ℕ) (f : MessageFault) → length bytes ≡ width field
-    → HasFault field place bytes f → own field place bytes ≡ Some f
-own_so Magic place bytes f len h = unless_so (eqb (value bytes) magic_number) BadMagic f
-    (eqb_no (value bytes) magic_number h.0) h.1
-own_so Version place bytes f len h = unless_so (eqb (get_or bytes 0 0) 1) BadVersion f
-    (eqb_no (get_or bytes 0 0) 1 (version_no bytes len h.0)) h.1
-own_so Count place bytes f len h = absurd h
-own_so (Id index after) place bytes f len h = absurd h
-own_so (FirstParent index after n) place bytes f len h = absurd h
-own_so (SecondParent index after n p) place bytes f len h = absurd h
-own_so (TextLength index after n p q) place bytes f len h = unless_so (nat_le (value bytes) text_limit)
-    (TextTooLong index) f (no_more (value bytes) text_limit h.0) h.1
-  where
-    no_more : (a b : ℕ) → b < a → nat_le a b ≡ false
-    no_more a b lt = grind arith
-own_so (Text index after n p q l) place bytes f len h = text_so index after l place n p q bytes f h
-own_so Entries place bytes f len h = absurd h
-own_so (PhaseNumber after) place bytes f len h = phase_so (value bytes) f h.0 h.1
-own_so (BoundNode after) place bytes f len h = absurd h
-own_so StoreLength place bytes f len h = absurd h
-own_so (Store l) place bytes f len h = store_so l place bytes f h
-own_so End place bytes f len h = absurd h
+use Rattle.hg_message.specs.FirstFault.Field.{Entries, PhaseNumber, BoundNode, StoreLength, Store, End, ScopeNumber}
+use Rattle.hg_message.specs.declared.scope.Scope.{Scope}
+use Rattle.hg_message.specs.declared.scope.Scope.TheVariants.{Served}
+use Rattle.hg_message.specs.Scope.{numbered_scope, is_version, scope_at, scope_of}
+use Rattle.hg_message.proofs.FieldFaultLemmas.{refusal, unless, own, own_told, own_so, eqb_no}
 
 -- ---- reading from a field on, as far as the fault
 
@@ -479,8 +234,19 @@ module _ (total : ℕ) where
   abbrev count_then : Told
   count_then = field_then total Count (λ bytes. records_then 0 (value bytes))
 
+  abbrev scope_then : Told
+  scope_then = field_then total ScopeNumber (λ _. count_then)
+
+  -- behind a version, which is the first one or not
+  abbrev scope_by : Bool → Told
+  scope_by true = count_then
+  scope_by false = scope_then
+
+  abbrev version_then : Told
+  version_then = field_then total Version (λ bytes. scope_by (eqb (get_or bytes 0 0) 1))
+
   abbrev all_then : Told
-  all_then = field_then total Magic (λ _. field_then total Version (λ _. count_then))
+  all_then = field_then total Magic (λ _. version_then)
 
   explains_end : Explains total End end_told
   explains_end = record {
@@ -536,10 +302,16 @@ module _ (total : ℕ) where
   explains_count = explains_field total Count (λ bytes. records_then 0 (value bytes)) (λ e. cc)
       (λ bytes. explains_records (value bytes) 0)
 
+  explains_scope : (first : Bool) → Explains total (cond first Count ScopeNumber) (scope_by first)
+  explains_scope true = explains_count
+  explains_scope false = explains_field total ScopeNumber (λ _. count_then) (λ e. cc) (λ _. explains_count)
+
+  explains_version : Explains total Version version_then
+  explains_version = explains_field total Version (λ bytes. scope_by (eqb (get_or bytes 0 0) 1)) (λ e. cc)
+      (λ bytes. explains_scope (eqb (get_or bytes 0 0) 1))
+
   explains_all : Explains total Magic all_then
-  explains_all =
-      explains_field total Magic (λ _. field_then total Version (λ _. count_then)) (λ e. cc)
-      (λ _. explains_field total Version (λ _. count_then) (λ e. cc) (λ _. explains_count))
+  explains_all = explains_field total Magic (λ _. version_then) (λ e. cc) (λ _. explains_version)
 
 -- ---- the reader tells the same. A probe sees the fault of what was read, and what was read otherwise
 
@@ -721,9 +493,9 @@ module _ (total : ℕ) where
       by true = refl
       by false = refl
 
-  module _ (changesets : List Contents) (bounds : List (Node × Phase)) where
+  module _ (scope : Scope) (changesets : List Contents) (bounds : List (Node × Phase)) where
     abbrev with_markers : List Fields → Reader MessageFault MessageValue
-    with_markers markers = says (record { changesets = changesets; bounds = bounds; markers = markers })
+    with_markers markers = says (record { scope = scope; changesets = changesets; bounds = bounds; markers = markers })
 
     abbrev in_store : Result (List Fields × List ℕ) MessageFault → Option MessageFault
     in_store r = ended_refusal (and_then r with_markers)
@@ -732,7 +504,8 @@ module _ (total : ℕ) where
         → in_store ((yields r >>= (λ markers. says markers)) rest) ≡ option_or (refusal r) (end_told rest)
     markers_probed r rest =
         yields_probed in_store (λ d. refl) r rest (λ markers. says markers) (end_told rest)
-        (λ markers. end_probed (record { changesets = changesets; bounds = bounds; markers = markers }) rest)
+        (λ markers. end_probed
+        (record { scope = scope; changesets = changesets; bounds = bounds; markers = markers }) rest)
 
     store_probed : (len : ℕ) (rest : List ℕ) → in_store (here total (store_in len) rest) ≡ store_then total len rest
     unfolding store_in
@@ -751,9 +524,10 @@ module _ (total : ℕ) where
         (λ len. here total (store_in len) >>= with_markers)
         (λ _. None) (λ bytes. store_then total (value bytes)) (λ bytes others. store_probed (value bytes) others)
 
-  module _ (changesets : List Contents) where
+  module _ (scope : Scope) (changesets : List Contents) where
     abbrev from_bounds : ℕ → Reader MessageFault MessageValue
-    from_bounds entries = counted (λ _. bound_at total) 0 entries >>= (λ bounds. from_store_length changesets bounds)
+    from_bounds entries =
+        counted (λ _. bound_at total) 0 entries >>= (λ bounds. from_store_length scope changesets bounds)
 
     abbrev from_entries : Reader MessageFault MessageValue
     from_entries = whole total number >>= from_bounds
@@ -763,52 +537,85 @@ module _ (total : ℕ) where
         field_probed ended_refusal (λ d. refl) 4 (Truncated (total - length rest)) value rest from_bounds
         (λ _. None) (λ bytes. bounds_then total (value bytes))
         (λ bytes others. bounds_probed (value bytes) 0 (λ r. ended_refusal
-        (and_then r (λ bounds. from_store_length changesets bounds))) (λ d. refl)
-        (λ bounds rest. store_length_probed changesets bounds rest) others)
+        (and_then r (λ bounds. from_store_length scope changesets bounds))) (λ d. refl)
+        (λ bounds rest. store_length_probed scope changesets bounds rest) others)
 
-  abbrev from_records : ℕ → Reader MessageFault MessageValue
-  from_records count = counted (record_at total) 0 count >>= (λ changesets. from_entries changesets)
+  abbrev from_records : Scope → ℕ → Reader MessageFault MessageValue
+  from_records scope count =
+      counted (record_at total) 0 count >>= (λ changesets. from_entries scope changesets)
 
-  abbrev from_count : Reader MessageFault MessageValue
-  from_count = whole total number >>= from_records
+  abbrev from_count : Scope → Reader MessageFault MessageValue
+  from_count scope = whole total number >>= from_records scope
 
-  count_probed : (rest : List ℕ) → ended_refusal (from_count rest) ≡ count_then total rest
-  count_probed rest =
-      field_probed ended_refusal (λ d. refl) 4 (Truncated (total - length rest)) value rest from_records
+  count_probed : (scope : Scope) (rest : List ℕ) → ended_refusal (from_count scope rest) ≡ count_then total rest
+  count_probed scope rest =
+      field_probed ended_refusal (λ d. refl) 4 (Truncated (total - length rest)) value rest (from_records scope)
       (λ _. None) (λ bytes. records_then total 0 (value bytes))
       (λ bytes others. records_probed (value bytes) 0 (λ r. ended_refusal
-      (and_then r (λ changesets. from_entries changesets))) (λ d. refl)
-      (λ changesets rest. entries_probed changesets rest) others)
+      (and_then r (λ changesets. from_entries scope changesets))) (λ d. refl)
+      (λ changesets rest. entries_probed scope changesets rest) others)
 
-  abbrev after_version : ℕ → Reader MessageFault MessageValue
-  after_version version = wants (eqb version 1) BadVersion >>= (λ _. from_count)
-
-  abbrev from_version : Reader MessageFault MessageValue
-  from_version = whole total byte >>= after_version
+  -- ---- the version and the scope
 
   byte_is : (d : MessageFault) (rest : List ℕ) → byte d rest ≡ cond (ltb (length rest) 1) (Err d)
       (Ok (get_or (take 1 rest) 0 0, drop 1 rest))
   byte_is d [] = refl
   byte_is d (b ∷ rest) = rw (le-ltb (length (b ∷ rest)) 1 (omega arith)) refl
 
-  version_probed : (rest : List ℕ) → ended_refusal (from_version rest) ≡ field_then total Version
-      (λ _. count_then total) rest
+  abbrev in_scope : Result (Scope × List ℕ) MessageFault → Option MessageFault
+  in_scope r = ended_refusal (and_then r from_count)
+
+  abbrev from_scope : ℕ → Reader MessageFault Scope
+  from_scope n = yields (numbered_scope n) >>= (λ scope. says scope)
+
+  scope_probed : (rest : List ℕ) → in_scope (scope_at total rest) ≡ scope_then total rest
+  unfolding scope_at
+  scope_probed rest =
+      ap (λ (r : Result (ℕ × List ℕ) MessageFault). in_scope (and_then r from_scope))
+      (byte_is (Truncated (total - length rest)) rest)
+      ∙ field_probed in_scope (λ d. refl) 1 (Truncated (total - length rest)) (λ bytes. get_or bytes 0 0) rest
+      from_scope (own ScopeNumber (total - length rest)) (λ _. count_then total)
+      (λ bytes others. yields_probed in_scope (λ d. refl) (numbered_scope (get_or bytes 0 0)) others
+      (λ scope. says scope) (count_then total others) (λ scope. count_probed scope others))
+
+  scope_by_probed : (first : Bool) (rest : List ℕ)
+      → in_scope (cond first (Ok (Served, rest)) (scope_at total rest)) ≡ scope_by total first rest
+  scope_by_probed true rest = count_probed Served rest
+  scope_by_probed false rest = scope_probed rest
+
+  abbrev behind_version : ℕ → Reader MessageFault MessageValue
+  behind_version version = scope_of total version >>= from_count
+
+  abbrev after_version : ℕ → Reader MessageFault MessageValue
+  after_version version = wants (is_version version) BadVersion >>= (λ _. behind_version version)
+
+  abbrev from_version : Reader MessageFault MessageValue
+  from_version = whole total byte >>= after_version
+
+  behind_version_probed : (version : ℕ) (rest : List ℕ)
+      → ended_refusal (behind_version version rest) ≡ scope_by total (eqb version 1) rest
+  unfolding scope_of
+  behind_version_probed version rest = scope_by_probed (eqb version 1) rest
+
+  version_probed : (rest : List ℕ) → ended_refusal (from_version rest) ≡ version_then total rest
   version_probed rest =
       ap (λ (r : Result (ℕ × List ℕ) MessageFault). ended_refusal (and_then r after_version))
       (byte_is (Truncated (total - length rest)) rest)
       ∙ field_probed ended_refusal (λ d. refl) 1 (Truncated (total - length rest))
       (λ bytes. get_or bytes 0 0) rest after_version
-      (own Version (total - length rest)) (λ _. count_then total)
+      (own Version (total - length rest)) (λ bytes. scope_by total (eqb (get_or bytes 0 0) 1))
       (λ bytes others.
-      wants_probed ended_refusal (λ d. refl) (eqb (get_or bytes 0 0) 1) BadVersion others (λ _. from_count)
-      ∙ ap (option_or (unless (eqb (get_or bytes 0 0) 1) BadVersion)) (count_probed others))
+      wants_probed ended_refusal (λ d. refl) (is_version (get_or bytes 0 0)) BadVersion others
+      (λ _. behind_version (get_or bytes 0 0))
+      ∙ ap (option_or (unless (is_version (get_or bytes 0 0)) BadVersion))
+      (behind_version_probed (get_or bytes 0 0) others))
 
   all_probed : (rest : List ℕ) → ended_refusal (parts_at total rest) ≡ all_then total rest
   unfolding parts_at
   all_probed rest =
       field_probed ended_refusal (λ d. refl) 4 (Truncated (total - length rest)) value rest
       (λ magic. wants (eqb magic magic_number) BadMagic >>= (λ _. from_version))
-      (own Magic (total - length rest)) (λ _. field_then total Version (λ _. count_then total))
+      (own Magic (total - length rest)) (λ _. version_then total)
       (λ bytes others.
       wants_probed ended_refusal (λ d. refl) (eqb (value bytes) magic_number) BadMagic others (λ _. from_version)
       ∙ ap (option_or (unless (eqb (value bytes) magic_number) BadMagic)) (version_probed others))

@@ -14,6 +14,8 @@ use Rattle.hg_phases.specs.declared.phase.Phase.{Phase}
 use Rattle.hg_phases.specs.State.{rank}
 use Rattle.hg_message.specs.declared.error.MessageFault.{MessageFault}
 use Rattle.hg_message.specs.declared.error.MessageFault.TheVariants.{Trailing}
+use Rattle.hg_message.specs.declared.scope.Scope.{Scope}
+use Rattle.hg_message.specs.Scope.{scope_of}
 use Rattle.hg_message.specs.Value.{MessageValue}
 use Rattle.hg_message.specs.Counted.{counted, first_of}
 use Rattle.hg_message.specs.Record.{record_at}
@@ -24,18 +26,21 @@ use Rattle.hg_message.specs.Layout.{last_of, with_markers}
 use Rattle.hg_message.proofs.FormatLemmas.{counted_format}
 use Rattle.hg_message.proofs.RecordLemmas.{record_format}
 use Rattle.hg_message.proofs.BoundLemmas.{bound_format}
+use Rattle.hg_message.proofs.ScopeLemmas.{scope_of_format}
 
 -- what is read last is the markers, behind which nothing follows
-pub ends_alike : (changesets : List Contents) (bounds : List (Node × Phase)) (r : Result (List Fields) MessageFault)
-    (rest : List ℕ)
+pub ends_alike : (scope : Scope) (changesets : List Contents) (bounds : List (Node × Phase))
+    (r : Result (List Fields) MessageFault) (rest : List ℕ)
     → ended (and_then (and_then (yields r rest) (λ markers. says markers))
-    (λ markers. says {A = MessageValue} (record { changesets = changesets; bounds = bounds; markers = markers })))
-    ≡ with_markers changesets bounds (last_of r rest)
-ends_alike changesets bounds (Err fault) rest = refl
-ends_alike changesets bounds (Ok markers) rest = by_test (eqb (length rest) 0)
+    (λ markers. says {A = MessageValue}
+    (record { scope = scope; changesets = changesets; bounds = bounds; markers = markers })))
+    ≡ with_markers scope changesets bounds (last_of r rest)
+ends_alike scope changesets bounds (Err fault) rest = refl
+ends_alike scope changesets bounds (Ok markers) rest = by_test (eqb (length rest) 0)
   where
-    by_test : (b : Bool) → cond b (Ok (record { changesets = changesets; bounds = bounds; markers = markers }))
-        (Err Trailing) ≡ with_markers changesets bounds (cond b (Ok markers) (Err Trailing))
+    by_test : (b : Bool)
+        → cond b (Ok (record { scope = scope; changesets = changesets; bounds = bounds; markers = markers }))
+        (Err Trailing) ≡ with_markers scope changesets bounds (cond b (Ok markers) (Err Trailing))
     by_test true = refl
     by_test false = refl
 
@@ -104,26 +109,28 @@ taken_long k h bytes x rest fits e long =
       fits = IsBytes-right t.front rest (subst IsBytes t.parts fits);
     }
 
-pub parts_long : (d1 d2 d3 d4 d5 d6 : MessageFault) (total magic version count entries len : ℕ)
-    (bytes r1 r2 records r3 bounds r4 r5 store rest : List ℕ) (cs : List Contents) (bs : List (Node × Phase))
+pub parts_long : (d1 d2 d3 d4 d5 d6 : MessageFault) (total magic version count entries len : ℕ) (scope : Scope)
+    (bytes r1 r2 r3 records r4 bounds r5 r6 store rest : List ℕ) (cs : List Contents) (bs : List (Node × Phase))
     → IsBytes bytes
-    → number d1 bytes ≡ Ok (magic, r1) → byte d2 r1 ≡ Ok (version, r2) → number d3 r2 ≡ Ok (count, records)
-    → counted (record_at total) 0 count records ≡ Ok (cs, r3) → number d4 r3 ≡ Ok (entries, bounds)
-    → counted (λ _. bound_at total) 0 entries bounds ≡ Ok (bs, r4) → number d5 r4 ≡ Ok (len, r5)
-    → field d6 len r5 ≡ Ok (store, rest) → 17 + 64 * count + 24 * entries + length store ≤ length bytes
-parts_long d1 d2 d3 d4 d5 d6 total magic version count entries len bytes r1 r2 records r3 bounds r4 r5 store rest cs
-    bs fits a b c e f g h k =
+    → number d1 bytes ≡ Ok (magic, r1) → byte d2 r1 ≡ Ok (version, r2) → scope_of total version r2 ≡ Ok (scope, r3)
+    → number d3 r3 ≡ Ok (count, records)
+    → counted (record_at total) 0 count records ≡ Ok (cs, r4) → number d4 r4 ≡ Ok (entries, bounds)
+    → counted (λ _. bound_at total) 0 entries bounds ≡ Ok (bs, r5) → number d5 r5 ≡ Ok (len, r6)
+    → field d6 len r6 ≡ Ok (store, rest) → 17 + 64 * count + 24 * entries + length store ≤ length bytes
+parts_long d1 d2 d3 d4 d5 d6 total magic version count entries len scope bytes r1 r2 r3 records r4 bounds r5 r6 store
+    rest cs bs fits a b s c e f g h k =
     let four : (n : ℕ) (front : List ℕ) → IsNumber n front → 4 ≤ length front =
     λ n front s. omega (arith, ap length s.same) in
     let p1 = taken_long 4 (number_format d1) bytes magic r1 fits a (four magic) in
     let p2 = taken_long 1 (byte_format d2) r1 version r2 p1.fits b (λ front s. omega (arith, ap length s.same)) in
-    let p3 = taken_long 4 (number_format d3) r2 count records p2.fits c (four count) in
-    let p4 = taken_long (64 * count) (counted_format (record_at total) (record_format total) 0 count) records cs r3
+    let p0 = taken_long 0 (scope_of_format total version) r2 scope r3 p2.fits s (λ front told. omega arith) in
+    let p3 = taken_long 4 (number_format d3) r3 count records p0.fits c (four count) in
+    let p4 = taken_long (64 * count) (counted_format (record_at total) (record_format total) 0 count) records cs r4
     p3.fits e (λ front s. rw (← s.len) (each_long IsRecord 64 IsRecord-long cs front s.each)) in
-    let p5 = taken_long 4 (number_format d4) r3 entries bounds p4.fits f (four entries) in
+    let p5 = taken_long 4 (number_format d4) r4 entries bounds p4.fits f (four entries) in
     let p6 = taken_long (24 * entries) (counted_format (λ _. bound_at total) (λ _. bound_format total) 0 entries)
-    bounds bs r4 p5.fits g (λ front s. rw (← s.len) (each_long IsBound 24 IsBound-long bs front s.each)) in
-    let p7 = taken_long 4 (number_format d5) r4 len r5 p6.fits h (four len) in
-    let p8 = taken_long (length store) (field_format d6 len) r5 store rest p7.fits k
+    bounds bs r5 p5.fits g (λ front s. rw (← s.len) (each_long IsBound 24 IsBound-long bs front s.each)) in
+    let p7 = taken_long 4 (number_format d5) r5 len r6 p6.fits h (four len) in
+    let p8 = taken_long (length store) (field_format d6 len) r6 store rest p7.fits k
     (λ front s. omega (arith, ap length s.same)) in
-    omega (arith, p1.long, p2.long, p3.long, p4.long, p5.long, p6.long, p7.long, p8.long)
+    omega (arith, p1.long, p2.long, p0.long, p3.long, p4.long, p5.long, p6.long, p7.long, p8.long)

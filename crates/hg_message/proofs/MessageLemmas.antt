@@ -1,6 +1,6 @@
 -- A message is read from its spellings and from nothing else.
 use Rattle.std.proofs.Common.{◌≡◌, ℕ, Bool, true, false, eqb, cond, List, [], ◌∷◌, ◌++◌, length, Result, Ok, Err, refl}
-use Rattle.std.proofs.Common.{sym, ap, subst, ◌∙◌, arith}
+use Rattle.std.proofs.Common.{sym, ap, subst, ◌∙◌, append_assoc, inl, inr, arith}
 use Rattle.std.specs.Result.{IfOk}
 use Rattle.std.proofs.lemmas.Bool.{eqb-true}
 use Rattle.std.proofs.lemmas.List.{append-nil, append_cancel_right, nil_from_length}
@@ -11,46 +11,65 @@ use Rattle.hg_marker.proofs.Formats.{IsFormat, Sequence, sequence, byte_format, 
 use Rattle.hg_marker.proofs.Formats.{wants_format, Wanted, says_format, SaysOnly}
 use Rattle.hg_message.specs.declared.error.MessageFault.{MessageFault}
 use Rattle.hg_message.specs.declared.error.MessageFault.TheVariants.{BadMagic, BadVersion, Trailing}
+use Rattle.hg_message.specs.declared.scope.Scope.{Scope}
+use Rattle.hg_message.specs.Scope.{scope_number, is_version}
 use Rattle.hg_message.specs.Value.{MessageValue}
 use Rattle.hg_message.specs.Record.{record_at}
 use Rattle.hg_message.specs.Bound.{bound_at}
 use Rattle.hg_message.specs.Message.{magic_number, store_in, parts_at, ended, message_at}
-use Rattle.hg_message.specs.Spelling.{IsRecord, IsBound, IsMessageSpelling, number as spelled}
+use Rattle.hg_message.specs.Spelling.{IsHead, IsRecord, IsBound, IsMessageSpelling, number as spelled}
 use Rattle.hg_message.proofs.FormatLemmas.{eq_then, retold, whole_format, here_format, AreCounted, counted_format}
 use Rattle.hg_message.proofs.RecordLemmas.{record_format}
 use Rattle.hg_message.proofs.BoundLemmas.{bound_format}
+use Rattle.hg_message.proofs.ScopeLemmas.{IsScopeBy, scope_of_format, is_head}
 use Rattle.hg_message.proofs.StoreLemmas.{IsStoreField, store_format}
 
-abbrev Parts : MessageValue → List ℕ → Type 0
-Parts = Sequence IsNumber (λ magic. Sequence (Wanted (eqb magic magic_number))
-    (λ _. Sequence IsByte (λ version. Sequence (Wanted (eqb version 1)) (λ _.
-    Sequence IsNumber (λ count. Sequence (AreCounted IsRecord count)
+-- what stands behind the scope
+abbrev Body : Scope → MessageValue → List ℕ → Type 0
+Body scope = Sequence IsNumber (λ count. Sequence (AreCounted IsRecord count)
     (λ changesets. Sequence IsNumber (λ entries. Sequence (AreCounted IsBound entries) (λ bounds.
     Sequence IsNumber (λ len. Sequence (IsStoreField len) (λ markers. SaysOnly
-    (record { changesets = changesets; bounds = bounds; markers = markers })))))))))))
+    (record { scope = scope; changesets = changesets; bounds = bounds; markers = markers })))))))
+
+-- what stands behind the magic
+abbrev Headed : MessageValue → List ℕ → Type 0
+Headed = Sequence IsByte (λ version. Sequence (Wanted (is_version version))
+    (λ _. Sequence (IsScopeBy (eqb version 1)) (λ scope. Body scope)))
+
+abbrev Parts : MessageValue → List ℕ → Type 0
+Parts = Sequence IsNumber (λ magic. Sequence (Wanted (eqb magic magic_number)) (λ _. Headed))
 
 to_spelling : (m : MessageValue) (bytes : List ℕ) → Parts m bytes → IsMessageSpelling m bytes
 to_spelling m bytes a =
     let b = a.rest_spells in
     let c = b.rest_spells in
     let d = c.rest_spells in
-    let e = d.rest_spells in
+    let s = d.rest_spells in
+    let e = s.rest_spells in
     let f = e.rest_spells in
     let g = f.rest_spells in
     let h = g.rest_spells in
     let k = h.rest_spells in
     let l = k.rest_spells in
-    let made : MessageValue = record { changesets = f.first; bounds = h.first; markers = l.first } in
+    let made : MessageValue = record {
+      scope = s.first;
+      changesets = f.first;
+      bounds = h.first;
+      markers = l.first;
+    } in
     let magic_is : spelled a.first ≡ spelled magic_number = ap spelled (eqb-true _ _ b.first_spells.0) in
-    let version_is : c.front ≡ 1 ∷ [] = c.first_spells.same ∙ ap (λ (v : ℕ). v ∷ []) (eqb-true _ _ d.first_spells.0) in
+    let head_is : IsHead s.first (c.front ++ s.front) =
+    is_head c.first s.first c.front s.front c.first_spells.same d.first_spells.0 s.first_spells in
     let tail : k.back ≡ l.front = eq_then l.parts refl l.rest_spells.1 ∙ append-nil l.front in
     let whole = eq_then a.parts (a.first_spells.same ∙ magic_is)
-    (eq_then b.parts b.first_spells.1 (eq_then c.parts version_is (eq_then d.parts d.first_spells.1
+    (eq_then b.parts b.first_spells.1 (eq_then c.parts refl (eq_then d.parts d.first_spells.1 (eq_then s.parts refl
     (eq_then e.parts (e.first_spells.same ∙ ap spelled (sym f.first_spells.len))
     (eq_then f.parts refl (eq_then g.parts (g.first_spells.same ∙ ap spelled (sym h.first_spells.len))
     (eq_then h.parts refl
-    (eq_then k.parts (k.first_spells.same ∙ ap spelled (sym l.first_spells.len)) tail)))))))) in
+    (eq_then k.parts (k.first_spells.same ∙ ap spelled (sym l.first_spells.len)) tail))))))))
+    ∙ sym (append_assoc c.front s.front _)) in
     let spells : IsMessageSpelling made bytes = record {
+      head = c.front ++ s.front;
       records = f.front;
       entries = h.front;
       store = l.front;
@@ -59,6 +78,7 @@ to_spelling m bytes a =
         omega (arith, h.first_spells.len, g.first_spells.below),
         omega (arith, l.first_spells.len, k.first_spells.below),
       );
+      scope = head_is;
       changesets = f.first_spells.each;
       bounds = h.first_spells.each;
       markers = l.first_spells.spells;
@@ -66,82 +86,123 @@ to_spelling m bytes a =
     } in
     subst (λ (n : MessageValue). IsMessageSpelling n bytes) (sym l.rest_spells.0) spells
 
-from_spelling : (m : MessageValue) (bytes : List ℕ) → IsMessageSpelling m bytes → Parts m bytes
-from_spelling m bytes s =
+abbrev body : ℕ → List ℕ → ℕ → List ℕ → List ℕ → List ℕ
+body count records entries bounds store =
+    spelled count ++ (records ++ (spelled entries ++ (bounds ++ (spelled (length store) ++ store))))
+
+body_from : (m : MessageValue) (bytes : List ℕ) (s : IsMessageSpelling m bytes)
+    → Body m.scope m (body (length m.changesets) s.records (length m.bounds) s.entries s.store)
+body_from m bytes s =
     let k = spelled (length s.store) ++ s.store in
     let h = s.entries ++ k in
     let g = spelled (length m.bounds) ++ h in
-    let f = s.records ++ g in
-    let e = spelled (length m.changesets) ++ f in
+    record {
+      first = length m.changesets;
+      front = spelled (length m.changesets);
+      back = s.records ++ g;
+      first_spells = record { below = omega (arith, s.counts.0); same = refl };
+      parts = refl;
+      rest_spells = record {
+        first = m.changesets;
+        front = s.records;
+        back = g;
+        first_spells = record { len = refl; each = s.changesets };
+        parts = refl;
+        rest_spells = record {
+          first = length m.bounds;
+          front = spelled (length m.bounds);
+          back = h;
+          first_spells = record { below = omega (arith, s.counts.1); same = refl };
+          parts = refl;
+          rest_spells = record {
+            first = m.bounds;
+            front = s.entries;
+            back = k;
+            first_spells = record { len = refl; each = s.bounds };
+            parts = refl;
+            rest_spells = record {
+              first = length s.store;
+              front = spelled (length s.store);
+              back = s.store;
+              first_spells = record { below = omega (arith, s.counts.2); same = refl };
+              parts = refl;
+              rest_spells = record {
+                first = m.markers;
+                front = s.store;
+                back = [];
+                first_spells = record { len = refl; spells = s.markers };
+                parts = sym (append-nil s.store);
+                rest_spells = (refl, refl);
+              };
+            };
+          };
+        };
+      };
+    }
+
+headed_from : (m : MessageValue) (head rest : List ℕ) → IsHead m.scope head → Body m.scope m rest
+    → Headed m (head ++ rest)
+headed_from m head rest (inl h) spells = record {
+  first = 1;
+  front = 1 ∷ [];
+  back = rest;
+  first_spells = record { below = omega arith; same = refl };
+  parts = ap (λ (t : List ℕ). t ++ rest) h.1;
+  rest_spells = record {
+    first = tt;
+    front = [];
+    back = rest;
+    first_spells = (refl, refl);
+    parts = refl;
+    rest_spells = record {
+      first = m.scope;
+      front = [];
+      back = rest;
+      first_spells = (h.0, refl);
+      parts = refl;
+      rest_spells = spells;
+    };
+  };
+}
+headed_from m head rest (inr h) spells = record {
+  first = 2;
+  front = 2 ∷ [];
+  back = scope_number m.scope ∷ rest;
+  first_spells = record { below = omega arith; same = refl };
+  parts = ap (λ (t : List ℕ). t ++ rest) h;
+  rest_spells = record {
+    first = tt;
+    front = [];
+    back = scope_number m.scope ∷ rest;
+    first_spells = (refl, refl);
+    parts = refl;
+    rest_spells = record {
+      first = m.scope;
+      front = scope_number m.scope ∷ [];
+      back = rest;
+      first_spells = refl;
+      parts = refl;
+      rest_spells = spells;
+    };
+  };
+}
+
+from_spelling : (m : MessageValue) (bytes : List ℕ) → IsMessageSpelling m bytes → Parts m bytes
+from_spelling m bytes s =
+    let rest = body (length m.changesets) s.records (length m.bounds) s.entries s.store in
     record {
       first = magic_number;
       front = spelled magic_number;
-      back = 1 ∷ e;
+      back = s.head ++ rest;
       first_spells = record { below = omega arith; same = refl };
       parts = s.layout;
       rest_spells = record {
         first = tt;
         front = [];
-        back = 1 ∷ e;
+        back = s.head ++ rest;
         first_spells = (refl, refl);
         parts = refl;
-        rest_spells = record {
-          first = 1;
-          front = 1 ∷ [];
-          back = e;
-          first_spells = record { below = omega arith; same = refl };
-          parts = refl;
-          rest_spells = record {
-            first = tt;
-            front = [];
-            back = e;
-            first_spells = (refl, refl);
-            parts = refl;
-            rest_spells = record {
-              first = length m.changesets;
-              front = spelled (length m.changesets);
-              back = f;
-              first_spells = record { below = omega (arith, s.counts.0); same = refl };
-              parts = refl;
-              rest_spells = record {
-                first = m.changesets;
-                front = s.records;
-                back = g;
-                first_spells = record { len = refl; each = s.changesets };
-                parts = refl;
-                rest_spells = record {
-                  first = length m.bounds;
-                  front = spelled (length m.bounds);
-                  back = h;
-                  first_spells = record { below = omega (arith, s.counts.1); same = refl };
-                  parts = refl;
-                  rest_spells = record {
-                    first = m.bounds;
-                    front = s.entries;
-                    back = k;
-                    first_spells = record { len = refl; each = s.bounds };
-                    parts = refl;
-                    rest_spells = record {
-                      first = length s.store;
-                      front = spelled (length s.store);
-                      back = s.store;
-                      first_spells = record { below = omega (arith, s.counts.2); same = refl };
-                      parts = refl;
-                      rest_spells = record {
-                        first = m.markers;
-                        front = s.store;
-                        back = [];
-                        first_spells = record { len = refl; spells = s.markers };
-                        parts = sym (append-nil s.store);
-                        rest_spells = (refl, refl);
-                      };
-                    };
-                  };
-                };
-              };
-            };
-          };
-        };
+        rest_spells = headed_from m s.head rest s.scope (body_from m bytes s);
       };
     }
 
@@ -151,7 +212,8 @@ message_format total =
     retold (sequence (whole_format total number number_format)
     (λ magic. sequence (wants_format (eqb magic magic_number) BadMagic)
     (λ _. sequence (whole_format total byte byte_format)
-    (λ version. sequence (wants_format (eqb version 1) BadVersion) (λ _.
+    (λ version. sequence (wants_format (is_version version) BadVersion) (λ _.
+    sequence (scope_of_format total version) (λ scope.
     sequence (whole_format total number number_format) (λ count. sequence
     (counted_format (record_at total) (record_format total) 0 count)
     (λ changesets. sequence (whole_format total number number_format)
@@ -159,7 +221,8 @@ message_format total =
     (λ bounds.
     sequence (whole_format total number number_format) (λ len. sequence
     (here_format total (store_in len) (store_format len))
-    (λ markers. says_format (record { changesets = changesets; bounds = bounds; markers = markers }))))))))))))
+    (λ markers. says_format
+    (record { scope = scope; changesets = changesets; bounds = bounds; markers = markers })))))))))))))
     to_spelling from_spelling
 
 abbrev read_as : MessageValue → Result MessageValue MessageFault

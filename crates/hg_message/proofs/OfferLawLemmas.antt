@@ -28,15 +28,15 @@ use Rattle.hg_view.specs.Pins.{AreSamePins, IsServedUnder}
 use Rattle.hg_view.proofs.PinLemmas.{rest-alike, visible-members}
 use Rattle.hg_message.specs.Value.{MessageValue}
 use Rattle.hg_message.specs.Part.{draft_bounds, part_of}
-use Rattle.hg_message.specs.Offer.{IsOutgoing, IsServedAs, SaysOffer, SayTheSame, AreHeads, bounds_in, AreOfferedBounds}
-use Rattle.hg_message.specs.Offer.{IsHead, IsOffer, IsOfferedMarker}
+use Rattle.hg_message.specs.declared.scope.Scope.{Scope}
+use Rattle.hg_message.specs.declared.scope.Scope.TheVariants.{Served, Whole}
+use Rattle.hg_message.specs.Offer.{IsNamed, IsNamedMarker, IsOutgoing, IsOneWith, IsHead, IsOfferedBound, SaysOffer}
+use Rattle.hg_message.specs.Offer.{SayTheSame, AreHeads, bounds_in, AreOfferedBounds, IsOffer}
+use Rattle.hg_message.specs.Those.{AreThose}
+use Rattle.hg_message.proofs.NamedLemmas.{named-not_secret, named_marker-held}
 use Rattle.hg_message.proofs.ThoseLemmas.{those-once}
 
-pub relevant-held : (H : Fields → Type 0) (N : Node → Type 0) (m : Fields) → IsRelevant H N m → H m
-relevant-held H N m (direct one h touches) = h
-relevant-held H N m (further r h touches) = h
-
-not_secret : (phase : Phase) → phase ≢ Secret → rank phase ≤ 1
+pub not_secret : (phase : Phase) → phase ≢ Secret → rank phase ≤ 1
 not_secret Public no_secret = omega arith
 not_secret Draft no_secret = omega arith
 not_secret Secret no_secret = absurd (no_secret refl)
@@ -44,25 +44,29 @@ not_secret Secret no_secret = absurd (no_secret refl)
 -- ---- an offer says no more than the content
 
 module _ (f : Content) (pins common : List Node) (m : MessageValue) (says : SaysOffer f pins common m) where
-  pub served-changesets : (c : Contents) → Contains m.changesets c → IsServedUnder f pins (node_of c)
-  served-changesets c at = ((says.changesets c).0 at).1
+  pub named-changesets : (c : Contents) → Contains m.changesets c → IsNamed f pins m.scope (node_of c)
+  named-changesets c at = ((says.changesets c).0 at).1
 
-  pub served-bounds : (b : Node × Phase) → Contains m.bounds b → IsServedUnder f pins b.0
-  served-bounds b at = ((says.bounds b).0 at).0.0
+  pub named-bounds : (b : Node × Phase) → Contains m.bounds b → IsNamed f pins m.scope b.0
+  named-bounds b at = ((says.bounds b).0 at).0.0
 
-  kept-bounds : (b : Node × Phase) → Contains (m.bounds ++ draft_bounds m.changesets) b
-      → (h : Held) × (f.0 b.0 ≡ Some h) × (rank h.phase ≤ rank b.1)
-  kept-bounds b at = elim (Contains-append_cases m.bounds (draft_bounds m.changesets) b at) [
+  -- each bound is of what is named, and no lower than its phase
+  pub bounds-named : (b : Node × Phase) → Contains (m.bounds ++ draft_bounds m.changesets) b
+      → (h : Held) × (f.0 b.0 ≡ Some h) × (rank h.phase ≤ rank b.1) × IsNamed f pins m.scope b.0
+  bounds-named b at = elim (Contains-append_cases m.bounds (draft_bounds m.changesets) b at) [
     | inl told ↦
-        let h = ((says.bounds b).0 told).0.1 in
+        let x = (says.bounds b).0 told in
+        let h = x.0.1 in
         let same : rank h.0.phase ≡ rank b.1 = ap rank h.2 in
-        (h.0, h.1, omega (arith, same))
+        (h.0, h.1, omega (arith, same), x.0.0)
     | inr draft ↦
         let c = Contains-map_from (λ (x : Contents). (node_of x, Draft)) m.changesets b draft in
         let out = (says.changesets c.0).0 c.1 in
         let h = out.0 in
-        let low = not_secret h.0.phase (λ secret. out.1.1 (h.0, h.1, secret)) in
-        subst (λ (x : Node × Phase). (g : Held) × (f.0 x.0 ≡ Some g) × (rank g.phase ≤ rank x.1)) c.2 (h.0, h.1, low)
+        let low = not_secret h.0.phase
+        (λ secret. named-not_secret f pins m.scope (node_of c.0) out.1 (h.0, h.1, secret)) in
+        subst (λ (x : Node × Phase). (g : Held) × (f.0 x.0 ≡ Some g) × (rank g.phase ≤ rank x.1)
+        × IsNamed f pins m.scope x.0) c.2 (h.0, h.1, low, out.1)
   ]
 
   pub offer-covered : IsValidContent f → ContentCovers f (part_of m)
@@ -70,20 +74,30 @@ module _ (f : Content) (pins common : List Node) (m : MessageValue) (says : Says
     record {
       holds = λ c at. ((says.changesets c).0 at).0;
       bounded = λ b at.
-          let x = kept-bounds b at in
+          let x = bounds-named b at in
           ((x.0, x.1), λ n h e leads. let low = leads-low f.0 v n b.0 leads h x.0 e x.1 in omega (arith, low, x.2));
     },
-    λ k e. relevant-held (IsMarker f) (IsServedUnder f pins) k ((says.markers k).0 (in_from_holds m.markers k e)),
+    λ k e. named_marker-held f pins m.scope k ((says.markers k).0 (in_from_holds m.markers k e)),
   )
 
 -- ---- what is offered of one content says the same
 
-pub offers-say_the_same : (f : Content) (pins common : List Node) (m n : MessageValue) → SaysOffer f pins common m
-    → SaysOffer f pins common n → SayTheSame m n
-offers-say_the_same f pins common m n a b = record {
-  changesets = λ c. (λ h. (b.changesets c).1 ((a.changesets c).0 h), λ h. (a.changesets c).1 ((b.changesets c).0 h));
-  bounds = λ x. (λ h. (b.bounds x).1 ((a.bounds x).0 h), λ h. (a.bounds x).1 ((b.bounds x).0 h));
-  markers = λ k. (λ h. (b.markers k).1 ((a.markers k).0 h), λ h. (a.markers k).1 ((b.markers k).0 h));
+-- the predicates of one scope say the same as those of the other, where they are one
+pub offers-say_the_same : (f : Content) (pins common : List Node) (m n : MessageValue) → m.scope ≡ n.scope
+    → SaysOffer f pins common m → SaysOffer f pins common n → SayTheSame m n
+offers-say_the_same f pins common m n same a b = record {
+  changesets = λ c. (
+    λ h. (b.changesets c).1 (subst (λ k. IsOutgoing f (IsNamed f pins k) common c) same ((a.changesets c).0 h)),
+    λ h. (a.changesets c).1 (subst (λ k. IsOutgoing f (IsNamed f pins k) common c) (sym same) ((b.changesets c).0 h)),
+  );
+  bounds = λ x. (
+    λ h. (b.bounds x).1 (subst (λ k. IsOfferedBound f (IsNamed f pins k) x) same ((a.bounds x).0 h)),
+    λ h. (a.bounds x).1 (subst (λ k. IsOfferedBound f (IsNamed f pins k) x) (sym same) ((b.bounds x).0 h)),
+  );
+  markers = λ k. (
+    λ h. (b.markers k).1 (subst (λ j. IsNamedMarker f pins j k) same ((a.markers k).0 h)),
+    λ h. (a.markers k).1 (subst (λ j. IsNamedMarker f pins j k) (sym same) ((b.markers k).0 h)),
+  );
 }
 
 -- pins with the same members have the same offers
@@ -91,19 +105,28 @@ module _ (f : Content) (pins others : List Node) (same : AreSamePins pins others
   served-members : (n : Node) → IsServedUnder f pins n ↔ IsServedUnder f others n
   served-members n = rest-alike (visible-members f pins others same n)
 
-  head-members : (phase : Phase) (n : Node) → IsHead f (IsServedAs f others phase) n
-      → IsHead f (IsServedAs f pins phase) n
-  head-members phase n h = (
-    ((served-members n).1 h.0.0, h.0.1),
-    λ d so leads. h.1 d ((served-members d).0 so.0, so.1) leads,
+  named-members : (scope : Scope) (n : Node) → IsNamed f pins scope n ↔ IsNamed f others scope n
+  named-members Served n = served-members n
+  named-members Whole n = (λ h. h, λ h. h)
+
+  head-members : (scope : Scope) (phase : Phase) (n : Node) → IsHead f (IsOneWith f (IsNamed f others scope) phase) n
+      → IsHead f (IsOneWith f (IsNamed f pins scope) phase) n
+  head-members scope phase n h = (
+    ((named-members scope n).1 h.0.0, h.0.1),
+    λ d so leads. h.1 d ((named-members scope d).0 so.0, so.1) leads,
   )
 
-  outgoing-members : (common : List Node) (c : Contents) → IsOutgoing f others common c → IsOutgoing f pins common c
-  outgoing-members common c h = (h.0, (served-members (node_of c)).1 h.1, h.2)
+  outgoing-members : (scope : Scope) (common : List Node) (c : Contents)
+      → IsOutgoing f (IsNamed f others scope) common c → IsOutgoing f (IsNamed f pins scope) common c
+  outgoing-members scope common c h = (h.0, (named-members scope (node_of c)).1 h.1, h.2)
 
-  marker-members : (k : Fields) → IsOfferedMarker f others k → IsOfferedMarker f pins k
-  marker-members k (direct {n = n} one h touches) = direct ((served-members n).1 one) h touches
-  marker-members k (further {before = b} r h touches) = further (marker-members b r) h touches
+  relevant-members : (k : Fields) → IsNamedMarker f others Served k → IsNamedMarker f pins Served k
+  relevant-members k (direct {n = n} one h touches) = direct ((served-members n).1 one) h touches
+  relevant-members k (further {before = b} r h touches) = further (relevant-members b r) h touches
+
+  marker-members : (scope : Scope) (k : Fields) → IsNamedMarker f others scope k → IsNamedMarker f pins scope k
+  marker-members Served k h = relevant-members k h
+  marker-members Whole k h = h
 
 same-members : (pins others : List Node) → AreSamePins pins others → AreSamePins others pins
 same-members pins others same n = ((same n).1, (same n).0)
@@ -114,16 +137,16 @@ says-members f pins others common m same says =
     let back = same-members pins others same in
     record {
       changesets = λ c. (
-        λ at. outgoing-members f pins others same common c ((says.changesets c).0 at),
-        λ h. (says.changesets c).1 (outgoing-members f others pins back common c h),
+        λ at. outgoing-members f pins others same m.scope common c ((says.changesets c).0 at),
+        λ h. (says.changesets c).1 (outgoing-members f others pins back m.scope common c h),
       );
       bounds = λ b. (
-        λ at. head-members f pins others same b.1 b.0 ((says.bounds b).0 at),
-        λ h. (says.bounds b).1 (head-members f others pins back b.1 b.0 h),
+        λ at. head-members f pins others same m.scope b.1 b.0 ((says.bounds b).0 at),
+        λ h. (says.bounds b).1 (head-members f others pins back m.scope b.1 b.0 h),
       );
       markers = λ k. (
-        λ at. marker-members f pins others same k ((says.markers k).0 at),
-        λ h. (says.markers k).1 (marker-members f others pins back k h),
+        λ at. marker-members f pins others same m.scope k ((says.markers k).0 at),
+        λ h. (says.markers k).1 (marker-members f others pins back m.scope k h),
       );
     }
 
@@ -177,22 +200,30 @@ heads-once : (f : Content) (P : Node → Type 0) (xs ys : List Node) → AreHead
 heads-once f P xs ys a b = sorted-once xs ys a.ascending b.ascending
     (λ n. (λ h. (b.exact n).1 ((a.exact n).0 h), λ h. (a.exact n).1 ((b.exact n).0 h)))
 
-bounds-once : (f : Content) (pins : List Node) (xs ys : List (Node × Phase)) → AreOfferedBounds f pins xs
-    → AreOfferedBounds f pins ys → xs ≡ ys
-bounds-once f pins xs ys a b =
+bounds-once : (f : Content) (P : Node → Type 0) (xs ys : List (Node × Phase)) → AreOfferedBounds f P xs
+    → AreOfferedBounds f P ys → xs ≡ ys
+bounds-once f P xs ys a b =
     a.both
     ∙ ap (λ ns. bounds_in Public ns ++ bounds_in Draft a.draft)
-    (heads-once f (IsServedAs f pins Public) a.public b.public a.public_heads b.public_heads)
+    (heads-once f (IsOneWith f P Public) a.public b.public a.public_heads b.public_heads)
     ∙ ap (λ ns. bounds_in Public b.public ++ bounds_in Draft ns)
-    (heads-once f (IsServedAs f pins Draft) a.draft b.draft a.draft_heads b.draft_heads)
+    (heads-once f (IsOneWith f P Draft) a.draft b.draft a.draft_heads b.draft_heads)
     ∙ sym b.both
 
-pub offer-once : (s : ReplicaState) (pins common : List Node) (m n : MessageValue) → IsOffer s pins common m
-    → IsOffer s pins common n → m ≡ n
-offer-once s pins common m n a b i = record {
-  changesets = (those-once (IsOutgoing (content_of s) pins common)
-      (changesets s.history) m.changesets n.changesets a.changesets b.changesets) i;
-  bounds = (bounds-once (content_of s) pins m.bounds n.bounds a.bounds b.bounds) i;
-  markers = (those-once (IsRelevant (IsMarker (content_of s)) (IsServedUnder (content_of s) pins)) s.markers
-      m.markers n.markers a.markers b.markers) i;
-}
+-- what stands of the scope, and in which order, tells the offer
+pub offer-once : (s : ReplicaState) (pins common : List Node) (m n : MessageValue) → m.scope ≡ n.scope
+    → IsOffer s pins common m → IsOffer s pins common n → m ≡ n
+offer-once s pins common m n same a b =
+    let f = content_of s in
+    let b_changesets =
+    subst (λ k. AreThose (IsOutgoing f (IsNamed f pins k) common) (changesets s.history) n.changesets)
+    (sym same) b.changesets in
+    let b_bounds = subst (λ k. AreOfferedBounds f (IsNamed f pins k) n.bounds) (sym same) b.bounds in
+    let b_markers = subst (λ k. AreThose (IsNamedMarker f pins k) s.markers n.markers) (sym same) b.markers in
+    λ i. record {
+      scope = same i;
+      changesets = (those-once (IsOutgoing f (IsNamed f pins m.scope) common)
+          (changesets s.history) m.changesets n.changesets a.changesets b_changesets) i;
+      bounds = (bounds-once f (IsNamed f pins m.scope) m.bounds n.bounds a.bounds b_bounds) i;
+      markers = (those-once (IsNamedMarker f pins m.scope) s.markers m.markers n.markers a.markers b_markers) i;
+    }

@@ -30,7 +30,7 @@ use Rattle.hg_relevant.specs.Relevant.{IsRelevant}
 use Rattle.hg_relevant.specs.Relevant.IsRelevant.{direct, further}
 use Rattle.hg_replica.specs.State.{ReplicaState, IsValid}
 use Rattle.hg_replica.specs.Content.{Content, content_of}
-use Rattle.hg_replica.specs.Evolution.{IsMarker}
+use Rattle.hg_replica.specs.Evolution.{HasPhase, IsMarker}
 use Rattle.hg_replica.proofs.MarkerLemmas.{holds-from, in_from_holds}
 use Rattle.std.specs.Result.{IfOk}
 use Rattle.hg_obsstore.specs.Places.{picked}
@@ -42,9 +42,12 @@ use Rattle.hg_message.specs.declared.refusal.OfferRefusal.TheVariants.{UnknownCo
 use Rattle.hg_message.specs.Value.{MessageValue, IsMessage, count_limit, is_too_large}
 use Rattle.hg_message.specs.Outgoing.{ArePlacesOf, CopyAnswer, FindAnswer}
 use Rattle.hg_message.specs.Those.{AreThose}
-use Rattle.hg_message.specs.Offer.{AreHeld, IsCommon, IsOutgoing, IsServedAs, IsHead, IsOfferedBound, IsOfferedMarker}
-use Rattle.hg_message.specs.Offer.{AreHeads, bounds_in, AreOfferedBounds, IsOffer, OfferAnswer}
-use Rattle.hg_message.proofs.OfferLawLemmas.{relevant-held}
+use Rattle.hg_message.specs.declared.scope.Scope.{Scope}
+use Rattle.hg_message.specs.declared.scope.Scope.TheVariants.{Served, Whole}
+use Rattle.hg_message.specs.Offer.{AreHeld, IsCommon, IsNamed, IsNamedMarker, IsOutgoing, IsOneWith, IsHead}
+use Rattle.hg_message.specs.Offer.{IsOfferedBound, AreHeads, bounds_in, AreOfferedBounds, IsOffer, IsOfferOf}
+use Rattle.hg_message.specs.Offer.{HasNothing, OfferAnswer}
+use Rattle.hg_message.proofs.NamedLemmas.{named-not_secret, named_marker-held}
 use Rattle.hg_message.proofs.ThoseLemmas.{those-member, those-next, those-none, those-past}
 
 -- ---- relevance
@@ -58,7 +61,7 @@ relevant-along H K M N held named m (further {before = b} r h touches) =
 -- what is relevant to a list of what is served, among the markers of the store
 pub relevant-offered : (s : ReplicaState) (pins served : List Node)
     → ((n : Node) → Contains served n ↔ IsServedUnder (content_of s) pins n) → (m : Fields)
-    → IsRelevant (Contains s.markers) (Contains served) m ↔ IsOfferedMarker (content_of s) pins m
+    → IsRelevant (Contains s.markers) (Contains served) m ↔ IsNamedMarker (content_of s) pins Served m
 relevant-offered s pins served are m = (
   relevant-along (Contains s.markers) (IsMarker (content_of s)) (Contains served) (IsServedUnder (content_of s) pins)
       (holds-from s.markers) (λ n. (are n).0) m,
@@ -70,7 +73,7 @@ relevant-offered s pins served are m = (
 pub places-offered : (s : ReplicaState) (pins served : List Node) (store : List Fields) (places : List ℕ)
     → ((n : Node) → Contains served n ↔ IsServedUnder (content_of s) pins n) → store ≡ s.markers
     → ArePlaces (IsRelevant (Contains store) (Contains served)) store places
-    → ArePlaces (IsOfferedMarker (content_of s) pins) s.markers places
+    → ArePlaces (IsNamedMarker (content_of s) pins Served) s.markers places
 places-offered s pins served store places are here all =
     let listed = subst (λ (ms : List Fields). ArePlaces (IsRelevant (Contains ms) (Contains served)) ms places) here
     all in
@@ -194,46 +197,40 @@ module _ {X : Type 0} (P : X → Type 0) (xs : List X) (places : List ℕ) (are 
 
 -- ---- what is said
 
-module _ (s : ReplicaState) (valid : IsValid s) (pins common : List Node) where
-  outgoing-said : (cs : List Contents) → AreThose (IsOutgoing (content_of s) pins common) (changesets s.history) cs
-      → (c : Contents) → Contains cs c ↔ IsOutgoing (content_of s) pins common c
-  outgoing-said cs are c =
-      let told = those-member (IsOutgoing (content_of s) pins common) (changesets s.history) cs are c in
-      (λ h. (told.0 h).1, λ h. told.1 ((changeset_in_content s.history valid.graph (node_of c) c h.0).0, h))
+outgoing-said : (s : ReplicaState) → IsValid s → (P : Node → Type 0) (common : List Node) (cs : List Contents)
+    → AreThose (IsOutgoing (content_of s) P common) (changesets s.history) cs → (c : Contents)
+    → Contains cs c ↔ IsOutgoing (content_of s) P common c
+outgoing-said s valid P common cs are c =
+    let told = those-member (IsOutgoing (content_of s) P common) (changesets s.history) cs are c in
+    (λ h. (told.0 h).1, λ h. told.1 ((changeset_in_content s.history valid.graph (node_of c) c h.0).0, h))
 
-  markers-said : (ms : List Fields) → AreThose (IsOfferedMarker (content_of s) pins) s.markers ms → (m : Fields)
-      → Contains ms m ↔ IsOfferedMarker (content_of s) pins m
-  markers-said ms are m =
-      let told = those-member (IsOfferedMarker (content_of s) pins) s.markers ms are m in (
-        λ h. (told.0 h).1,
-        λ h. told.1 (
-          in_from_holds s.markers m
-              (relevant-held (IsMarker (content_of s)) (IsServedUnder (content_of s) pins) m h),
-          h,
-        ),
-      )
+markers-said : (s : ReplicaState) (pins : List Node) (scope : Scope) (ms : List Fields)
+    → AreThose (IsNamedMarker (content_of s) pins scope) s.markers ms → (m : Fields)
+    → Contains ms m ↔ IsNamedMarker (content_of s) pins scope m
+markers-said s pins scope ms are m =
+    let told = those-member (IsNamedMarker (content_of s) pins scope) s.markers ms are m in (
+      λ h. (told.0 h).1,
+      λ h. told.1 (in_from_holds s.markers m (named_marker-held (content_of s) pins scope m h), h),
+    )
 
--- what is secret isn't served
-never-secret : (f : Content) (pins : List Node) (n : Node) → ¬ (IsServedAs f pins Secret n)
-never-secret f pins n h = h.0.1 h.1
-
-module _ (f : Content) (pins : List Node) (bounds : List (Node × Phase)) (are : AreOfferedBounds f pins bounds) where
-  from_heads : (phase : Phase) (heads : List Node) (b : Node × Phase) → AreHeads f (IsServedAs f pins phase) heads
-      → Contains (bounds_in phase heads) b → IsOfferedBound f pins b
+module _ (f : Content) (P : Node → Type 0) (low : (n : Node) → P n → ¬ (HasPhase f n Secret))
+    (bounds : List (Node × Phase)) (are : AreOfferedBounds f P bounds) where
+  from_heads : (phase : Phase) (heads : List Node) (b : Node × Phase) → AreHeads f (IsOneWith f P phase) heads
+      → Contains (bounds_in phase heads) b → IsOfferedBound f P b
   from_heads phase heads b exact h =
       let n = Contains-map_from (λ (x : Node). (x, phase)) heads b h in
-      subst (IsOfferedBound f pins) n.2 ((exact.exact n.0).0 n.1)
+      subst (IsOfferedBound f P) n.2 ((exact.exact n.0).0 n.1)
 
-  to_bound : (n : Node) (phase : Phase) → IsHead f (IsServedAs f pins phase) n → Contains bounds (n, phase)
+  to_bound : (n : Node) (phase : Phase) → IsHead f (IsOneWith f P phase) n → Contains bounds (n, phase)
   to_bound n Public h = subst (λ bs. Contains bs (n, Public)) (sym are.both)
       (Contains-append_left (bounds_in Public are.public) (bounds_in Draft are.draft) (n, Public)
       (Contains-map (λ (x : Node). (x, Public)) are.public n ((are.public_heads.exact n).1 h)))
   to_bound n Draft h = subst (λ bs. Contains bs (n, Draft)) (sym are.both)
       (Contains-append_right (bounds_in Public are.public) (bounds_in Draft are.draft) (n, Draft)
       (Contains-map (λ (x : Node). (x, Draft)) are.draft n ((are.draft_heads.exact n).1 h)))
-  to_bound n Secret h = absurd (never-secret f pins n h.0)
+  to_bound n Secret h = absurd (low n h.0.0 h.0.1)
 
-  pub bounds-said : (b : Node × Phase) → Contains bounds b ↔ IsOfferedBound f pins b
+  pub bounds-said : (b : Node × Phase) → Contains bounds b ↔ IsOfferedBound f P b
   bounds-said b = (
     λ h. elim (Contains-append_cases (bounds_in Public are.public) (bounds_in Draft are.draft) b
         (subst (λ bs. Contains bs b) are.both h)) [
@@ -243,49 +240,75 @@ module _ (f : Content) (pins : List Node) (bounds : List (Node × Phase)) (are :
     λ h. to_bound b.0 b.1 h,
   )
 
-pub is-offer : (s : ReplicaState) → IsValid s → (pins common : List Node) (cs : List Contents)
-    (bounds : List (Node × Phase)) (ms : List Fields) → AreThose (IsOutgoing (content_of s) pins common)
-    (changesets s.history) cs
-    → AreOfferedBounds (content_of s) pins bounds → AreThose (IsOfferedMarker (content_of s) pins) s.markers ms
-    → IsOffer s pins common (record { changesets = cs; bounds = bounds; markers = ms })
-is-offer s valid pins common cs bounds ms out heads rel = record {
-  says = record {
-    changesets = outgoing-said s valid pins common cs out;
-    bounds = bounds-said (content_of s) pins bounds heads;
-    markers = markers-said s valid pins common ms rel;
-  };
-  changesets = out;
-  bounds = heads;
-  markers = rel;
-}
+pub is-offer : (s : ReplicaState) → IsValid s → (pins common : List Node) (scope : Scope) (cs : List Contents)
+    (bounds : List (Node × Phase)) (ms : List Fields)
+    → AreThose (IsOutgoing (content_of s) (IsNamed (content_of s) pins scope) common) (changesets s.history) cs
+    → AreOfferedBounds (content_of s) (IsNamed (content_of s) pins scope) bounds
+    → AreThose (IsNamedMarker (content_of s) pins scope) s.markers ms
+    → IsOffer s pins common (record { scope = scope; changesets = cs; bounds = bounds; markers = ms })
+is-offer s valid pins common scope cs bounds ms out heads named =
+    let f = content_of s in
+    record {
+      says = record {
+        changesets = outgoing-said s valid (IsNamed f pins scope) common cs out;
+        bounds = bounds-said f (IsNamed f pins scope) (named-not_secret f pins scope) bounds heads;
+        markers = markers-said s pins scope ms named;
+      };
+      changesets = out;
+      bounds = heads;
+      markers = named;
+    }
 
--- ---- without a changeset nothing is offered
+-- ---- without a changeset, and without a marker that is named, nothing is offered
 
-module _ (s : ReplicaState) (valid : IsValid s) (none : changesets s.history ≡ []) (pins : List Node) where
-  not-held : (n : Node) → ¬ (IsHeld (content_of s).0 n)
-  not-held n held = let at = node_in_content s.history valid.graph n held in
-      absurd (Contains-none n (subst (λ (cs : List Contents). Contains (nodes cs) n) none at))
+module _ (s : ReplicaState) (valid : IsValid s) (pins : List Node) where
+  no-changesets : (scope : Scope) → HasNothing s scope → changesets s.history ≡ []
+  no-changesets Served none = none
+  no-changesets Whole none = none.0
 
-  not-served : (n : Node) → ¬ (IsServedUnder (content_of s) pins n)
-  not-served n h = not-held h.0.0 h.0.1.0
+  module _ (none : changesets s.history ≡ []) where
+    not-held : (n : Node) → ¬ (IsHeld (content_of s).0 n)
+    not-held n held = let at = node_in_content s.history valid.graph n held in
+        absurd (Contains-none n (subst (λ (cs : List Contents). Contains (nodes cs) n) none at))
 
-  not-offered : (m : Fields) → ¬ (IsOfferedMarker (content_of s) pins m)
-  not-offered m (direct {n = n} one h touches) = not-served n one
-  not-offered m (further {before = b} r h touches) = not-offered b r
+    not-named : (scope : Scope) (n : Node) → ¬ (IsNamed (content_of s) pins scope n)
+    not-named Served n h = not-held h.0.0 h.0.1.0
+    not-named Whole n h = not-held n h.0
 
-  no-heads : (phase : Phase) → AreHeads (content_of s) (IsServedAs (content_of s) pins phase) []
-  unfolding IsStrictlySortedBy
-  no-heads phase = record {
-    exact = λ n. ((λ h. absurd (Contains-none n h)), λ h. absurd (not-served n h.0.0));
-    ascending = tt;
-  }
+    not-relevant : (m : Fields) → ¬ (IsNamedMarker (content_of s) pins Served m)
+    not-relevant m (direct {n = n} one h touches) = not-named Served n one
+    not-relevant m (further {before = b} r h touches) = not-relevant b r
 
-  pub nothing-offered : (common : List Node)
-      → IsOffer s pins common (record { changesets = []; bounds = []; markers = [] })
-  nothing-offered common = is-offer s valid pins common [] [] []
-      (subst (λ (cs : List Contents). AreThose (IsOutgoing (content_of s) pins common) cs []) (sym none) refl)
-      (record { public = []; draft = []; public_heads = no-heads Public; draft_heads = no-heads Draft; both = refl })
-      (those-none (IsOfferedMarker (content_of s) pins) s.markers not-offered)
+    no-heads : (scope : Scope) (phase : Phase)
+        → AreHeads (content_of s) (IsOneWith (content_of s) (IsNamed (content_of s) pins scope) phase) []
+    unfolding IsStrictlySortedBy
+    no-heads scope phase = record {
+      exact = λ n. ((λ h. absurd (Contains-none n h)), λ h. absurd (not-named scope n h.0.0));
+      ascending = tt;
+    }
+
+  no-markers : (scope : Scope) → HasNothing s scope → AreThose (IsNamedMarker (content_of s) pins scope) s.markers []
+  no-markers Served none = those-none (IsNamedMarker (content_of s) pins Served) s.markers (not-relevant none)
+  no-markers Whole none =
+      subst (λ (ms : List Fields). AreThose (IsNamedMarker (content_of s) pins Whole) ms []) (sym none.1) refl
+
+  pub nothing-offered : (common : List Node) (scope : Scope) → HasNothing s scope
+      → IsOfferOf s pins common scope (record { scope = scope; changesets = []; bounds = []; markers = [] })
+  nothing-offered common scope nothing =
+      let none = no-changesets scope nothing in (
+        is-offer s valid pins common scope [] [] []
+            (subst (λ (cs : List Contents).
+            AreThose (IsOutgoing (content_of s) (IsNamed (content_of s) pins scope) common) cs []) (sym none) refl)
+            (record {
+              public = [];
+              draft = [];
+              public_heads = no-heads none scope Public;
+              draft_heads = no-heads none scope Draft;
+              both = refl;
+            })
+            (no-markers scope nothing),
+        refl,
+      )
 
 -- ---- heads
 
@@ -324,12 +347,11 @@ common-are s valid common held n = (
   ),
 )
 
--- a changeset of the graph that is served and isn't common is outgoing
-pub outgoing-at : (s : ReplicaState) → IsValid s → (pins common : List Node) (i : ℕ) (c : Contents)
+-- a changeset of the graph that is one of these and isn't common is outgoing
+pub outgoing-at : (s : ReplicaState) → IsValid s → (P : Node → Type 0) (common : List Node) (i : ℕ) (c : Contents)
     → slice_get (changesets s.history) i ≡ Some c
-    → (IsServedUnder (content_of s) pins (node_of c) × ¬ (IsCommon (content_of s) common (node_of c)))
-    ↔ IsOutgoing (content_of s) pins common c
-outgoing-at s valid pins common i c at = (
+    → (P (node_of c) × ¬ (IsCommon (content_of s) common (node_of c))) ↔ IsOutgoing (content_of s) P common c
+outgoing-at s valid P common i c at = (
   λ h. (
     content-changeset s.history valid.graph (node_of c) c
         (Contains-from_place (changesets s.history) i c at) refl,
@@ -340,22 +362,22 @@ outgoing-at s valid pins common i c at = (
 )
 
 -- what the marks at its place tell
-pub outgoing-marked : (s : ReplicaState) → IsValid s → (pins common : List Node) → AreHeld (content_of s) common
-    → (served known : List Bool)
-    → ((n : Node) → IsMarkedNode (changesets s.history) served n ↔ IsServedUnder (content_of s) pins n)
+pub outgoing-marked : (s : ReplicaState) → IsValid s → (P : Node → Type 0) (common : List Node)
+    → AreHeld (content_of s) common → (marks known : List Bool)
+    → ((n : Node) → IsMarkedNode (changesets s.history) marks n ↔ P n)
     → ((n : Node) → IsMarkedNode (changesets s.history) known n ↔ IsAncestorOfOne (changesets s.history) common n)
-    → (i : ℕ) → i < length served → i < length known → (c : Contents) → slice_get (changesets s.history) i ≡ Some c
-    → ((get_or served i false ≡ true) × ¬ (get_or known i false ≡ true)) ↔ IsOutgoing (content_of s) pins common c
-outgoing-marked s valid pins common held served known is_served is_known i l k c at =
+    → (i : ℕ) → i < length marks → i < length known → (c : Contents) → slice_get (changesets s.history) i ≡ Some c
+    → ((get_or marks i false ≡ true) × ¬ (get_or known i false ≡ true)) ↔ IsOutgoing (content_of s) P common c
+outgoing-marked s valid P common held marks known is_marked is_known i l k c at =
     let cs = changesets s.history in
     let n = node_of c in
     let here = IsAt-from cs i c n at refl in
-    let one = mark_at cs valid.graph served i n l here in
+    let one = mark_at cs valid.graph marks i n l here in
     let two = mark_at cs valid.graph known i n k here in
-    let out = outgoing-at s valid pins common i c at in
+    let out = outgoing-at s valid P common i c at in
     let same = common-are s valid common held n in (
-      λ h. out.0 ((is_served n).0 (one.0 h.0), λ x. h.1 (two.1 ((is_known n).1 (same.1 x)))),
-      λ h. let x = out.1 h in (one.1 ((is_served n).1 x.0), λ m. x.1 (same.0 ((is_known n).0 (two.0 m)))),
+      λ h. out.0 ((is_marked n).0 (one.0 h.0), λ x. h.1 (two.1 ((is_known n).1 (same.1 x)))),
+      λ h. let x = out.1 h in (one.1 ((is_marked n).1 x.0), λ m. x.1 (same.0 ((is_known n).0 (two.0 m)))),
     )
 
 -- ---- answers
@@ -392,17 +414,18 @@ small-or-large m h e =
     )
     refl)
 
--- to find and to copy is to offer, where there is a changeset
-pub find-then-copy : (s : ReplicaState) (pins common : List Node) (found : MessageValue)
-    (r : Result MessageValue OfferRefusal) → (changesets s.history ≢ [])
-    → FindAnswer s pins common (Ok found) → CopyAnswer found r → OfferAnswer s pins common r
-find-then-copy s pins common found (Ok m) some h k = (h.0, subst (IsOffer s pins common) (sym k.1) h.1)
-find-then-copy s pins common found (Err (UnknownCommon n)) some h k = absurd k
-find-then-copy s pins common found (Err TooLarge) some h k = (h.0, (found, h.1, k))
-find-then-copy s pins common found (Err NoMemory) some h k = (h.0, some)
+-- to find and to copy is to offer, where there is something that may be offered
+pub find-then-copy : (s : ReplicaState) (pins common : List Node) (scope : Scope) (found : MessageValue)
+    (r : Result MessageValue OfferRefusal) → ¬ (HasNothing s scope)
+    → FindAnswer s pins common scope (Ok found) → CopyAnswer found r → OfferAnswer s pins common scope r
+find-then-copy s pins common scope found (Ok m) some h k =
+    (h.0, subst (IsOfferOf s pins common scope) (sym k.1) h.1)
+find-then-copy s pins common scope found (Err (UnknownCommon n)) some h k = absurd k
+find-then-copy s pins common scope found (Err TooLarge) some h k = (h.0, (found, h.1, k))
+find-then-copy s pins common scope found (Err NoMemory) some h k = (h.0, some)
 
-pub find-refused : (s : ReplicaState) (pins common : List Node) (refusal : OfferRefusal)
-    → FindAnswer s pins common (Err refusal) → OfferAnswer s pins common (Err refusal)
-find-refused s pins common (UnknownCommon n) h = h
-find-refused s pins common TooLarge h = absurd h
-find-refused s pins common NoMemory h = h
+pub find-refused : (s : ReplicaState) (pins common : List Node) (scope : Scope) (refusal : OfferRefusal)
+    → FindAnswer s pins common scope (Err refusal) → OfferAnswer s pins common scope (Err refusal)
+find-refused s pins common scope (UnknownCommon n) h = h
+find-refused s pins common scope TooLarge h = absurd h
+find-refused s pins common scope NoMemory h = h

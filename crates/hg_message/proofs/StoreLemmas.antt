@@ -1,6 +1,6 @@
 -- The store of a message, which is read as a store is, with its places counted in the message.
-use Rattle.std.proofs.Common.{◌≡◌, ℕ, ◌+◌, ◌≤◌, List, [], ◌∷◌, ◌++◌, length, Result, Ok, Err, refl, sym, ap, subst, ◌∙◌}
-use Rattle.std.proofs.Common.{arith, length-append}
+use Rattle.std.proofs.Common.{◌≡◌, ℕ, ◌+◌, ◌<◌, ◌≤◌, List, [], ◌∷◌, ◌++◌, length, Result, Ok, Err, refl, sym, ap, subst}
+use Rattle.std.proofs.Common.{◌∙◌, arith, length-append}
 use Rattle.std.specs.Result.{MatchResult}
 use Rattle.std.specs.List.{flat_map}
 use Rattle.std.proofs.lemmas.List.{append-nil, take_at}
@@ -8,6 +8,7 @@ use Rattle.hex.specs.Hex.{IsBytes}
 use Rattle.hg_marker.specs.Fields.{Fields}
 use Rattle.hg_marker.specs.declared.error.MarkerFault.{MarkerFault}
 use Rattle.hg_marker.specs.Metadata.{written}
+use Rattle.hg_marker.specs.Reading.{IsRead}
 use Rattle.hg_marker.specs.Grammar.{IsSpelling, spelling, layout, ids}
 use Rattle.hg_marker.proofs.Formats.{IsBytes-take, Takes, IsFormat, Sequence, sequence, field_format, IsField}
 use Rattle.hg_marker.proofs.Formats.{yields_format, Found, says_format, SaysOnly}
@@ -138,6 +139,29 @@ pub store_no_longer : (ms : List Fields) (bytes : List ℕ) → IsStoreSpelling 
     → length (store_spelling ms) ≤ count_limit
 store_no_longer ms [] h fits = rw h (omega arith)
 store_no_longer ms (version ∷ bytes) h fits = omega (arith, each_no_longer ms bytes h.1, fits)
+
+-- ---- a store with a marker
+
+-- which takes 26 bytes at least
+spelled_long : (ms : List Fields) (bytes : List ℕ) → IsStoreSpelling ms bytes → 1 < length bytes → 26 < length bytes
+spelled_long ms [] h lt = absurd (omega (arith, lt))
+spelled_long [] (version ∷ bytes) h lt = absurd (omega (arith, lt, ap length h.1))
+spelled_long (m ∷ ms) (version ∷ bytes) h lt = omega (
+  arith,
+  ap length h.1.3,
+  length-append h.1.0 h.1.1,
+  ap length h.1.2.layout,
+  layout_long m h.1.2.text,
+  h.1.2.fits.predecessor.0,
+)
+
+pub read_long : (bytes : List ℕ) → IsBytes bytes → IsRead (store_at bytes) → 1 < length bytes → 26 < length bytes
+read_long bytes fits read lt = by (store_at bytes) (store_told bytes fits) read
+  where
+    by : (r : Result (List Fields) StoreFault) → MatchResult r (λ ms. IsStoreSpelling ms bytes) (IsStoreFault bytes)
+        → IsRead r → 26 < length bytes
+    by (Ok ms) h read = spelled_long ms bytes h lt
+    by (Err fault) h read = absurd read
 
 -- ---- where a fault is
 

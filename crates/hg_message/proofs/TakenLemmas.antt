@@ -1,7 +1,7 @@
 -- What an offer leaves where it is taken in.
 use Rattle.std.proofs.Common.{◌≡◌, ℕ, zero, suc, ◌<◌, ◌≤◌, ◌+◌, inl, inr, List, length, Some, refl, sym, ap, subst, ◌∙◌}
 use Rattle.std.proofs.Common.{arith}
-use Rattle.std.proofs.lemmas.Bool.{cases_lt, cases_eq, or_right}
+use Rattle.std.proofs.lemmas.Bool.{cases_lt, cases_eq, or_left, or_right}
 use Rattle.std.proofs.lemmas.Option.{same_Some}
 use Rattle.std.proofs.lemmas.List.Elements.{Contains-append_left}
 use Rattle.hg_changeset.specs.declared.node.Node.{Node}
@@ -17,21 +17,27 @@ use Rattle.hg_history.specs.ContentLaws.{contents_absorbed}
 use Rattle.hg_history.proofs.ContentLemmas.{node_in_content, reach_from_leads}
 use Rattle.hg_marker.specs.Fields.{Fields}
 use Rattle.hg_replica.specs.State.{ReplicaState, IsValid}
-use Rattle.hg_replica.specs.Content.{Content, content_of, IsValidContent, ContentBelow, ContentAdmits, ContentAfter}
+use Rattle.hg_replica.specs.Content.{Content, content_of, IsValidContent, ContentBelow, ContentCovers, ContentAdmits}
+use Rattle.hg_replica.specs.Content.{ContentAfter}
 use Rattle.hg_replica.proofs.ContentLemmas.{content-valid}
 use Rattle.hg_replica.proofs.MarkerLemmas.{holds-from}
-use Rattle.hg_view.specs.Pins.{IsServedUnder}
 use Rattle.hg_view.proofs.LawLemmas.{leads-along}
-use Rattle.hg_view.proofs.PinLemmas.{served_under-above}
 use Rattle.hg_message.specs.Value.{MessageValue}
 use Rattle.hg_message.specs.Part.{draft_bounds, part_of}
-use Rattle.hg_message.specs.Offer.{AreHeld, IsCommon, IsHead, IsServedAs, IsOffer}
-use Rattle.hg_message.specs.Taken.{DontCollide, HoldsServed}
+use Rattle.hg_message.specs.Offer.{AreHeld, IsCommon, IsHead, IsNamed, IsOneWith, IsOffer}
+use Rattle.hg_message.specs.Taken.{DontCollide, HoldsNamed}
 use Rattle.hg_message.proofs.AdmittedLemmas.{offer-admitted, known}
+use Rattle.hg_message.proofs.NamedLemmas.{named-above}
 
 module _ (s : ReplicaState) (valid : IsValid s) (pins common : List Node) (m : MessageValue)
     (offer : IsOffer s pins common m) (g : Content) (vg : IsValidContent g) (has : AreHeld g common)
     (free : DontCollide (content_of s) g) where
+  abbrev P : Node → Type 0
+  P = IsNamed (content_of s) pins m.scope
+
+  vf : IsValidContent (content_of s)
+  vf = content-valid s valid
+
   -- the ancestors of the common nodes are held too
   common_held : (n k : Node) → Leads (content_of s).0 n k → IsHeld g.0 k → IsHeld g.0 n
   common_held n k itself held = held
@@ -46,40 +52,39 @@ module _ (s : ReplicaState) (valid : IsValid s) (pins common : List Node) (m : M
   pub taken-admitted : ContentAdmits g (part_of m)
   taken-admitted = offer-admitted s valid pins common m offer g has_common free
 
-  module _ (after : Content) (taken : ContentAfter g (part_of m) after) where
-    vf : IsValidContent (content_of s)
-    vf = content-valid s valid
+  -- ---- where the part is covered
 
-    -- what is served is held afterwards
-    served_held : (n : Node) (h : Held) → (content_of s).0 n ≡ Some h → IsServedUnder (content_of s) pins n
-        → IsHeldAs after.0 n h.changeset
-    served_held n h e served = elim (known s valid pins common m offer g has_common free n h e served) [
-      | inl held ↦ (taken.0.union n h.changeset).1 (inl (held.0, held.1, sym (free n h held.0 e held.1)))
-      | inr out ↦ (taken.0.union n h.changeset).1 (inr ((offer.says.changesets h.changeset).1 out, (vf.named n h e).0))
+  module _ (covers : ContentCovers g (part_of m)) where
+    -- what is named is held
+    named_held : (n : Node) (h : Held) → (content_of s).0 n ≡ Some h → P n → IsHeldAs g.0 n h.changeset
+    named_held n h e named = elim (known s valid pins common m offer g has_common free n h e named) [
+      | inl held ↦ (held.0, held.1, sym (free n h held.0 e held.1))
+      | inr out ↦
+          let x = covers.0.holds h.changeset ((offer.says.changesets h.changeset).1 out) in
+          subst (λ (k : Node). IsHeldAs g.0 k h.changeset) (vf.named n h e).0 x
     ]
 
     -- and so are its ancestors, with their order
-    leads_served : (a n : Node) → Leads (content_of s).0 a n → IsServedUnder (content_of s) pins n → Leads after.0 a n
-    leads_served a n itself served = itself
-    leads_served a n (below {p = p} {h = h} r e is) served =
-        let x = served_held n h e served in
-        let parent = served_under-above (content_of s) pins p n vf served (below itself e is) in
-        below (leads_served a p r parent) x.1 (subst (λ (c : Contents). IsParent c p) (sym x.2) is)
+    leads_named : (a n : Node) → Leads (content_of s).0 a n → P n → Leads g.0 a n
+    leads_named a n itself named = itself
+    leads_named a n (below {p = p} {h = h} r e is) named =
+        let x = named_held n h e named in
+        let parent = named-above (content_of s) pins m.scope p n vf named (below itself e is) in
+        below (leads_named a p r parent) x.1 (subst (λ (c : Contents). IsParent c p) (sym x.2) is)
 
     -- a bound of the offer is kept
-    bound_kept : (d : Node) (phase : Phase) → IsHead (content_of s) (IsServedAs (content_of s) pins phase) d
-        → (n : Node) (k : Held) → after.0 n ≡ Some k → Leads (content_of s).0 n d → rank k.phase ≤ rank phase
+    bound_kept : (d : Node) (phase : Phase) → IsHead (content_of s) (IsOneWith (content_of s) P phase) d
+        → (n : Node) (k : Held) → g.0 n ≡ Some k → Leads (content_of s).0 n d → rank k.phase ≤ rank phase
     bound_kept d phase head n k at leads =
-        let all = contents_absorbed g.0 after.0 (part_of m).history vg taken.0 in
         let told = Contains-append_left m.bounds (draft_bounds m.changesets) (d, phase)
         ((offer.says.bounds (d, phase)).1 head) in
-        (all.covers.0.bounded (d, phase) told).1 n k at (leads_served n d leads head.0.0)
+        (covers.0.bounded (d, phase) told).1 n k at (leads_named n d leads head.0.0)
 
-    -- a served changeset is a head where no later one with its phase is a descendant
+    -- a named changeset is a head where no later one with its phase is a descendant
     last_head : (phase : Phase) (n d : Node) (p : ℕ) → IsAt (changesets s.history) d p
-        → IsServedAs (content_of s) pins phase d → Leads (content_of s).0 n d
-        → ((e : Node) (q : ℕ) → IsAt (changesets s.history) e q → p < q → IsServedAs (content_of s) pins phase e
-        → Leads (content_of s).0 n e → ⊥) → IsHead (content_of s) (IsServedAs (content_of s) pins phase) d
+        → IsOneWith (content_of s) P phase d → Leads (content_of s).0 n d
+        → ((e : Node) (q : ℕ) → IsAt (changesets s.history) e q → p < q → IsOneWith (content_of s) P phase e
+        → Leads (content_of s).0 n e → ⊥) → IsHead (content_of s) (IsOneWith (content_of s) P phase) d
     last_head phase n d p at_p so leads later = (
       so,
       λ e so_e up.
@@ -94,9 +99,9 @@ module _ (s : ReplicaState) (valid : IsValid s) (pins common : List Node) (m : M
     )
 
     -- so there is a head above each, which has a bound: what stands last
-    none_above : (n : Node) (phase : Phase) (k : Held) → after.0 n ≡ Some k → rank phase < rank k.phase
+    none_above : (n : Node) (phase : Phase) (k : Held) → g.0 n ≡ Some k → rank phase < rank k.phase
         → (j : ℕ) (d : Node) (p : ℕ) → IsAt (changesets s.history) d p → length (changesets s.history) ≤ p + j
-        → IsServedAs (content_of s) pins phase d → Leads (content_of s).0 n d → ⊥
+        → IsOneWith (content_of s) P phase d → Leads (content_of s).0 n d → ⊥
     none_above n phase k at high zero d p at_p far so leads =
         omega (arith, placed_within (changesets s.history) d p at_p, far)
     none_above n phase k at high (suc j) d p at_p far so leads =
@@ -104,9 +109,9 @@ module _ (s : ReplicaState) (valid : IsValid s) (pins common : List Node) (m : M
         (omega arith) so_e up) in
         omega (arith, bound_kept d phase head n k at leads, high)
 
-    served_low : (n : Node) → IsServedUnder (content_of s) pins n → IsBelowAt ((content_of s).0 n) (after.0 n)
-    served_low n served h e =
-        let x = served_held n h e served in (
+    named_low : (n : Node) → P n → IsBelowAt ((content_of s).0 n) (g.0 n)
+    named_low n named h e =
+        let x = named_held n h e named in (
           x.0,
           x.1,
           x.2,
@@ -114,19 +119,39 @@ module _ (s : ReplicaState) (valid : IsValid s) (pins common : List Node) (m : M
             | inl high ↦
                 let q = place_from_Holds (changesets s.history) n (node_in_content s.history valid.graph n (h, e)) in
                 absurd (none_above n h.phase x.0 x.1 high (length (changesets s.history)) n q.0 q.1 (omega arith)
-                (served, (h, e, refl)) itself)
+                (named, (h, e, refl)) itself)
             | inr le ↦ le
           ],
         )
 
-    pub taken-served : HoldsServed (content_of s) pins after
-    taken-served = record {
-      changesets = served_low;
-      markers = λ k relevant. ap (λ (u : Fields → _). u k) taken.1
-          ∙ or_right _ _ (holds-from m.markers k ((offer.says.markers k).1 relevant));
+    pub covering-named : HoldsNamed (content_of s) pins m.scope g
+    covering-named = record {
+      changesets = named_low;
+      markers = λ k named. covers.1 k (holds-from m.markers k ((offer.says.markers k).1 named));
     }
 
 -- what is held stays held
 pub common_later : (common : List Node) (g later : Content) → AreHeld g common → ContentBelow g later
     → AreHeld later common
 common_later common g later has up k at = let h = has k at in let l = up.0 k h.0 h.1 in (l.0, l.1)
+
+-- once it is taken, the part is covered, and still no id stands for two changesets
+module _ (s : ReplicaState) (valid : IsValid s) (pins common : List Node) (m : MessageValue)
+    (offer : IsOffer s pins common m) (g : Content) (vg : IsValidContent g) (has : AreHeld g common)
+    (free : DontCollide (content_of s) g) (after : Content) (taken : ContentAfter g (part_of m) after) where
+  free_after : DontCollide (content_of s) after
+  free_after n h k e at = elim ((taken.0.union n k.changeset).0 (k, at, refl)) [
+    | inl was ↦ free n h was.0 e was.1 ∙ was.2
+    | inr new ↦
+        let x = ((offer.says.changesets k.changeset).0 new.0).0 in
+        let there : (content_of s).0 n ≡ Some x.0 = subst (λ (j : Node). (content_of s).0 j ≡ Some x.0) new.1 x.1 in
+        ap (λ (y : Held). y.changeset) (same_Some h x.0 (sym e ∙ there)) ∙ x.2
+  ]
+
+  pub taken-named : HoldsNamed (content_of s) pins m.scope after
+  taken-named =
+      let all = contents_absorbed g.0 after.0 (part_of m).history vg taken.0 in
+      let more : ContentBelow g after =
+      (all.above, λ k h. ap (λ (u : Fields → _). u k) taken.1 ∙ or_left _ _ h) in
+      covering-named s valid pins common m offer after all.valid (common_later common g after has more) free_after
+      (all.covers.0, λ k h. ap (λ (u : Fields → _). u k) taken.1 ∙ or_right _ _ h)

@@ -18,7 +18,7 @@ use Rattle.hg_message.specs.Spelling.{HasNode, IsWritable, message_spelling}
 use Rattle.hg_message.specs.Offer.{IsOffer}
 use Rattle.hg_message.proofs.ExistLemmas.{all_by_members}
 use Rattle.hg_message.proofs.OfferLemmas.{not-too-large}
-use Rattle.hg_message.proofs.OfferLawLemmas.{relevant-held}
+use Rattle.hg_message.proofs.NamedLemmas.{named_marker-held}
 use Rattle.hg_message.proofs.SpellingLemmas.{spelling_is_read}
 use Rattle.hg_message.proofs.WritingLemmas.{writable_spells}
 
@@ -41,8 +41,7 @@ module _ (s : ReplicaState) (valid : IsValid s) (markers : All IsMarker s.marker
         record { is_node = (held_is b.0 held.0 held.1).0 });
     markers = all_by_members IsMarker m.markers (λ k at.
         All-contains IsMarker s.markers k markers (in_from_holds s.markers k
-        (relevant-held (IsHeldMarker (content_of s)) (IsServedUnder (content_of s) pins) k
-        ((offer.says.markers k).0 at))));
+        (named_marker-held (content_of s) pins m.scope k ((offer.says.markers k).0 at))));
   }
 
   -- and is read back from its bytes

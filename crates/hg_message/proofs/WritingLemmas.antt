@@ -14,7 +14,7 @@ use Rattle.hg_obsstore.specs.Spelling.{IsStoreSpelling, store_spelling}
 use Rattle.hg_obsstore.proofs.FormatLemmas.{written_spells}
 use Rattle.hg_message.specs.Value.{MessageValue, IsMessage}
 use Rattle.hg_message.specs.Spelling.{InOrder, HasNode, IsRecord, IsBound, IsWritable, IsMessageSpelling}
-use Rattle.hg_message.specs.Spelling.{record_spelling, bound_layout, message_spelling}
+use Rattle.hg_message.specs.Spelling.{head_spelling, record_spelling, bound_layout, message_spelling}
 
 -- parents in normal form stay as they are
 normal_again : (c : Contents) → IsNormal c.first c.second → c ≡ changeset_of c.first c.second c.text
@@ -52,10 +52,12 @@ pub message_spells : (m : MessageValue) → IsMessage m → AllByRecursion IsCha
     → AllByRecursion HasNode m.bounds → IsStoreSpelling m.markers (store_spelling m.markers)
     → IsMessageSpelling m (message_spelling m)
 message_spells m few changesets bounds markers = record {
+  head = head_spelling m.scope;
   records = flat_map record_spelling m.changesets;
   entries = flat_map bound_layout m.bounds;
   store = store_spelling m.markers;
   counts = (few.changesets, few.bounds, few.store);
+  scope = inr refl;
   changesets = each_spells IsRecord record_spelling IsChangeset record_spells m.changesets changesets;
   bounds = each_spells IsBound bound_layout HasNode (λ bound id. (id.is_node, refl)) m.bounds bounds;
   markers = markers;

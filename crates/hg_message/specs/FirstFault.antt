@@ -1,7 +1,8 @@
 -- The first fault of a message, in the words of its format: fields stand in front, each whole and without fault, and
 -- the one that comes after them is cut or at fault. Three tables over the fields say how long each is, what is a fault
 -- of it, and which one comes after it.
-use Rattle.std.specs.Prelude.{◌≡◌, ◌≢◌, ◌<◌, ◌+◌, ◌⊎◌, ℕ, zero, suc, List, [], ◌∷◌, ◌++◌, length, Err}
+use Rattle.std.specs.Prelude.{◌≡◌, ◌≢◌, ◌<◌, ◌+◌, ◌⊎◌, ◌==◌, ℕ, zero, suc, List, [], ◌∷◌, ◌++◌, length, get_or, Err}
+use Rattle.std.specs.Prelude.{if◌then◌else◌}
 use Rattle.std.specs.Int.{w32, from_be_bytes}
 use Rattle.hg_changeset.specs.declared.node.Node.{Node}
 use Rattle.hg_changeset.specs.Node.{null_node}
@@ -12,6 +13,7 @@ use Rattle.hg_obsstore.specs.Faults.{IsStoreFault}
 use Rattle.hg_message.specs.declared.error.MessageFault.{MessageFault}
 use Rattle.hg_message.specs.declared.error.MessageFault.TheVariants.{Truncated, BadMagic, BadVersion, HashMismatch}
 use Rattle.hg_message.specs.declared.error.MessageFault.TheVariants.{BadParents, BadPhase, Trailing, TextTooLong}
+use Rattle.hg_message.specs.declared.error.MessageFault.TheVariants.{BadScope}
 use Rattle.hg_message.specs.Message.{magic_number, told_in}
 
 -- The fields of a message, in their order. One of a record tells which record it is, how many come after that, and what
@@ -19,6 +21,7 @@ use Rattle.hg_message.specs.Message.{magic_number, told_in}
 pub data Field : Type 0 where
   Magic : Field
   Version : Field
+  ScopeNumber : Field
   Count : Field
   Id : (index : ℕ) (after : ℕ) → Field
   FirstParent : (index : ℕ) (after : ℕ) (n : Node) → Field
@@ -45,6 +48,7 @@ node_in bytes = record { 0 = bytes }
 abbrev pub width : Field → ℕ
 width Magic = 4
 width Version = 1
+width ScopeNumber = 1
 width Count = 4
 width (Id index after) = 20
 width (FirstParent index after n) = 20
@@ -66,7 +70,8 @@ IsMisnamed n c = (node_of c ≢ n) ⊎ (n ≡ null_node)
 
 abbrev pub HasFault : Field → ℕ → List ℕ → MessageFault → Type 0
 HasFault Magic place bytes fault = (value bytes ≢ magic_number) × (fault ≡ BadMagic)
-HasFault Version place bytes fault = (bytes ≢ 1 ∷ []) × (fault ≡ BadVersion)
+HasFault Version place bytes fault = (bytes ≢ 1 ∷ []) × (bytes ≢ 2 ∷ []) × (fault ≡ BadVersion)
+HasFault ScopeNumber place bytes fault = (bytes ≢ 0 ∷ []) × (bytes ≢ 1 ∷ []) × (fault ≡ BadScope)
 HasFault Count place bytes fault = ⊥
 HasFault (Id index after) place bytes fault = ⊥
 HasFault (FirstParent index after n) place bytes fault = ⊥
@@ -85,6 +90,10 @@ HasFault End place bytes fault = ⊥
 
 -- ---- which one comes after it
 
+-- behind this version: version 1 has no field for the scope
+abbrev pub count_or_scope : ℕ → Field
+count_or_scope version = if version == 1 then Count else ScopeNumber
+
 -- after so many records, where so many are left
 abbrev pub record_or_entries : ℕ → ℕ → Field
 record_or_entries index zero = Entries
@@ -97,7 +106,8 @@ bound_or_store (suc after) = PhaseNumber after
 
 abbrev pub next : Field → List ℕ → Field
 next Magic bytes = Version
-next Version bytes = Count
+next Version bytes = count_or_scope (get_or bytes 0 0)
+next ScopeNumber bytes = Count
 next Count bytes = record_or_entries 0 (value bytes)
 next (Id index after) bytes = FirstParent index after (node_in bytes)
 next (FirstParent index after n) bytes = SecondParent index after n (node_in bytes)

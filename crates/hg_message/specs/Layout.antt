@@ -9,6 +9,7 @@ use Rattle.hg_obsstore.specs.Faults.{store_at}
 use Rattle.hg_message.specs.declared.error.MessageFault.{MessageFault}
 use Rattle.hg_message.specs.declared.error.MessageFault.TheVariants.{Trailing}
 use Rattle.hg_message.specs.declared.layout.Layout.{Layout}
+use Rattle.hg_message.specs.declared.scope.Scope.{Scope}
 use Rattle.hg_message.specs.Counted.{counted}
 use Rattle.hg_message.specs.Record.{record_at}
 use Rattle.hg_message.specs.Bound.{bound_at}
@@ -36,16 +37,16 @@ abbrev pub with_read : {A B : Type 0} → Result (A × List ℕ) MessageFault �
 with_read (Ok x) f = f x.0
 with_read (Err fault) f = Err fault
 
-abbrev pub with_markers : List Contents → List (Node × Phase) → Result (List Fields) MessageFault
+abbrev pub with_markers : Scope → List Contents → List (Node × Phase) → Result (List Fields) MessageFault
     → Result MessageValue MessageFault
-with_markers changesets bounds (Ok markers) =
-    Ok (record { changesets = changesets; bounds = bounds; markers = markers })
-with_markers changesets bounds (Err fault) = Err fault
+with_markers scope changesets bounds (Ok markers) =
+    Ok (record { scope = scope; changesets = changesets; bounds = bounds; markers = markers })
+with_markers scope changesets bounds (Err fault) = Err fault
 
 -- the message that the parts say
 abbrev pub said : Layout → Result MessageValue MessageFault
 said l = with_read (records_in l) (λ changesets. with_read (bounds_in l)
-    (λ bounds. with_markers changesets bounds (markers_in l)))
+    (λ bounds. with_markers l.scope changesets bounds (markers_in l)))
 
 -- records and bounds were read, and the store is no longer than its length tells, and has a place
 pub record IsLayout (l : Layout) : Type 0 where
@@ -54,10 +55,11 @@ pub record IsLayout (l : Layout) : Type 0 where
   pub short : length l.store.now ≤ count_limit
   pub within : l.start + length l.store.now < 2 ^ 64
 
--- the bytes that the parts take at least: 17 of the head and the numbers, 64 of each record and 24 of each bound
+-- the bytes that the parts take at least: 17 of the head and the numbers, without a byte for the scope, 64 of each
+-- record and 24 of each bound
 abbrev pub least_len : Layout → ℕ
 least_len l = 17 + 64 * l.count + 24 * l.entries + length l.store.now
 
--- there is a record, a bound, or a store with more than its version
+-- there is a record, a bound, or a store with a marker, which takes 26 bytes at least behind the version
 abbrev pub HoldsSomething : Layout → Type 0
-HoldsSomething l = (0 < l.count) ⊎ (0 < l.entries) ⊎ (1 < length l.store.now)
+HoldsSomething l = (0 < l.count) ⊎ (0 < l.entries) ⊎ (26 < length l.store.now)

@@ -2,6 +2,7 @@ pub mod Value
 pub mod Same
 pub mod Refusals
 pub mod Place
+pub mod Scope
 pub mod Counted
 pub mod Record
 pub mod RecordView
@@ -16,3 +17,4 @@ pub mod Offer
 pub mod Outgoing
 pub mod OfferRefusals
 pub mod Taken
+pub mod Shared

@@ -9,6 +9,7 @@ use Rattle.hg_message.specs.declared.error.MessageFault.{MessageFault}
 use Rattle.hg_message.specs.declared.error.MessageFault.TheVariants.{Truncated, BadMagic, BadVersion, BadMarker}
 use Rattle.hg_message.specs.declared.error.MessageFault.TheVariants.{Trailing}
 use Rattle.hg_message.specs.Place.{here, whole}
+use Rattle.hg_message.specs.Scope.{is_version, scope_of}
 use Rattle.hg_message.specs.Counted.{counted}
 use Rattle.hg_message.specs.Record.{record_at}
 use Rattle.hg_message.specs.Bound.{bound_at}
@@ -37,14 +38,15 @@ parts_at total = do
   magic ← whole total number
   _ ← wants (magic == magic_number) BadMagic
   version ← whole total byte
-  _ ← wants (version == 1) BadVersion
+  _ ← wants (is_version version) BadVersion
+  scope ← scope_of total version
   count ← whole total number
   changesets ← counted (record_at total) 0 count
   entries ← whole total number
   bounds ← counted (λ _. bound_at total) 0 entries
   len ← whole total number
   markers ← here total (store_in len)
-  says (record { changesets = changesets; bounds = bounds; markers = markers })
+  says (record { scope = scope; changesets = changesets; bounds = bounds; markers = markers })
 
 -- nothing follows
 abbrev pub ended : {A : Type 0} → Result (A × List ℕ) MessageFault → Result A MessageFault

@@ -6,28 +6,29 @@ use Rattle.hg_phases.specs.State.{changesets}
 use Rattle.hg_obsstore.specs.Places.{ListsAll}
 use Rattle.hg_replica.specs.State.{ReplicaState}
 use Rattle.hg_replica.specs.Content.{content_of}
-use Rattle.hg_view.specs.Pins.{IsServedUnder}
+use Rattle.hg_message.specs.declared.scope.Scope.{Scope}
 use Rattle.hg_message.specs.declared.refusal.OfferRefusal.{OfferRefusal}
 use Rattle.hg_message.specs.declared.refusal.OfferRefusal.TheVariants.{UnknownCommon, TooLarge, NoMemory}
 use Rattle.hg_message.specs.Value.{MessageValue, is_too_large}
 use Rattle.hg_message.specs.Spelling.{message_spelling}
-use Rattle.hg_message.specs.Offer.{AreHeld, IsFirstUnknown, IsOffer}
+use Rattle.hg_message.specs.Offer.{AreHeld, IsFirstUnknown, IsOfferOf, HasNothing}
 
--- a mark for each place, which tells whether the changeset there is served under the pins
-pub record AreServed (s : ReplicaState) (pins : List Node) (marks : List Bool) : Type 0 where
+-- a mark for each place, which tells whether the changeset there is one of these
+pub record AreMarksOf (s : ReplicaState) (P : Node → Type 0) (marks : List Bool) : Type 0 where
   pub len : length marks ≡ length (changesets s.history)
-  pub exact : (n : Node) → IsMarkedNode (changesets s.history) marks n ↔ IsServedUnder (content_of s) pins n
+  pub exact : (n : Node) → IsMarkedNode (changesets s.history) marks n ↔ P n
 
 -- exactly the places of those that are so, each once, ascending
 abbrev pub ArePlacesOf : {X : Type 0} → (X → Type 0) → List X → List ℕ → Type 0
 ArePlacesOf {X = X} P xs places = ListsAll (λ i. (x : X) × (slice_get xs i ≡ Some x) × P x) places
 
--- the answer to `Outgoing::above`; memory can be wanting only where each common node is held, and there is a changeset
-abbrev pub FindAnswer : ReplicaState → List Node → List Node → Result MessageValue OfferRefusal → Type 0
-FindAnswer s pins common (Ok found) = AreHeld (content_of s) common × IsOffer s pins common found
-FindAnswer s pins common (Err (UnknownCommon n)) = IsFirstUnknown (content_of s) common n
-FindAnswer s pins common (Err TooLarge) = ⊥
-FindAnswer s pins common (Err NoMemory) = AreHeld (content_of s) common × (changesets s.history ≢ [])
+-- the answer to `Outgoing::above`; memory can be wanting only where each common node is held, and a changeset or, of the
+-- whole, a marker
+abbrev pub FindAnswer : ReplicaState → List Node → List Node → Scope → Result MessageValue OfferRefusal → Type 0
+FindAnswer s pins common scope (Ok found) = AreHeld (content_of s) common × IsOfferOf s pins common scope found
+FindAnswer s pins common scope (Err (UnknownCommon n)) = IsFirstUnknown (content_of s) common n
+FindAnswer s pins common scope (Err TooLarge) = ⊥
+FindAnswer s pins common scope (Err NoMemory) = AreHeld (content_of s) common × ¬ (HasNothing s scope)
 
 -- the answer to a call that makes something of what was found: what is too large is told so, and memory can be wanting
 -- only for what isn't

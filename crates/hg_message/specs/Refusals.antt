@@ -1,4 +1,4 @@
--- The numbers and texts of what is refused. A number counts from 1 in the order in which the faults are tried.
+-- The numbers and texts of what is refused. Numbers count from 1; faults are tried in the order of the fields.
 use Rattle.std.specs.Prelude.{ℕ, List, ◌++◌, codes}
 use Rattle.std.specs.Fmt.{decimal}
 use Rattle.hg_obsstore.specs.Refusals.{store_fault_text}
@@ -7,7 +7,7 @@ use Rattle.hg_message.specs.declared.error.MessageError.TheVariants.{TooLarge}
 use Rattle.hg_message.specs.declared.error.MessageFault.{MessageFault}
 use Rattle.hg_message.specs.declared.error.MessageFault.TheVariants.{Truncated, BadMagic, BadVersion, HashMismatch}
 use Rattle.hg_message.specs.declared.error.MessageFault.TheVariants.{BadParents, BadPhase, BadMarker, Trailing}
-use Rattle.hg_message.specs.declared.error.MessageFault.TheVariants.{TextTooLong}
+use Rattle.hg_message.specs.declared.error.MessageFault.TheVariants.{TextTooLong, BadScope}
 
 -- the number of a refusal of `Message::new`
 abbrev pub message_error_number : MessageError → ℕ
@@ -28,6 +28,7 @@ message_fault_number BadPhase = 6
 message_fault_number (BadMarker place cause) = 7
 message_fault_number Trailing = 8
 message_fault_number (TextTooLong index) = 9
+message_fault_number BadScope = 10
 
 -- its text: with the place or the record, where there is one, and a marker's with its cause
 abbrev pub message_fault_text : MessageFault → List ℕ
@@ -41,3 +42,4 @@ message_fault_text (BadMarker place cause) = codes "BadMarker at " ++ decimal pl
     cause
 message_fault_text Trailing = codes "Trailing"
 message_fault_text (TextTooLong index) = codes "TextTooLong in record " ++ decimal index
+message_fault_text BadScope = codes "BadScope"

@@ -1,5 +1,5 @@
 -- How a message is spelled: the grammar of messages, apart from any reader or writer.
-use Rattle.std.specs.Prelude.{◌≡◌, ◌≢◌, ◌≤◌, ℕ, List, [], ◌∷◌, ◌++◌, length}
+use Rattle.std.specs.Prelude.{◌≡◌, ◌≢◌, ◌≤◌, ◌⊎◌, ℕ, List, [], ◌∷◌, ◌++◌, length}
 use Rattle.std.specs.List.{flat_map, AllByRecursion}
 use Rattle.std.specs.Int.{w32, to_be_bytes}
 use Rattle.hg_changeset.specs.declared.node.Node.{Node}
@@ -10,6 +10,9 @@ use Rattle.hg_marker.specs.Grammar.{IsMarker}
 use Rattle.hg_phases.specs.declared.phase.Phase.{Phase}
 use Rattle.hg_phases.specs.State.{rank}
 use Rattle.hg_obsstore.specs.Spelling.{IsStoreSpelling, store_spelling}
+use Rattle.hg_message.specs.declared.scope.Scope.{Scope}
+use Rattle.hg_message.specs.declared.scope.Scope.TheVariants.{Served}
+use Rattle.hg_message.specs.Scope.{scope_number}
 use Rattle.hg_message.specs.Value.{MessageValue, IsMessage, count_limit}
 use Rattle.hg_message.specs.Message.{magic_number}
 
@@ -45,22 +48,32 @@ abbrev pub InOrder : {A : Type 0} → (A → List ℕ → Type 0) → List A →
 InOrder S [] bytes = bytes ≡ []
 InOrder S (x ∷ xs) bytes = (front : List ℕ) × (back : List ℕ) × S x front × InOrder S xs back × (bytes ≡ front ++ back)
 
--- the magic, the version, the records behind their count, the bounds behind theirs, and the store behind its length
-abbrev pub message_layout : ℕ → List ℕ → ℕ → List ℕ → List ℕ → List ℕ
-message_layout count records entries bounds store =
+-- the version and the scope that are written
+abbrev pub head_spelling : Scope → List ℕ
+head_spelling scope = 2 ∷ scope_number scope ∷ []
+
+-- version 1, which is served, or version 2 and the scope
+abbrev pub IsHead : Scope → List ℕ → Type 0
+IsHead scope bytes = ((scope ≡ Served) × (bytes ≡ 1 ∷ [])) ⊎ (bytes ≡ head_spelling scope)
+
+-- the magic, the head, the records behind their count, the bounds behind theirs, and the store behind its length
+abbrev pub message_layout : List ℕ → ℕ → List ℕ → ℕ → List ℕ → List ℕ → List ℕ
+message_layout head count records entries bounds store =
     number magic_number ++
-    (1 ∷ (number count ++ (records ++ (number entries ++ (bounds ++ (number (length store) ++ store))))))
+    (head ++ (number count ++ (records ++ (number entries ++ (bounds ++ (number (length store) ++ store))))))
 
 -- the bytes spell the message
 pub record IsMessageSpelling (m : MessageValue) (bytes : List ℕ) : Type 0 where
+  pub head : List ℕ
   pub records : List ℕ
   pub entries : List ℕ
   pub store : List ℕ
   pub counts : (length m.changesets ≤ count_limit) × (length m.bounds ≤ count_limit) × (length store ≤ count_limit)
+  pub scope : IsHead m.scope head
   pub changesets : InOrder IsRecord m.changesets records
   pub bounds : InOrder IsBound m.bounds entries
   pub markers : IsStoreSpelling m.markers store
-  pub layout : bytes ≡ message_layout (length m.changesets) records (length m.bounds) entries store
+  pub layout : bytes ≡ message_layout head (length m.changesets) records (length m.bounds) entries store
 
 -- the record that is written, with the parents in normal form
 abbrev pub record_spelling : Contents → List ℕ
@@ -69,8 +82,8 @@ record_spelling c = record_layout (node_of c) c.first c.second c.text
 -- the one spelling that is written
 abbrev pub message_spelling : MessageValue → List ℕ
 message_spelling m =
-    message_layout (length m.changesets) (flat_map record_spelling m.changesets) (length m.bounds)
-    (flat_map bound_layout m.bounds) (store_spelling m.markers)
+    message_layout (head_spelling m.scope) (length m.changesets) (flat_map record_spelling m.changesets)
+    (length m.bounds) (flat_map bound_layout m.bounds) (store_spelling m.markers)
 
 -- the bound is of a node id
 pub record HasNode (bound : Node × Phase) : Type 0 where

@@ -5,11 +5,13 @@ use Rattle.hg_changeset.specs.Contents.{Contents}
 use Rattle.hg_marker.specs.Fields.{Fields}
 use Rattle.hg_phases.specs.declared.phase.Phase.{Phase}
 use Rattle.hg_obsstore.specs.Spelling.{store_spelling}
+use Rattle.hg_message.specs.declared.scope.Scope.{Scope}
 use Rattle.hg_message.specs.declared.error.MessageError.{MessageError}
 use Rattle.hg_message.specs.declared.error.MessageError.TheVariants.{TooLarge}
 
--- records, bounds and markers, each in their order and as often as they came
+-- a scope, and records, bounds and markers, each in their order and as often as they came
 pub record MessageValue : Type 0 where
+  pub scope : Scope
   pub changesets : List Contents
   pub bounds : List (Node × Phase)
   pub markers : List Fields

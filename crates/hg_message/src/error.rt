@@ -45,7 +45,7 @@ pub enum MessageFault {
     Truncated(usize),
     /// They don't begin with `HGFX`.
     BadMagic,
-    /// The version isn't 1.
+    /// The version is neither 1 nor 2.
     BadVersion,
     /// The node of this record isn't the hash of its parents and its text, or is the null id.
     HashMismatch(u32),
@@ -60,6 +60,8 @@ pub enum MessageFault {
     Trailing,
     /// The text of this record has more than [`TEXT_LIMIT`](hg_changeset::TEXT_LIMIT) bytes.
     TextTooLong(u32),
+    /// The scope is neither 0 nor 1. It is told before the count of records is read.
+    BadScope,
 }
 
 impl MessageFault {
@@ -77,6 +79,7 @@ impl MessageFault {
             MessageFault::BadMarker(_, _) => 7,
             MessageFault::Trailing => 8,
             MessageFault::TextTooLong(_) => 9,
+            MessageFault::BadScope => 10,
         }
     }
 }
@@ -95,6 +98,7 @@ impl fmt::Display for MessageFault {
             MessageFault::BadMarker(place, cause) => write!(f, "BadMarker at {place}: {cause}"),
             MessageFault::Trailing => write!(f, "Trailing"),
             MessageFault::TextTooLong(index) => write!(f, "TextTooLong in record {index}"),
+            MessageFault::BadScope => write!(f, "BadScope"),
         }
     }
 }

@@ -1,5 +1,5 @@
-//! How an offer is found: which changesets and markers are offered, as places, and which bounds. Marks tell what is
-//! served, under whatever pins.
+//! How an offer is found: which changesets and markers are offered, as places, and which bounds. Marks tell what its
+//! scope names.
 ghost use Rattle.std.specs.Prelude.{◌≡◌, ◌↔◌, ◌++◌, List, Contains, IfOk, MatchOption, OnOk, length};
 ghost use Rattle.hg_changeset.specs.declared.node.Node.{Node};
 ghost use Rattle.hg_graph.specs.Marks.{IsMarkedNode};
@@ -7,11 +7,14 @@ ghost use Rattle.hg_obsstore.specs.Markers.{ArePlaces};
 ghost use Rattle.hg_phases.specs.State.{changesets};
 ghost use Rattle.hg_replica.specs.State.{IsValid};
 ghost use Rattle.hg_replica.specs.Content.{content_of};
-ghost use Rattle.hg_replica.specs.Evolution.{HasPhase};
-ghost use Rattle.hg_message.specs.Offer.{AreHeads, AreHeld, AreOfferedBounds, IsFirstUnknown, IsOfferedMarker};
-ghost use Rattle.hg_message.specs.Offer.{IsOutgoing, IsServedAs, bounds_in};
-ghost use Rattle.hg_message.specs.Outgoing.{ArePlacesOf, AreServed};
+ghost use Rattle.hg_replica.specs.Evolution.{HasPhase, IsMarker};
+ghost use Rattle.hg_message.specs.Offer.{AreHeads, AreHeld, AreOfferedBounds, IsFirstUnknown, IsNamed, IsNamedMarker};
+ghost use Rattle.hg_message.specs.Offer.{IsOneWith, IsOutgoing, bounds_in};
+ghost use Rattle.hg_message.specs.Outgoing.{ArePlacesOf, AreMarksOf};
+ghost use Rattle.hg_message.specs.declared.scope.Scope.{Scope};
+ghost use Rattle.hg_message.specs.declared.scope.Scope.TheVariants.{Served as served_scope};
 
+use crate::scope::Scope;
 use hg_changeset::Node;
 use hg_instab::has_phase_at;
 use hg_phases::Phase;
@@ -33,40 +36,60 @@ pub(crate) fn first_unknown(replica: &Replica, nodes: &[Node]) -> Option<Node>
     None
 }
 
-/// The places of the served changesets that aren't common, ascending.
+/// The places of the marked changesets that aren't common, ascending.
 pub(crate) fn outgoing_places(
     alloc: Global,
     replica: &Replica,
-    served: &[bool],
+    named: &[bool],
     common: &[Node],
 ) -> Result<Vec<usize>, AllocError>
-    requires len { length served.now ≡ length (changesets replica.now.history) }
+    requires len { length named.now ≡ length (changesets replica.now.history) }
     requires common { AreHeld (content_of replica.now) common.now }
-    ensures places { IfOk result (λ found. (pins : List Node) → AreServed replica.now pins served.now
-        → ArePlacesOf (IsOutgoing (content_of replica.now) pins common.now) (changesets replica.now.history)
-        found.items) }
+    ensures places { IfOk result (λ found. (pins : List Node) (scope : Scope)
+        → AreMarksOf replica.now (IsNamed (content_of replica.now) pins scope) named.now
+        → ArePlacesOf (IsOutgoing (content_of replica.now) (IsNamed (content_of replica.now) pins scope) common.now)
+        (changesets replica.now.history) found.items) }
     ensures valid { IsValid replica.now }
 {
     let graph = replica.graph();
     let known = graph.ancestor_marks(common)?;
     let mut found = Vec::new(alloc);
-    for place in 0..served.len() {
-        if served[place] && !known[place] {
+    for place in 0..named.len() {
+        if named[place] && !known[place] {
             found.push(place)?;
         }
     }
     Ok(found)
 }
 
-/// The places of the markers that are relevant to what is served, ascending.
-pub(crate) fn relevant_places(
+/// The places of the markers that the scope names, ascending. The marks tell which changesets it names.
+pub(crate) fn named_marker_places(
+    alloc: Global,
+    replica: &Replica,
+    named: &[bool],
+    scope: Scope,
+) -> Result<Vec<usize>, AllocError>
+    requires { length named.now ≡ length (changesets replica.now.history) }
+    ensures { IfOk result (λ found. (pins : List Node)
+        → AreMarksOf replica.now (IsNamed (content_of replica.now) pins scope) named.now
+        → ArePlaces (IsNamedMarker (content_of replica.now) pins scope) replica.now.markers found.items) }
+{
+    match scope {
+        Scope::Served => relevant_places(alloc, replica, named),
+        Scope::Whole => marker_places(alloc, replica),
+    }
+}
+
+// The places of the markers that are relevant to what is served, ascending.
+fn relevant_places(
     alloc: Global,
     replica: &Replica,
     served: &[bool],
 ) -> Result<Vec<usize>, AllocError>
     requires { length served.now ≡ length (changesets replica.now.history) }
-    ensures { IfOk result (λ found. (pins : List Node) → AreServed replica.now pins served.now
-        → ArePlaces (IsOfferedMarker (content_of replica.now) pins) replica.now.markers found.items) }
+    ensures { IfOk result (λ found. (pins : List Node)
+        → AreMarksOf replica.now (IsNamed (content_of replica.now) pins served_scope) served.now
+        → ArePlaces (IsNamedMarker (content_of replica.now) pins served_scope) replica.now.markers found.items) }
 {
     let nodes = replica.graph().marked(served)?;
     let hints = marked_hints(alloc, replica, served)?;
@@ -84,36 +107,52 @@ fn marked_hints(alloc: Global, replica: &Replica, marks: &[bool]) -> Result<Vec<
     Ok(hints)
 }
 
-/// Public bounds for the heads of what is served and public, and then draft ones.
+// The places of all markers, ascending.
+fn marker_places(alloc: Global, replica: &Replica) -> Result<Vec<usize>, AllocError>
+    ensures { IfOk result
+        (λ found. ArePlaces (IsMarker (content_of replica.now)) replica.now.markers found.items) }
+{
+    let markers = replica.store().markers();
+    let mut found = Vec::with_capacity(alloc, markers.len())?;
+    for place in 0..markers.len() {
+        found.push(place)?;
+    }
+    Ok(found)
+}
+
+/// Public bounds for the heads of what is marked and public, and then draft ones.
 pub(crate) fn head_bounds(
     alloc: Global,
     replica: &Replica,
-    served: &[bool],
+    named: &[bool],
 ) -> Result<Vec<(Node, Phase)>, AllocError>
-    requires { length served.now ≡ length (changesets replica.now.history) }
-    ensures { IfOk result (λ bounds. (pins : List Node) → AreServed replica.now pins served.now
-        → AreOfferedBounds (content_of replica.now) pins bounds.items) }
+    requires { length named.now ≡ length (changesets replica.now.history) }
+    ensures { IfOk result (λ bounds. (pins : List Node) (scope : Scope)
+        → AreMarksOf replica.now (IsNamed (content_of replica.now) pins scope) named.now
+        → AreOfferedBounds (content_of replica.now) (IsNamed (content_of replica.now) pins scope) bounds.items) }
 {
-    let public = heads_in(alloc, replica, served, Phase::Public)?;
-    let draft = heads_in(alloc, replica, served, Phase::Draft)?;
+    let public = heads_in(alloc, replica, named, Phase::Public)?;
+    let draft = heads_in(alloc, replica, named, Phase::Draft)?;
     let mut bounds = Vec::with_capacity(alloc, public.len().saturating_add(draft.len()))?;
     add_bounds(&mut bounds, &public, Phase::Public)?;
     add_bounds(&mut bounds, &draft, Phase::Draft)?;
     Ok(bounds)
 }
 
-// The heads of what is served with this phase.
+// The heads of what is marked with this phase.
 fn heads_in(
     alloc: Global,
     replica: &Replica,
-    served: &[bool],
+    named: &[bool],
     phase: Phase,
 ) -> Result<Vec<Node>, AllocError>
-    requires { length served.now ≡ length (changesets replica.now.history) }
-    ensures { IfOk result (λ heads. (pins : List Node) → AreServed replica.now pins served.now
-        → AreHeads (content_of replica.now) (IsServedAs (content_of replica.now) pins phase) heads.items) }
+    requires { length named.now ≡ length (changesets replica.now.history) }
+    ensures { IfOk result (λ heads. (pins : List Node) (scope : Scope)
+        → AreMarksOf replica.now (IsNamed (content_of replica.now) pins scope) named.now
+        → AreHeads (content_of replica.now)
+        (IsOneWith (content_of replica.now) (IsNamed (content_of replica.now) pins scope) phase) heads.items) }
 {
-    let marks = marks_in(alloc, replica, served, phase)?;
+    let marks = marks_in(alloc, replica, named, phase)?;
     replica.graph().marked_heads(&marks)
 }
 

@@ -14,6 +14,7 @@ use crate::error::MessageFault;
 use crate::message::Message;
 use crate::place::truncated;
 use crate::record::{read_records, skip_records};
+use crate::scope::{Scope, VERSION_WITHOUT_SCOPE, read_scope};
 use hg_marker::{Marker, ReadError, read_byte, read_field, read_number};
 use hg_obsstore::{StoreFault, read_markers};
 use std::alloc::Global;
@@ -22,7 +23,7 @@ use std::alloc::Global;
 pub(crate) const MAGIC: u32 = 0x4847_4658;
 
 /// The version that is written.
-pub(crate) const VERSION: u8 = 1;
+pub(crate) const VERSION: u8 = 2;
 
 /// The parts of a message where they stand in its bytes. Records and bounds are whole and without fault, the store
 /// wasn't looked at yet.
@@ -30,6 +31,7 @@ pub(crate) const VERSION: u8 = 1;
 pub(crate) struct Layout<'a> {
     // How many bytes the message has.
     total: usize,
+    scope: Scope,
     // How many records, and the bytes from the first on.
     count: u32,
     records: &'a [u8],
@@ -57,9 +59,10 @@ pub(crate) fn split_message(bytes: &[u8]) -> Result<Layout<'_>, MessageFault>
         return Err(MessageFault::BadMagic);
     }
     let (version, rest) = read_byte(rest, truncated(total, rest))?;
-    if version != VERSION {
+    if version != VERSION_WITHOUT_SCOPE && version != VERSION {
         return Err(MessageFault::BadVersion);
     }
+    let (scope, rest) = read_scope(total, version, rest)?;
     let (count, records) = read_number(rest, truncated(total, rest))?;
     let rest = skip_records(total, count, records)?;
     let (entries, bounds) = read_number(rest, truncated(total, rest))?;
@@ -69,6 +72,7 @@ pub(crate) fn split_message(bytes: &[u8]) -> Result<Layout<'_>, MessageFault>
     let (store, rest) = read_field(rest, len as usize, truncated(total, rest))?;
     Ok(Layout {
         total,
+        scope,
         count,
         records,
         entries,
@@ -89,7 +93,7 @@ impl<'a> Layout<'a> {
         let markers = self.read_last(alloc)?;
         let changesets = read_records(alloc, self.total, self.count, self.records)?;
         let bounds = read_bounds(alloc, self.total, self.entries, self.bounds)?;
-        Ok(Message::of_parts(changesets, bounds, markers))
+        Ok(Message::of_parts(self.scope, changesets, bounds, markers))
     }
 
     // The markers of the store, behind which nothing may follow. Where bytes follow, want of memory isn't told.
@@ -97,7 +101,7 @@ impl<'a> Layout<'a> {
         requires { IsLayout self.now }
         ensures exact { Gives (λ markers. markers.items) result (markers_in self.now) }
         ensures spelled { IfOk result (λ markers. IsStoreSpelling markers.items self.now.store.now) }
-        ensures memory { IsErrOf result ReadError.NoMemory → 1 < length self.now.store.now }
+        ensures memory { IsErrOf result ReadError.NoMemory → 26 < length self.now.store.now }
     {
         match read_placed(alloc, self.start, self.store) {
             Err(ReadError::Fault(fault)) => Err(ReadError::Fault(fault)),
@@ -116,7 +120,7 @@ fn read_placed(
     requires { start + length store.now < 2 ^ 64 }
     ensures exact { Gives (λ markers. markers.items) result (told_in start (store_at store.now)) }
     ensures spelled { IfOk result (λ markers. IsStoreSpelling markers.items store.now) }
-    ensures memory { IsErrOf result ReadError.NoMemory → 1 < length store.now }
+    ensures memory { IsErrOf result ReadError.NoMemory → 26 < length store.now }
 {
     match read_markers(alloc, store) {
         Ok(markers) => Ok(markers),

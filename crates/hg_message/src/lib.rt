@@ -1,12 +1,14 @@
 //! Messages between replicas.
 //!
-//! A [`Message`] carries changesets, bounds on phases, and obsolescence markers. It is written in one way, and read in
-//! whichever way it is spelled: the parents of a record may stand in either order, the metadata of a marker may be
-//! spelled in further ways, and no bytes at all are a store without markers. What a replica takes in of it is its
-//! [part](Message::part).
+//! A [`Message`] carries changesets, bounds on phases, and obsolescence markers, and tells their [`Scope`]. It is
+//! written in one way, and read in whichever way it is spelled: the parents of a record may stand in either order, the
+//! metadata of a marker may be spelled in further ways, and no bytes at all are a store without markers. Version 2 of
+//! the format is written, and version 1 is read too: it has no field for the scope, and says what is served. What a
+//! replica takes in of a message is its [part](Message::part), whatever its scope.
 //!
 //! What a replica tells one that has some common nodes is its [`offer`]: what it serves above them under the pins of
-//! its node, and nothing that is secret or hidden. No message carries a pin.
+//! its node, and nothing that is secret or hidden; or its whole history without what is secret. No message carries a
+//! pin.
 #![tactic(auto)]
 
 mod bound;
@@ -22,6 +24,7 @@ mod outgoing;
 mod place;
 mod record;
 mod refusal;
+mod scope;
 mod writing;
 
 pub use error::{MessageError, MessageFault};
@@ -34,8 +37,9 @@ pub use laws::{first_fault_laws, spelling_laws};
 pub use message::Message;
 pub use offer_laws::{
     an_offer_is_one, offers_above_what_is_held_are_taken, offers_are_admitted, offers_are_covered,
-    offers_hold_what_is_served, states_of_one_content_offer_the_same,
+    offers_hold_what_their_scope_names, states_of_one_content_offer_the_same,
 };
 pub use offers::offer;
 pub use outgoing::Outgoing;
 pub use refusal::OfferRefusal;
+pub use scope::Scope;

@@ -10,6 +10,7 @@ ghost use Rattle.hg_message.specs.Spelling.{IsMessageSpelling, message_spelling}
 use crate::copies::{copy_changesets, copy_markers, draft_bounds_onto};
 use crate::error::{MessageError, MessageFault};
 use crate::layout::split_message;
+use crate::scope::Scope;
 use crate::writing::write_message;
 use hg_changeset::{Changeset, Node};
 use hg_marker::{Marker, ReadError};
@@ -24,8 +25,9 @@ use std::marker::Model;
 pub(crate) const COUNT_LIMIT: usize = 4_294_967_295;
 
 /// What one replica tells another: changesets, bounds on phases, and obsolescence markers, each in their order and as
-/// often as they came.
+/// often as they came, and which part of its history they are.
 pub struct Message {
+    scope: Scope,
     changesets: Vec<Changeset>,
     bounds: Vec<(Node, Phase)>,
     markers: Vec<Marker>,
@@ -35,6 +37,7 @@ pub struct Message {
 impl Drop for Message {
     fn drop(self) {
         let Message {
+            scope: _,
             changesets: _,
             bounds: _,
             markers: _,
@@ -52,13 +55,18 @@ impl Model for Message {
     ghost coded = { Prim.hlevel (codes, fields_code) };
 
     ghost view = { λ m. record {
+      scope = m.scope;
       changesets = m.changesets.items;
       bounds = m.bounds.items;
       markers = m.markers.items;
     } };
 
-    ghost invariant = { λ m. IsMessage
-        (record { changesets = m.changesets.items; bounds = m.bounds.items; markers = m.markers.items }) };
+    ghost invariant = { λ m. IsMessage (record {
+      scope = m.scope;
+      changesets = m.changesets.items;
+      bounds = m.bounds.items;
+      markers = m.markers.items;
+    }) };
 }
 
 impl PartialEq for Message {
@@ -71,7 +79,8 @@ impl PartialEq for Message {
 
     #[tactic(auto, unfolding(crate::specs::Same::same_message))]
     fn eq(&self, other: &Message) -> bool {
-        self.changesets == other.changesets
+        self.scope == other.scope
+            && self.changesets == other.changesets
             && self.bounds == other.bounds
             && self.markers == other.markers
     }
@@ -86,6 +95,7 @@ impl Eq for Message {
 impl fmt::Debug for Message {
     fn fmt<W: fmt::Write>(&self, f: &mut fmt::Formatter<W>) -> fmt::Result {
         f.debug_struct("Message")
+            .field("scope", &self.scope)
             .field("changesets", &self.changesets)
             .field("bounds", &self.bounds)
             .field("markers", &self.markers)
@@ -98,45 +108,69 @@ impl Message {
     ///
     /// Refuses [`MessageError::TooLarge`] alone.
     pub fn new(
+        scope: Scope,
         changesets: Vec<Changeset>,
         bounds: Vec<(Node, Phase)>,
         markers: Vec<Marker>,
     ) -> Result<Message, MessageError>
-        ensures { result ≡ message_of
-            (record { changesets = changesets.items; bounds = bounds.items; markers = markers.items }) }
+        ensures { result ≡ message_of (record {
+          scope = scope;
+          changesets = changesets.items;
+          bounds = bounds.items;
+          markers = markers.items;
+        }) }
     {
         if changesets.len() > COUNT_LIMIT || bounds.len() > COUNT_LIMIT || !fit(&markers) {
             return Err(MessageError::TooLarge);
         }
         Ok(Message {
+            scope,
             changesets,
             bounds,
             markers,
         })
     }
 
-    // The message that says nothing. It takes no memory.
-    pub(crate) fn nothing(alloc: Global) -> Message
-        ensures { result ≡ record { changesets = []; bounds = []; markers = [] } }
+    // The message of this scope that says nothing. It takes no memory.
+    pub(crate) fn nothing(alloc: Global, scope: Scope) -> Message
+        ensures { result ≡ record { scope = scope; changesets = []; bounds = []; markers = [] } }
     {
-        Message::of_parts(Vec::new(alloc), Vec::new(alloc), Vec::new(alloc))
+        Message::of_parts(scope, Vec::new(alloc), Vec::new(alloc), Vec::new(alloc))
     }
 
     // The message of parts that were read.
     pub(crate) fn of_parts(
+        scope: Scope,
         changesets: Vec<Changeset>,
         bounds: Vec<(Node, Phase)>,
         markers: Vec<Marker>,
     ) -> Message
-        requires { IsMessage
-            (record { changesets = changesets.items; bounds = bounds.items; markers = markers.items }) }
-        ensures { result ≡ record { changesets = changesets.items; bounds = bounds.items; markers = markers.items } }
+        requires { IsMessage (record {
+          scope = scope;
+          changesets = changesets.items;
+          bounds = bounds.items;
+          markers = markers.items;
+        }) }
+        ensures { result ≡ record {
+          scope = scope;
+          changesets = changesets.items;
+          bounds = bounds.items;
+          markers = markers.items;
+        } }
     {
         Message {
+            scope,
             changesets,
             bounds,
             markers,
         }
+    }
+
+    /// Which part of a history it names.
+    pub fn scope(&self) -> Scope
+        ensures { result ≡ self.now.scope }
+    {
+        self.scope
     }
 
     /// Its changesets.
@@ -170,6 +204,7 @@ impl Message {
         let bounds = self.bounds.clone()?;
         let markers = copy_markers(alloc, &self.markers)?;
         Ok(Message {
+            scope: self.scope,
             changesets,
             bounds,
             markers,
@@ -177,7 +212,7 @@ impl Message {
     }
 
     /// What a replica takes in: the changesets, the bounds and then a draft bound for each changeset, since what is
-    /// passed on is no longer secret, and the markers.
+    /// passed on is no longer secret, and the markers. Its scope is no part of that.
     pub fn part(&self) -> Result<Part, AllocError>
         ensures { IfOk result (λ part. part ≡ part_of self.now) }
     {
@@ -189,6 +224,7 @@ impl Message {
         ensures { IfOk result (λ part. part ≡ part_of self) }
     {
         let Message {
+            scope: _,
             changesets,
             mut bounds,
             markers,
@@ -201,16 +237,23 @@ impl Message {
         })
     }
 
-    /// The bytes of the message: its one written spelling. They are written once, into room that is taken at once.
+    /// The bytes of the message: its one written spelling, which has version 2. They are written once, into room that
+    /// is taken at once.
     pub fn to_bytes(&self) -> Result<Vec<u8>, AllocError>
         ensures written { IfOk result (λ bytes. bytes.items ≡ message_spelling self.now) }
         ensures spells { IfOk result (λ bytes. IsMessageSpelling self.now bytes.items) }
     {
         let alloc = *self.changesets.allocator();
-        write_message(alloc, &self.changesets, &self.bounds, &self.markers)
+        write_message(
+            alloc,
+            self.scope,
+            &self.changesets,
+            &self.bounds,
+            &self.markers,
+        )
     }
 
-    /// The message that bytes spell, all of the bytes.
+    /// The message that bytes spell, all of the bytes. Bytes of version 1 spell a message of what is served.
     ///
     /// Refuses with the first [`MessageFault`] from the front. Want of memory is told of bytes without fault alone.
     pub fn from_bytes(alloc: Global, bytes: &[u8]) -> Result<Message, ReadError<MessageFault>>
@@ -218,8 +261,8 @@ impl Message {
         ensures only { (m : MessageValue) → IsMessageSpelling m bytes.now → Gives (λ message. message) result (Ok m) }
         ensures found { IfOk result (λ message. IsMessageSpelling message bytes.now) }
 
-        // Without a changeset, a bound or a marker no memory is taken.
-        ensures memory { IsErrOf result ReadError.NoMemory → 18 < length bytes.now }
+        // Without a changeset, a bound or a marker no memory is taken, and the least message with one has 41 bytes.
+        ensures memory { IsErrOf result ReadError.NoMemory → 40 < length bytes.now }
 
         // The same, field by field, up to the first fault.
         ensures exact { Gives (λ message. message) result (message_at bytes.now) }
@@ -240,7 +283,7 @@ fn fit(markers: &[Marker]) -> bool
 
 fn read_message(alloc: Global, bytes: &[u8]) -> Result<Message, ReadError<MessageFault>>
     ensures exact { Gives (λ message. message) result (message_at bytes.now) }
-    ensures memory { IsErrOf result ReadError.NoMemory → 18 < length bytes.now }
+    ensures memory { IsErrOf result ReadError.NoMemory → 40 < length bytes.now }
 {
     match split_message(bytes) {
         Ok(layout) => layout.read(alloc),

@@ -11,22 +11,25 @@ ghost use Rattle.hg_replica.specs.State.{ReplicaState, IsValid, IsSameState};
 ghost use Rattle.hg_replica.specs.Content.{Content, content_of, IsValidContent, ContentBelow, ContentCovers};
 ghost use Rattle.hg_replica.specs.Content.{ContentAdmits, ContentAfter};
 ghost use Rattle.hg_replica.specs.Evolution.{HasPhase};
-ghost use Rattle.hg_view.specs.Pins.{AreSamePins, IsHiddenUnder, IsServedUnder};
+ghost use Rattle.hg_view.specs.Pins.{AreSamePins, IsHiddenUnder};
+ghost use Rattle.hg_message.specs.declared.scope.Scope.{Scope};
+ghost use Rattle.hg_message.specs.declared.scope.Scope.TheVariants.{Served as served_scope};
 ghost use Rattle.hg_message.specs.Value.{MessageValue};
 ghost use Rattle.hg_message.specs.Part.{part_of};
-ghost use Rattle.hg_message.specs.Offer.{AreHeld, IsCommon, IsOffer, SaysOffer, SayTheSame};
-ghost use Rattle.hg_message.specs.Taken.{DontCollide, HoldsServed};
+ghost use Rattle.hg_message.specs.Offer.{AreHeld, IsCommon, IsNamed, IsOffer, IsOfferOf, SaysOffer, SayTheSame};
+ghost use Rattle.hg_message.specs.Taken.{DontCollide, HoldsNamed};
 
-/// No changeset that is secret, or hidden under the pins, stands in an offer, neither as a record nor as a bound: all
-/// of them are served.
-pub fn offers_hold_what_is_served()
+/// No changeset that is secret stands in an offer, neither as a record nor as a bound, and none that is hidden under
+/// the pins stands in one of the served scope: an offer names what its scope does.
+pub fn offers_hold_what_their_scope_names()
     ensures changesets { (f : Content) (pins common : List Node) (m : MessageValue) → SaysOffer f pins common m
-        → (c : Contents) → Contains m.changesets c → IsServedUnder f pins (node_of c) }
+        → (c : Contents) → Contains m.changesets c → IsNamed f pins m.scope (node_of c) }
     ensures bounds { (f : Content) (pins common : List Node) (m : MessageValue) → SaysOffer f pins common m
-        → (b : Node × Phase) → Contains m.bounds b → IsServedUnder f pins b.0 }
-    ensures secret { (f : Content) (pins : List Node) (n : Node) → HasPhase f n secret_phase
-        → ¬ (IsServedUnder f pins n) }
-    ensures hidden { (f : Content) (pins : List Node) (n : Node) → IsHiddenUnder f pins n → ¬ (IsServedUnder f pins n) }
+        → (b : Node × Phase) → Contains m.bounds b → IsNamed f pins m.scope b.0 }
+    ensures secret { (f : Content) (pins : List Node) (scope : Scope) (n : Node) → HasPhase f n secret_phase
+        → ¬ (IsNamed f pins scope n) }
+    ensures hidden { (f : Content) (pins : List Node) (n : Node) → IsHiddenUnder f pins n
+        → ¬ (IsNamed f pins served_scope n) }
 {}
 
 /// An offer says no more than the replica that makes it: the replica covers its part already.
@@ -35,22 +38,22 @@ pub fn offers_are_covered()
         → ContentCovers f (part_of m) }
 {}
 
-/// States that are below each other offer the same under pins with the same members, in whatever order each keeps what
-/// it holds: what covers the part of one offer covers that of the other.
+/// States that are below each other offer the same of a scope under pins with the same members, in whatever order each
+/// keeps what it holds: what covers the part of one offer covers that of the other.
 pub fn states_of_one_content_offer_the_same()
     ensures same { (s t : ReplicaState) (pins others common : List Node) (m n : MessageValue)
-        → IsValid s → IsValid t → IsSameState s t → AreSamePins pins others
+        → IsValid s → IsValid t → IsSameState s t → AreSamePins pins others → m.scope ≡ n.scope
         → IsOffer s pins common m → IsOffer t others common n → SayTheSame m n }
     ensures covered { (m n : MessageValue) → SayTheSame m n → (f : Content)
         → ContentCovers f (part_of m) ↔ ContentCovers f (part_of n) }
 {}
 
-/// A state has one offer under some pins above some common nodes.
+/// A state has one offer of a scope under some pins above some common nodes.
 pub fn an_offer_is_one()
-    ensures once { (s : ReplicaState) (pins common : List Node) (m n : MessageValue) → IsOffer s pins common m
-        → IsOffer s pins common n → m ≡ n }
-    ensures exists { (s : ReplicaState) (pins common : List Node) → IsValid s
-        → ((m : MessageValue) → IsOffer s pins common m → ⊥) → ⊥ }
+    ensures once { (s : ReplicaState) (pins common : List Node) (m n : MessageValue) → m.scope ≡ n.scope
+        → IsOffer s pins common m → IsOffer s pins common n → m ≡ n }
+    ensures exists { (s : ReplicaState) (pins common : List Node) (scope : Scope) → IsValid s
+        → ((m : MessageValue) → IsOfferOf s pins common scope m → ⊥) → ⊥ }
 {}
 
 /// An offer's part is admitted wherever the common nodes and their ancestors are held, and no id stands for another
@@ -66,8 +69,8 @@ pub fn offers_are_admitted()
 {}
 
 /// An offer above common nodes that a replica holds is admitted there, then and at any later time, since what is held
-/// stays held. Once it is taken in, the replica holds all that was served when the offer was made, at phases no higher,
-/// with the markers relevant to it. No id may stand for two changesets.
+/// stays held. Once it is taken in, the replica holds all that the offer's scope named when it was made, at phases no
+/// higher, with the markers that it named. No id may stand for two changesets.
 pub fn offers_above_what_is_held_are_taken()
     ensures admitted { (s : ReplicaState) (pins common : List Node) (m : MessageValue) (g later : Content) → IsValid s
         → IsOffer s pins common m
@@ -76,5 +79,5 @@ pub fn offers_above_what_is_held_are_taken()
     ensures taken { (s : ReplicaState) (pins common : List Node) (m : MessageValue) (g later after : Content)
         → IsValid s → IsOffer s pins common m
         → AreHeld g common → ContentBelow g later → IsValidContent later → DontCollide (content_of s) later
-        → ContentAfter later (part_of m) after → HoldsServed (content_of s) pins after }
+        → ContentAfter later (part_of m) after → HoldsNamed (content_of s) pins m.scope after }
 {}

@@ -2,26 +2,28 @@
 //!
 //! To find it takes memory, for marks and for a queue. Whether it is too large shows as soon as it is found, without
 //! memory and before anything is copied or written: from there on want of memory never stands for what is too large.
-ghost use Rattle.std.specs.Prelude.{◌≡◌, ◌<◌, ◌≤◌, List, IfOk, MatchOption, [], true, false, length};
+ghost use Rattle.std.specs.Prelude.{◌≡◌, ◌<◌, ◌≤◌, ◌↔◌, List, IfOk, IsTrue, MatchOption, [], true, false, length};
 ghost use Rattle.hg_changeset.specs.declared.node.Node.{Node};
 ghost use Rattle.hg_obsstore.specs.Places.{picked};
 ghost use Rattle.hg_obsstore.specs.Spelling.{IsStoreSpelling, store_spelling};
+ghost use Rattle.hg_replica.specs.State.{IsValid};
 ghost use Rattle.hg_replica.specs.Content.{content_of};
 ghost use Rattle.hg_message.specs.Value.{count_limit, is_too_large};
-ghost use Rattle.hg_message.specs.Offer.{AreHeld, IsOffer};
-ghost use Rattle.hg_message.specs.Outgoing.{AreServed, CopyAnswer, FindAnswer, WriteAnswer};
+ghost use Rattle.hg_message.specs.Offer.{AreHeld, HasNothing, IsNamed, IsOfferOf};
+ghost use Rattle.hg_message.specs.Outgoing.{AreMarksOf, CopyAnswer, FindAnswer, WriteAnswer};
 ghost use Rattle.hg_message.specs.Spelling.{IsMessageSpelling, message_spelling};
 
 use crate::copies::{copy_changesets_at, copy_markers_at};
-use crate::finding::{first_unknown, head_bounds, outgoing_places, relevant_places};
+use crate::finding::{first_unknown, head_bounds, named_marker_places, outgoing_places};
 use crate::message::{COUNT_LIMIT, Message};
 use crate::refusal::OfferRefusal;
+use crate::scope::Scope;
 use crate::writing::{begin, records_len_at, write_bounds_and_len, write_records_at};
 use hg_changeset::Node;
 use hg_obsstore::{Store, markers_len_at, write_markers_at};
 use hg_phases::Phase;
 use hg_replica::Replica;
-use hg_view::{Kept, Pins, served_marks};
+use hg_view::{Kept, Pins, served_marks, shared_marks};
 use std::alloc::{AllocError, Global};
 use std::marker::Model;
 
@@ -29,6 +31,7 @@ use std::marker::Model;
 /// markers, and which bounds. Contracts see the message that it says.
 pub struct Outgoing<'a> {
     replica: &'a Replica,
+    scope: Scope,
     // The places of the changesets in the graph, and of the markers in the store, ascending.
     changesets: Vec<usize>,
     bounds: Vec<(Node, Phase)>,
@@ -40,6 +43,7 @@ impl Drop for Outgoing<'_> {
     fn drop(self) {
         let Outgoing {
             replica: _,
+            scope: _,
             changesets: _,
             bounds: _,
             markers: _,
@@ -60,6 +64,7 @@ impl<'a> Model for Outgoing<'a> {
     ghost coded = { Prim.hlevel (codes, fields_code) };
 
     ghost view = { λ o. record {
+      scope = o.scope;
       changesets = picked (changesets_of o.replica.now.history) o.changesets.items;
       bounds = o.bounds.items;
       markers = picked o.replica.now.markers o.markers.items;
@@ -70,8 +75,8 @@ impl<'a> Model for Outgoing<'a> {
 }
 
 impl<'a> Outgoing<'a> {
-    /// What goes out above the common nodes, where the node of the replica has these pins. Without a changeset nothing
-    /// does, and no memory is taken.
+    /// What goes out of the scope above the common nodes, where the node of the replica has these pins. Where the
+    /// replica holds no changeset, and, of the whole, no marker, nothing does, and no memory is taken.
     ///
     /// Refuses [`OfferRefusal::UnknownCommon`] alone, for the first that isn't held.
     pub fn above(
@@ -79,15 +84,16 @@ impl<'a> Outgoing<'a> {
         replica: &'a Replica,
         pins: &Pins,
         common: &[Node],
+        scope: Scope,
     ) -> Result<Outgoing<'a>, OfferRefusal>
-        ensures { FindAnswer replica.now pins.now common.now result }
+        ensures { FindAnswer replica.now pins.now common.now scope result }
     {
         match first_unknown(replica, common) {
             Some(node) => Err(OfferRefusal::UnknownCommon(node)),
-            None if replica.graph().is_empty() => Ok(nothing(alloc, replica)),
+            None if has_nothing(replica, scope) => Ok(nothing(alloc, replica, scope)),
             None => {
-                let served = served_marks(alloc, replica, pins)?;
-                Ok(find(alloc, replica, &served, common)?)
+                let named = named_marks(alloc, replica, pins, scope)?;
+                Ok(find(alloc, replica, &named, common, scope)?)
             }
         }
     }
@@ -100,10 +106,11 @@ impl<'a> Outgoing<'a> {
         alloc: Global,
         kept: &'a Kept,
         common: &[Node],
+        scope: Scope,
     ) -> Result<Outgoing<'a>, OfferRefusal>
-        ensures { FindAnswer kept.now.replica kept.now.pins common.now result }
+        ensures { FindAnswer kept.now.replica kept.now.pins common.now scope result }
     {
-        above_by(alloc, kept, kept.replica(), common)
+        above_by(alloc, kept, kept.replica(), common, scope)
     }
 
     /// Whether it is more than a message can hold: see [`MessageError::TooLarge`](crate::MessageError::TooLarge).
@@ -164,7 +171,14 @@ impl<'a> Outgoing<'a> {
         let graph = self.replica.graph();
         let count = self.changesets.len();
         let records_len = records_len_at(graph, &self.changesets);
-        let mut out = begin(alloc, count, records_len, self.bounds.len(), store_len)?;
+        let mut out = begin(
+            alloc,
+            self.scope,
+            count,
+            records_len,
+            self.bounds.len(),
+            store_len,
+        )?;
         write_records_at(&mut out, graph, &self.changesets)?;
         write_bounds_and_len(&mut out, &self.bounds, store_len)?;
         write_markers_at(&mut out, self.replica.store(), &self.markers)?;
@@ -180,19 +194,58 @@ impl<'a> Outgoing<'a> {
         let changesets = copy_changesets_at(alloc, self.replica.graph(), &self.changesets)?;
         let bounds = self.bounds.clone()?;
         let markers = copy_markers_at(alloc, self.replica.store(), &self.markers)?;
-        Ok(Message::of_parts(changesets, bounds, markers))
+        Ok(Message::of_parts(self.scope, changesets, bounds, markers))
     }
 }
 
 // Nothing goes out, and no memory is taken.
-fn nothing(alloc: Global, replica: &Replica) -> Outgoing<'_>
-    ensures { result ≡ record { changesets = []; bounds = []; markers = [] } }
+fn nothing(alloc: Global, replica: &Replica, scope: Scope) -> Outgoing<'_>
+    ensures { result ≡ record { scope = scope; changesets = []; bounds = []; markers = [] } }
 {
     Outgoing {
         replica,
+        scope,
         changesets: Vec::new(alloc),
         bounds: Vec::new(alloc),
         markers: Vec::new(alloc),
+    }
+}
+
+// Whether the replica holds no changeset, and, of the whole, no marker.
+pub(crate) fn has_nothing(replica: &Replica, scope: Scope) -> bool
+    ensures nothing { IsTrue result ↔ HasNothing replica.now scope }
+    ensures valid { IsValid replica.now }
+{
+    match scope {
+        Scope::Served => replica.graph().is_empty(),
+        Scope::Whole => replica.graph().is_empty() && replica.store().markers().is_empty(),
+    }
+}
+
+// A mark for each place of the graph: whether the scope names the changeset there.
+fn named_marks(
+    alloc: Global,
+    replica: &Replica,
+    pins: &Pins,
+    scope: Scope,
+) -> Result<Vec<bool>, AllocError>
+    ensures { IfOk result
+        (λ marks. AreMarksOf replica.now (IsNamed (content_of replica.now) pins.now scope) marks.items) }
+{
+    match scope {
+        Scope::Served => served_marks(alloc, replica, pins),
+        Scope::Whole => shared_marks(alloc, replica),
+    }
+}
+
+// The same of a replica that is kept.
+fn kept_marks(alloc: Global, kept: &Kept, scope: Scope) -> Result<Vec<bool>, AllocError>
+    ensures { IfOk result (λ marks. AreMarksOf kept.now.replica
+        (IsNamed (content_of kept.now.replica) kept.now.pins scope) marks.items) }
+{
+    match scope {
+        Scope::Served => kept.served_marks(),
+        Scope::Whole => shared_marks(alloc, kept.replica()),
     }
 }
 
@@ -202,37 +255,42 @@ fn above_by<'a>(
     kept: &Kept,
     replica: &'a Replica,
     common: &[Node],
+    scope: Scope,
 ) -> Result<Outgoing<'a>, OfferRefusal>
     requires { replica.now ≡ kept.now.replica }
-    ensures { FindAnswer replica.now kept.now.pins common.now result }
+    ensures { FindAnswer replica.now kept.now.pins common.now scope result }
 {
     match first_unknown(replica, common) {
         Some(node) => Err(OfferRefusal::UnknownCommon(node)),
-        None if replica.graph().is_empty() => Ok(nothing(alloc, replica)),
+        None if has_nothing(replica, scope) => Ok(nothing(alloc, replica, scope)),
         None => {
-            let served = kept.served_marks()?;
-            Ok(find(alloc, replica, &served, common)?)
+            let named = kept_marks(alloc, kept, scope)?;
+            Ok(find(alloc, replica, &named, common, scope)?)
         }
     }
 }
 
-// What goes out, where each common node is held, and the marks tell what is served.
+// What goes out, where each common node is held, and the marks tell what the scope names.
 fn find<'a>(
     alloc: Global,
     replica: &'a Replica,
-    served: &[bool],
+    named: &[bool],
     common: &[Node],
+    scope: Scope,
 ) -> Result<Outgoing<'a>, AllocError>
-    requires served { (pins : List Node) × AreServed replica.now pins served.now }
+    requires named { (pins : List Node)
+        × AreMarksOf replica.now (IsNamed (content_of replica.now) pins scope) named.now }
     requires common { AreHeld (content_of replica.now) common.now }
-    ensures { IfOk result (λ found. (pins : List Node) → AreServed replica.now pins served.now
-        → IsOffer replica.now pins common.now found) }
+    ensures { IfOk result (λ found. (pins : List Node)
+        → AreMarksOf replica.now (IsNamed (content_of replica.now) pins scope) named.now
+        → IsOfferOf replica.now pins common.now scope found) }
 {
-    let changesets = outgoing_places(alloc, replica, served, common)?;
-    let bounds = head_bounds(alloc, replica, served)?;
-    let markers = relevant_places(alloc, replica, served)?;
+    let changesets = outgoing_places(alloc, replica, named, common)?;
+    let bounds = head_bounds(alloc, replica, named)?;
+    let markers = named_marker_places(alloc, replica, named, scope)?;
     Ok(Outgoing {
         replica,
+        scope,
         changesets,
         bounds,
         markers,

@@ -7,10 +7,11 @@ ghost use Rattle.hg_obsstore.specs.Places.{picked};
 ghost use Rattle.hg_message.specs.Value.{IsMessage, count_limit};
 ghost use Rattle.hg_message.specs.Message.{magic_number};
 ghost use Rattle.hg_message.specs.Spelling.{IsMessageSpelling, number, message_spelling, record_spelling, bound_layout};
-ghost use Rattle.hg_message.specs.Spelling.{HasNode};
+ghost use Rattle.hg_message.specs.Spelling.{HasNode, head_spelling};
 
 use crate::bound::phase_number;
 use crate::layout::{MAGIC, VERSION};
+use crate::scope::Scope;
 use hg_changeset::{Changeset, Node};
 use hg_graph::Graph;
 use hg_marker::{Marker, write_number};
@@ -18,8 +19,8 @@ use hg_obsstore::{markers_len, write_markers};
 use hg_phases::Phase;
 use std::alloc::{AllocError, Global};
 
-/// The bytes of the magic, the version, both counts, and the length of the store.
-const HEAD_LEN: usize = 17;
+/// The bytes of the magic, the version, the scope, both counts, and the length of the store.
+const HEAD_LEN: usize = 18;
 
 /// The bytes of a record without its text.
 const RECORD_HEAD_LEN: usize = 64;
@@ -30,31 +31,35 @@ const BOUND_LEN: usize = 24;
 /// The bytes of a message of these, in room for just so many.
 pub(crate) fn write_message(
     alloc: Global,
+    scope: Scope,
     changesets: &[Changeset],
     bounds: &[(Node, Phase)],
     markers: &[Marker],
 ) -> Result<Vec<u8>, AllocError>
-    requires { IsMessage (record { changesets = changesets.now; bounds = bounds.now; markers = markers.now }) }
+    requires { IsMessage
+        (record { scope = scope; changesets = changesets.now; bounds = bounds.now; markers = markers.now }) }
     ensures written { IfOk result (λ bytes. bytes.items ≡ message_spelling
-        (record { changesets = changesets.now; bounds = bounds.now; markers = markers.now })) }
+        (record { scope = scope; changesets = changesets.now; bounds = bounds.now; markers = markers.now })) }
     ensures spells { IfOk result
         (λ bytes. IsMessageSpelling
-        (record { changesets = changesets.now; bounds = bounds.now; markers = markers.now }) bytes.items) }
+        (record { scope = scope; changesets = changesets.now; bounds = bounds.now; markers = markers.now })
+        bytes.items) }
 {
     let store_len = markers_len(markers).unwrap();
     let count = changesets.len();
     let records_len = records_len(changesets);
-    let mut out = begin(alloc, count, records_len, bounds.len(), store_len)?;
+    let mut out = begin(alloc, scope, count, records_len, bounds.len(), store_len)?;
     write_records(&mut out, changesets)?;
     write_bounds_and_len(&mut out, bounds, store_len)?;
     write_markers(&mut out, markers)?;
     Ok(out)
 }
 
-/// What stands before the records of a message of so many changesets, in room for all of it: for records and a store of
-/// these lengths, and for so many bounds.
+/// What stands before the records of a message of this scope and so many changesets, in room for all of it: for records
+/// and a store of these lengths, and for so many bounds.
 pub(crate) fn begin(
     alloc: Global,
+    scope: Scope,
     changesets: usize,
     records_len: usize,
     bounds: usize,
@@ -64,12 +69,13 @@ pub(crate) fn begin(
     requires records { records_len ≤ 1048640 * changesets }
     requires bounds { bounds ≤ count_limit }
     requires store { store_len ≤ count_limit }
-    ensures { IfOk result (λ out. out.items ≡ number magic_number ++ (1 ∷ number changesets)) }
+    ensures { IfOk result (λ out. out.items ≡ number magic_number ++ (head_spelling scope ++ number changesets)) }
 {
     let room = HEAD_LEN + records_len + BOUND_LEN * bounds + store_len;
     let mut out = Vec::with_capacity(alloc, room)?;
     write_number(&mut out, MAGIC)?;
     out.push(VERSION)?;
+    out.push(scope.number())?;
     write_number(&mut out, changesets as u32)?;
     Ok(out)
 }

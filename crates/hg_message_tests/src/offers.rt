@@ -2,7 +2,7 @@
 use crate::rows::{ROOT, child_above_root};
 use hg_changeset::{Changeset, Node};
 use hg_marker::{Marker, Metadata};
-use hg_message::{Message, OfferRefusal, Outgoing, offer};
+use hg_message::{Message, OfferRefusal, Outgoing, Scope, offer};
 use hg_phases::Phase;
 use hg_replica::{Part, Replica};
 use hg_view::{Kept, Pins};
@@ -101,7 +101,9 @@ fn offers_what_is_served(rt: HostRuntime) {
     let alloc = rt.alloc();
     let mut replica = Replica::new(alloc);
     let nodes = scene(alloc, &mut replica).expect(&rt, "memory");
-    let message = offer(alloc, &replica, &Pins::new(alloc), &[]).expect(&rt, "an offer");
+    let message = offer(alloc, &replica, &Pins::new(alloc), &[], Scope::Served).expect(
+        &rt, "an offer",
+    );
     assert!(rt; are(&message, &[nodes.a, nodes.b, nodes.c]));
     let [first, second] = ascending(nodes.b, nodes.c);
     let bounds = [
@@ -121,7 +123,14 @@ fn leaves_out_common_changesets_and_tells_their_phases(rt: HostRuntime) {
     let alloc = rt.alloc();
     let mut replica = Replica::new(alloc);
     let nodes = scene(alloc, &mut replica).expect(&rt, "memory");
-    let message = offer(alloc, &replica, &Pins::new(alloc), &[nodes.b]).expect(&rt, "an offer");
+    let message = offer(
+        alloc,
+        &replica,
+        &Pins::new(alloc),
+        &[nodes.b],
+        Scope::Served,
+    )
+    .expect(&rt, "an offer");
     assert!(rt; are(&message, &[nodes.c]));
     assert!(rt; message.bounds().len() == 3 && message.markers().len() == 2);
 }
@@ -131,9 +140,14 @@ fn finds_what_goes_out_before_it_is_copied(rt: HostRuntime) {
     let alloc = rt.alloc();
     let mut replica = Replica::new(alloc);
     let nodes = scene(alloc, &mut replica).expect(&rt, "memory");
-    let found = Outgoing::above(alloc, &replica, &Pins::new(alloc), &[nodes.b]).expect(
-        &rt, "memory",
-    );
+    let found = Outgoing::above(
+        alloc,
+        &replica,
+        &Pins::new(alloc),
+        &[nodes.b],
+        Scope::Served,
+    )
+    .expect(&rt, "memory");
     assert!(rt; !found.is_too_large());
     let message = found.message().expect(&rt, "memory");
     assert!(rt; are(&message, &[nodes.c]) && message.markers().len() == 2);
@@ -145,11 +159,11 @@ fn finds_what_goes_out_of_a_kept_replica(rt: HostRuntime) {
     let mut replica = Replica::new(alloc);
     let nodes = scene(alloc, &mut replica).expect(&rt, "memory");
     let kept = Kept::new(alloc, replica).expect(&rt, "memory");
-    let found = Outgoing::above_kept(alloc, &kept, &[nodes.b]).expect(&rt, "memory");
+    let found = Outgoing::above_kept(alloc, &kept, &[nodes.b], Scope::Served).expect(&rt, "memory");
     let message = found.message().expect(&rt, "memory");
     assert!(rt; are(&message, &[nodes.c]) && message.markers().len() == 2);
     let unknown = Node([0x33; 20]);
-    let refusal = Outgoing::above_kept(alloc, &kept, &[nodes.a, unknown]).err();
+    let refusal = Outgoing::above_kept(alloc, &kept, &[nodes.a, unknown], Scope::Served).err();
     assert!(rt; refusal == Some(OfferRefusal::UnknownCommon(unknown)));
 }
 
@@ -163,9 +177,12 @@ fn extinct(alloc: Global, replica: &mut Replica) -> Option<[Node; 3]> {
     Some([a, b, c])
 }
 
-// All that goes out of a kept replica.
-fn message_of(alloc: Global, kept: &Kept) -> Option<Message> {
-    Outgoing::above_kept(alloc, kept, &[]).ok()?.message().ok()
+// All of a scope that goes out of a kept replica.
+fn message_of(alloc: Global, kept: &Kept, scope: Scope) -> Option<Message> {
+    Outgoing::above_kept(alloc, kept, &[], scope)
+        .ok()?
+        .message()
+        .ok()
 }
 
 #[test]
@@ -175,10 +192,10 @@ fn offers_what_is_pinned_with_its_ancestors(rt: HostRuntime) {
     let nodes = extinct(alloc, &mut replica).expect(&rt, "memory");
     let mut pins = Pins::new(alloc);
     pins.pin(&replica, nodes[2]).expect(&rt, "a pin");
-    let found = Outgoing::above(alloc, &replica, &pins, &[]).expect(&rt, "memory");
+    let found = Outgoing::above(alloc, &replica, &pins, &[], Scope::Served).expect(&rt, "memory");
     assert!(rt; are(&found.message().expect(&rt, "memory"), &nodes));
     let none = Pins::new(alloc);
-    let found = Outgoing::above(alloc, &replica, &none, &[]).expect(&rt, "memory");
+    let found = Outgoing::above(alloc, &replica, &none, &[], Scope::Served).expect(&rt, "memory");
     assert!(rt; are(&found.message().expect(&rt, "memory"), &[nodes[0]]));
 }
 
@@ -188,11 +205,58 @@ fn offers_what_is_pinned_of_a_kept_replica(rt: HostRuntime) {
     let mut replica = Replica::new(alloc);
     let nodes = extinct(alloc, &mut replica).expect(&rt, "memory");
     let mut kept = Kept::new(alloc, replica).expect(&rt, "memory");
-    let message = message_of(alloc, &kept).expect(&rt, "memory");
+    let message = message_of(alloc, &kept, Scope::Served).expect(&rt, "memory");
     assert!(rt; are(&message, &[nodes[0]]));
     kept.pin(nodes[2]).expect(&rt, "a pin");
-    let message = message_of(alloc, &kept).expect(&rt, "memory");
+    let message = message_of(alloc, &kept, Scope::Served).expect(&rt, "memory");
     assert!(rt; are(&message, &nodes));
+}
+
+// What is hidden goes out of the whole, and what is secret doesn't; every marker does, also one that leads to nothing but
+// what is secret. A pin makes no difference.
+#[test]
+fn offers_the_whole_without_what_is_secret(rt: HostRuntime) {
+    let alloc = rt.alloc();
+    let mut replica = Replica::new(alloc);
+    let nodes = extinct(alloc, &mut replica).expect(&rt, "memory");
+    let secret = commit(alloc, &mut replica, nodes[0], b"d", Phase::Secret).expect(&rt, "memory");
+    rewrite(alloc, &mut replica, Node([0x11; 20]), &[secret], nodes[0]).expect(&rt, "memory");
+    let mut kept = Kept::new(alloc, replica).expect(&rt, "memory");
+    let message = message_of(alloc, &kept, Scope::Whole).expect(&rt, "memory");
+    assert!(rt; message.scope() == Scope::Whole && are(&message, &nodes));
+    assert!(rt;
+        message.bounds() == [(nodes[0], Phase::Public), (nodes[2], Phase::Draft)].as_slice()
+    );
+    assert!(rt; message.markers() == kept.replica().store().markers());
+    kept.pin(nodes[2]).expect(&rt, "a pin");
+    assert!(rt; message_of(alloc, &kept, Scope::Whole) == Some(message));
+}
+
+// Common changesets are left out, and their phases are told.
+#[test]
+fn offers_the_whole_above_common_nodes(rt: HostRuntime) {
+    let alloc = rt.alloc();
+    let mut replica = Replica::new(alloc);
+    let nodes = extinct(alloc, &mut replica).expect(&rt, "memory");
+    let pins = Pins::new(alloc);
+    let message = offer(alloc, &replica, &pins, &[nodes[1]], Scope::Whole).expect(&rt, "an offer");
+    assert!(rt; are(&message, &[nodes[2]]) && message.markers().len() == 2);
+    assert!(rt;
+        message.bounds() == [(nodes[0], Phase::Public), (nodes[2], Phase::Draft)].as_slice()
+    );
+}
+
+// A replica without changesets may hold markers, which go out of the whole.
+#[test]
+fn offers_markers_alone(rt: HostRuntime) {
+    let alloc = rt.alloc();
+    let mut replica = Replica::new(alloc);
+    rewrite(alloc, &mut replica, Node([0x11; 20]), &[], Node::NULL).expect(&rt, "memory");
+    let pins = Pins::new(alloc);
+    let served = offer(alloc, &replica, &pins, &[], Scope::Served).expect(&rt, "an offer");
+    assert!(rt; served.changesets().is_empty() && served.markers().is_empty());
+    let whole = offer(alloc, &replica, &pins, &[], Scope::Whole).expect(&rt, "an offer");
+    assert!(rt; whole.changesets().is_empty() && whole.markers().len() == 1);
 }
 
 // A replica of ROOT, and of what the bytes bring it.
@@ -210,7 +274,9 @@ fn writes_what_goes_out(rt: HostRuntime) {
     let alloc = rt.alloc();
     let bytes = child_above_root(alloc).expect(&rt, "memory");
     let replica = with_child(alloc, &bytes).expect(&rt, "a message");
-    let found = Outgoing::above(alloc, &replica, &Pins::new(alloc), &[ROOT]).expect(&rt, "memory");
+    let found = Outgoing::above(alloc, &replica, &Pins::new(alloc), &[ROOT], Scope::Served).expect(
+        &rt, "memory",
+    );
     assert!(rt; found.to_bytes().expect(&rt, "memory") == bytes);
 }
 
@@ -225,6 +291,7 @@ fn refuses_the_first_common_node_that_is_not_held(rt: HostRuntime) {
         &replica,
         &Pins::new(alloc),
         &[nodes.a, unknown, Node::NULL],
+        Scope::Whole,
     );
     assert!(rt; refused == Err(OfferRefusal::UnknownCommon(unknown)));
 }
@@ -236,7 +303,9 @@ fn an_offer_is_taken_in_by_an_empty_replica(rt: HostRuntime) {
     let mut replica = Replica::new(alloc);
     scene(alloc, &mut replica).expect(&rt, "memory");
     let mut other = Replica::new(alloc);
-    let message = offer(alloc, &replica, &Pins::new(alloc), &[]).expect(&rt, "an offer");
+    let message = offer(alloc, &replica, &Pins::new(alloc), &[], Scope::Served).expect(
+        &rt, "an offer",
+    );
     let part = message.into_part().expect(&rt, "memory");
     let change = other.absorb(&part).expect(&rt, "a part that is admitted");
     assert!(rt; change.added.len() == 3 && change.markers.len() == 2);
@@ -259,11 +328,29 @@ fn refused_growth_offers_nothing(rt: HostRuntime) {
     if scene(alloc, &mut replica).is_none() {
         return;
     }
-    let message = match offer(alloc, &replica, &Pins::new(alloc), &[]) {
+    let message = match offer(alloc, &replica, &Pins::new(alloc), &[], Scope::Served) {
         Ok(message) => message,
         Err(refusal) => {
             assert!(rt; refusal == OfferRefusal::NoMemory);
-            offer(alloc, &replica, &Pins::new(alloc), &[]).expect(&rt, "memory")
+            offer(alloc, &replica, &Pins::new(alloc), &[], Scope::Served).expect(&rt, "memory")
+        }
+    };
+    assert!(rt; message.changesets().len() == 3 && message.markers().len() == 2);
+}
+
+#[test]
+fn refused_growth_offers_nothing_of_the_whole(rt: HostRuntime) {
+    let alloc = rt.alloc();
+    let mut replica = Replica::new(alloc);
+    if extinct(alloc, &mut replica).is_none() {
+        return;
+    }
+    let pins = Pins::new(alloc);
+    let message = match offer(alloc, &replica, &pins, &[], Scope::Whole) {
+        Ok(message) => message,
+        Err(refusal) => {
+            assert!(rt; refusal == OfferRefusal::NoMemory);
+            offer(alloc, &replica, &pins, &[], Scope::Whole).expect(&rt, "memory")
         }
     };
     assert!(rt; message.changesets().len() == 3 && message.markers().len() == 2);
@@ -278,7 +365,8 @@ fn refused_growth_writes_nothing_that_goes_out(rt: HostRuntime) {
     let Some(replica) = with_child(alloc, &bytes) else {
         return;
     };
-    let Ok(found) = Outgoing::above(alloc, &replica, &Pins::new(alloc), &[ROOT]) else {
+    let Ok(found) = Outgoing::above(alloc, &replica, &Pins::new(alloc), &[ROOT], Scope::Served)
+    else {
         return;
     };
     let written = match found.to_bytes() {

@@ -1,6 +1,8 @@
 //! Bytes that are read, and the first fault of those that aren't.
-use crate::rows::{CHILD, NOTHING, ROOT, all_kinds, one_changeset};
-use hg_message::{MarkerFault, Message, MessageError, MessageFault, Node, ReadError, StoreFault};
+use crate::rows::{CHILD, FIRST, NOTHING, ROOT, SERVED, WHOLE, all_kinds, one_changeset};
+use hg_message::{
+    MarkerFault, Message, MessageError, MessageFault, Node, ReadError, Scope, StoreFault,
+};
 use std::alloc::Global;
 use std::process::Abort;
 use std::test::Fail;
@@ -29,9 +31,22 @@ fn last_up_to(places: &[usize], place: usize) -> usize {
 fn one_changeset_cut_anywhere_is_truncated(rt: HostRuntime) {
     let alloc = rt.alloc();
     let fields = [0, 4, 5, 9, 29, 49, 69, 73, 77, 81, 101, 105];
-    let bytes = one_changeset(alloc).expect(&rt, "memory");
+    let bytes = one_changeset(alloc, FIRST).expect(&rt, "memory");
     assert!(rt; bytes.len() == 106);
     for len in 0..106 {
+        let fault = fault_of(&rt, alloc, &bytes[..len]);
+        let place = last_up_to(&fields, len);
+        assert!(rt; fault == Some(MessageFault::Truncated(place)), "at {len}");
+    }
+}
+
+#[test]
+fn one_changeset_of_version_2_cut_anywhere_is_truncated(rt: HostRuntime) {
+    let alloc = rt.alloc();
+    let fields = [0, 4, 5, 6, 10, 30, 50, 70, 74, 78, 82, 102, 106];
+    let bytes = one_changeset(alloc, WHOLE).expect(&rt, "memory");
+    assert!(rt; bytes.len() == 107);
+    for len in 0..107 {
         let fault = fault_of(&rt, alloc, &bytes[..len]);
         let place = last_up_to(&fields, len);
         assert!(rt; fault == Some(MessageFault::Truncated(place)), "at {len}");
@@ -44,7 +59,7 @@ fn all_kinds_cut_anywhere_are_truncated(rt: HostRuntime) {
     let fields = [
         0, 4, 5, 9, 29, 49, 69, 73, 74, 94, 114, 134, 138, 144, 148, 152, 172, 176, 196, 200,
     ];
-    let bytes = all_kinds(alloc, Node::NULL, ROOT).expect(&rt, "memory");
+    let bytes = all_kinds(alloc, FIRST, Node::NULL, ROOT).expect(&rt, "memory");
     assert!(rt; bytes.len() == 309);
     for len in 0..309 {
         let fault = fault_of(&rt, alloc, &bytes[..len]);
@@ -82,12 +97,47 @@ fn one_changeset_turned(place: usize) -> Option<MessageFault> {
 #[test]
 fn one_changeset_with_a_byte_turned(rt: HostRuntime) {
     let alloc = rt.alloc();
-    let mut bytes = one_changeset(alloc).expect(&rt, "memory");
+    let mut bytes = one_changeset(alloc, FIRST).expect(&rt, "memory");
     assert!(rt; bytes.len() == 106);
     for place in 0..106 {
         turn(&mut bytes, place);
         let fault = fault_of(&rt, alloc, &bytes);
         assert!(rt; fault == one_changeset_turned(place), "at {place}");
+        turn(&mut bytes, place);
+    }
+}
+
+// What is told of the same message of version 2, so: behind the scope all is one later.
+fn one_changeset_of_version_2_turned(place: usize) -> Option<MessageFault> {
+    match place {
+        0..=4 => one_changeset_turned(place),
+        5 => Some(MessageFault::BadScope),
+        _ => match one_changeset_turned(place.saturating_sub(1)) {
+            Some(MessageFault::Truncated(at)) => Some(MessageFault::Truncated(one_later(at))),
+            Some(MessageFault::BadMarker(at, cause)) => {
+                Some(MessageFault::BadMarker(one_later(at), cause))
+            }
+            other => other,
+        },
+    }
+}
+
+fn one_later(place: usize) -> usize {
+    place.saturating_add(1)
+}
+
+#[test]
+fn one_changeset_of_version_2_with_a_byte_turned(rt: HostRuntime) {
+    let alloc = rt.alloc();
+    let mut bytes = one_changeset(alloc, SERVED).expect(&rt, "memory");
+    assert!(rt; bytes.len() == 107);
+    for place in 0..107 {
+        turn(&mut bytes, place);
+        let fault = fault_of(&rt, alloc, &bytes);
+        assert!(rt;
+            fault == one_changeset_of_version_2_turned(place),
+            "at {place}"
+        );
         turn(&mut bytes, place);
     }
 }
@@ -131,7 +181,7 @@ fn marker_turned(start: usize, place: usize) -> Option<MessageFault> {
 #[test]
 fn all_kinds_with_a_byte_turned(rt: HostRuntime) {
     let alloc = rt.alloc();
-    let mut bytes = all_kinds(alloc, Node::NULL, ROOT).expect(&rt, "memory");
+    let mut bytes = all_kinds(alloc, FIRST, Node::NULL, ROOT).expect(&rt, "memory");
     assert!(rt; bytes.len() == 309);
     for place in 0..309 {
         turn(&mut bytes, place);
@@ -164,7 +214,7 @@ fn a_field_of_one_changeset_is_at_fault(rt: HostRuntime) {
         (105, &[1], MessageFault::BadMarker(105, version)),
     ];
     for (place, field, fault) in faults {
-        let mut bytes = one_changeset(alloc).expect(&rt, "memory");
+        let mut bytes = one_changeset(alloc, FIRST).expect(&rt, "memory");
         put(&mut bytes, place, field);
         assert!(rt; fault_of(&rt, alloc, &bytes) == Some(fault), "at {place}");
     }
@@ -173,16 +223,33 @@ fn a_field_of_one_changeset_is_at_fault(rt: HostRuntime) {
 #[test]
 fn equal_parents_are_told_before_the_hash(rt: HostRuntime) {
     let alloc = rt.alloc();
-    let bytes = all_kinds(alloc, ROOT, ROOT).expect(&rt, "memory");
+    let bytes = all_kinds(alloc, FIRST, ROOT, ROOT).expect(&rt, "memory");
     assert!(rt; fault_of(&rt, alloc, &bytes) == Some(MessageFault::BadParents(1)));
-    let bytes = all_kinds(alloc, CHILD, ROOT).expect(&rt, "memory");
+    let bytes = all_kinds(alloc, FIRST, CHILD, ROOT).expect(&rt, "memory");
     assert!(rt; fault_of(&rt, alloc, &bytes) == Some(MessageFault::HashMismatch(1)));
+}
+
+#[test]
+fn a_version_or_a_scope_is_at_fault(rt: HostRuntime) {
+    let alloc = rt.alloc();
+    let faults: [(&[u8], MessageFault); 7] = [
+        (b"HGFX\0", MessageFault::BadVersion),
+        (b"HGFX\x03\0", MessageFault::BadVersion),
+        (b"HGFX\x02", MessageFault::Truncated(5)),
+        (b"HGFX\x02\x02", MessageFault::BadScope),
+        (b"HGFX\x02\xff\0\0", MessageFault::BadScope),
+        (b"HGFX\x02\x01\0\0", MessageFault::Truncated(6)),
+        (b"HGFX\x01\x02\0\0", MessageFault::Truncated(5)),
+    ];
+    for (bytes, fault) in faults {
+        assert!(rt; fault_of(&rt, alloc, bytes) == Some(fault));
+    }
 }
 
 #[test]
 fn nothing_may_follow(rt: HostRuntime) {
     let alloc = rt.alloc();
-    let mut bytes = one_changeset(alloc).expect(&rt, "memory");
+    let mut bytes = one_changeset(alloc, FIRST).expect(&rt, "memory");
     bytes.push(0).expect(&rt, "memory");
     assert!(rt; fault_of(&rt, alloc, &bytes) == Some(MessageFault::Trailing));
 }
@@ -195,6 +262,10 @@ fn a_count_reserves_nothing(rt: HostRuntime) {
     assert!(rt; fault_of(&rt, alloc, records) == Some(MessageFault::Truncated(9)));
     let bounds = b"HGFX\x01\0\0\0\0\xff\xff\xff\xff";
     assert!(rt; fault_of(&rt, alloc, bounds) == Some(MessageFault::Truncated(13)));
+    let records = b"HGFX\x02\x01\xff\xff\xff\xff";
+    assert!(rt; fault_of(&rt, alloc, records) == Some(MessageFault::Truncated(10)));
+    let bounds = b"HGFX\x02\x01\0\0\0\0\xff\xff\xff\xff";
+    assert!(rt; fault_of(&rt, alloc, bounds) == Some(MessageFault::Truncated(14)));
 }
 
 #[test]
@@ -202,6 +273,7 @@ fn no_bytes_are_a_store(rt: HostRuntime) {
     let alloc = rt.alloc();
     let bytes = b"HGFX\x01\0\0\0\0\0\0\0\0\0\0\0\0";
     let message = Message::from_bytes(alloc, bytes).expect(&rt, "a message");
+    assert!(rt; message.scope() == Scope::Served);
     let written = message.to_bytes().expect(&rt, "memory");
     assert!(rt; written.as_slice() == NOTHING);
 }
@@ -219,6 +291,7 @@ fn numbers_and_texts(rt: HostRuntime) -> Result<(), Fail> {
             "BadMarker at 201: Bad at 1: Truncated",
         ),
         (MessageFault::TextTooLong(1), 9, "TextTooLong in record 1"),
+        (MessageFault::BadScope, 10, "BadScope"),
     ] {
         assert_eq!(rt; fault.number(), number);
         assert_eq!(rt; format!(in alloc; "{fault}")?.as_str(), text);

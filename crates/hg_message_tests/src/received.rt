@@ -5,7 +5,7 @@ use std::alloc::Global;
 
 // The part of the message of one draft bound, on this node.
 fn one_bound(alloc: Global, node: Node) -> Option<Part> {
-    let mut bytes = Vec::from_slice(alloc, b"HGFX\x01\0\0\0\0\0\0\0\x01\0\0\0\x01").ok()?;
+    let mut bytes = Vec::from_slice(alloc, b"HGFX\x02\0\0\0\0\0\0\0\0\x01\0\0\0\x01").ok()?;
     bytes.extend_from_slice(&node.0).ok()?;
     bytes.extend_from_slice(b"\0\0\0\x01\0").ok()?;
     Message::from_bytes(alloc, &bytes).ok()?.into_part().ok()

@@ -20,15 +20,26 @@ pub const CHILD: Node = Node([
     0xe0, 0x7e, 0x8e, 0xd4,
 ]);
 
-/// The message without changesets, bounds and markers.
-pub const NOTHING: &[u8] = b"HGFX\x01\0\0\0\0\0\0\0\0\0\0\0\x01\0";
+/// What a message of version 1 begins with, before the count of records.
+pub const FIRST: &[u8] = b"HGFX\x01";
 
-/// The message of the changeset EMPTY and a draft bound for it.
+/// What a message of version 2 and the served scope begins with.
+pub const SERVED: &[u8] = b"HGFX\x02\0";
+
+/// What a message of version 2 and the whole scope begins with.
+pub const WHOLE: &[u8] = b"HGFX\x02\x01";
+
+/// The message without changesets, bounds and markers, as it is written: what is served.
+pub const NOTHING: &[u8] = b"HGFX\x02\0\0\0\0\0\0\0\0\0\0\0\0\x01\0";
+
+/// The message of the changeset EMPTY and a draft bound for it, which begins so.
 ///
-/// Its fields begin at 0 (magic), 4 (version), 5 (count), 9 (node), 29 and 49 (parents), 69 (length of the text), 73
-/// (count of bounds), 77 (phase), 81 (node), 101 (length of the store) and 105 (store). It has 106 bytes.
-pub fn one_changeset(alloc: Global) -> Option<Vec<u8>> {
-    let mut bytes = Vec::from_slice(alloc, b"HGFX\x01\0\0\0\x01").ok()?;
+/// With version 1 its fields begin at 0 (magic), 4 (version), 5 (count), 9 (node), 29 and 49 (parents), 69 (length of
+/// the text), 73 (count of bounds), 77 (phase), 81 (node), 101 (length of the store) and 105 (store), and it has 106
+/// bytes. With version 2 the scope is at 5, all after it is one later, and it has 107 bytes.
+pub fn one_changeset(alloc: Global, head: &[u8]) -> Option<Vec<u8>> {
+    let mut bytes = Vec::from_slice(alloc, head).ok()?;
+    bytes.extend_from_slice(b"\0\0\0\x01").ok()?;
     bytes.extend_from_slice(&EMPTY.0).ok()?;
     bytes.extend_from_slice(&[0; 44]).ok()?;
     bytes.extend_from_slice(b"\0\0\0\x01\0\0\0\x01").ok()?;
@@ -38,13 +49,15 @@ pub fn one_changeset(alloc: Global) -> Option<Vec<u8>> {
 }
 
 /// The message of ROOT and CHILD, the latter with these parents, of the bounds (ROOT, public) and (CHILD, secret), and
-/// of one marker twice.
+/// of one marker twice. It begins so.
 ///
-/// Its fields begin at 0 (magic), 4 (version), 5 (count), 9, 29, 49, 69 and 73 (ROOT's record), 74, 94, 114, 134 and
-/// 138 (CHILD's), 144 (count of bounds), 148 and 152, 172 and 176 (bounds), 196 (length of the store) and 200 (store).
-/// The markers begin at 201 and 255. It has 309 bytes.
-pub fn all_kinds(alloc: Global, p: Node, q: Node) -> Option<Vec<u8>> {
-    let mut bytes = Vec::from_slice(alloc, b"HGFX\x01\0\0\0\x02").ok()?;
+/// With version 1 its fields begin at 0 (magic), 4 (version), 5 (count), 9, 29, 49, 69 and 73 (ROOT's record), 74, 94,
+/// 114, 134 and 138 (CHILD's), 144 (count of bounds), 148 and 152, 172 and 176 (bounds), 196 (length of the store) and
+/// 200 (store). The markers begin at 201 and 255, and it has 309 bytes. With version 2 the scope is at 5, all after it
+/// is one later, and it has 310 bytes.
+pub fn all_kinds(alloc: Global, head: &[u8], p: Node, q: Node) -> Option<Vec<u8>> {
+    let mut bytes = Vec::from_slice(alloc, head).ok()?;
+    bytes.extend_from_slice(b"\0\0\0\x02").ok()?;
     push_record(&mut bytes, ROOT, Node::NULL, Node::NULL, b"\0\0\0\x01a")?;
     push_record(&mut bytes, CHILD, p, q, b"\0\0\0\x06second")?;
     bytes.extend_from_slice(b"\0\0\0\x02\0\0\0\0").ok()?;
@@ -60,7 +73,7 @@ pub fn all_kinds(alloc: Global, p: Node, q: Node) -> Option<Vec<u8>> {
 /// What is offered above ROOT, which is public, where CHILD stands on it and is draft, and a marker leads to CHILD: the
 /// message of CHILD, of the bounds (ROOT, public) and (CHILD, draft), and of the marker.
 pub fn child_above_root(alloc: Global) -> Option<Vec<u8>> {
-    let mut bytes = Vec::from_slice(alloc, b"HGFX\x01\0\0\0\x01").ok()?;
+    let mut bytes = Vec::from_slice(alloc, b"HGFX\x02\0\0\0\0\x01").ok()?;
     push_record(&mut bytes, CHILD, ROOT, Node::NULL, b"\0\0\0\x06second")?;
     bytes.extend_from_slice(b"\0\0\0\x02\0\0\0\0").ok()?;
     bytes.extend_from_slice(&ROOT.0).ok()?;

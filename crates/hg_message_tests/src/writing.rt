@@ -1,16 +1,16 @@
 //! Messages that are written, copied and taken apart, and growths that are refused.
-use crate::rows::{CHILD, EMPTY, NOTHING, ROOT, all_kinds, one_changeset};
-use hg_message::{Changeset, Message, Node, Phase};
+use crate::rows::{CHILD, EMPTY, FIRST, NOTHING, ROOT, SERVED, WHOLE, all_kinds, one_changeset};
+use hg_message::{Changeset, Message, Node, Phase, Scope};
 use std::alloc::{AllocError, Global};
 use std::process::Abort;
 
-// The message of the changeset EMPTY, with a draft bound.
-fn message_of_one(alloc: Global) -> Option<Message> {
+// The message of the changeset EMPTY, with a draft bound and this scope.
+fn message_of_one(alloc: Global, scope: Scope) -> Option<Message> {
     let empty = Changeset::new(Node::NULL, Node::NULL, Vec::new(alloc)).ok()?;
     let mut changesets = Vec::new(alloc);
     changesets.push(empty).ok()?;
     let bounds = Vec::from_slice(alloc, &[(EMPTY, Phase::Draft)]).ok()?;
-    Message::new(changesets, bounds, Vec::new(alloc)).ok()
+    Message::new(scope, changesets, bounds, Vec::new(alloc)).ok()
 }
 
 // The bytes that are written, where one growth may be refused.
@@ -30,30 +30,60 @@ fn read(rt: &impl Abort, alloc: Global, bytes: &[u8]) -> Message {
 }
 
 #[test]
-fn nothing_is_written_in_18_bytes(rt: HostRuntime) {
+fn nothing_is_written_in_19_bytes(rt: HostRuntime) {
     let alloc = rt.alloc();
-    let nothing = Message::new(Vec::new(alloc), Vec::new(alloc), Vec::new(alloc));
+    let nothing = Message::new(
+        Scope::Served,
+        Vec::new(alloc),
+        Vec::new(alloc),
+        Vec::new(alloc),
+    );
     let nothing = nothing.expect(&rt, "a message");
     let bytes = written(&rt, &nothing);
-    assert!(rt; bytes.len() == 18 && bytes.as_slice() == NOTHING);
+    assert!(rt; bytes.len() == 19 && bytes.as_slice() == NOTHING);
 }
 
 #[test]
 fn one_changeset_is_written_and_read(rt: HostRuntime) {
     let alloc = rt.alloc();
-    let message = message_of_one(alloc).expect(&rt, "memory");
-    let bytes = one_changeset(alloc).expect(&rt, "memory");
-    assert!(rt; written(&rt, &message) == bytes);
-    assert!(rt; read(&rt, alloc, &bytes) == message);
-    assert!(rt; message.copy().expect(&rt, "memory") == message);
+    for (scope, head) in [(Scope::Served, SERVED), (Scope::Whole, WHOLE)] {
+        let message = message_of_one(alloc, scope).expect(&rt, "memory");
+        let bytes = one_changeset(alloc, head).expect(&rt, "memory");
+        assert!(rt; message.scope() == scope);
+        assert!(rt; written(&rt, &message) == bytes);
+        assert!(rt; read(&rt, alloc, &bytes) == message);
+        assert!(rt; message.copy().expect(&rt, "memory") == message);
+    }
+}
+
+// Messages that differ in their scope alone differ.
+#[test]
+fn a_scope_is_part_of_a_message(rt: HostRuntime) {
+    let alloc = rt.alloc();
+    let served = message_of_one(alloc, Scope::Served).expect(&rt, "memory");
+    let whole = message_of_one(alloc, Scope::Whole).expect(&rt, "memory");
+    assert!(rt; served != whole);
+    assert!(rt; written(&rt, &served) != written(&rt, &whole));
+}
+
+#[test]
+fn version_1_is_served_and_written_as_version_2(rt: HostRuntime) {
+    let alloc = rt.alloc();
+    let first = all_kinds(alloc, FIRST, ROOT, Node::NULL).expect(&rt, "memory");
+    let second = all_kinds(alloc, SERVED, ROOT, Node::NULL).expect(&rt, "memory");
+    assert!(rt; first.len() == 309 && second.len() == 310);
+    let message = read(&rt, alloc, &first);
+    assert!(rt; message.scope() == Scope::Served);
+    assert!(rt; message == read(&rt, alloc, &second));
+    assert!(rt; written(&rt, &message) == second);
 }
 
 // Repeats stand, and parents in either order are read as the same.
 #[test]
 fn parents_are_written_in_normal_form(rt: HostRuntime) {
     let alloc = rt.alloc();
-    let swapped = all_kinds(alloc, Node::NULL, ROOT).expect(&rt, "memory");
-    let normal = all_kinds(alloc, ROOT, Node::NULL).expect(&rt, "memory");
+    let swapped = all_kinds(alloc, SERVED, Node::NULL, ROOT).expect(&rt, "memory");
+    let normal = all_kinds(alloc, SERVED, ROOT, Node::NULL).expect(&rt, "memory");
     let message = read(&rt, alloc, &swapped);
     assert!(rt; message.changesets().len() == 2 && message.markers().len() == 2);
     assert!(rt; message.bounds() == [(ROOT, Phase::Public), (CHILD, Phase::Secret)].as_slice());
@@ -64,11 +94,11 @@ fn parents_are_written_in_normal_form(rt: HostRuntime) {
 #[test]
 fn repeated_records_are_kept(rt: HostRuntime) {
     let alloc = rt.alloc();
-    let one = one_changeset(alloc).expect(&rt, "memory");
-    assert!(rt; one.len() == 106);
-    let mut bytes = Vec::from_slice(alloc, b"HGFX\x01\0\0\0\x02").expect(&rt, "memory");
-    bytes.extend_from_slice(&one[9..73]).expect(&rt, "memory");
-    bytes.extend_from_slice(&one[9..]).expect(&rt, "memory");
+    let one = one_changeset(alloc, SERVED).expect(&rt, "memory");
+    assert!(rt; one.len() == 107);
+    let mut bytes = Vec::from_slice(alloc, b"HGFX\x02\0\0\0\0\x02").expect(&rt, "memory");
+    bytes.extend_from_slice(&one[10..74]).expect(&rt, "memory");
+    bytes.extend_from_slice(&one[10..]).expect(&rt, "memory");
     let message = read(&rt, alloc, &bytes);
     assert!(rt; message.changesets().len() == 2 && written(&rt, &message) == bytes);
 }
@@ -76,7 +106,7 @@ fn repeated_records_are_kept(rt: HostRuntime) {
 #[test]
 fn the_part_bounds_what_it_adds(rt: HostRuntime) {
     let alloc = rt.alloc();
-    let bytes = all_kinds(alloc, ROOT, Node::NULL).expect(&rt, "memory");
+    let bytes = all_kinds(alloc, SERVED, ROOT, Node::NULL).expect(&rt, "memory");
     let part = read(&rt, alloc, &bytes).part().expect(&rt, "memory");
     let bounds = [
         (ROOT, Phase::Public),
@@ -92,7 +122,7 @@ fn the_part_bounds_what_it_adds(rt: HostRuntime) {
 #[test]
 fn refused_growth_reads_and_writes_nothing(rt: HostRuntime) {
     let alloc = rt.alloc();
-    let Some(bytes) = all_kinds(alloc, ROOT, Node::NULL) else {
+    let Some(bytes) = all_kinds(alloc, SERVED, ROOT, Node::NULL) else {
         return;
     };
     let message = read(&rt, alloc, &bytes);
@@ -102,7 +132,7 @@ fn refused_growth_reads_and_writes_nothing(rt: HostRuntime) {
 #[test]
 fn refused_growth_leaves_the_message(rt: HostRuntime) {
     let alloc = rt.alloc();
-    let Some(message) = message_of_one(alloc) else {
+    let Some(message) = message_of_one(alloc, Scope::Served) else {
         return;
     };
     let part = match message.part() {

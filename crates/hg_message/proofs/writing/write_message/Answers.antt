@@ -8,6 +8,7 @@ use Rattle.hg_message.proofs.writing.write_message.Goals as goal
 pub returns-clause-spells : goal.returns-clause-spells
 returns-clause-spells c =
     let m : MessageValue = record {
+      scope = c.args.scope;
       changesets = c.args.changesets.now;
       bounds = c.args.bounds.now;
       markers = c.args.markers.now;
