@@ -5,3 +5,4 @@ pub mod SmallestLemmas
 pub mod FormulaLemmas
 pub mod TakenLemmas
 pub mod MarkedLemmas
+mod SharingLemmas

@@ -34,7 +34,8 @@ use Rattle.hg_message.specs.declared.refusal.OfferRefusal.TheVariants as offer
 use Rattle.hg_message.specs.Value.{MessageValue, is_too_large}
 use Rattle.hg_message.specs.Message.{message_at}
 use Rattle.hg_message.specs.Spelling.{IsMessageSpelling, message_spelling}
-use Rattle.hg_message.specs.Offer.{AreHeld, IsOffer}
+use Rattle.hg_message.specs.declared.scope.Scope.{Scope}
+use Rattle.hg_message.specs.Offer.{AreHeld, IsOfferOf}
 use Rattle.hg_message.specs.Outgoing.{FindAnswer, WriteAnswer}
 use Rattle.hg_message.proofs.SpellingLemmas.{spelling_is_read}
 use Rattle.hg_message.proofs.ExistLemmas.{offer-exists}
@@ -42,6 +43,7 @@ use Rattle.hg_message.proofs.OfferLemmas.{not-too-large}
 use Rattle.hg_message.proofs.WritableLemmas.{offer-read}
 use Rattle.hg_peer.specs.declared.refusal.PeerRefusal.{PeerRefusal}
 use Rattle.hg_peer.specs.declared.refusal.PeerRefusal.TheVariants.{Offer, Message, View, NoMemory}
+use Rattle.hg_peer.specs.declared.ask.Ask.{Ask}
 use Rattle.hg_peer.specs.declared.mark.Mark.TheVariants.{Pin, Unpin}
 use Rattle.hg_peer.specs.Marks.{Tells, Marks, IsAgainstMark, ChangesPins}
 use Rattle.hg_peer.specs.Refusals.{rewrite_refusal, offer_refusal, message_refusal, pin_refusal}
@@ -106,41 +108,43 @@ read-memory (Err fault) (reading.Fault other) told is fails e =
 -- ---- offers
 
 -- what a peer finds to offer, under its pins
-abbrev Finds : KeptValue → List Node → Result MessageValue OfferRefusal → Type 0
-Finds s common r = FindAnswer s.replica s.pins common r
+abbrev Finds : KeptValue → List Node → Scope → Result MessageValue OfferRefusal → Type 0
+Finds s common scope r = FindAnswer s.replica s.pins common scope r
 
-pub offered : (s : KeptValue) (common : Vec Node Global) (lent : List Node) (m : MessageValue) {E : Type 0}
-    (r : Result (Vec ℕ Global) E) → lent ≡ common.items → IsValid s.replica → Finds s lent (Ok m) →
+pub offered : (s : KeptValue) (ask : Ask) (lent : List Node) (m : MessageValue) {E : Type 0}
+    (r : Result (Vec ℕ Global) E) → lent ≡ ask.common.items → IsValid s.replica → Finds s lent ask.scope (Ok m) →
     IfOk r (λ bytes. CanBeWritten m × (bytes.items ≡ message_spelling m)) →
-    IfOk r (λ bytes. Offers s common bytes.items)
-offered s common lent m (Ok bytes) e v h w =
-    let moved : Finds s common.items (Ok m) = subst (λ (ns : List Node). Finds s ns (Ok m)) e h in
+    IfOk r (λ bytes. Offers s ask bytes.items)
+offered s ask lent m (Ok bytes) e v h w =
+    let moved : Finds s ask.common.items ask.scope (Ok m) =
+    subst (λ (ns : List Node). Finds s ns ask.scope (Ok m)) e h in
     record { valid = v; held = moved.0; message = m; offered = moved.1; writable = w.0; written = w.1 }
-offered s common lent m (Err x) e v h w = tt
+offered s ask lent m (Err x) e v h w = tt
 
 -- what was found is too large, or memory was wanting
-unwritten : (s : KeptValue) (common : Vec Node Global) (m : MessageValue) (refusal : PeerRefusal) →
-    Finds s common.items (Ok m) → IsAgainstWriting m refusal ⊎ IsMemory refusal →
-    IsAgainstOffer s common refusal ⊎ IsMemory refusal
-unwritten s common m refusal h (inl large) =
-    inl (subst (IsAgainstOffer s common) (sym large.0) (h.0, (m, h.1, large.1)))
-unwritten s common m refusal h (inr memory) = inr memory
+unwritten : (s : KeptValue) (ask : Ask) (m : MessageValue) (refusal : PeerRefusal) →
+    Finds s ask.common.items ask.scope (Ok m) → IsAgainstWriting m refusal ⊎ IsMemory refusal →
+    IsAgainstOffer s ask refusal ⊎ IsMemory refusal
+unwritten s ask m refusal h (inl large) =
+    inl (subst (IsAgainstOffer s ask) (sym large.0) (h.0, (m, h.1, large.1)))
+unwritten s ask m refusal h (inr memory) = inr memory
 
-pub large-refused : (s : KeptValue) (common : Vec Node Global) (lent : List Node) (m : MessageValue) {T : Type 0}
-    (r : Result T PeerRefusal) → lent ≡ common.items → Finds s lent (Ok m) →
+pub large-refused : (s : KeptValue) (ask : Ask) (lent : List Node) (m : MessageValue) {T : Type 0}
+    (r : Result T PeerRefusal) → lent ≡ ask.common.items → Finds s lent ask.scope (Ok m) →
     IfErr r (λ refusal. IsAgainstWriting m refusal ⊎ IsMemory refusal)
-    → IfErr r (λ refusal. IsAgainstOffer s common refusal ⊎ IsMemory refusal)
-large-refused s common lent m (Ok x) e h w = tt
-large-refused s common lent m (Err refusal) e h w =
-    unwritten s common m refusal (subst (λ (ns : List Node). Finds s ns (Ok m)) e h) w
+    → IfErr r (λ refusal. IsAgainstOffer s ask refusal ⊎ IsMemory refusal)
+large-refused s ask lent m (Ok x) e h w = tt
+large-refused s ask lent m (Err refusal) e h w =
+    unwritten s ask m refusal (subst (λ (ns : List Node). Finds s ns ask.scope (Ok m)) e h) w
 
 -- there is an offer, and it is too large or can be written
-offer-due : (s : KeptValue) (common : Vec Node Global) → IsValid s.replica → All IsMarker s.replica.markers →
-    AreHeld (content_of s.replica) common.items → IsDue (Offers s common) (IsAgainstOffer s common)
-offer-due s common v markers held f g =
-    offer-exists s.replica s.pins common.items v (λ m o. by m o (is_too_large m) refl)
+offer-due : (s : KeptValue) (ask : Ask) → IsValid s.replica → All IsMarker s.replica.markers →
+    AreHeld (content_of s.replica) ask.common.items → IsDue (Offers s ask) (IsAgainstOffer s ask)
+offer-due s ask v markers held f g =
+    offer-exists s.replica s.pins ask.common.items ask.scope v (λ m o. by m o (is_too_large m) refl)
   where
-    by : (m : MessageValue) → IsOffer s.replica s.pins common.items m → (b : Bool) → is_too_large m ≡ b → ⊥
+    by : (m : MessageValue) → IsOfferOf s.replica s.pins ask.common.items ask.scope m → (b : Bool)
+        → is_too_large m ≡ b → ⊥
     by m o true e = g (Offer offer.TooLarge) (held, (m, o, e))
     by m o false e =
         f (message_spelling m)
@@ -149,48 +153,48 @@ offer-due s common v markers held f g =
           held = held;
           message = m;
           offered = o;
-          writable = (not-too-large m e, offer-read s.replica v markers s.pins common.items m o e);
+          writable = (not-too-large m e, offer-read s.replica v markers s.pins ask.common.items m o.0 e);
           written = refl;
         })
 
-one-due : (s : KeptValue) (common : Vec Node Global) (r : Result MessageValue OfferRefusal) → IsValid s.replica →
-    All IsMarker s.replica.markers → Finds s common.items r → IsDue (Offers s common) (IsAgainstOffer s common)
-one-due s common (Ok m) v markers h = offer-due s common v markers h.0
-one-due s common (Err (offer.UnknownCommon node)) v markers h = λ f g. g (Offer (offer.UnknownCommon node)) h
-one-due s common (Err offer.TooLarge) v markers h = absurd h
-one-due s common (Err offer.NoMemory) v markers h = offer-due s common v markers h.0
+one-due : (s : KeptValue) (ask : Ask) (r : Result MessageValue OfferRefusal) → IsValid s.replica →
+    All IsMarker s.replica.markers → Finds s ask.common.items ask.scope r → IsDue (Offers s ask) (IsAgainstOffer s ask)
+one-due s ask (Ok m) v markers h = offer-due s ask v markers h.0
+one-due s ask (Err (offer.UnknownCommon node)) v markers h = λ f g. g (Offer (offer.UnknownCommon node)) h
+one-due s ask (Err offer.TooLarge) v markers h = absurd h
+one-due s ask (Err offer.NoMemory) v markers h = offer-due s ask v markers h.0
 
-pub answered-due : (s : KeptValue) (common : Vec Node Global) (lent : List Node)
-    (r : Result MessageValue OfferRefusal) → lent ≡ common.items → IsValid s.replica → All IsMarker s.replica.markers →
-    Finds s lent r → IsDue (Offers s common) (IsAgainstOffer s common)
-answered-due s common lent r e v markers h =
-    one-due s common r v markers (subst (λ (ns : List Node). Finds s ns r) e h)
+pub answered-due : (s : KeptValue) (ask : Ask) (lent : List Node) (r : Result MessageValue OfferRefusal) →
+    lent ≡ ask.common.items → IsValid s.replica → All IsMarker s.replica.markers →
+    Finds s lent ask.scope r → IsDue (Offers s ask) (IsAgainstOffer s ask)
+answered-due s ask lent r e v markers h =
+    one-due s ask r v markers (subst (λ (ns : List Node). Finds s ns ask.scope r) e h)
 
-one-refused : (s : KeptValue) (common : Vec Node Global) (r : OfferRefusal) → Finds s common.items (Err r) →
-    IsAgainstOffer s common (offer_refusal r) ⊎ IsMemory (offer_refusal r)
-one-refused s common (offer.UnknownCommon node) h = inl h
-one-refused s common offer.TooLarge h = absurd h
-one-refused s common offer.NoMemory h = inr refl
+one-refused : (s : KeptValue) (ask : Ask) (r : OfferRefusal) → Finds s ask.common.items ask.scope (Err r) →
+    IsAgainstOffer s ask (offer_refusal r) ⊎ IsMemory (offer_refusal r)
+one-refused s ask (offer.UnknownCommon node) h = inl h
+one-refused s ask offer.TooLarge h = absurd h
+one-refused s ask offer.NoMemory h = inr refl
 
-pub refused-offer : (s : KeptValue) (common : Vec Node Global) (lent : List Node) (r : OfferRefusal)
-    (told : PeerRefusal) → lent ≡ common.items → told ≡ offer_refusal r → Finds s lent (Err r) →
-    IsAgainstOffer s common told ⊎ IsMemory told
-refused-offer s common lent r told e is h =
-    subst (λ (x : PeerRefusal). IsAgainstOffer s common x ⊎ IsMemory x) (sym is)
-    (one-refused s common r (subst (λ (ns : List Node). Finds s ns (Err r)) e h))
+pub refused-offer : (s : KeptValue) (ask : Ask) (lent : List Node) (r : OfferRefusal)
+    (told : PeerRefusal) → lent ≡ ask.common.items → told ≡ offer_refusal r → Finds s lent ask.scope (Err r) →
+    IsAgainstOffer s ask told ⊎ IsMemory told
+refused-offer s ask lent r told e is h =
+    subst (λ (x : PeerRefusal). IsAgainstOffer s ask x ⊎ IsMemory x) (sym is)
+    (one-refused s ask r (subst (λ (ns : List Node). Finds s ns ask.scope (Err r)) e h))
 
 -- memory is wanting only where each common node is held
-one-wants : (s : KeptValue) (common : List Node) (r : OfferRefusal) → Finds s common (Err r) →
+one-wants : (s : KeptValue) (common : List Node) (scope : Scope) (r : OfferRefusal) → Finds s common scope (Err r) →
     offer_refusal r ≡ NoMemory → AreHeld (content_of s.replica) common
-one-wants s common (offer.UnknownCommon node) h e = absurd cc
-one-wants s common offer.TooLarge h e = absurd h
-one-wants s common offer.NoMemory h e = h.0
+one-wants s common scope (offer.UnknownCommon node) h e = absurd cc
+one-wants s common scope offer.TooLarge h e = absurd h
+one-wants s common scope offer.NoMemory h e = h.0
 
-pub refused-wants : (s : KeptValue) (common : Vec Node Global) (lent : List Node) (r : OfferRefusal)
-    (told : PeerRefusal) → lent ≡ common.items → told ≡ offer_refusal r → Finds s lent (Err r) →
-    IsErrOf {T = Vec ℕ Global} (Err told) NoMemory → AreHeld (content_of s.replica) common.items
-refused-wants s common lent r told e is h wants =
-    subst (AreHeld (content_of s.replica)) e (one-wants s lent r h (sym is ∙ same_error told NoMemory wants))
+pub refused-wants : (s : KeptValue) (ask : Ask) (lent : List Node) (r : OfferRefusal)
+    (told : PeerRefusal) → lent ≡ ask.common.items → told ≡ offer_refusal r → Finds s lent ask.scope (Err r) →
+    IsErrOf {T = Vec ℕ Global} (Err told) NoMemory → AreHeld (content_of s.replica) ask.common.items
+refused-wants s ask lent r told e is h wants =
+    subst (AreHeld (content_of s.replica)) e (one-wants s lent ask.scope r h (sym is ∙ same_error told NoMemory wants))
 
 -- what is written says the message
 pub written-well : (m : MessageValue) (bytes : List ℕ) → WriteAnswer {A = List ℕ} (λ b. b) m (Ok bytes) →

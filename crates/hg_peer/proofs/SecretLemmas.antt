@@ -2,21 +2,24 @@
 use Rattle.std.proofs.Common.{◌≡◌, ◌+◌, ◌++◌, ℕ, Some, List, [], ◌∷◌, length, slice_get, suc, sym, arith, ap, subst}
 use Rattle.std.proofs.Common.{◌∙◌}
 use Rattle.hg_changeset.specs.declared.node.Node.{Node}
+use Rattle.hg_changeset.specs.Changeset.{node_of}
 use Rattle.hg_replica.specs.Content.{Content, content_of}
 use Rattle.hg_message.specs.Value.{MessageValue}
 use Rattle.hg_message.specs.Offer.{SaysOffer}
-use Rattle.hg_message.proofs.OfferLawLemmas.{served-changesets, served-bounds}
+use Rattle.hg_message.proofs.NamedLemmas.{named-not_secret}
+use Rattle.hg_message.proofs.OfferLawLemmas.{named-changesets, named-bounds}
 use Rattle.hg_world.specs.Made.{IsMade}
 use Rattle.hg_peer.specs.Peers.{Offers}
 use Rattle.hg_peer.specs.OfferLaws.{bytes_say_offer}
 use Rattle.hg_peer.specs.Words.{PeerWorld, PeerTrace, peer_state, peer_words}
 use Rattle.hg_peer.specs.Secrets.{HoldsNoSecret, IsMadeWithoutSecrets}
 
--- all of an offer is served, and nothing that is secret is
+-- an offer names what its scope does, and nothing that is secret
 no_secret : (f : Content) (pins common : List Node) (m : MessageValue) → SaysOffer f pins common m → HoldsNoSecret f m
 no_secret f pins common m says = record {
-  changesets = λ c at. (served-changesets f pins common m says c at).1;
-  bounds = λ b at. (served-bounds f pins common m says b at).1;
+  changesets = λ c at.
+      named-not_secret f pins m.scope (node_of c) (named-changesets f pins common m says c at);
+  bounds = λ b at. named-not_secret f pins m.scope b.0 (named-bounds f pins common m says b at);
 }
 
 from_first : (i : ℕ) → 0 + i ≡ i
@@ -39,7 +42,8 @@ module _ (old new : PeerWorld) (t : PeerTrace) where
         message = h.message;
         says = bytes_say_offer made.maker made.ask bytes h;
         secrets =
-            no_secret (content_of made.maker.replica) made.maker.pins made.ask.items h.message h.offered.says;
+            no_secret (content_of made.maker.replica) made.maker.pins made.ask.common.items h.message
+            h.offered.0.says;
       }
 
   module _ (added : List (List ℕ)) (longer : new.messages ≡ old.messages ++ added) (made : (i : ℕ) (bytes : List ℕ) →

@@ -7,10 +7,11 @@ use Rattle.hg_replica.specs.Least.{PartValue}
 use Rattle.hg_replica.specs.Change.{ChangeValue}
 use Rattle.hg_replica.specs.Content.{content_of, IsValidContent, ContentBelow, ContentAdmits, ContentAfter}
 use Rattle.hg_view.specs.Kept.{KeptValue}
+use Rattle.hg_message.specs.declared.scope.Scope.{Scope}
 use Rattle.hg_message.specs.Part.{part_of}
 use Rattle.hg_message.specs.Offer.{AreHeld}
-use Rattle.hg_message.specs.Taken.{HoldsServed}
-use Rattle.hg_message.proofs.TakenLemmas.{taken-admitted, taken-served, common_later}
+use Rattle.hg_message.specs.Taken.{HoldsNamed}
+use Rattle.hg_message.proofs.TakenLemmas.{taken-admitted, taken-named, common_later}
 use Rattle.hg_world.specs.declared.event.Event.TheVariants.{Take}
 use Rattle.hg_world.specs.declared.event.EventRefusal.{EventRefusal}
 use Rattle.hg_world.specs.declared.event.EventRefusal.TheVariants.{NoNode, NoMessage, ByActor, ByState}
@@ -31,27 +32,27 @@ module _ (now : Snapshot KeptValue) (place number : ℕ) (h : IsAboveHeld now pl
       subst (λ (s : KeptValue). IsValidContent (content_of s.replica)) (same_Some l.0 h.node (sym l.1 ∙ h.there))
       l.2.valid
 
-  there_held : AreHeld (content_of h.node.replica) h.common.items
+  there_held : AreHeld (content_of h.node.replica) h.ask.common.items
   there_held =
       let l = least place h.before h.was in
       let up : ContentBelow (content_of h.before.replica) (content_of h.node.replica) =
       subst (λ (s : KeptValue). ContentBelow (content_of h.before.replica) (content_of s.replica))
       (same_Some l.0 h.node (sym l.1 ∙ h.there)) l.2.above in
-      common_later h.common.items (content_of h.before.replica) (content_of h.node.replica) h.held up
+      common_later h.ask.common.items (content_of h.before.replica) (content_of h.node.replica) h.held up
 
   -- the part of the message, whoever reads it
   part_is : (bytes : List ℕ) (part : PartValue) → slice_get now.messages number ≡ Some bytes → SpellsPart bytes part →
       part_of h.offered.message ≡ part
   part_is bytes part at spells =
       let same : bytes ≡ h.bytes = same_Some bytes h.bytes (sym at ∙ h.message) in
-      part_offered h.maker h.common h.bytes part h.offered (subst (λ (b : List ℕ). SpellsPart b part) same spells)
+      part_offered h.maker h.ask h.bytes part h.offered (subst (λ (b : List ℕ). SpellsPart b part) same spells)
 
   admitted : (bytes : List ℕ) (part : PartValue) → slice_get now.messages number ≡ Some bytes → SpellsPart bytes part →
       ContentAdmits (content_of h.node.replica) part
   admitted bytes part at spells =
       subst (ContentAdmits (content_of h.node.replica)) (part_is bytes part at spells)
-      (taken-admitted h.maker.replica h.offered.valid h.maker.pins h.common.items h.offered.message h.offered.offered
-      (content_of h.node.replica) there_valid there_held h.free)
+      (taken-admitted h.maker.replica h.offered.valid h.maker.pins h.ask.common.items h.offered.message
+      h.offered.offered.0 (content_of h.node.replica) there_valid there_held h.free)
 
   reason : (refusal : EventRefusal PeerRefusal Fault) →
       IsReason peer_state peer_words now.messages h.node (Take place number) refusal →
@@ -63,7 +64,7 @@ module _ (now : Snapshot KeptValue) (place number : ℕ) (h : IsAboveHeld now pl
         let same : h.bytes ≡ r.0 = same_Some h.bytes r.0 (sym h.message ∙ r.1) in
         absurd (spelled_not_refused r.0 (part_of h.offered.message) refusal
         (subst (λ (b : List ℕ). SpellsPart b (part_of h.offered.message)) same
-        (h.offered.message, bytes_say_offer h.maker h.common h.bytes h.offered, refl)) against)
+        (h.offered.message, bytes_say_offer h.maker h.ask h.bytes h.offered, refl)) against)
     | inr memory ↦ memory
   ]
   reason (ByState fault) r = elim r.4 [
@@ -86,7 +87,7 @@ module _ (now : Snapshot KeptValue) (place number : ℕ) (h : IsAboveHeld now pl
   pub taken_there : (change : ChangeValue) (part : PartValue) (new : Snapshot KeptValue) →
       Accepts peer_state peer_words now (Take place number) change part new →
       (next : KeptValue) × (slice_get new.nodes place ≡ Some next)
-      × HoldsServed (content_of h.maker.replica) h.maker.pins (content_of next.replica)
+      × HoldsNamed (content_of h.maker.replica) h.maker.pins h.ask.scope (content_of next.replica)
   taken_there change part new a =
       let same : a.0 ≡ h.node = same_Some a.0 h.node (sym a.2 ∙ h.there) in
       let after : ContentAfter (content_of h.node.replica) part (content_of a.1.replica) =
@@ -96,6 +97,9 @@ module _ (now : Snapshot KeptValue) (place number : ℕ) (h : IsAboveHeld now pl
       (sym (part_is a.3.0 part a.3.1 a.3.2)) after in (
         a.1,
         ap (λ (nodes : List KeptValue). slice_get nodes place) a.5 ∙ get_set_same now.nodes place a.0 a.1 a.2,
-        taken-served h.maker.replica h.offered.valid h.maker.pins h.common.items h.offered.message h.offered.offered
-            (content_of h.node.replica) there_valid there_held h.free (content_of a.1.replica) told,
+        subst (λ (scope : Scope). HoldsNamed (content_of h.maker.replica) h.maker.pins scope (content_of a.1.replica))
+            h.offered.offered.1
+            (taken-named h.maker.replica h.offered.valid h.maker.pins h.ask.common.items h.offered.message
+            h.offered.offered.0 (content_of h.node.replica) there_valid there_held h.free (content_of a.1.replica)
+            told),
       )

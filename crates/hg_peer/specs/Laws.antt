@@ -7,7 +7,7 @@ use Rattle.hg_replica.specs.Change.{ChangeValue}
 use Rattle.hg_replica.specs.Content.{content_of}
 use Rattle.hg_view.specs.Kept.{KeptValue}
 use Rattle.hg_view.specs.Pins.{AreSamePins}
-use Rattle.hg_message.specs.Taken.{HoldsServed}
+use Rattle.hg_message.specs.Taken.{HoldsNamed}
 use Rattle.hg_world.specs.declared.event.Event.TheVariants.{Take}
 use Rattle.hg_world.specs.declared.event.Event.TheVariants as event
 use Rattle.hg_world.specs.declared.event.Answer.TheVariants.{Marked}
@@ -92,14 +92,14 @@ AboveHeldIsRefusedForMemoryAlone =
     (now new : PeerWorld) (place number : ℕ) (refusal : EventRefusal PeerRefusal Fault) → IsAboveHeld now place number →
     Refuses peer_state peer_words now (Take place number) refusal new → IsMemory peer_state peer_words refusal
 
--- and once one is accepted, the peer holds all that was served at its maker, under the maker's pins
-abbrev pub AboveHeldBringsWhatWasServed : Type 0
-AboveHeldBringsWhatWasServed =
+-- and once one is accepted, the peer holds all that its scope named at its maker, under the maker's pins
+abbrev pub AboveHeldBringsWhatWasNamed : Type 0
+AboveHeldBringsWhatWasNamed =
     (now new : PeerWorld) (place number : ℕ) (change : ChangeValue) (part : PartValue) →
     (h : IsAboveHeld now place number) →
     Accepts peer_state peer_words now (Take place number) change part new →
     (next : KeptValue) × (slice_get new.nodes place ≡ Some next)
-    × HoldsServed (content_of h.maker.replica) h.maker.pins (content_of next.replica)
+    × HoldsNamed (content_of h.maker.replica) h.maker.pins h.ask.scope (content_of next.replica)
 
 -- ---- what marks change
 

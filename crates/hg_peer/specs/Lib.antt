@@ -8,5 +8,6 @@ pub mod OfferLaws
 pub mod Peers
 pub mod Refusals
 pub mod Secrets
+pub mod Sharing
 pub mod Taken
 pub mod Words

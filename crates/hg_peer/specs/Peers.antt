@@ -1,8 +1,5 @@
 -- What a peer decides, offers and reads.
 use Rattle.std.specs.Prelude.{◌≡◌, ℕ, List, true, Ok, Err}
-use Rattle.std.specs.declared.vec.Vec.{Vec}
-use Rattle.std.specs.declared.alloc.Global.{Global}
-use Rattle.hg_changeset.specs.declared.node.Node.{Node}
 use Rattle.hg_replica.specs.State.{IsValid}
 use Rattle.hg_replica.specs.Least.{PartValue}
 use Rattle.hg_replica.specs.Content.{content_of}
@@ -16,7 +13,8 @@ use Rattle.hg_message.specs.Value.{MessageValue, IsMessage, is_too_large}
 use Rattle.hg_message.specs.Message.{message_at}
 use Rattle.hg_message.specs.Spelling.{message_spelling}
 use Rattle.hg_message.specs.Part.{part_of as message_part}
-use Rattle.hg_message.specs.Offer.{AreHeld, IsFirstUnknown, IsOffer}
+use Rattle.hg_message.specs.Offer.{AreHeld, IsFirstUnknown, IsOfferOf}
+use Rattle.hg_peer.specs.declared.ask.Ask.{Ask}
 use Rattle.hg_peer.specs.declared.refusal.PeerRefusal.{PeerRefusal}
 use Rattle.hg_peer.specs.declared.refusal.PeerRefusal.TheVariants.{Rewrite, Offer, Message, View, NoMemory}
 
@@ -45,27 +43,27 @@ IsAgainstOperation s op NoMemory = ⊥
 abbrev pub CanBeWritten : MessageValue → Type 0
 CanBeWritten m = IsMessage m × (message_at (message_spelling m) ≡ Ok m)
 
--- the state is valid and holds the common nodes, and the bytes are what is written of its offer above them, under its
--- pins
-pub record Offers (s : KeptValue) (common : Vec Node Global) (bytes : List ℕ) : Type 0 where
+-- the state is valid and holds the common nodes, and the bytes are what is written of its offer of the scope above
+-- them, under its pins
+pub record Offers (s : KeptValue) (ask : Ask) (bytes : List ℕ) : Type 0 where
   pub valid : IsValid s.replica
-  pub held : AreHeld (content_of s.replica) common.items
+  pub held : AreHeld (content_of s.replica) ask.common.items
   pub message : MessageValue
-  pub offered : IsOffer s.replica s.pins common.items message
+  pub offered : IsOfferOf s.replica s.pins ask.common.items ask.scope message
   pub writable : CanBeWritten message
   pub written : bytes ≡ message_spelling message
 
 -- the first of the common nodes that isn't held; or the offer above them is too large, by its numbers
-abbrev pub IsAgainstOffer : KeptValue → Vec Node Global → PeerRefusal → Type 0
-IsAgainstOffer s common (Rewrite refusal) = ⊥
-IsAgainstOffer s common (Offer (UnknownCommon node)) = IsFirstUnknown (content_of s.replica) common.items node
-IsAgainstOffer s common (Offer TooLarge) =
-    AreHeld (content_of s.replica) common.items
-    × ((m : MessageValue) × IsOffer s.replica s.pins common.items m × (is_too_large m ≡ true))
-IsAgainstOffer s common (Offer offer.NoMemory) = ⊥
-IsAgainstOffer s common (Message fault) = ⊥
-IsAgainstOffer s common (View refusal) = ⊥
-IsAgainstOffer s common NoMemory = ⊥
+abbrev pub IsAgainstOffer : KeptValue → Ask → PeerRefusal → Type 0
+IsAgainstOffer s ask (Rewrite refusal) = ⊥
+IsAgainstOffer s ask (Offer (UnknownCommon node)) = IsFirstUnknown (content_of s.replica) ask.common.items node
+IsAgainstOffer s ask (Offer TooLarge) =
+    AreHeld (content_of s.replica) ask.common.items
+    × ((m : MessageValue) × IsOfferOf s.replica s.pins ask.common.items ask.scope m × (is_too_large m ≡ true))
+IsAgainstOffer s ask (Offer offer.NoMemory) = ⊥
+IsAgainstOffer s ask (Message fault) = ⊥
+IsAgainstOffer s ask (View refusal) = ⊥
+IsAgainstOffer s ask NoMemory = ⊥
 
 -- what was found is too large to be written
 abbrev pub IsAgainstWriting : MessageValue → PeerRefusal → Type 0

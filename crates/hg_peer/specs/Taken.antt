@@ -1,13 +1,11 @@
 -- Messages that a peer can take, since it held what they were offered above.
 use Rattle.std.specs.Prelude.{◌≡◌, ℕ, List, Some, slice_get}
-use Rattle.std.specs.declared.vec.Vec.{Vec}
-use Rattle.std.specs.declared.alloc.Global.{Global}
-use Rattle.hg_changeset.specs.declared.node.Node.{Node}
 use Rattle.hg_replica.specs.Content.{content_of}
 use Rattle.hg_view.specs.Kept.{KeptValue}
 use Rattle.hg_message.specs.Offer.{AreHeld}
 use Rattle.hg_message.specs.Taken.{DontCollide}
 use Rattle.hg_world.specs.Runs.{AllValid}
+use Rattle.hg_peer.specs.declared.ask.Ask.{Ask}
 use Rattle.hg_peer.specs.Peers.{Offers}
 use Rattle.hg_peer.specs.Words.{PeerWorld, PeerTrace, PeersRan, peer_state}
 
@@ -15,9 +13,9 @@ use Rattle.hg_peer.specs.Words.{PeerWorld, PeerTrace, PeersRan, peer_state}
 -- or holds them now. No id stands for two changesets
 pub record IsAboveHeld (now : PeerWorld) (place number : ℕ) : Type 0 where
   pub maker : KeptValue
-  pub common : Vec Node Global
+  pub ask : Ask
   pub bytes : List ℕ
-  pub offered : Offers maker common bytes
+  pub offered : Offers maker ask bytes
   pub message : slice_get now.messages number ≡ Some bytes
   pub earlier : PeerWorld
   pub since : PeerTrace
@@ -25,7 +23,7 @@ pub record IsAboveHeld (now : PeerWorld) (place number : ℕ) : Type 0 where
   pub ran : PeersRan earlier since now
   pub before : KeptValue
   pub was : slice_get earlier.nodes place ≡ Some before
-  pub held : AreHeld (content_of before.replica) common.items
+  pub held : AreHeld (content_of before.replica) ask.common.items
   pub node : KeptValue
   pub there : slice_get now.nodes place ≡ Some node
   pub free : DontCollide (content_of maker.replica) (content_of node.replica)

@@ -1,7 +1,5 @@
 -- The words of peers, as runs use them.
 use Rattle.std.specs.Prelude.{◌≡◌, ℕ, List, Bool, false}
-use Rattle.std.specs.declared.vec.Vec.{Vec}
-use Rattle.std.specs.declared.alloc.Global.{Global}
 use Rattle.hg_join.specs.declared.state.JoinState.{Ghosts as StateWords}
 use Rattle.hg_join.specs.declared.actor.Actor.{Ghosts as ActorWords}
 use Rattle.hg_changeset.specs.declared.node.Node.{Node}
@@ -16,6 +14,7 @@ use Rattle.hg_rewrite.specs.declared.op.Op.{Op}
 use Rattle.hg_world.specs.declared.event.Event.{Event}
 use Rattle.hg_world.specs.declared.event.Answer.{Answer}
 use Rattle.hg_world.specs.Runs.{Snapshot, Trace, Ran, accepted_in}
+use Rattle.hg_peer.specs.declared.ask.Ask.{Ask}
 use Rattle.hg_peer.specs.declared.mark.Mark.{Mark}
 use Rattle.hg_peer.specs.declared.refusal.PeerRefusal.{PeerRefusal}
 use Rattle.hg_peer.specs.Marks.{own, Tells, Marks, IsAgainstMark}
@@ -42,7 +41,7 @@ peer_state = record {
 }
 
 -- as a state that acts
-abbrev pub peer_words : ActorWords KeptValue Op (Vec Node Global) Mark PeerRefusal PartValue ChangeValue Fault
+abbrev pub peer_words : ActorWords KeptValue Op Ask Mark PeerRefusal PartValue ChangeValue Fault
 peer_words = record {
   Own = Node → Bool;
   owned = own;
@@ -61,7 +60,7 @@ peer_words = record {
 -- ---- worlds of peers
 
 abbrev pub PeerEvent : Type 0
-PeerEvent = Event Op (Vec Node Global) Mark
+PeerEvent = Event Op Ask Mark
 
 abbrev pub PeerAnswer : Type 0
 PeerAnswer = Answer ChangeValue PeerRefusal Fault
@@ -70,7 +69,7 @@ abbrev pub PeerWorld : Type 0
 PeerWorld = Snapshot KeptValue
 
 abbrev pub PeerTrace : Type 0
-PeerTrace = Trace Op (Vec Node Global) Mark PartValue ChangeValue PeerRefusal Fault
+PeerTrace = Trace Op Ask Mark PartValue ChangeValue PeerRefusal Fault
 
 -- the trace may be that of what happened from old to new
 abbrev pub PeersRan : PeerWorld → PeerTrace → PeerWorld → Type 0

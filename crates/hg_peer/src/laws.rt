@@ -3,16 +3,20 @@ ghost use Rattle.hg_peer.specs.Laws.{CoveringPeersAgree, CoveringPeersSeeTheSame
 ghost use Rattle.hg_peer.specs.Laws.{CoveringPeersAreInOneState};
 ghost use Rattle.hg_peer.specs.Laws.{EachPeerIsLeast, EachPeerIsLeastOfAll};
 ghost use Rattle.hg_peer.specs.Laws.{NoAddedMessageHoldsASecret, NoMessageHoldsASecret};
-ghost use Rattle.hg_peer.specs.Laws.{AboveHeldIsRefusedForMemoryAlone, AboveHeldBringsWhatWasServed};
+ghost use Rattle.hg_peer.specs.Laws.{AboveHeldIsRefusedForMemoryAlone, AboveHeldBringsWhatWasNamed};
 ghost use Rattle.hg_peer.specs.Laws.{MarksChangePinsOfOnePeerAlone};
+ghost use Rattle.hg_peer.specs.Sharing.{WholeOffersShareTheSame, WholeOffersAgreeOnShared};
+ghost use Rattle.hg_peer.specs.Sharing.{WholeOffersWithoutSecretsAreAll};
 
 use crate::peer::Peer;
-use hg_world::{covering_nodes_agree, marks_say_nothing, messages_are_offers, states_are_least};
+use hg_world::{
+    covering_nodes_agree, marks_say_nothing, messages_are_offers, runs_compose, states_are_least,
+};
 
 /// After any run from a new world, peers that cover each other's accepted parts agree: on changesets, phases and
 /// markers; on which changesets are obsolete, orphan, suspended, extinct, phase-divergent and content-divergent; and,
-/// where their pins are equal, on the visible set and on what they serve. Their replicas are in one state: each is below
-/// the other.
+/// where their pins are equal, on the visible set and on what they serve. Their replicas are in one state: each is
+/// below the other.
 pub fn covering_peers_agree()
     ensures sets { CoveringPeersAgree }
     ensures visible { CoveringPeersSeeTheSame }
@@ -41,12 +45,12 @@ pub fn no_message_holds_a_secret()
 }
 
 /// A message that was offered above common nodes which a peer holds is taken by it then and at any later time, unless
-/// memory is wanting: it is refused for nothing else, collisions aside. Afterwards the peer holds all that was served
-/// at the message's maker when it was offered, under the pins that the maker had then, at phases no higher, and the
-/// markers relevant to it.
+/// memory is wanting: it is refused for nothing else, collisions aside. Afterwards the peer holds all that the
+/// message's scope named at its maker when it was offered, under the pins that the maker had then, at phases no higher,
+/// and the markers that it named: those relevant to what was served, or all.
 pub fn messages_above_what_is_held_are_taken()
     ensures refused { AboveHeldIsRefusedForMemoryAlone }
-    ensures taken { AboveHeldBringsWhatWasServed }
+    ensures taken { AboveHeldBringsWhatWasNamed }
 {
     states_are_least::<Peer>();
 }
@@ -57,4 +61,22 @@ pub fn marks_change_pins_of_one_peer_alone()
     ensures { MarksChangePinsOfOnePeerAlone }
 {
     marks_say_nothing::<Peer>();
+}
+
+/// Two whole offers, one each way, make two peers share one history. The first offers its whole scope and the second
+/// accepts that; then the second offers its own and the first accepts. Where each, from its own offer on, accepts
+/// nothing else but what it covers already, as it does repeats, they share the same: the changesets that aren't secret,
+/// with their phases, and all markers. So they agree on which of these changesets are obsolete, orphan and
+/// phase-divergent; and where neither holds a secret changeset, they are in one state, and agree on every set.
+///
+/// Each offer may leave out common nodes that its taker holds. No id may stand for two changesets. Nothing is said of
+/// what is suspended, extinct, content-divergent or visible where a peer holds a secret changeset, and nothing of two
+/// offers of what is served.
+pub fn whole_offers_share_one_history()
+    ensures shared { WholeOffersShareTheSame }
+    ensures agreed { WholeOffersAgreeOnShared }
+    ensures all { WholeOffersWithoutSecretsAreAll }
+{
+    states_are_least::<Peer>();
+    runs_compose::<Peer>();
 }

@@ -1,7 +1,7 @@
 //! Replicas that exchange messages, and what holds of them whatever happens to the messages.
 //!
 //! A [`Peer`] is a [`Replica`](hg_replica::Replica) as a state that acts: it decides an operation
-//! ([`Op`](hg_rewrite::Op)), offers what it serves above some common nodes, as the bytes of a message
+//! ([`Op`](hg_rewrite::Op)), offers what an [`Ask`] names above some common nodes, as the bytes of a message
 //! ([`Message`](hg_message::Message)), and reads such bytes. Beside the replica it has pins, which a [`Mark`] changes:
 //! what it pins is visible to it, though it is obsolete. So a [`World`](hg_world::World) runs lists of events over
 //! peers: operations of their own, offers, messages that they take, and marks.
@@ -28,7 +28,11 @@
 //!
 //! The laws speak of the trace of a run: its events, what each was answered, and the part that each brought. The
 //! contract of [`World::run`](hg_world::World::run) says that what happened has one. Each law is a word of
-//! `specs/Laws.antt`.
+//! `specs/Laws.antt` or of `specs/Sharing.antt`.
+//!
+//! Peers that exchange what they serve need not come to share it all, since what is hidden stays with them. Two whole
+//! offers do that: one each way, with nothing new accepted meanwhile, makes two peers share one history, but for what is
+//! secret ([`whole_offers_share_one_history`]).
 //!
 //! # The premises
 //!
@@ -41,14 +45,18 @@
 //! - Nothing is said of arrival: no message need ever be taken, and peers need not come to cover each other.
 #![tactic(auto)]
 
+mod ask;
 mod laws;
 mod mark;
 mod peer;
 mod refusal;
 
+pub use ask::Ask;
+pub use hg_message::Scope;
 pub use laws::{
     covering_peers_agree, marks_change_pins_of_one_peer_alone,
     messages_above_what_is_held_are_taken, no_message_holds_a_secret, peers_are_least,
+    whole_offers_share_one_history,
 };
 pub use mark::Mark;
 pub use peer::Peer;

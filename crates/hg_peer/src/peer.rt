@@ -33,6 +33,7 @@ ghost use Rattle.hg_peer.specs.BytesLaws.{spelled_once, spelled_not_refused, mem
 ghost use Rattle.hg_peer.specs.MarkLaws.{marked_says_the_same, marked_once, marked_not_refused, told_leaves_own};
 ghost use Rattle.hg_peer.specs.MarkLaws.{memory_not_against_mark};
 
+use crate::ask::Ask;
 use crate::mark::Mark;
 use crate::refusal::PeerRefusal;
 use hg_changeset::Node;
@@ -45,9 +46,9 @@ use hg_view::Kept;
 use std::alloc::Global;
 use std::marker::Model;
 
-/// A replica as a state that acts: it decides operations, offers what it serves above some common nodes, and reads
-/// messages. It keeps its instabilities, so that each of these asks what is visible by look-ups. What it pins is its
-/// own, and a [`Mark`] changes that. Contracts see the replica and the pins.
+/// A replica as a state that acts: it decides operations, offers what it serves above some common nodes, or its whole
+/// history without what is secret, and reads messages. It keeps its instabilities, so that each of these asks what is
+/// visible by look-ups. What it pins is its own, and a [`Mark`] changes that. Contracts see the replica and the pins.
 #[derive(Drop)]
 pub struct Peer {
     kept: Kept,
@@ -225,8 +226,7 @@ impl JoinState for Peer {
 impl Actor for Peer {
     type Op = Op;
 
-    // The common nodes.
-    type Ask = Vec<Node>;
+    type Ask = Ask;
 
     type Mark = Mark;
 
@@ -312,18 +312,18 @@ impl Actor for Peer {
         }
     }
 
-    fn offer(&self, alloc: Global, common: &Vec<Node>) -> Result<Vec<u8>, PeerRefusal>
-        ensures ok { IfOk result (λ bytes. OffersBytes self.now common.now bytes.items) }
-        ensures err { IfErr result (λ refusal. IsAgainstOffer self.now common.now refusal ⊎ IsMemory refusal) }
-        ensures due { IsDue (OffersBytes self.now common.now) (IsAgainstOffer self.now common.now) }
+    fn offer(&self, alloc: Global, ask: &Ask) -> Result<Vec<u8>, PeerRefusal>
+        ensures ok { IfOk result (λ bytes. OffersBytes self.now ask.now bytes.items) }
+        ensures err { IfErr result (λ refusal. IsAgainstOffer self.now ask.now refusal ⊎ IsMemory refusal) }
+        ensures due { IsDue (OffersBytes self.now ask.now) (IsAgainstOffer self.now ask.now) }
 
         // Want of memory is told only where each common node is held.
-        ensures memory { IsErrOf result OutOfMemory → AreHeld (content_of self.now.replica) common.now.items }
+        ensures memory { IsErrOf result OutOfMemory → AreHeld (content_of self.now.replica) ask.now.common.items }
     {
         // They say that the replica is in a valid state, and that each of its markers can be written.
         let replica = self.kept.replica();
         let _markers = replica.store().markers();
-        match Outgoing::above_kept(alloc, &self.kept, common) {
+        match Outgoing::above_kept(alloc, &self.kept, &ask.common, ask.scope) {
             Ok(found) => written(&found),
             Err(refusal) => Err(refusal.into()),
         }

@@ -3,20 +3,25 @@ use hg_changeset::Node;
 use hg_history::Fault;
 use hg_join::Actor;
 use hg_message::{MessageFault, OfferRefusal};
-use hg_peer::{Numbered, Peer, PeerRefusal};
+use hg_peer::{Ask, Numbered, Peer, PeerRefusal, Scope};
 use hg_replica::Replica;
 use hg_rewrite::Refusal;
 use hg_view::{Kept, PinRefusal};
 use hg_world::EventRefusal;
 
-/// A message of nothing: the magic, version 1, no records, no bounds, and a store of 1 byte, which is its version 0.
-const NOTHING: &[u8] = b"HGFX\x01\0\0\0\0\0\0\0\0\0\0\0\x01\0";
+/// A message of nothing: the magic, version 2, the served scope, no records, no bounds, and a store of 1 byte, which is
+/// its version 0.
+const NOTHING: &[u8] = b"HGFX\x02\0\0\0\0\0\0\0\0\0\0\0\0\x01\0";
 
 #[test]
 fn a_peer_of_nothing_offers_a_message_of_nothing(rt: HostRuntime) {
     let alloc = rt.alloc();
     let peer = Peer::empty(alloc).expect(&rt, "memory");
-    let bytes = peer.offer(alloc, &Vec::new(alloc)).expect(&rt, "an offer");
+    let ask = Ask {
+        common: Vec::new(alloc),
+        scope: Scope::Served,
+    };
+    let bytes = peer.offer(alloc, &ask).expect(&rt, "an offer");
     assert!(rt; bytes.as_slice() == NOTHING);
     let part = Peer::read(alloc, NOTHING).expect(&rt, "a part");
     assert!(rt; part.changesets.is_empty() && part.bounds.is_empty() && part.markers.is_empty());
@@ -28,9 +33,12 @@ fn what_cannot_be_offered_or_read_is_told(rt: HostRuntime) {
     let kept = Kept::new(alloc, Replica::new(alloc)).expect(&rt, "memory");
     let peer = Peer::new(kept);
     assert!(rt; peer.kept().instabilities().obsolete().is_empty());
-    let common = [Node::NULL].to_vec(alloc).expect(&rt, "memory");
+    let ask = Ask {
+        common: [Node::NULL].to_vec(alloc).expect(&rt, "memory"),
+        scope: Scope::Whole,
+    };
     let unknown = PeerRefusal::Offer(OfferRefusal::UnknownCommon(Node::NULL));
-    assert_eq!(rt; peer.offer(alloc, &common).err(), Some(unknown));
+    assert_eq!(rt; peer.offer(alloc, &ask).err(), Some(unknown));
     let short = PeerRefusal::Message(MessageFault::Truncated(0));
     assert_eq!(rt; Peer::read(alloc, b"HGF").err(), Some(short));
 }

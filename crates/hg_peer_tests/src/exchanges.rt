@@ -1,7 +1,7 @@
 //! Short lists of events over peers, and what each is answered; each growth refused in turn.
 use hg_changeset::{Entry, Node};
 use hg_history::Fault;
-use hg_peer::{Mark, Peer, PeerRefusal};
+use hg_peer::{Ask, Mark, Peer, PeerRefusal, Scope};
 use hg_phases::Phase;
 use hg_replica::Change;
 use hg_rewrite::Op;
@@ -11,7 +11,7 @@ use std::alloc::Global;
 use std::collections::BTreeMap;
 use std::process::Abort;
 
-type PeerEvent = Event<Op, Vec<Node>, Mark>;
+type PeerEvent = Event<Op, Ask, Mark>;
 
 type PeerAnswer = Answer<Change, PeerRefusal, Fault>;
 
@@ -74,12 +74,16 @@ fn commit(alloc: Global, at: usize, secret: bool) -> Option<PeerEvent> {
     Some(Event::Local { at, op })
 }
 
-/// An offer to one that has nothing.
+/// An offer of a scope to one that has nothing.
+fn offer_of(alloc: Global, at: usize, scope: Scope) -> PeerEvent {
+    let common = Vec::new(alloc);
+    let ask = Ask { common, scope };
+    Event::Offer { at, ask }
+}
+
+/// An offer of what is served to one that has nothing.
 fn offer(alloc: Global, at: usize) -> PeerEvent {
-    Event::Offer {
-        at,
-        ask: Vec::new(alloc),
-    }
+    offer_of(alloc, at, Scope::Served)
 }
 
 fn take(at: usize, message: usize) -> PeerEvent {
@@ -165,6 +169,36 @@ fn late_reordered_and_repeated_messages_leave_the_same(rt: HostRuntime) {
     expect_answers(&rt, &answers, &expected);
     assert_eq!(rt; phase_at(&world, 0, a), Some(Phase::Public));
     assert_eq!(rt; phase_at(&world, 1, a), Some(Phase::Public));
+}
+
+// What is obsolete is hidden, and goes over with the marker; a repeated take changes nothing.
+#[test]
+fn a_whole_offer_brings_what_is_hidden(rt: HostRuntime) {
+    let alloc = rt.alloc();
+    let a = Node::from_hex(A).expect(&rt, "an id");
+    let mut world = World::<Peer>::new(alloc, 2).expect(&rt, "memory");
+    let events = [
+        commit(alloc, 0, false).expect(&rt, "memory"),
+        amend(alloc, 0, a).expect(&rt, "memory"),
+        offer(alloc, 0),
+        offer_of(alloc, 0, Scope::Whole),
+        take(1, 0),
+        take(1, 1),
+        take(1, 1),
+    ];
+    let answers = world.run(&events).expect(&rt, "memory");
+    let expected = [
+        Outcome::Changed(1, 0, 0),
+        Outcome::Changed(1, 0, 1),
+        Outcome::Offered(0),
+        Outcome::Offered(1),
+        Outcome::Changed(1, 0, 1),
+        Outcome::Changed(1, 0, 0),
+        Outcome::Changed(0, 0, 0),
+    ];
+    expect_answers(&rt, &answers, &expected);
+    assert_eq!(rt; is_visible_at(&world, 1, a), Some(false));
+    assert_eq!(rt; phase_at(&world, 1, a), Some(Phase::Draft));
 }
 
 #[test]
@@ -292,4 +326,26 @@ fn refused_growth_of_a_run_leaves_what_its_answers_say(rt: HostRuntime) {
         Err(_) => false,
     };
     assert_eq!(rt; phase_at(&world, 0, a).is_some(), accepted);
+}
+
+#[test]
+fn refused_growth_of_a_whole_offer_that_is_taken_changes_nothing(rt: HostRuntime) {
+    let alloc = rt.alloc();
+    let a = Node::from_hex(A).expect(&rt, "an id");
+    let Ok(mut world) = World::<Peer>::new(alloc, 2) else {
+        return;
+    };
+    let Some(event) = commit(alloc, 0, false) else {
+        return;
+    };
+    if world.run(&[event]).is_err() {
+        return;
+    }
+    let taken = match world.run(&[offer_of(alloc, 0, Scope::Whole), take(1, 0)]) {
+        Ok(answers) => answers
+            .iter()
+            .any(|answer| outcome_of(answer) == Outcome::Changed(1, 0, 0)),
+        Err(_) => false,
+    };
+    assert_eq!(rt; phase_at(&world, 1, a).is_some(), taken);
 }

@@ -5,7 +5,7 @@ use hg_changeset::Node;
 use hg_history::Fault;
 use hg_instab_tests::{are_same, has_exactly, is_up_to_date};
 use hg_join_tests::Dice;
-use hg_message::{Message, OfferRefusal, Outgoing};
+use hg_message::{Message, OfferRefusal, Outgoing, Scope};
 use hg_phases::Phase;
 use hg_replica::{Part, Replica};
 use hg_rewrite::{Op, Refusal, decide};
@@ -41,8 +41,8 @@ fn take(alloc: Global, kept: &mut Kept, message: &[u8]) -> Option<bool> {
 }
 
 // The bytes of what the replica offers above the common node, or of nothing where that is refused.
-fn offer(alloc: Global, kept: &Kept, common: &[Node]) -> Option<Vec<u8>> {
-    match Outgoing::above(alloc, kept.replica(), kept.pins(), common) {
+fn offer(alloc: Global, kept: &Kept, common: &[Node], scope: Scope) -> Option<Vec<u8>> {
+    match Outgoing::above(alloc, kept.replica(), kept.pins(), common, scope) {
         Ok(found) => found.to_bytes().ok(),
         Err(OfferRefusal::NoMemory) => None,
         Err(_) => Some(Vec::new(alloc)),
@@ -142,9 +142,9 @@ impl Fleet {
         let kept = self.replicas.get(at)?;
         let common = some_node(kept.replica().graph(), &mut self.dice);
         let message = if self.dice.roll(2) == 0 {
-            offer(self.alloc, kept, &[common])?
+            offer(self.alloc, kept, &[common], Scope::Served)?
         } else {
-            offer(self.alloc, kept, &[])?
+            offer(self.alloc, kept, &[], Scope::Whole)?
         };
         let is_made = !message.is_empty();
         if is_made {
@@ -294,7 +294,7 @@ fn publish(alloc: Global, kept: &mut Kept, node: Node) -> Option<Node> {
 
 // The one takes all that the other offers.
 fn pull(alloc: Global, kept: &mut Kept, other: &Kept) -> Option<()> {
-    let message = offer(alloc, other, &[])?;
+    let message = offer(alloc, other, &[], Scope::Served)?;
     if take(alloc, kept, &message)? {
         Some(())
     } else {

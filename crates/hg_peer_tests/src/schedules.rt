@@ -6,14 +6,15 @@ use hg_changeset::Node;
 use hg_history::Fault;
 use hg_join::{Actor, JoinState};
 use hg_join_tests::Dice;
-use hg_peer::{Mark, Peer, PeerRefusal};
+use hg_peer::{Ask, Mark, Peer, PeerRefusal, Scope};
 use hg_replica::{Change, Part};
 use hg_rewrite::Op;
+use hg_view::share;
 use hg_world::{Answer, Event, World};
 use std::alloc::Global;
 use std::collections::BTreeSet;
 
-type PeerEvent = Event<Op, Vec<Node>, Mark>;
+type PeerEvent = Event<Op, Ask, Mark>;
 
 type PeerAnswer = Answer<Change, PeerRefusal, Fault>;
 
@@ -151,7 +152,7 @@ impl Schedule {
         Some(match self.dice.roll(6) {
             0 => Event::Offer {
                 at,
-                ask: self.some_common(at % PEERS)?,
+                ask: self.some_ask(at % PEERS)?,
             },
             1 | 2 => Event::Take {
                 at,
@@ -178,12 +179,35 @@ impl Schedule {
         })
     }
 
-    fn some_common(&mut self, at: usize) -> Option<Vec<Node>> {
+    fn some_ask(&mut self, at: usize) -> Option<Ask> {
         let mut common = Vec::new(self.alloc);
         if self.dice.roll(2) == 0 {
             common.push(self.some_node(at)?).ok()?;
         }
-        Some(common)
+        let scope = if self.dice.roll(3) == 0 {
+            Scope::Whole
+        } else {
+            Scope::Served
+        };
+        Some(Ask { common, scope })
+    }
+
+    /// One peer offers its whole history, at times without what stands below a changeset that both hold, and another
+    /// takes that.
+    fn pass_whole(&mut self, from: usize, to: usize) -> Option<()> {
+        let mut common = Vec::new(self.alloc);
+        let node = self.some_node(from)?;
+        if self.world.state(to)?.replica().graph().contains(node) {
+            common.push(node).ok()?;
+        }
+        let message = self.messages.len();
+        let scope = Scope::Whole;
+        let ask = Ask { common, scope };
+        self.run(Event::Offer { at: from, ask })?;
+        if self.messages.len() == message {
+            return None;
+        }
+        self.run(Event::Take { at: to, message })
     }
 
     /// So many events of any kind.
@@ -201,7 +225,10 @@ impl Schedule {
             let at = self.dice.roll(PEERS);
             let op = self.some_rewrite(at, number)?;
             self.run(Event::Local { at, op })?;
-            let ask = Vec::new(self.alloc);
+            let ask = Ask {
+                common: Vec::new(self.alloc),
+                scope: Scope::Served,
+            };
             self.run(Event::Offer { at, ask })?;
             let taker = self.dice.roll(PEERS);
             let message = self.dice.roll(self.messages.len() + 1);
@@ -238,6 +265,17 @@ impl Schedule {
         Some(true)
     }
 
+    /// Whether two peers share the same: changesets that aren't secret, with their phases, and markers.
+    fn share_the_same(&self, one: usize, other: usize) -> Option<bool> {
+        let first = self.world.state(one)?.replica();
+        let second = self.world.state(other)?.replica();
+        let ours = share(self.alloc, first).ok()?;
+        let theirs = share(self.alloc, second).ok()?;
+        let markers = first.store().markers();
+        let held = markers.iter().all(|marker| second.store().contains(marker));
+        Some(ours == theirs && held && markers.len() == second.store().len())
+    }
+
     /// Whether two peers are in one state.
     fn agree(&self, one: usize, other: usize) -> Option<bool> {
         let first = self.world.state(one)?;
@@ -271,4 +309,26 @@ fn peers_that_took_everything_agree(rt: HostRuntime) {
     for at in 1..PEERS {
         assert_eq!(rt; schedule.agree(0, at), Some(true));
     }
+}
+
+// Whatever happened before, two whole offers, one each way, make two peers share the same.
+#[test]
+fn two_whole_offers_share_one_history(rt: HostRuntime) {
+    let alloc = rt.alloc();
+    let mut schedule = Schedule::new(alloc, 28).expect(&rt, "memory");
+    for round in 0..40 {
+        schedule
+            .run_any(25)
+            .expect(&rt, "answers that the states allow");
+        let one = round % PEERS;
+        let other = (one + 1 + round % (PEERS - 1)) % PEERS;
+        schedule
+            .pass_whole(one, other)
+            .expect(&rt, "answers that the states allow");
+        schedule
+            .pass_whole(other, one)
+            .expect(&rt, "answers that the states allow");
+        assert_eq!(rt; schedule.share_the_same(one, other), Some(true));
+    }
+    assert_eq!(rt; schedule.is_as_heard(), Some(true));
 }

@@ -4,8 +4,8 @@ use Rattle.hg_peer.proofs.peer.PeerActor.decide.Goals as goal
 
 pub returns-in-Ok-clause-admitted : goal.returns-in-Ok-clause-admitted
 returns-in-Ok-clause-admitted c =
-    rw (← c.self.view_is) (decided-admitted c.self.inside.kept.replica c.self.inside.kept.pins c.args.op.now c.in-Ok.part
-    c.in-Ok.ensures.valid c.in-Ok.ensures.changesets c.in-Ok.ensures.answer)
+    rw (← c.self.view_is) (decided-admitted c.self.inside.kept.replica c.self.inside.kept.pins c.args.op.now
+    c.in-Ok.part c.in-Ok.ensures.valid c.in-Ok.ensures.changesets c.in-Ok.ensures.answer)
 
 pub returns-in-Err-clause-due : goal.returns-in-Err-clause-due
 returns-in-Err-clause-due c =

@@ -11,14 +11,15 @@ returns-clause-after c =
 
 pub returns-clause-change : goal.returns-clause-change
 returns-clause-change c =
-    rw (← c.self.view_is) (told-peer c.self.inside.kept c.absorb_owned.new.self c.absorb_owned.result c.absorb_owned.ensures.pins
+    rw (← c.self.view_is) (told-peer c.self.inside.kept c.absorb_owned.new.self c.absorb_owned.result
+    c.absorb_owned.ensures.pins
     (told-change c.self.inside.kept.replica c.absorb_owned.new.self.replica c.args.part c.absorb_owned.result
     c.absorb_owned.ensures.answer))
 
 pub returns-clause-valid : goal.returns-clause-valid
 returns-clause-valid c =
-    rw (← c.self.view_is) (whatever_answer c.absorb_owned.result (IsValidContent (content_of c.self.inside.kept.replica))
-    (content-valid c.self.inside.kept.replica c.absorb_owned.ensures.valid))
+    rw (← c.self.view_is) (whatever_answer c.absorb_owned.result
+    (IsValidContent (content_of c.self.inside.kept.replica)) (content-valid c.self.inside.kept.replica c.absorb_owned.ensures.valid))
 
 pub returns-clause-fault : goal.returns-clause-fault
 returns-clause-fault c =
