@@ -21,6 +21,8 @@ use Rattle.hg_rewrite.specs.declared.op.Op.{Op}
 use Rattle.hg_world.specs.Runs.{Snapshot, IsReason, Makes, Refuses, Happens}
 use Rattle.hg_world.specs.declared.event.Event.TheVariants as event
 use Rattle.hg_world.specs.declared.event.EventRefusal.{EventRefusal}
+use Rattle.hg_message.specs.declared.scope.Scope.{Scope}
+use Rattle.hg_peer.specs.declared.ask.Ask.{Ask}
 use Rattle.hg_world.specs.declared.event.EventRefusal.TheVariants.{NoNode, NoMessage, ByActor, ByState}
 use Rattle.hg_world.specs.declared.event.Answer.TheVariants.{Accepted, Offered, Marked, Refused}
 use Rattle.hg_peer.specs.declared.mark.Mark.{Mark}
@@ -41,8 +43,8 @@ use Rattle.hg_script.specs.Endings.{UsesUnknown, AreLabelsFree, IsTakenFault, Is
 use Rattle.hg_script.specs.Endings.{IsCommandFault, IsLeftBy, HasWords, Says, IsLineFault, EndsAt, StopsAmong}
 use Rattle.hg_script.specs.Endings.{IsStoppedBy, IsScriptOf, IsStop}
 use Rattle.hg_script.specs.Events.{Trace, PeerEvent, PeerAnswer, no_trace, joined, Meaning, HasUnknown, IsAbsence}
-use Rattle.hg_script.specs.Events.{LacksMessage, IsNowhere, IsUnknownWhere, IsTakeFault, AreCommonAt, IsOperation}
-use Rattle.hg_script.specs.Events.{brought, new_labels}
+use Rattle.hg_script.specs.Events.{LacksMessage, IsNowhere, IsUnknownWhere, IsTakeFault, AreLeftOutAt, IsOperation}
+use Rattle.hg_script.specs.Events.{asking, brought, new_labels}
 use Rattle.hg_script.specs.Faults.{IsInputFault}
 use Rattle.hg_script.specs.Limits.{script_limit}
 use Rattle.hg_script.specs.Names.{AreDistinct}
@@ -154,14 +156,16 @@ nowhere world asked refusal answer new e (part, h) absent =
     by None h = refused h
 
 -- the taker of a pull is there, and so is what was offered
-pub offered_is_there : (old mid : Snapshot KeptValue) (giver taker : ℕ) (common : Vec Node Global) (number : ℕ)
-    (answer : PeerAnswer) → AreCommonAt old taker giver common.items → answer ≡ Offered number
-    → (part : Option PartValue) × Happens peer_state peer_words old (event.Offer giver common) answer part mid
+pub offered_is_there : (old mid : Snapshot KeptValue) (scope : Scope) (giver taker : ℕ) (common : Vec Node Global)
+    (number : ℕ) (answer : PeerAnswer) → AreLeftOutAt scope old taker giver common.items → answer ≡ Offered number
+    → (part : Option PartValue)
+    × Happens peer_state peer_words old (event.Offer giver (asking scope common)) answer part mid
     → ¬ (IsNowhere mid (event.Take taker number))
-offered_is_there old mid giver taker common number answer heads e (part, h) nothing =
-    by part (subst (λ a. Happens peer_state peer_words old (event.Offer giver common) a part mid) e h) nothing
+offered_is_there old mid scope giver taker common number answer heads e (part, h) nothing =
+    by part (subst (λ a. Happens peer_state peer_words old (event.Offer giver (asking scope common)) a part mid) e h)
+    nothing
   where
-    made : Makes peer_state peer_words old (event.Offer giver common) number mid
+    made : Makes peer_state peer_words old (event.Offer giver (asking scope common)) number mid
         → IsNowhere mid (event.Take taker number) → ⊥
     made m (inl none) = let at = heads.2 in let same : slice_get mid.nodes taker ≡ slice_get old.nodes taker =
         ap (λ (ns : List KeptValue). slice_get ns taker) m.5 in cc
@@ -172,16 +176,16 @@ offered_is_there old mid giver taker common number answer heads e (part, h) noth
         cc
 
     by : (part : Option PartValue)
-        → Happens peer_state peer_words old (event.Offer giver common) (Offered number) part mid
+        → Happens peer_state peer_words old (event.Offer giver (asking scope common)) (Offered number) part mid
         → IsNowhere mid (event.Take taker number) → ⊥
     by (Some part) h nothing = h
     by None h nothing = made h nothing
 
 -- what an offer or a taking lacks is what its names stand for
-pub offer_nowhere : (f : Fleet) (at : Word) (place : ℕ) (common : Vec Node Global) → places f at.now ≡ Some place
-    → IsNowhere f.world (event.Offer place common) → node_named f at.now ≡ None
-offer_nowhere f at place common is (inl none) = node_from_place f at.now place None is none
-offer_nowhere f at place common is (inr h) = absurd h
+pub offer_nowhere : (f : Fleet) (at : Word) (place : ℕ) (ask : Ask) → places f at.now ≡ Some place
+    → IsNowhere f.world (event.Offer place ask) → node_named f at.now ≡ None
+offer_nowhere f at place ask is (inl none) = node_from_place f at.now place None is none
+offer_nowhere f at place ask is (inr h) = absurd h
 
 pub take_nowhere : (f : Fleet) (at message : Word) (place number : ℕ) → places f at.now ≡ Some place
     → numbers f message.now ≡ Some number → IsNowhere f.world (event.Take place number)
@@ -201,25 +205,28 @@ mark_nowhere f at place mark is (inl none) = node_from_place f at.now place None
 mark_nowhere f at place mark is (inr h) = absurd h
 
 -- one of the two of a pull
-pub pull_nodes : (number : ℕ) (f : Fleet) (to from : Word) (taker giver : ℕ) (fault : RunFault)
+pub pull_nodes : (number : ℕ) (f : Fleet) (scope : Scope) (to from : Word) (taker giver : ℕ) (fault : RunFault)
     → places f from.now ≡ Some giver → places f to.now ≡ Some taker
     → (fault ≡ NoMemory) ⊎ (IsNodeFault number f taker fault ⊎ IsNodeFault number f giver fault)
-    → IsCommandFault number f (Pull to from) fault
-pull_nodes number f to from taker giver fault gives takes (inl e) =
-    subst (IsCommandFault number f (Pull to from)) (sym e) tt
-pull_nodes number f to from taker giver fault gives takes (inr (inl h)) =
-    node_fault number f (Pull to from) to.now taker fault takes (λ none. inl none) h
-pull_nodes number f to from taker giver fault gives takes (inr (inr h)) =
-    node_fault number f (Pull to from) from.now giver fault gives (λ none. inr none) h
+    → IsCommandFault number f (Pull scope to from) fault
+pull_nodes number f scope to from taker giver fault gives takes (inl e) =
+    subst (IsCommandFault number f (Pull scope to from)) (sym e) tt
+pull_nodes number f scope to from taker giver fault gives takes (inr (inl h)) =
+    node_fault number f (Pull scope to from) to.now taker fault takes (λ none. inl none) h
+pull_nodes number f scope to from taker giver fault gives takes (inr (inr h)) =
+    node_fault number f (Pull scope to from) from.now giver fault gives (λ none. inr none) h
 
 -- what is taken of an offer lacks nothing
-pub taken_fails : (number : ℕ) (f : Fleet) (command : Command) (mid : Snapshot KeptValue) (giver taker : ℕ)
-    (common : Vec Node Global) (answer : PeerAnswer) (fault : RunFault) → AreCommonAt f.world taker giver common.items
-    → (part : Option PartValue) × Happens peer_state peer_words f.world (event.Offer giver common) answer part mid
+pub taken_fails : (number : ℕ) (f : Fleet) (scope : Scope) (command : Command) (mid : Snapshot KeptValue)
+    (giver taker : ℕ) (common : Vec Node Global) (answer : PeerAnswer) (fault : RunFault)
+    → AreLeftOutAt scope f.world taker giver common.items
+    → (part : Option PartValue)
+    × Happens peer_state peer_words f.world (event.Offer giver (asking scope common)) answer part mid
     → IsTakeFault number mid taker answer fault → IsCommandFault number f command fault
-taken_fails number f command mid giver taker common answer fault heads happens (message, is, h) =
+taken_fails number f scope command mid giver taker common answer fault heads happens (message, is, h) =
     fault_of_command number (IsNowhere mid (event.Take taker message)) f command fault
-    (λ nothing. absurd (offered_is_there f.world mid giver taker common message answer heads is happens nothing)) h
+    (λ nothing. absurd (offered_is_there f.world mid scope giver taker common message answer heads is happens nothing))
+    h
 
 -- ---- new labels
 
@@ -276,21 +283,21 @@ taken_fault number f at op asked state labels NoMemory same meant held h = tt
 
 -- no form of a command shows such a fault, and what is no command is an unknown one
 not_too_long : (word : Text) (rest : List Word) → LineAnswer word rest (Err TooLong) → ⊥
-not_too_long word rest (a, b, c, d, e, f, g, h, other) =
-    let (i, j, k, l, m, n, o, none) = other (a, b, c, d, e, f, g, h) in
-    let is = none (i, j, k, l, m, n, o) in
+not_too_long word rest (a, b, c, d, e, f, g, h, i, j, other) =
+    let (k, l, m, n, o, p, q, none) = other (a, b, c, d, e, f, g, h, i, j) in
+    let is = none (k, l, m, n, o, p, q) in
     cc
 
 not_unknown_name : (word : Text) (rest : List Word) → LineAnswer word rest (Err UnknownName) → ⊥
-not_unknown_name word rest (a, b, c, d, e, f, g, h, other) =
-    let (i, j, k, l, m, n, o, none) = other (a, b, c, d, e, f, g, h) in
-    let is = none (i, j, k, l, m, n, o) in
+not_unknown_name word rest (a, b, c, d, e, f, g, h, i, j, other) =
+    let (k, l, m, n, o, p, q, none) = other (a, b, c, d, e, f, g, h, i, j) in
+    let is = none (k, l, m, n, o, p, q) in
     cc
 
 not_taken : (word : Text) (rest : List Word) → LineAnswer word rest (Err NameTaken) → ⊥
-not_taken word rest (a, b, c, d, e, f, g, h, other) =
-    let (i, j, k, l, m, n, o, none) = other (a, b, c, d, e, f, g, h) in
-    let is = none (i, j, k, l, m, n, o) in
+not_taken word rest (a, b, c, d, e, f, g, h, i, j, other) =
+    let (k, l, m, n, o, p, q, none) = other (a, b, c, d, e, f, g, h, i, j) in
+    let is = none (k, l, m, n, o, p, q) in
     cc
 
 -- the faults that the words of a line show

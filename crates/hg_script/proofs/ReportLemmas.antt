@@ -127,7 +127,8 @@ no_lines s rows i past =
 pub row_of : (s : KeptValue) (place : ℕ) (node : Node) (phase : Phase) (label text : Text) (words : RowWords)
     → IsValid s.replica → Some node ≡ slice_get (nodes (changesets s.replica.history)) place
     → (h : Held) × (slice_get s.replica.history.held place ≡ Some h) × (h.phase ≡ phase)
-    → (IsHeld (content_of s.replica).0 node → AreWordsOf (content_of s.replica) s.pins node words) → text ≡ row_line label phase words
+    → (IsHeld (content_of s.replica).0 node → AreWordsOf (content_of s.replica) s.pins node words)
+    → text ≡ row_line label phase words
     → IsRowLine s (label, place) text
 row_of s place node phase label text words valid at (h, held, is) tells e =
     let cs = changesets s.replica.history in

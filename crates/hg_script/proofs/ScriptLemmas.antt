@@ -22,10 +22,12 @@ use Rattle.hg_world.specs.declared.event.EventRefusal.{EventRefusal}
 use Rattle.hg_world.specs.declared.event.Answer.TheVariants.{Accepted, Offered, Marked, Refused}
 use Rattle.hg_peer.specs.declared.refusal.PeerRefusal.{PeerRefusal}
 use Rattle.hg_peer.specs.Words.{peer_state, peer_words}
+use Rattle.hg_message.specs.declared.scope.Scope.{Scope}
 use Rattle.hg_script.specs.declared.command.Command.TheVariants.{Node as node, Pull, Report, Agree}
 use Rattle.hg_script.specs.declared.fleet.Fleet.{Fleet}
 use Rattle.hg_script.specs.Commands.{Text, Word}
-use Rattle.hg_script.specs.Events.{Trace, PeerEvent, PeerAnswer, no_trace, joined, Ran, IsTold, AreCommonAt, taken}
+use Rattle.hg_script.specs.Events.{Trace, PeerEvent, PeerAnswer, no_trace, joined, Ran, IsTold, AreLeftOutAt, taken}
+use Rattle.hg_script.specs.Events.{asking}
 use Rattle.hg_script.specs.Outputs.{Printed}
 use Rattle.hg_script.specs.Printing.{answer_line, answer_lines, agree_line, IsDone, PrintsTaken, PrintsLines, PrintsRun}
 use Rattle.hg_script.specs.Reports.{IsReport}
@@ -119,17 +121,18 @@ abbrev before : PeerEvent → PeerAnswer → Option PartValue → Trace → Trac
 before event answer part t = record { events = event ∷ t.events; answers = answer ∷ t.answers; parts = part ∷ t.parts }
 
 -- an offer, and then what the taker takes of it
-pub pulled : (line : ℕ) (old : Fleet) (to from : Word) (giver taker : ℕ) (common : Vec Node Global)
+pub pulled : (line : ℕ) (old : Fleet) (scope : Scope) (to from : Word) (giver taker : ℕ) (common : Vec Node Global)
     (answer : PeerAnswer) (mid : Snapshot KeptValue) (new : Fleet) (held between holds : Option Text)
-    → places old from.now ≡ Some giver → places old to.now ≡ Some taker → AreCommonAt old.world taker giver common.items
-    → IsTold answer
-    → (part : Option PartValue) × Happens peer_state peer_words old.world (Offer giver common) answer part mid
+    → places old from.now ≡ Some giver → places old to.now ≡ Some taker
+    → AreLeftOutAt scope old.world taker giver common.items → IsTold answer
+    → (part : Option PartValue)
+    × Happens peer_state peer_words old.world (Offer giver (asking scope common)) answer part mid
     → Printed held (answer_line line answer) between → PrintsTaken line mid taker answer new.world between holds
     → new.nodes ≡ old.nodes → new.labels ≡ old.labels → new.messages ≡ old.messages
-    → IsDone line old (Pull to from) new held holds
-pulled line old to from giver taker common answer mid new held between holds at_from at_to heads told (part, h) first
-    (t, events, ran, others, more) nodes labels messages = (
-      before (Offer giver common) answer part t,
+    → IsDone line old (Pull scope to from) new held holds
+pulled line old scope to from giver taker common answer mid new held between holds at_from at_to heads told (part, h)
+    first (t, events, ran, others, more) nodes labels messages = (
+      before (Offer giver (asking scope common)) answer part t,
       answer_line line answer ++ answer_lines line t.answers,
       record {
         asked = (
@@ -139,7 +142,8 @@ pulled line old to from giver taker common answer mid new held between holds at_
           at_from,
           at_to,
           heads,
-          ap (λ (es : List PeerEvent). Offer giver common ∷ es) (events ∙ taken_first taker answer t.answers),
+          ap (λ (es : List PeerEvent). Offer giver (asking scope common) ∷ es)
+              (events ∙ taken_first taker answer t.answers),
         );
         ran = (mid, h, ran);
         told = (told, others);
@@ -185,7 +189,8 @@ below_told s t (Err e) v w told = tt
 
 pub agreed : (line : ℕ) (f : Fleet) (one other : Word) (first second : KeptValue) (answer : Bool)
     (held holds : Option Text) → node_named f one.now ≡ Some first → node_named f other.now ≡ Some second
-    → IsTrue answer ↔ IsSameState first.replica second.replica → Printed held (agree_line one.now other.now answer) holds
+    → IsTrue answer ↔ IsSameState first.replica second.replica
+    → Printed held (agree_line one.now other.now answer) holds
     → IsDone line f (Agree one other) f held holds
 agreed line f one other first second answer held holds there too same grew = (
   no_trace,

@@ -7,6 +7,8 @@ use Rattle.hg_phases.specs.declared.phase.Phase.{Phase}
 use Rattle.hg_phases.specs.declared.phase.Phase.TheVariants.{Public, Draft, Secret}
 use Rattle.hg_script.specs.Words.{is_name}
 use Rattle.hg_script.specs.declared.command.Command.{Command}
+use Rattle.hg_message.specs.declared.scope.Scope.{Scope}
+use Rattle.hg_message.specs.declared.scope.Scope.TheVariants.{Served, Whole}
 use Rattle.hg_script.specs.declared.command.Command.TheVariants.{Node, Operation as operation, Mark, Offer, Take}
 use Rattle.hg_script.specs.declared.command.Command.TheVariants.{Pull, Report, Agree}
 use Rattle.hg_script.specs.declared.marking.Marking.{Marking}
@@ -58,14 +60,24 @@ abbrev pub marking_words : Text → Marking → List Text
 marking_words at (Pin label) = codes "pin" ∷ at ∷ label.now ∷ []
 marking_words at (Unpin label) = codes "unpin" ∷ at ∷ label.now ∷ []
 
+-- the first word of an offer of this scope
+abbrev pub offer_word : Scope → Text
+offer_word Served = codes "offer"
+offer_word Whole = codes "whole"
+
+-- and of a pull
+abbrev pub pull_word : Scope → Text
+pull_word Served = codes "pull"
+pull_word Whole = codes "share"
+
 -- the words of the line that says this command
 abbrev pub words_of_command : Command → List Text
 words_of_command (Node at) = codes "node" ∷ at.now ∷ []
 words_of_command (operation at op) = operation_words at.now op
 words_of_command (Mark at marking) = marking_words at.now marking
-words_of_command (Offer at message labels) = codes "offer" ∷ at.now ∷ message.now ∷ texts labels.now
+words_of_command (Offer scope at message labels) = offer_word scope ∷ at.now ∷ message.now ∷ texts labels.now
 words_of_command (Take at message) = codes "take" ∷ at.now ∷ message.now ∷ []
-words_of_command (Pull to from) = codes "pull" ∷ to.now ∷ from.now ∷ []
+words_of_command (Pull scope to from) = pull_word scope ∷ to.now ∷ from.now ∷ []
 words_of_command (Report at) = codes "report" ∷ at.now ∷ []
 words_of_command (Agree one other) = codes "agree" ∷ one.now ∷ other.now ∷ []
 
@@ -129,14 +141,14 @@ pin_form = names_alone (codes "pin") 2 (Some 2)
 abbrev pub unpin_form : Form
 unpin_form = names_alone (codes "unpin") 2 (Some 2)
 
-abbrev pub offer_form : Form
-offer_form = names_alone (codes "offer") 2 None
+abbrev pub offer_form : Scope → Form
+offer_form scope = names_alone (offer_word scope) 2 None
 
 abbrev pub take_form : Form
 take_form = names_alone (codes "take") 2 (Some 2)
 
-abbrev pub pull_form : Form
-pull_form = names_alone (codes "pull") 2 (Some 2)
+abbrev pub pull_form : Scope → Form
+pull_form scope = names_alone (pull_word scope) 2 (Some 2)
 
 abbrev pub report_form : Form
 report_form = names_alone (codes "report") 1 (Some 1)
@@ -206,7 +218,8 @@ OperationAnswer word words result =
 abbrev pub IsOther : Text → Type 0
 IsOther word =
     (word ≢ codes "node") × (word ≢ codes "pin") × (word ≢ codes "unpin") × (word ≢ codes "offer")
-    × (word ≢ codes "take") × (word ≢ codes "pull") × (word ≢ codes "report") × (word ≢ codes "agree")
+    × (word ≢ codes "whole") × (word ≢ codes "take") × (word ≢ codes "pull") × (word ≢ codes "share")
+    × (word ≢ codes "report") × (word ≢ codes "agree")
 
 -- what is answered to a line with this first word and these after it, by the command that the first word names
 abbrev pub LineAnswer : Text → List Word → Result Command LineFault → Type 0
@@ -214,9 +227,11 @@ LineAnswer word words result =
     (word ≡ codes "node" → FormAnswer node_form words result)
     × (word ≡ codes "pin" → FormAnswer pin_form words result)
     × (word ≡ codes "unpin" → FormAnswer unpin_form words result)
-    × (word ≡ codes "offer" → FormAnswer offer_form words result)
+    × (word ≡ codes "offer" → FormAnswer (offer_form Served) words result)
+    × (word ≡ codes "whole" → FormAnswer (offer_form Whole) words result)
     × (word ≡ codes "take" → FormAnswer take_form words result)
-    × (word ≡ codes "pull" → FormAnswer pull_form words result)
+    × (word ≡ codes "pull" → FormAnswer (pull_form Served) words result)
+    × (word ≡ codes "share" → FormAnswer (pull_form Whole) words result)
     × (word ≡ codes "report" → FormAnswer report_form words result)
     × (word ≡ codes "agree" → FormAnswer agree_form words result)
     × (IsOther word → OperationAnswer word words result)

@@ -35,9 +35,9 @@ abbrev pub UsesUnknown : Fleet → Command → Type 0
 UsesUnknown f (node at) = ⊥
 UsesUnknown f (operation at op) = (node_named f at.now ≡ None) ⊎ HasUnknown (ids f) (old_labels op)
 UsesUnknown f (Mark at marking) = (node_named f at.now ≡ None) ⊎ HasUnknown (ids f) (marked_label marking ∷ [])
-UsesUnknown f (Offer at message labels) = (node_named f at.now ≡ None) ⊎ HasUnknown (ids f) (texts labels.now)
+UsesUnknown f (Offer scope at message labels) = (node_named f at.now ≡ None) ⊎ HasUnknown (ids f) (texts labels.now)
 UsesUnknown f (Take at message) = (node_named f at.now ≡ None) ⊎ (message_named f message.now ≡ None)
-UsesUnknown f (Pull to from) = (node_named f to.now ≡ None) ⊎ (node_named f from.now ≡ None)
+UsesUnknown f (Pull scope to from) = (node_named f to.now ≡ None) ⊎ (node_named f from.now ≡ None)
 UsesUnknown f (Report at) = node_named f at.now ≡ None
 UsesUnknown f (Agree one other) = (node_named f one.now ≡ None) ⊎ (node_named f other.now ≡ None)
 
@@ -56,7 +56,7 @@ pub record MakesUnderTaken (f : Fleet) (at : Text) (op : Operation) : Type 0 whe
 abbrev pub GivesTaken : Fleet → Command → Type 0
 GivesTaken f (node at) = IsSome (places f at.now)
 GivesTaken f (operation at op) = MakesUnderTaken f at.now op
-GivesTaken f (Offer at message labels) =
+GivesTaken f (Offer scope at message labels) =
     IsSome (places f at.now) × ((common : List Node) × AreIds (ids f) labels.now common)
     × IsSome (numbers f message.now)
 GivesTaken f _ = ⊥

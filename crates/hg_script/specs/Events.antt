@@ -30,6 +30,9 @@ use Rattle.hg_script.specs.declared.fault.LineFault.TheVariants.{UnknownName}
 use Rattle.hg_script.specs.declared.fault.RunFault.{RunFault}
 use Rattle.hg_script.specs.declared.fault.RunFault.TheVariants.{Line, ScriptTooLong, Read, Write, NoMemory}
 use Rattle.hg_script.specs.declared.command.Command.{Command}
+use Rattle.hg_message.specs.declared.scope.Scope.{Scope}
+use Rattle.hg_message.specs.declared.scope.Scope.TheVariants.{Served, Whole}
+use Rattle.hg_peer.specs.declared.ask.Ask.{Ask}
 use Rattle.hg_script.specs.declared.command.Command.TheVariants.{Node as node, Operation as operation, Mark, Offer}
 use Rattle.hg_script.specs.declared.command.Command.TheVariants.{Take, Pull, Report, Agree}
 use Rattle.hg_script.specs.declared.marking.Marking.{Marking}
@@ -214,14 +217,24 @@ IsTakeFault number world taker answer fault =
     (message : ℕ) × (answer ≡ Offered message)
     × IsUnknownWhere number (IsNowhere world (event.Take taker message)) fault
 
--- the heads of what the peer at one place has in common with the peer at another, under the pins of the latter
-abbrev pub AreCommonAt : Snapshot KeptValue → ℕ → ℕ → List Node → Type 0
-AreCommonAt world taker giver heads =
+-- what a pull of this scope leaves out: what both have in common by its heads, under the pins of the giver, where it is
+-- of what is served, and nothing, where it is of the whole
+abbrev pub AreLeftOut : Scope → KeptValue → KeptValue → List Node → Type 0
+AreLeftOut Served ours theirs heads = AreHeadsInCommon ours.replica theirs.replica theirs.pins heads
+AreLeftOut Whole ours theirs heads = heads ≡ []
+
+-- what the peer at one place leaves out of what it asks of the peer at another
+abbrev pub AreLeftOutAt : Scope → Snapshot KeptValue → ℕ → ℕ → List Node → Type 0
+AreLeftOutAt scope world taker giver heads =
     (ours : KeptValue) × (theirs : KeptValue) × (slice_get world.nodes taker ≡ Some ours)
-    × (slice_get world.nodes giver ≡ Some theirs) × AreHeadsInCommon ours.replica theirs.replica theirs.pins heads
+    × (slice_get world.nodes giver ≡ Some theirs) × AreLeftOut scope ours theirs heads
+
+-- what is asked of a scope above common nodes
+abbrev pub asking : Scope → Vec Node Global → Ask
+asking scope common = record { common = common; scope = scope }
 
 -- the events of a command in a world, where names stand for these places, ids and numbers: a pull asks for what is
--- offered above what both have in common, and what it takes hangs on the answer
+-- offered above what it leaves out, and what it takes hangs on the answer
 abbrev pub AreEventsOf : Snapshot KeptValue → Meaning ℕ → Meaning Node → Meaning ℕ → Command → List PeerAnswer
     → List PeerEvent → Type 0
 AreEventsOf world places ids numbers (node at) answers events = events ≡ []
@@ -231,16 +244,17 @@ AreEventsOf world places ids numbers (operation at op) answers events =
 AreEventsOf world places ids numbers (Mark at marking) answers events =
     (place : ℕ) × (asked : PeerMark) × (places at.now ≡ Some place) × IsMark ids marking asked
     × (events ≡ event.Mark place asked ∷ [])
-AreEventsOf world places ids numbers (Offer at message labels) answers events =
+AreEventsOf world places ids numbers (Offer scope at message labels) answers events =
     (place : ℕ) × (common : Vec Node Global) × (places at.now ≡ Some place) × AreIds ids labels.now common.items
-    × (events ≡ event.Offer place common ∷ [])
+    × (events ≡ event.Offer place (asking scope common) ∷ [])
 AreEventsOf world places ids numbers (Take at message) answers events =
     (place : ℕ) × (number : ℕ) × (places at.now ≡ Some place) × (numbers message.now ≡ Some number)
     × (events ≡ event.Take place number ∷ [])
-AreEventsOf world places ids numbers (Pull to from) answers events =
+AreEventsOf world places ids numbers (Pull scope to from) answers events =
     (giver : ℕ) × (taker : ℕ) × (common : Vec Node Global) × (places from.now ≡ Some giver)
     × (places to.now ≡ Some taker)
-    × AreCommonAt world taker giver common.items × (events ≡ event.Offer giver common ∷ taken taker answers)
+    × AreLeftOutAt scope world taker giver common.items
+    × (events ≡ event.Offer giver (asking scope common) ∷ taken taker answers)
 AreEventsOf world places ids numbers (Report at) answers events = IsSome (node_at world places at.now) × (events ≡ [])
 AreEventsOf world places ids numbers (Agree one other) answers events =
     IsSome (node_at world places one.now) × IsSome (node_at world places other.now) × (events ≡ [])

@@ -100,12 +100,13 @@ AreNamed old (operation at op) t new =
     × AreLabelled old.labels (new_labels op) t.answers new.labels × (new.messages ≡ old.messages)
 AreNamed old (Mark at marking) t new = (new.nodes ≡ old.nodes) × (new.labels ≡ old.labels)
     × (new.messages ≡ old.messages)
-AreNamed old (Offer at message labels) t new =
+AreNamed old (Offer scope at message labels) t new =
     (new.nodes ≡ old.nodes) × (new.labels ≡ old.labels) × (numbers old message.now ≡ None)
     × IsKept old.messages message.now t.answers new.messages
 AreNamed old (Take at message) t new = (new.nodes ≡ old.nodes) × (new.labels ≡ old.labels)
     × (new.messages ≡ old.messages)
-AreNamed old (Pull to from) t new = (new.nodes ≡ old.nodes) × (new.labels ≡ old.labels) × (new.messages ≡ old.messages)
+AreNamed old (Pull scope to from) t new = (new.nodes ≡ old.nodes) × (new.labels ≡ old.labels)
+    × (new.messages ≡ old.messages)
 AreNamed old (Report at) t new = (new.nodes ≡ old.nodes) × (new.labels ≡ old.labels) × (new.messages ≡ old.messages)
 AreNamed old (Agree one other) t new = (new.nodes ≡ old.nodes) × (new.labels ≡ old.labels)
     × (new.messages ≡ old.messages)

@@ -9,10 +9,9 @@ ghost use Rattle.hg_script.specs.Printing.{answer_line};
 
 use crate::fault::RunFault;
 use crate::output::print_refused;
-use hg_changeset::Node;
 use hg_history::Fault;
 use hg_join::NoMemory;
-use hg_peer::{Mark, Peer, PeerRefusal};
+use hg_peer::{Ask, Mark, Peer, PeerRefusal};
 use hg_replica::Change;
 use hg_rewrite::Op;
 use hg_world::{Answer, Event, World};
@@ -20,7 +19,7 @@ use std::alloc::Global;
 use std::io::Write;
 
 /// What may be asked of a world of peers.
-pub type PeerEvent = Event<Op, Vec<Node>, Mark>;
+pub type PeerEvent = Event<Op, Ask, Mark>;
 
 /// What it answers.
 pub type PeerAnswer = Answer<Change, PeerRefusal, Fault>;

@@ -7,7 +7,7 @@ ghost use Rattle.hg_replica.specs.State.{Below, IsSameState};
 ghost use Rattle.hg_script.specs.Commands.{texts};
 ghost use Rattle.hg_script.specs.Endings.{AreLabelsFree, IsCommandFault, IsDecided, IsLeftBy, IsNodeFault};
 ghost use Rattle.hg_script.specs.Endings.{IsTakenFault};
-ghost use Rattle.hg_script.specs.Events.{AreCommonAt, IsTakeFault, no_trace};
+ghost use Rattle.hg_script.specs.Events.{AreLeftOutAt, IsTakeFault, no_trace};
 ghost use Rattle.hg_script.specs.Names.{value_of};
 ghost use Rattle.hg_script.specs.Outputs.{Printed};
 ghost use Rattle.hg_script.specs.Printing.{IsDone, PrintsTaken, agree_line};
@@ -25,7 +25,7 @@ use crate::report::print_report;
 use hg_changeset::{Changeset, Node};
 use hg_discovery::heads_in_common_kept;
 use hg_join::{JoinState, NoMemory};
-use hg_peer::Peer;
+use hg_peer::{Ask, Peer, Scope};
 use hg_replica::{Part, Replica};
 use hg_rewrite::{Op, decide_kept};
 use hg_view::Kept;
@@ -102,11 +102,11 @@ impl Fleet {
             Command::Node(at) => self.add_node(number, at),
             Command::Operation(at, operation) => self.operate(number, at, operation, writer),
             Command::Mark(at, marking) => self.mark(number, at, marking, writer),
-            Command::Offer(at, message, labels) => {
-                self.keep_offer(number, at, message, labels, writer)
+            Command::Offer(scope, at, message, labels) => {
+                self.keep_offer(number, scope, at, message, labels, writer)
             }
             Command::Take(at, message) => self.take(number, at, message, writer),
-            Command::Pull(to, from) => self.pull(number, to, from, writer),
+            Command::Pull(scope, to, from) => self.pull(number, scope, to, from, writer),
             Command::Report(at) => self.report(number, at, writer),
             Command::Agree(one, other) => self.agree(number, one, other, writer),
         }
@@ -208,20 +208,22 @@ impl Fleet {
         Ok(())
     }
 
-    // Keeps what a node offers above the changesets of these labels under the name of a message. A refused offer binds
-    // no name.
+    // Keeps what a node offers of a scope above the changesets of these labels under the name of a message. A refused
+    // offer binds no name.
     fn keep_offer<W: Write>(
         &mut self,
         number: usize,
+        scope: Scope,
         at: &[u8],
         message: &[u8],
         labels: &[&[u8]],
         writer: &mut W,
     ) -> Result<(), RunFault>
-        ensures ok { OnOk result (IsDone number self.old (Command.Offer at.entry message.entry labels.entry) self.new
-            (W.contents writer.old) (W.contents writer.new)) }
+        ensures ok { OnOk result (IsDone number self.old
+            (Command.Offer scope at.entry message.entry labels.entry) self.new (W.contents writer.old)
+            (W.contents writer.new)) }
         ensures err { IfErr result (λ fault.
-            IsLeftBy number self.old (Command.Offer at.entry message.entry labels.entry) fault self.new) }
+            IsLeftBy number self.old (Command.Offer scope at.entry message.entry labels.entry) fault self.new) }
     {
         let names = Names {
             alloc: self.alloc,
@@ -235,7 +237,7 @@ impl Fleet {
         }
         let event = Event::Offer {
             at: place,
-            ask: common,
+            ask: Ask { common, scope },
         };
         let answer = run_event(self.alloc, number, &mut self.world, event, writer)?;
         keep(self.alloc, &mut self.messages, message, &answer)?;
@@ -264,43 +266,55 @@ impl Fleet {
         Ok(())
     }
 
-    // One node takes in what the other offers above the changesets that they have in common.
+    // One node takes in what the other offers of a scope: what it serves above the changesets that they have in common,
+    // or the whole of it.
     fn pull<W: Write>(
         &mut self,
         number: usize,
+        scope: Scope,
         to: &[u8],
         from: &[u8],
         writer: &mut W,
     ) -> Result<(), RunFault>
-        ensures ok { OnOk result (IsDone number self.old (Command.Pull to.entry from.entry) self.new
+        ensures ok { OnOk result (IsDone number self.old (Command.Pull scope to.entry from.entry) self.new
             (W.contents writer.old) (W.contents writer.new)) }
         ensures err { IfErr result
-            (λ fault. IsLeftBy number self.old (Command.Pull to.entry from.entry) fault self.new) }
+            (λ fault. IsLeftBy number self.old (Command.Pull scope to.entry from.entry) fault self.new) }
     {
         let giver = self.place(number, from)?;
         let taker = self.place(number, to)?;
-        let common = self.common(number, taker, giver)?;
+        let common = self.left_out(number, scope, taker, giver)?;
         let offer = Event::Offer {
             at: giver,
-            ask: common,
+            ask: Ask { common, scope },
         };
         let answer = run_event(self.alloc, number, &mut self.world, offer, writer)?;
         take_offered(self.alloc, number, &mut self.world, taker, &answer, writer)?;
         Ok(())
     }
 
-    // The heads of what the taker has in common with the giver.
-    fn common(&self, number: usize, taker: usize, giver: usize) -> Result<Vec<Node>, RunFault>
-        ensures ok { IfOk result (λ heads. AreCommonAt self.now.world taker giver heads.items) }
+    // What the taker leaves out of what it asks of the giver: by its heads what it has in common with it, where it asks
+    // for what is served, and nothing otherwise.
+    fn left_out(
+        &self,
+        number: usize,
+        scope: Scope,
+        taker: usize,
+        giver: usize,
+    ) -> Result<Vec<Node>, RunFault>
+        ensures ok { IfOk result (λ heads. AreLeftOutAt scope self.now.world taker giver heads.items) }
         ensures err { IfErr result (λ fault.
             (fault ≡ RunFault.NoMemory)
             ⊎ (IsNodeFault number self.now taker fault ⊎ IsNodeFault number self.now giver fault)) }
     {
         let asker = self.kept(number, taker)?;
         let other = self.kept(number, giver)?;
-        match heads_in_common_kept(self.alloc, asker, other) {
-            Ok(heads) => Ok(heads),
-            Err(_) => Err(RunFault::NoMemory),
+        match scope {
+            Scope::Whole => Ok(Vec::new(self.alloc)),
+            Scope::Served => match heads_in_common_kept(self.alloc, asker, other) {
+                Ok(heads) => Ok(heads),
+                Err(_) => Err(RunFault::NoMemory),
+            },
         }
     }
 

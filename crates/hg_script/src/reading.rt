@@ -18,6 +18,7 @@ use crate::fault::LineFault;
 use crate::limits::NAME_LIMIT;
 use crate::marking::Marking;
 use crate::operation::{Operation, Parents};
+use hg_peer::Scope;
 use hg_phases::Phase;
 
 /// The command of a line's words, none where there are no words, or the first fault that they show.
@@ -47,13 +48,19 @@ fn read_line<'a>(word: &[u8], words: &'a [&'a [u8]]) -> Result<Command<'a>, Line
         return read_unpin(words);
     }
     if word == b"offer".as_slice() {
-        return read_offer(words);
+        return read_offer(Scope::Served, words);
+    }
+    if word == b"whole".as_slice() {
+        return read_offer(Scope::Whole, words);
     }
     if word == b"take".as_slice() {
         return read_take(words);
     }
     if word == b"pull".as_slice() {
-        return read_pull(words);
+        return read_pull(Scope::Served, words);
+    }
+    if word == b"share".as_slice() {
+        return read_pull(Scope::Whole, words);
     }
     if word == b"report".as_slice() {
         return read_report(words);
@@ -228,13 +235,13 @@ fn read_unpin<'a>(words: &'a [&'a [u8]]) -> Result<Command<'a>, LineFault>
     }
 }
 
-fn read_offer<'a>(words: &'a [&'a [u8]]) -> Result<Command<'a>, LineFault>
-    ensures { FormAnswer offer_form words.now result }
+fn read_offer<'a>(scope: Scope, words: &'a [&'a [u8]]) -> Result<Command<'a>, LineFault>
+    ensures { FormAnswer (offer_form scope) words.now result }
 {
     match words {
         [at, message, labels @ ..] => {
             check_names(words)?;
-            Ok(Command::Offer(*at, *message, labels))
+            Ok(Command::Offer(scope, *at, *message, labels))
         }
         _ => Err(LineFault::WordCount),
     }
@@ -252,13 +259,13 @@ fn read_take<'a>(words: &'a [&'a [u8]]) -> Result<Command<'a>, LineFault>
     }
 }
 
-fn read_pull<'a>(words: &'a [&'a [u8]]) -> Result<Command<'a>, LineFault>
-    ensures { FormAnswer pull_form words.now result }
+fn read_pull<'a>(scope: Scope, words: &'a [&'a [u8]]) -> Result<Command<'a>, LineFault>
+    ensures { FormAnswer (pull_form scope) words.now result }
 {
     match words {
         [to, from] => {
             check_names(words)?;
-            Ok(Command::Pull(*to, *from))
+            Ok(Command::Pull(scope, *to, *from))
         }
         _ => Err(LineFault::WordCount),
     }

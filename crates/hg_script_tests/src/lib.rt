@@ -8,6 +8,8 @@ mod labels;
 #[cfg(test)]
 mod pins;
 #[cfg(test)]
+mod sharing;
+#[cfg(test)]
 mod streams;
 #[cfg(test)]
 mod tests;

@@ -98,8 +98,10 @@ A script has a command on each line; the words are divided by spaces:
   pin A b             b and its ancestors stay in view at A, and are given to others, though b is obsolete
   unpin A b           takes that pin away
   offer A m b         keeps what A gives to whoever has b and its ancestors as the message m; any number of labels
+  whole A m b         the same of all that A holds and isn't secret, hidden or not, with every marker
   take B m            B takes the message m in
   pull B A            B takes in what A offers
+  share B A           B takes in all that A holds and isn't secret, with every marker
   report A            prints the changesets of A with their phases and instabilities, and counts them and the markers
   agree A B           prints whether A and B hold the same in the same phases
 Empty lines and lines that begin with # are skipped.

@@ -14,7 +14,8 @@ returns-in_err-print_refused-in-Refused-clause-fault g c =
     (unknown_where _ _ _ _ (nowhere _ c.args.event _ _ _ c.in-Refused.is c.in_ok-answer.ensures.happens)
     c.in_err-print_refused-in-Refused.ensures.err)
 
-pub returns-in_err-print_refused-in-Refused-clause-unchanged : goal.returns-in_err-print_refused-in-Refused-clause-unchanged
+pub returns-in_err-print_refused-in-Refused-clause-unchanged
+    : goal.returns-in_err-print_refused-in-Refused-clause-unchanged
 returns-in_err-print_refused-in-Refused-clause-unchanged g c =
     let p = err_from_is_err_and c.from_residual-in_err-print_refused-in-Refused.result
     c.from_residual-in_err-print_refused-in-Refused.ensures.1 in

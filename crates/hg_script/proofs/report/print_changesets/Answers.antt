@@ -18,7 +18,8 @@ pub returns-clause-printed : goal.returns-clause-printed
 returns-clause-printed g c =
     let rows = row_values c.deref.result.now in
     let d = c.in_ok-print_rows.ensures.printed in
-    let are = subst (λ (rs : List (Word × ℕ)). AreRows c.args.kept.now.replica (row_values rs)) (sym c.deref.ensures.value)
+    let are = subst (λ (rs : List (Word × ℕ)). AreRows c.args.kept.now.replica (row_values rs))
+    (sym c.deref.ensures.value)
     (subst (λ (t : ReplicaState). AreRows t (row_values c.in_ok-rows.rows.items)) c.replica.ensures.replica
     c.in_ok-rows.ensures) in
     (rows, d.0, are, d.1, d.2)

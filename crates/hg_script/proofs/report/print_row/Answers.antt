@@ -32,6 +32,7 @@ returns-clause-printed g c =
     ∙ ap (λ (w : Text). label ++ w) c.phase_word.ensures in
     let whole = ap line_of (c.in_ok-push.ensures ∙ ap (λ (l : Text). with_words l words) front) in (
       line_of c.push.new.line.items,
-      row_of s place c.unwrap-node.result phase label _ words c.replica-replica.ensures.valid at held c.words_of.ensures whole,
+      row_of s place c.unwrap-node.result phase label _ words c.replica-replica.ensures.valid at held
+          c.words_of.ensures whole,
       c.in_ok-print_line.ensures.printed,
     )

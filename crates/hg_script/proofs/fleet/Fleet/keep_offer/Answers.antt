@@ -2,7 +2,7 @@ use Rattle.std.proofs.Common.{refl, sym, ap, ◌∙◌, ℕ, Option, is_some, in
 use Rattle.std.proofs.lemmas.Result.{err_from_is_err_and}
 use Rattle.hg_world.specs.declared.event.Event.TheVariants.{Offer}
 use Rattle.hg_script.specs.declared.command.Command.TheVariants as command
-use Rattle.hg_script.specs.Events.{no_trace}
+use Rattle.hg_script.specs.Events.{asking, no_trace}
 use Rattle.hg_script.specs.Printing.{answer_line}
 use Rattle.hg_script.proofs.EndingLemmas.{unknown_fault, no_place, fault_of_command, offer_nowhere}
 use Rattle.hg_script.proofs.NameLemmas.{unbound}
@@ -13,8 +13,8 @@ pub returns-in_err-common-clause-err : goal.returns-in_err-common-clause-err
 returns-in_err-common-clause-err g c =
     let p = err_from_is_err_and c.from_residual.result c.from_residual.ensures.1 in
     rw (p.1, p.2) (
-      fault_of_command _ _ c.args.self.now (command.Offer c.args.at c.args.message c.args.labels) _ (λ h. inr h)
-          c.in_err-common.ensures.err,
+      fault_of_command _ _ c.args.self.now (command.Offer c.args.scope c.args.at c.args.message c.args.labels) _
+          (λ h. inr h) c.in_err-common.ensures.err,
       (no_trace, refl),
     )
 
@@ -23,7 +23,7 @@ returns-in_err-place-clause-err g c =
     let p = err_from_is_err_and c.from_residual-in_err-place.result c.from_residual-in_err-place.ensures.1 in
     let missing = no_place c.args.self.now _ c.in_err-place.ensures.err.1 in
     rw (p.1, p.2) (
-      unknown_fault _ c.args.self.now (command.Offer c.args.at c.args.message c.args.labels) _
+      unknown_fault _ c.args.self.now (command.Offer c.args.scope c.args.at c.args.message c.args.labels) _
           c.in_err-place.ensures.err.0 (inl missing),
       (no_trace, refl),
     )
@@ -37,10 +37,10 @@ returns-then-is_some-clause-err g c =
 pub returns-in_err-answer-clause-err : goal.returns-in_err-answer-clause-err
 returns-in_err-answer-clause-err g c =
     let p = err_from_is_err_and c.from_residual-in_err-answer.result c.from_residual-in_err-answer.ensures.1 in
-    let leads = offer_nowhere c.args.self.now c.args.at c.in_ok-place.place c.in_ok-common.common
-    c.in_ok-place.ensures.ok in
+    let leads = offer_nowhere c.args.self.now c.args.at c.in_ok-place.place
+    (asking c.args.scope c.in_ok-common.common) c.in_ok-place.ensures.ok in
     rw (p.1, p.2) (
-      fault_of_command _ _ c.args.self.now (command.Offer c.args.at c.args.message c.args.labels) _
+      fault_of_command _ _ c.args.self.now (command.Offer c.args.scope c.args.at c.args.message c.args.labels) _
           (λ h. inl (leads h)) c.in_err-answer.ensures.fault,
       (no_trace, c.in_err-answer.ensures.unchanged),
     )
@@ -48,13 +48,16 @@ returns-in_err-answer-clause-err g c =
 pub returns-in_err-keep-clause-err : goal.returns-in_err-keep-clause-err
 returns-in_err-keep-clause-err g c =
     let p = err_from_is_err_and c.from_residual-in_err-keep.result c.from_residual-in_err-keep.ensures.1 in
-    rw (p.1, p.2, c.in_err-keep.ensures.err)
-    (tt, ran_after _ _ _ (Offer c.in_ok-place.place c.in_ok-common.common) _ c.in_ok-answer.ensures.happens refl)
+    rw (p.1, p.2, c.in_err-keep.ensures.err) (
+      tt,
+      ran_after _ _ _ (Offer c.in_ok-place.place (asking c.args.scope c.in_ok-common.common)) _
+          c.in_ok-answer.ensures.happens refl,
+    )
 
 pub returns-clause-ok : goal.returns-clause-ok
 returns-clause-ok g c =
     let h = c.in_ok-answer.ensures.happens in (
-      one (Offer c.in_ok-place.place c.in_ok-common.common) c.in_ok-answer.answer h.0,
+      one (Offer c.in_ok-place.place (asking c.args.scope c.in_ok-common.common)) c.in_ok-answer.answer h.0,
       answer_line c.args.number c.in_ok-answer.answer,
       record {
         asked = (c.in_ok-place.place, c.in_ok-common.common, c.in_ok-place.ensures.ok, c.in_ok-common.ensures.ok, refl);

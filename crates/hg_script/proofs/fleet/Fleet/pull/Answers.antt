@@ -2,7 +2,7 @@ use Rattle.std.proofs.Common.{refl, inl, inr, ap}
 use Rattle.std.proofs.lemmas.Result.{err_from_is_err_and}
 use Rattle.hg_world.specs.declared.event.Event.TheVariants.{Offer}
 use Rattle.hg_script.specs.declared.command.Command.TheVariants as command
-use Rattle.hg_script.specs.Events.{no_trace}
+use Rattle.hg_script.specs.Events.{asking, no_trace}
 use Rattle.hg_script.proofs.EndingLemmas.{unknown_fault, no_place, fault_of_command, offer_nowhere, pull_nodes}
 use Rattle.hg_script.proofs.EndingLemmas.{taken_fails}
 use Rattle.hg_script.proofs.ScriptLemmas.{pulled, ran_after}
@@ -13,7 +13,7 @@ returns-in_err-giver-clause-err g c =
     let p = err_from_is_err_and c.from_residual.result c.from_residual.ensures.1 in
     let missing = no_place c.args.self.now _ c.in_err-giver.ensures.err.1 in
     rw (p.1, p.2) (
-      unknown_fault _ c.args.self.now (command.Pull c.args.to c.args.from) _ c.in_err-giver.ensures.err.0
+      unknown_fault _ c.args.self.now (command.Pull c.args.scope c.args.to c.args.from) _ c.in_err-giver.ensures.err.0
           (inr missing),
       (no_trace, refl),
     )
@@ -23,7 +23,7 @@ returns-in_err-taker-clause-err g c =
     let p = err_from_is_err_and c.from_residual-in_err-taker.result c.from_residual-in_err-taker.ensures.1 in
     let missing = no_place c.args.self.now _ c.in_err-taker.ensures.err.1 in
     rw (p.1, p.2) (
-      unknown_fault _ c.args.self.now (command.Pull c.args.to c.args.from) _ c.in_err-taker.ensures.err.0
+      unknown_fault _ c.args.self.now (command.Pull c.args.scope c.args.to c.args.from) _ c.in_err-taker.ensures.err.0
           (inl missing),
       (no_trace, refl),
     )
@@ -32,18 +32,18 @@ pub returns-in_err-common-clause-err : goal.returns-in_err-common-clause-err
 returns-in_err-common-clause-err g c =
     let p = err_from_is_err_and c.from_residual-in_err-common.result c.from_residual-in_err-common.ensures.1 in
     rw (p.1, p.2) (
-      pull_nodes _ c.args.self.now c.args.to c.args.from _ _ _ c.in_ok-giver.ensures.ok c.in_ok-taker.ensures.ok
-          c.in_err-common.ensures.err,
+      pull_nodes _ c.args.self.now c.args.scope c.args.to c.args.from _ _ _ c.in_ok-giver.ensures.ok
+          c.in_ok-taker.ensures.ok c.in_err-common.ensures.err,
       (no_trace, refl),
     )
 
 pub returns-in_err-answer-clause-err : goal.returns-in_err-answer-clause-err
 returns-in_err-answer-clause-err g c =
     let p = err_from_is_err_and c.from_residual-in_err-answer.result c.from_residual-in_err-answer.ensures.1 in
-    let leads = offer_nowhere c.args.self.now c.args.from c.in_ok-giver.giver c.in_ok-common.common
-    c.in_ok-giver.ensures.ok in
+    let leads = offer_nowhere c.args.self.now c.args.from c.in_ok-giver.giver
+    (asking c.args.scope c.in_ok-common.common) c.in_ok-giver.ensures.ok in
     rw (p.1, p.2) (
-      fault_of_command _ _ c.args.self.now (command.Pull c.args.to c.args.from) _ (λ h. inr (leads h))
+      fault_of_command _ _ c.args.self.now (command.Pull c.args.scope c.args.to c.args.from) _ (λ h. inr (leads h))
           c.in_err-answer.ensures.fault,
       (no_trace, c.in_err-answer.ensures.unchanged),
     )
@@ -53,17 +53,17 @@ returns-in_err-take_offered-clause-err g c =
     let p = err_from_is_err_and c.from_residual-in_err-take_offered.result
     c.from_residual-in_err-take_offered.ensures.1 in
     let happens = c.in_ok-answer.ensures.happens in
-    let offer = Offer c.in_ok-giver.giver c.in_ok-common.common in
+    let offer = Offer c.in_ok-giver.giver (asking c.args.scope c.in_ok-common.common) in
     rw (p.1, p.2) (
-      taken_fails _ c.args.self.now (command.Pull c.args.to c.args.from) c.run_event.new.world c.in_ok-giver.giver
-          c.in_ok-taker.taker c.in_ok-common.common c.in_ok-answer.answer _ c.in_ok-common.ensures.ok happens
+      taken_fails _ c.args.self.now c.args.scope (command.Pull c.args.scope c.args.to c.args.from)
+          c.run_event.new.world c.in_ok-giver.giver c.in_ok-taker.taker c.in_ok-common.common c.in_ok-answer.answer _ c.in_ok-common.ensures.ok happens
           c.in_err-take_offered.ensures.err,
       ran_after _ _ _ offer _ happens c.in_err-take_offered.ensures.unchanged,
     )
 
 pub returns-clause-ok : goal.returns-clause-ok
 returns-clause-ok g c =
-    pulled c.args.number c.args.self.now c.args.to c.args.from c.in_ok-giver.giver c.in_ok-taker.taker
+    pulled c.args.number c.args.self.now c.args.scope c.args.to c.args.from c.in_ok-giver.giver c.in_ok-taker.taker
     c.in_ok-common.common c.in_ok-answer.answer c.run_event.new.world _ _ _ _ c.in_ok-giver.ensures.ok
     c.in_ok-taker.ensures.ok c.in_ok-common.ensures.ok c.in_ok-answer.ensures.told c.in_ok-answer.ensures.happens
     c.in_ok-answer.ensures.printed c.in_ok-take_offered.ensures.ok refl refl refl
