@@ -16,11 +16,12 @@ mod states;
 mod successors;
 
 use discoveries::discover;
+use hg_message::Scope;
 use histories::History;
 use keeping::{absorb, keep, tell};
 use markers::{Shape, add_markers, list_markers, read_markers, write_markers};
 use messages::{find_offer, make_offer, read_offer, send_offer, take_offer, write_offer};
-use pinning::{Pinned, pin};
+use pinning::{Pinned, pin, unpin_many};
 use rewrites::{amend_bottom, tell_instabilities};
 use states::{
     absorb_at_once, absorb_one_by_one, ask_below, join_into_empty, join_into_equal, tell_roots,
@@ -90,7 +91,8 @@ fn spent_on_exchange(
         "divergence-of-one-chain" => tell_divergent(rt, size, one_chain(size)),
         "offer" => make_offer(rt, size),
         "find-offer" => find_offer(rt, size),
-        "send-offer" => send_offer(rt, size),
+        "send-offer" => send_offer(rt, size, Scope::Served),
+        "send-whole" => send_offer(rt, size, Scope::Whole),
         "write-offer" => write_offer(rt, size),
         "read-offer" => read_offer(rt, size),
         "take-offer" => take_offer(rt, size),
@@ -118,6 +120,7 @@ fn spent_on_keeping(
         "tell-amends" => tell(rt, size, History::Amends),
         "pin-top" => pin(rt, size, Pinned::Top),
         "pin-bottom" => pin(rt, size, Pinned::Bottom),
+        "unpin-many" => unpin_many(rt, size),
         _ => Ok(Duration::ZERO),
     }
 }

@@ -3,7 +3,7 @@
 use crate::chain::{chain_on, replica_of};
 use crate::markers::{add_marker, node};
 use hg_changeset::Node;
-use hg_message::{Message, Outgoing, offer};
+use hg_message::{Message, Outgoing, Scope, offer};
 use hg_replica::{Part, Replica};
 use hg_view::Pins;
 use std::alloc::{AllocError, Global};
@@ -15,7 +15,7 @@ pub fn make_offer(rt: &(impl CpuClock + AllocGlobal), size: usize) -> io::Result
     let alloc = rt.alloc();
     let replica = marked(alloc, size)?;
     let before = rt.thread_cpu_time()?;
-    let _offered = offer(alloc, &replica, &Pins::new(alloc), &[]);
+    let _offered = offer(alloc, &replica, &Pins::new(alloc), &[], Scope::Served);
     Ok(rt.thread_cpu_time()?.saturating_sub(before))
 }
 
@@ -24,23 +24,33 @@ pub fn find_offer(rt: &(impl CpuClock + AllocGlobal), size: usize) -> io::Result
     let alloc = rt.alloc();
     let replica = marked(alloc, size)?;
     let before = rt.thread_cpu_time()?;
-    let _found = Outgoing::above(alloc, &replica, &Pins::new(alloc), &[]);
+    let _found = Outgoing::above(alloc, &replica, &Pins::new(alloc), &[], Scope::Served);
     Ok(rt.thread_cpu_time()?.saturating_sub(before))
 }
 
-/// The same, found and written straight from the replica.
-pub fn send_offer(rt: &(impl CpuClock + AllocGlobal), size: usize) -> io::Result<Duration> {
+/// The same of a scope, found and written straight from the replica.
+pub fn send_offer(
+    rt: &(impl CpuClock + AllocGlobal),
+    size: usize,
+    scope: Scope,
+) -> io::Result<Duration> {
     let alloc = rt.alloc();
     let replica = marked(alloc, size)?;
     let before = rt.thread_cpu_time()?;
-    let _written = bytes_of(alloc, &replica);
+    let _written = bytes_of(alloc, &replica, scope);
     Ok(rt.thread_cpu_time()?.saturating_sub(before))
 }
 
 /// An offer, written.
 pub fn write_offer(rt: &(impl CpuClock + AllocGlobal), size: usize) -> io::Result<Duration> {
     let alloc = rt.alloc();
-    match offer(alloc, &marked(alloc, size)?, &Pins::new(alloc), &[]) {
+    match offer(
+        alloc,
+        &marked(alloc, size)?,
+        &Pins::new(alloc),
+        &[],
+        Scope::Served,
+    ) {
         Ok(message) => time_writing(rt, &message),
         Err(_) => Ok(Duration::ZERO),
     }
@@ -55,7 +65,7 @@ fn time_writing(rt: &impl CpuClock, message: &Message) -> io::Result<Duration> {
 /// An offer, read from its bytes.
 pub fn read_offer(rt: &(impl CpuClock + AllocGlobal), size: usize) -> io::Result<Duration> {
     let alloc = rt.alloc();
-    let bytes = bytes_of(alloc, &marked(alloc, size)?)?;
+    let bytes = bytes_of(alloc, &marked(alloc, size)?, Scope::Served)?;
     let before = rt.thread_cpu_time()?;
     let _read = Message::from_bytes(alloc, &bytes);
     Ok(rt.thread_cpu_time()?.saturating_sub(before))
@@ -64,7 +74,7 @@ pub fn read_offer(rt: &(impl CpuClock + AllocGlobal), size: usize) -> io::Result
 /// An offer, taken in by an empty replica, to which it is handed over.
 pub fn take_offer(rt: &(impl CpuClock + AllocGlobal), size: usize) -> io::Result<Duration> {
     let alloc = rt.alloc();
-    let bytes = bytes_of(alloc, &marked(alloc, size)?)?;
+    let bytes = bytes_of(alloc, &marked(alloc, size)?, Scope::Served)?;
     match Message::from_bytes(alloc, &bytes) {
         Ok(message) => time_taking(rt, message.into_part()?, &mut Replica::new(alloc)),
         Err(_) => Ok(Duration::ZERO),
@@ -77,9 +87,9 @@ fn time_taking(rt: &impl CpuClock, part: Part, replica: &mut Replica) -> io::Res
     Ok(rt.thread_cpu_time()?.saturating_sub(before))
 }
 
-// All that a replica offers, written.
-fn bytes_of(alloc: Global, replica: &Replica) -> Result<Vec<u8>, AllocError> {
-    match Outgoing::above(alloc, replica, &Pins::new(alloc), &[]) {
+// All that a replica offers of a scope, written.
+fn bytes_of(alloc: Global, replica: &Replica, scope: Scope) -> Result<Vec<u8>, AllocError> {
+    match Outgoing::above(alloc, replica, &Pins::new(alloc), &[], scope) {
         Ok(found) => found.to_bytes().map_err(|_| AllocError),
         Err(_) => Err(AllocError),
     }

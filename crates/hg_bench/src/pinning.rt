@@ -1,5 +1,5 @@
 //! Cases of pins: what it costs to bring hidden changesets into view, and to hide them again.
-use crate::chain::{bottom_of, chain_on, empty, replica_of, tip_of};
+use crate::chain::{add_draft, bottom_of, chain_on, empty, replica_of, tip_of};
 use crate::markers::{add_marker, node};
 use hg_changeset::Node;
 use hg_replica::Part;
@@ -50,6 +50,34 @@ fn time_pins(rt: &impl CpuClock, kept: &mut Kept, target: Node) -> io::Result<Du
     for _ in 0..FEW {
         let _pinned = kept.pin(target);
         let _unpinned = kept.unpin(target);
+    }
+    Ok(rt.thread_cpu_time()?.saturating_sub(before))
+}
+
+/// So many roots, all of which are pinned, are unpinned one by one.
+pub fn unpin_many(rt: &(impl CpuClock + AllocGlobal), size: usize) -> io::Result<Duration> {
+    let alloc = rt.alloc();
+    let roots = roots(alloc, size)?;
+    let mut kept = Kept::new(alloc, replica_of(alloc, &roots))?;
+    for root in roots.changesets.iter() {
+        let _pinned = kept.pin(root.node());
+    }
+    time_unpins(rt, &mut kept, &roots)
+}
+
+// So many changesets without parents.
+fn roots(alloc: Global, size: usize) -> Result<Part, AllocError> {
+    let mut part = empty(alloc);
+    for number in 0..size {
+        add_draft(alloc, &mut part, Node::NULL, number)?;
+    }
+    Ok(part)
+}
+
+fn time_unpins(rt: &impl CpuClock, kept: &mut Kept, pinned: &Part) -> io::Result<Duration> {
+    let before = rt.thread_cpu_time()?;
+    for changeset in pinned.changesets.iter() {
+        let _unpinned = kept.unpin(changeset.node());
     }
     Ok(rt.thread_cpu_time()?.saturating_sub(before))
 }
