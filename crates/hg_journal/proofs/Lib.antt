@@ -1,0 +1,4 @@
+pub mod Prefixes
+pub mod EntryLemmas
+pub mod CellLemmas
+pub mod StepLemmas
