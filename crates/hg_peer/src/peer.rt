@@ -2,7 +2,7 @@
 ghost use Rattle.std.specs.Prelude.{◌≡◌, ◌↔◌, ◌⊎◌, Bool, false, Ok, IsTrue, IsOkAnd, IfOk, IfErr, OnOk, OnErr, IsErrOf};
 ghost use Rattle.hg_changeset.specs.declared.node.Node.{Node};
 ghost use Rattle.hg_join.specs.Order.{IsDue};
-ghost use Rattle.hg_replica.specs.Answer.{IsGrowthBeforeFault};
+ghost use Rattle.hg_replica.specs.Answer.{AbsorbAnswer, IsGrowthBeforeFault};
 ghost use Rattle.hg_replica.specs.Content.{content_of, IsValidContent, ContentBelow, ContentsJoined, ContentsCollide};
 ghost use Rattle.hg_replica.specs.Content.{ContentAdmits, ContentAfter, IsContentFault};
 ghost use Rattle.hg_replica.specs.ContentLaws.{replicas_ordered, replicas_stay_covered, replicas_absorbed};
@@ -172,6 +172,9 @@ impl JoinState for Peer {
         ensures err { OnErr result (self.new ≡ self.old) }
         ensures pins { self.new.pins ≡ self.old.pins }
 
+        // In the order in which it takes in, too.
+        ensures answer { AbsorbAnswer self.old.replica part.now result self.new.replica }
+
         // Want of memory is told only where something grows before a fault is met.
         ensures memory { IsErrOf result Fault.NoMemory → IsGrowthBeforeFault self.old.replica part.now }
     {
@@ -187,6 +190,9 @@ impl JoinState for Peer {
             ⊎ (fault ≡ Fault.NoMemory)) }
         ensures err { OnErr result (self.new ≡ self.old) }
         ensures pins { self.new.pins ≡ self.old.pins }
+
+        // In the order in which it takes in, too.
+        ensures answer { AbsorbAnswer self.old.replica part result self.new.replica }
 
         // Want of memory is told only where something grows before a fault is met.
         ensures memory { IsErrOf result Fault.NoMemory → IsGrowthBeforeFault self.old.replica part }

@@ -19,7 +19,8 @@ returns-clause-change c =
 pub returns-clause-valid : goal.returns-clause-valid
 returns-clause-valid c =
     rw (← c.self.view_is) (whatever_answer c.absorb_owned.result
-    (IsValidContent (content_of c.self.inside.kept.replica)) (content-valid c.self.inside.kept.replica c.absorb_owned.ensures.valid))
+    (IsValidContent (content_of c.self.inside.kept.replica))
+    (content-valid c.self.inside.kept.replica c.absorb_owned.ensures.valid))
 
 pub returns-clause-fault : goal.returns-clause-fault
 returns-clause-fault c =
@@ -31,3 +32,6 @@ returns-clause-err c =
     rw (← c.self.view_is) (unchanged-peer c.self.inside.kept c.absorb_owned.new.self c.absorb_owned.result
     c.absorb_owned.ensures.pins (unchanged c.self.inside.kept.replica c.absorb_owned.new.self.replica c.args.part
     c.absorb_owned.result c.absorb_owned.ensures.answer))
+
+pub returns-clause-answer : goal.returns-clause-answer
+returns-clause-answer c = rw (← c.self.view_is) c.absorb_owned.ensures.answer
