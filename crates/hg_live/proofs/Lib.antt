@@ -1,4 +1,9 @@
+pub mod AfterLemmas
+pub mod CallLemmas
+pub mod LookLemmas
 pub mod MoveLemmas
 pub mod OnceLemmas
+pub mod PassLemmas
 pub mod RestLemmas
+pub mod StatusLemmas
 pub mod ThreadLemmas

@@ -1,9 +1,48 @@
-//! What threads share: so far the inbox, a bounded queue of messages.
+//! What threads share: nodes, each a replica with a lock of its own, and inboxes between them.
+//!
+//! # Nodes
+//!
+//! A [`Node`] is opened from a [`Blank`], which a replica was handed to, under a name that the call picks for it. A
+//! thread uses it by a [`Pass`] of its own, of which 16 may be out at a time:
+//!
+//! ```text
+//! fn work<K: NodeName, R: Wait>(rt: &R, node: &Node<K, OpenGate, Writer<K, &R>>, pass: &mut Pass<K>, op: &Op, id: Id)
+//!     -> bool
+//! {
+//!     match node.local(rt, pass, op) {
+//!         // The operation's part is in the journal, and all that was accepted before it. This pass sees it now.
+//!         Ok(Accepted::Shown) => Node::<K, OpenGate, Writer<K, &R>>::read(pass, id).is_ok(),
+//!         // It is in the journal, but memory was wanting to publish it. The next call does that, too.
+//!         Ok(Accepted::Later) => true,
+//!         // Nothing changed.
+//!         Err(_) => false,
+//!     }
+//! }
+//! ```
+//!
+//! What a node accepts, one [`Entry`] after the other, is its journal: the parts of operations and of messages, and the
+//! marks of pins. [`Node::local`], [`Node::take`], [`Node::pin`] and [`Node::unpin`] work at the newest state, under the
+//! lock; [`Node::read`], [`Node::known`] and [`Node::offer`] answer from the state that was published last, without the
+//! lock, and wait for nobody.
+//!
+//! What a pass has seen, and what it was told, are beginnings of the one journal. So:
+//!
+//! - An accepted call tells its pass a list that ends with its own entry, decided at the state that the list without it
+//!   leads to. That list began with all that the pass had seen or been told.
+//! - A look answers from the state that a list leads to, which begins with all that the pass had seen. So what a pass
+//!   sees never goes back, and whoever saw its own call answered [`Accepted::Shown`] finds it.
+//! - After [`Node::meet`] two passes have seen one list, and were told one list.
+//! - [`Node::close`], which needs all passes whose calls were accepted, gives the replica that a list leads to which
+//!   begins with all that each of them had seen or been told, and has as many entries as these passes count accepted
+//!   calls: nothing entered the journal unasked.
+//!
+//! The state that entries lead to is the least one, part after part, above what the node opened with
+//! ([`states_are_least`]).
+//!
+//! # The inbox
 //!
 //! Any number of threads put messages into an [`Inbox`] and take messages out of it, each by a [`Seat`] of its own. No
 //! thread locks another out, and no message is copied.
-//!
-//! # What is promised
 //!
 //! The accepted puts of an inbox are numbered from 0, with no number left out, and so are the takes that give a
 //! message.
@@ -22,16 +61,41 @@
 //!
 //! # What is not promised
 //!
+//! The calls of a node that take its lock wait for whoever has it, and publishing waits for readers of what is no longer
+//! published, so no contract says that they return. Nothing is said of the order of two calls of passes that told each
+//! other nothing. That [`Accepted::Later`] comes only where memory was wanting, and a pass is refused only where there
+//! are 16, is for tests.
+//!
 //! [`Inbox::put`], [`Inbox::take`] and [`Inbox::close`] may wait for a thread that was stopped in the midst of its own
 //! call, so no contract says that they return. Nor can a contract tell a refusal that had to be from one that had not:
 //! what was so at one moment of a call leaves no trace. That `put` succeeds where there is room, that `take` gives a
 //! message where there is one, and that `close` succeeds where there is memory, is for tests.
 #![tactic(auto)]
 
+mod answer;
+mod desk;
+mod entry;
+mod gate;
 mod inbox;
+mod laws;
+mod name;
+mod node;
+mod pass;
 mod refusal;
 mod rule;
+mod status;
 mod steps;
+mod store;
 
+pub use answer::{Accepted, CallRefusal, CloseRefusal, LookRefusal, NoPass, NotOffered};
+pub use desk::Desk;
+pub use entry::Entry;
+pub use gate::{Gate, OpenGate};
 pub use inbox::{Inbox, Seat, Unclosed};
+pub use laws::states_are_least;
+pub use name::NodeName;
+pub use node::{Blank, Node, Unclosed as UnclosedNode};
+pub use pass::Pass;
 pub use refusal::{Full, InboxRefusal};
+pub use status::Status;
+pub use store::{Published, Step, Writer};

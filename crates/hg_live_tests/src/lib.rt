@@ -6,4 +6,12 @@ mod alone;
 #[cfg(test)]
 mod growth;
 #[cfg(test)]
+mod making;
+#[cfg(test)]
+mod passes;
+#[cfg(test)]
+mod shared;
+#[cfg(test)]
+mod starved;
+#[cfg(test)]
 mod threads;

@@ -1,0 +1,361 @@
+//! What lies under a node's lock.
+ghost use Rattle.std.specs.Prelude.{◌≡◌, ◌+◌, ◌<◌, ◌≤◌, ◌^◌, ◌++◌, ◌∷◌, ◌↔◌, [], List, fold, length, All};
+ghost use Rattle.std.specs.Prelude.{IfOk, IfErr, IsErrOf, OnOk, OnErr, IsTrue, MatchBool, IfSome};
+ghost use Rattle.std.specs.List.{sum_by};
+ghost use mathlib.Core.List.{IsPrefix};
+ghost use Rattle.left_right.specs.Handles.{published, pending};
+ghost use Rattle.hg_peer.specs.declared.mark.Mark.TheVariants as mark;
+ghost use Rattle.hg_live.specs.declared.answer.CallRefusal.TheVariants.{JournalFull};
+ghost use Rattle.hg_live.specs.declared.entry.Entry.{Entry as EntryValue};
+ghost use Rattle.hg_live.specs.After.{IsAfter};
+ghost use Rattle.hg_live.specs.NodeViews.{new_pass};
+ghost use Rattle.hg_live.specs.Calls.{IsAgainstEntry, IsAgainstLocal, IsAgainstTake, IsAgainstMarking, IsEnteredAt};
+ghost use Rattle.hg_live.specs.Calls.{IsNoted, IsTold, EntersLocal, EntersBytes, EntersMark};
+
+use crate::answer::{Accepted, CallRefusal, CloseRefusal, NoPass};
+use crate::entry::{Entry, accept};
+use crate::gate::Gate;
+use crate::name::NodeName;
+use crate::pass::Pass;
+use crate::store::{Step, Writer};
+use hg_changeset::Node;
+use hg_join::Actor;
+use hg_journal::{Front, History};
+use hg_peer::{Mark, Peer};
+use hg_replica::Replica;
+use hg_rewrite::Op;
+use std::alloc::Global;
+use std::collections::VecDeque;
+use std::marker::Model;
+use std::sync::Wait;
+use std::sync::ledger::{Book, Share};
+
+/// As many calls of a node are accepted, and as many passes made, as this.
+pub(crate) const MOST: u64 = 1 << 62;
+
+/// What lies under a node's lock: the working replica with its pins, the journal of all that was accepted, and the
+/// writer of what is published. Contracts see the journal, what of it is published, and the working state.
+#[derive(Drop)]
+pub struct Desk<K: NodeName, S> {
+    alloc: Global,
+    working: Peer,
+    journal: History<K, Entry>,
+    shown: Front<K, Entry>,
+    start: Front<K, Entry>,
+    waiting: VecDeque<Step<K>>,
+    writer: S,
+    book: Book<K>,
+    rest: Share<K>,
+    left: u64,
+}
+
+impl<K: NodeName, S> Model for Desk<K, S> {
+    ghost use Rattle.std.specs.Prelude.{◌≡◌, ◌+◌, length, []};
+    ghost use Rattle.std.specs.Coded.{codes};
+    ghost use Rattle.hg_marker.specs.Fields.{fields_code};
+    ghost use Rattle.hg_live.specs.After.{IsAfter};
+    ghost use Rattle.hg_live.specs.NodeViews.{DeskView};
+
+    ghost Value = { DeskView };
+
+    ghost coded = { Prim.hlevel (codes, fields_code) };
+
+    ghost view = { λ d. record { journal = d.journal; published = d.shown; working = d.working } };
+
+    ghost invariant = { λ d. record {
+      after : IsAfter K.opening d.journal d.working;
+      counted : d.book.total ≡ length d.journal;
+      unasked : d.rest.amount ≡ 0;
+      start : d.start ≡ [];
+      parts : d.rest.parts ≡ d.left + 1;
+    } };
+}
+
+impl<K: NodeName, R: Wait + Drop> Desk<K, Writer<K, R>> {
+    pub(crate) fn new(
+        alloc: Global,
+        working: Peer,
+        journal: History<K, Entry>,
+        writer: Writer<K, R>,
+        book: Book<K>,
+        rest: Share<K>,
+    ) -> Desk<K, Writer<K, R>>
+        requires working { working ≡ K.opening }
+        requires journal { journal ≡ [] }
+        requires book { book.total ≡ 0 }
+        requires rest { (rest.amount ≡ 0) × (rest.parts ≡ 2 ^ 62 + 1) }
+        ensures { result ≡ record { journal = []; published = []; working = K.opening } }
+    {
+        let start = journal.front();
+        Desk {
+            alloc,
+            working,
+            journal,
+            shown: start.again(),
+            start,
+            waiting: VecDeque::new(alloc),
+            writer,
+            book,
+            rest,
+            left: MOST,
+        }
+    }
+
+    // A new pass.
+    pub(crate) fn pass(&mut self) -> Result<Pass<K>, NoPass>
+        ensures new { IfOk result (λ p. p ≡ new_pass) }
+        ensures same { self.new ≡ self.old }
+    {
+        if self.left == 0 {
+            return Err(NoPass);
+        }
+        let Ok(reader) = self.writer.handle() else {
+            return Err(NoPass);
+        };
+        let share = self.rest.split_off(1, 0);
+        self.left -= 1;
+        Ok(Pass::new(self.alloc, reader, &self.start, share))
+    }
+
+    /// Decides an operation at the working replica, and lets its part enter the journal.
+    ///
+    /// Refuses [`CallRefusal::JournalFull`] first, and then what [`Peer::decide`](Actor::decide) refuses.
+    pub fn local<G: Gate>(
+        &mut self,
+        pass: &mut Pass<K>,
+        gate: &G,
+        op: &Op,
+    ) -> Result<Accepted, CallRefusal>
+        ensures entered { IfOk result
+            (λ answer. IsEnteredAt (EntersLocal op.now) answer self.old self.new pass.old pass.new) }
+        ensures full { IsErrOf result JournalFull ↔ (2 ^ 62 ≤ length self.old.journal) }
+        ensures refused { IfErr result (IsAgainstLocal self.old op.now) }
+        ensures err { OnErr result ((self.new ≡ self.old) × (pass.new ≡ pass.old)) }
+        ensures after { IsAfter K.opening self.old.journal self.old.working }
+    {
+        if self.journal.len() >= MOST {
+            return Err(CallRefusal::JournalFull);
+        }
+        match self.working.decide(self.alloc, op) {
+            Ok(part) => self.enter(pass, gate, Entry::Part(part)),
+            Err(refusal) => Err(refusal.into()),
+        }
+    }
+
+    /// Takes a message in: its part enters the journal.
+    ///
+    /// Refuses [`CallRefusal::JournalFull`] first, then the first fault of the bytes, and then that of the part.
+    pub fn take<G: Gate>(
+        &mut self,
+        pass: &mut Pass<K>,
+        gate: &G,
+        bytes: &[u8],
+    ) -> Result<Accepted, CallRefusal>
+        ensures entered { IfOk result
+            (λ answer. IsEnteredAt (EntersBytes bytes.now) answer self.old self.new pass.old pass.new) }
+        ensures full { IsErrOf result JournalFull ↔ (2 ^ 62 ≤ length self.old.journal) }
+        ensures refused { IfErr result (IsAgainstTake self.old bytes.now) }
+        ensures err { OnErr result ((self.new ≡ self.old) × (pass.new ≡ pass.old)) }
+        ensures after { IsAfter K.opening self.old.journal self.old.working }
+    {
+        if self.journal.len() >= MOST {
+            return Err(CallRefusal::JournalFull);
+        }
+        match Peer::read(self.alloc, bytes) {
+            Ok(part) => self.enter(pass, gate, Entry::Part(part)),
+            Err(refusal) => Err(refusal.into()),
+        }
+    }
+
+    /// Pins a changeset that the working replica holds. The mark enters the journal, and the part of nobody else's
+    /// state.
+    ///
+    /// Refuses [`CallRefusal::JournalFull`] first, and then what isn't held, as [`PinRefusal::Unknown`].
+    ///
+    /// [`PinRefusal::Unknown`]: hg_view::PinRefusal::Unknown
+    pub fn pin<G: Gate>(
+        &mut self,
+        pass: &mut Pass<K>,
+        gate: &G,
+        node: Node,
+    ) -> Result<Accepted, CallRefusal>
+        ensures entered { IfOk result
+            (λ answer. IsEnteredAt (EntersMark (mark.Pin node)) answer self.old self.new pass.old pass.new) }
+        ensures full { IsErrOf result JournalFull ↔ (2 ^ 62 ≤ length self.old.journal) }
+        ensures refused { IfErr result (IsAgainstMarking self.old (mark.Pin node)) }
+        ensures err { OnErr result ((self.new ≡ self.old) × (pass.new ≡ pass.old)) }
+        ensures after { IsAfter K.opening self.old.journal self.old.working }
+    {
+        if self.journal.len() >= MOST {
+            return Err(CallRefusal::JournalFull);
+        }
+        self.enter(pass, gate, Entry::Mark(Mark::Pin(node)))
+    }
+
+    /// Takes the pin of a changeset away. The mark enters the journal.
+    ///
+    /// Refuses [`CallRefusal::JournalFull`] first, and then what isn't pinned, as [`PinRefusal::NotPinned`].
+    ///
+    /// [`PinRefusal::NotPinned`]: hg_view::PinRefusal::NotPinned
+    pub fn unpin<G: Gate>(
+        &mut self,
+        pass: &mut Pass<K>,
+        gate: &G,
+        node: Node,
+    ) -> Result<Accepted, CallRefusal>
+        ensures entered { IfOk result
+            (λ answer. IsEnteredAt (EntersMark (mark.Unpin node)) answer self.old self.new pass.old pass.new) }
+        ensures full { IsErrOf result JournalFull ↔ (2 ^ 62 ≤ length self.old.journal) }
+        ensures refused { IfErr result (IsAgainstMarking self.old (mark.Unpin node)) }
+        ensures err { OnErr result ((self.new ≡ self.old) × (pass.new ≡ pass.old)) }
+        ensures after { IsAfter K.opening self.old.journal self.old.working }
+    {
+        if self.journal.len() >= MOST {
+            return Err(CallRefusal::JournalFull);
+        }
+        self.enter(pass, gate, Entry::Mark(Mark::Unpin(node)))
+    }
+
+    // An entry is taken in, goes to the end of the journal, and is published where memory allows it. The room comes
+    // first and the absorption second; from there on nothing can fail, so the working replica absorbs in place.
+    fn enter<G: Gate>(
+        &mut self,
+        pass: &mut Pass<K>,
+        gate: &G,
+        entry: Entry,
+    ) -> Result<Accepted, CallRefusal>
+        requires room { length self.old.journal < 2 ^ 62 }
+        ensures noted { IfOk result (λ answer. IsNoted entry answer self.old self.new) }
+        ensures told { IfOk result
+            (λ answer. IsTold answer self.old.journal self.new.journal pass.old pass.new) }
+        ensures refused { IfErr result (IsAgainstEntry self.old.working entry) }
+        ensures err { OnErr result ((self.new ≡ self.old) × (pass.new ≡ pass.old)) }
+        ensures after { IsAfter K.opening self.old.journal self.old.working }
+    {
+        let Desk {
+            working,
+            journal,
+            shown,
+            waiting,
+            writer,
+            book,
+            ..
+        } = self;
+        if waiting.reserve(1).is_err() {
+            return Err(CallRefusal::NoMemory);
+        }
+        match accept(working, &entry) {
+            Ok(()) => {}
+            Err(refusal) => return Err(refusal),
+        }
+        let before = journal.front();
+        let entry = journal.extend(pass.seen(), pass.told(), entry);
+        let after = journal.front();
+        pass.count(book);
+        pass.hear(after.again());
+        waiting.push_back_reserved(Step {
+            entry,
+            before,
+            after: after.again(),
+        });
+        if publish(writer, waiting, &after, gate) {
+            *shown = after.again();
+            pass.see(after);
+            Ok(Accepted::Shown)
+        } else {
+            Ok(Accepted::Later)
+        }
+    }
+
+    // A copy of the working replica, where the calls of these passes are all that the journal has.
+    pub(crate) fn closing(&self, passes: &[Pass<K>]) -> Result<Replica, CloseRefusal>
+        ensures state { IfOk result (λ replica. replica ≡ self.now.working.replica) }
+        ensures after { IsAfter K.opening self.now.journal self.now.working }
+        ensures count { OnOk result (length self.now.journal ≡ sum_by (λ p. p.calls) passes.now) }
+        ensures begins { OnOk result
+            (All (λ p. IsPrefix p.seen self.now.journal × IsPrefix p.told self.now.journal) passes.now) }
+    {
+        let front = self.journal.front();
+        if !are_within(passes, &front) {
+            return Err(CloseRefusal::PassesOut);
+        }
+        let Some(calls) = all_calls(passes) else {
+            return Err(CloseRefusal::PassesOut);
+        };
+        if calls != self.journal.len() {
+            return Err(CloseRefusal::PassesOut);
+        }
+        match self.working.replica().copy() {
+            Ok(replica) => Ok(replica),
+            Err(_) => Err(CloseRefusal::NoMemory),
+        }
+    }
+}
+
+// Hands what waits to the writer, in order. It stops where memory is wanting.
+fn hand_over<K: NodeName, R: Wait + Drop>(
+    writer: &mut Writer<K, R>,
+    waiting: &mut VecDeque<Step<K>>,
+) -> bool
+    ensures same { published writer.new ≡ published writer.old }
+    ensures all { IsTrue result → pending writer.new ≡ pending writer.old ++ waiting.old.items }
+{
+    let mut left = waiting.len();
+    while left > 0 {
+        let step = waiting.pop_front().unwrap();
+        if let Err(step) = writer.append(step) {
+            waiting.push_front_reserved(step);
+            return false;
+        }
+        left -= 1;
+    }
+    true
+}
+
+// Publishes all that waits, or nothing.
+fn publish<K: NodeName, R: Wait + Drop, G: Gate>(
+    writer: &mut Writer<K, R>,
+    waiting: &mut VecDeque<Step<K>>,
+    front: &Front<K, Entry>,
+    gate: &G,
+) -> bool
+    requires leads { (l : List EntryValue) → fold (λ l step. step.after) l waiting.old.items ≡ front.now }
+    ensures { MatchBool result ((published writer.new).entries ≡ front.now)
+        (published writer.new ≡ published writer.old) }
+{
+    if !hand_over(writer, waiting) {
+        return false;
+    }
+    gate.at_publish();
+    writer.publish().is_ok()
+}
+
+// Whether what the pass has seen and was told begins the journal.
+fn is_within<K: NodeName>(pass: &Pass<K>, front: &Front<K, Entry>) -> bool
+    ensures { IsTrue result → IsPrefix pass.now.seen front.now × IsPrefix pass.now.told front.now }
+{
+    pass.seen().begins(front) && pass.told().begins(front)
+}
+
+// Whether that of all passes does.
+fn are_within<K: NodeName>(passes: &[Pass<K>], front: &Front<K, Entry>) -> bool
+    ensures { IsTrue result → All (λ p. IsPrefix p.seen front.now × IsPrefix p.told front.now) passes.now }
+{
+    for pass in passes {
+        if !is_within(pass, front) {
+            return false;
+        }
+    }
+    true
+}
+
+// How many calls of all passes were accepted, where the number fits.
+fn all_calls<K: NodeName>(passes: &[Pass<K>]) -> Option<u64>
+    ensures { IfSome result (λ n. n ≡ sum_by (λ p. p.calls) passes.now) }
+{
+    let mut all: u64 = 0;
+    for pass in passes {
+        all = all.checked_add(pass.calls())?;
+    }
+    Some(all)
+}

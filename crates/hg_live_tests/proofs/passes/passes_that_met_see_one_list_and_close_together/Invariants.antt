@@ -1,0 +1,10 @@
+use Rattle.hg_live_tests.proofs.passes.passes_that_met_see_one_list_and_close_together.Given as goal
+
+abbrev pub ghosts-meet_and_close-K-NodeName : goal.ghosts-meet_and_close-K-NodeName
+ghosts-meet_and_close-K-NodeName g a = record { opening = a.blank.opening }
+
+abbrev pub ghosts-meet_and_close-K-HistoryName : goal.ghosts-meet_and_close-K-HistoryName
+ghosts-meet_and_close-K-HistoryName g a = record { book = a.blank.opened }
+
+abbrev pub ghosts-meet_and_close-K-Ledger : goal.ghosts-meet_and_close-K-Ledger
+ghosts-meet_and_close-K-Ledger g a = record { name = a.blank.tokens.name; parts = a.blank.tokens.parts }
