@@ -1,4 +1,4 @@
--- Where all that a change touched is calm, only what it rewrote turns.
+-- Where all that a change touched is calm, only what it rewrote turns, and what it stranded.
 use Rattle.std.proofs.Common.{◌≡◌, ◌↔◌, ◌⊎◌, inl, inr, sym, subst, ◌∙◌, List, [], Contains}
 use Rattle.hg_changeset.specs.declared.node.Node.{Node}
 use Rattle.hg_changeset.proofs.ListLemmas.{Contains-none}
@@ -11,7 +11,7 @@ use Rattle.hg_replica.specs.Change.{ChangeValue}
 use Rattle.hg_replica.specs.Content.{Content, content_of}
 use Rattle.hg_replica.specs.Evolution.{IsObsolete, IsCurrent, IsOrphan, IsSuspended, IsExtinct}
 use Rattle.hg_replica.specs.Evolution.{IsPhaseDivergent}
-use Rattle.hg_instab.specs.Calm.{IsCalm, AreRetired, AreCalmTurns}
+use Rattle.hg_instab.specs.Calm.{IsCalm, AreRetired, AreStranded, AreCalmTurns}
 use Rattle.hg_instab.specs.Changed.{Follows, IsSeed, IsNow}
 use Rattle.hg_instab.specs.declared.turns.Turns.{Turns}
 use Rattle.hg_instab.specs.Instabilities.{IsContentDivergent, InstabilitySets, AreInstabilities}
@@ -31,10 +31,12 @@ neither a b = (λ h. absurd (a h), λ h. absurd (b h))
 
 module _ (s t : ReplicaState) (change : ChangeValue) (v : IsValid s) (w : IsValid t)
     (follows : Follows (content_of s) (content_of t) change t.markers) (sets : InstabilitySets)
-    (at : AreInstabilities (content_of s) sets) (seeds retired : List Node)
+    (at : AreInstabilities (content_of s) sets) (seeds retired stranded : List Node)
     (seeded : (n : Node) → IsSeed t.markers change n → Contains seeds n)
     (those : AreRetired (content_of t) sets.extinct seeds retired)
-    (calm : (n : Node) → Contains seeds n → IsHeld (content_of t).0 n → IsCalm (content_of t) sets retired n) where
+    (strays : AreStranded (content_of t) sets retired seeds stranded)
+    (calm : (n : Node) → Contains seeds n → IsHeld (content_of t).0 n
+    → IsCalm (content_of t) sets retired stranded n) where
   abbrev f : Content
   f = content_of s
 
@@ -72,7 +74,7 @@ module _ (s t : ReplicaState) (change : ChangeValue) (v : IsValid s) (w : IsVali
       [ inl x ↦ (gone n).0 (inl x) | inr none ↦ (gone n).0 (inr ((those n).1 (in_it, (o, none)))) ]
 
   -- what was obsolete and is calm was extinct
-  calm-extinct_before : (n : Node) → IsCalm g sets retired n → IsObsolete f n → Contains sets.extinct n
+  calm-extinct_before : (n : Node) → IsCalm g sets retired stranded n → IsObsolete f n → Contains sets.extinct n
   calm-extinct_before n here o =
       (at.extinct n).1 (o, λ suspended. here.apart.suspended ((at.suspended n).1 suspended))
 
@@ -119,25 +121,56 @@ module _ (s t : ReplicaState) (change : ChangeValue) (v : IsValid s) (w : IsVali
 
   -- ---- orphans
 
-  orphan-told : (n : Node) → IsHeld g.0 n
-      → Contains sets.orphan n ↔ StandsUnstably g (Contains sets.orphan) n
+  abbrev IsOrphaned : Node → Type 0
+  IsOrphaned n = Contains sets.orphan n ⊎ Contains stranded n
+
+  -- what is stranded is an orphan now, on account of a parent
+  stranded-unstable : (n : Node) → Contains stranded n → StandsUnstably g IsOrphaned n
+  stranded-unstable n h =
+      let x = (strays n h).1 in
+      let p = x.unstable in (
+        (x.mutable, λ o. x.kept (obsolete-gone n (strays n h).0 o)),
+        (p.0, p.1, elim p.2 [ inl o ↦ inl o | inr orphan ↦ inr (inl orphan) ]),
+      )
+
+  -- nothing stands on what is stranded
+  not-stranded : (p n : Node) → IsParentOf g p n → (IsObsolete g p ⊎ IsOrphaned p)
+      → IsObsolete g p ⊎ Contains sets.orphan p
+  not-stranded p n parent h = elim h [
+    | inl o ↦ inl o
+    | inr x ↦ elim x [ inl orphan ↦ inr orphan | inr new ↦ absurd ((strays p new).1.alone n parent) ]
+  ]
+
+  seed-orphan_told : (n : Node) → Contains seeds n → IsHeld g.0 n → IsOrphaned n ↔ StandsUnstably g IsOrphaned n
+  seed-orphan_told n in_it held = let here = calm n in_it held in (
+    λ h. elim h [ inl orphan ↦ absurd (here.apart.orphan orphan) | inr new ↦ stranded-unstable n new ],
+    λ h. elim here.settled [
+      | inl nothing ↦ absurd (h.0.1 nothing.0)
+      | inr other ↦ elim other.1 [
+        | inl firm ↦ absurd (firm h.1.0 h.1.1 (not-stranded h.1.0 n h.1.1 h.1.2))
+        | inr new ↦ inr new
+      ]
+    ],
+  )
+
+  orphan-told : (n : Node) → IsHeld g.0 n → IsOrphaned n ↔ StandsUnstably g IsOrphaned n
   orphan-told n held = elim (among_or_not seeds n) [
-    | inl in_it ↦
-        let here = calm n in_it held in
-        neither here.apart.orphan (λ h. elim here.settled
-        [ inl nothing ↦ h.0.1 nothing.0 | inr other ↦ other.1 h.1.0 h.1.1 h.1.2 ])
+    | inl in_it ↦ seed-orphan_told n in_it held
     | inr out ↦ (
-      λ h. let x = (orphan-by_parents s v n).0 ((at.orphan n).0 h) in (
-        (still-current n out).1 x.0,
-        (
-          x.1.0,
-          (x.1.1.0, still n out ∙ x.1.1.1, x.1.1.2),
-          elim x.1.2 [
-            | inl o ↦ inl ((calm-obsolete x.1.0).0 (inl ((at.obsolete x.1.0).1 o)))
-            | inr o ↦ inr ((at.orphan x.1.0).1 o)
-          ],
-        ),
-      ),
+      λ h. elim h [
+        | inl orphan ↦ (let x = (orphan-by_parents s v n).0 ((at.orphan n).0 orphan) in (
+          (still-current n out).1 x.0,
+          (
+            x.1.0,
+            (x.1.1.0, still n out ∙ x.1.1.1, x.1.1.2),
+            elim x.1.2 [
+              | inl o ↦ inl ((calm-obsolete x.1.0).0 (inl ((at.obsolete x.1.0).1 o)))
+              | inr o ↦ inr (inl ((at.orphan x.1.0).1 o))
+            ],
+          ),
+        ))
+        | inr new ↦ absurd (out (strays n new).0)
+      ],
       λ h.
           let current = (still-current n out).0 h.0 in
           let was : (IsObsolete g h.1.0 ⊎ Contains sets.orphan h.1.0) → IsObsolete f h.1.0 ⊎ IsOrphan f h.1.0 =
@@ -148,22 +181,38 @@ module _ (s t : ReplicaState) (change : ChangeValue) (v : IsValid s) (w : IsVali
             ]
             | inr o ↦ inr ((at.orphan h.1.0).0 o)
           ] in
-          (at.orphan n).1 ((orphan-by_parents s v n).1
-          (current, (h.1.0, (h.1.1.0, sym (still n out) ∙ h.1.1.1, h.1.1.2), was h.1.2))),
+          inl ((at.orphan n).1 ((orphan-by_parents s v n).1 (
+            current,
+            (
+              h.1.0,
+              (h.1.1.0, sym (still n out) ∙ h.1.1.1, h.1.1.2),
+              was (not-stranded h.1.0 n h.1.1 h.1.2),
+            ),
+          ))),
     )
   ]
 
-  calm-orphan : (n : Node) → Contains sets.orphan n ↔ IsOrphan g n
-  calm-orphan = orphans-solved t w (Contains sets.orphan)
-      (λ n h. let o = (at.orphan n).0 h in still-held n (o.0.0.0, o.0.0.1)) orphan-told
+  calm-orphan : (n : Node) → IsOrphaned n ↔ IsOrphan g n
+  calm-orphan = orphans-solved t w IsOrphaned held orphan-told
+    where
+      held : (n : Node) → IsOrphaned n → IsHeld g.0 n
+      held n h = elim h [
+        | inl orphan ↦ let o = (at.orphan n).0 orphan in still-held n (o.0.0.0, o.0.0.1)
+        | inr new ↦ let m = (strays n new).1.mutable in (m.0, m.1)
+      ]
 
   -- ---- extinct
 
   -- a child of an obsolete changeset that isn't a seed is gone if that was extinct
   child-gone : (n c : Node) → IsObsolete g n → IsExtinct f n → IsParentOf g n c → IsGone c
   child-gone n c o x parent = elim (among_or_not seeds c) [
-    | inl in_it ↦ elim (calm c in_it (parent.0, parent.1)).settled
-        [ inl nothing ↦ obsolete-gone c in_it nothing.0 | inr other ↦ absurd (other.1 n parent (inl o)) ]
+    | inl in_it ↦ elim (calm c in_it (parent.0, parent.1)).settled [
+      | inl nothing ↦ obsolete-gone c in_it nothing.0
+      | inr other ↦ elim other.1 [
+        | inl firm ↦ absurd (firm n parent (inl o))
+        | inr new ↦ absurd ((strays c new).1.upheld n parent ((gone n).0 (inl ((at.extinct n).1 x))))
+      ]
+    ]
     | inr out ↦ (gone c).0 (inl ((at.extinct c).1
         (((extinct-by_children s v n).0 x).1 c (parent.0, sym (still c out) ∙ parent.1, parent.2))))
   ]
@@ -274,7 +323,7 @@ module _ (s t : ReplicaState) (change : ChangeValue) (v : IsValid s) (w : IsVali
           ]
 
       -- what turns is told
-      pub calm-told : (turns : Turns) → AreCalmTurns sets retired turns → AreTold g sets turns
+      pub calm-told : (turns : Turns) → AreCalmTurns sets retired stranded turns → AreTold g sets turns
       calm-told turns are = record {
         obsolete = λ n. along (are.obsolete n) (calm-obsolete n);
         orphan = λ n. along (are.orphan n) (calm-orphan n);

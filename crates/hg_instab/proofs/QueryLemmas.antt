@@ -49,6 +49,11 @@ phase_from_mutable f n k h m e = m.2 (one_phase f n m.0.phase Public (m.0, m.1, 
 some_length : {X : Type 0} (x : X) (xs : List X) → (length (x ∷ xs) == 0) ≡ false
 some_length x xs = grind (arith, nat_tests)
 
+-- an empty list has nothing
+pub nothing-in : {X : Type 0} (xs : List X) → (length xs == 0) ≡ true → (x : X) → ¬ (Contains xs x)
+nothing-in [] t x = Contains-none x
+nothing-in (y ∷ ys) t x = absurd (true≢false (sym t ∙ some_length y ys))
+
 pub not_true : (b : Bool) → not b ≡ true → b ≡ true → ⊥
 not_true true h e = true≢false (sym h)
 not_true false h e = true≢false (sym e)

@@ -53,6 +53,12 @@ pub now-none : (set turned : List Node) (n : Node) → ¬ (Contains turned n) �
 now-none set turned n none =
     (λ h. elim h [ inl x ↦ x.0 | inr x ↦ absurd (none x.1) ], λ h. inl (h, none))
 
+-- what isn't so of a test of one of two equal sets isn't so of the other
+pub not-now : (old set turned : List Node) (n : Node) (b : Bool) → old ≡ set → IsTrue b ↔ IsNow old turned n → b ≡ false
+    → ¬ (IsNow set turned n)
+not-now old set turned n b is told off now =
+    true≢false (sym (told.1 (subst (λ (xs : List Node). IsNow xs turned n) (sym is) now)) ∙ off)
+
 -- ---- one node is turned
 
 -- whether it was there, by whether it is new

@@ -2,7 +2,7 @@
 use Rattle.std.specs.Prelude.{◌⊎◌, ◌↔◌, List, Contains}
 use Rattle.hg_changeset.specs.declared.node.Node.{Node}
 use Rattle.hg_replica.specs.Content.{Content}
-use Rattle.hg_replica.specs.Evolution.{IsObsolete}
+use Rattle.hg_replica.specs.Evolution.{IsMutable, IsObsolete}
 use Rattle.hg_instab.specs.Changed.{IsNow}
 use Rattle.hg_instab.specs.declared.turn.Turn.{Turn}
 use Rattle.hg_instab.specs.declared.turns.Turns.{Turns}
@@ -22,16 +22,31 @@ abbrev pub AreRetired : Content → List Node → List Node → List Node → Ty
 AreRetired g extinct nodes retired = (n : Node)
     → Contains retired n ↔ (Contains nodes n × (IsObsolete g n × ¬ (Contains extinct n)))
 
--- it is obsolete, and each of its children was extinct or is retired; or it is neither, and stands on nothing unstable
-abbrev pub IsSettled : Content → InstabilitySets → List Node → Node → Type 0
-IsSettled g sets retired n = HoldsNothing g (IsNow sets.extinct retired) n
-    ⊎ ((¬ (IsNow sets.extinct retired n))
-    × ((p : Node) → IsParentOf g p n → ¬ (IsObsolete g p ⊎ Contains sets.orphan p)))
+-- it isn't public, was neither extinct nor is retired, stands on something unstable but on nothing that was extinct or
+-- is retired, and nothing stands on it
+pub record IsStranded (g : Content) (sets : InstabilitySets) (retired : List Node) (n : Node) : Type 0 where
+  pub mutable : IsMutable g n
+  pub kept : ¬ (IsNow sets.extinct retired n)
+  pub unstable : (p : Node) × IsParentOf g p n × (IsObsolete g p ⊎ Contains sets.orphan p)
+  pub upheld : (p : Node) → IsParentOf g p n → ¬ (IsNow sets.extinct retired p)
+  pub alone : (c : Node) → ¬ (IsParentOf g n c)
 
--- where these are retired, it is apart from what is unstable, and settled
-pub record IsCalm (g : Content) (sets : InstabilitySets) (retired : List Node) (n : Node) : Type 0 where
+-- each of these is one of the nodes, and stranded
+abbrev pub AreStranded : Content → InstabilitySets → List Node → List Node → List Node → Type 0
+AreStranded g sets retired nodes stranded = (n : Node)
+    → Contains stranded n → Contains nodes n × IsStranded g sets retired n
+
+-- it is obsolete, and each of its children was extinct or is retired; or it is neither, and stands on nothing unstable
+-- or is stranded
+abbrev pub IsSettled : Content → InstabilitySets → List Node → List Node → Node → Type 0
+IsSettled g sets retired stranded n = HoldsNothing g (IsNow sets.extinct retired) n
+    ⊎ ((¬ (IsNow sets.extinct retired n))
+    × (((p : Node) → IsParentOf g p n → ¬ (IsObsolete g p ⊎ Contains sets.orphan p)) ⊎ Contains stranded n))
+
+-- where these are retired, and these are stranded, it is apart from what is unstable, and settled
+pub record IsCalm (g : Content) (sets : InstabilitySets) (retired stranded : List Node) (n : Node) : Type 0 where
   pub apart : IsApart sets n
-  pub settled : IsSettled g sets retired n
+  pub settled : IsSettled g sets retired stranded n
 
 -- what is so comes to the set, and nothing goes
 abbrev pub IsGrowth : List Node → Turn → (Node → Type 0) → Type 0
@@ -41,10 +56,11 @@ IsGrowth set turn P = (n : Node) → IsThen set turn n ↔ (Contains set n ⊎ P
 abbrev pub IsRest : List Node → Turn → Type 0
 IsRest set turn = (n : Node) → IsThen set turn n ↔ Contains set n
 
--- those that are retired come to what is obsolete and to what is extinct, and nothing else turns
-pub record AreCalmTurns (sets : InstabilitySets) (retired : List Node) (turns : Turns) : Type 0 where
+-- those that are retired come to what is obsolete and to what is extinct, those that are stranded to the orphans, and
+-- nothing else turns
+pub record AreCalmTurns (sets : InstabilitySets) (retired stranded : List Node) (turns : Turns) : Type 0 where
   pub obsolete : IsGrowth sets.obsolete turns.obsolete (Contains retired)
-  pub orphan : IsRest sets.orphan turns.orphan
+  pub orphan : IsGrowth sets.orphan turns.orphan (Contains stranded)
   pub suspended : IsRest sets.suspended turns.suspended
   pub extinct : IsGrowth sets.extinct turns.extinct (Contains retired)
   pub phase_divergent : IsRest sets.phase_divergent turns.phase_divergent

@@ -1,28 +1,34 @@
-//! Changes that turn nothing, but that what they rewrote becomes obsolete and extinct at once: commits, publications,
-//! and amends, folds, rebases and prunes of what nothing else stands on, wherever nothing near is unstable.
+//! Changes that turn nothing, but that what they rewrote becomes obsolete and extinct at once, and what they put on
+//! something obsolete or on an orphan becomes an orphan: commits, publications, and amends, folds, rebases and prunes
+//! of what nothing else stands on, wherever nothing else near is unstable.
 //!
-//! Most changes are so. One pass over what was touched finds what is retired, which takes no memory where nothing is; a
-//! few look-ups for each then tell whether it is calm, and where all is, no walk begins.
-ghost use Rattle.std.specs.Prelude.{◌↔◌, Contains, IfOk, IsTrue};
+//! Most changes are so. One pass over what was touched finds what is retired, which takes no memory where nothing is,
+//! and one finds what is stranded; a few look-ups for each then tell whether it is calm, and where all is, no walk
+//! begins.
+ghost use Rattle.std.specs.Prelude.{◌≡◌, ◌↔◌, ℕ, Some, Contains, IfOk, IsTrue};
 ghost use Rattle.hg_changeset.specs.declared.node.Node.{Node};
 ghost use Rattle.hg_graph.specs.Places.{IsAt};
 ghost use Rattle.hg_phases.specs.State.{changesets};
 ghost use Rattle.hg_history.specs.Content.{IsHeld};
 ghost use Rattle.hg_replica.specs.Content.{content_of};
-ghost use Rattle.hg_replica.specs.Evolution.{IsObsolete};
-ghost use Rattle.hg_instab.specs.Calm.{IsApart, IsSettled, IsCalm, AreRetired, AreCalmTurns};
+ghost use Rattle.hg_replica.specs.Evolution.{IsMutable, IsObsolete};
+ghost use Rattle.hg_instab.specs.Calm.{IsApart, IsSettled, IsCalm, AreRetired};
+ghost use Rattle.hg_instab.specs.Calm.{IsStranded, AreStranded, AreCalmTurns};
+ghost use Rattle.hg_instab.specs.Changed.{IsNow};
+ghost use Rattle.hg_instab.specs.Local.{IsParentOf};
 ghost use Rattle.hg_instab.specs.Turns.{AreTurns};
 
-use crate::among::{is_missing, list_of};
+use crate::among::{has, is_missing, list_of};
 use crate::extinct_walk::is_extinct_now;
 use crate::holders::Holders;
 use crate::instabilities::Instabilities;
 use crate::orphan_walk::stands_on_unstable;
-use crate::query::is_obsolete;
+use crate::query::{has_phase_at, is_obsolete};
 use crate::turn::Turn;
 use crate::turned::has_now;
 use crate::turns::Turns;
 use hg_changeset::Node;
+use hg_phases::Phase;
 use hg_replica::Replica;
 use std::alloc::{AllocError, Global};
 use std::collections::BTreeSet;
@@ -52,20 +58,130 @@ fn is_retired(replica: &Replica, extinct: &BTreeSet<Node>, node: Node) -> bool
     is_obsolete(replica, node) && is_missing(extinct, node)
 }
 
-// Whether each of the nodes that is held is calm, where these are retired.
+// Those of the nodes that are stranded, where these are retired. Where nothing is suspended there are none: what is
+// obsolete and neither extinct nor retired is suspended, and what an orphan stands on is too.
+pub(crate) fn stranded_among(
+    alloc: Global,
+    replica: &Replica,
+    sets: &Instabilities,
+    retired: &BTreeSet<Node>,
+    nodes: &[Node],
+) -> Result<BTreeSet<Node>, AllocError>
+    ensures { IfOk result (λ stranded.
+        AreStranded (content_of replica.now) sets.now retired.now.keys nodes.now stranded.keys) }
+{
+    let mut stranded = BTreeSet::new(alloc);
+    if sets.suspended().is_empty() {
+        return Ok(stranded);
+    }
+    for node in nodes {
+        if is_stranded(alloc, replica, sets, retired, *node) {
+            stranded.insert(*node)?;
+        }
+    }
+    Ok(stranded)
+}
+
+fn is_stranded(
+    alloc: Global,
+    replica: &Replica,
+    sets: &Instabilities,
+    retired: &BTreeSet<Node>,
+    node: Node,
+) -> bool
+    ensures { IsTrue result → IsStranded (content_of replica.now) sets.now retired.now.keys node }
+{
+    match replica.graph().place(node) {
+        Some(place) => is_stranded_at(alloc, replica, sets, retired, place, node),
+        None => false,
+    }
+}
+
+// Whether what stands at the place is stranded.
+fn is_stranded_at(
+    alloc: Global,
+    replica: &Replica,
+    sets: &Instabilities,
+    retired: &BTreeSet<Node>,
+    place: usize,
+    node: Node,
+) -> bool
+    requires { IsAt (changesets replica.now.history) node place }
+    ensures { IsTrue result → IsStranded (content_of replica.now) sets.now retired.now.keys node }
+{
+    if !is_lone(replica, place, node) {
+        return false;
+    }
+    if !stands_on_kept(replica, sets.extinct(), retired, place, node) {
+        return false;
+    }
+    if has_now(sets.extinct(), retired, node) {
+        return false;
+    }
+    let none = BTreeSet::new(alloc);
+    stands_on_unstable(replica, sets.orphan(), &none, place, node)
+}
+
+// Whether it isn't public, and nothing stands on it.
+fn is_lone(replica: &Replica, place: usize, node: Node) -> bool
+    requires { IsAt (changesets replica.now.history) node place }
+    ensures { IsTrue result → IsMutable (content_of replica.now) node
+        × ((c : Node) → ¬ (IsParentOf (content_of replica.now) node c)) }
+{
+    replica.graph().children(place).is_empty() && !has_phase_at(replica, place, Phase::Public)
+}
+
+// Whether no parent was extinct or is retired.
+fn stands_on_kept(
+    replica: &Replica,
+    extinct: &BTreeSet<Node>,
+    retired: &BTreeSet<Node>,
+    place: usize,
+    node: Node,
+) -> bool
+    requires { IsAt (changesets replica.now.history) node place }
+    ensures { IsTrue result → (p : Node) → IsParentOf (content_of replica.now) p node
+        → ¬ (IsNow extinct.now.keys retired.now.keys p) }
+{
+    let parents = replica.graph().parent_places(place);
+    is_kept_at(replica, extinct, retired, parents.first)
+        && is_kept_at(replica, extinct, retired, parents.second)
+}
+
+// Whether what stands at the place, if there is one, was neither extinct nor is retired.
+fn is_kept_at(
+    replica: &Replica,
+    extinct: &BTreeSet<Node>,
+    retired: &BTreeSet<Node>,
+    place: Option<usize>,
+) -> bool
+    ensures { IsTrue result → (k : ℕ) (p : Node) → place ≡ Some k → IsAt (changesets replica.now.history) p k
+        → ¬ (IsNow extinct.now.keys retired.now.keys p) }
+{
+    match place {
+        Some(place) => match replica.graph().node_at(place) {
+            Some(node) => !has_now(extinct, retired, node),
+            None => true,
+        },
+        None => true,
+    }
+}
+
+// Whether each of the nodes that is held is calm, where these are retired and these are stranded.
 pub(crate) fn are_calm(
     alloc: Global,
     replica: &Replica,
     sets: &Instabilities,
     holders: &mut Holders,
     retired: &BTreeSet<Node>,
+    stranded: &BTreeSet<Node>,
     nodes: &[Node],
 ) -> bool
     ensures { IsTrue result → (n : Node) → Contains nodes.now n → IsHeld (content_of replica.now).0 n
-        → IsCalm (content_of replica.now) sets.now retired.now.keys n }
+        → IsCalm (content_of replica.now) sets.now retired.now.keys stranded.now.keys n }
 {
     for node in nodes {
-        if !is_calm(alloc, replica, sets, holders, retired, *node) {
+        if !is_calm(alloc, replica, sets, holders, retired, stranded, *node) {
             return false;
         }
     }
@@ -79,13 +195,16 @@ fn is_calm(
     sets: &Instabilities,
     holders: &mut Holders,
     retired: &BTreeSet<Node>,
+    stranded: &BTreeSet<Node>,
     node: Node,
 ) -> bool
     ensures { IsTrue result → IsHeld (content_of replica.now).0 node
-        → IsCalm (content_of replica.now) sets.now retired.now.keys node }
+        → IsCalm (content_of replica.now) sets.now retired.now.keys stranded.now.keys node }
 {
     match replica.graph().place(node) {
-        Some(place) => is_calm_at(alloc, replica, sets, holders, retired, place, node),
+        Some(place) => is_calm_at(
+            alloc, replica, sets, holders, retired, stranded, place, node,
+        ),
         None => true,
     }
 }
@@ -97,16 +216,19 @@ fn is_calm_at(
     sets: &Instabilities,
     holders: &mut Holders,
     retired: &BTreeSet<Node>,
+    stranded: &BTreeSet<Node>,
     place: usize,
     node: Node,
 ) -> bool
     requires { IsAt (changesets replica.now.history) node place }
-    ensures { IsTrue result → IsCalm (content_of replica.now) sets.now retired.now.keys node }
+    ensures { IsTrue result → IsCalm (content_of replica.now) sets.now retired.now.keys stranded.now.keys node }
 {
     if !is_apart(sets, node) {
         return false;
     }
-    is_settled(alloc, replica, sets, holders, retired, place, node)
+    is_settled(
+        alloc, replica, sets, holders, retired, stranded, place, node,
+    )
 }
 
 // Whether it is in none of the sets of what is unstable or suspended, nor after something public.
@@ -120,42 +242,49 @@ fn is_apart(sets: &Instabilities, node: Node) -> bool
 }
 
 // Whether it is obsolete and all that stands on it was extinct or is retired too, or neither was it extinct nor is it
-// retired and it stands on nothing unstable.
+// retired and it stands on nothing unstable or is stranded.
 fn is_settled(
     alloc: Global,
     replica: &Replica,
     sets: &Instabilities,
     holders: &mut Holders,
     retired: &BTreeSet<Node>,
+    stranded: &BTreeSet<Node>,
     place: usize,
     node: Node,
 ) -> bool
     requires { IsAt (changesets replica.now.history) node place }
-    ensures { IsTrue result → IsSettled (content_of replica.now) sets.now retired.now.keys node }
+    ensures { IsTrue result → IsSettled (content_of replica.now) sets.now retired.now.keys stranded.now.keys node }
 {
     if has_now(sets.extinct(), retired, node) {
         return is_extinct_now(replica, sets.extinct(), holders, retired, place, node);
+    }
+    if has(stranded, node) {
+        return true;
     }
     let none = BTreeSet::new(alloc);
     !stands_on_unstable(replica, sets.orphan(), &none, place, node)
 }
 
 // What turns where each of the nodes that a change touched is calm: those that are retired come to the obsolete and to
-// the extinct changesets.
+// the extinct changesets, and those that are stranded to the orphans.
 pub(crate) fn calm_turns(
     alloc: Global,
     sets: &Instabilities,
     retired: &BTreeSet<Node>,
+    stranded: &BTreeSet<Node>,
 ) -> Result<Turns, AllocError>
     ensures turns { IfOk result (λ turns.
         ((n : Node) → Contains retired.now.keys n → ¬ (Contains sets.now.extinct n)) → AreTurns sets.now turns) }
-    ensures calm { IfOk result (AreCalmTurns sets.now retired.now.keys) }
+    ensures calm { IfOk result (AreCalmTurns sets.now retired.now.keys stranded.now.keys) }
 {
     let nodes = list_of(alloc, retired)?;
     let obsolete = Turn::growing(alloc, sets.obsolete(), &nodes)?;
+    let strays = list_of(alloc, stranded)?;
+    let orphan = Turn::growing(alloc, sets.orphan(), &strays)?;
     Ok(Turns {
         obsolete,
-        orphan: Turn::none(alloc),
+        orphan,
         suspended: Turn::none(alloc),
         extinct: Turn::coming(alloc, nodes),
         phase_divergent: Turn::none(alloc),

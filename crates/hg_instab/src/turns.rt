@@ -15,7 +15,7 @@ ghost use Rattle.hg_instab.specs.Turns.{AreDivergenceTurns, IsDivergenceTold};
 use crate::after_public::newly_after_public;
 use crate::amend::{amend_of, turns_by_amend};
 use crate::among::{among, has, list_of, obsolete_among, set_of};
-use crate::calm::{are_calm, calm_turns, retired_among};
+use crate::calm::{are_calm, calm_turns, retired_among, stranded_among};
 use crate::divergence::divergent_within;
 use crate::extinct_walk::turned_extinct;
 use crate::holders::Holders;
@@ -79,8 +79,9 @@ impl Turns {
         let starts = region_starts(alloc, replica, change, sets.near_forks())?;
         if met.is_empty() && starts.is_empty() {
             let retired = retired_among(alloc, replica, sets.extinct(), &seeds)?;
-            if are_calm(alloc, replica, sets, holders, &retired, &seeds) {
-                return calm_turns(alloc, sets, &retired);
+            let stranded = stranded_among(alloc, replica, sets, &retired, &seeds)?;
+            if are_calm(alloc, replica, sets, holders, &retired, &stranded, &seeds) {
+                return calm_turns(alloc, sets, &retired, &stranded);
             }
         }
         Turns::asked(alloc, sets, holders, replica, change, &seeds, &met, starts)

@@ -18,11 +18,13 @@ loop-node-preserved c =
     let also = also-taken c.args.nodes.now c.loop-node.node-index first c.loop-node-test.true in
     λ n h. elim ((also n).0 h) [
       | inl old ↦ c.loop-node.invariant n old
-      | inr e ↦ subst (λ m. IsHeld g.0 m → IsCalm g c.args.sets.now c.args.retired.now.keys m) e
+      | inr e ↦ subst (λ m. IsHeld g.0 m
+          → IsCalm g c.args.sets.now c.args.retired.now.keys c.args.stranded.now.keys m) e
           (c.is_calm.ensures c.if-not-is_calm.false)
     ]
 
 pub returns : goal.returns
 returns c _ = subst (λ ns. (n : Node) → Contains ns n → IsHeld (content_of c.args.replica.now).0 n
-    → IsCalm (content_of c.args.replica.now) c.args.sets.now c.args.retired.now.keys n)
+    → IsCalm (content_of c.args.replica.now) c.args.sets.now c.args.retired.now.keys
+    c.args.stranded.now.keys n)
     (take_all c.loop-node.node-index c.args.nodes.now c.loop-node-test.false) c.loop-node.invariant

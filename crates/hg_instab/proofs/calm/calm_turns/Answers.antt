@@ -11,14 +11,14 @@ returns-clause-turns c = λ outside.
     record {
       obsolete = subst (λ (xs : List Node). IsTurn xs c.in_ok-obsolete.obsolete) c.obsolete.ensures
           c.in_ok-obsolete.ensures.turn;
-      orphan = c.none.ensures.turn sets.orphan;
-      suspended = c.none-2.ensures.turn sets.suspended;
+      orphan = subst (λ (xs : List Node). IsTurn xs c.in_ok-orphan.orphan) c.orphan.ensures c.in_ok-orphan.ensures.turn;
+      suspended = c.none.ensures.turn sets.suspended;
       extinct = c.coming.ensures.turn sets.extinct
           (λ n h. outside n (subst (λ (xs : List Node). Contains xs n) c.in_ok-nodes.ensures h));
-      phase_divergent = c.none-3.ensures.turn sets.phase_divergent;
-      content_divergent = c.none-4.ensures.turn sets.content_divergent;
-      after_public = c.none-5.ensures.turn sets.after_public;
-      near_forks = c.none-6.ensures.turn sets.near_forks;
+      phase_divergent = c.none-2.ensures.turn sets.phase_divergent;
+      content_divergent = c.none-3.ensures.turn sets.content_divergent;
+      after_public = c.none-4.ensures.turn sets.after_public;
+      near_forks = c.none-5.ensures.turn sets.near_forks;
     }
 
 pub returns-clause-calm : goal.returns-clause-calm
@@ -28,12 +28,14 @@ returns-clause-calm c =
       obsolete = grown-to c.obsolete.result.now.keys sets.obsolete c.deref.result.now c.args.retired.now.keys
           c.in_ok-obsolete.obsolete c.obsolete.ensures (c.deref.ensures.value ∙ c.in_ok-nodes.ensures)
           c.in_ok-obsolete.ensures.then;
-      orphan = c.none.ensures.then sets.orphan;
-      suspended = c.none-2.ensures.then sets.suspended;
+      orphan = grown-to c.orphan.result.now.keys sets.orphan c.deref-2.result.now c.args.stranded.now.keys
+          c.in_ok-orphan.orphan c.orphan.ensures (c.deref-2.ensures.value ∙ c.in_ok-strays.ensures)
+          c.in_ok-orphan.ensures.then;
+      suspended = c.none.ensures.then sets.suspended;
       extinct = subst (λ (xs : List Node). IsGrowth sets.extinct c.coming.result (Contains xs)) c.in_ok-nodes.ensures
           (c.coming.ensures.then sets.extinct);
-      phase_divergent = c.none-3.ensures.then sets.phase_divergent;
-      content_divergent = c.none-4.ensures.then sets.content_divergent;
-      after_public = c.none-5.ensures.then sets.after_public;
-      near_forks = c.none-6.ensures.then sets.near_forks;
+      phase_divergent = c.none-2.ensures.then sets.phase_divergent;
+      content_divergent = c.none-3.ensures.then sets.content_divergent;
+      after_public = c.none-4.ensures.then sets.after_public;
+      near_forks = c.none-5.ensures.then sets.near_forks;
     }

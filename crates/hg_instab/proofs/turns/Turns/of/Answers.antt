@@ -4,7 +4,7 @@ use Rattle.hg_changeset.specs.declared.node.Node.{Node}
 use Rattle.hg_graph.proofs.WalkLemmas.{emptied}
 use Rattle.hg_history.specs.Content.{IsHeld}
 use Rattle.hg_replica.specs.Content.{content_of}
-use Rattle.hg_instab.specs.Calm.{AreRetired, IsCalm}
+use Rattle.hg_instab.specs.Calm.{AreRetired, AreStranded, IsCalm}
 use Rattle.hg_instab.specs.Near.{IsAfterPublic}
 use Rattle.hg_instab.specs.Region.{AreStarts}
 use Rattle.hg_instab.proofs.CalmLemmas.{calm-told}
@@ -27,22 +27,26 @@ returns-then-are_calm-clause-told c =
     let met = c.in_ok-met.met.keys in
     let starts = c.in_ok-starts.starts.keys in
     let seeds = c.deref.result.now in
-    let same : seeds ≡ c.deref-then-is_empty-2.result.now =
-    c.deref.ensures.value ∙ sym c.deref-then-is_empty-2.ensures.value in
+    let same : seeds ≡ c.deref-then-is_empty-2-2.result.now =
+    c.deref.ensures.value ∙ sym c.deref-then-is_empty-2-2.ensures.value in
     let begun : AreStarts t.markers change sets.near_forks starts =
     subst (λ (xs : List Node). AreStarts t.markers change xs starts) c.near_forks.ensures c.in_ok-starts.ensures in
     let retired = c.in_ok-retired.retired.keys in
     let those : AreRetired g sets.extinct seeds retired =
     subst (λ (xs : List Node). AreRetired g xs seeds retired) c.extinct.ensures c.in_ok-retired.ensures in
-    let calm : (n : Node) → Contains seeds n → IsHeld g.0 n → IsCalm g sets retired n =
+    let stranded = c.in_ok-stranded.stranded.keys in
+    let strays : AreStranded g sets retired seeds stranded =
+    subst (λ (xs : List Node). AreStranded g sets retired xs stranded)
+    (c.deref-then-is_empty-2.ensures.value ∙ sym c.deref.ensures.value) c.in_ok-stranded.ensures in
+    let calm : (n : Node) → Contains seeds n → IsHeld g.0 n → IsCalm g sets retired stranded n =
     λ n h. c.are_calm.ensures c.if-are_calm.true n (subst (λ (xs : List Node). Contains xs n) same h) in
     IfOk-weaker c.calm_turns.result _ _ (λ turns are s is at.
     let f = content_of s in
     let follows = changed-follows s t change valid is in
-    calm-told s t change is.valid valid follows sets at seeds retired
+    calm-told s t change is.valid valid follows sets at seeds retired stranded
     (λ n h. subst (λ (xs : List Node). Contains xs n) (sym c.deref.ensures.value)
     ((c.in_ok-seeds.ensures n).1 h))
-    those calm met
+    those strays calm met
     (emptied met (λ l. let none = c.is_empty.ensures.0 c.if-is_empty.true in omega (arith, l, none)))
     (λ n. subst (λ (xs : List Node). IsAfterPublic g n ↔ (Contains xs n ⊎ Contains met n)) c.after_public.ensures
     (c.in_ok-met.ensures.exact s is.valid follows
