@@ -1,32 +1,44 @@
-//! Measures what absorbing, joining, keeping markers and keeping sets of instabilities cost, one case a run.
+//! Measures what absorbing, joining, keeping markers, keeping sets of instabilities and sharing a node cost, one case a
+//! run.
 //!
-//! `hg_bench CASE SIZE` builds what the case needs, does it, and prints the nanoseconds of processor time that it took,
-//! without the building. With other arguments it prints nothing.
+//! `hg_bench CASE SIZE` builds what the case needs, does it, and prints the nanoseconds that it took, without the
+//! building: of processor time, but where threads work beside each other, of time on the clock. With other arguments it
+//! prints nothing.
 #![tactic(auto)]
 
+mod calling;
 mod chain;
+mod commits;
 mod discoveries;
 mod histories;
 mod keeping;
+mod looking;
 mod markers;
 mod messages;
+mod nodes;
 mod pinning;
 mod rewrites;
+mod signals;
 mod states;
 mod successors;
 
+use calling::call_beside_readers;
 use discoveries::discover;
 use hg_message::Scope;
 use histories::History;
 use keeping::{absorb, keep, tell};
+use looking::look_beside_writer;
 use markers::{Shape, add_markers, list_markers, read_markers, write_markers};
 use messages::{find_offer, make_offer, read_offer, send_offer, take_offer, write_offer};
+use nodes::call_alone;
 use pinning::{Pinned, pin, unpin_many};
 use rewrites::{amend_bottom, tell_instabilities};
 use states::{
     absorb_at_once, absorb_one_by_one, ask_below, join_into_empty, join_into_equal, tell_roots,
 };
-use std::time::{CpuClock, Duration};
+use std::sync::Wait;
+use std::thread::Threads;
+use std::time::{Clock, CpuClock, Duration};
 use std::{env, io};
 use successors::{Chains, tell_divergent, tell_sets};
 
@@ -51,13 +63,40 @@ fn main(rt: HostRuntime) -> io::Result<()> {
     }
 }
 
-fn run(rt: &(impl CpuClock + Print + AllocGlobal), case: &str, size: usize) -> io::Result<()> {
+fn run<R: Clock + CpuClock + Threads + Wait + Print + AllocGlobal + Sync>(
+    rt: &R,
+    case: &str,
+    size: usize,
+) -> io::Result<()> {
     let nanos = spent(rt, case, size)?.as_nanos();
     println!(rt; "{nanos}")
 }
 
 // What a case of this size took.
-fn spent(rt: &(impl CpuClock + AllocGlobal), case: &str, size: usize) -> io::Result<Duration> {
+fn spent<R: Clock + CpuClock + Threads + Wait + AllocGlobal + Sync>(
+    rt: &R,
+    case: &str,
+    size: usize,
+) -> io::Result<Duration> {
+    match case {
+        "local-calls" => call_alone(rt, size),
+        "reads-beside-writer-1" => look_beside_writer(rt, size, 1),
+        "reads-beside-writer-2" => look_beside_writer(rt, size, 2),
+        "reads-beside-writer-4" => look_beside_writer(rt, size, 4),
+        "writes-beside-readers-0" => call_beside_readers(rt, size, 0),
+        "writes-beside-readers-1" => call_beside_readers(rt, size, 1),
+        "writes-beside-readers-2" => call_beside_readers(rt, size, 2),
+        "writes-beside-readers-4" => call_beside_readers(rt, size, 4),
+        _ => spent_on_states(rt, case, size),
+    }
+}
+
+// What a case of this size took, where no threads share a node in it.
+fn spent_on_states(
+    rt: &(impl CpuClock + AllocGlobal),
+    case: &str,
+    size: usize,
+) -> io::Result<Duration> {
     match case {
         "one-by-one" => absorb_one_by_one(rt, size),
         "at-once" => absorb_at_once(rt, size),

@@ -74,8 +74,8 @@ fn amend_of(alloc: Global, node: Node, number: usize) -> Option<Op> {
     Some(Op::Amend { node, entry })
 }
 
-// An entry with the number as its description.
-fn entry(alloc: Global, number: usize) -> Result<Entry, AllocError> {
+/// An entry with the number as its description.
+pub fn entry(alloc: Global, number: usize) -> Result<Entry, AllocError> {
     let desc = format!(in alloc; "{number}")?;
     Ok(Entry {
         user: Vec::from_slice(alloc, b"fleet")?,

@@ -1,13 +1,17 @@
 -- What the parser tells at words that are written out.
 use Rattle.std.proofs.Common.{◌≡◌, ◌≢◌, ◌∷◌, [], List, length, map, codes, refl, inl, inr, ◌∙◌, ap, subst, arith, true}
-use Rattle.std.proofs.Common.{Result, Bor, get_or}
+use Rattle.std.proofs.Common.{Result, Ok, Err, IfOk, Bor, get_or, Some, None}
 use Rattle.std.specs.Prelude.{drop}
 use Rattle.clap.specs.Words.{App, Text, Kinds, FailsBy, HasKind, IsAmong, fault_of, is_simple_and_free, kind_of}
 use Rattle.clap.specs.declared.error.Error.{Error}
 use Rattle.clap.specs.declared.error.kind.ErrorKind.TheVariants.{DisplayHelp, DisplayVersion, MissingSubcommand}
 use Rattle.clap.specs.declared.error.kind.ErrorKind.TheVariants.{UnknownArgument, OutOfMemory}
+use Rattle.clap.specs.declared.error.kind.ErrorKind.TheVariants.{MissingRequiredArgument, ValueValidation}
 use Rattle.clap.proofs.OnLiterals.{clap_on_literals}
-use Rattle.hgfleet.specs.Arguments.{IsRun, program, faults_at}
+use Rattle.hgfleet.specs.Arguments.{IsRun, program, faults_at, race_numbers, ArgumentsAnswer, IsWithinBounds}
+use Rattle.hgfleet.specs.declared.arguments.ArgumentFault.{ArgumentFault}
+use Rattle.hgfleet.specs.declared.arguments.Wanted.{Wanted}
+use Rattle.hgfleet.specs.declared.arguments.Wanted.TheVariants.{Run, Race, Help, Version}
 
 pub at_help : (name : Text) → faults_at (name ∷ codes "--help" ∷ []) ≡ DisplayHelp ∷ []
 unfolding clap_on_literals faults_at
@@ -36,6 +40,56 @@ at_run name = refl
 pub at_more : (name : Text) → faults_at (name ∷ codes "run" ∷ codes "x" ∷ []) ≡ UnknownArgument ∷ []
 unfolding clap_on_literals faults_at
 at_more name = refl
+
+pub at_run_numbers : (name : Text) → race_numbers (name ∷ codes "run" ∷ []) ≡ None
+unfolding clap_on_literals race_numbers
+at_run_numbers name = refl
+
+pub at_race : (name : Text)
+    → faults_at (name ∷ codes "race" ∷ codes "--nodes" ∷ codes "4" ∷ codes "--rounds" ∷ codes "3" ∷ []) ≡ []
+unfolding clap_on_literals faults_at
+at_race name = refl
+
+pub at_race_numbers : (name : Text)
+    → race_numbers (name ∷ codes "race" ∷ codes "--nodes" ∷ codes "4" ∷ codes "--rounds" ∷ codes "3" ∷ []) ≡ Some (4, 3)
+unfolding clap_on_literals race_numbers
+at_race_numbers name = refl
+
+pub at_longest_race : (name : Text)
+    → faults_at (name ∷ codes "race" ∷ codes "--rounds=1000" ∷ codes "--nodes=16" ∷ []) ≡ []
+unfolding clap_on_literals faults_at
+at_longest_race name = refl
+
+pub at_longest_numbers : (name : Text)
+    → race_numbers (name ∷ codes "race" ∷ codes "--rounds=1000" ∷ codes "--nodes=16" ∷ []) ≡ Some (16, 1000)
+unfolding clap_on_literals race_numbers
+at_longest_numbers name = refl
+
+pub at_too_many_nodes : (name : Text)
+    → faults_at (name ∷ codes "race" ∷ codes "--nodes" ∷ codes "17" ∷ codes "--rounds" ∷ codes "1" ∷ [])
+    ≡ ValueValidation ∷ []
+unfolding clap_on_literals faults_at
+at_too_many_nodes name = refl
+
+pub at_too_few_nodes : (name : Text)
+    → faults_at (name ∷ codes "race" ∷ codes "--nodes" ∷ codes "1" ∷ codes "--rounds" ∷ codes "1" ∷ [])
+    ≡ ValueValidation ∷ []
+unfolding clap_on_literals faults_at
+at_too_few_nodes name = refl
+
+pub at_negative_nodes : (name : Text)
+    → faults_at (name ∷ codes "race" ∷ codes "--nodes=-4" ∷ codes "--rounds=1" ∷ []) ≡ ValueValidation ∷ []
+unfolding clap_on_literals faults_at
+at_negative_nodes name = refl
+
+pub at_no_rounds : (name : Text)
+    → faults_at (name ∷ codes "race" ∷ codes "--nodes" ∷ codes "2" ∷ []) ≡ MissingRequiredArgument ∷ []
+unfolding clap_on_literals faults_at
+at_no_rounds name = refl
+
+pub at_help_of_race : (name : Text) → faults_at (name ∷ codes "race" ∷ codes "--help" ∷ []) ≡ DisplayHelp ∷ []
+unfolding clap_on_literals faults_at
+at_help_of_race name = refl
 
 -- the words of a run are at no fault
 pub run_faultless : (words : List Text) → IsRun words → faults_at words ≡ []
@@ -69,3 +123,12 @@ second_alone [] d l = absurd (omega (arith, l))
 second_alone (a ∷ []) d l = absurd (omega (arith, l))
 second_alone (a ∷ b ∷ []) d l = refl
 second_alone (a ∷ b ∷ x ∷ xs) d l = absurd (omega (arith, l))
+
+-- what is answered can be done
+pub answer_within : (words : List Text) (r : Result Wanted ArgumentFault) → ArgumentsAnswer words r
+    → IfOk r IsWithinBounds
+answer_within words (Ok Run) h = tt
+answer_within words (Ok (Race nodes rounds)) h = h.2
+answer_within words (Ok (Help e)) h = tt
+answer_within words (Ok (Version e)) h = tt
+answer_within words (Err e) h = tt

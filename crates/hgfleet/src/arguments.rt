@@ -1,12 +1,15 @@
 //! The arguments of the program.
 ghost use Rattle.std.specs.Prelude.{◌≡◌, ◌∷◌, ◌↔◌, [], map, List, ℕ, IsTrue, IfOk, IfErr, MatchResult, codes};
-ghost use Rattle.clap.specs.Words.{app_of, kind_of, Text};
+ghost use Rattle.std.specs.Prelude.{Some, None, false};
+ghost use Rattle.clap.specs.Words.{app_of, found_of, kind_of, rows_of, subcommand_rows_of, Text};
+ghost use Rattle.clap.specs.declared.builder.command.Command.TheViews.{out-Command};
 ghost use Rattle.hgfleet.specs.declared.arguments.ArgumentFault.TheVariants.{NoMemory};
-ghost use Rattle.hgfleet.specs.Arguments.{program, IsRun, faults_at, ArgumentsAnswer, ParseAnswer};
+ghost use Rattle.hgfleet.specs.Arguments.{program, race, IsRun, faults_at, ArgumentsAnswer, ParseAnswer};
+ghost use Rattle.hgfleet.specs.Arguments.{number_given, race_met, race_numbers};
 ghost use Rattle.hgfleet.specs.Arguments.{argument_fault_number, argument_fault_status, argument_fault_text};
 
 use clap::error::ErrorKind;
-use clap::{Command, Error};
+use clap::{Arg, ArgMatches, Command, Error, value_parser};
 use std::alloc::{AllocError, AllocFailed, Global};
 use std::fmt;
 
@@ -15,6 +18,8 @@ use std::fmt;
 pub enum Wanted {
     /// That the script of standard input is run.
     Run,
+    /// That so many nodes race for so many rounds.
+    Race { nodes: u8, rounds: u16 },
     /// The text of the help, which is the message of this answer.
     Help(Error),
     /// The version, which is the message of this answer.
@@ -117,12 +122,30 @@ Statuses: 0 done, 1 a script that ended early, 2 wrong arguments, 3 want of memo
 For example:
   printf 'node A\\ncommit A a draft\\nreport A\\n' | hgfleet run";
 
-/// Reads the words of a command line, the program's name first. A run has the word `run` alone.
+// What a race does, and what comes of it.
+const RACE_HELP: &str = "\
+Each node has two threads. The first one commits a changeset in each round, amends it, reads both back and offers all
+that its node serves to the next node of the ring. The second one takes in what was offered to its node. Then each
+node takes all that the one before holds, twice round the ring. What is printed:
+  nodes N                 how many nodes there were
+  rounds R                how many rounds
+  written W               the operations that were done and published, 2 a node and round
+  read back W             the changesets that were read back and found
+  agreeing pairs K of P   how many of the pairs of nodes hold the same in the end
+
+Statuses: 0 done, 1 a text that can't be written, 2 wrong arguments, 3 want of memory.
+
+For example:
+  hgfleet race --nodes 4 --rounds 3";
+
+/// Reads the words of a command line, the program's name first. A run has the word `run` alone, and a race the number
+/// of its nodes, from 2 to 16, and that of its rounds, from 1 to 1,000.
 pub fn read_args(alloc: Global, words: &[&str]) -> Result<Wanted, ArgumentFault>
     ensures { ArgumentsAnswer (map (λ s. s.now) words.now) result }
 {
     match parse(alloc, words) {
-        Ok(()) => {
+        Ok(Some((nodes, rounds))) => Ok(Wanted::Race { nodes, rounds }),
+        Ok(None) => {
             if is_run(words) {
                 Ok(Wanted::Run)
             } else {
@@ -161,13 +184,44 @@ fn further_words(alloc: Global) -> Result<Error, AllocError>
     )
 }
 
-fn parse(alloc: Global, words: &[&str]) -> Result<(), Error>
+// The numbers of a race, where the words are those of one.
+fn parse(alloc: Global, words: &[&str]) -> Result<Option<(u8, u16)>, Error>
     ensures { ParseAnswer (map (λ s. s.now) words.now) result }
 {
     let command = program(alloc)?;
     match command.try_get_matches_from(words) {
-        Ok(_) => Ok(()),
+        Ok(matches) => Ok(race_of(&matches)),
         Err(error) => Err(error),
+    }
+}
+
+// The numbers of a race, where that is the command that was met.
+fn race_of(matches: &ArgMatches<'_>) -> Option<(u8, u16)>
+    ensures { result ≡ race_met (subcommand_rows_of matches.now) }
+{
+    let race = matches.subcommand_matches("race")?;
+    let nodes = nodes_of(race)?;
+    let rounds = rounds_of(race)?;
+    Some((nodes, rounds))
+}
+
+// How many nodes race. The parser has refused the numbers out of range before.
+fn nodes_of(race: &ArgMatches<'_>) -> Option<u8>
+    ensures { result ≡ number_given (codes "nodes") 2 16 (rows_of (found_of race.now)) }
+{
+    match race.get_one::<u8>("nodes") {
+        Some(nodes) if 2 <= nodes && nodes <= 16 => Some(nodes),
+        _ => None,
+    }
+}
+
+// For how many rounds they race. The parser has refused the numbers out of range before.
+fn rounds_of(race: &ArgMatches<'_>) -> Option<u16>
+    ensures { result ≡ number_given (codes "rounds") 1 1000 (rows_of (found_of race.now)) }
+{
+    match race.get_one::<u16>("rounds") {
+        Some(rounds) if 1 <= rounds && rounds <= 1_000 => Some(rounds),
+        _ => None,
     }
 }
 
@@ -183,8 +237,31 @@ fn program<'a>(alloc: Global) -> Result<Command<'a>, AllocError>
         .after_help(SCRIPT_HELP)
         .subcommand_required(true)
         .arg_required_else_help(false)
-        .subcommand(run)?;
+        .subcommand(run)?
+        .subcommand(race(alloc)?)?;
     Ok(command)
+}
+
+fn race<'a>(alloc: Global) -> Result<Command<'a>, AllocError>
+    ensures { IfOk result (λ command. (app_of command ≡ race) × ((out-Command command).has_globals ≡ false)) }
+{
+    let nodes = Arg::new(alloc, "nodes")
+        .long("nodes")
+        .value_name("N")
+        .required(true)
+        .value_parser(value_parser!(u8).range(2..=16))
+        .help("How many nodes, 2 to 16");
+    let rounds = Arg::new(alloc, "rounds")
+        .long("rounds")
+        .value_name("R")
+        .required(true)
+        .value_parser(value_parser!(u16).range(1..=1_000))
+        .help("How many rounds, 1 to 1,000");
+    Command::new(alloc, "race")
+        .about("Lets threads share nodes, and prints what came of it")
+        .after_help(RACE_HELP)
+        .arg(nodes)?
+        .arg(rounds)
 }
 
 /// The words by which help and the version are asked for, and some that ask for nothing.
@@ -197,4 +274,23 @@ pub fn what_words_ask_for()
     ensures nothing { (name : Text) → faults_at (name ∷ []) ≡ ErrorKind.MissingSubcommand ∷ [] }
     ensures run { (name : Text) → faults_at (name ∷ codes "run" ∷ []) ≡ [] }
     ensures more { (name : Text) → faults_at (name ∷ codes "run" ∷ codes "x" ∷ []) ≡ ErrorKind.UnknownArgument ∷ [] }
+    ensures run_numbers { (name : Text) → race_numbers (name ∷ codes "run" ∷ []) ≡ None }
+    ensures race { (name : Text) → faults_at (name ∷ codes "race" ∷ codes "--nodes" ∷ codes "4" ∷ codes "--rounds"
+        ∷ codes "3" ∷ []) ≡ [] }
+    ensures race_numbers { (name : Text) → race_numbers (name ∷ codes "race" ∷ codes "--nodes" ∷ codes "4"
+        ∷ codes "--rounds" ∷ codes "3" ∷ []) ≡ Some (4, 3) }
+    ensures longest_race { (name : Text) → faults_at (name ∷ codes "race" ∷ codes "--rounds=1000"
+        ∷ codes "--nodes=16" ∷ []) ≡ [] }
+    ensures longest_numbers { (name : Text) → race_numbers (name ∷ codes "race" ∷ codes "--rounds=1000"
+        ∷ codes "--nodes=16" ∷ []) ≡ Some (16, 1000) }
+    ensures too_many_nodes { (name : Text) → faults_at (name ∷ codes "race" ∷ codes "--nodes" ∷ codes "17"
+        ∷ codes "--rounds" ∷ codes "1" ∷ []) ≡ ErrorKind.ValueValidation ∷ [] }
+    ensures too_few_nodes { (name : Text) → faults_at (name ∷ codes "race" ∷ codes "--nodes" ∷ codes "1"
+        ∷ codes "--rounds" ∷ codes "1" ∷ []) ≡ ErrorKind.ValueValidation ∷ [] }
+    ensures negative_nodes { (name : Text) → faults_at (name ∷ codes "race" ∷ codes "--nodes=-4"
+        ∷ codes "--rounds=1" ∷ []) ≡ ErrorKind.ValueValidation ∷ [] }
+    ensures no_rounds { (name : Text) → faults_at (name ∷ codes "race" ∷ codes "--nodes" ∷ codes "2" ∷ [])
+        ≡ ErrorKind.MissingRequiredArgument ∷ [] }
+    ensures help_of_race { (name : Text)
+        → faults_at (name ∷ codes "race" ∷ codes "--help" ∷ []) ≡ ErrorKind.DisplayHelp ∷ [] }
 {}

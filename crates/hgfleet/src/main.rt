@@ -1,22 +1,29 @@
-//! `hgfleet` runs scripts of a fleet of Mercurial repositories.
+//! `hgfleet` runs scripts of a fleet of Mercurial repositories, and races of nodes that threads share.
 //!
-//! The arguments say what is wanted; a script is run by `hg_script`, from standard input to standard output. The status
-//! says what came of it.
+//! The arguments say what is wanted; a script is run by `hg_script`, from standard input to standard output, and a race
+//! by `hg_race`. The status says what came of it.
 #![tactic(auto)]
+
+ghost use Rattle.std.specs.Prelude.{◌≤◌, IfOk};
+ghost use Rattle.hgfleet.specs.Arguments.{IsWithinBounds};
 
 mod arguments;
 
 use arguments::{ArgumentFault, Wanted, read_args};
 use clap::Error;
+use hg_race::run_race;
 use hg_script::{RunFault, run_counted};
 use std::env::Env;
 use std::io::{BufWriter, ErrorKind, Write};
 use std::process::ExitCode;
+use std::sync::Wait;
+use std::thread::Threads;
 use std::{env, io};
 
 fn main(rt: HostRuntime) -> ExitCode {
     match read_wanted(&rt) {
         Ok(Wanted::Run) => finish(&rt, run(&rt)),
+        Ok(Wanted::Race { nodes, rounds }) => finish(&rt, race(&rt, nodes, rounds)),
         Ok(Wanted::Help(text)) => finish(&rt, show(&rt, &text)),
         Ok(Wanted::Version(text)) => finish(&rt, show(&rt, &text)),
         Err(fault) => {
@@ -38,7 +45,10 @@ fn finish(rt: &impl Eprint, done: Result<(), RunFault>) -> ExitCode {
     }
 }
 
-fn read_wanted(rt: &(impl Env + AllocGlobal)) -> Result<Wanted, ArgumentFault> {
+#[tactic(auto, using(crate::proofs::ArgumentLemmas::answer_within))]
+fn read_wanted(rt: &(impl Env + AllocGlobal)) -> Result<Wanted, ArgumentFault>
+    ensures { IfOk result IsWithinBounds }
+{
     let words: Vec<String> = match env::args(rt) {
         Ok(words) => words.collect(rt.alloc())?,
         Err(error) if error.kind() == ErrorKind::OutOfMemory => return Err(ArgumentFault::NoMemory),
@@ -63,6 +73,24 @@ fn run(rt: &(impl Print + Input + AllocGlobal)) -> Result<(), RunFault> {
         Err(_) => return Err(RunFault::NoMemory),
     };
     let done = run_counted(rt.alloc(), rt.reader(), &mut writer);
+    let flushed = writer.flush().map_err(|_| RunFault::Write);
+    done.and(flushed)
+}
+
+// Runs a race of so many nodes for so many rounds.
+fn race(
+    rt: &(impl Print + AllocGlobal + Threads + Wait + Sync),
+    nodes: u8,
+    rounds: u16,
+) -> Result<(), RunFault>
+    requires nodes { (2 ≤ nodes) × (nodes ≤ 16) }
+    requires rounds { (1 ≤ rounds) × (rounds ≤ 1000) }
+{
+    let mut writer = match BufWriter::new(rt.alloc(), io::writer(rt)) {
+        Ok(writer) => writer,
+        Err(_) => return Err(RunFault::NoMemory),
+    };
+    let done = run_race(rt, rt.alloc(), nodes, rounds, &mut writer);
     let flushed = writer.flush().map_err(|_| RunFault::Write);
     done.and(flushed)
 }

@@ -1,5 +1,7 @@
 use Rattle.hgfleet.proofs.ArgumentLemmas.{at_help, at_short_help, at_help_of_run, at_version, at_nothing, at_run}
-use Rattle.hgfleet.proofs.ArgumentLemmas.{at_more}
+use Rattle.hgfleet.proofs.ArgumentLemmas.{at_more, at_run_numbers, at_race, at_race_numbers}
+use Rattle.hgfleet.proofs.ArgumentLemmas.{at_longest_race, at_longest_numbers, at_no_rounds, at_help_of_race}
+use Rattle.hgfleet.proofs.ArgumentLemmas.{at_too_many_nodes, at_too_few_nodes, at_negative_nodes}
 use Rattle.hgfleet.proofs.arguments.what_words_ask_for.Goals as goal
 
 pub returns-clause-help : goal.returns-clause-help
@@ -22,3 +24,33 @@ returns-clause-run c = at_run
 
 pub returns-clause-more : goal.returns-clause-more
 returns-clause-more c = at_more
+
+pub returns-clause-run_numbers : goal.returns-clause-run_numbers
+returns-clause-run_numbers c = at_run_numbers
+
+pub returns-clause-race : goal.returns-clause-race
+returns-clause-race c = at_race
+
+pub returns-clause-race_numbers : goal.returns-clause-race_numbers
+returns-clause-race_numbers c = at_race_numbers
+
+pub returns-clause-longest_race : goal.returns-clause-longest_race
+returns-clause-longest_race c = at_longest_race
+
+pub returns-clause-longest_numbers : goal.returns-clause-longest_numbers
+returns-clause-longest_numbers c = at_longest_numbers
+
+pub returns-clause-too_many_nodes : goal.returns-clause-too_many_nodes
+returns-clause-too_many_nodes c = at_too_many_nodes
+
+pub returns-clause-too_few_nodes : goal.returns-clause-too_few_nodes
+returns-clause-too_few_nodes c = at_too_few_nodes
+
+pub returns-clause-negative_nodes : goal.returns-clause-negative_nodes
+returns-clause-negative_nodes c = at_negative_nodes
+
+pub returns-clause-no_rounds : goal.returns-clause-no_rounds
+returns-clause-no_rounds c = at_no_rounds
+
+pub returns-clause-help_of_race : goal.returns-clause-help_of_race
+returns-clause-help_of_race c = at_help_of_race

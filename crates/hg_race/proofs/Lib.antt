@@ -1,0 +1,2 @@
+mod PrintLemmas
+pub mod SendLemmas

@@ -1,0 +1,118 @@
+//! A race from its first round to its last line.
+ghost use Rattle.std.specs.Prelude.{◌≡◌, ◌≤◌, ◌⊎◌, ℕ, IfErr, OnOk};
+ghost use Rattle.std.specs.Io.KnownBytes.{Appends};
+ghost use Rattle.hg_race.specs.Lines.{race_lines};
+
+use crate::agreement::{agreeing, go_round};
+use crate::racer::{Counts, Lane, Outcome, Racer, race_one};
+use crate::result::{RaceResult, print_result};
+use crate::station::open;
+use hg_join::NoMemory;
+use hg_peer::Peer;
+use hg_script::RunFault;
+use hg_view::Kept;
+use std::alloc::Global;
+use std::io::Write;
+use std::sync::Wait;
+use std::thread;
+use std::thread::Threads;
+
+/// Lets so many nodes race for so many rounds, and prints what came of it, one write for each line: how many nodes and
+/// rounds there were, the operations after which a node published them, the changesets that were read back and found,
+/// and how many pairs of nodes agree in the end. It waits for its threads.
+///
+/// Refuses [`RunFault::Write`] where a line can't be written, and [`RunFault::NoMemory`], which prints nothing.
+pub fn run_race<R: Threads + Wait + Sync, W: Write>(
+    rt: &R,
+    alloc: Global,
+    nodes: u8,
+    rounds: u16,
+    writer: &mut W,
+) -> Result<(), RunFault>
+    requires nodes { (2 ≤ nodes) × (nodes ≤ 16) }
+    requires rounds { (1 ≤ rounds) × (rounds ≤ 1000) }
+    ensures printed { OnOk result ((written : ℕ) × (read_back : ℕ) × (agreeing : ℕ)
+        × Appends (W.contents writer.old) (W.contents writer.new)
+        (race_lines nodes rounds written read_back agreeing)) }
+    ensures err { IfErr result (λ fault. (fault ≡ RunFault.Write) ⊎ (fault ≡ RunFault.NoMemory)) }
+{
+    let outcomes = race_all(rt, alloc, nodes, rounds)?;
+    let counts = all_counts(&outcomes);
+    let race = RaceResult {
+        nodes: u64::from(nodes),
+        rounds: u64::from(rounds),
+        written: counts.written,
+        read_back: counts.read_back,
+        agreeing: count_agreeing(alloc, outcomes)?,
+    };
+    print_result(alloc, writer, &race)?;
+    Ok(())
+}
+
+// Lets all nodes race, and tells what is left of each, in their order.
+fn race_all<R: Threads + Wait + Sync>(
+    rt: &R,
+    alloc: Global,
+    nodes: u8,
+    rounds: u16,
+) -> Result<Vec<Outcome>, NoMemory>
+    requires { 1 ≤ nodes }
+{
+    let racers = ring(alloc, nodes, rounds)?;
+    let results = thread::map_vec(rt, racers, &|racer| race_one(rt, racer))?;
+    let mut outcomes = Vec::with_capacity(alloc, results.len())?;
+    for result in results {
+        outcomes.push(result?)?;
+    }
+    Ok(outcomes)
+}
+
+// The nodes in a ring: each puts messages into the inbox of the next one, and the last one into that of the first.
+fn ring(alloc: Global, nodes: u8, rounds: u16) -> Result<Vec<Racer>, NoMemory>
+    requires { 1 ≤ nodes }
+{
+    let (first, mut own) = open(alloc)?;
+    let mut racers = Vec::new(alloc);
+    for number in 0..nodes - 1 {
+        let (next, takes) = open(alloc)?;
+        let lane = Lane {
+            alloc,
+            number,
+            rounds,
+        };
+        racers.push(Racer { lane, own, next })?;
+        own = takes;
+    }
+    let lane = Lane {
+        alloc,
+        number: nodes - 1,
+        rounds,
+    };
+    racers.push(Racer {
+        lane,
+        own,
+        next: first,
+    })?;
+    Ok(racers)
+}
+
+// What the rounds of all nodes came to.
+fn all_counts(outcomes: &[Outcome]) -> Counts {
+    let mut all = Counts::NONE;
+    for outcome in outcomes {
+        all = all.and(outcome.counts);
+    }
+    all
+}
+
+// Lets the replicas take from each other, twice round the ring, and counts the pairs that agree.
+fn count_agreeing(alloc: Global, outcomes: Vec<Outcome>) -> Result<u64, NoMemory> {
+    let mut peers = Vec::new(alloc);
+    for outcome in outcomes {
+        let kept = Kept::new(alloc, outcome.replica)?;
+        peers.push(Peer::new(kept))?;
+    }
+    go_round(alloc, &mut peers)?;
+    go_round(alloc, &mut peers)?;
+    agreeing(&peers)
+}

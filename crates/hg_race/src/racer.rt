@@ -1,0 +1,206 @@
+//! One node of a race.
+ghost use Rattle.std.specs.Prelude.{◌≡◌, ◌*◌, ◌≤◌, IfOk};
+
+use crate::rounds::write_rounds;
+use crate::station::{Mailbox, Station};
+use hg_join::NoMemory;
+use hg_live::{Blank, CallRefusal, Node, NodeName, OpenGate, Pass, Writer};
+use hg_replica::Replica;
+use std::alloc::Global;
+use std::marker::Brand;
+use std::sync::Wait;
+use std::thread;
+use std::thread::Threads;
+
+/// A node whose gate is open, written to by what has the right to wait.
+pub(crate) type Open<K, W> = Node<K, OpenGate, Writer<K, W>>;
+
+/// Which node it is, what it has to do, and where it gets memory.
+#[derive(Clone, Copy)]
+pub(crate) struct Lane {
+    /// The allocator.
+    pub alloc: Global,
+
+    /// The node's number, from 0.
+    pub number: u8,
+
+    /// How many rounds it has.
+    pub rounds: u16,
+}
+
+/// A node that is about to race.
+#[derive(Drop)]
+pub(crate) struct Racer {
+    /// What it has to do.
+    pub lane: Lane,
+
+    /// Where its messages come from.
+    pub own: Station,
+
+    /// Where it puts messages for the next node.
+    pub next: Station,
+}
+
+/// What the rounds of a node came to.
+#[derive(Clone, Copy)]
+pub(crate) struct Counts {
+    /// The operations after which the node published them.
+    pub written: u64,
+
+    /// The changesets that were read back and found.
+    pub read_back: u64,
+}
+
+impl Counts {
+    /// Nothing yet.
+    pub const NONE: Counts = Counts {
+        written: 0,
+        read_back: 0,
+    };
+
+    /// Both together.
+    pub fn and(self, other: Counts) -> Counts {
+        Counts {
+            written: self.written.saturating_add(other.written),
+            read_back: self.read_back.saturating_add(other.read_back),
+        }
+    }
+}
+
+/// What is left of a node when its threads have ended.
+#[derive(Drop)]
+pub(crate) struct Outcome {
+    /// What its rounds came to.
+    pub counts: Counts,
+
+    /// Its replica.
+    pub replica: Replica,
+}
+
+/// Lets one node race. Nothing is in it at first.
+pub(crate) fn race_one<R: Threads + Wait + Sync>(
+    rt: &R,
+    racer: Racer,
+) -> Result<Outcome, NoMemory> {
+    let alloc = racer.lane.alloc;
+    let blank = Blank::new(alloc, Replica::new(alloc))?;
+    race_named::<Brand, R>(rt, blank, racer)
+}
+
+fn race_named<K: NodeName + Send + Sync, R: Threads + Wait + Sync>(
+    rt: &R,
+    blank: Blank,
+    racer: Racer,
+) -> Result<Outcome, NoMemory>
+    requires opening { K.opening ≡ blank.opening }
+    requires book { blank.opened ≡ K.book }
+    requires name { blank.tokens.name ≡ K.name }
+    requires parts { blank.tokens.parts ≡ K.parts }
+{
+    let node: Open<K, &R> = Node::new(rt, racer.lane.alloc, blank, OpenGate)?;
+    let (mut writes, mut takes) = two_passes(rt, &node)?;
+    let Racer {
+        lane,
+        mut own,
+        mut next,
+    } = racer;
+    let counts = race_both(
+        rt,
+        lane,
+        &node,
+        (&mut writes, &mut next),
+        (&mut takes, &mut own),
+    )?;
+    close(lane.alloc, node, writes, takes, counts)
+}
+
+// Lets the threads of a node do their rounds: one with what it writes by, the other with what it takes by.
+fn race_both<K: NodeName + Send + Sync, R: Threads + Wait + Sync, M: Mailbox + Send>(
+    rt: &R,
+    lane: Lane,
+    node: &Open<K, &R>,
+    writes: (&mut Pass<K>, &mut M),
+    takes: (&mut Pass<K>, &mut M),
+) -> Result<Counts, NoMemory> {
+    let (writing, next) = writes;
+    let (taking, own) = takes;
+    let (written, taken) = thread::join(
+        rt,
+        || write_rounds(rt, lane, node, writing, next),
+        || take_rounds(rt, lane, node, taking, own),
+    );
+    taken?;
+    written
+}
+
+// Takes in what lies in the node's inbox, as often as there are rounds.
+fn take_rounds<K: NodeName, R: Wait, M: Mailbox>(
+    rt: &R,
+    lane: Lane,
+    node: &Open<K, &R>,
+    pass: &mut Pass<K>,
+    own: &mut M,
+) -> Result<(), NoMemory> {
+    for _ in 0..lane.rounds {
+        take_all(rt, node, pass, own)?;
+    }
+    Ok(())
+}
+
+// Takes messages until there is none.
+fn take_all<K: NodeName, R: Wait, M: Mailbox>(
+    rt: &R,
+    node: &Open<K, &R>,
+    pass: &mut Pass<K>,
+    own: &mut M,
+) -> Result<(), NoMemory> {
+    for _ in rt.forever() {
+        match own.take(rt) {
+            Some(message) => take_one(rt, node, pass, &message)?,
+            None => return Ok(()),
+        }
+    }
+    Ok(())
+}
+
+// Hands a message to the node. What it refuses is dropped.
+fn take_one<K: NodeName, R: Wait>(
+    rt: &R,
+    node: &Open<K, &R>,
+    pass: &mut Pass<K>,
+    message: &[u8],
+) -> Result<(), NoMemory> {
+    match node.take(rt, pass, message) {
+        Err(CallRefusal::NoMemory) => Err(NoMemory),
+        _ => Ok(()),
+    }
+}
+
+// Two passes. A new node has room for them.
+fn two_passes<K: NodeName, R: Wait>(
+    rt: &R,
+    node: &Open<K, &R>,
+) -> Result<(Pass<K>, Pass<K>), NoMemory> {
+    let Ok(writes) = node.pass(rt) else {
+        return Err(NoMemory);
+    };
+    let Ok(takes) = node.pass(rt) else {
+        return Err(NoMemory);
+    };
+    Ok((writes, takes))
+}
+
+// Closes a node. Both its passes are back, so nothing but want of memory refuses that.
+fn close<K: NodeName, R: Wait>(
+    alloc: Global,
+    node: Open<K, &R>,
+    writes: Pass<K>,
+    takes: Pass<K>,
+    counts: Counts,
+) -> Result<Outcome, NoMemory> {
+    let passes = vec![in alloc; writes, takes]?;
+    match node.close(passes) {
+        Ok(replica) => Ok(Outcome { counts, replica }),
+        Err(_) => Err(NoMemory),
+    }
+}
