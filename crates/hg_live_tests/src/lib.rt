@@ -4,11 +4,15 @@
 #[cfg(test)]
 mod alone;
 #[cfg(test)]
+mod at_random;
+#[cfg(test)]
 mod growth;
 #[cfg(test)]
 mod making;
 #[cfg(test)]
 mod passes;
+#[cfg(test)]
+mod refusals;
 #[cfg(test)]
 mod shared;
 #[cfg(test)]

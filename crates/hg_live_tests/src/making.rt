@@ -43,8 +43,13 @@ pub fn entry(alloc: Global, description: &[u8]) -> Option<Entry> {
 
 /// To commit a draft root.
 pub fn root(alloc: Global, description: &[u8]) -> Option<Op> {
+    commit(alloc, Id::NULL, description)
+}
+
+/// To commit a draft changeset on this parent.
+pub fn commit(alloc: Global, parent: Id, description: &[u8]) -> Option<Op> {
     Some(Op::Commit {
-        p: Id::NULL,
+        p: parent,
         q: Id::NULL,
         entry: entry(alloc, description)?,
         secret: false,
