@@ -92,4 +92,14 @@ impl<S: Actor> World<S> {
     {
         self.nodes.get(at)
     }
+
+    /// The bytes of a message, if there is one of this number, counted from 0.
+    pub fn message(&self, number: usize) -> Option<&[u8]>
+        ensures { option_copied result ≡ slice_get self.now.messages number }
+    {
+        match self.messages.get(number) {
+            Some(message) => Some(message.as_slice()),
+            None => None,
+        }
+    }
 }
