@@ -41,7 +41,7 @@ use Rattle.hg_script.specs.declared.fleet.Fleet.{Fleet}
 use Rattle.hg_script.specs.Commands.{Text, Word, texts, CommandAnswer, LineAnswer}
 use Rattle.hg_script.specs.Endings.{UsesUnknown, AreLabelsFree, IsTakenFault, IsNodeFault, IsNameFault}
 use Rattle.hg_script.specs.Endings.{IsCommandFault, IsLeftBy, HasWords, Says, IsLineFault, EndsAt, StopsAmong}
-use Rattle.hg_script.specs.Endings.{IsStoppedBy, IsScriptOf, IsStop}
+use Rattle.hg_script.specs.Endings.{IsLeftFleet, IsLeftWorld, IsStoppedBy, IsScriptOf, IsStop}
 use Rattle.hg_script.specs.Events.{Trace, PeerEvent, PeerAnswer, no_trace, joined, Meaning, HasUnknown, IsAbsence}
 use Rattle.hg_script.specs.Events.{LacksMessage, IsNowhere, IsUnknownWhere, IsTakeFault, AreLeftOutAt, IsOperation}
 use Rattle.hg_script.specs.Events.{asking, brought, new_labels}
@@ -416,6 +416,10 @@ pub of_script : {T E : Type 0} (P : Text → T → Type 0) (known : Option Text)
     → IsScriptOf known text → IfOk r (P text) → IfOk r (λ x. (read : Text) × IsScriptOf known read × P read x)
 of_script P known text (Ok x) script h = (text, script, h)
 of_script P known text (Err e) script h = tt
+
+-- the world of the fleet that a script leaves is the one that it leaves
+pub left_world : (known : Option Text) (fleet : Fleet) → IsLeftFleet known fleet → IsLeftWorld known fleet.world
+left_world known fleet (text, script, run, e) = (text, script, run)
 
 -- what stopped the text that was read is what stopped the script
 stop_of : (known : Option Text) (text : Text) (fault : RunFault) → IsScriptOf known text

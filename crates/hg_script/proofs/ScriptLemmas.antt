@@ -216,12 +216,10 @@ does_printed number old (line ∷ ls) t new text (mid, here, later, first, rest,
 
 -- what the lines of a script print, from a new fleet on, is what its run prints
 pub printed_run : Compose → (text : Text) (start : Fleet) (t : Trace) (end : Fleet) (output : Text)
-    (world : Snapshot KeptValue) (held holds : Option Text) → IsNewFleet (count_by has_node (lines text)) start
-    → PrintsLines 1 start (lines text) t end output → Printed held output holds → world ≡ end.world
-    → PrintsRun text world held holds
-printed_run compose text start t end output world held holds new prints grew e =
+    (held holds : Option Text) → IsNewFleet (count_by has_node (lines text)) start
+    → PrintsLines 1 start (lines text) t end output → Printed held output holds → PrintsRun text end.world held holds
+printed_run compose text start t end output held holds new prints grew =
     let did = does_printed 1 start (lines text) t end output prints in
-    let ran = does_lines_ran compose start (lines text) t end did in
     record {
       run = record {
         start = start;
@@ -229,8 +227,8 @@ printed_run compose text start t end output world held holds new prints grew e =
         trace = t;
         end = end;
         did = did;
-        ended = sym e;
-        ran = subst (λ (w : Snapshot KeptValue). Ran start.world t w) (sym e) ran;
+        ended = refl;
+        ran = does_lines_ran compose start (lines text) t end did;
       };
       output = output;
       prints = prints;

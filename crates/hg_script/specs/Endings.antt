@@ -25,7 +25,7 @@ use Rattle.hg_script.specs.Events.{marked_label}
 use Rattle.hg_script.specs.Limits.{line_limit, script_limit}
 use Rattle.hg_script.specs.Names.{AreDistinct}
 use Rattle.hg_script.specs.Scripts.{places, ids, numbers, node_named, message_named, may_be_bound, DoesLines}
-use Rattle.hg_script.specs.Scripts.{IsNewFleet, IsRunOf}
+use Rattle.hg_script.specs.Scripts.{IsNewFleet, IsRunOf, IsRunTo}
 use Rattle.hg_script.specs.Words.{has_node, words_of}
 
 -- ---- faults of names
@@ -159,6 +159,10 @@ IsScriptOf known text = (length text ≤ script_limit) × IfSome known (λ bytes
 -- the world is as the script leaves it
 abbrev pub IsLeftWorld : Option Text → Snapshot KeptValue → Type 0
 IsLeftWorld known world = (text : Text) × IsScriptOf known text × IsRunOf text world
+
+-- the fleet is as the script leaves it
+abbrev pub IsLeftFleet : Option Text → Fleet → Type 0
+IsLeftFleet known fleet = (text : Text) × IsScriptOf known text × IsRunTo text fleet
 
 -- the script was stopped by this fault: at a line, or while it was read
 abbrev pub IsStop : Option Text → RunFault → Type 0

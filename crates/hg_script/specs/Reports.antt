@@ -1,6 +1,6 @@
 -- The report of a replica: a line for each changeset, by the definitions of what is so of it, under its node's pins.
 use Rattle.std.specs.Prelude.{ℕ, ◌≡◌, ◌+◌, ◌==◌, ◌↔◌, List, [], ◌∷◌, ◌++◌, map, codes, decimal, slice_get, length, Bool}
-use Rattle.std.specs.Prelude.{IsTrue, Some, Contains, if◌then◌else◌}
+use Rattle.std.specs.Prelude.{IsTrue, Some, if◌then◌else◌}
 use Rattle.std.specs.declared.cmp.Ordering.{Ordering}
 use Rattle.std.specs.Cmp.Lexicographic.{slice_cmp}
 use Rattle.std.specs.List.{after_last}

@@ -3,7 +3,7 @@ use Rattle.std.specs.Prelude.{ℕ, ◌≡◌, ◌⊎◌, ◌≤◌, List, [], �
 use Rattle.std.specs.Prelude.{Some, None, Ok}
 use Rattle.std.specs.declared.vec.Vec.{Vec}
 use Rattle.std.specs.declared.alloc.Global.{Global}
-use Rattle.std.specs.BTreeMap.{BTreeMap, btree_map_len}
+use Rattle.std.specs.BTreeMap.{BTreeMap, btree_map_len, keys}
 use Rattle.std.specs.Map.{update}
 use Rattle.std.specs.Option.{option_map_or}
 use Rattle.std.specs.Str.{bytes_eq}
@@ -35,6 +35,10 @@ ids f = value_of f.labels
 
 abbrev pub numbers : Fleet → Meaning ℕ
 numbers f = value_of f.messages
+
+-- the names of the nodes, in byte order
+abbrev pub node_names : Fleet → List Text
+node_names f = map (λ k. k.items) (keys f.nodes)
 
 -- the state of the node with this name, if there is one
 abbrev pub node_named : Fleet → Text → Option KeptValue
@@ -162,3 +166,7 @@ pub record IsRunOf (text : Text) (world : Snapshot KeptValue) : Type 0 where
   pub did : DoesLines start (lines text) trace end
   pub ended : end.world ≡ world
   pub ran : Ran start.world trace world
+
+-- the script leaves the fleet so: its world, and what its names stand for
+abbrev pub IsRunTo : Text → Fleet → Type 0
+IsRunTo text fleet = (run : IsRunOf text fleet.world) × (run.end ≡ fleet)

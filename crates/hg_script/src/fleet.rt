@@ -2,6 +2,7 @@
 ghost use Rattle.std.specs.Prelude.{◌≡◌, ◌&&◌, ◌<◌, ◌∷◌, [], ◌⊎◌, ℕ, List, Some, None, map, IfOk, IfErr, OnOk, OnErr};
 ghost use Rattle.std.specs.Prelude.{◌↔◌, IsTrue, is_none, slice_get};
 ghost use Rattle.std.specs.List.{list_all};
+ghost use Rattle.std.specs.Option.{option_copied};
 ghost use Rattle.hg_graph.specs.Graph.{nodes};
 ghost use Rattle.hg_replica.specs.State.{Below, IsSameState};
 ghost use Rattle.hg_script.specs.Commands.{texts};
@@ -12,7 +13,8 @@ ghost use Rattle.hg_script.specs.Names.{value_of};
 ghost use Rattle.hg_script.specs.Outputs.{Printed};
 ghost use Rattle.hg_script.specs.Printing.{IsDone, PrintsTaken, agree_line};
 ghost use Rattle.hg_script.specs.Scripts.{AreLabelled, Does, IsKept, IsNewFleet, bound_to, each_may_name, ids};
-ghost use Rattle.hg_script.specs.Scripts.{may_name, places};
+ghost use Rattle.hg_script.specs.Scripts.{may_name, message_named, node_named, node_names};
+ghost use Rattle.hg_script.specs.Scripts.{places};
 
 use crate::command::Command;
 use crate::event::{PeerAnswer, run_event};
@@ -30,7 +32,7 @@ use hg_replica::{Part, Replica};
 use hg_rewrite::{Op, decide_kept};
 use hg_view::Kept;
 use hg_world::{Answer, Event, World};
-use std::alloc::Global;
+use std::alloc::{AllocError, Global};
 use std::collections::BTreeMap;
 use std::io::Write;
 
@@ -60,7 +62,7 @@ impl Drop for Fleet {
 
 impl Fleet {
     /// A new world with a place for so many nodes, none of which has a name yet.
-    pub fn new(alloc: Global, count: usize) -> Result<Fleet, NoMemory>
+    pub(crate) fn new(alloc: Global, count: usize) -> Result<Fleet, NoMemory>
         ensures new { IfOk result (IsNewFleet count) }
         ensures memory { OnErr result (0 < count) }
     {
@@ -74,7 +76,7 @@ impl Fleet {
     }
 
     /// The world, as the script leaves it.
-    pub fn into_world(self) -> World<Peer>
+    pub(crate) fn into_world(self) -> World<Peer>
         ensures { result ≡ self.world }
     {
         let Fleet {
@@ -87,8 +89,38 @@ impl Fleet {
         world
     }
 
+    /// The replica of the node with this name, with its instabilities and its pins.
+    pub fn kept_of(&self, name: &[u8]) -> Option<&Kept>
+        ensures { option_copied result ≡ node_named self.now name.now }
+    {
+        match bound(&self.nodes, name) {
+            Some(place) => Some(self.world.state(place)?.kept()),
+            None => None,
+        }
+    }
+
+    /// The bytes of the message with this name.
+    pub fn message_of(&self, name: &[u8]) -> Option<&[u8]>
+        ensures { option_copied result ≡ message_named self.now name.now }
+    {
+        match bound(&self.messages, name) {
+            Some(number) => self.world.message(number),
+            None => None,
+        }
+    }
+
+    /// The names of the nodes, in byte order.
+    pub fn node_names(&self) -> Result<Vec<&[u8]>, AllocError>
+        ensures { IfOk result (λ names. map (λ w. w.now) names.items ≡ node_names self.now) }
+    {
+        self.nodes
+            .keys()
+            .map(|name| name.as_slice())
+            .collect(self.alloc)
+    }
+
     /// Does the command of the line with this number.
-    pub fn execute<W: Write>(
+    pub(crate) fn execute<W: Write>(
         &mut self,
         number: usize,
         command: Command<'_>,
@@ -146,12 +178,12 @@ impl Fleet {
         };
         let op = operation.resolve(&names)?;
         let place = self.place(number, at)?;
-        let labels = operation.new_labels(self.alloc)?;
+        let labels = operation.new_labels();
         let kept = self.kept(number, place)?;
-        self.check_labels(number, kept, &op, &labels)?;
+        self.check_labels(number, kept, &op, labels)?;
         let event = Event::Local { at: place, op };
         let answer = run_event(self.alloc, number, &mut self.world, event, writer)?;
-        label(self.alloc, &mut self.labels, &labels, &answer)?;
+        label(self.alloc, &mut self.labels, labels, &answer)?;
         Ok(())
     }
 

@@ -28,6 +28,7 @@ mod steps;
 
 pub use counted::CountedRead;
 pub use fault::{LineFault, RunFault};
+pub use fleet::Fleet;
 pub use limits::{LINE_LIMIT, NAME_LIMIT, SCRIPT_LIMIT, limits_are_those_of_the_format};
 pub use output::printed_lines_are_those_of_the_format;
-pub use script::{run_counted, run_fleet, run_script};
+pub use script::{run_counted, run_counted_named, run_fleet, run_named, run_script};

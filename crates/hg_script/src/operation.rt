@@ -12,6 +12,7 @@ use hg_phases::Phase;
 use hg_rewrite::Op;
 use std::alloc::{AllocError, Global};
 use std::collections::BTreeMap;
+use std::slice::from_ref;
 
 /// The user of each entry that a script makes.
 const USER: &[u8] = b"fleet";
@@ -60,16 +61,16 @@ pub enum Operation<'a> {
 
 impl<'a> Operation<'a> {
     /// The new labels, in the order in which the operation makes their changesets.
-    pub fn new_labels(self, alloc: Global) -> Result<Vec<&'a [u8]>, AllocError>
-        ensures { IfOk result (λ labels. map (λ w. w.now) labels.items ≡ new_labels self.entry) }
+    pub fn new_labels(&self) -> &[&'a [u8]]
+        ensures { map (λ w. w.now) result.now ≡ new_labels self.now }
     {
         match self {
             Operation::Commit { new, .. }
             | Operation::Amend { new, .. }
             | Operation::Fold { new, .. }
-            | Operation::Relocate { new, .. } => Vec::from_slice(alloc, &[new]),
-            Operation::Split { new, .. } => Vec::from_slice(alloc, new),
-            Operation::Prune { .. } | Operation::Advance { .. } => Ok(Vec::new(alloc)),
+            | Operation::Relocate { new, .. } => from_ref(new),
+            Operation::Split { new, .. } => *new,
+            Operation::Prune { .. } | Operation::Advance { .. } => &[],
         }
     }
 

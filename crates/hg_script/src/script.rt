@@ -5,11 +5,11 @@ ghost use Rattle.hg_view.specs.Kept.{KeptValue};
 ghost use Rattle.hg_world.specs.Runs.{Snapshot};
 ghost use Rattle.hg_script.specs.Commands.{Text};
 ghost use Rattle.hg_script.specs.Events.{Trace};
-ghost use Rattle.hg_script.specs.Endings.{EndsAt, IsLeftWorld, IsStop, IsStoppedBy, StopsAmong};
+ghost use Rattle.hg_script.specs.Endings.{EndsAt, IsLeftFleet, IsLeftWorld, IsStop, IsStoppedBy, StopsAmong};
 ghost use Rattle.hg_script.specs.Limits.{script_limit};
 ghost use Rattle.hg_script.specs.Outputs.{Printed};
 ghost use Rattle.hg_script.specs.Printing.{PrintsLine, PrintsLines, PrintsRun, PrintsScript};
-ghost use Rattle.hg_script.specs.Scripts.{DoesLine, IsRunOf};
+ghost use Rattle.hg_script.specs.Scripts.{DoesLine, IsRunTo};
 
 use crate::counted::{Counted, CountedRead};
 use crate::fault::{LineFault, RunFault};
@@ -57,6 +57,22 @@ pub fn run_fleet<R: CountedRead, W: Write>(
     ensures stopped { IfErr result (IsStop (R.remaining reader.old)) }
     ensures reads { R.reads reader.new ≤ R.reads reader.old + (script_limit + 1) }
 {
+    let fleet = run_named(alloc, reader, writer)?;
+    Ok(fleet.into_world())
+}
+
+/// [`run_fleet`], which gives the names of the script too: its nodes and messages are found by them.
+pub fn run_named<R: CountedRead, W: Write>(
+    alloc: Global,
+    reader: &mut R,
+    writer: &mut W,
+) -> Result<Fleet, RunFault>
+    ensures ran { IfOk result (IsLeftFleet (R.remaining reader.old)) }
+    ensures printed { IfOk result (λ fleet.
+        PrintsScript (R.remaining reader.old) fleet.world (W.contents writer.old) (W.contents writer.new)) }
+    ensures stopped { IfErr result (IsStop (R.remaining reader.old)) }
+    ensures reads { R.reads reader.new ≤ R.reads reader.old + (script_limit + 1) }
+{
     let text = read_script(alloc, reader)?;
     run_text(alloc, &text, writer)
 }
@@ -72,6 +88,21 @@ pub fn run_counted<R: Read + Drop, W: Write>(
         × PrintsScript (R.remaining reader) world (W.contents writer.old) (W.contents writer.new)) }
     ensures stopped { IfErr result (IsStop (R.remaining reader)) }
 {
+    run_counted_named(alloc, reader, writer)?;
+    Ok(())
+}
+
+/// [`run_named`] of a reader that counts nothing, by a count of its own.
+pub fn run_counted_named<R: Read + Drop, W: Write>(
+    alloc: Global,
+    reader: R,
+    writer: &mut W,
+) -> Result<Fleet, RunFault>
+    ensures ran { IfOk result (IsLeftFleet (R.remaining reader)) }
+    ensures printed { IfOk result (λ fleet.
+        PrintsScript (R.remaining reader) fleet.world (W.contents writer.old) (W.contents writer.new)) }
+    ensures stopped { IfErr result (IsStop (R.remaining reader)) }
+{
     count_and_run::<R, W, Brand>(alloc, reader, writer, Blank::new(1))
 }
 
@@ -80,29 +111,29 @@ fn count_and_run<R: Read + Drop, W: Write, L: Ledger>(
     reader: R,
     writer: &mut W,
     blank: Blank,
-) -> Result<(), RunFault>
+) -> Result<Fleet, RunFault>
     requires name { blank.name ≡ L.name }
     requires parts { blank.parts ≡ L.parts }
     requires some { 0 < blank.parts }
-    ensures ran { OnOk result ((world : Snapshot KeptValue) × IsLeftWorld (R.remaining reader) world) }
-    ensures printed { OnOk result ((world : Snapshot KeptValue)
-        × PrintsScript (R.remaining reader) world (W.contents writer.old) (W.contents writer.new)) }
+    ensures ran { IfOk result (IsLeftFleet (R.remaining reader)) }
+    ensures printed { IfOk result (λ fleet.
+        PrintsScript (R.remaining reader) fleet.world (W.contents writer.old) (W.contents writer.new)) }
     ensures stopped { IfErr result (IsStop (R.remaining reader)) }
 {
     let mut counted = Counted::<R, L>::new(reader, blank);
-    run_script(alloc, &mut counted, writer)
+    run_named(alloc, &mut counted, writer)
 }
 
-fn run_text<W: Write>(alloc: Global, text: &[u8], writer: &mut W) -> Result<World<Peer>, RunFault>
-    ensures ran { IfOk result (IsRunOf text.now) }
-    ensures printed { IfOk result (λ world.
-        PrintsRun text.now world (W.contents writer.old) (W.contents writer.new)) }
+fn run_text<W: Write>(alloc: Global, text: &[u8], writer: &mut W) -> Result<Fleet, RunFault>
+    ensures ran { IfOk result (IsRunTo text.now) }
+    ensures printed { IfOk result (λ fleet.
+        PrintsRun text.now fleet.world (W.contents writer.old) (W.contents writer.new)) }
     ensures stopped { IfErr result (λ fault. (fault ≡ RunFault.NoMemory) ⊎ IsStoppedBy text.now fault) }
 {
     let mut fleet = Fleet::new(alloc, count_nodes(text))?;
     runs_compose::<Peer>();
     run_lines(alloc, &mut fleet, text, writer)?;
-    Ok(fleet.into_world())
+    Ok(fleet)
 }
 
 fn run_lines<W: Write>(

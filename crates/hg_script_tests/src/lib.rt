@@ -4,6 +4,8 @@
 #[cfg(test)]
 mod exchange;
 #[cfg(test)]
+mod fleets;
+#[cfg(test)]
 mod labels;
 #[cfg(test)]
 mod pins;

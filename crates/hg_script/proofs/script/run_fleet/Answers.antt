@@ -1,33 +1,18 @@
-use Rattle.std.proofs.lemmas.Result.{err_from_is_err_and}
+use Rattle.std.proofs.Common.{subst, sym}
 use Rattle.hg_view.specs.Kept.{KeptValue}
 use Rattle.hg_world.specs.Runs.{Snapshot}
-use Rattle.hg_script.specs.Commands.{Text}
-use Rattle.hg_script.specs.Printing.{PrintsRun}
-use Rattle.hg_script.specs.Scripts.{IsRunOf}
-use Rattle.hg_script.proofs.EndingLemmas.{input_stop, script_of, stops_of, of_script}
+use Rattle.hg_script.specs.Endings.{IsLeftWorld}
+use Rattle.hg_script.specs.Printing.{PrintsScript}
+use Rattle.hg_script.proofs.EndingLemmas.{left_world}
 use Rattle.hg_script.proofs.script.run_fleet.Goals as goal
-
-pub returns-in_err-text-clause-stopped : goal.returns-in_err-text-clause-stopped
-returns-in_err-text-clause-stopped g c =
-    let p = err_from_is_err_and c.from_residual.result c.from_residual.ensures.1 in
-    rw (p.1, p.2) (input_stop _ _ c.in_err-text.ensures.fault c.in_err-text.ensures.too_long)
 
 pub returns-clause-ran : goal.returns-clause-ran
 returns-clause-ran g c =
-    of_script IsRunOf _ _ c.run_text.result
-    (script_of _ _ _ c.deref.ensures.value c.in_ok-text.ensures.limit c.in_ok-text.ensures.whole)
-    c.run_text.ensures.ran
+    subst (λ (w : Snapshot KeptValue). IsLeftWorld (g.R.CountedRead.Read.remaining c.args.reader.now) w) (sym c.into_world.ensures)
+    (left_world _ _ c.in_ok-run_named.ensures.ran)
 
 pub returns-clause-printed : goal.returns-clause-printed
 returns-clause-printed g c =
-    let held = g.W.Write.contents c.args.writer.now in
-    let holds = g.W.Write.contents c.run_text.new.writer in
-    of_script (λ (text : Text) (world : Snapshot KeptValue). PrintsRun text world held holds) _ _ c.run_text.result
-    (script_of _ _ _ c.deref.ensures.value c.in_ok-text.ensures.limit c.in_ok-text.ensures.whole)
-    c.run_text.ensures.printed
-
-pub returns-clause-stopped : goal.returns-clause-stopped
-returns-clause-stopped g c =
-    stops_of _ _ c.run_text.result
-    (script_of _ _ _ c.deref.ensures.value c.in_ok-text.ensures.limit c.in_ok-text.ensures.whole)
-    c.run_text.ensures.stopped
+    subst (λ (w : Snapshot KeptValue). PrintsScript (g.R.CountedRead.Read.remaining c.args.reader.now) w
+    (g.W.Write.contents c.args.writer.now) (g.W.Write.contents c.run_named.new.writer)) (sym c.into_world.ensures)
+    c.in_ok-run_named.ensures.printed

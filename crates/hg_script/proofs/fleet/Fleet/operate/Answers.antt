@@ -30,11 +30,6 @@ returns-in_err-place-clause-err g c =
       (no_trace, refl),
     )
 
-pub returns-in_err-labels-clause-err : goal.returns-in_err-labels-clause-err
-returns-in_err-labels-clause-err g c =
-    let p = err_from_is_err_and c.from_residual-in_err-labels.result c.from_residual-in_err-labels.ensures.1 in
-    rw (p.1, p.2) (tt, (no_trace, refl))
-
 pub returns-in_err-kept-clause-err : goal.returns-in_err-kept-clause-err
 returns-in_err-kept-clause-err g c =
     let p = err_from_is_err_and c.from_residual-in_err-kept.result c.from_residual-in_err-kept.ensures.1 in
@@ -49,7 +44,7 @@ returns-in_err-check_labels-clause-err g c =
     let p = err_from_is_err_and c.from_residual-in_err-check_labels.result
     c.from_residual-in_err-check_labels.ensures.1 in
     let self = c.args.self.now in
-    let labels = ap (map (λ (w : Word). w.now)) c.deref.ensures.value ∙ c.in_ok-labels.ensures in
+    let labels = c.new_labels.ensures in
     let held = node_from_place self c.args.at.now c.in_ok-place.place (Some c.in_ok-kept.kept.now)
     c.in_ok-place.ensures.ok c.in_ok-kept.ensures.ok in
     rw (p.1, p.2) (
@@ -81,9 +76,8 @@ returns-clause-ok g c =
     let op = c.in_ok-op.op in
     let answer = c.in_ok-answer.answer in
     let h = c.in_ok-answer.ensures.happens in
-    let labels = ap (map (λ (w : Word). w.now)) c.deref.ensures.value ∙ c.in_ok-labels.ensures in
-    let same = ap (map (λ (w : Word). w.now)) c.deref-2.ensures.value ∙ c.in_ok-labels.ensures in
-    let free = free_brought (ids self) (map (λ (w : Word). w.now) c.deref.result.now) c.in_ok-kept.kept.now
+    let labels = c.new_labels.ensures in
+    let free = free_brought (ids self) (map (λ (w : Word). w.now) c.new_labels.result.now) c.in_ok-kept.kept.now
     self.world place op answer h.0 c.run_event.new.world c.in_ok-kept.ensures.ok
     c.in_ok-check_labels.ensures.free h.1 in (
       one (Local place op) answer h.0,
@@ -95,7 +89,7 @@ returns-clause-ok g c =
         named = (
           refl,
           subst (λ (ls : List Text). IsTrue (may_be_bound (ids self) ls (brought (h.0 ∷ [])))) labels free,
-          subst (λ (ls : List Text). AreLabelled self.labels ls (answer ∷ []) c.label.new.names) same
+          subst (λ (ls : List Text). AreLabelled self.labels ls (answer ∷ []) c.label.new.names) labels
               c.in_ok-label.ensures.ok,
           refl,
         );

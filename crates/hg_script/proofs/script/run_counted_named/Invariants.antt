@@ -1,4 +1,4 @@
-use Rattle.hg_script.proofs.script.run_counted.Given as goal
+use Rattle.hg_script.proofs.script.run_counted_named.Given as goal
 
 -- the ledger that was just made
 abbrev pub ghosts-count_and_run : goal.ghosts-count_and_run

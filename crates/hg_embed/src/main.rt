@@ -1,0 +1,151 @@
+//! How to use these crates: two peers of a world commit, pull and amend, and what is unstable then is printed.
+//!
+//! Alice commits `a` and, on it, `b`. Bob takes in what she offers and commits `c` on `b`, while Alice amends `b`. Then
+//! Bob takes in what she offers now: his `c` stands on what was rewritten, so it is an orphan.
+#![tactic(auto)]
+
+use hg_changeset::{Entry, Node};
+use hg_join::NoMemory;
+use hg_peer::{Ask, Peer, Scope};
+use hg_rewrite::Op;
+use hg_world::{Answer, Event, World};
+use std::alloc::{AllocError, AllocFailed, Global};
+use std::collections::{BTreeMap, BTreeSet};
+use std::io;
+use std::process::ExitCode;
+
+// The places of the two peers in their world.
+const ALICE: usize = 0;
+
+const BOB: usize = 1;
+
+/// Why the example ends early.
+#[derive(Clone, Copy, PartialEq, Eq, Debug)]
+enum Stop {
+    Refused,
+    NoMemory,
+    Output,
+}
+
+impl From<AllocError> for Stop {
+    fn from(_error: AllocError) -> Stop {
+        Stop::NoMemory
+    }
+}
+
+impl<T: Drop> From<AllocFailed<T>> for Stop {
+    fn from(_error: AllocFailed<T>) -> Stop {
+        Stop::NoMemory
+    }
+}
+
+impl From<NoMemory> for Stop {
+    fn from(_error: NoMemory) -> Stop {
+        Stop::NoMemory
+    }
+}
+
+impl From<io::Error> for Stop {
+    fn from(_error: io::Error) -> Stop {
+        Stop::Output
+    }
+}
+
+fn main(rt: HostRuntime) -> ExitCode {
+    match exchange(&rt) {
+        Ok(()) => ExitCode::SUCCESS,
+        Err(stop) => {
+            let _ = eprintln!(rt; "{stop:?}");
+            ExitCode::FAILURE
+        }
+    }
+}
+
+fn exchange(rt: &(impl Print + AllocGlobal)) -> Result<(), Stop> {
+    let alloc = rt.alloc();
+    let mut world = World::<Peer>::new(alloc, 2)?;
+    let a = commit(alloc, &mut world, ALICE, Node::NULL, b"a")?;
+    let b = commit(alloc, &mut world, ALICE, a, b"b")?;
+    pull(alloc, &mut world, BOB, ALICE)?;
+    amend(alloc, &mut world, ALICE, b, b"b2")?;
+    commit(alloc, &mut world, BOB, b, b"c")?;
+    pull(alloc, &mut world, BOB, ALICE)?;
+    match world.state(BOB) {
+        Some(bob) => {
+            let sets = bob.kept().instabilities();
+            print_set(rt, "obsolete", sets.obsolete())?;
+            print_set(rt, "orphan", sets.orphan())
+        }
+        None => Err(Stop::Refused),
+    }
+}
+
+fn commit(
+    alloc: Global,
+    world: &mut World<Peer>,
+    at: usize,
+    parent: Node,
+    description: &[u8],
+) -> Result<Node, Stop> {
+    let op = Op::Commit {
+        p: parent,
+        q: Node::NULL,
+        entry: entry(alloc, description)?,
+        secret: false,
+    };
+    operate(world, at, op)
+}
+
+fn amend(
+    alloc: Global,
+    world: &mut World<Peer>,
+    at: usize,
+    node: Node,
+    description: &[u8],
+) -> Result<Node, Stop> {
+    let entry = entry(alloc, description)?;
+    operate(world, at, Op::Amend { node, entry })
+}
+
+// A peer decides an operation and absorbs its part. The new changeset's id.
+fn operate(world: &mut World<Peer>, at: usize, op: Op) -> Result<Node, Stop> {
+    match world.run(&[Event::Local { at, op }])?.pop() {
+        Some(Answer::Accepted(change)) => change.added.first().copied().ok_or(Stop::Refused),
+        _ => Err(Stop::Refused),
+    }
+}
+
+// One peer offers all that it serves, and another takes the message.
+fn pull(alloc: Global, world: &mut World<Peer>, to: usize, from: usize) -> Result<(), Stop> {
+    let ask = Ask {
+        common: Vec::new(alloc),
+        scope: Scope::Served,
+    };
+    let message = match world.run(&[Event::Offer { at: from, ask }])?.pop() {
+        Some(Answer::Offered(number)) => number,
+        _ => return Err(Stop::Refused),
+    };
+    match world.run(&[Event::Take { at: to, message }])?.pop() {
+        Some(Answer::Accepted(_)) => Ok(()),
+        _ => Err(Stop::Refused),
+    }
+}
+
+fn entry(alloc: Global, description: &[u8]) -> Result<Entry, AllocError> {
+    Ok(Entry {
+        user: Vec::from_slice(alloc, b"alice")?,
+        secs: 0,
+        offset: 0,
+        extra: BTreeMap::new(alloc),
+        desc: Vec::from_slice(alloc, description)?,
+    })
+}
+
+fn print_set(rt: &impl Print, word: &str, nodes: &BTreeSet<Node>) -> Result<(), Stop> {
+    for node in nodes {
+        let digits = node.to_hex();
+        let text = str::from_utf8(&digits).unwrap_or("");
+        println!(rt; "{word} {text}")?;
+    }
+    Ok(())
+}
