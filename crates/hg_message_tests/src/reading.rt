@@ -159,22 +159,22 @@ fn all_kinds_turned(place: usize) -> Option<MessageFault> {
         172..=175 => Some(MessageFault::BadPhase),
         196..=199 => Some(MessageFault::Truncated(200)),
         200 => Some(MessageFault::BadMarker(200, StoreFault::BadVersion(128))),
-        201..=254 => marker_turned(1, place - 201),
-        255..=308 => marker_turned(55, place - 255),
+        201..=254 => marker_turned(200, 1, place - 201),
+        255..=308 => marker_turned(200, 55, place - 255),
         0..=70 => one_changeset_turned(place),
         _ => None,
     }
 }
 
-// What is told of the marker at this place of the store, with the byte at this place of the marker turned: its count of
-// successors, the length of its metadata, or the colon of the metadata.
-fn marker_turned(start: usize, place: usize) -> Option<MessageFault> {
+// What is told of the marker at this place of the store, which begins at this place of the message, with the byte at
+// this place of the marker turned: its count of successors, the length of its metadata, or the colon of the metadata.
+fn marker_turned(store: usize, start: usize, place: usize) -> Option<MessageFault> {
     let cause = match place {
         0..=4 => MarkerFault::Truncated,
         50 => MarkerFault::BadMetadata,
         _ => return None,
     };
-    let in_message = 200usize.saturating_add(start);
+    let in_message = store.saturating_add(start);
     Some(MessageFault::BadMarker(in_message, StoreFault::Bad(start, cause)))
 }
 
@@ -188,6 +188,54 @@ fn all_kinds_with_a_byte_turned(rt: HostRuntime) {
         let fault = fault_of(&rt, alloc, &bytes);
         assert!(rt; fault == all_kinds_turned(place), "at {place}");
         turn(&mut bytes, place);
+    }
+}
+
+// Inverts the byte at this place.
+fn invert(bytes: &mut [u8], place: usize) {
+    if let Some(byte) = bytes.get_mut(place) {
+        *byte ^= 0xff;
+    }
+}
+
+// What is told of the message with all kinds of records in version 2, with the byte at this place inverted.
+fn all_kinds_of_version_2_inverted(place: usize) -> Option<MessageFault> {
+    match place {
+        0..=3 => Some(MessageFault::BadMagic),
+        4 => Some(MessageFault::BadVersion),
+        5 => Some(MessageFault::BadScope),
+        // A third record would begin at 145, with a text of 524,305 bytes from 209 on.
+        6..=9 => Some(MessageFault::Truncated(209)),
+        10..=69 | 74 => Some(MessageFault::HashMismatch(0)),
+        70..=71 => Some(MessageFault::TextTooLong(0)),
+        // The first text would have 65,281 bytes, and then 254, of which 236 are there.
+        72..=73 => Some(MessageFault::Truncated(74)),
+        75..=134 | 139..=144 => Some(MessageFault::HashMismatch(1)),
+        135..=136 => Some(MessageFault::TextTooLong(1)),
+        137..=138 => Some(MessageFault::Truncated(139)),
+        // The length of the store is taken for a third bound's phase, and then a bound's own phase is inverted.
+        145..=152 | 173..=176 => Some(MessageFault::BadPhase),
+        197..=200 => Some(MessageFault::Truncated(201)),
+        201 => Some(MessageFault::BadMarker(201, StoreFault::BadVersion(255))),
+        202..=255 => marker_turned(201, 1, place - 202),
+        256..=309 => marker_turned(201, 55, place - 256),
+        _ => None,
+    }
+}
+
+#[test]
+fn all_kinds_of_version_2_with_a_byte_inverted(rt: HostRuntime) {
+    let alloc = rt.alloc();
+    let mut bytes = all_kinds(alloc, SERVED, Node::NULL, ROOT).expect(&rt, "memory");
+    assert!(rt; bytes.len() == 310);
+    for place in 0..310 {
+        invert(&mut bytes, place);
+        let fault = fault_of(&rt, alloc, &bytes);
+        assert!(rt;
+            fault == all_kinds_of_version_2_inverted(place),
+            "at {place}"
+        );
+        invert(&mut bytes, place);
     }
 }
 
@@ -217,6 +265,62 @@ fn a_field_of_one_changeset_is_at_fault(rt: HostRuntime) {
         let mut bytes = one_changeset(alloc, FIRST).expect(&rt, "memory");
         put(&mut bytes, place, field);
         assert!(rt; fault_of(&rt, alloc, &bytes) == Some(fault), "at {place}");
+    }
+}
+
+// What is told of all kinds in version 2 with this number in the field of four bytes at this place. Where a count or a
+// length is wrong, what follows is taken for other fields: after one record, CHILD's id, which begins with f8709bcd and
+// b0fa16b8, for the count of bounds and a phase; after one bound, a phase for the length of the store.
+const NUMBERS: [(usize, u32, Option<MessageFault>); 28] = [
+    (6, 0, Some(MessageFault::BadPhase)),
+    (6, 1, Some(MessageFault::BadPhase)),
+    (6, 3, Some(MessageFault::Truncated(209))),
+    (6, 0xffff_ffff, Some(MessageFault::Truncated(209))),
+    (70, 0, Some(MessageFault::HashMismatch(0))),
+    (70, 2, Some(MessageFault::HashMismatch(0))),
+    (70, 1_048_576, Some(MessageFault::Truncated(74))),
+    (70, 1_048_577, Some(MessageFault::TextTooLong(0))),
+    (70, 0xffff_ffff, Some(MessageFault::TextTooLong(0))),
+    (135, 5, Some(MessageFault::HashMismatch(1))),
+    (135, 1_048_576, Some(MessageFault::Truncated(139))),
+    (135, 1_048_577, Some(MessageFault::TextTooLong(1))),
+    (145, 0, Some(MessageFault::Trailing)),
+    (145, 1, Some(MessageFault::BadMarker(177, StoreFault::BadVersion(0xf8)))),
+    (145, 3, Some(MessageFault::BadPhase)),
+    (145, 0xffff_ffff, Some(MessageFault::BadPhase)),
+    (149, 1, None),
+    (149, 2, None),
+    (149, 3, Some(MessageFault::BadPhase)),
+    (149, 0x7fff_ffff, Some(MessageFault::BadPhase)),
+    (149, 0x8000_0000, Some(MessageFault::BadPhase)),
+    (173, 0, None),
+    (173, 0xffff_ffff, Some(MessageFault::BadPhase)),
+    (197, 0, Some(MessageFault::Trailing)),
+    (197, 55, Some(MessageFault::Trailing)),
+    (197, 108, Some(MessageFault::BadMarker(256, StoreFault::Bad(55, MarkerFault::Truncated)))),
+    (197, 110, Some(MessageFault::Truncated(201))),
+    (197, 0xffff_ffff, Some(MessageFault::Truncated(201))),
+];
+
+#[test]
+fn counts_lengths_and_phases_at_their_edges(rt: HostRuntime) {
+    let alloc = rt.alloc();
+    for (place, number, fault) in NUMBERS {
+        let mut bytes = all_kinds(alloc, SERVED, Node::NULL, ROOT).expect(&rt, "memory");
+        put(&mut bytes, place, &number.to_be_bytes());
+        assert!(rt; fault_of(&rt, alloc, &bytes) == fault, "{number} at {place}");
+    }
+}
+
+#[test]
+fn a_null_successor_is_told_with_the_place_of_its_marker(rt: HostRuntime) {
+    let alloc = rt.alloc();
+    for (successor, marker, start) in [(228, 202, 1), (282, 256, 55)] {
+        let mut bytes = all_kinds(alloc, SERVED, Node::NULL, ROOT).expect(&rt, "memory");
+        put(&mut bytes, successor, &[0; 20]);
+        let cause = StoreFault::Bad(start, MarkerFault::NullSuccessor);
+        let fault = MessageFault::BadMarker(marker, cause);
+        assert!(rt; fault_of(&rt, alloc, &bytes) == Some(fault), "at {successor}");
     }
 }
 

@@ -1,6 +1,6 @@
 //! Messages that are written, copied and taken apart, and growths that are refused.
 use crate::rows::{CHILD, EMPTY, FIRST, NOTHING, ROOT, SERVED, WHOLE, all_kinds, one_changeset};
-use hg_message::{Changeset, Message, Node, Phase, Scope};
+use hg_message::{Changeset, Message, Node, Phase, ReadError, Scope};
 use std::alloc::{AllocError, Global};
 use std::process::Abort;
 
@@ -25,7 +25,8 @@ fn written(rt: &impl Abort, message: &Message) -> Vec<u8> {
 fn read(rt: &impl Abort, alloc: Global, bytes: &[u8]) -> Message {
     match Message::from_bytes(alloc, bytes) {
         Ok(message) => message,
-        Err(_) => Message::from_bytes(alloc, bytes).expect(rt, "a message"),
+        Err(ReadError::NoMemory) => Message::from_bytes(alloc, bytes).expect(rt, "a message"),
+        Err(ReadError::Fault(_)) => panic!(rt; "a fault in place of want of memory"),
     }
 }
 
@@ -140,4 +141,18 @@ fn refused_growth_leaves_the_message(rt: HostRuntime) {
         Err(AllocError) => message.part().expect(&rt, "memory"),
     };
     assert!(rt; part.bounds[..] == [(EMPTY, Phase::Draft), (EMPTY, Phase::Draft)]);
+}
+
+#[test]
+fn refused_growth_copies_nothing(rt: HostRuntime) {
+    let alloc = rt.alloc();
+    let Some(bytes) = all_kinds(alloc, SERVED, ROOT, Node::NULL) else {
+        return;
+    };
+    let message = read(&rt, alloc, &bytes);
+    let copy = match message.copy() {
+        Ok(copy) => copy,
+        Err(AllocError) => message.copy().expect(&rt, "memory"),
+    };
+    assert!(rt; copy == message && written(&rt, &copy) == bytes);
 }
