@@ -12,6 +12,12 @@ def label(number):
     return NAME_BYTES[number // base // base] + NAME_BYTES[number // base % base] + NAME_BYTES[number % base]
 
 
+def short_label(number):
+    """A label of as few characters as it takes, one for each number."""
+    base = len(NAME_BYTES)
+    return (short_label(number // base - 1) if number >= base else "") + NAME_BYTES[number % base]
+
+
 # ---- operations
 
 
@@ -52,6 +58,15 @@ def amends(size):
     yield f"commit A {label(0)} draft"
     for number in range(1, size + 1):
         yield f"amend A {label(number - 1)} {label(number)}"
+
+
+def amends_of_a_root(size):
+    """One node and a root that is amended again and again, so that it has as many draft roots, and a report."""
+    yield "node A"
+    yield f"commit A {short_label(0)} draft"
+    for number in range(1, size):
+        yield f"amend A {short_label(number - 1)} {short_label(number)}"
+    yield "report A"
 
 
 def amends_below_a_stack(size):
@@ -218,6 +233,44 @@ def pull_into_an_empty_node(size):
     yield "pull B A"
 
 
+def line_of_merges(size):
+    """A line whose every second changeset merges the two before it, pulled, published at its tip and pulled again."""
+    yield "node A"
+    yield f"commit A {label(0)} draft"
+    for number in range(1, size):
+        further = "" if number % 2 else f" {label(number - 2)}"
+        yield f"commit A {label(number)} draft {label(number - 1)}{further}"
+    yield "node B"
+    yield "pull B A"
+    yield f"phase A {label(size - 1)} public"
+    yield "pull B A"
+    yield "agree A B"
+
+
+def many_children(size):
+    """A changeset with so many children, which is amended, published with one of them, and pulled."""
+    yield "node A"
+    yield f"commit A {label(0)} draft"
+    for number in range(1, size + 1):
+        yield f"commit A {label(number)} draft {label(0)}"
+    yield f"amend A {label(0)} {label(size + 1)}"
+    yield f"phase A {label(size)} public"
+    yield "node B"
+    yield "pull B A"
+    yield "agree A B"
+
+
+def pulls_between_many_heads(size):
+    """Two nodes with so many heads each, none in common, that pull from each other."""
+    for node, first in (("A", 0), ("B", size)):
+        yield f"node {node}"
+        for number in range(first, first + size):
+            yield f"commit {node} {label(number)} draft"
+    yield "pull B A"
+    yield "pull A B"
+    yield "agree A B"
+
+
 def pulls_of_a_hundred(size):
     """Two nodes with a chain in common, and a hundred pulls of a commit more."""
     yield from pull_into_an_empty_node(size)
@@ -322,6 +375,7 @@ CASES = [
     ("secret commits", secret_roots, SIZES, lambda size: 0),
     ("merges of the last two", merges, SMALL, lambda size: 0),
     ("amends of one tip", amends, SIZES, lambda size: 0),
+    ("amends of a root, each a draft root, and a report", amends_of_a_root, (16_384, 32_768, 65_536), lambda size: size + 2),
     ("amends of the bottom of a stack", amends_below_a_stack, SMALL, lambda size: 0),
     ("splits", splits, SMALL, lambda size: 0),
     ("splits into 255", wide_splits, (240, 480, 960), lambda size: 0),
@@ -353,5 +407,8 @@ CASES += [
     ("that, and 10 offers of everything taken", plain_offers, SIZES, lambda size: 0),
     ("that, and 100 pulls of an amended tip", amends_pulled, SMALL, lambda size: 0),
     ("that, and 10 times whether the nodes agree", agreements, SIZES, lambda size: 10),
+    ("a line of merges, pulled, published and pulled", line_of_merges, SIZES, lambda size: 1),
+    ("a changeset with so many children, amended, published and pulled", many_children, SIZES, lambda size: 1),
+    ("pulls between nodes of so many heads each", pulls_between_many_heads, SMALL, lambda size: 1),
     ("a mixed script with 20 pulls", mixed, (12_000, 24_000, 48_000), lambda size: 3),
 ]

@@ -1,7 +1,9 @@
 //! Rounds that are worked out by hand.
 use crate::scene::{ascending, chain, commit, prune};
 use hg_changeset::Node;
-use hg_discovery::{Discovery, DiscoveryError, heads_in_common_kept, known, known_kept};
+use hg_discovery::{
+    Discovery, DiscoveryError, heads_in_common, heads_in_common_kept, known, known_kept,
+};
 use hg_message::{Scope, offer};
 use hg_phases::Phase;
 use hg_replica::Replica;
@@ -249,4 +251,54 @@ fn refused_growth_leaves_a_discovery_as_it_was(rt: HostRuntime) {
         Err(_) => discovery.common_heads().expect(&rt, "memory"),
     };
     assert!(rt; discovery.done() && heads.as_slice() == [a].as_slice());
+}
+
+// One that holds a chain of two, and one that holds a child of it too.
+fn two_chains(alloc: Global) -> Option<(Replica, Replica, Node)> {
+    let mut asker = Replica::new(alloc);
+    let [_, b, _] = chain(alloc, &mut asker, b"ab")?;
+    let mut other = Replica::new(alloc);
+    chain(alloc, &mut other, b"abc")?;
+    Some((asker, other, b))
+}
+
+#[test]
+fn refused_growth_of_a_whole_discovery_is_told(rt: HostRuntime) {
+    let alloc = rt.alloc();
+    let Some((asker, other, b)) = two_chains(alloc) else {
+        return;
+    };
+    let pins = Pins::new(alloc);
+    let heads = match heads_in_common(alloc, &asker, &other, &pins) {
+        Ok(heads) => heads,
+        Err(refusal) => {
+            assert!(rt; refusal == DiscoveryError::NoMemory);
+            heads_in_common(alloc, &asker, &other, &pins).expect(&rt, "memory")
+        }
+    };
+    assert!(rt; heads.as_slice() == [b].as_slice());
+}
+
+#[test]
+fn refused_growth_of_a_discovery_by_what_is_kept_is_told(rt: HostRuntime) {
+    let alloc = rt.alloc();
+    let Some((asker, other, b)) = two_chains(alloc) else {
+        return;
+    };
+    let (Ok(asker), Ok(other)) = (Kept::new(alloc, asker), Kept::new(alloc, other)) else {
+        return;
+    };
+    let heads = match heads_in_common_kept(alloc, &asker, &other) {
+        Ok(heads) => heads,
+        Err(refusal) => {
+            assert!(rt; refusal == DiscoveryError::NoMemory);
+            heads_in_common_kept(alloc, &asker, &other).expect(&rt, "memory")
+        }
+    };
+    assert!(rt; heads.as_slice() == [b].as_slice());
+    let answers = match known_kept(alloc, &other, &heads) {
+        Ok(answers) => answers,
+        Err(_) => known_kept(alloc, &other, &heads).expect(&rt, "memory"),
+    };
+    assert!(rt; answers.as_slice() == [true].as_slice());
 }

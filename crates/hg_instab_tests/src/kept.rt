@@ -95,3 +95,37 @@ fn refused_growth_of_what_keeps_its_sets_changes_nothing(rt: HostRuntime) {
         None => assert!(rt; is_right(alloc, &kept)),
     }
 }
+
+// Whether what joins another stays as it was where memory is refused, at most once, and joins it at the second try.
+// `None` where memory was refused before.
+fn stays_or_joins(kept: &mut Kept, other: &Kept) -> Option<bool> {
+    let before = kept.copy().ok()?;
+    match kept.join(other) {
+        Ok(()) => Some(true),
+        Err(fault) => {
+            let stayed = fault == Fault::NoMemory && are_equal(kept, &before);
+            Some(stayed && kept.join(other).is_ok())
+        }
+    }
+}
+
+#[test]
+fn refused_growth_of_a_join_of_kept_sets_changes_nothing(rt: HostRuntime) {
+    let alloc = rt.alloc();
+    let mut replica = Replica::new(alloc);
+    let Some(part) = upset(alloc, &mut replica) else {
+        return;
+    };
+    let Ok(mut kept) = Kept::new(alloc, replica) else {
+        return;
+    };
+    let Ok(mut other) = kept.copy() else {
+        return;
+    };
+    if other.absorb(&part).is_err() {
+        return;
+    }
+    if let Some(answer) = stays_or_joins(&mut kept, &other) {
+        assert!(rt; answer && are_equal(&kept, &other) && is_right(alloc, &kept));
+    }
+}

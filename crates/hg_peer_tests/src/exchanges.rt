@@ -1,6 +1,8 @@
 //! Short lists of events over peers, and what each is answered; each growth refused in turn.
 use hg_changeset::{Entry, Node};
 use hg_history::Fault;
+use hg_instab_tests::are_same;
+use hg_join::{JoinState, NoMemory};
 use hg_peer::{Ask, Mark, Peer, PeerRefusal, Scope};
 use hg_phases::Phase;
 use hg_replica::Change;
@@ -348,4 +350,70 @@ fn refused_growth_of_a_whole_offer_that_is_taken_changes_nothing(rt: HostRuntime
         Err(_) => false,
     };
     assert_eq!(rt; phase_at(&world, 1, a).is_some(), taken);
+}
+
+// Whether the peer at the place holds the same as this one, in the same sets.
+fn is_as(world: &World<Peer>, at: usize, peer: &Peer) -> bool {
+    let Some(now) = world.state(at) else {
+        return false;
+    };
+    let (mine, theirs) = (now.replica(), peer.replica());
+    mine.is_below(theirs)
+        && theirs.is_below(mine)
+        && are_same(now.kept().instabilities(), peer.kept().instabilities())
+}
+
+// Whether memory was wanting for the one event, or for the list of its answer.
+fn is_want_of_memory(answers: &Result<Vec<PeerAnswer>, NoMemory>) -> bool {
+    match answers {
+        Ok(answers) => answers.iter().any(|answer| {
+            matches!(
+                outcome_of(answer),
+                Outcome::ByPeer(PeerRefusal::NoMemory) | Outcome::ByState(Fault::NoMemory)
+            )
+        }),
+        Err(NoMemory) => true,
+    }
+}
+
+// Runs one event at this peer, and again where memory was refused, after which the peer was as before. `None` where
+// memory was refused for a copy to compare with.
+fn run_at_last(
+    rt: &impl Abort,
+    world: &mut World<Peer>,
+    at: usize,
+    event: &[PeerEvent],
+) -> Option<Outcome> {
+    let before = world.state(at)?.copy().ok()?;
+    let mut answers = world.run(event);
+    if is_want_of_memory(&answers) {
+        assert!(rt; is_as(world, at, &before));
+        answers = world.run(event);
+    }
+    Some(outcome_of(answers.ok()?.first()?))
+}
+
+// A commit, an offer of it, and its take by another peer.
+fn exchange_at_last(
+    rt: &impl Abort,
+    alloc: Global,
+    world: &mut World<Peer>,
+) -> Option<[Outcome; 3]> {
+    let event = commit(alloc, 0, false)?;
+    let committed = run_at_last(rt, world, 0, &[event])?;
+    let offered = run_at_last(rt, world, 0, &[offer(alloc, 0)])?;
+    let taken = run_at_last(rt, world, 1, &[take(1, 0)])?;
+    Some([committed, offered, taken])
+}
+
+#[test]
+fn refused_growth_of_an_event_passes_when_it_is_run_again(rt: HostRuntime) {
+    let alloc = rt.alloc();
+    let Ok(mut world) = World::<Peer>::new(alloc, 2) else {
+        return;
+    };
+    if let Some(outcomes) = exchange_at_last(&rt, alloc, &mut world) {
+        let one_more = Outcome::Changed(1, 0, 0);
+        assert_eq!(rt; outcomes, [one_more, Outcome::Offered(0), one_more]);
+    }
 }

@@ -397,3 +397,51 @@ fn refused_growth_is_told(rt: HostRuntime) {
     let part = decided_at_last(&rt, alloc, &replica, &last);
     assert_eq!(rt; part.markers.len(), 1);
 }
+
+// A replica that holds the draft root `a` and a child of it, where one growth may be refused.
+fn start_at_last(rt: &impl Abort, alloc: Global) -> Option<Replica> {
+    let root = commit(Node::NULL, entry_by(alloc, b"fleet", b"a").ok()?);
+    let child = commit(id(rt, A), entry_by(alloc, b"fleet", b"h").ok()?);
+    let mut replica = Replica::new(alloc);
+    for op in [root, child] {
+        let part = decided_at_last(rt, alloc, &replica, &op);
+        absorb_at_last(rt, &mut replica, &part);
+    }
+    Some(replica)
+}
+
+// Operations on these two, each with how many changesets and markers its part has.
+fn further_operations(rt: &impl Abort, alloc: Global) -> Result<Vec<(Op, usize, usize)>, AllocError> {
+    let (a, h) = (id(rt, A), id(rt, H_ON_A));
+    let mut entries = Vec::with_capacity(alloc, 2)?;
+    entries.push(entry_by(alloc, b"fleet", b"s1")?)?;
+    entries.push(entry_by(alloc, b"fleet", b"s2")?)?;
+    let fold = Op::Fold {
+        nodes: Vec::from_slice(alloc, &[a, h])?,
+        entry: entry_by(alloc, b"fleet", b"f")?,
+    };
+    let moved = relocate(h, Node::NULL, entry_by(alloc, b"fleet", b"g")?);
+    let phase = Phase::Public;
+    let mut ops = Vec::with_capacity(alloc, 4)?;
+    ops.push((Op::Split { node: a, entries }, 2, 1))?;
+    ops.push((fold, 1, 2))?;
+    ops.push((moved, 1, 1))?;
+    ops.push((Op::Advance { node: h, phase }, 0, 0))?;
+    Ok(ops)
+}
+
+#[test]
+fn refused_growth_is_told_by_each_operation(rt: HostRuntime) {
+    let alloc = rt.alloc();
+    let Ok(ops) = further_operations(&rt, alloc) else {
+        return;
+    };
+    let Some(replica) = start_at_last(&rt, alloc) else {
+        return;
+    };
+    for (op, changesets, markers) in &ops {
+        let part = decided_at_last(&rt, alloc, &replica, op);
+        let counts = (part.changesets.len(), part.markers.len());
+        assert_eq!(rt; counts, (*changesets, *markers));
+    }
+}
