@@ -285,7 +285,11 @@ const NUMBERS: [(usize, u32, Option<MessageFault>); 28] = [
     (135, 1_048_576, Some(MessageFault::Truncated(139))),
     (135, 1_048_577, Some(MessageFault::TextTooLong(1))),
     (145, 0, Some(MessageFault::Trailing)),
-    (145, 1, Some(MessageFault::BadMarker(177, StoreFault::BadVersion(0xf8)))),
+    (
+        145,
+        1,
+        Some(MessageFault::BadMarker(177, StoreFault::BadVersion(0xf8))),
+    ),
     (145, 3, Some(MessageFault::BadPhase)),
     (145, 0xffff_ffff, Some(MessageFault::BadPhase)),
     (149, 1, None),
@@ -297,7 +301,11 @@ const NUMBERS: [(usize, u32, Option<MessageFault>); 28] = [
     (173, 0xffff_ffff, Some(MessageFault::BadPhase)),
     (197, 0, Some(MessageFault::Trailing)),
     (197, 55, Some(MessageFault::Trailing)),
-    (197, 108, Some(MessageFault::BadMarker(256, StoreFault::Bad(55, MarkerFault::Truncated)))),
+    (
+        197,
+        108,
+        Some(MessageFault::BadMarker(256, StoreFault::Bad(55, MarkerFault::Truncated))),
+    ),
     (197, 110, Some(MessageFault::Truncated(201))),
     (197, 0xffff_ffff, Some(MessageFault::Truncated(201))),
 ];
@@ -308,7 +316,10 @@ fn counts_lengths_and_phases_at_their_edges(rt: HostRuntime) {
     for (place, number, fault) in NUMBERS {
         let mut bytes = all_kinds(alloc, SERVED, Node::NULL, ROOT).expect(&rt, "memory");
         put(&mut bytes, place, &number.to_be_bytes());
-        assert!(rt; fault_of(&rt, alloc, &bytes) == fault, "{number} at {place}");
+        assert!(rt;
+            fault_of(&rt, alloc, &bytes) == fault,
+            "{number} at {place}"
+        );
     }
 }
 
@@ -320,7 +331,10 @@ fn a_null_successor_is_told_with_the_place_of_its_marker(rt: HostRuntime) {
         put(&mut bytes, successor, &[0; 20]);
         let cause = StoreFault::Bad(start, MarkerFault::NullSuccessor);
         let fault = MessageFault::BadMarker(marker, cause);
-        assert!(rt; fault_of(&rt, alloc, &bytes) == Some(fault), "at {successor}");
+        assert!(rt;
+            fault_of(&rt, alloc, &bytes) == Some(fault),
+            "at {successor}"
+        );
     }
 }
 

@@ -411,7 +411,10 @@ fn start_at_last(rt: &impl Abort, alloc: Global) -> Option<Replica> {
 }
 
 // Operations on these two, each with how many changesets and markers its part has.
-fn further_operations(rt: &impl Abort, alloc: Global) -> Result<Vec<(Op, usize, usize)>, AllocError> {
+fn further_operations(
+    rt: &impl Abort,
+    alloc: Global,
+) -> Result<Vec<(Op, usize, usize)>, AllocError> {
     let (a, h) = (id(rt, A), id(rt, H_ON_A));
     let mut entries = Vec::with_capacity(alloc, 2)?;
     entries.push(entry_by(alloc, b"fleet", b"s1")?)?;
