@@ -317,7 +317,7 @@ class Operation:
     phase: int = DRAFT
 
     def refuse(self, replica):
-        """Tells the first row of the table of refusals that applies, but for Exists."""
+        """Tells the first row of the table of refusals that applies, of those that new changesets have no say in."""
         if any(node not in replica.changesets for node in self.rewritten + self.parents + self.lowered):
             raise Refusal("rewrite", 1, "Unknown")
         if set(self.parents) & replica.hidden():
@@ -333,8 +333,6 @@ class Operation:
             raise Refusal("rewrite", 6, "Count")
         if any(replica.phases[node] < self.phase for node in self.lowered):
             raise Refusal("rewrite", 7, "Raise")
-        if len(set(self.parents)) < len(self.parents):
-            raise Refusal("rewrite", 8, "Fault")
 
     def is_linear(self, replica):
         """Whether each node of a fold after the first has the one before as its sole parent, and no new parent of a
@@ -364,6 +362,9 @@ class Operation:
         self.refuse(replica)
         made = self.changesets(replica)
         nodes = [changeset.node for changeset in made]
+        # There is no changeset of a parent that is named twice, and no marker of what is its own successor.
+        if len(set(self.parents)) < len(self.parents) or set(self.rewritten) & set(nodes):
+            raise Refusal("rewrite", 8, "Fault")
         if len(set(nodes)) < len(nodes) or set(nodes) & replica.changesets.keys():
             raise Refusal("rewrite", 9, "Exists")
         phases = [replica.phases[node] for node in self.rewritten[-1:] + self.parents]
