@@ -1,0 +1,78 @@
+//! What became of a changeset, by the markers that rewrote it.
+ghost use Rattle.std.specs.Prelude.{◌<◌, All, length};
+
+use crate::described::push_name;
+use crate::kind::Kind;
+use hg_changeset::Node;
+use hg_marker::Marker;
+use hg_replica::Replica;
+use std::alloc::AllocError;
+
+/// The places of the markers that rewrote the changeset at a place, where it is obsolete, in the order in which they
+/// came. Of others it gives none: what is public isn't rewritten, whatever markers say. It takes no look-up by a hash.
+pub(crate) fn fates(replica: &Replica, place: usize, node: Node, kind: Kind) -> &[usize] {
+    match kind {
+        Kind::Ordinary | Kind::Unstable => &[],
+        Kind::Obsolete | Kind::Hidden => {
+            let hint = replica.hint_at(place);
+            replica.store().mentions_near(node, hint).as_predecessor()
+        }
+    }
+}
+
+/// Whether a changeset became nothing, by some marker of those at these places.
+pub(crate) fn is_pruned(replica: &Replica, markers: &[usize]) -> bool {
+    let store = replica.store();
+    markers.iter().any(|place| match store.get(*place) {
+        Some(marker) => marker.successors().is_empty(),
+        None => false,
+    })
+}
+
+/// Appends what the marker at a place says: how the changeset was rewritten, and to which others.
+pub(crate) fn push_fate(
+    line: &mut Vec<u8>,
+    replica: &Replica,
+    place: usize,
+) -> Result<(), AllocError> {
+    match replica.store().get(place) {
+        Some(marker) => {
+            line.extend_from_slice(verb(marker))?;
+            push_successors(line, replica, marker.successors())
+        }
+        None => Ok(()),
+    }
+}
+
+// How a marker rewrites: as it notes, where one changeset takes the place of its predecessor.
+fn verb(marker: &Marker) -> &'static [u8] {
+    match marker.successors().len() {
+        0 => b"pruned",
+        1 => single_verb(marker.meta().get(b"operation")),
+        _ => b"split as ",
+    }
+}
+
+fn single_verb(operation: Option<&[u8]>) -> &'static [u8] {
+    match operation {
+        Some(b"amend") => b"amended as ",
+        Some(b"fold") => b"folded as ",
+        Some(b"relocate") => b"relocated as ",
+        _ => b"rewritten as ",
+    }
+}
+
+// Appends what the successors are called.
+fn push_successors(
+    line: &mut Vec<u8>,
+    replica: &Replica,
+    successors: &[Node],
+) -> Result<(), AllocError> {
+    let mut divider: &[u8] = b"";
+    for node in successors {
+        line.extend_from_slice(divider)?;
+        push_name(line, replica, *node)?;
+        divider = b", ";
+    }
+    Ok(())
+}

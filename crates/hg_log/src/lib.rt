@@ -1,0 +1,21 @@
+//! Drawings of a node's history: its changesets in columns, as text, and as a graph for Graphviz.
+//!
+//! Both show a replica as it is, under the pins of its node: what each changeset is called, its phase, what is unstable
+//! about it, and what became of what was rewritten. [`draw_log`] is the picture that `hg log -G` gives, and
+//! [`draw_graph`] the input of `dot`. Either is written as it is drawn, a line at a time.
+#![tactic(auto)]
+
+mod cells;
+mod columns;
+mod described;
+mod dot;
+mod fate;
+mod fault;
+mod kind;
+mod line;
+mod log;
+mod shown;
+
+pub use dot::draw_graph;
+pub use fault::DrawFault;
+pub use log::draw_log;

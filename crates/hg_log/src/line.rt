@@ -1,0 +1,34 @@
+//! Lines of a drawing, each of which is one write.
+ghost use Rattle.std.specs.Prelude.{◌≡◌, [], IfErr, OnOk};
+
+use crate::fault::DrawFault;
+use std::alloc::AllocError;
+use std::io::Write;
+
+/// Writes a line without the blanks at its end, and empties it for the next one.
+pub(crate) fn write_line<W: Write>(line: &mut Vec<u8>, writer: &mut W) -> Result<(), DrawFault>
+    ensures { OnOk result (line.new.items ≡ []) }
+{
+    end_line(line)?;
+    write_bytes(line, writer)?;
+    line.clear();
+    Ok(())
+}
+
+// Takes the blanks at the end off the line, and ends it.
+fn end_line(line: &mut Vec<u8>) -> Result<(), AllocError> {
+    let len = line.trim_ascii_end().len();
+    line.truncate(len);
+    line.push(b'\n')?;
+    Ok(())
+}
+
+// Writes bytes: only what the writer refuses is a fault here.
+fn write_bytes<W: Write>(bytes: &[u8], writer: &mut W) -> Result<(), DrawFault>
+    ensures { IfErr result (λ fault. fault ≡ DrawFault.Write) }
+{
+    match writer.write_all(bytes) {
+        Ok(()) => Ok(()),
+        Err(_) => Err(DrawFault::Write),
+    }
+}

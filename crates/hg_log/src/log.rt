@@ -1,0 +1,136 @@
+//! The history as a text, with its changesets in columns.
+ghost use Rattle.std.specs.Prelude.{◌<◌, length};
+ghost use Rattle.hg_phases.specs.State.{changesets};
+
+use crate::cells::{Line, needs_padding, push_columns};
+use crate::columns::{Columns, Row};
+use crate::described::{label_of, phase_word, push_instabilities, push_label, push_short_id};
+use crate::fate::{fates, push_fate};
+use crate::fault::DrawFault;
+use crate::kind::kind_of;
+use crate::line::write_line;
+use crate::shown::Shown;
+use hg_replica::Replica;
+use hg_view::Kept;
+use std::alloc::{AllocError, Global};
+use std::io::Write;
+
+/// Draws the history of a replica as it is now, under the pins of its node: what is visible, or all that is held where
+/// `shows_hidden` is true.
+///
+/// The changesets come from the last place to the first, so each before its parents, in columns as Mercurial's `log -G`
+/// draws them. A row begins with the columns, where the changeset has `o`, or `*` where it is an orphan or divergent,
+/// `x` where it is obsolete, and `%` where it is hidden. Behind them stand the first 12 digits of its id, its label, which
+/// is the last line of its text, its phase, and the words for what is unstable. The next line has the edges to the next
+/// row. On it and on lines below stands what became of an obsolete changeset, a line for each marker, by the labels of
+/// its successors or, where they aren't held, by their ids. Say `b` stood on `a`, and `c` on `b`, when `b` was amended:
+///
+/// ```text
+/// o  6f1c9a0b27d4 b2 draft
+/// |
+/// | *  0d83be5517ac c draft orphan
+/// | |
+/// | x  b3a90cf4e182 b draft
+/// |/   amended as b2
+/// o  55e1d7c2a960 a public
+///
+/// ```
+///
+/// The line of the edges is there below a root too, and then empty. What can't be printed of a label is escaped.
+///
+/// It costs what is written. [`DrawFault::Write`] comes where the writer refuses a line, [`DrawFault::NoMemory`] only
+/// where memory is refused for a line or for the columns; the lines before stay written.
+pub fn draw_log<W: Write>(
+    alloc: Global,
+    kept: &Kept,
+    shows_hidden: bool,
+    writer: &mut W,
+) -> Result<(), DrawFault> {
+    let mut columns = Columns::new(alloc);
+    let mut line = Vec::new(alloc);
+    let shown = Shown { kept, shows_hidden };
+    let graph = kept.replica().graph();
+    for place in (0..graph.len()).rev() {
+        if shown.has_place(place) {
+            let row = columns.next_row(place, graph.parent_places(place))?;
+            draw_changeset(kept, place, &row, &mut line, writer)?;
+        }
+    }
+    Ok(())
+}
+
+// Draws the lines of a changeset, by means of the empty line that is lent.
+fn draw_changeset<W: Write>(
+    kept: &Kept,
+    place: usize,
+    row: &Row,
+    line: &mut Vec<u8>,
+    writer: &mut W,
+) -> Result<(), DrawFault>
+    requires { place < length (changesets kept.now.replica.history) }
+{
+    let replica = kept.replica();
+    let node = replica.graph().node_at(place).unwrap();
+    let kind = kind_of(kept, node);
+    let fates = fates(replica, place, node, kind);
+    let mark = kind.mark();
+    let is_tall = fates.len() > 1;
+    push_columns(row, Line::Changeset { mark, is_tall }, line)?;
+    push_description(kept, place, line)?;
+    write_line(line, writer)?;
+    draw_below(replica, row, fates, line, writer)
+}
+
+// Appends what a changeset is called, its phase, and what is unstable about it.
+fn push_description(kept: &Kept, place: usize, line: &mut Vec<u8>) -> Result<(), AllocError>
+    requires { place < length (changesets kept.now.replica.history) }
+{
+    let replica = kept.replica();
+    let changeset = replica.graph().changeset_at(place).unwrap();
+    let phase = replica.phase_at(place).unwrap();
+    push_short_id(line, changeset.node())?;
+    line.push(b' ')?;
+    push_label(line, label_of(changeset))?;
+    line.extend_from_slice(phase_word(phase))?;
+    push_instabilities(line, kept.instabilities(), changeset.node())
+}
+
+// Draws the lines below a changeset's own, with what became of it beside them.
+fn draw_below<W: Write>(
+    replica: &Replica,
+    row: &Row,
+    fates: &[usize],
+    line: &mut Vec<u8>,
+    writer: &mut W,
+) -> Result<(), DrawFault> {
+    let mut rest = fates;
+    if rest.len() > 1 && needs_padding(row) {
+        rest = draw_beside(replica, row, Line::Padding, rest, line, writer)?;
+    }
+    rest = draw_beside(replica, row, Line::Edges, rest, line, writer)?;
+    while !rest.is_empty() {
+        rest = draw_beside(replica, row, Line::Below, rest, line, writer)?;
+    }
+    Ok(())
+}
+
+// Draws a line with what the first marker says beside it, where there is one, and gives the others.
+fn draw_beside<'a, W: Write>(
+    replica: &Replica,
+    row: &Row,
+    columns: Line,
+    fates: &'a [usize],
+    line: &mut Vec<u8>,
+    writer: &mut W,
+) -> Result<&'a [usize], DrawFault> {
+    push_columns(row, columns, line)?;
+    let rest = match fates.split_first() {
+        Some((fate, rest)) => {
+            push_fate(line, replica, *fate)?;
+            rest
+        }
+        None => fates,
+    };
+    write_line(line, writer)?;
+    Ok(rest)
+}
