@@ -4,7 +4,8 @@
 //! child of, and that isn't drawn yet. A changeset is drawn in its own column, or in a new one to the right where it is
 //! a head. Its column then goes to its first parent that has none yet, and a new column beside it to the second; where
 //! its parents have columns already, or it has none, its own closes, and those to the right of it move to the left.
-ghost use Rattle.std.specs.Prelude.{◌≡◌, ◌+◌, ◌<◌, ◌≤◌, IfOk, IfSome, length};
+ghost use Rattle.std.specs.Prelude.{◌≡◌, ◌<◌, ◌++◌, ◌∷◌, [], IfOk, IfSome, OnOk, Some, is_some, length};
+ghost use Rattle.hg_log.specs.Columns.{AreFound, HasBelow, IsRow, StandsFor};
 
 use hg_graph::ParentPlaces;
 use std::alloc::{AllocError, Global};
@@ -107,7 +108,9 @@ impl Columns {
         &mut self,
         place: usize,
         parents: ParentPlaces,
-    ) -> Result<Row, AllocError> {
+    ) -> Result<Row, AllocError>
+        ensures { IfOk result IsRow }
+    {
         let row = next_row(&mut self.places, self.above, place, parents)?;
         self.above = row.turn;
         Ok(row)
@@ -119,7 +122,10 @@ fn next_row(
     above: Turn,
     place: usize,
     parents: ParentPlaces,
-) -> Result<Row, AllocError> {
+) -> Result<Row, AllocError>
+    ensures row { IfOk result IsRow }
+    ensures above { IfOk result (λ row. row.above ≡ above) }
+{
     let found = find(places, place, parents);
     let column = own_column(places, place, found.own)?;
     let width = places.len();
@@ -146,7 +152,7 @@ struct Found {
 }
 
 fn find(places: &[usize], place: usize, parents: ParentPlaces) -> Found
-    ensures { IfSome result.own (λ column. column < length places.now) }
+    ensures { AreFound places.now place parents result }
 {
     let mut found = Found {
         own: None,
@@ -174,8 +180,8 @@ fn own_column(
     place: usize,
     own: Option<usize>,
 ) -> Result<usize, AllocError>
-    requires { IfSome own (λ column. column < length places.old.items) }
-    ensures { IfOk result (λ column. column < length places.new.items) }
+    requires { IfSome own (StandsFor places.old.items (Some place)) }
+    ensures { IfOk result (StandsFor places.new.items (Some place)) }
 {
     match own {
         Some(column) => Ok(column),
@@ -203,6 +209,7 @@ fn go_on(
     second: Option<usize>,
 ) -> Result<Change, AllocError>
     requires { column < length places.old.items }
+    ensures { IfOk result (λ change. HasBelow change (length places.old.items) (length places.new.items)) }
 {
     match (first, second) {
         (Some(first), Some(second)) => {
@@ -230,12 +237,9 @@ fn beside(change: Change) -> Edge {
 }
 
 // The edge to a parent, where there is one: the fresh one, if the parent had no column yet.
-fn parent_edge(
-    turn: Turn,
-    parent: Option<usize>,
-    found: Option<usize>,
-    fresh: Edge,
-) -> Option<Edge> {
+fn parent_edge(turn: Turn, parent: Option<usize>, found: Option<usize>, fresh: Edge) -> Option<Edge>
+    ensures { is_some result ≡ is_some parent }
+{
     parent?;
     match found {
         Some(column) => Some(edge_to(turn, column)),

@@ -1,6 +1,6 @@
 //! What is written of a changeset: its id, its label, its phase, and what is unstable about it.
+use crate::unstable::UnstableWords;
 use hg_changeset::{Changeset, Node};
-use hg_instab::Instabilities;
 use hg_phases::Phase;
 use hg_replica::Replica;
 use memchr::memrchr;
@@ -47,22 +47,10 @@ pub(crate) fn phase_word(phase: Phase) -> &'static [u8] {
 }
 
 /// Appends what is unstable about a changeset, with a blank before each word.
-pub(crate) fn push_instabilities(
-    line: &mut Vec<u8>,
-    sets: &Instabilities,
-    node: Node,
-) -> Result<(), AllocError> {
-    push_where(line, sets.orphan().contains(&node), b" orphan")?;
-    push_where(
-        line,
-        sets.phase_divergent().contains(&node),
-        b" phase-divergent",
-    )?;
-    push_where(
-        line,
-        sets.content_divergent().contains(&node),
-        b" content-divergent",
-    )
+pub(crate) fn push_unstable(line: &mut Vec<u8>, told: UnstableWords) -> Result<(), AllocError> {
+    push_where(line, told.orphan, b" orphan")?;
+    push_where(line, told.phase_divergent, b" phase-divergent")?;
+    push_where(line, told.content_divergent, b" content-divergent")
 }
 
 fn push_where(line: &mut Vec<u8>, is_so: bool, word: &[u8]) -> Result<(), AllocError> {

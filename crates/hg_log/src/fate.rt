@@ -1,6 +1,4 @@
 //! What became of a changeset, by the markers that rewrote it.
-ghost use Rattle.std.specs.Prelude.{◌<◌, All, length};
-
 use crate::described::push_name;
 use crate::kind::Kind;
 use hg_changeset::Node;
@@ -8,14 +6,16 @@ use hg_marker::Marker;
 use hg_replica::Replica;
 use std::alloc::AllocError;
 
-/// The places of the markers that rewrote the changeset at a place, where it is obsolete, in the order in which they
-/// came. Of others it gives none: what is public isn't rewritten, whatever markers say. It takes no look-up by a hash.
+/// The places of the markers that rewrote a changeset, in the order in which they came, where it is obsolete. Of others
+/// it gives none: what is public isn't rewritten, whatever markers say. It takes no look-up by a hash where this is the
+/// changeset at the place.
 pub(crate) fn fates(replica: &Replica, place: usize, node: Node, kind: Kind) -> &[usize] {
     match kind {
         Kind::Ordinary | Kind::Unstable => &[],
         Kind::Obsolete | Kind::Hidden => {
             let hint = replica.hint_at(place);
-            replica.store().mentions_near(node, hint).as_predecessor()
+            let mentions = replica.store().mentions_near(node, hint);
+            mentions.as_predecessor()
         }
     }
 }

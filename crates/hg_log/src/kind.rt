@@ -1,9 +1,11 @@
 //! Of which kind a changeset is, as its mark in a drawing tells.
-ghost use Rattle.std.specs.Prelude.{◌≡◌, ◌↔◌, ◌⊎◌, IsTrue, Contains};
+ghost use Rattle.std.specs.Prelude.{◌≡◌, ◌∷◌, []};
 ghost use Rattle.hg_replica.specs.Content.{content_of};
-ghost use Rattle.hg_view.specs.Pins.{IsVisibleUnder};
+ghost use Rattle.hg_log.specs.Kinds.{IsOfKind, mark_of};
 
+use crate::unstable::is_unstable;
 use hg_changeset::Node;
+use hg_instab::is_obsolete;
 use hg_view::Kept;
 
 /// Of which kind a changeset is: the first that applies, from the bottom up.
@@ -21,7 +23,9 @@ pub(crate) enum Kind {
 
 impl Kind {
     /// The mark in its column: Mercurial's, and `%` for what it wouldn't draw.
-    pub(crate) fn mark(self) -> u8 {
+    pub(crate) fn mark(self) -> u8
+        ensures { result ∷ [] ≡ mark_of self }
+    {
         match self {
             Kind::Ordinary => b'o',
             Kind::Unstable => b'*',
@@ -32,22 +36,17 @@ impl Kind {
 }
 
 /// The kind of a changeset of the replica, under the pins.
-pub(crate) fn kind_of(kept: &Kept, node: Node) -> Kind {
-    let sets = kept.instabilities();
+pub(crate) fn kind_of(kept: &Kept, node: Node) -> Kind
+    ensures { IsOfKind (content_of kept.now.replica) kept.now.pins node result }
+{
     if !kept.is_visible(node) {
-        Kind::Hidden
-    } else if sets.obsolete().contains(&node) {
-        Kind::Obsolete
-    } else if is_unstable(kept, node) {
-        Kind::Unstable
-    } else {
-        Kind::Ordinary
+        return Kind::Hidden;
     }
-}
-
-fn is_unstable(kept: &Kept, node: Node) -> bool {
-    let sets = kept.instabilities();
-    sets.orphan().contains(&node)
-        || sets.phase_divergent().contains(&node)
-        || sets.content_divergent().contains(&node)
+    if is_obsolete(kept.replica(), node) {
+        return Kind::Obsolete;
+    }
+    if is_unstable(kept, node) {
+        return Kind::Unstable;
+    }
+    Kind::Ordinary
 }

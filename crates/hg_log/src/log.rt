@@ -4,12 +4,13 @@ ghost use Rattle.hg_phases.specs.State.{changesets};
 
 use crate::cells::{Line, needs_padding, push_columns};
 use crate::columns::{Columns, Row};
-use crate::described::{label_of, phase_word, push_instabilities, push_label, push_short_id};
+use crate::described::{label_of, phase_word, push_label, push_short_id, push_unstable};
 use crate::fate::{fates, push_fate};
 use crate::fault::DrawFault;
 use crate::kind::kind_of;
 use crate::line::write_line;
 use crate::shown::Shown;
+use crate::unstable::told_of;
 use hg_replica::Replica;
 use hg_view::Kept;
 use std::alloc::{AllocError, Global};
@@ -92,7 +93,7 @@ fn push_description(kept: &Kept, place: usize, line: &mut Vec<u8>) -> Result<(),
     line.push(b' ')?;
     push_label(line, label_of(changeset))?;
     line.extend_from_slice(phase_word(phase))?;
-    push_instabilities(line, kept.instabilities(), changeset.node())
+    push_unstable(line, told_of(kept, changeset.node()))
 }
 
 // Draws the lines below a changeset's own, with what became of it beside them.
@@ -104,33 +105,39 @@ fn draw_below<W: Write>(
     writer: &mut W,
 ) -> Result<(), DrawFault> {
     let mut rest = fates;
-    if rest.len() > 1 && needs_padding(row) {
-        rest = draw_beside(replica, row, Line::Padding, rest, line, writer)?;
+    if fates.len() > 1 && needs_padding(row) {
+        let (fate, others) = next_fate(rest);
+        draw_beside(replica, row, Line::Padding, fate, line, writer)?;
+        rest = others;
     }
-    rest = draw_beside(replica, row, Line::Edges, rest, line, writer)?;
-    while !rest.is_empty() {
-        rest = draw_beside(replica, row, Line::Below, rest, line, writer)?;
+    let (fate, others) = next_fate(rest);
+    draw_beside(replica, row, Line::Edges, fate, line, writer)?;
+    for fate in others {
+        draw_beside(replica, row, Line::Below, Some(*fate), line, writer)?;
     }
     Ok(())
 }
 
-// Draws a line with what the first marker says beside it, where there is one, and gives the others.
-fn draw_beside<'a, W: Write>(
+// The first marker, where there is one, and the others.
+fn next_fate(fates: &[usize]) -> (Option<usize>, &[usize]) {
+    match fates.split_first() {
+        Some((fate, others)) => (Some(*fate), others),
+        None => (None, fates),
+    }
+}
+
+// Draws a line with what a marker says beside it, where there is one.
+fn draw_beside<W: Write>(
     replica: &Replica,
     row: &Row,
     columns: Line,
-    fates: &'a [usize],
+    fate: Option<usize>,
     line: &mut Vec<u8>,
     writer: &mut W,
-) -> Result<&'a [usize], DrawFault> {
+) -> Result<(), DrawFault> {
     push_columns(row, columns, line)?;
-    let rest = match fates.split_first() {
-        Some((fate, rest)) => {
-            push_fate(line, replica, *fate)?;
-            rest
-        }
-        None => fates,
-    };
-    write_line(line, writer)?;
-    Ok(rest)
+    if let Some(fate) = fate {
+        push_fate(line, replica, fate)?;
+    }
+    write_line(line, writer)
 }

@@ -1,6 +1,4 @@
 //! Which changesets are drawn.
-ghost use Rattle.std.specs.Prelude.{◌↔◌, IsTrue};
-
 use hg_changeset::Node;
 use hg_view::Kept;
 

@@ -1,0 +1,28 @@
+-- What the tests of a changeset tell.
+use Rattle.std.proofs.Common.{◌≡◌, ◌↔◌, ◌⊎◌, ◌∙◌, Bool, false, IsTrue, List, Contains, inl, inr, sym}
+use Rattle.std.proofs.Common.{subst, true≢false}
+use Rattle.hg_changeset.specs.declared.node.Node.{Node}
+
+-- what is so of the members of a set, by the test of the set
+pub told_among : (b : Bool) (set kept : List Node) (n : Node) (P : Type 0) → set ≡ kept → IsTrue b ↔ Contains set n
+    → Contains kept n ↔ P → IsTrue b ↔ P
+told_among b set kept n P e told so = (
+  λ h. so.0 (subst (λ (ns : List Node). Contains ns n) e (told.0 h)),
+  λ p. told.1 (subst (λ (ns : List Node). Contains ns n) (sym e) (so.1 p)),
+)
+
+map_or : {A B P Q : Type 0} → (A → P) → (B → Q) → A ⊎ B → P ⊎ Q
+map_or f g (inl a) = inl (f a)
+map_or f g (inr b) = inr (g b)
+
+-- any of three words is there where what one of them says is so
+pub any_told : (b : Bool) (A B C P Q R : Type 0) → A ↔ P → B ↔ Q → C ↔ R → IsTrue b ↔ (A ⊎ (B ⊎ C))
+    → IsTrue b ↔ (P ⊎ (Q ⊎ R))
+any_told b A B C P Q R first second third any = (
+  λ t. map_or first.0 (map_or second.0 third.0) (any.0 t),
+  λ so. any.1 (map_or first.1 (map_or second.1 third.1) so),
+)
+
+-- what isn't so, by its test
+pub not_so : (b : Bool) (P : Type 0) → IsTrue b ↔ P → b ≡ false → ¬ P
+not_so b P told e = λ so. true≢false (sym (told.1 so) ∙ e)
