@@ -8,10 +8,12 @@ use Rattle.clap.specs.declared.error.kind.ErrorKind.TheVariants.{DisplayHelp, Di
 use Rattle.clap.specs.declared.error.kind.ErrorKind.TheVariants.{UnknownArgument, OutOfMemory}
 use Rattle.clap.specs.declared.error.kind.ErrorKind.TheVariants.{MissingRequiredArgument, ValueValidation}
 use Rattle.clap.proofs.OnLiterals.{clap_on_literals}
-use Rattle.hgfleet.specs.Arguments.{IsRun, program, faults_at, race_numbers, ArgumentsAnswer, IsWithinBounds}
+use Rattle.hgfleet.proofs.PlaceLemmas.{fault_alike_at}
+use Rattle.hgfleet.specs.Arguments.{ArgumentsAnswer, IsRun, IsWithinBounds, NamesForms, Words, faults_at, form_words}
+use Rattle.hgfleet.specs.Arguments.{program_at, race_numbers, reference}
 use Rattle.hgfleet.specs.declared.arguments.ArgumentFault.{ArgumentFault}
 use Rattle.hgfleet.specs.declared.arguments.Wanted.{Wanted}
-use Rattle.hgfleet.specs.declared.arguments.Wanted.TheVariants.{Run, Race, Help, Version}
+use Rattle.hgfleet.specs.declared.arguments.Wanted.TheVariants.{Run, Race, Log, Show, Write, Help, Version}
 
 pub at_help : (name : Text) → faults_at (name ∷ codes "--help" ∷ []) ≡ DisplayHelp ∷ []
 unfolding clap_on_literals faults_at
@@ -51,7 +53,8 @@ unfolding clap_on_literals faults_at
 at_race name = refl
 
 pub at_race_numbers : (name : Text)
-    → race_numbers (name ∷ codes "race" ∷ codes "--nodes" ∷ codes "4" ∷ codes "--rounds" ∷ codes "3" ∷ []) ≡ Some (4, 3)
+    → race_numbers (name ∷ codes "race" ∷ codes "--nodes" ∷ codes "4" ∷ codes "--rounds" ∷ codes "3" ∷ [])
+    ≡ Some (4, 3)
 unfolding clap_on_literals race_numbers
 at_race_numbers name = refl
 
@@ -96,15 +99,20 @@ pub run_faultless : (words : List Text) → IsRun words → faults_at words ≡ 
 run_faultless [] h = let l : 0 ≡ 1 = ap length h in absurd (omega (arith, l))
 run_faultless (name ∷ rest) h = ap (λ (ws : List Text). faults_at (name ∷ ws)) h ∙ at_run name
 
-program_is_free : is_simple_and_free program ≡ true
+program_is_free : (forms : Words) → is_simple_and_free (program_at forms) ≡ true
 unfolding clap_on_literals
-program_is_free = refl
+program_is_free forms = refl
 
 -- what a command of this shape tells
-pub fails_at : {T : Type 0} (a : App) (words : List Text) (r : Result T Error) → a ≡ program
-    → (is_simple_and_free a ≡ true → FailsBy (fault_of a words) r) → FailsBy (faults_at words) r
+pub fails_at : {T : Type 0} (a : App) (words : List Text) (r : Result T Error) (forms : Words) → NamesForms forms
+    → a ≡ program_at forms → (is_simple_and_free a ≡ true → FailsBy (fault_of a words) r)
+    → FailsBy (faults_at words) r
 unfolding faults_at
-fails_at a words r e h = subst (λ b. FailsBy (fault_of b words) r) e (h (ap is_simple_and_free e ∙ program_is_free))
+fails_at a words r forms named e h =
+    subst (λ (ks : Kinds). FailsBy ks r)
+    (ap (λ (b : App). fault_of b words) e
+    ∙ fault_alike_at forms (reference (map reference form_words)) named refl words)
+    (h (ap is_simple_and_free e ∙ program_is_free forms))
 
 -- what is told of the words of a run is want of memory
 pub not_run : (words : List Text) (e : Error) → HasKind (faults_at words) e → kind_of e ≢ OutOfMemory → ¬ (IsRun words)
@@ -129,6 +137,9 @@ pub answer_within : (words : List Text) (r : Result Wanted ArgumentFault) → Ar
     → IfOk r IsWithinBounds
 answer_within words (Ok Run) h = tt
 answer_within words (Ok (Race nodes rounds)) h = h.2
+answer_within words (Ok (Log nodes shows_hidden is_graph)) h = tt
+answer_within words (Ok (Show form)) h = tt
+answer_within words (Ok (Write form name)) h = tt
 answer_within words (Ok (Help e)) h = tt
 answer_within words (Ok (Version e)) h = tt
 answer_within words (Err e) h = tt

@@ -1,2 +1,6 @@
+mod AnswerLemmas
 mod ArgumentLemmas
 mod NumberLemmas
+mod OptionLemmas
+mod PlaceLemmas
+mod RowLemmas

@@ -4,12 +4,11 @@ use Rattle.std.proofs.Common.{List, codes, Option, Some, None, Result, Ok, Err, 
 use Rattle.std.specs.Prelude.{is_some, option_and_then, unwrap_or, pos}
 use Rattle.std.specs.Str.{bytes_eq}
 use Rattle.std.specs.Str.Parse.{ParsesUnsigned, digits_value, without_leading_plus}
-use Rattle.clap.specs.Words.{App, IsUnsignedIn, HasMatchesOf, ReadsOne, Row, Rule, Text, found_of, is_simple, new_rule}
-use Rattle.clap.specs.Words.{one_of, one_text, rows_of, subcommand_of, subcommand_rows_of}
+use Rattle.clap.specs.Words.{IsUnsignedIn, ReadsOne, Row, Rule, Text, found_of, new_rule}
+use Rattle.clap.specs.Words.{one_of, one_text, rows_of, subcommand_of}
 use Rattle.clap.specs.ValueTests.{is_unsigned_in}
 use Rattle.clap.specs.declared.builder.value_parser.ValueParser.TheVariants.{Signed, Unsigned}
 use Rattle.clap.specs.declared.parser.matches.ArgMatches.{ArgMatches}
-use Rattle.clap.proofs.OnLiterals.{clap_on_literals}
 use Rattle.clap.proofs.ValueTestLemmas.{Accepts-accepts, accepts-Accepts}
 use Rattle.clap.proofs.WalkLemmas.{one_text-rows}
 use Rattle.hgfleet.specs.Arguments.{IsRaceSize, both_numbers, number_given, number_within, numbers_given}
@@ -107,7 +106,7 @@ size_given rows n r h =
     let rounds = given_bounds 1 1000 (one_of (codes "rounds") rows) r both.1 in
     (nodes.0, nodes.1, rounds.0, rounds.1)
 
-size_met : (met : Option (Text × List Row)) (n r : ℕ) → race_met met ≡ Some (n, r) → IsRaceSize n r
+pub size_met : (met : Option (Text × List Row)) (n r : ℕ) → race_met met ≡ Some (n, r) → IsRaceSize n r
 size_met None n r h = absurd (some_is_given (n, r) h)
 size_met (Some met) n r h = go (bytes_eq met.0 (codes "race")) h
   where
@@ -119,17 +118,6 @@ size_met (Some met) n r h = go (bytes_eq met.0 (codes "race")) h
 pub race_size : (words : List Text) (n r : ℕ) → race_numbers words ≡ Some (n, r) → IsRaceSize n r
 unfolding race_numbers
 race_size words n r h = size_met (subcommand_of program words) n r h
-
-program_is_simple : is_simple program ≡ true
-unfolding clap_on_literals
-program_is_simple = refl
-
--- what is read of the matches is what the words give
-pub numbers_at : (a : App) (words : List Text) (m : ArgMatches) (r : Option (ℕ × ℕ)) → a ≡ program
-    → HasMatchesOf a words m → r ≡ race_met (subcommand_rows_of m) → r ≡ race_numbers words
-unfolding race_numbers
-numbers_at a words m r e has is =
-    is ∙ ap race_met ((has (ap is_simple e ∙ program_is_simple)).1 ∙ ap (λ (b : App). subcommand_of b words) e)
 
 -- an option that is built step by step
 pub number_rule : (name : Text) (low high : ℕ) (made long named wanted parsed helped : Rule) → made ≡ new_rule name

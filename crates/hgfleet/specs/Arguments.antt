@@ -1,16 +1,24 @@
 -- The command line of the program, and what its words ask for.
-use Rattle.std.specs.Prelude.{ℕ, List, ◌∷◌, [], ◌≡◌, ◌≢◌, ◌⊎◌, ◌≤◌, codes, true, pos, drop, if◌then◌else◌}
-use Rattle.std.specs.Prelude.{Option, Some, None, Result, Ok, Err, option_and_then}
+use Rattle.std.specs.Prelude.{ℕ, Bool, List, ◌∷◌, [], ◌≡◌, ◌≢◌, ◌⊎◌, ◌≤◌, codes, true, false, pos, drop, map}
+use Rattle.std.specs.Prelude.{if◌then◌else◌, Option, Some, None, Result, Ok, Err, option_and_then}
+use Rattle.std.specs.Prelude.{unwrap_or, String, string_bytes}
+use Rattle.std.specs.Borrow.{Bor}
+use Rattle.std.specs.Option.{option_map_or}
 use Rattle.std.specs.Str.{bytes_eq}
 use Rattle.std.specs.Str.Parse.{digits_value, without_leading_plus}
-use Rattle.clap.specs.Words.{App, Row, Rule, Text, Kinds, IsAmong, HasKind, fault_of, kind_of, new_app, new_rule}
-use Rattle.clap.specs.Words.{one_of, subcommand_of, with_rule, with_subcommand}
+use Rattle.std.specs.declared.alloc.Global.{Global}
+use Rattle.clap.specs.Lexer.{usize_max}
+use Rattle.clap.specs.Words.{App, Row, Rule, Text, Kinds, IsAmong, HasKind, all_of, fault_of, first_of, kind_of}
+use Rattle.clap.specs.Words.{new_app, new_rule, one_of, subcommand_of, with_rule, with_subcommand}
 use Rattle.clap.specs.ValueTests.{is_unsigned_in}
-use Rattle.clap.specs.declared.builder.value_parser.ValueParser.TheVariants.{Signed}
+use Rattle.clap.specs.declared.builder.action.ArgAction.TheVariants.{SetTrue}
+use Rattle.clap.specs.declared.builder.value_parser.ValueParser.TheVariants.{Names, Signed}
 use Rattle.clap.specs.declared.error.Error.{Error}
 use Rattle.clap.specs.declared.error.kind.ErrorKind.TheVariants.{DisplayHelp, DisplayVersion, OutOfMemory}
+use Rattle.hgfleet.specs.declared.arguments.Form.{Form}
+use Rattle.hgfleet.specs.declared.arguments.Form.TheVariants.{Store, Roots, Message}
 use Rattle.hgfleet.specs.declared.arguments.Wanted.{Wanted}
-use Rattle.hgfleet.specs.declared.arguments.Wanted.TheVariants.{Run, Race, Help, Version}
+use Rattle.hgfleet.specs.declared.arguments.Wanted.TheVariants.{Run, Race, Log, Show, Write, Help, Version}
 use Rattle.hgfleet.specs.declared.arguments.ArgumentFault.{ArgumentFault}
 use Rattle.hgfleet.specs.declared.arguments.ArgumentFault.TheVariants.{BadArguments, NotText, NoMemory}
 
@@ -28,11 +36,68 @@ abbrev pub race : App
 race = with_rule (with_rule (new_app (codes "race")) (wanted_number (codes "nodes") 2 16))
     (wanted_number (codes "rounds") 1 1000)
 
--- `hgfleet` with its version and with its two commands, `run` and `race`, of which it requires one
+-- a flag `--NAME`
+abbrev pub flag_rule : Text → Rule
+flag_rule name = record (new_rule name) { long = Some name; action = Some SetTrue }
+
+-- the names of nodes, any number of them
+abbrev pub nodes_rule : Rule
+nodes_rule = record (new_rule (codes "nodes")) {
+  range = Some (record { start_inclusive = 0; end_inclusive = usize_max });
+  value_names = 1;
+}
+
+-- `log` with its two flags and the names of nodes
+abbrev pub log : App
+log = with_rule (with_rule (with_rule (new_app (codes "log")) (flag_rule (codes "hidden"))) (flag_rule (codes "dot")))
+    nodes_rule
+
+-- references to words, as the parser has them
+abbrev pub Words : Type 0
+Words = Bor (List (Bor Text))
+
+-- the words that name the forms
+abbrev pub form_words : List Text
+form_words = codes "store" ∷ codes "roots" ∷ codes "message" ∷ []
+
+-- what the references lead to are the words that name the forms
+abbrev pub NamesForms : Words → Type 0
+NamesForms words = map (λ s. s.now) words.now ≡ form_words
+
+-- a form, which must be given, by one of these words
+abbrev pub form_rule : Words → Rule
+form_rule words = record (new_rule (codes "form")) { value_names = 1; required = true; parser = Some (Names words) }
+
+-- a name, which must be given
+abbrev pub name_rule : Rule
+name_rule = record (new_rule (codes "name")) { value_names = 1; required = true }
+
+-- `show` with a form, and `write` with a form and a name
+abbrev pub show_at : Words → App
+show_at words = with_rule (new_app (codes "show")) (form_rule words)
+
+abbrev pub write_at : Words → App
+write_at words = with_rule (with_rule (new_app (codes "write")) (form_rule words)) name_rule
+
+-- `hgfleet` with its version, which requires a command
+abbrev pub program_alone : App
+program_alone = let bare = new_app (codes "hgfleet") in
+    record bare { top = record bare.top { has_version = true; subcommand_required = true } }
+
+-- `hgfleet` with its commands, where the forms have the names behind these references
+abbrev pub program_at : Words → App
+program_at words =
+    let with_run = with_subcommand program_alone (new_app (codes "run")).top in
+    let with_log = with_subcommand (with_subcommand with_run race.top) log.top in
+    with_subcommand (with_subcommand with_log (show_at words).top) (write_at words).top
+
+-- a reference to a text; nothing that is said of the program depends on where the text lies
+abbrev pub reference : {T : Type 0} → T → Bor T
+reference x = record { ref_ptr = (0, 0); now = x }
+
+-- `hgfleet` with the words that name the forms
 abbrev pub program : App
-program = let bare = new_app (codes "hgfleet") in
-    let named = record bare { top = record bare.top { has_version = true; subcommand_required = true } } in
-    with_subcommand (with_subcommand named (new_app (codes "run")).top) race.top
+program = program_at (reference (map reference form_words))
 
 -- after the program's name, whatever it is, the word `run` alone
 abbrev pub IsRun : List Text → Type 0
@@ -75,17 +140,117 @@ race_numbers words = race_met (subcommand_of program words)
 abbrev pub IsRaceSize : ℕ → ℕ → Type 0
 IsRaceSize nodes rounds = (2 ≤ nodes) × (nodes ≤ 16) × (1 ≤ rounds) × (rounds ≤ 1000)
 
+-- the names of nodes that are given for a log, in their order
+abbrev pub names_given : List Row → List Text
+names_given rows = unwrap_or (all_of (codes "nodes") rows) []
+
+-- the flag of this name is given
+abbrev pub flag_given : Text → List Row → Bool
+flag_given name rows = option_map_or (λ text. bytes_eq text (codes "true")) (one_of name rows) false
+
+-- the names that are given for a log, whether it shows what is hidden, and whether it is a graph
+abbrev pub LogOptions : Type 0
+LogOptions = List Text × Bool × Bool
+
+-- what is given for a log
+abbrev pub log_given : List Row → LogOptions
+log_given rows = (names_given rows, flag_given (codes "hidden") rows, flag_given (codes "dot") rows)
+
+-- what is given for a log, where `log` is the command that was met
+abbrev pub log_met : Option (Text × List Row) → Option LogOptions
+log_met None = None
+log_met (Some met) = if bytes_eq met.0 (codes "log") then Some (log_given met.1) else None
+
+-- what words without a fault give for a log, none where they ask for no log
+unfoldable pub log_options : List Text → Option LogOptions
+log_options words = log_met (subcommand_of program words)
+
+-- the form that the word names
+abbrev pub form_named : Text → Option Form
+form_named word = if bytes_eq word (codes "store") then Some Store
+    else if bytes_eq word (codes "roots") then Some Roots
+    else if bytes_eq word (codes "message") then Some Message else None
+
+-- the form that is given
+abbrev pub form_given : List Row → Option Form
+form_given rows = option_and_then form_named (first_of (codes "form") rows)
+
+-- the form that is given for what is shown, where `show` is the command that was met
+abbrev pub show_met : Option (Text × List Row) → Option Form
+show_met None = None
+show_met (Some met) = if bytes_eq met.0 (codes "show") then form_given met.1 else None
+
+-- the form that words without a fault give for what is shown, none where they ask to show nothing
+unfoldable pub shown_form : List Text → Option Form
+shown_form words = show_met (subcommand_of program words)
+
+-- a form with a name, where both are given
+abbrev pub form_and_name : Option Form → Option Text → Option (Form × Text)
+form_and_name (Some form) (Some name) = Some (form, name)
+form_and_name (Some form) None = None
+form_and_name None name = None
+
+-- the form and the name that are given
+abbrev pub write_given : List Row → Option (Form × Text)
+write_given rows = form_and_name (form_given rows) (first_of (codes "name") rows)
+
+-- the form and the name that are given for what is written, where `write` is the command that was met
+abbrev pub write_met : Option (Text × List Row) → Option (Form × Text)
+write_met None = None
+write_met (Some met) = if bytes_eq met.0 (codes "write") then write_given met.1 else None
+
+-- the form and the name that words without a fault give for what is written, none where they ask to write nothing
+unfoldable pub written_form : List Text → Option (Form × Text)
+written_form words = write_met (subcommand_of program words)
+
 -- what is wanted can be done: the numbers of a race are within their bounds
 abbrev pub IsWithinBounds : Wanted → Type 0
-IsWithinBounds Run = Unit {0}
 IsWithinBounds (Race nodes rounds) = IsRaceSize nodes rounds
-IsWithinBounds (Help e) = Unit {0}
-IsWithinBounds (Version e) = Unit {0}
+IsWithinBounds _ = Unit {0}
 
--- the parser finds no fault and gives the numbers of the race, if the words ask for one; or it tells a fault of the
--- words, or that memory ran out
-abbrev pub ParseAnswer : List Text → Result (Option (ℕ × ℕ)) Error → Type 0
-ParseAnswer words (Ok numbers) = (faults_at words ≡ []) × (numbers ≡ race_numbers words)
+-- the bytes of each text
+abbrev pub texts_of : List (String Global) → List Text
+texts_of = map string_bytes
+
+-- the wanted is the race of these numbers, the log with these options, and so on
+abbrev pub IsRaceOf : Option (ℕ × ℕ) → Option Wanted → Type 0
+IsRaceOf numbers (Some (Race nodes rounds)) = numbers ≡ Some (nodes, rounds)
+IsRaceOf numbers None = numbers ≡ None
+IsRaceOf numbers _ = ⊥
+
+abbrev pub IsLogOf : LogOptions → Option Wanted → Type 0
+IsLogOf options (Some (Log nodes shows_hidden is_graph)) = options ≡ (texts_of nodes.items, shows_hidden, is_graph)
+IsLogOf options _ = ⊥
+
+abbrev pub IsShowOf : Option Form → Option Wanted → Type 0
+IsShowOf form (Some (Show shown)) = form ≡ Some shown
+IsShowOf form None = form ≡ None
+IsShowOf form _ = ⊥
+
+abbrev pub IsWriteOf : Option (Form × Text) → Option Wanted → Type 0
+IsWriteOf given (Some (Write form name)) = given ≡ Some (form, string_bytes name)
+IsWriteOf given None = given ≡ None
+IsWriteOf given _ = ⊥
+
+-- the command that was met, with its rows, asks for this; none where it asks for nothing more than a run
+abbrev pub MeetsWanted : Option (Text × List Row) → Option Wanted → Type 0
+MeetsWanted met (Some (Race nodes rounds)) = race_met met ≡ Some (nodes, rounds)
+MeetsWanted met (Some (Log nodes shows_hidden is_graph)) =
+    log_met met ≡ Some (texts_of nodes.items, shows_hidden, is_graph)
+MeetsWanted met (Some (Show form)) = show_met met ≡ Some form
+MeetsWanted met (Some (Write form name)) = write_met met ≡ Some (form, string_bytes name)
+MeetsWanted met (Some _) = ⊥
+MeetsWanted met None = (race_met met ≡ None) × (log_met met ≡ None) × (show_met met ≡ None) × (write_met met ≡ None)
+
+-- the words give nothing for a race, a log, what is shown and what is written
+abbrev pub GivesNothing : List Text → Type 0
+GivesNothing words =
+    (race_numbers words ≡ None) × (log_options words ≡ None) × (shown_form words ≡ None) × (written_form words ≡ None)
+
+-- the parser finds no fault, and what is wanted is what the command that the words name asks for; or it tells a fault
+-- of the words, or that memory ran out
+abbrev pub ParseAnswer : List Text → Result (Option Wanted) Error → Type 0
+ParseAnswer words (Ok wanted) = (faults_at words ≡ []) × MeetsWanted (subcommand_of program words) wanted
 ParseAnswer words (Err e) = HasKind (faults_at words) e
 
 -- the error is no answer to who asked for a text, and memory didn't run out
@@ -93,16 +258,23 @@ abbrev pub IsMistake : Error → Type 0
 IsMistake e = (kind_of e ≢ DisplayHelp) × (kind_of e ≢ DisplayVersion) × (kind_of e ≢ OutOfMemory)
 
 -- the words of a run ask for a run, and no others do; a race is asked for by words without a fault that give its
--- numbers, and these are within their bounds; help and the version are given where the parser says that they are asked
--- for; all else is bad, and is what the parser says, or words of no race that it passes over
+-- numbers, and these are within their bounds; a log by words without a fault that give its options, what is shown by
+-- such that give a form, what is written by such that give a form and a name; help and the version are given where the
+-- parser says that they are asked for; all else is bad, and is what the parser says, or words that it passes over and
+-- that give nothing for any of these
 abbrev pub ArgumentsAnswer : List Text → Result Wanted ArgumentFault → Type 0
 ArgumentsAnswer words (Ok Run) = IsRun words
 ArgumentsAnswer words (Ok (Race nodes rounds)) =
     (faults_at words ≡ []) × (race_numbers words ≡ Some (nodes, rounds)) × IsRaceSize nodes rounds
+ArgumentsAnswer words (Ok (Log nodes shows_hidden is_graph)) =
+    (faults_at words ≡ []) × (log_options words ≡ Some (texts_of nodes.items, shows_hidden, is_graph))
+ArgumentsAnswer words (Ok (Show form)) = (faults_at words ≡ []) × (shown_form words ≡ Some form)
+ArgumentsAnswer words (Ok (Write form name)) =
+    (faults_at words ≡ []) × (written_form words ≡ Some (form, string_bytes name))
 ArgumentsAnswer words (Ok (Help e)) = IsAmong DisplayHelp (faults_at words)
 ArgumentsAnswer words (Ok (Version e)) = IsAmong DisplayVersion (faults_at words)
 ArgumentsAnswer words (Err (BadArguments e)) = ¬ (IsRun words) × IsMistake e
-    × (((faults_at words ≡ []) × (race_numbers words ≡ None)) ⊎ IsAmong (kind_of e) (faults_at words))
+    × (((faults_at words ≡ []) × GivesNothing words) ⊎ IsAmong (kind_of e) (faults_at words))
 ArgumentsAnswer words (Err NotText) = ⊥
 ArgumentsAnswer words (Err NoMemory) = Unit {0}
 

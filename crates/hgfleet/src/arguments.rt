@@ -1,15 +1,21 @@
 //! The arguments of the program.
 ghost use Rattle.std.specs.Prelude.{◌≡◌, ◌∷◌, ◌↔◌, [], map, List, ℕ, IsTrue, IfOk, IfErr, MatchResult, codes};
-ghost use Rattle.std.specs.Prelude.{Some, None, false};
-ghost use Rattle.clap.specs.Words.{app_of, found_of, kind_of, rows_of, subcommand_rows_of, Text};
+ghost use Rattle.std.specs.Prelude.{Some, None, true, false};
+ghost use Rattle.clap.specs.Words.{app_of, found_of, kind_of, new_app, rows_of, rule_of, subcommand_rows_of, Text};
 ghost use Rattle.clap.specs.declared.builder.command.Command.TheViews.{out-Command};
 ghost use Rattle.hgfleet.specs.declared.arguments.ArgumentFault.TheVariants.{NoMemory};
-ghost use Rattle.hgfleet.specs.Arguments.{program, race, IsRun, faults_at, ArgumentsAnswer, ParseAnswer};
-ghost use Rattle.hgfleet.specs.Arguments.{number_given, race_met, race_numbers};
+ghost use Rattle.hgfleet.specs.declared.arguments.Form.TheVariants.{Store, Message};
+ghost use Rattle.hgfleet.specs.Arguments.{ArgumentsAnswer, IsRun, MeetsWanted, ParseAnswer, faults_at};
+ghost use Rattle.hgfleet.specs.Arguments.{program_at, program_alone};
+ghost use Rattle.hgfleet.specs.Arguments.{race, log, show_at, write_at, flag_rule, form_rule, nodes_rule};
+ghost use Rattle.hgfleet.specs.Arguments.{IsRaceOf, number_given, numbers_given, race_numbers};
+ghost use Rattle.hgfleet.specs.Arguments.{IsLogOf, flag_given, log_given, log_options, names_given, texts_of};
+ghost use Rattle.hgfleet.specs.Arguments.{IsShowOf, form_given, form_named, shown_form};
+ghost use Rattle.hgfleet.specs.Arguments.{IsWriteOf, write_given, written_form};
 ghost use Rattle.hgfleet.specs.Arguments.{argument_fault_number, argument_fault_status, argument_fault_text};
 
 use clap::error::ErrorKind;
-use clap::{Arg, ArgMatches, Command, Error, value_parser};
+use clap::{Arg, ArgAction, ArgMatches, Command, Error, value_parser};
 use std::alloc::{AllocError, AllocFailed, Global};
 use std::fmt;
 
@@ -19,11 +25,40 @@ pub enum Wanted {
     /// That the script of standard input is run.
     Run,
     /// That so many nodes race for so many rounds.
-    Race { nodes: u8, rounds: u16 },
+    Race {
+        nodes: u8,
+        rounds: u16,
+    },
+    /// That the histories of these nodes are drawn as the script of standard input leaves them, those of all nodes
+    /// where none is named; with what is hidden, or as a graph for Graphviz.
+    Log {
+        nodes: Vec<String>,
+        shows_hidden: bool,
+        is_graph: bool,
+    },
+    /// That the bytes of standard input are read in this form and printed as text.
+    Show(Form),
+    /// That the store or the roots of the node of this name, or the message of this name, are written as bytes, as the
+    /// script of standard input leaves them.
+    Write {
+        form: Form,
+        name: String,
+    },
     /// The text of the help, which is the message of this answer.
     Help(Error),
     /// The version, which is the message of this answer.
     Version(Error),
+}
+
+/// What bytes are read or written as.
+#[derive(Clone, Copy, Debug, PartialEq, Eq)]
+pub enum Form {
+    /// A store of markers, in Mercurial's format 0.
+    Store,
+    /// The text of phase roots.
+    Roots,
+    /// A message between nodes.
+    Message,
 }
 
 /// Why the arguments ask for nothing.
@@ -138,13 +173,58 @@ Statuses: 0 done, 1 a text that can't be written, 2 wrong arguments, 3 want of m
 For example:
   hgfleet race --nodes 4 --rounds 3";
 
+// How a node's history is drawn.
+const LOG_HELP: &str = "\
+Does the script of standard input, and then draws the history of each node that is named, as it is at the end; where
+none is named, that of every node. The newest changeset comes first. Each has a line:
+  o  what is neither obsolete nor unstable
+  x  what is obsolete
+  *  what is unstable: an orphan, phase-divergent or content-divergent
+  %  what is hidden, with --hidden alone
+Lines lead from it to its parents. Beside it stand its short id, its label, its phase and its instabilities, and below
+an obsolete one what it was rewritten to. With --dot the same is a graph in the language of Graphviz.
+
+Statuses: 0 done, 1 a script that ended early, 2 wrong arguments, 3 want of memory.
+
+For example:
+  printf 'node A\\ncommit A a draft\\namend A a b\\n' | hgfleet log --hidden A";
+
+// What bytes can be shown.
+const SHOW_HELP: &str = "\
+Reads the bytes of standard input and prints them as text. What they may be:
+  store    a store of obsolescence markers in Mercurial's format 0, a line for each marker
+  roots    the text of phase roots, a line for each root
+  message  a message between nodes: its changesets, phases and markers
+Bytes that have another form are a fault, which is told with its place.
+
+Statuses: 0 done, 1 bytes of another form, 2 wrong arguments, 3 want of memory.
+
+For example:
+  hgfleet write store A < script | hgfleet show store";
+
+// What bytes can be written.
+const WRITE_HELP: &str = "\
+Does the script of standard input, and then writes bytes to standard output. What they may be:
+  store    the obsolescence markers of the node NAME, in Mercurial's format 0
+  roots    the text of the phase roots of the node NAME
+  message  the message that an offer of the script keeps as NAME
+
+Statuses: 0 done, 1 a script that ended early, 2 wrong arguments, 3 want of memory.
+
+For example:
+  printf 'node A\\ncommit A a draft\\namend A a b\\n' | hgfleet write store A > markers";
+
+// The words that name the forms.
+static FORMS: [&str; 3] = ["store", "roots", "message"];
+
 /// Reads the words of a command line, the program's name first. A run has the word `run` alone, and a race the number
-/// of its nodes, from 2 to 16, and that of its rounds, from 1 to 1,000.
+/// of its nodes, from 2 to 16, and that of its rounds, from 1 to 1,000. A log may have names of nodes and two flags,
+/// what is shown has a form, and what is written a form and a name.
 pub fn read_args(alloc: Global, words: &[&str]) -> Result<Wanted, ArgumentFault>
     ensures { ArgumentsAnswer (map (λ s. s.now) words.now) result }
 {
     match parse(alloc, words) {
-        Ok(Some((nodes, rounds))) => Ok(Wanted::Race { nodes, rounds }),
+        Ok(Some(wanted)) => Ok(wanted),
         Ok(None) => {
             if is_run(words) {
                 Ok(Wanted::Run)
@@ -184,25 +264,47 @@ fn further_words(alloc: Global) -> Result<Error, AllocError>
     )
 }
 
-// The numbers of a race, where the words are those of one.
-fn parse(alloc: Global, words: &[&str]) -> Result<Option<(u8, u16)>, Error>
+// What the words ask for, where that is more than a run.
+fn parse(alloc: Global, words: &[&str]) -> Result<Option<Wanted>, Error>
     ensures { ParseAnswer (map (λ s. s.now) words.now) result }
 {
-    let command = program(alloc)?;
+    let command = program(alloc, FORMS.as_slice())?;
     match command.try_get_matches_from(words) {
-        Ok(matches) => Ok(race_of(&matches)),
+        Ok(matches) => Ok(wanted_of(alloc, &matches)?),
         Err(error) => Err(error),
     }
 }
 
-// The numbers of a race, where that is the command that was met.
-fn race_of(matches: &ArgMatches<'_>) -> Option<(u8, u16)>
-    ensures { result ≡ race_met (subcommand_rows_of matches.now) }
+// What the command that was met asks for, where it is more than a run.
+fn wanted_of(alloc: Global, matches: &ArgMatches<'_>) -> Result<Option<Wanted>, AllocError>
+    ensures { IfOk result (MeetsWanted (subcommand_rows_of matches.now)) }
 {
-    let race = matches.subcommand_matches("race")?;
+    match matches.subcommand() {
+        Some((name, given)) => given_to(alloc, name, given),
+        None => Ok(None),
+    }
+}
+
+// What the command of this name asks for, by what is given to it.
+fn given_to(alloc: Global, name: &str, given: &ArgMatches<'_>) -> Result<Option<Wanted>, AllocError>
+    ensures { IfOk result (MeetsWanted (Some (name.now, rows_of (found_of given.now)))) }
+{
+    match name {
+        "race" => Ok(race_of(given)),
+        "log" => log_of(alloc, given),
+        "show" => Ok(show_of(given)),
+        "write" => write_of(alloc, given),
+        _ => Ok(None),
+    }
+}
+
+// The race of these numbers.
+fn race_of(race: &ArgMatches<'_>) -> Option<Wanted>
+    ensures { IsRaceOf (numbers_given (rows_of (found_of race.now))) result }
+{
     let nodes = nodes_of(race)?;
     let rounds = rounds_of(race)?;
-    Some((nodes, rounds))
+    Some(Wanted::Race { nodes, rounds })
 }
 
 // How many nodes race. The parser has refused the numbers out of range before.
@@ -225,21 +327,126 @@ fn rounds_of(race: &ArgMatches<'_>) -> Option<u16>
     }
 }
 
-fn program<'a>(alloc: Global) -> Result<Command<'a>, AllocError>
-    ensures { IfOk result (λ command. app_of command ≡ program) }
+// The log of these nodes, with these flags.
+fn log_of(alloc: Global, log: &ArgMatches<'_>) -> Result<Option<Wanted>, AllocError>
+    ensures { IfOk result (IsLogOf (log_given (rows_of (found_of log.now)))) }
 {
-    let run = Command::new(alloc, "run")
-        .about("Does the script of standard input and prints its reports")
-        .after_help(SCRIPT_HELP);
-    let command = Command::new(alloc, "hgfleet")
+    let nodes = names_of(alloc, log)?;
+    let shows_hidden = flag_of(log, "hidden");
+    let is_graph = flag_of(log, "dot");
+    Ok(Some(Wanted::Log {
+        nodes,
+        shows_hidden,
+        is_graph,
+    }))
+}
+
+// The names of nodes that are given.
+fn names_of(alloc: Global, log: &ArgMatches<'_>) -> Result<Vec<String>, AllocError>
+    ensures { IfOk result (λ names. texts_of names.items ≡ names_given (rows_of (found_of log.now))) }
+{
+    match log.get_strs("nodes") {
+        Some(names) => copies_of(alloc, names),
+        None => Ok(Vec::new(alloc)),
+    }
+}
+
+fn copies_of(alloc: Global, names: &[&str]) -> Result<Vec<String>, AllocError>
+    ensures { IfOk result (λ copies. texts_of copies.items ≡ map (λ s. s.now) names.now) }
+{
+    let mut copies = Vec::with_capacity(alloc, names.len())?;
+    for name in names {
+        copies.push(String::from_str(alloc, name)?)?;
+    }
+    Ok(copies)
+}
+
+// Whether the flag is given. `get_flag` promises nothing of a text that is neither `true` nor `false`.
+fn flag_of(log: &ArgMatches<'_>, flag: &str) -> bool
+    ensures { result ≡ flag_given flag.now (rows_of (found_of log.now)) }
+{
+    match log.get_one::<bool>(flag) {
+        Some(is_given) => is_given,
+        None => false,
+    }
+}
+
+// The form of the bytes that are shown.
+fn show_of(show: &ArgMatches<'_>) -> Option<Wanted>
+    ensures { IsShowOf (form_given (rows_of (found_of show.now))) result }
+{
+    let form = form_of(show)?;
+    Some(Wanted::Show(form))
+}
+
+// The form of the bytes that are written, and the name of whose they are.
+fn write_of(alloc: Global, write: &ArgMatches<'_>) -> Result<Option<Wanted>, AllocError>
+    ensures { IfOk result (IsWriteOf (write_given (rows_of (found_of write.now)))) }
+{
+    match form_of(write) {
+        Some(form) => match write.get_str("name") {
+            Some(given) => {
+                let name = String::from_str(alloc, given)?;
+                Ok(Some(Wanted::Write { form, name }))
+            }
+            None => Ok(None),
+        },
+        None => Ok(None),
+    }
+}
+
+// The form that is given. The parser has refused other words before.
+fn form_of(given: &ArgMatches<'_>) -> Option<Form>
+    ensures { result ≡ form_given (rows_of (found_of given.now)) }
+{
+    match given.get_str("form") {
+        Some(word) => form_named(word),
+        None => None,
+    }
+}
+
+// The form of this name.
+fn form_named(word: &str) -> Option<Form>
+    ensures { result ≡ form_named word.now }
+{
+    match word {
+        "store" => Some(Form::Store),
+        "roots" => Some(Form::Roots),
+        "message" => Some(Form::Message),
+        _ => None,
+    }
+}
+
+fn program<'a>(alloc: Global, forms: &'a [&'a str]) -> Result<Command<'a>, AllocError>
+    ensures { IfOk result (λ command. app_of command ≡ program_at forms.entry) }
+{
+    let command = program_alone(alloc)
+        .subcommand(run(alloc))?
+        .subcommand(race(alloc)?)?
+        .subcommand(log(alloc)?)?
+        .subcommand(show(alloc, forms)?)?
+        .subcommand(write(alloc, forms)?)?;
+    Ok(command)
+}
+
+// The program without its commands.
+fn program_alone<'a>(alloc: Global) -> Command<'a>
+    ensures { app_of result ≡ program_alone }
+{
+    Command::new(alloc, "hgfleet")
         .about("Runs scripts of a fleet of Mercurial repositories")
         .version(VERSION)
         .after_help(SCRIPT_HELP)
         .subcommand_required(true)
         .arg_required_else_help(false)
-        .subcommand(run)?
-        .subcommand(race(alloc)?)?;
-    Ok(command)
+}
+
+fn run<'a>(alloc: Global) -> Command<'a>
+    ensures { (app_of result ≡ new_app (codes "run")) × ((out-Command result).has_globals ≡ false) }
+{
+    Command::new(alloc, "run")
+        .about("Does the script of standard input and prints its reports")
+        .after_help(SCRIPT_HELP)
 }
 
 fn race<'a>(alloc: Global) -> Result<Command<'a>, AllocError>
@@ -262,6 +469,72 @@ fn race<'a>(alloc: Global) -> Result<Command<'a>, AllocError>
         .after_help(RACE_HELP)
         .arg(nodes)?
         .arg(rounds)
+}
+
+fn log<'a>(alloc: Global) -> Result<Command<'a>, AllocError>
+    ensures { IfOk result (λ command. (app_of command ≡ log) × ((out-Command command).has_globals ≡ false)) }
+{
+    Command::new(alloc, "log")
+        .about("Draws the histories of the nodes of a script")
+        .after_help(LOG_HELP)
+        .arg(flag(alloc, "hidden", "Draws what is hidden, too"))?
+        .arg(flag(alloc, "dot", "Prints a graph in the language of Graphviz"))?
+        .arg(nodes_argument(alloc))
+}
+
+fn flag<'a>(alloc: Global, name: &'a str, help: &'a str) -> Arg<'a>
+    ensures { (rule_of result ≡ flag_rule name.entry.now) × (result.global ≡ false) }
+{
+    Arg::new(alloc, name)
+        .long(name)
+        .action(ArgAction::SetTrue)
+        .help(help)
+}
+
+// The names of nodes, any number of them.
+fn nodes_argument<'a>(alloc: Global) -> Arg<'a>
+    ensures { (rule_of result ≡ nodes_rule) × (result.global ≡ false) }
+{
+    Arg::new(alloc, "nodes")
+        .value_name("NODE")
+        .num_args(0..)
+        .help("The nodes whose histories are drawn, all where none is named")
+}
+
+fn show<'a>(alloc: Global, forms: &'a [&'a str]) -> Result<Command<'a>, AllocError>
+    ensures { IfOk result (λ command.
+        (app_of command ≡ show_at forms.entry) × ((out-Command command).has_globals ≡ false)) }
+{
+    Command::new(alloc, "show")
+        .about("Prints the bytes of markers, phase roots or a message as text")
+        .after_help(SHOW_HELP)
+        .arg(form_argument(alloc, forms))
+}
+
+fn write<'a>(alloc: Global, forms: &'a [&'a str]) -> Result<Command<'a>, AllocError>
+    ensures { IfOk result (λ command.
+        (app_of command ≡ write_at forms.entry) × ((out-Command command).has_globals ≡ false)) }
+{
+    let name = Arg::new(alloc, "name")
+        .value_name("NAME")
+        .required(true)
+        .help("The node, or the message");
+    Command::new(alloc, "write")
+        .about("Writes markers, phase roots or a message of a script as bytes")
+        .after_help(WRITE_HELP)
+        .arg(form_argument(alloc, forms))?
+        .arg(name)
+}
+
+// The form of bytes, which must be given.
+fn form_argument<'a>(alloc: Global, forms: &'a [&'a str]) -> Arg<'a>
+    ensures { (rule_of result ≡ form_rule forms.entry) × (result.global ≡ false) }
+{
+    Arg::new(alloc, "form")
+        .value_name("FORM")
+        .required(true)
+        .value_parser(forms)
+        .help("What the bytes are")
 }
 
 /// The words by which help and the version are asked for, and some that ask for nothing.
@@ -293,4 +566,32 @@ pub fn what_words_ask_for()
         ≡ ErrorKind.MissingRequiredArgument ∷ [] }
     ensures help_of_race { (name : Text)
         → faults_at (name ∷ codes "race" ∷ codes "--help" ∷ []) ≡ ErrorKind.DisplayHelp ∷ [] }
+    ensures log { (name : Text) → faults_at (name ∷ codes "log" ∷ []) ≡ [] }
+    ensures log_options { (name : Text) → log_options (name ∷ codes "log" ∷ []) ≡ Some ([], false, false) }
+    ensures log_of_two { (name : Text) → faults_at (name ∷ codes "log" ∷ codes "--hidden" ∷ codes "A" ∷ codes "B" ∷ [])
+        ≡ [] }
+    ensures options_of_two { (name : Text) → log_options (name ∷ codes "log" ∷ codes "--hidden" ∷ codes "A"
+        ∷ codes "B" ∷ []) ≡ Some (codes "A" ∷ codes "B" ∷ [], true, false) }
+    ensures graph { (name : Text) → log_options (name ∷ codes "log" ∷ codes "A" ∷ codes "--dot" ∷ [])
+        ≡ Some (codes "A" ∷ [], false, true) }
+    ensures help_of_log { (name : Text)
+        → faults_at (name ∷ codes "log" ∷ codes "--help" ∷ []) ≡ ErrorKind.DisplayHelp ∷ [] }
+    ensures show_store { (name : Text) → faults_at (name ∷ codes "show" ∷ codes "store" ∷ []) ≡ [] }
+    ensures shown_store { (name : Text) → shown_form (name ∷ codes "show" ∷ codes "store" ∷ []) ≡ Some Store }
+    ensures show_nothing { (name : Text)
+        → faults_at (name ∷ codes "show" ∷ codes "nothing" ∷ []) ≡ ErrorKind.InvalidValue ∷ [] }
+    ensures show_alone { (name : Text)
+        → faults_at (name ∷ codes "show" ∷ []) ≡ ErrorKind.MissingRequiredArgument ∷ [] }
+    ensures help_of_show { (name : Text)
+        → faults_at (name ∷ codes "show" ∷ codes "--help" ∷ []) ≡ ErrorKind.DisplayHelp ∷ [] }
+    ensures write_store { (name : Text)
+        → faults_at (name ∷ codes "write" ∷ codes "store" ∷ codes "A" ∷ []) ≡ [] }
+    ensures written_store { (name : Text)
+        → written_form (name ∷ codes "write" ∷ codes "store" ∷ codes "A" ∷ []) ≡ Some (Store, codes "A") }
+    ensures written_message { (name : Text)
+        → written_form (name ∷ codes "write" ∷ codes "message" ∷ codes "m" ∷ []) ≡ Some (Message, codes "m") }
+    ensures write_no_name { (name : Text)
+        → faults_at (name ∷ codes "write" ∷ codes "store" ∷ []) ≡ ErrorKind.MissingRequiredArgument ∷ [] }
+    ensures help_of_write { (name : Text)
+        → faults_at (name ∷ codes "write" ∷ codes "--help" ∷ []) ≡ ErrorKind.DisplayHelp ∷ [] }
 {}

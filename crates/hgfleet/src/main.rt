@@ -1,7 +1,7 @@
 //! `hgfleet` runs scripts of a fleet of Mercurial repositories, and races of nodes that threads share.
 //!
 //! The arguments say what is wanted; a script is run by `hg_script`, from standard input to standard output, and a race
-//! by `hg_race`. The status says what came of it.
+//! by `hg_race`. The status says what came of it. What is drawn, shown and written is asked for and not done yet.
 #![tactic(auto)]
 
 ghost use Rattle.std.specs.Prelude.{◌≤◌, IfOk};
@@ -24,6 +24,7 @@ fn main(rt: HostRuntime) -> ExitCode {
     match read_wanted(&rt) {
         Ok(Wanted::Run) => finish(&rt, run(&rt)),
         Ok(Wanted::Race { nodes, rounds }) => finish(&rt, race(&rt, nodes, rounds)),
+        Ok(Wanted::Log { .. }) | Ok(Wanted::Show(_)) | Ok(Wanted::Write { .. }) => ExitCode::SUCCESS,
         Ok(Wanted::Help(text)) => finish(&rt, show(&rt, &text)),
         Ok(Wanted::Version(text)) => finish(&rt, show(&rt, &text)),
         Err(fault) => {

@@ -1,16 +1,33 @@
-use Rattle.std.proofs.Common.{rules, ap, ap₂, codes, ◌≡◌, ◌∙◌, true}
-use Rattle.clap.specs.Words.{App, app_of, new_app, with_subcommand}
+use Rattle.std.proofs.Common.{ap, ap₂, codes, ◌≡◌, ◌∙◌}
+use Rattle.clap.specs.Words.{App, Shape, app_of, new_app, with_subcommand}
+use Rattle.hgfleet.specs.Arguments.{log, program_alone, race, show_at}
 use Rattle.hgfleet.proofs.arguments.program.Goals as goal
 
-abbrev bare : App
-bare = let a = new_app (codes "hgfleet") in
-    record a { top = record a.top { has_version = true; subcommand_required = true } }
+abbrev top_of : App → Shape
+top_of a = a.top
+
+abbrev with_run : App
+with_run = with_subcommand program_alone (new_app (codes "run")).top
+
+abbrev with_race : App
+with_race = with_subcommand with_run race.top
+
+abbrev with_log : App
+with_log = with_subcommand with_race log.top
 
 pub returns : goal.returns
 returns c =
-    let run_is : app_of c.after_help-run.result ≡ new_app (codes "run") = search rules in
-    let bare_is : app_of c.arg_required_else_help.result ≡ bare = search rules in
-    let with_run : app_of c.in_ok-subcommand.field-0 ≡ with_subcommand bare (new_app (codes "run")).top =
-    c.in_ok-subcommand.ensures.shape (search rules) ∙ ap₂ with_subcommand bare_is (ap (λ (a : App). a.top) run_is) in
-    c.in_ok-command.ensures.shape (search rules)
-    ∙ ap₂ with_subcommand with_run (ap (λ (a : App). a.top) c.in_ok-race.ensures.0)
+    let run_in : app_of c.in_ok-subcommand.field-0 ≡ with_run =
+    c.in_ok-subcommand.ensures.shape c.run.ensures.1
+    ∙ ap₂ with_subcommand c.program_alone.ensures (ap top_of c.run.ensures.0) in
+    let race_in : app_of c.in_ok-subcommand-2.field-0 ≡ with_race =
+    c.in_ok-subcommand-2.ensures.shape c.in_ok-race.ensures.1
+    ∙ ap₂ with_subcommand run_in (ap top_of c.in_ok-race.ensures.0) in
+    let log_in : app_of c.in_ok-subcommand-3.field-0 ≡ with_log =
+    c.in_ok-subcommand-3.ensures.shape c.in_ok-log.ensures.1
+    ∙ ap₂ with_subcommand race_in (ap top_of c.in_ok-log.ensures.0) in
+    let show_in : app_of c.in_ok-subcommand-4.field-0 ≡ with_subcommand with_log (show_at c.args.forms).top =
+    c.in_ok-subcommand-4.ensures.shape c.in_ok-show.ensures.1
+    ∙ ap₂ with_subcommand log_in (ap top_of c.in_ok-show.ensures.0) in
+    c.in_ok-command.ensures.shape c.in_ok-write.ensures.1
+    ∙ ap₂ with_subcommand show_in (ap top_of c.in_ok-write.ensures.0)

@@ -1,15 +1,22 @@
-use Rattle.std.proofs.Common.{rules, map, inr, sym, ◌≢◌}
+use Rattle.std.proofs.Common.{rules, map, inl, inr, ◌≢◌}
 use Rattle.clap.specs.Words.{kind_of}
 use Rattle.clap.specs.declared.error.kind.ErrorKind.TheVariants.{OutOfMemory}
 use Rattle.hgfleet.proofs.ArgumentLemmas.{not_run, is_told}
-use Rattle.hgfleet.proofs.NumberLemmas.{race_size}
+use Rattle.hgfleet.proofs.AnswerLemmas.{answer_met, nothing_met}
 use Rattle.hgfleet.proofs.arguments.read_args.Goals as goal
 
 pub returns-in-Ok-Some : goal.returns-in-Ok-Some
 returns-in-Ok-Some c =
-    let words = map (λ s. s.now) c.args.words.now in
-    let gives = sym (rw c.in-Ok-Some.field-0-is at c.in-Ok-Some.ensures.1) in
-    (c.in-Ok-Some.ensures.0, gives, race_size words _ _ gives)
+    answer_met (map (λ s. s.now) c.args.words.now) c.in-Ok-Some.wanted c.in-Ok-Some.field-0 c.in-Ok-Some.field-0-is
+    c.in-Ok-Some.ensures
+
+pub returns-in_ok-further_words-in-Ok-None : goal.returns-in_ok-further_words-in-Ok-None
+returns-in_ok-further_words-in-Ok-None c = (
+  search rules,
+  (search rules, search rules, search rules),
+  inl (nothing_met (map
+      (λ s. s.now) c.args.words.now) c.in-Ok-None.field-0 c.in-Ok-None.field-0-is c.in-Ok-None.ensures),
+)
 
 pub returns-in_default : goal.returns-in_default
 returns-in_default c =

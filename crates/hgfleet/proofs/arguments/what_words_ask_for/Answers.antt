@@ -2,6 +2,10 @@ use Rattle.hgfleet.proofs.ArgumentLemmas.{at_help, at_short_help, at_help_of_run
 use Rattle.hgfleet.proofs.ArgumentLemmas.{at_more, at_run_numbers, at_race, at_race_numbers}
 use Rattle.hgfleet.proofs.ArgumentLemmas.{at_longest_race, at_longest_numbers, at_no_rounds, at_help_of_race}
 use Rattle.hgfleet.proofs.ArgumentLemmas.{at_too_many_nodes, at_too_few_nodes, at_negative_nodes}
+use Rattle.hgfleet.proofs.RowLemmas.{at_log, at_log_options, at_log_of_two, at_options_of_two, at_graph}
+use Rattle.hgfleet.proofs.RowLemmas.{at_help_of_log, at_show_store, at_shown_store, at_show_nothing}
+use Rattle.hgfleet.proofs.RowLemmas.{at_show_alone, at_help_of_show, at_write_store, at_written_store}
+use Rattle.hgfleet.proofs.RowLemmas.{at_written_message, at_write_no_name, at_help_of_write}
 use Rattle.hgfleet.proofs.arguments.what_words_ask_for.Goals as goal
 
 pub returns-clause-help : goal.returns-clause-help
@@ -54,3 +58,51 @@ returns-clause-no_rounds c = at_no_rounds
 
 pub returns-clause-help_of_race : goal.returns-clause-help_of_race
 returns-clause-help_of_race c = at_help_of_race
+
+pub returns-clause-log : goal.returns-clause-log
+returns-clause-log c = at_log
+
+pub returns-clause-log_options : goal.returns-clause-log_options
+returns-clause-log_options c = at_log_options
+
+pub returns-clause-log_of_two : goal.returns-clause-log_of_two
+returns-clause-log_of_two c = at_log_of_two
+
+pub returns-clause-options_of_two : goal.returns-clause-options_of_two
+returns-clause-options_of_two c = at_options_of_two
+
+pub returns-clause-graph : goal.returns-clause-graph
+returns-clause-graph c = at_graph
+
+pub returns-clause-help_of_log : goal.returns-clause-help_of_log
+returns-clause-help_of_log c = at_help_of_log
+
+pub returns-clause-show_store : goal.returns-clause-show_store
+returns-clause-show_store c = at_show_store
+
+pub returns-clause-shown_store : goal.returns-clause-shown_store
+returns-clause-shown_store c = at_shown_store
+
+pub returns-clause-show_nothing : goal.returns-clause-show_nothing
+returns-clause-show_nothing c = at_show_nothing
+
+pub returns-clause-show_alone : goal.returns-clause-show_alone
+returns-clause-show_alone c = at_show_alone
+
+pub returns-clause-help_of_show : goal.returns-clause-help_of_show
+returns-clause-help_of_show c = at_help_of_show
+
+pub returns-clause-write_store : goal.returns-clause-write_store
+returns-clause-write_store c = at_write_store
+
+pub returns-clause-written_store : goal.returns-clause-written_store
+returns-clause-written_store c = at_written_store
+
+pub returns-clause-written_message : goal.returns-clause-written_message
+returns-clause-written_message c = at_written_message
+
+pub returns-clause-write_no_name : goal.returns-clause-write_no_name
+returns-clause-write_no_name c = at_write_no_name
+
+pub returns-clause-help_of_write : goal.returns-clause-help_of_write
+returns-clause-help_of_write c = at_help_of_write

@@ -1,0 +1,78 @@
+-- What the words of a log, of what is shown and of what is written ask for, where they are written out.
+use Rattle.std.proofs.Common.{◌≡◌, ◌∷◌, [], codes, refl, true, false, Some}
+use Rattle.clap.specs.Words.{Text}
+use Rattle.clap.specs.declared.error.kind.ErrorKind.TheVariants.{DisplayHelp, InvalidValue, MissingRequiredArgument}
+use Rattle.clap.proofs.OnLiterals.{clap_on_literals}
+use Rattle.hgfleet.specs.Arguments.{faults_at, log_options, shown_form, written_form}
+use Rattle.hgfleet.specs.declared.arguments.Form.TheVariants.{Store, Message}
+
+pub at_log : (name : Text) → faults_at (name ∷ codes "log" ∷ []) ≡ []
+unfolding clap_on_literals faults_at
+at_log name = refl
+
+pub at_log_options : (name : Text) → log_options (name ∷ codes "log" ∷ []) ≡ Some ([], false, false)
+unfolding clap_on_literals log_options
+at_log_options name = refl
+
+pub at_log_of_two : (name : Text)
+    → faults_at (name ∷ codes "log" ∷ codes "--hidden" ∷ codes "A" ∷ codes "B" ∷ []) ≡ []
+unfolding clap_on_literals faults_at
+at_log_of_two name = refl
+
+pub at_options_of_two : (name : Text)
+    → log_options (name ∷ codes "log" ∷ codes "--hidden" ∷ codes "A" ∷ codes "B" ∷ [])
+    ≡ Some (codes "A" ∷ codes "B" ∷ [], true, false)
+unfolding clap_on_literals log_options
+at_options_of_two name = refl
+
+pub at_graph : (name : Text)
+    → log_options (name ∷ codes "log" ∷ codes "A" ∷ codes "--dot" ∷ []) ≡ Some (codes "A" ∷ [], false, true)
+unfolding clap_on_literals log_options
+at_graph name = refl
+
+pub at_help_of_log : (name : Text) → faults_at (name ∷ codes "log" ∷ codes "--help" ∷ []) ≡ DisplayHelp ∷ []
+unfolding clap_on_literals faults_at
+at_help_of_log name = refl
+
+pub at_show_store : (name : Text) → faults_at (name ∷ codes "show" ∷ codes "store" ∷ []) ≡ []
+unfolding clap_on_literals faults_at
+at_show_store name = refl
+
+pub at_shown_store : (name : Text) → shown_form (name ∷ codes "show" ∷ codes "store" ∷ []) ≡ Some Store
+unfolding clap_on_literals shown_form
+at_shown_store name = refl
+
+pub at_show_nothing : (name : Text) → faults_at (name ∷ codes "show" ∷ codes "nothing" ∷ []) ≡ InvalidValue ∷ []
+unfolding clap_on_literals faults_at
+at_show_nothing name = refl
+
+pub at_show_alone : (name : Text) → faults_at (name ∷ codes "show" ∷ []) ≡ MissingRequiredArgument ∷ []
+unfolding clap_on_literals faults_at
+at_show_alone name = refl
+
+pub at_help_of_show : (name : Text) → faults_at (name ∷ codes "show" ∷ codes "--help" ∷ []) ≡ DisplayHelp ∷ []
+unfolding clap_on_literals faults_at
+at_help_of_show name = refl
+
+pub at_write_store : (name : Text) → faults_at (name ∷ codes "write" ∷ codes "store" ∷ codes "A" ∷ []) ≡ []
+unfolding clap_on_literals faults_at
+at_write_store name = refl
+
+pub at_written_store : (name : Text)
+    → written_form (name ∷ codes "write" ∷ codes "store" ∷ codes "A" ∷ []) ≡ Some (Store, codes "A")
+unfolding clap_on_literals written_form
+at_written_store name = refl
+
+pub at_written_message : (name : Text)
+    → written_form (name ∷ codes "write" ∷ codes "message" ∷ codes "m" ∷ []) ≡ Some (Message, codes "m")
+unfolding clap_on_literals written_form
+at_written_message name = refl
+
+pub at_write_no_name : (name : Text)
+    → faults_at (name ∷ codes "write" ∷ codes "store" ∷ []) ≡ MissingRequiredArgument ∷ []
+unfolding clap_on_literals faults_at
+at_write_no_name name = refl
+
+pub at_help_of_write : (name : Text) → faults_at (name ∷ codes "write" ∷ codes "--help" ∷ []) ≡ DisplayHelp ∷ []
+unfolding clap_on_literals faults_at
+at_help_of_write name = refl
