@@ -1,0 +1,27 @@
+//! Reading stores of markers, texts of roots and messages as text, and writing what a node holds as such bytes.
+//!
+//! [`show`] reads bytes to their end and prints a line for each thing that they say. A marker is printed as
+//! `hg debugobsolete` prints one: the predecessor, the successors, the flags in hexadecimal digits, the parents of the
+//! predecessor where they are recorded, the date in Mercurial's default form, and the other metadata. Bytes that aren't
+//! printable ASCII are escaped. What bytes are at fault is told as the library of their format tells it.
+//!
+//! [`write_store`], [`write_roots`] and [`write_message`] write the bytes of these formats.
+#![tactic(auto)]
+
+mod date;
+mod fault;
+mod form;
+mod input;
+mod line;
+mod marker;
+mod message;
+mod roots;
+mod showing;
+mod store;
+mod writing;
+
+pub use fault::{ShowFault, WriteFault};
+pub use form::Form;
+pub use input::INPUT_LIMIT;
+pub use showing::{show, show_bytes};
+pub use writing::{write_message, write_roots, write_store};
