@@ -20,11 +20,12 @@ use std::io::Write;
 /// Draws the history of a replica as it is now, under the pins of its node, as a digraph in the language of Graphviz
 /// under a name: what is visible, or all that is held where `shows_hidden` is true.
 ///
-/// A changeset is a box, named by the first 12 digits of its id, so that two whose ids begin alike are one box. Its label
-/// has the id and, below it, the last line of the changeset's text, whatever bytes it holds. It is black where it is
-/// public, blue where it is a draft, red where it is secret, and gray where it is obsolete; what was pruned has its
-/// corners cut. A solid edge leads to each parent, and a dashed one from what was rewritten to each successor. Markers are
-/// those that rewrote what is drawn, or all where `shows_hidden` is true. What they name that isn't drawn is a dotted box:
+/// A changeset is a box, named by the first 12 digits of its id, so that two whose ids begin alike are one box. Its
+/// label has the id and, below it, the last line of the changeset's text, whatever bytes it holds. It is black where it
+/// is public, blue where it is a draft, red where it is secret, and gray where it is obsolete; what was pruned has its
+/// corners cut. A solid edge leads to each parent, and a dashed one from what was rewritten to each successor. Markers
+/// are those that rewrote what is drawn, or all where `shows_hidden` is true. What they name that isn't drawn is a
+/// dotted box:
 ///
 /// ```text
 /// digraph "A" {
@@ -38,9 +39,9 @@ use std::io::Write;
 /// }
 /// ```
 ///
-/// It costs what is written, and a look at each marker that is held. [`DrawFault::Write`] comes where the writer refuses
-/// a line, [`DrawFault::NoMemory`] only where memory is refused for a line or for the ids that aren't drawn; the lines
-/// before stay written.
+/// It costs what is written, and a look at each marker that is held. [`DrawFault::Write`] comes where the writer
+/// refuses a line, [`DrawFault::NoMemory`] only where memory is refused for a line or for the ids that aren't drawn;
+/// the lines before stay written.
 pub fn draw_graph<W: Write>(
     alloc: Global,
     name: &[u8],

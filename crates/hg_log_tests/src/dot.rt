@@ -44,7 +44,8 @@ fn what_isnt_held_is_dotted_and_labels_are_quoted(rt: HostRuntime) {
     let mut kept = empty(alloc).expect(&rt, "memory");
     pruned(alloc, &mut kept).expect(&rt, "memory");
     let graph = b"digraph \"A\" {\n    node [shape=box];\n    \
-            \"e92259e19409\" [label=\"e92259e19409\\n\\\\\\\"\\\\\\\\\\\\t\\\\xff\", color=gray, style=diagonals];\n    \
+            \"e92259e19409\" [label=\"e92259e19409\\n\\\\\\\"\\\\\\\\\\\\t\\\\xff\", \
+            color=gray, style=diagonals];\n    \
             \"111111111111\" [label=\"111111111111\", style=dotted];\n    \
             \"222222222222\" [label=\"222222222222\", style=dotted];\n    \
             \"111111111111\" -> \"222222222222\" [style=dashed, constraint=false];\n\
