@@ -1,5 +1,5 @@
 -- What ends a script: the faults of names, of lines, and of whole scripts.
-use Rattle.std.proofs.Common.{◌≡◌, ◌⊎◌, inl, inr, ℕ, ◌+◌, ◌≤◌, ◌<◌, List, [], ◌∷◌, ◌++◌, length, get_or, map, slice_get}
+use Rattle.std.proofs.Common.{◌≡◌, ◌⊎◌, inl, inr, ℕ, ◌+◌, ◌≤◌, ◌<◌, List, [], ◌∷◌, ◌++◌, length, get_or, slice_get}
 use Rattle.std.proofs.Common.{Bool, true, false, IsTrue, Option, Some, None, IsSome, is_some, IfSome, IsErrOf}
 use Rattle.std.proofs.Common.{Result, Ok, Err, IfOk, IfErr, refl, sym, ap, subst, ◌∙◌, arith, zero-add, zero, suc}
 use Rattle.std.proofs.Common.{true≢false}
@@ -419,7 +419,12 @@ of_script P known text (Err e) script h = tt
 
 -- the world of the fleet that a script leaves is the one that it leaves
 pub left_world : (known : Option Text) (fleet : Fleet) → IsLeftFleet known fleet → IsLeftWorld known fleet.world
-left_world known fleet (text, script, run, e) = (text, script, run)
+left_world known fleet (text, script, (run, e)) = (text, script, run)
+
+pub left_as : (known : Option Text) (fleet : Fleet) (world : Snapshot KeptValue) → IsLeftFleet known fleet
+    → world ≡ fleet.world → IsLeftWorld known world
+left_as known fleet world left e =
+    subst (λ (w : Snapshot KeptValue). IsLeftWorld known w) (sym e) (left_world known fleet left)
 
 -- what stopped the text that was read is what stopped the script
 stop_of : (known : Option Text) (text : Text) (fault : RunFault) → IsScriptOf known text

@@ -30,8 +30,9 @@ use Rattle.hg_script.specs.Events.{Trace, PeerEvent, PeerAnswer, no_trace, joine
 use Rattle.hg_script.specs.Events.{asking}
 use Rattle.hg_script.specs.Outputs.{Printed}
 use Rattle.hg_script.specs.Printing.{answer_line, answer_lines, agree_line, IsDone, PrintsTaken, PrintsLines, PrintsRun}
+use Rattle.hg_script.specs.Printing.{PrintsScript}
 use Rattle.hg_script.specs.Reports.{IsReport}
-use Rattle.hg_script.specs.Scripts.{places, node_named, Does, DoesWords, DoesLines, IsNewFleet}
+use Rattle.hg_script.specs.Scripts.{places, node_named, Does, DoesWords, DoesLines, IsNewFleet, IsRunTo}
 use Rattle.hg_script.specs.Words.{has_node}
 
 -- two runs, one after the other, are one
@@ -234,3 +235,26 @@ printed_run compose text start t end output held holds new prints grew =
       prints = prints;
       printed = grew;
     }
+
+-- the lines of a script, done from a new fleet on, are a run that leaves the last fleet
+pub run_to : Compose → (text : Text) (start : Fleet) (t : Trace) (end : Fleet) (output : Text)
+    → IsNewFleet (count_by has_node (lines text)) start → PrintsLines 1 start (lines text) t end output → IsRunTo text end
+run_to compose text start t end output new prints =
+    let did = does_printed 1 start (lines text) t end output prints in (
+      record {
+        start = start;
+        is_new = new;
+        trace = t;
+        end = end;
+        did = did;
+        ended = refl;
+        ran = does_lines_ran compose start (lines text) t end did;
+      },
+      refl,
+    )
+
+-- what is printed is told of the world under any name
+pub printed_of : (known : Option Text) (world other : Snapshot KeptValue) (held holds : Option Text)
+    → PrintsScript known world held holds → other ≡ world → PrintsScript known other held holds
+printed_of known world other held holds h e =
+    subst (λ (w : Snapshot KeptValue). PrintsScript known w held holds) (sym e) h

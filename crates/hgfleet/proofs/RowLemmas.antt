@@ -4,7 +4,7 @@ use Rattle.clap.specs.Words.{Text}
 use Rattle.clap.specs.declared.error.kind.ErrorKind.TheVariants.{DisplayHelp, InvalidValue, MissingRequiredArgument}
 use Rattle.clap.proofs.OnLiterals.{clap_on_literals}
 use Rattle.hgfleet.specs.Arguments.{faults_at, log_options, shown_form, written_form}
-use Rattle.hgfleet.specs.declared.arguments.Form.TheVariants.{Store, Message}
+use Rattle.hg_show.specs.declared.form.Form.TheVariants.{Store, Message}
 
 pub at_log : (name : Text) → faults_at (name ∷ codes "log" ∷ []) ≡ []
 unfolding clap_on_literals faults_at

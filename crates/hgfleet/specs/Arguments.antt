@@ -15,8 +15,8 @@ use Rattle.clap.specs.declared.builder.action.ArgAction.TheVariants.{SetTrue}
 use Rattle.clap.specs.declared.builder.value_parser.ValueParser.TheVariants.{Names, Signed}
 use Rattle.clap.specs.declared.error.Error.{Error}
 use Rattle.clap.specs.declared.error.kind.ErrorKind.TheVariants.{DisplayHelp, DisplayVersion, OutOfMemory}
-use Rattle.hgfleet.specs.declared.arguments.Form.{Form}
-use Rattle.hgfleet.specs.declared.arguments.Form.TheVariants.{Store, Roots, Message}
+use Rattle.hg_show.specs.declared.form.Form.{Form}
+use Rattle.hg_show.specs.declared.form.Form.TheVariants.{Store, Roots, Message}
 use Rattle.hgfleet.specs.declared.arguments.Wanted.{Wanted}
 use Rattle.hgfleet.specs.declared.arguments.Wanted.TheVariants.{Run, Race, Log, Show, Write, Help, Version}
 use Rattle.hgfleet.specs.declared.arguments.ArgumentFault.{ArgumentFault}

@@ -4,7 +4,7 @@ ghost use Rattle.std.specs.Prelude.{Some, None, true, false};
 ghost use Rattle.clap.specs.Words.{app_of, found_of, kind_of, new_app, rows_of, rule_of, subcommand_rows_of, Text};
 ghost use Rattle.clap.specs.declared.builder.command.Command.TheViews.{out-Command};
 ghost use Rattle.hgfleet.specs.declared.arguments.ArgumentFault.TheVariants.{NoMemory};
-ghost use Rattle.hgfleet.specs.declared.arguments.Form.TheVariants.{Store, Message};
+ghost use Rattle.hg_show.specs.declared.form.Form.TheVariants.{Store, Message};
 ghost use Rattle.hgfleet.specs.Arguments.{ArgumentsAnswer, IsRun, MeetsWanted, ParseAnswer, faults_at};
 ghost use Rattle.hgfleet.specs.Arguments.{program_at, program_alone};
 ghost use Rattle.hgfleet.specs.Arguments.{race, log, show_at, write_at, flag_rule, form_rule, nodes_rule};
@@ -16,6 +16,7 @@ ghost use Rattle.hgfleet.specs.Arguments.{argument_fault_number, argument_fault_
 
 use clap::error::ErrorKind;
 use clap::{Arg, ArgAction, ArgMatches, Command, Error, value_parser};
+use hg_show::Form;
 use std::alloc::{AllocError, AllocFailed, Global};
 use std::fmt;
 
@@ -48,17 +49,6 @@ pub enum Wanted {
     Help(Error),
     /// The version, which is the message of this answer.
     Version(Error),
-}
-
-/// What bytes are read or written as.
-#[derive(Clone, Copy, Debug, PartialEq, Eq)]
-pub enum Form {
-    /// A store of markers, in Mercurial's format 0.
-    Store,
-    /// The text of phase roots.
-    Roots,
-    /// A message between nodes.
-    Message,
 }
 
 /// Why the arguments ask for nothing.
@@ -184,7 +174,7 @@ none is named, that of every node. The newest changeset comes first. Each has a 
 Lines lead from it to its parents. Beside it stand its short id, its label, its phase and its instabilities, and below
 an obsolete one what it was rewritten to. With --dot the same is a graph in the language of Graphviz.
 
-Statuses: 0 done, 1 a script that ended early, 2 wrong arguments, 3 want of memory.
+Statuses: 0 done, 1 a script that ended early or leaves no such name, 2 wrong arguments, 3 want of memory.
 
 For example:
   printf 'node A\\ncommit A a draft\\namend A a b\\n' | hgfleet log --hidden A";
@@ -209,7 +199,7 @@ Does the script of standard input, and then writes bytes to standard output. Wha
   roots    the text of the phase roots of the node NAME
   message  the message that an offer of the script keeps as NAME
 
-Statuses: 0 done, 1 a script that ended early, 2 wrong arguments, 3 want of memory.
+Statuses: 0 done, 1 a script that ended early or leaves no such name, 2 wrong arguments, 3 want of memory.
 
 For example:
   printf 'node A\\ncommit A a draft\\namend A a b\\n' | hgfleet write store A > markers";

@@ -1,32 +1,47 @@
-//! `hgfleet` runs scripts of a fleet of Mercurial repositories, and races of nodes that threads share.
+//! `hgfleet` runs scripts of a fleet of Mercurial repositories, draws the histories that they leave, shows and writes
+//! bytes of Mercurial's formats, and lets nodes that threads share race.
 //!
-//! The arguments say what is wanted; a script is run by `hg_script`, from standard input to standard output, and a race
-//! by `hg_race`. The status says what came of it. What is drawn, shown and written is asked for and not done yet.
+//! The arguments say what is wanted (`arguments`), and each command goes from standard input to standard output
+//! (`commands`): scripts by `hg_script`, drawings by `hg_log`, bytes by `hg_show`, and a race by `hg_race`. The status
+//! says what came of it.
 #![tactic(auto)]
 
-ghost use Rattle.std.specs.Prelude.{◌≤◌, IfOk};
+ghost use Rattle.std.specs.Prelude.{IfOk};
 ghost use Rattle.hgfleet.specs.Arguments.{IsWithinBounds};
 
 mod arguments;
+mod commands;
+mod failure;
 
 use arguments::{ArgumentFault, Wanted, read_args};
 use clap::Error;
-use hg_race::run_race;
-use hg_script::{RunFault, run_counted};
+use commands::{Drawing, log, race, run, show, write};
+use failure::Failure;
+use hg_script::RunFault;
+use std::env;
 use std::env::Env;
-use std::io::{BufWriter, ErrorKind, Write};
+use std::io::ErrorKind;
 use std::process::ExitCode;
-use std::sync::Wait;
-use std::thread::Threads;
-use std::{env, io};
 
 fn main(rt: HostRuntime) -> ExitCode {
     match read_wanted(&rt) {
         Ok(Wanted::Run) => finish(&rt, run(&rt)),
         Ok(Wanted::Race { nodes, rounds }) => finish(&rt, race(&rt, nodes, rounds)),
-        Ok(Wanted::Log { .. }) | Ok(Wanted::Show(_)) | Ok(Wanted::Write { .. }) => ExitCode::SUCCESS,
-        Ok(Wanted::Help(text)) => finish(&rt, show(&rt, &text)),
-        Ok(Wanted::Version(text)) => finish(&rt, show(&rt, &text)),
+        Ok(Wanted::Log {
+            nodes,
+            shows_hidden,
+            is_graph,
+        }) => {
+            let drawing = Drawing {
+                shows_hidden,
+                is_graph,
+            };
+            finish(&rt, log(&rt, &nodes, drawing))
+        }
+        Ok(Wanted::Show(form)) => finish(&rt, show(&rt, form)),
+        Ok(Wanted::Write { form, name }) => finish(&rt, write(&rt, form, &name)),
+        Ok(Wanted::Help(text)) => finish(&rt, print_text(&rt, &text)),
+        Ok(Wanted::Version(text)) => finish(&rt, print_text(&rt, &text)),
         Err(fault) => {
             // The status says what was wrong, also where the text can't be written.
             let _ = eprint!(rt; "{fault}");
@@ -35,13 +50,13 @@ fn main(rt: HostRuntime) -> ExitCode {
     }
 }
 
-// The status of a run, after its fault was told. A fault that can't be written leaves the status as it is.
-fn finish(rt: &impl Eprint, done: Result<(), RunFault>) -> ExitCode {
+// The status of a command, after its failure was told. One that can't be written leaves the status as it is.
+fn finish(rt: &impl Eprint, done: Result<(), Failure<'_>>) -> ExitCode {
     match done {
         Ok(()) => ExitCode::SUCCESS,
-        Err(fault) => {
-            let _ = eprintln!(rt; "{fault}");
-            ExitCode::from(fault.status())
+        Err(failure) => {
+            let _ = eprintln!(rt; "{failure}");
+            ExitCode::from(failure.status())
         }
     }
 }
@@ -63,35 +78,9 @@ fn read_wanted(rt: &(impl Env + AllocGlobal)) -> Result<Wanted, ArgumentFault>
 }
 
 // Prints a text that was asked for.
-fn show(rt: &impl Print, text: &Error) -> Result<(), RunFault> {
-    print!(rt; "{text}").map_err(|_| RunFault::Write)
-}
-
-// Runs the script of standard input. What was printed before a fault stays.
-fn run(rt: &(impl Print + Input + AllocGlobal)) -> Result<(), RunFault> {
-    let mut writer = match BufWriter::new(rt.alloc(), io::writer(rt)) {
-        Ok(writer) => writer,
-        Err(_) => return Err(RunFault::NoMemory),
-    };
-    let done = run_counted(rt.alloc(), rt.reader(), &mut writer);
-    let flushed = writer.flush().map_err(|_| RunFault::Write);
-    done.and(flushed)
-}
-
-// Runs a race of so many nodes for so many rounds.
-fn race(
-    rt: &(impl Print + AllocGlobal + Threads + Wait + Sync),
-    nodes: u8,
-    rounds: u16,
-) -> Result<(), RunFault>
-    requires nodes { (2 ≤ nodes) × (nodes ≤ 16) }
-    requires rounds { (1 ≤ rounds) × (rounds ≤ 1000) }
-{
-    let mut writer = match BufWriter::new(rt.alloc(), io::writer(rt)) {
-        Ok(writer) => writer,
-        Err(_) => return Err(RunFault::NoMemory),
-    };
-    let done = run_race(rt, rt.alloc(), nodes, rounds, &mut writer);
-    let flushed = writer.flush().map_err(|_| RunFault::Write);
-    done.and(flushed)
+fn print_text(rt: &impl Print, text: &Error) -> Result<(), Failure<'static>> {
+    match print!(rt; "{text}") {
+        Ok(()) => Ok(()),
+        Err(_) => Err(Failure::Run(RunFault::Write)),
+    }
 }

@@ -5,7 +5,7 @@ use Rattle.hg_graph.specs.Graph.{nodes}
 use Rattle.hg_phases.specs.declared.phase.Phase.{Phase}
 use Rattle.hg_phases.specs.State.{Held, changesets}
 use Rattle.hg_replica.specs.State.{ReplicaState}
-use Rattle.hg_script.specs.Commands.{Text, phase_word}
+use Rattle.hg_script.specs.Commands.{Text}
 use Rattle.hg_script.specs.Reports.{line_of, with_words}
 use Rattle.hg_script.proofs.ReportLemmas.{row_of}
 use Rattle.hg_script.proofs.report.print_row.Goals as goal

@@ -1,7 +1,7 @@
-use Rattle.std.proofs.Common.{ℕ, refl, subst, inr}
+use Rattle.std.proofs.Common.{ℕ, subst, inr}
 use Rattle.std.proofs.lemmas.Result.{err_from_is_err_and}
 use Rattle.hg_script.specs.Scripts.{IsNewFleet}
-use Rattle.hg_script.proofs.ScriptLemmas.{printed_run}
+use Rattle.hg_script.proofs.ScriptLemmas.{printed_run, run_to}
 use Rattle.hg_script.proofs.script.run_text.Goals as goal
 
 pub returns-in_err-run_lines-clause-stopped : goal.returns-in_err-run_lines-clause-stopped
@@ -18,10 +18,8 @@ pub returns-clause-ran : goal.returns-clause-ran
 returns-clause-ran g c =
     let d = c.in_ok-run_lines.ensures.done in
     let start = c.in_ok-fleet.fleet in
-    let new = subst (λ (n : ℕ). IsNewFleet n start) c.count_nodes.ensures c.in_ok-fleet.ensures.new in (
-      (printed_run c.runs_compose.ensures c.args.text.now start d.0 c.run_lines.new.fleet d.1 _ _ new d.2 d.3).run,
-      refl,
-    )
+    let new = subst (λ (n : ℕ). IsNewFleet n start) c.count_nodes.ensures c.in_ok-fleet.ensures.new in
+    run_to c.runs_compose.ensures c.args.text.now start d.0 c.run_lines.new.fleet d.1 new d.2
 
 pub returns-clause-printed : goal.returns-clause-printed
 returns-clause-printed g c =

@@ -1,4 +1,4 @@
-use Rattle.std.proofs.Common.{Option, Some, None, sym, subst, ◌∙◌}
+use Rattle.std.proofs.Common.{Option, sym, subst, ◌∙◌}
 use Rattle.hg_replica.specs.Least.{PartValue}
 use Rattle.hg_script.specs.Endings.{IsDecided}
 use Rattle.hg_script.specs.Scripts.{ids}

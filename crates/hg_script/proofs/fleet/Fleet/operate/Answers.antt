@@ -1,4 +1,4 @@
-use Rattle.std.proofs.Common.{List, [], ◌∷◌, map, Some, refl, ap, subst, ◌∙◌, inl, inr, IsTrue}
+use Rattle.std.proofs.Common.{List, [], ◌∷◌, map, Some, refl, subst, inl, inr, IsTrue}
 use Rattle.std.proofs.lemmas.Result.{err_from_is_err_and}
 use Rattle.hg_world.specs.declared.event.Event.TheVariants.{Local}
 use Rattle.hg_script.specs.declared.command.Command.TheVariants as command
@@ -44,7 +44,7 @@ returns-in_err-check_labels-clause-err g c =
     let p = err_from_is_err_and c.from_residual-in_err-check_labels.result
     c.from_residual-in_err-check_labels.ensures.1 in
     let self = c.args.self.now in
-    let labels = c.new_labels.ensures in
+    let labels = c.new_labels-labels.ensures in
     let held = node_from_place self c.args.at.now c.in_ok-place.place (Some c.in_ok-kept.kept.now)
     c.in_ok-place.ensures.ok c.in_ok-kept.ensures.ok in
     rw (p.1, p.2) (
@@ -76,8 +76,8 @@ returns-clause-ok g c =
     let op = c.in_ok-op.op in
     let answer = c.in_ok-answer.answer in
     let h = c.in_ok-answer.ensures.happens in
-    let labels = c.new_labels.ensures in
-    let free = free_brought (ids self) (map (λ (w : Word). w.now) c.new_labels.result.now) c.in_ok-kept.kept.now
+    let labels = c.new_labels-labels.ensures in
+    let free = free_brought (ids self) (map (λ (w : Word). w.now) c.new_labels-labels.result.now) c.in_ok-kept.kept.now
     self.world place op answer h.0 c.run_event.new.world c.in_ok-kept.ensures.ok
     c.in_ok-check_labels.ensures.free h.1 in (
       one (Local place op) answer h.0,
