@@ -1,7 +1,7 @@
 //! What stands in a column of a line: a mark, and a mark in the gap right of it.
 //!
 //! A row has a line with its changeset, one in which its edges lead on to the next row, and further ones below where
-//! its text needs them. The rules are Mercurial's (`graphmod`), whatever its option to shorten graphs does left out.
+//! its text needs them. The rules are Mercurial's (`graphmod`), as they are while its option to shorten graphs is off.
 use crate::columns::{Change, Edge, Row};
 use std::alloc::AllocError;
 
