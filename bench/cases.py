@@ -375,7 +375,7 @@ CASES = [
     ("secret commits", secret_roots, SIZES, lambda size: 0),
     ("merges of the last two", merges, SMALL, lambda size: 0),
     ("amends of one tip", amends, SIZES, lambda size: 0),
-    ("amends of a root, each a draft root, and a report", amends_of_a_root, (16_384, 32_768, 65_536), lambda size: size + 2),
+    ("amends of a root, and a report", amends_of_a_root, (16_384, 32_768, 65_536), lambda size: size + 2),
     ("amends of the bottom of a stack", amends_below_a_stack, SMALL, lambda size: 0),
     ("splits", splits, SMALL, lambda size: 0),
     ("splits into 255", wide_splits, (240, 480, 960), lambda size: 0),
