@@ -1,13 +1,9 @@
 //! Want of memory at a node: a call that is refused changes nothing, and what is published later is not seen before.
 ghost use Rattle.std.specs.Prelude.{◌≡◌};
 
-use crate::making::{A, B_FOR_A, MESSAGE, N1, Open, amend, counts, id, root};
+use crate::making::{A, B_FOR_A, MESSAGE, N1, Open, amend, id, root};
 use hg_changeset::Node as Id;
-use hg_live::{
-    Accepted, Blank, CallRefusal, CloseRefusal, LookRefusal, Node, NodeName, NotOffered, OpenGate,
-    Pass, Status,
-};
-use hg_peer::{Ask, Scope};
+use hg_live::{Accepted, Blank, CallRefusal, Node, NodeName, OpenGate, Pass, Status};
 use hg_replica::Replica;
 use hg_rewrite::Op;
 use std::alloc::Global;
@@ -121,89 +117,4 @@ fn starve<K: NodeName, R: Wait + Abort, W: Wait + Drop>(
 // A look takes no memory.
 fn look<K: NodeName, W: Wait + Drop>(rt: &impl Abort, pass: &mut Pass<K>, node: Id) -> Status {
     Open::<K, W>::read(pass, node).expect(rt, "a look")
-}
-
-#[test]
-fn refused_growth_in_looks_and_a_close_is_told(rt: HostRuntime) {
-    let alloc = rt.alloc();
-    let Ok(blank) = Blank::new(alloc, Replica::new(alloc)) else {
-        return;
-    };
-    look_and_close::<Brand, _, _>(&rt, alloc, blank, &rt);
-}
-
-// Asks a node that holds `a` what it serves and offers, and closes it, each again where memory was refused.
-fn look_and_close<K: NodeName, R: Wait + Abort, W: Wait + Drop>(
-    rt: &R,
-    alloc: Global,
-    blank: Blank,
-    keep: W,
-)
-    requires opening { K.opening ≡ blank.opening }
-    requires book { blank.opened ≡ K.book }
-    requires name { blank.tokens.name ≡ K.name }
-    requires parts { blank.tokens.parts ≡ K.parts }
-{
-    let Ok(node) = Open::<K, W>::new(keep, alloc, blank, OpenGate) else {
-        return;
-    };
-    let Ok(mut pass) = node.pass(rt) else {
-        return;
-    };
-    let Some(op) = root(alloc, b"a") else {
-        return;
-    };
-    let Ok(Accepted::Shown) = node.local(rt, &mut pass, &op) else {
-        return;
-    };
-    assert!(rt; knows_at_last::<K, W>(rt, &mut pass, id(rt, A)));
-    assert_eq!(rt; offered_at_last::<K, W>(rt, alloc, &mut pass), 160);
-    let Ok(passes) = vec![in alloc; pass] else {
-        return;
-    };
-    let Err(unclosed) = node.close(passes) else {
-        return;
-    };
-    assert!(rt; unclosed.why == CloseRefusal::NoMemory);
-    let Ok(replica) = unclosed.node.close(unclosed.passes) else {
-        assert!(rt; false, "there is memory again");
-        return;
-    };
-    assert_eq!(rt; counts(&replica), (1, 0));
-}
-
-// Whether the published state serves the changeset.
-fn knows_at_last<K: NodeName, W: Wait + Drop>(
-    rt: &impl Abort,
-    pass: &mut Pass<K>,
-    node: Id,
-) -> bool {
-    let known = match Open::<K, W>::known(pass, &[node]) {
-        Ok(known) => known,
-        Err(refusal) => {
-            assert!(rt; refusal == LookRefusal::NoMemory);
-            Open::<K, W>::known(pass, &[node]).expect(rt, "a look")
-        }
-    };
-    known.as_slice() == [true].as_slice()
-}
-
-// How many bytes are offered: 107 and the text, where the published state has one draft root.
-fn offered_at_last<K: NodeName, W: Wait + Drop>(
-    rt: &impl Abort,
-    alloc: Global,
-    pass: &mut Pass<K>,
-) -> usize {
-    let ask = Ask {
-        common: Vec::new(alloc),
-        scope: Scope::Served,
-    };
-    let bytes = match Open::<K, W>::offer(pass, &ask) {
-        Ok(bytes) => bytes,
-        Err(refusal) => {
-            assert!(rt; refusal == NotOffered::NoMemory);
-            Open::<K, W>::offer(pass, &ask).expect(rt, "an offer")
-        }
-    };
-    bytes.len()
 }

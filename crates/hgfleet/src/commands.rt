@@ -156,10 +156,7 @@ fn write_bytes<W: Write>(bytes: &[u8], writer: &mut W) -> Result<(), Failure<'st
 }
 
 /// Reads the bytes of standard input in this form, and prints them as text.
-pub fn show(
-    rt: &(impl Print + Input + AllocGlobal),
-    form: Form,
-) -> Result<(), Failure<'static>> {
+pub fn show(rt: &(impl Print + Input + AllocGlobal), form: Form) -> Result<(), Failure<'static>> {
     let mut writer = match BufWriter::new(rt.alloc(), io::writer(rt)) {
         Ok(writer) => writer,
         Err(_) => return Err(Failure::Run(RunFault::NoMemory)),

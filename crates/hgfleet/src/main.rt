@@ -27,11 +27,13 @@ fn main(rt: HostRuntime) -> ExitCode {
     match read_wanted(&rt) {
         Ok(Wanted::Run) => finish(&rt, run(&rt)),
         Ok(Wanted::Race { nodes, rounds }) => finish(&rt, race(&rt, nodes, rounds)),
-        Ok(Wanted::Log {
-            nodes,
-            shows_hidden,
-            is_graph,
-        }) => {
+        Ok(
+            Wanted::Log {
+                nodes,
+                shows_hidden,
+                is_graph,
+            },
+        ) => {
             let drawing = Drawing {
                 shows_hidden,
                 is_graph,
