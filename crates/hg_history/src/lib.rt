@@ -6,6 +6,27 @@
 //!
 //! The laws of states are in `hg_phases`; those of their contents, which are free of the order in which a state is
 //! kept, are in `specs/ContentLaws` and `specs/JoinedLaws`, for the state above that joins.
+//!
+//! # Example
+//!
+//! ```text
+//! fn publish(
+//!     alloc: Global,
+//!     changesets: &[Changeset],
+//!     tip: Node,
+//! ) -> Result<(History, Change), Fault> {
+//!     let mut history = History::new(alloc);
+//!     // The changesets in this order, each once: the tip and its ancestors as draft, the others as secret. The first
+//!     // fault is told, as an unknown parent, or a tip that isn't among them, and then nothing was added.
+//!     history.absorb(changesets, &[(tip, Phase::Draft)])?;
+//!     let drafts = history.copy()?;
+//!     // The tip and its ancestors are public now, and these are what `published.lowered` names. None is added.
+//!     let published = history.absorb(&[], &[(tip, Phase::Public)])?;
+//!     // This changes nothing: phases never go up. So `drafts.is_below(&history)`, and not the other way round.
+//!     history.join(&drafts)?;
+//!     Ok((history, published))
+//! }
+//! ```
 #![tactic(auto)]
 
 mod absorb;

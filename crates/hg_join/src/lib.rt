@@ -95,6 +95,27 @@
 //! The laws of acting have their limits too. An actor that has a reason against each operation, each ask, each mark and
 //! all bytes keeps them, and so does code that always answers want of memory. The former shows in the definitions, and
 //! the latter is for tests: call each method once with ample memory.
+//!
+//! # Example
+//!
+//! ```text
+//! fn lowest(
+//!     alloc: Global,
+//!     heard: &Vec<(u32, u8)>,
+//!     other: &LowMap<u32>,
+//! ) -> Result<(LowMap<u32>, bool), NoMemory> {
+//!     let mut lows = LowMap::new(alloc);
+//!     // Each key has the lowest number that was given to it. Where memory runs out the map stays as it was.
+//!     lows.absorb(heard)?;
+//!     // The lower of both sides at each key. In the other order these two calls leave the same.
+//!     lows.join(other)?;
+//!     // What came before changes nothing when it comes again.
+//!     lows.absorb(heard)?;
+//!     // True: the map says all that the other says, and whatever it takes in later it still will.
+//!     let is_covered = other.below(&lows)?;
+//!     Ok((lows, is_covered))
+//! }
+//! ```
 #![tactic(auto)]
 
 mod actor;

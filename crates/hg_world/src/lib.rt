@@ -44,6 +44,27 @@
 //! out: in [`World::run`] before the first event, and else within one, which is then refused as that node's refusals
 //! say. No contract can tell such an answer from one that need not have been, so that is for tests: a run that always
 //! gave up before its first event would meet these contracts.
+//!
+//! # Example
+//!
+//! ```text
+//! fn pass_on<S: Actor>(alloc: Global, op: S::Op, ask: S::Ask) -> Result<World<S>, NoMemory> {
+//!     // Two nodes that say nothing yet, and no message.
+//!     let mut world = World::<S>::new(alloc, 2)?;
+//!     let events = [
+//!         Event::Local { at: 0, op },
+//!         Event::Offer { at: 0, ask },
+//!         Event::Take { at: 1, message: 0 },
+//!         Event::Take { at: 1, message: 0 },
+//!     ];
+//!     // An answer for each event. Where nothing is refused: Accepted, Offered(0), Accepted, and Accepted once more,
+//!     // which changes nothing. Had the offer been refused, both takes would be Refused(NoMessage). What is refused
+//!     // changes nothing.
+//!     world.run(&events)?;
+//!     // Node 1 says what the message spells, where it accepted that, and nothing else.
+//!     Ok(world)
+//! }
+//! ```
 #![tactic(auto)]
 
 mod event;
