@@ -8,6 +8,27 @@
 //!
 //! The asker calls [`Discovery`], and the other side answers by [`known`], under its pins. Both may go on in the
 //! meantime. Where both stand in one process, [`heads_in_common`] does all of it.
+//!
+//! # Example
+//!
+//! ```text
+//! fn common_with(alloc: Global, asker: &Replica, other: &Kept) -> Result<Vec<Node>, DiscoveryError> {
+//!     // The asker's changesets that aren't secret are undecided.
+//!     let mut discovery = Discovery::start(alloc, asker)?;
+//!     while !discovery.done() {
+//!         // At most 200 ids, which go to the other side. It tells of each whether it serves it, under its pins.
+//!         let asked = discovery.sample()?;
+//!         let answers = known_kept(alloc, other, &asked)?;
+//!         // At least 200 are decided, or all. More or fewer answers than were asked for are refused as
+//!         // `DiscoveryError::WrongCount`, and nothing changes.
+//!         discovery.answer(&answers)?;
+//!     }
+//!     // The heads of what both hold. Here the other side stays as it is, so that is all that it serves of the asker's
+//!     // changesets that aren't secret. No id may stand for two changesets.
+//!     let heads = discovery.common_heads()?;
+//!     Ok(heads)
+//! }
+//! ```
 #![tactic(auto)]
 
 mod answers;

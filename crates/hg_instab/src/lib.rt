@@ -3,6 +3,23 @@
 //! An obsolete changeset was rewritten, or pruned. What stands on one is an orphan, and keeps the obsolete changesets
 //! below it from being given up. What was rewritten from a changeset that others know as public is phase-divergent. All
 //! of this follows from what a replica contains, in whatever order it came.
+//!
+//! # Example
+//!
+//! ```text
+//! fn orphans_after(alloc: Global, replica: &mut Replica, part: &Part) -> Result<BTreeSet<Node>, Fault> {
+//!     // The sets of what the replica holds now.
+//!     let mut sets = Instabilities::from_scratch(alloc, replica)?;
+//!     // A part that is refused changes nothing: the sets would still be right.
+//!     let change = replica.absorb(part)?;
+//!     // Now they are the sets of the replica with the part, at the cost of what it touched. Where memory is wanting
+//!     // they stay as they were, behind the replica: who goes on then finds them from scratch.
+//!     sets.update(replica, &change)?;
+//!     // Each is neither public nor obsolete, and has obsolete ancestors. These are among `sets.suspended()`.
+//!     let orphans = sets.orphan().clone()?;
+//!     Ok(orphans)
+//! }
+//! ```
 #![tactic(auto)]
 
 mod after_public;

@@ -3,6 +3,18 @@
 //! Both show a replica as it is, under the pins of its node: what each changeset is called, its phase, what is unstable
 //! about it, and what became of what was rewritten. [`draw_log`] is the picture that `hg log -G` gives, and
 //! [`draw_graph`] the input of `dot`. Either is written as it is drawn, a line at a time.
+//!
+//! # Example
+//!
+//! ```text
+//! fn draw_both<W: Write>(alloc: Global, kept: &Kept, writer: &mut W) -> Result<(), DrawFault> {
+//!     // What is visible under the pins, a line at a time, from the changeset that came last to the first.
+//!     draw_log(alloc, kept, false, writer)?;
+//!     // All that is held, with every marker, as input of `dot`. Either ends as `DrawFault::Write` where the writer
+//!     // refuses a line, and as `DrawFault::NoMemory` for want of memory. The lines before stay written.
+//!     draw_graph(alloc, b"A", kept, true, writer)
+//! }
+//! ```
 #![tactic(auto)]
 
 mod cells;

@@ -9,6 +9,26 @@
 //! What a replica tells one that has some common nodes is its [`offer`]: what it serves above them under the pins of
 //! its node, and nothing that is secret or hidden; or its whole history without what is secret. No message carries a
 //! pin.
+//!
+//! # Example
+//!
+//! ```text
+//! fn send(alloc: Global, replica: &Replica, pins: &Pins, common: &[Node]) -> Result<Vec<u8>, OfferRefusal> {
+//!     // What is served, but for the common nodes and their ancestors: no record and no bound is of a secret or hidden
+//!     // changeset. The first common node that isn't held is refused as `OfferRefusal::UnknownCommon`.
+//!     let found = Outgoing::above(alloc, replica, pins, common, Scope::Served)?;
+//!     // The one written spelling of it. More than a message can hold is refused as `OfferRefusal::TooLarge`.
+//!     found.to_bytes()
+//! }
+//!
+//! fn receive(alloc: Global, bytes: &[u8]) -> Result<Part, ReadError<MessageFault>> {
+//!     // Bytes that spell no message are refused with their first fault, never with want of memory in its place.
+//!     let message = Message::from_bytes(alloc, bytes)?;
+//!     // A replica that holds the common nodes of an offer refuses its part only for want of memory, or where one id
+//!     // stands for two changesets.
+//!     Ok(message.into_part()?)
+//! }
+//! ```
 #![tactic(auto)]
 
 mod bound;

@@ -43,6 +43,25 @@
 //!   as [`Fault::Collision`](hg_history::Fault::Collision).
 //! - Where memory is wanting, nothing changes.
 //! - Nothing is said of arrival: no message need ever be taken, and peers need not come to cover each other.
+//!
+//! # Example
+//!
+//! ```text
+//! fn commit_and_pull(alloc: Global, entry: Entry) -> Result<(World<Peer>, bool), NoMemory> {
+//!     // Two empty peers, without pins, and no message.
+//!     let mut world = World::<Peer>::new(alloc, 2)?;
+//!     let op = Op::Commit { p: Node::NULL, q: Node::NULL, entry, secret: false };
+//!     let ask = Ask { common: Vec::new(alloc), scope: Scope::Served };
+//!     let commit = Event::Local { at: 0, op };
+//!     let offer = Event::Offer { at: 0, ask };
+//!     let take = Event::Take { at: 1, message: 0 };
+//!     // An answer for each event, in their order. A refused event is answered `Refused`, and changes nothing.
+//!     let answers = world.run(&[commit, offer, take])?;
+//!     // Where none was refused, both peers hold the new changeset as a draft, and they agree on all that they hold.
+//!     let is_done = answers.iter().all(|answer| !matches!(answer, Answer::Refused(_)));
+//!     Ok((world, is_done))
+//! }
+//! ```
 #![tactic(auto)]
 
 mod ask;

@@ -6,6 +6,22 @@
 //! printable ASCII are escaped. What bytes are at fault is told as the library of their format tells it.
 //!
 //! [`write_store`], [`write_roots`] and [`write_message`] write the bytes of these formats.
+//!
+//! # Example
+//!
+//! ```text
+//! fn markers_of(alloc: Global, kept: &Kept) -> Result<Vec<u8>, ShowFault> {
+//!     let mut bytes = Vec::new(alloc);
+//!     // The markers of the node as a store of format 0, in the order in which they came. A vector refuses to take
+//!     // them for want of memory alone.
+//!     write_store(kept, &mut bytes).map_err(|_| ShowFault::NoMemory)?;
+//!     let mut lines = Vec::new(alloc);
+//!     // Bytes at fault are refused with their first fault, as `ShowFault::Store`, before anything is printed.
+//!     show_bytes(alloc, Form::Store, &bytes, &mut lines)?;
+//!     // A line for each marker, as `hg debugobsolete` prints it.
+//!     Ok(lines)
+//! }
+//! ```
 #![tactic(auto)]
 
 mod date;

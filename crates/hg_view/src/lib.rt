@@ -6,6 +6,21 @@
 //!
 //! Views are found from a replica and pins alone. Who keeps its instabilities beside it, and what its pins uphold, as
 //! [`Kept`] does, asks of one changeset by three look-ups whether it is visible.
+//!
+//! # Example
+//!
+//! ```text
+//! fn move_bookmark(kept: &mut Kept, from: Node, to: Node) -> Result<bool, PinRefusal> {
+//!     // What isn't held is refused as `PinRefusal::Unknown`, and nothing has changed.
+//!     kept.pin(to)?;
+//!     // It is visible now, obsolete or not, and so are its ancestors. `kept.is_served(to)` says whether others are
+//!     // given it too, which they aren't where it is secret.
+//!     // A node without a pin is refused as `PinRefusal::NotPinned`. The new pin stays then.
+//!     kept.unpin(from)?;
+//!     // The old place is visible still where it, or a descendant, isn't obsolete or is pinned.
+//!     Ok(kept.is_visible(from))
+//! }
+//! ```
 #![tactic(auto)]
 
 mod kept;
