@@ -99,6 +99,17 @@ pub trait Actor: JoinState {
         ensures err { IfErr result (λ refusal. IsAgainstBytes bytes.now refusal ⊎ IsRefusalOfMemory refusal) }
         ensures due { IsDue (Spells bytes.now) (IsAgainstBytes bytes.now) };
 
+    /// What [`read`](Actor::read) gives, where this state is to take the part. What bytes spell is no matter of the
+    /// state, but a state that holds some of it already may be spared work, as hashing that was done when it came. By
+    /// default the state isn't looked at.
+    fn read_at(&self, alloc: Global, bytes: &[u8]) -> Result<Self::Part, Self::Refusal>
+        ensures ok { IfOk result (Spells bytes.now) }
+        ensures err { IfErr result (λ refusal. IsAgainstBytes bytes.now refusal ⊎ IsRefusalOfMemory refusal) }
+        ensures due { IsDue (Spells bytes.now) (IsAgainstBytes bytes.now) }
+    {
+        Self::read(alloc, bytes)
+    }
+
     /// States with one content, and equal in what is their own, decide one part.
     ghost decided_once: { (s t : Self) (op : Self.Op) (p q : Self.Part) → Self.IsValid (Self.content s) →
         Self.content s ≡ Self.content t → owned s ≡ owned t → Decides s op p → Decides t op q →

@@ -58,7 +58,7 @@ fn take_at<S: Actor>(
         return Answer::Refused(EventRefusal::NoMessage);
     }
     let bytes = messages[message].as_slice();
-    match S::read(alloc, bytes) {
+    match nodes[at].read_at(alloc, bytes) {
         Ok(spelled) => match absorb_at(nodes, at, spelled) {
             Ok(change) => Answer::Accepted(change),
             Err(fault) => Answer::Refused(EventRefusal::ByState(fault)),
