@@ -1,6 +1,8 @@
 //! A store of obsolescence markers: a set that only grows, with exact look-ups.
 #![tactic(auto)]
 
+mod digests;
+mod entries;
 mod fault;
 mod format;
 mod index;
