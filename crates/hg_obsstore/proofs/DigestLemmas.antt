@@ -1,6 +1,6 @@
 -- What goes into a digest, and the places under digests after a change.
 use Rattle.std.proofs.Common.{◌≡◌, ◌≢◌, ◌<◌, ◌≤◌, ◌+◌, ◌++◌, ◌∷◌, [], ◌∙◌, ⊎_elim, arith, sym, ap, subst, ℕ, List, refl}
-use Rattle.std.proofs.Common.{Some, true, false, Bool, length, length-append, append_assoc, take, drop, get_or, Contains}
+use Rattle.std.proofs.Common.{Some, true, false, length, length-append, append_assoc, take, drop, get_or, Contains}
 use Rattle.std.proofs.Common.{slice_get, ◌==◌, cond, ◌⊎◌, Option, None, zero, suc}
 use Rattle.std.specs.List.{AllByRecursion, IsDistinct}
 use Rattle.std.specs.BTreeMap.{get, get_by, is_at}
@@ -10,7 +10,8 @@ use Rattle.std.proofs.lemmas.Option.{slice_get_within, get_or_from_slice_get, sa
 use Rattle.std.proofs.lemmas.List.Folds.{list_any_at}
 use Rattle.std.proofs.lemmas.Grind.{flat_map-append}
 use Rattle.std.proofs.lemmas.List.{append-nil, drop-append-le, length-drop, take-append-drop}
-use Rattle.std.proofs.lemmas.List.Elements.{Contains-push, Contains-push_cases, Contains-append_left, Contains-append_cases}
+use Rattle.std.proofs.lemmas.List.Elements.{Contains-push, Contains-push_cases, Contains-append_left}
+use Rattle.std.proofs.lemmas.List.Elements.{Contains-append_cases}
 use Rattle.hg_changeset.specs.declared.node.Node.{Node}
 use Rattle.hg_changeset.specs.Node.{node_cmp}
 use Rattle.hg_changeset.proofs.NodeLemmas.{node_cases}
@@ -24,7 +25,8 @@ use Rattle.hg_obsstore.specs.declared.index.Index.{Index}
 use Rattle.hg_obsstore.specs.declared.index.Role.TheVariants.{Predecessor}
 use Rattle.hg_marker.specs.Fields.{Fields}
 use Rattle.hg_marker.specs.Same.{same_fields, fields_decides}
-use Rattle.hg_obsstore.specs.Digests.{KeepsOtherDigests, few, found_places, nodes_bytes, under, AreDigested, IsUnderDigest, digest_of}
+use Rattle.hg_obsstore.specs.Digests.{KeepsOtherDigests, few, found_places, nodes_bytes, under, AreDigested}
+use Rattle.hg_obsstore.specs.Digests.{IsUnderDigest, digest_of}
 use Rattle.hg_obsstore.specs.Digests.{is_it, stands_at, stands_among}
 use Rattle.hg_obsstore.proofs.EntryLemmas.{not_at}
 use Rattle.hg_obsstore.proofs.ForgetLemmas.{end_view, cut_at, parts_forget}

@@ -1,6 +1,6 @@
 -- Tables after a change under one number, and after an entry more.
-use Rattle.std.proofs.Common.{◌≡◌, ◌≢◌, ◌<◌, ◌+◌, ◌++◌, ◌∷◌, [], ◌∙◌, ⊎_elim, arith, sym, ap, subst, ℕ, zero, suc, List}
-use Rattle.std.proofs.Common.{Option, None, Some, refl, length, length-append, slice_set, slice_get, Bool, true, false}
+use Rattle.std.proofs.Common.{◌≡◌, ◌≢◌, ◌<◌, ◌++◌, ◌∷◌, [], ◌∙◌, ⊎_elim, arith, sym, ap, subst, ℕ, zero, suc, List}
+use Rattle.std.proofs.Common.{Option, None, Some, refl, length, length-append, slice_set, slice_get, true, false}
 use Rattle.std.proofs.lemmas.Option.{slice_get_within, same_Some}
 use Rattle.std.proofs.lemmas.Bool.{cases_eq, false_from_ne_true}
 use Rattle.std.specs.BTreeMap.{is_at}
@@ -12,7 +12,8 @@ use Rattle.hg_changeset.proofs.NodeLemmas.{node_cases, node_cmp_exact}
 use Rattle.hg_changeset.specs.Node.{node_cmp}
 use Rattle.hg_obsstore.specs.declared.index.Role.{Role}
 use Rattle.hg_obsstore.specs.declared.index.Roles.{Roles}
-use Rattle.hg_obsstore.specs.Entries.{Table, AreNumbered, PutsAt, ChangesPlaces, ChangesRole, SameRoles, at_number, known}
+use Rattle.hg_obsstore.specs.Entries.{Table, AreNumbered, PutsAt, ChangesPlaces, ChangesRole, SameRoles, at_number}
+use Rattle.hg_obsstore.specs.Entries.{known}
 use Rattle.hg_obsstore.specs.Entries.{found_as, listed_as, number_of, places_at, roles_of}
 use Rattle.hg_obsstore.proofs.StoreLemmas.{stays, was, last}
 

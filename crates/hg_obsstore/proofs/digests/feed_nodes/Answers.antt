@@ -1,6 +1,5 @@
-use Rattle.std.proofs.Common.{rules, ◌≡◌, ◌++◌, ap, subst, List, ℕ, take}
-use Rattle.std.proofs.lemmas.List.{take_all, append-nil}
-use Rattle.std.proofs.Common.{sym}
+use Rattle.std.proofs.Common.{rules, ◌++◌, subst, List}
+use Rattle.std.proofs.lemmas.List.{take_all}
 use Rattle.sha1.specs.Sha1.{Holds}
 use Rattle.hg_changeset.specs.declared.node.Node.{Node}
 use Rattle.hg_obsstore.specs.Digests.{nodes_bytes}

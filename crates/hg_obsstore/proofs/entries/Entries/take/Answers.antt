@@ -1,4 +1,4 @@
-use Rattle.std.proofs.Common.{◌≡◌, ◌∙◌, [], ap, sym, refl, List, ℕ, Option}
+use Rattle.std.proofs.Common.{◌≡◌, ◌∙◌, [], ap, sym, refl, ℕ, Option}
 use Rattle.std.proofs.lemmas.Option.{slice_get_within}
 use Rattle.hg_obsstore.specs.Entries.{Table, at_number, found_as, places_at}
 use Rattle.hg_obsstore.specs.Index.{without_last}

@@ -1,4 +1,5 @@
-use Rattle.std.proofs.Common.{rules, ◌≡◌, ◌∙◌, [], sym, ap, subst, refl, List, ℕ, length, slice_get, Some, Contains, drop}
+use Rattle.std.proofs.Common.{rules, ◌≡◌, ◌∙◌, [], sym, ap, subst, refl, List, ℕ, length, slice_get, Some, Contains}
+use Rattle.std.proofs.Common.{drop}
 use Rattle.std.proofs.lemmas.Option.{slice_get_read}
 use Rattle.std.proofs.lemmas.List.Elements.{Contains-push}
 use Rattle.hg_marker.specs.Fields.{Fields}
