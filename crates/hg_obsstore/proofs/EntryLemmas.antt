@@ -37,7 +37,8 @@ module _ (old new : Table) (node : Node) (v : Roles) (at : known new node ≡ So
     aside = λ other apart. found_same other (asides other apart);
   }
 
-set_here : {A : Type 0} (xs : List A) (k : ℕ) (a x : A) → slice_get xs k ≡ Some x → slice_get (slice_set xs k a) k ≡ Some a
+set_here : {A : Type 0} (xs : List A) (k : ℕ) (a x : A) → slice_get xs k ≡ Some x
+    → slice_get (slice_set xs k a) k ≡ Some a
 set_here [] k a x h = absurd cc
 set_here (y ∷ xs) zero a x h = refl
 set_here (y ∷ xs) (suc k) a x h = set_here xs k a x h
@@ -88,7 +89,8 @@ module _ (numbers : List (Node × ℕ)) (es : List (Node × Roles)) (all : AreNu
         ))
         (λ (other : j ≢ k). let was = all.entry q j at in (was.0, else j other ∙ was.1)) (cases_eq j k);
     number = λ j q w at. ⊎_elim
-        (λ (e : j ≡ k). let found : (entry.0, v) ≡ (q, w) = same_Some _ _ (sym here ∙ ap (slice_get new) (sym e) ∙ at) in
+        (λ (e : j ≡ k). let found : (entry.0, v) ≡ (q, w) =
+        same_Some _ _ (sym here ∙ ap (slice_get new) (sym e) ∙ at) in
         ap (number_of numbers) (sym (ap (λ (x : Node × Roles). x.0) found) ∙ ap (λ (x : Node × Roles). x.0) entry_is)
         ∙ is ∙ ap Some (sym e))
         (λ (other : j ≢ k). all.number j q w (sym (else j other) ∙ at)) (cases_eq j k);

@@ -11,7 +11,8 @@ loop-key-preserved c = λ m h.
     let k = c.in-Some.key.now in
     let v = c.in-Some.value.now in (
       (((so_far.0 ++ 0 ∷ []) ++ k) ++ 58 ∷ []) ++ v,
-      c.update-in-loop-key-3.ensures _ (c.update-in-loop-key-2.ensures _ (c.update-in-loop-key.ensures _ (c.update.ensures _ so_far.1))),
+      c.update-in-loop-key-3.ensures _ (c.update-in-loop-key-2.ensures _
+          (c.update-in-loop-key.ensures _ (c.update.ensures _ so_far.1))),
       entry_fed so_far.0 k v (texts_bytes c.next.new.self)
           ∙ ap (λ (es : List (List ℕ × List ℕ)). so_far.0 ++ texts_bytes es) (sym c.in-Some.ensures.steps)
           ∙ so_far.2,

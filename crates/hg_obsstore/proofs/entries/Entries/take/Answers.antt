@@ -28,7 +28,8 @@ pub returns-in-None : goal.returns-in-None
 returns-in-None c =
     let empty : places_at c.args.self.now c.args.role c.args.node ≡ [] =
     ap (λ (t : Table). places_at t c.args.role c.args.node) (sym c.self.view_is)
-    ∙ ap (λ (o : Option ℕ). found_as c.args.role (at_number c.self.inside.entries.items o)) (sym c.in-None.ensures.value)
+    ∙ ap (λ (o : Option ℕ). found_as c.args.role (at_number c.self.inside.entries.items o))
+    (sym c.in-None.ensures.value)
     in record {
       here = empty ∙ sym (ap (λ ps. without_last ps c.args.place) empty ∙ without_last_none c.args.place);
       others = λ q other. refl;
