@@ -18,7 +18,7 @@ use Rattle.hg_obsstore.specs.Index.{places_of, TakesPlaces}
 use Rattle.hg_obsstore.specs.Indexes.{IsIndexBy, AreIndexed, TakeMarker}
 use Rattle.hg_obsstore.proofs.StoreLemmas.{stays, was, last}
 
-end_view : (xs : List ℕ) → (xs ≡ []) ⊎ ((front : List ℕ) × (l : ℕ) × (xs ≡ front ++ l ∷ []))
+pub end_view : (xs : List ℕ) → (xs ≡ []) ⊎ ((front : List ℕ) × (l : ℕ) × (xs ≡ front ++ l ∷ []))
 end_view [] = inl refl
 end_view (x ∷ xs) =
     ⊎_elim (λ (e : xs ≡ []). inr ([], x, ap (λ (ys : List ℕ). x ∷ ys) e))
@@ -97,24 +97,35 @@ module _ (Q : ℕ → Type 0) (ps : List ℕ) (k : ℕ) (all : ListsAll Q ps) (w
       (end_view ps)
 
 -- an index without the last marker
-pub indexed_forget : (nodes_of : Fields → List Node) (ms : List Fields) (m : Fields) (old new : Node → List ℕ)
-    → IsIndexBy nodes_of (ms ++ m ∷ []) old → TakesPlaces (nodes_of m) (length ms) old new → IsIndexBy nodes_of ms new
-indexed_forget nodes_of ms m old new all takes =
-    let Q : Node → ℕ → Type 0 = λ n. IsAt (λ x. Contains (nodes_of x) n) (ms ++ m ∷ []) in
-    let each : (n : Node) → Split (Q n) (old n) (length ms) = λ n. split (Q n) (old n) (length ms) (all n)
-    (λ i q. let lt = slice_get_within (ms ++ m ∷ []) i q.0 q.1 in omega (arith, lt, length-append ms (m ∷ []))) in
-    let same : (n : Node) → new n ≡ (each n).front =
-    takes.restores (λ n. (each n).front) (λ n i h. (((each n).all.exact i).0 h).0)
-    (λ n. ⊎_elim (λ (e : old n ≡ (each n).front). inl e)
-    (λ (h : Q n (length ms) × (old n ≡ (each n).front ++ length ms ∷ [])). inr
-    (subst (λ x. Contains (nodes_of x) n) (same_Some _ _ (sym h.0.1 ∙ last ms m)) h.0.2, h.1)) (each n).whole) in
-    λ n. subst (ListsAll (IsAt (λ x. Contains (nodes_of x) n) ms)) (sym (same n)) (record {
-      ascending = (each n).all.ascending;
-      exact = λ i. (
-        (λ h. let at = ((each n).all.exact i).0 h in (at.1.0, was ms m i at.1.0 at.1.1 at.0, at.1.2)),
-        (λ h. ((each n).all.exact i).1 (slice_get_within ms i h.0 h.1, (h.0, stays ms m i h.0 h.1, h.2))),
-      );
-    })
+module _ (nodes_of : Fields → List Node) (ms : List Fields) (m : Fields) (old new : Node → List ℕ)
+    (all : IsIndexBy nodes_of (ms ++ m ∷ []) old) (takes : TakesPlaces (nodes_of m) (length ms) old new) where
+  abbrev At : Node → ℕ → Type 0
+  At n = IsAt (λ x. Contains (nodes_of x) n) (ms ++ m ∷ [])
+
+  each : (n : Node) → Split (At n) (old n) (length ms)
+  each n = split (At n) (old n) (length ms) (all n)
+      (λ i q. let lt = slice_get_within (ms ++ m ∷ []) i q.0 q.1 in omega (arith, lt, length-append ms (m ∷ [])))
+
+  same : (n : Node) → new n ≡ (each n).front
+  same = takes.restores (λ n. (each n).front) (λ n i h. (((each n).all.exact i).0 h).0)
+      (λ n. ⊎_elim (λ (e : old n ≡ (each n).front). inl e)
+      (λ (h : At n (length ms) × (old n ≡ (each n).front ++ length ms ∷ [])). inr
+      (subst (λ x. Contains (nodes_of x) n) (same_Some _ _ (sym h.0.1 ∙ last ms m)) h.0.2, h.1)) (each n).whole)
+
+  pub indexed_forget : IsIndexBy nodes_of ms new
+  indexed_forget n = subst (ListsAll (IsAt (λ x. Contains (nodes_of x) n) ms)) (sym (same n)) (record {
+    ascending = (each n).all.ascending;
+    exact = λ i. (
+      (λ h. let at = ((each n).all.exact i).0 h in (at.1.0, was ms m i at.1.0 at.1.1 at.0, at.1.2)),
+      (λ h. ((each n).all.exact i).1 (slice_get_within ms i h.0 h.1, (h.0, stays ms m i h.0 h.1, h.2))),
+    );
+  })
+
+  -- what each node had before
+  pub parts_forget : (n : Node) → (old n ≡ new n) ⊎ (old n ≡ new n ++ length ms ∷ [])
+  parts_forget n = ⊎_elim (λ (e : old n ≡ (each n).front). inl (e ∙ sym (same n)))
+      (λ (h : At n (length ms) × (old n ≡ (each n).front ++ length ms ∷ [])). inr
+      (h.1 ∙ ap (λ ps. ps ++ length ms ∷ []) (sym (same n)))) (each n).whole
 
 pub cut_at : (xs : List Fields) (x : Fields) (place : ℕ) → place + 1 ≡ length xs → x ≡ get_or xs place x
     → (xs ≡ take place xs ++ x ∷ []) × (length (take place xs) ≡ place)

@@ -1,20 +1,17 @@
 -- Indexes after a change at one node, and after one at each of some nodes.
-use Rattle.std.proofs.Common.{arith, ◌≡◌, ◌≢◌, ◌+◌, ◌⊎◌, ◌++◌, ◌∷◌, [], ◌∙◌, sym, ap, ℕ, List, true, false, Some, refl}
+use Rattle.std.proofs.Common.{arith, ◌≡◌, ◌≢◌, ◌+◌, ◌⊎◌, ◌++◌, ◌∷◌, [], ◌∙◌, sym, ap, ℕ, List, true, false, refl}
 use Rattle.std.proofs.Common.{subst, inl, inr, ⊎_elim, length, take, drop, get_or, ◌<◌, Contains}
-use Rattle.std.proofs.lemmas.Bool.{false_from_ne_true, cases_Bool, false≢true}
+use Rattle.std.proofs.lemmas.Bool.{cases_Bool, false≢true}
 use Rattle.std.proofs.lemmas.List.{take_more, take-append-drop}
 use Rattle.std.proofs.lemmas.List.Elements.{Contains-push, Contains-push_cases, Contains-append_left}
 use Rattle.std.specs.List.{list_any}
 use Rattle.std.proofs.lemmas.Map.Views.{Contains-from_any, list_any-from_Contains}
 use Rattle.hg_changeset.proofs.NodeLemmas.{same_node, node_eq_laws, node_cases}
-use Rattle.indexmap.specs.IndexMap.{get, get_by}
 use Rattle.hg_changeset.specs.declared.node.Node.{Node}
 use Rattle.hg_changeset.specs.Node.{node_eq}
-use Rattle.hg_obsstore.specs.declared.index.Index.{Index}
 use Rattle.hg_obsstore.specs.declared.index.Role.{Role}
 use Rattle.hg_obsstore.specs.declared.index.Role.TheVariants.{Predecessor, Successor, Parent}
-use Rattle.hg_obsstore.specs.declared.index.Roles.{Roles}
-use Rattle.hg_obsstore.specs.Index.{listed_as, found_as, places_of, ChangesPlaces, AreBelow, AddsPlace, MayAddPlace}
+use Rattle.hg_obsstore.specs.Index.{AreBelow, AddsPlace, MayAddPlace}
 use Rattle.hg_obsstore.specs.Index.{with_last, without_last}
 use Rattle.hg_obsstore.proofs.PlaceLemmas.{with_last_below, with_last_again, without_last_below, without_last_pushed}
 
@@ -53,27 +50,6 @@ Lists = Node → List ℕ
 
 pub pointwise : (f g : Lists) → ((n : Node) → f n ≡ g n) → f ≡ g
 pointwise f g e i n = e n i
-
--- what each look-up gives after v was put at the node
-module _ (old new : Index) (node : Node) (v : Roles) (at : get_by (node_eq node) new.by_node ≡ Some v)
-    (off : (q : Node) → node_eq node q ≡ false → get node_eq new.by_node q ≡ get node_eq old.by_node q) where
-  found_else : (role : Role) (q : Node) → q ≢ node → places_of role new q ≡ places_of role old q
-  found_else role q other =
-      ap (found_as role) (off q (false_from_ne_true (node_eq node q) (λ h. other (sym (same_node node q h)))))
-
-  pub found_same : (role : Role) → listed_as role v ≡ places_of role old node → places_of role new ≡ places_of role old
-  found_same role same = pointwise (places_of role new) (places_of role old) (λ q. ⊎_elim
-      (λ (e : q ≡ node). rw e (ap (found_as role) at ∙ same)) (λ (other : q ≢ node). found_else role q other)
-      (node_cases q node))
-
-  pub found_changed : (role : Role) (places : List ℕ) → listed_as role v ≡ places
-      → ((other : Role) → other ≢ role → listed_as other v ≡ places_of other old node)
-      → ChangesPlaces old new role node places
-  found_changed role places is asides = record {
-    here = ap (found_as role) at ∙ is;
-    others = found_else role;
-    aside = λ other apart. found_same other (asides other apart);
-  }
 
 -- a relation of lists before and after, carried over to equal lists
 pub carried : (R : List Node → Lists → Lists → Type 0) (ns ps : List Node) (old before new after : Lists) → ns ≡ ps

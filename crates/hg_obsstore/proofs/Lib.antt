@@ -4,3 +4,5 @@ pub mod StoreLemmas
 pub mod ForgetLemmas
 pub mod GrowthLemmas
 pub mod FormatLemmas
+mod EntryLemmas
+mod DigestLemmas

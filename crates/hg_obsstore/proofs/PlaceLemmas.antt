@@ -58,7 +58,7 @@ last_pushed xs k =
 pub pushed_stands_last : (xs : List ℕ) (k : ℕ) → stands_last (xs ++ k ∷ []) k ≡ true
 pushed_stands_last xs k = rw (last_pushed xs k) ((unsigned_Decides k k).1 refl)
 
-last_is : (xs : List ℕ) (k : ℕ) (r : Option ℕ) → slice_get xs (length xs - 1) ≡ r → stands_last xs k ≡ true
+pub last_is : (xs : List ℕ) (k : ℕ) (r : Option ℕ) → slice_get xs (length xs - 1) ≡ r → stands_last xs k ≡ true
     → Contains xs k
 last_is xs k None at h = let f : false ≡ true = rw at at h in absurd cc
 last_is xs k (Some l) at h =

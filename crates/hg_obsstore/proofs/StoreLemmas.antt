@@ -1,19 +1,18 @@
 -- A store's markers and indexes after one marker more.
-use Rattle.std.proofs.Common.{◌≡◌, ◌<◌, ◌+◌, ◌++◌, ◌∷◌, [], ◌∙◌, ⊎_elim, arith, sym, ap, subst, ℕ, List, Bool, true}
-use Rattle.std.proofs.Common.{false, Some, refl, length, length-append, slice_get, get_or, Contains, take, not}
+use Rattle.std.proofs.Common.{◌≡◌, ◌<◌, ◌+◌, ◌++◌, ◌∷◌, [], ◌∙◌, ⊎_elim, arith, sym, ap, subst, ℕ, List, true}
+use Rattle.std.proofs.Common.{Some, refl, length, length-append, slice_get, get_or, Contains, take, not}
 use Rattle.std.proofs.lemmas.List.{get_or_append_left, get_or_push}
 use Rattle.std.proofs.lemmas.List.Elements.{Contains-push}
 use Rattle.std.proofs.lemmas.Option.{slice_get_within, slice_get_read, get_or_from_slice_get, same_Some}
 use Rattle.std.specs.List.{list_any}
-use Rattle.std.proofs.lemmas.Bool.{false≢true}
 use Rattle.std.proofs.lemmas.Map.Views.{Contains-from_any, list_any-from_Contains}
 use Rattle.std.proofs.Math.Seq.{take-append_seam}
-use Rattle.indexmap.specs.IndexSet.{insert_key}
 use Rattle.hg_changeset.specs.declared.node.Node.{Node}
 use Rattle.hg_marker.specs.Same.{same_fields, fields_decides, fields_equivalence}
 use Rattle.hg_marker.specs.Fields.{Fields}
 use Rattle.hg_marker.specs.Parents.{recorded_parents}
 use Rattle.hg_obsstore.specs.declared.index.Index.{Index}
+use Rattle.hg_obsstore.specs.declared.index.Role.{Role}
 use Rattle.hg_obsstore.specs.declared.index.Role.TheVariants.{Predecessor, Successor, Parent}
 use Rattle.hg_obsstore.specs.Places.{ListsAll}
 use Rattle.hg_obsstore.specs.Markers.{IsAt, ArePlaces, predecessors, successors}
@@ -78,6 +77,22 @@ module _ (nodes_of : Fields → List Node) (ms : List Fields) where
   pub indexed_below : (old : Node → List ℕ) → IsIndexBy nodes_of ms old → AreBelow old (length ms)
   indexed_below old all n i h = let at = ((all n).exact i).0 h in slice_get_within ms i at.0 at.1
 
+none_listed : (P : Fields → Type 0) (ps : List ℕ) → ps ≡ [] → ArePlaces P [] ps
+none_listed P ps e = subst (ArePlaces P []) (sym e) (record {
+  ascending = λ j h. absurd (omega (arith, h));
+  exact = λ i. (
+    (λ h. absurd (omega (arith, h.1))),
+    (λ h. let lt = slice_get_within [] i h.0 h.1 in absurd (omega (arith, lt))),
+  );
+})
+
+pub indexed_none : (index : Index) → ((role : Role) (n : Node) → places_of role index n ≡ []) → AreIndexed [] index
+indexed_none index none = record {
+  predecessor = λ n. none_listed (λ m. Contains (predecessors m) n) _ (none Predecessor n);
+  successor = λ n. none_listed (λ m. Contains (successors m) n) _ (none Successor n);
+  child = λ n. none_listed (λ m. Contains (recorded_parents m) n) _ (none Parent n);
+}
+
 pub all_below : (ms : List Fields) (index : Index) → AreIndexed ms index → HaveBelow index (length ms)
 all_below ms index all = record {
   predecessor = indexed_below predecessors ms (places_of Predecessor index) all.predecessor;
@@ -109,22 +124,6 @@ held ms m h = Contains-from_any (λ x y e. (fields_decides x y).0 e) m ms h
 
 pub held_back : (ms : List Fields) (m : Fields) → Contains ms m → list_any (same_fields m) ms ≡ true
 held_back ms m h = list_any-from_Contains fields_equivalence m ms h
-
-pub told_known : (b r : Bool) → r ≡ not b → r ≡ false → b ≡ true
-told_known true r e f = refl
-told_known false r e f = absurd (false≢true (sym f ∙ e))
-
-pub told_new : (b r : Bool) → r ≡ not b → r ≡ true → b ≡ false
-told_new true r e f = absurd (false≢true (sym e ∙ f))
-told_new false r e f = refl
-
-pub inserted_known : (ms : List Fields) (m : Fields) → list_any (same_fields m) ms ≡ true
-    → insert_key same_fields ms m ≡ ms
-inserted_known ms m h = rw h refl
-
-pub inserted_new : (ms : List Fields) (m : Fields) → list_any (same_fields m) ms ≡ false
-    → insert_key same_fields ms m ≡ ms ++ m ∷ []
-inserted_new ms m h = rw h refl
 
 pub read_last : (ms xs : List Fields) (m x : Fields) (place : ℕ) → xs ≡ ms ++ m ∷ [] → place ≡ length ms
     → x ≡ get_or xs place x → x ≡ m

@@ -1,7 +1,9 @@
 pub mod Places
 pub mod Markers
 pub mod Mentions
+pub mod Entries
 pub mod Index
+pub mod Digests
 pub mod Indexes
 pub mod Growth
 pub mod Sets

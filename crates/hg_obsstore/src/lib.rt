@@ -26,6 +26,8 @@
 //! ```
 #![tactic(auto)]
 
+mod digests;
+mod entries;
 mod fault;
 mod format;
 mod index;

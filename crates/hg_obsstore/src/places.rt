@@ -1,7 +1,8 @@
 //! Ascending places of markers, of which most lists have one.
 
 ghost use Rattle.std.specs.Prelude.{◌≡◌, ◌++◌, ◌∷◌, ◌-◌, [], length, take, OnOk, OnErr, IfOk};
-ghost use Rattle.hg_obsstore.specs.Index.{places_in, stands_last, with_last, without_last};
+ghost use Rattle.hg_obsstore.specs.Entries.{places_in};
+ghost use Rattle.hg_obsstore.specs.Index.{stands_last, with_last, without_last};
 
 use std::alloc::{AllocError, Global};
 use std::slice;

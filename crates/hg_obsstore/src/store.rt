@@ -1,7 +1,7 @@
 //! A set of markers with an index.
 //!
-//! The markers stand in the order in which they came, in a set that finds an equal one by its value in one look-up, so
-//! no marker stands twice. A marker is named by its place. Places only grow, so what is new stands last, and a call
+//! The markers stand in the order in which they came. An equal one is found by the index, under its predecessor, so no
+//! marker stands twice. A marker is named by its place. Places only grow, so what is new stands last, and a call
 //! that is refused half way is taken back by cutting off what it added.
 ghost use Rattle.std.specs.Prelude.{◌≡◌, ◌≢◌, ◌+◌, ◌<◌, ◌≤◌, ◌↔◌, [], length, take, All, IsTrue, IfOk, OnOk, OnErr};
 ghost use Rattle.std.specs.Prelude.{Contains, slice_get};
@@ -12,12 +12,15 @@ ghost use Rattle.hg_obsstore.specs.Places.{ListsAll};
 ghost use Rattle.hg_obsstore.specs.Markers.{AreDifferent, ArePlaces};
 ghost use Rattle.hg_obsstore.specs.Growth.{AddAnswer, AreNewPlaces, StartsWith, holds, new_among, united, with_marker};
 ghost use Rattle.hg_obsstore.specs.Sets.{IsUnion};
+ghost use Rattle.hg_obsstore.specs.Index.{SamePlaces};
+ghost use Rattle.hg_obsstore.specs.Indexes.{HaveBelow, AddMarker};
+ghost use Rattle.hg_obsstore.specs.Digests.{IsUnderDigest, KeepsOtherDigests};
 
+use crate::digests::Digests;
 use crate::index::{Hint, Index, Mentions};
 use hg_changeset::Node;
 use hg_join::NoMemory;
 use hg_marker::Marker;
-use indexmap::IndexSet;
 use std::alloc::{AllocError, Global};
 use std::fmt;
 use std::marker::Model;
@@ -36,11 +39,13 @@ pub enum Added {
 /// Two stores are `==` where they hold the same markers in the same order.
 ///
 /// It joins as a [`JoinState`](hg_join::JoinState). A call that adds costs what it is given, and a refused one no more;
-/// the look-ups cost one look-up by a hash, however many markers they tell of.
+/// the look-ups cost one look-up in an ordered index, however many markers they tell of. Whoever chooses the markers
+/// can't make them cost more.
 pub struct Store {
     alloc: Global,
-    markers: IndexSet<Marker>,
+    markers: Vec<Marker>,
     index: Index,
+    digests: Digests,
 }
 
 // Whoever owns a store calls this once, and is proved without a look at each collection in it.
@@ -50,6 +55,7 @@ impl Drop for Store {
             alloc: _,
             markers: _,
             index: _,
+            digests: _,
         } = self;
     }
 }
@@ -62,15 +68,16 @@ impl Model for Store {
     ghost use Rattle.hg_obsstore.specs.Places.{ListsAll};
     ghost use Rattle.hg_obsstore.specs.Markers.{AreApart};
     ghost use Rattle.hg_obsstore.specs.Indexes.{AreIndexed};
+    ghost use Rattle.hg_obsstore.specs.Digests.{AreDigested};
 
     ghost Value = { List Fields };
 
     ghost coded = { coded_list fields_code };
 
-    ghost view = { λ s. s.markers.keys };
+    ghost view = { λ s. s.markers.items };
 
-    ghost invariant = { λ s. AreApart s.markers.keys × AreIndexed s.markers.keys s.index
-        × All IsMarker s.markers.keys };
+    ghost invariant = { λ s. AreApart s.markers.items × AreIndexed s.markers.items s.index
+        × All IsMarker s.markers.items × AreDigested s.markers.items s.index s.digests };
 }
 
 impl PartialEq for Store {
@@ -105,8 +112,9 @@ impl Store {
     {
         Store {
             alloc,
-            markers: IndexSet::new(alloc),
+            markers: Vec::new(alloc),
             index: Index::new(alloc),
+            digests: Digests::new(alloc),
         }
     }
 
@@ -121,7 +129,7 @@ impl Store {
     pub fn get(&self, place: usize) -> Option<&Marker>
         ensures { option_copied result ≡ slice_get self.now place }
     {
-        self.markers.get_index(place)
+        self.markers.get(place)
     }
 
     /// The markers, in the order in which they came.
@@ -141,7 +149,8 @@ impl Store {
     pub fn contains(&self, marker: &Marker) -> bool
         ensures { IsTrue result ↔ Contains self.now marker.now }
     {
-        self.markers.contains(marker)
+        let places = self.index.mentions(marker.predecessor()).as_predecessor();
+        self.digests.hold(&self.markers, places, marker)
     }
 
     /// The places of the markers that name this node, in each role, by one look-up.
@@ -153,8 +162,8 @@ impl Store {
         self.mentions_near(node, Hint::NOWHERE)
     }
 
-    /// The same as [`mentions`](Store::mentions), whatever the hint is. It takes no look-up by a hash where the hint
-    /// came with the mentions of this node.
+    /// The same as [`mentions`](Store::mentions), whatever the hint is. It takes no look-up where the hint came with
+    /// the mentions of this node.
     pub fn mentions_near(&self, node: Node, hint: Hint) -> Mentions<'_>
         ensures predecessor { ArePlaces (λ m. m.predecessor ≡ node) self.now result.as_predecessor }
         ensures successor { ArePlaces (λ m. Contains m.successors node) self.now result.as_successor }
@@ -197,13 +206,19 @@ impl Store {
         // Where an equal marker is held no memory is taken.
         ensures memory { OnErr result (¬ Contains self.old marker) }
     {
-        let place = self.markers.len();
-        let is_new = self.markers.insert(marker)?;
-        if !is_new {
+        if self.contains(&marker) {
             return Ok(Added::Known);
         }
-        let marker = &self.markers.as_slice()[place];
-        if let Err(_) = self.index.add(marker, place) {
+        let place = self.markers.len();
+        self.markers.push(marker)?;
+        let marker = &self.markers[place];
+        if let Err(_) = add_marker(
+            self.alloc,
+            &mut self.index,
+            &mut self.digests,
+            marker,
+            place,
+        ) {
             self.markers.truncate(place);
             return Err(NoMemory);
         }
@@ -228,8 +243,14 @@ impl Store {
         requires { place + 1 ≡ length self.old }
         ensures { self.new ≡ take place self.old }
     {
-        let marker = &self.markers.as_slice()[place];
+        let marker = &self.markers[place];
         self.index.remove(marker, place);
+        let before = self
+            .index
+            .mentions(marker.predecessor())
+            .as_predecessor()
+            .len();
+        self.digests.remove(marker, before, place);
         self.markers.truncate(place);
     }
 }
@@ -392,6 +413,32 @@ impl Store {
         let copy = marker.copy()?;
         self.add(copy)?;
         Ok(())
+    }
+}
+
+// Adds a marker at a place that is above all others. After an error nothing is found elsewhere than before.
+fn add_marker(
+    alloc: Global,
+    index: &mut Index,
+    digests: &mut Digests,
+    marker: &Marker,
+    place: usize,
+) -> Result<(), AllocError>
+    requires { HaveBelow index.old place }
+    ensures ok { OnOk result (AddMarker marker.now place index.old index.new) }
+    ensures digest { OnOk result (IsUnderDigest index.new digests.new marker.now place) }
+    ensures err { OnErr result (SamePlaces index.old index.new) }
+    ensures kept { KeepsOtherDigests place digests.old digests.new }
+    ensures marker { IsMarker marker.now }
+{
+    let before = index.mentions(marker.predecessor()).as_predecessor().len();
+    digests.add(alloc, marker, before, place)?;
+    match index.add(marker, place) {
+        Ok(()) => Ok(()),
+        Err(error) => {
+            digests.remove(marker, before, place);
+            Err(error)
+        }
     }
 }
 

@@ -1,73 +1,69 @@
-use Rattle.std.proofs.Common.{rules, ◌≡◌, ◌∙◌, ◌++◌, ◌∷◌, [], sym, subst, true, false, List, length, Contains, All}
+use Rattle.std.proofs.Common.{rules, ◌≡◌, ◌∙◌, ◌++◌, ◌∷◌, [], sym, subst, false, List, length, get_or, Contains, All}
 use Rattle.std.specs.List.{list_any}
-use Rattle.std.proofs.lemmas.Bool.{false≢true}
+use Rattle.std.proofs.lemmas.Bool.{false≢true, false_from_ne_true}
 use Rattle.std.proofs.lemmas.List.Elements.{All-push}
-use Rattle.hg_changeset.proofs.ListLemmas.{on_err_anyway}
+use Rattle.std.proofs.lemmas.Map.Keys.{IsDistinct-push}
 use Rattle.hg_marker.specs.Fields.{Fields}
 use Rattle.hg_marker.specs.Grammar.{IsMarker}
-use Rattle.hg_marker.specs.Same.{same_fields}
+use Rattle.hg_marker.specs.Same.{same_fields, fields_equivalence}
+use Rattle.hg_obsstore.specs.Digests.{AreDigested, IsUnderDigest, KeepsOtherDigests}
 use Rattle.hg_obsstore.specs.Indexes.{HaveBelow, AreIndexed, AddMarker}
-use Rattle.hg_obsstore.proofs.StoreLemmas.{held, held_back, told_known, told_new, inserted_known, inserted_new}
-use Rattle.hg_obsstore.proofs.StoreLemmas.{read_last, cut_back, all_below, all_push, all_same}
+use Rattle.hg_obsstore.specs.Markers.{AreApart}
+use Rattle.hg_obsstore.proofs.DigestLemmas.{digested_push, digested_same}
+use Rattle.hg_obsstore.proofs.StoreLemmas.{held, read_last, cut_back, all_below, all_push, all_same}
 use Rattle.hg_obsstore.proofs.store.Store.add.Goals as goal
 
-pub returns-then-not-is_new-clause-ok : goal.returns-then-not-is_new-clause-ok
-returns-then-not-is_new-clause-ok c =
-    let ms = c.self.inside.markers.keys in
-    let old : c.in_ok-is_new.is_new ≡ false = search rules in
-    let known = told_known (list_any (same_fields c.args.marker) ms) c.in_ok-is_new.is_new c.in_ok-is_new.ensures.added
-    old in (
-      subst (λ (xs : List Fields). Contains xs c.args.marker) c.self.view_is (held ms c.args.marker known),
-      c.in_ok-is_new.ensures.keys ∙ inserted_known ms c.args.marker known ∙ c.self.view_is,
-    )
-
-pub returns-in_err-is_new-clause-memory : goal.returns-in_err-is_new-clause-memory
-returns-in_err-is_new-clause-memory c =
-    let ms = c.self.inside.markers.keys in
-    on_err_anyway c.from_residual.result _
-    (λ h. false≢true
-    (sym c.in_err-is_new.ensures.absent
-    ∙ held_back ms c.args.marker (subst (λ (xs : List Fields). Contains xs c.args.marker) (sym c.self.view_is) h)))
-
-pub add-requires : goal.add-requires
-add-requires c =
-    subst (HaveBelow c.self.inside.index) (sym c.len-place.ensures.len)
-    (all_below c.self.inside.markers.keys c.self.inside.index c.self.invariant.1)
+pub add_marker-requires : goal.add_marker-requires
+add_marker-requires c =
+    let at : c.len-place.result ≡ length c.self.inside.markers.items = search rules in
+    subst (HaveBelow c.self.inside.index) (sym at)
+    (all_below c.self.inside.markers.items c.self.inside.index c.self.invariant.1)
 
 pub invariant_of-self-in-Err : goal.invariant_of-self-in-Err
 invariant_of-self-in-Err c =
-    let ms = c.self.inside.markers.keys in
-    let new : c.in_ok-is_new.is_new ≡ true = search rules in
-    let keys : c.insert.new.self.keys ≡ ms ++ c.args.marker ∷ [] =
-    c.in_ok-is_new.ensures.keys
-    ∙ inserted_new ms c.args.marker
-    (told_new (list_any (same_fields c.args.marker) ms) c.in_ok-is_new.is_new c.in_ok-is_new.ensures.added new) in
-    let back : c.truncate.new.self.keys ≡ ms =
-    cut_back ms c.insert.new.self.keys c.truncate.new.self.keys c.args.marker c.len-place.result keys
-    c.len-place.ensures.len c.truncate.ensures.keys in (
-      c.truncate.ensures.unique,
-      subst (λ (xs : List Fields). AreIndexed xs c.add.new.self) (sym back)
-          (all_same ms c.self.inside.index c.add.new.self c.in-Err.ensures.err c.self.invariant.1),
-      subst (All IsMarker) (sym back) c.self.invariant.2,
+    let ms = c.self.inside.markers.items in
+    let at : c.len-place.result ≡ length ms = search rules in
+    let back = sym (cut_back ms c.push.new.self.items c.truncate.new.self.items c.args.marker c.len-place.result
+    c.in_ok-push.ensures.items at c.truncate.ensures.items) in (
+      subst AreApart back c.self.invariant.0,
+      subst (λ (xs : List Fields). AreIndexed xs c.add_marker.new.index) back
+          (all_same ms c.self.inside.index c.add_marker.new.index c.in-Err.ensures.err c.self.invariant.1),
+      subst (All IsMarker) back c.self.invariant.2,
+      subst (λ (xs : List Fields). AreDigested xs c.add_marker.new.index c.add_marker.new.digests) back
+          (digested_same ms c.self.inside.index c.add_marker.new.index c.self.inside.digests c.add_marker.new.digests
+          c.self.invariant.3 c.in-Err.ensures.err
+          (subst (λ n. KeepsOtherDigests n c.self.inside.digests c.add_marker.new.digests) at c.in-Err.ensures.kept)),
     )
 
 pub invariant_of-self-in_default : goal.invariant_of-self-in_default
 invariant_of-self-in_default c =
-    let ms = c.self.inside.markers.keys in
-    let new : c.in_ok-is_new.is_new ≡ true = search rules in
-    let keys : c.insert.new.self.keys ≡ ms ++ c.args.marker ∷ [] =
-    c.in_ok-is_new.ensures.keys
-    ∙ inserted_new ms c.args.marker
-    (told_new (list_any (same_fields c.args.marker) ms) c.in_ok-is_new.is_new c.in_ok-is_new.ensures.added new) in
-    let same : c.index-as_slice-place.result ≡ c.args.marker =
-    read_last ms c.as_slice.result.now c.args.marker c.index-as_slice-place.result c.len-place.result
-    (c.as_slice.ensures.keys ∙ keys) c.len-place.ensures.len c.index-as_slice-place.is in
-    let added : AddMarker c.args.marker (length ms) c.self.inside.index c.add.new.self =
-    subst (λ n. AddMarker c.args.marker n c.self.inside.index c.add.new.self) c.len-place.ensures.len
-    (subst (λ m. AddMarker m c.len-place.result c.self.inside.index c.add.new.self) same c.in_default.ensures.ok) in (
-      c.in_ok-is_new.ensures.unique,
-      subst (λ (xs : List Fields). AreIndexed xs c.add.new.self) (sym keys)
-          (all_push ms c.args.marker c.self.inside.index c.add.new.self c.self.invariant.1 added),
-      subst (All IsMarker) (sym keys)
-          (All-push IsMarker ms c.args.marker c.self.invariant.2 (subst IsMarker same c.add.ensures.marker)),
+    let ms = c.self.inside.markers.items in
+    let m = c.args.marker in
+    let at : c.len-place.result ≡ length ms = search rules in
+    let items : c.push.new.self.items ≡ ms ++ m ∷ [] = c.in_ok-push.ensures.items in
+    let read : c.index-marker.result.now ≡ get_or c.push.new.self.items c.len-place.result c.index-marker.result.now =
+    search rules in
+    let same : c.index-marker.result.now ≡ m =
+    read_last ms c.push.new.self.items m c.index-marker.result.now c.len-place.result items at read in
+    let added : AddMarker m (length ms) c.self.inside.index c.add_marker.new.index =
+    subst (λ n. AddMarker m n c.self.inside.index c.add_marker.new.index) at
+    (subst (λ x. AddMarker x c.len-place.result c.self.inside.index c.add_marker.new.index) same
+    c.in_default.ensures.ok) in
+    let digest : IsUnderDigest c.add_marker.new.index c.add_marker.new.digests m (length ms) =
+    subst (λ n. IsUnderDigest c.add_marker.new.index c.add_marker.new.digests m n) at
+    (subst (λ x. IsUnderDigest c.add_marker.new.index c.add_marker.new.digests x c.len-place.result) same
+    c.in_default.ensures.digest) in
+    let absent : list_any (same_fields m) ms ≡ false =
+    false_from_ne_true (list_any (same_fields m) ms) (λ t. false≢true (sym c.if-contains.false
+    ∙ c.contains.ensures.1 (subst (λ (xs : List Fields). Contains xs m) c.self.view_is (held ms m t)))) in (
+      subst AreApart (sym items) (IsDistinct-push fields_equivalence ms m c.self.invariant.0 absent),
+      subst (λ (xs : List Fields). AreIndexed xs c.add_marker.new.index) (sym items)
+          (all_push ms m c.self.inside.index c.add_marker.new.index c.self.invariant.1 added),
+      subst (All IsMarker) (sym items)
+          (All-push IsMarker ms m c.self.invariant.2 (subst IsMarker same c.add_marker.ensures.marker)),
+      subst (λ (xs : List Fields). AreDigested xs c.add_marker.new.index c.add_marker.new.digests) (sym items)
+          (digested_push ms m c.self.inside.index c.add_marker.new.index c.self.inside.digests
+          c.add_marker.new.digests c.self.invariant.3 added.predecessor digest
+          (subst (λ n. KeepsOtherDigests n c.self.inside.digests c.add_marker.new.digests) at
+          c.in_default.ensures.kept)),
     )
