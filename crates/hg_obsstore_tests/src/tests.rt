@@ -183,6 +183,32 @@ fn lists_two_equal_parents_once(rt: HostRuntime) {
     assert!(rt; store.with_predecessor(OLD) == [0usize].as_slice());
 }
 
+// So many markers of OLD, each with a successor of its own.
+fn rewrites(alloc: Global, count: u8) -> Option<Vec<Marker>> {
+    let mut part = Vec::new(alloc);
+    for number in 0..count {
+        let mut successor = NEW;
+        successor.0[0] = number;
+        part.push(marker(alloc, OLD, &[successor])?).ok()?;
+    }
+    Some(part)
+}
+
+// A node may be rewritten in any number of ways, each of which stands once.
+#[test]
+fn holds_each_of_many_rewrites_once(rt: HostRuntime) {
+    let alloc = rt.alloc();
+    let part = rewrites(alloc, 20).expect(&rt, "memory");
+    let mut store = Store::new(alloc);
+    let places = store.absorb(&part).expect(&rt, "memory");
+    assert!(rt; places.len() == 20 && store.with_predecessor(OLD).len() == 20);
+    let places = store.absorb(&part).expect(&rt, "memory");
+    assert!(rt; places.is_empty() && store.len() == 20);
+    store.truncate(10);
+    let places = store.absorb(&part).expect(&rt, "memory");
+    assert!(rt; places.first() == Some(&10) && places.len() == 10);
+}
+
 // Two prunes without metadata, of OLD and of NEW, and that of OLD again.
 fn prunes(alloc: Global) -> Option<Vec<Marker>> {
     let mut part = Vec::new(alloc);
@@ -314,6 +340,21 @@ fn refused_growth_takes_nothing_in(rt: HostRuntime) {
         Err(NoMemory) => store.copy().expect(&rt, "memory"),
     };
     assert!(rt; copy.len() == 2 && copy.with_predecessor(OLD) == [0usize].as_slice());
+}
+
+// The ninth marker of one node takes memory of its own.
+#[test]
+fn refused_growth_of_many_rewrites_takes_nothing_in(rt: HostRuntime) {
+    let alloc = rt.alloc();
+    let Some(part) = rewrites(alloc, 9) else {
+        return;
+    };
+    let mut store = Store::new(alloc);
+    if let Err(NoMemory) = store.absorb(&part) {
+        assert!(rt; store.len() == 0 && store.with_predecessor(OLD).is_empty());
+        assert!(rt; store.absorb(&part).is_ok());
+    }
+    assert!(rt; store.len() == 9 && store.with_predecessor(OLD).len() == 9);
 }
 
 #[test]
