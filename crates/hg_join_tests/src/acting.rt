@@ -49,7 +49,7 @@ fn prices_that_are_asked_for_are_told_and_heard(rt: HostRuntime) {
     let bytes = prices.offer(alloc, &items).expect(&rt, "memory");
     assert_eq!(rt; bytes.as_slice(), [2, 4, 1, 9].as_slice());
     let mut other = told_of(alloc, &[(1, 5)]).expect(&rt, "memory");
-    let part = Prices::read(alloc, bytes.as_slice()).expect(&rt, "memory");
+    let part = other.read_at(alloc, bytes.as_slice()).expect(&rt, "memory");
     other.absorb(&part).expect(&rt, "memory");
     assert_eq!(rt; [other.get(1), other.get(2)], [Some(5), Some(4)]);
     assert_eq!(rt; own_offer_adds_nothing(alloc, &other, &items), Some(true));

@@ -161,7 +161,7 @@ impl<K: NodeName, R: Wait + Drop> Desk<K, Writer<K, R>> {
         if self.journal.len() >= MOST {
             return Err(CallRefusal::JournalFull);
         }
-        match Peer::read(self.alloc, bytes) {
+        match self.working.read_at(self.alloc, bytes) {
             Ok(part) => self.enter(pass, gate, Entry::Part(part)),
             Err(refusal) => Err(refusal.into()),
         }

@@ -9,6 +9,7 @@ pub mod MessageLemmas
 pub mod FieldFaultLemmas
 pub mod FirstFaultLemmas
 pub mod WritingLemmas
+pub mod HeldLemmas
 pub mod SpellingLemmas
 pub mod ThoseLemmas
 pub mod NamedLemmas

@@ -8,12 +8,12 @@ use Rattle.hg_changeset.specs.declared.node.Node.{Node}
 use Rattle.hg_changeset.specs.Node.{null_node, node_eq}
 use Rattle.hg_changeset.specs.Same.{node_eq_decides}
 use Rattle.hg_changeset.specs.Contents.{Contents}
-use Rattle.hg_changeset.specs.Changeset.{node_of, is_given_twice, text_limit}
+use Rattle.hg_changeset.specs.Changeset.{node_of, changeset_of, is_given_twice, text_limit}
 use Rattle.hg_marker.specs.Reading.{number, node, field}
 use Rattle.hg_marker.proofs.Formats.{IsFormat, Sequence, sequence, number_format, IsNumber, node_format, IsIdOf}
 use Rattle.hg_marker.proofs.Formats.{field_format, IsField, wants_format, Wanted, says_format, SaysOnly}
 use Rattle.hg_message.specs.declared.error.MessageFault.TheVariants.{HashMismatch, BadParents, TextTooLong}
-use Rattle.hg_message.specs.Record.{RecordFields, contents_of, is_named, fields_at, record_at}
+use Rattle.hg_message.specs.Record.{RecordFields, IsItsRecord, contents_of, is_named, fields_at, record_at}
 use Rattle.hg_message.specs.Spelling.{IsRecord, record_layout, number as spelled}
 use Rattle.hg_message.proofs.FormatLemmas.{eq_then, retold, whole_format}
 
@@ -163,14 +163,23 @@ record_to c bytes a =
     } in
     subst (λ (x : Contents). IsRecord x bytes) (sym d.rest_spells.0) spells
 
+-- a changeset, by its parents in either order and its text
+pub its_record : (c : Contents) (p q : Node) (text : List ℕ) → c ≡ changeset_of p q text → (p ≡ q → p ≡ null_node)
+    → node_of c ≢ null_node → IsItsRecord (record { id = node_of c; p = p; q = q; text = text })
+its_record c p q text same parents present = record {
+  differ = also_then (node_eq p q) (node_eq p null_node)
+      (λ e. (node_eq_decides p null_node).1 (parents ((node_eq_decides p q).0 e)));
+  named = rw (
+    ← same,
+    (node_eq_decides (node_of c) (node_of c)).1 refl,
+    unequal_node (node_of c) null_node present,
+  ) refl;
+}
+
 record_from : (c : Contents) (bytes : List ℕ) → IsRecord c bytes → Tested c bytes
 record_from c bytes s =
     let f : RecordFields = record { id = node_of c; p = s.p; q = s.q; text = s.text } in
-    let named : is_named f ≡ true = rw (
-      ← s.changeset,
-      (node_eq_decides (node_of c) (node_of c)).1 refl,
-      unequal_node (node_of c) null_node s.present,
-    ) refl in
+    let tests = its_record c s.p s.q s.text s.changeset s.parents s.present in
     record {
       first = f;
       front = bytes;
@@ -188,17 +197,13 @@ record_from c bytes s =
         front = [];
         back = [];
         parts = refl;
-        first_spells = (
-          also_then (node_eq s.p s.q) (node_eq s.p null_node)
-              (λ e. (node_eq_decides s.p null_node).1 (s.parents ((node_eq_decides s.p s.q).0 e))),
-          refl,
-        );
+        first_spells = (tests.differ, refl);
         rest_spells = record {
           first = tt;
           front = [];
           back = [];
           parts = refl;
-          first_spells = (named, refl);
+          first_spells = (tests.named, refl);
           rest_spells = (s.changeset, refl);
         };
       };

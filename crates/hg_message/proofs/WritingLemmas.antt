@@ -17,7 +17,7 @@ use Rattle.hg_message.specs.Spelling.{InOrder, HasNode, IsRecord, IsBound, IsWri
 use Rattle.hg_message.specs.Spelling.{head_spelling, record_spelling, bound_layout, message_spelling}
 
 -- parents in normal form stay as they are
-normal_again : (c : Contents) → IsNormal c.first c.second → c ≡ changeset_of c.first c.second c.text
+pub normal_again : (c : Contents) → IsNormal c.first c.second → c ≡ changeset_of c.first c.second c.text
 normal_again c (inl e) = rw (node_itself c.second null_node e) refl
 normal_again c (inr there) = elim (node_cases c.second null_node) [
   | inl e ↦ rw (node_itself c.second null_node e) refl
@@ -25,7 +25,7 @@ normal_again c (inr there) = elim (node_cases c.second null_node) [
 ]
 
 -- and differ, or are both absent
-normal_differ : (c : Contents) → IsNormal c.first c.second → c.first ≡ c.second → c.first ≡ null_node
+pub normal_differ : (c : Contents) → IsNormal c.first c.second → c.first ≡ c.second → c.first ≡ null_node
 normal_differ c (inl e) same = same ∙ e
 normal_differ c (inr there) same = absurd (same_not_less c.first c.second same there.1)
 

@@ -1,5 +1,5 @@
 -- The records of a message.
-use Rattle.std.specs.Prelude.{ℕ, List, Bool, not, ◌&&◌, nat_le}
+use Rattle.std.specs.Prelude.{◌≡◌, ℕ, List, Bool, true, not, ◌&&◌, nat_le}
 use Rattle.hg_changeset.specs.declared.node.Node.{Node}
 use Rattle.hg_changeset.specs.Node.{null_node, node_eq}
 use Rattle.hg_changeset.specs.Contents.{Contents}
@@ -23,6 +23,11 @@ contents_of f = changeset_of f.p f.q f.text
 -- the id is the hash of the fields, and isn't the null id
 abbrev pub is_named : RecordFields → Bool
 is_named f = node_eq (node_of (contents_of f)) f.id && not (node_eq (node_of (contents_of f)) null_node)
+
+-- the fields are those of a changeset: the parents differ or are both null, and the id is the hash
+pub record IsItsRecord (f : RecordFields) : Type 0 where
+  pub differ : not (is_given_twice f.p f.q) ≡ true
+  pub named : is_named f ≡ true
 
 -- the id, the parents, the length of the text, which is tried at once, and the text
 unfoldable pub fields_at : ℕ → ℕ → Reader MessageFault RecordFields

@@ -15,6 +15,7 @@ use crate::message::Message;
 use crate::place::truncated;
 use crate::record::{read_records, skip_records};
 use crate::scope::{Scope, VERSION_WITHOUT_SCOPE, read_scope};
+use hg_graph::Graph;
 use hg_marker::{Marker, ReadError, read_byte, read_field, read_number};
 use hg_obsstore::{StoreFault, read_markers};
 use std::alloc::Global;
@@ -44,9 +45,13 @@ pub(crate) struct Layout<'a> {
     rest: &'a [u8],
 }
 
-/// The parts of the message. It takes no memory.
+/// The parts of the message, of whose records those of changesets that are held are spared their hash. It takes no
+/// memory.
 #[tactic(auto, using(crate::proofs::LayoutLemmas::ends_alike), unfolding(crate::specs::Message::parts_at, crate::specs::Message::store_in))]
-pub(crate) fn split_message(bytes: &[u8]) -> Result<Layout<'_>, MessageFault>
+pub(crate) fn split_message<'a>(
+    held: Option<&Graph>,
+    bytes: &'a [u8],
+) -> Result<Layout<'a>, MessageFault>
     ensures exact { MatchResult result
         (λ layout. message_at bytes.now ≡ said layout)
         (λ fault. message_at bytes.now ≡ Err fault) }
@@ -64,7 +69,7 @@ pub(crate) fn split_message(bytes: &[u8]) -> Result<Layout<'_>, MessageFault>
     }
     let (scope, rest) = read_scope(total, version, rest)?;
     let (count, records) = read_number(rest, truncated(total, rest))?;
-    let rest = skip_records(total, count, records)?;
+    let rest = skip_records(held, total, count, records)?;
     let (entries, bounds) = read_number(rest, truncated(total, rest))?;
     let rest = skip_bounds(total, entries, bounds)?;
     let (len, rest) = read_number(rest, truncated(total, rest))?;

@@ -13,6 +13,7 @@ use crate::layout::split_message;
 use crate::scope::Scope;
 use crate::writing::write_message;
 use hg_changeset::{Changeset, Node};
+use hg_graph::Graph;
 use hg_marker::{Marker, ReadError};
 use hg_obsstore::markers_len;
 use hg_phases::Phase;
@@ -267,7 +268,22 @@ impl Message {
         // The same, field by field, up to the first fault.
         ensures exact { Gives (λ message. message) result (message_at bytes.now) }
     {
-        read_message(alloc, bytes)
+        Message::from_bytes_at(alloc, None, bytes)
+    }
+
+    /// What [`from_bytes`](Message::from_bytes) gives, where some changesets are held. A record of one of them whose
+    /// parents stand in normal form, as they are written, is compared with it, and not hashed.
+    pub fn from_bytes_at(
+        alloc: Global,
+        held: Option<&Graph>,
+        bytes: &[u8],
+    ) -> Result<Message, ReadError<MessageFault>>
+        ensures only { (m : MessageValue) → IsMessageSpelling m bytes.now → Gives (λ message. message) result (Ok m) }
+        ensures found { IfOk result (λ message. IsMessageSpelling message bytes.now) }
+        ensures memory { IsErrOf result ReadError.NoMemory → 40 < length bytes.now }
+        ensures exact { Gives (λ message. message) result (message_at bytes.now) }
+    {
+        read_message(alloc, held, bytes)
     }
 }
 
@@ -281,11 +297,15 @@ fn fit(markers: &[Marker]) -> bool
     }
 }
 
-fn read_message(alloc: Global, bytes: &[u8]) -> Result<Message, ReadError<MessageFault>>
+fn read_message(
+    alloc: Global,
+    held: Option<&Graph>,
+    bytes: &[u8],
+) -> Result<Message, ReadError<MessageFault>>
     ensures exact { Gives (λ message. message) result (message_at bytes.now) }
     ensures memory { IsErrOf result ReadError.NoMemory → 40 < length bytes.now }
 {
-    match split_message(bytes) {
+    match split_message(held, bytes) {
         Ok(layout) => layout.read(alloc),
         Err(fault) => Err(ReadError::Fault(fault)),
     }

@@ -1,19 +1,21 @@
 //! The records of a message.
 //!
 //! A record is a node id, two parents, the length of a text, and the text. Records are checked before any memory is
-//! taken, each against its hash, and then copied without hashing them again.
-ghost use Rattle.std.specs.Prelude.{◌≡◌, ◌<◌, ◌≤◌, List, IfOk, OnErr, MatchResult, Ok, Err, length};
+//! taken, and then copied without hashing them again. Each is checked against its hash, except one whose changeset is
+//! held where the message is read: the id of what is held is its hash.
+ghost use Rattle.std.specs.Prelude.{◌≡◌, ◌<◌, ◌≤◌, List, IsTrue, IfOk, OnErr, MatchResult, Ok, Err, length};
 ghost use Rattle.hg_changeset.specs.Changeset.{text_limit};
 ghost use Rattle.hg_changeset.specs.Contents.{Contents};
 ghost use Rattle.hg_marker.specs.Faults.{left};
 ghost use Rattle.hg_marker.specs.Reading.{IsRead, IsReading};
 ghost use Rattle.hg_message.specs.Counted.{counted, first_of};
-ghost use Rattle.hg_message.specs.Record.{fields_at, record_at};
+ghost use Rattle.hg_message.specs.Record.{IsItsRecord, fields_at, record_at};
 ghost use Rattle.hg_message.specs.RecordView.{fields_of};
 
 use crate::error::MessageFault;
 use crate::place::truncated;
 use hg_changeset::{Changeset, ChangesetError, Node, TEXT_LIMIT};
+use hg_graph::Graph;
 use hg_marker::{read_field, read_node, read_number};
 use std::alloc::{AllocError, Global};
 
@@ -47,12 +49,44 @@ fn split_record(
     Ok((RecordBytes { id, p, q, text }, rest))
 }
 
+// Whether the record is that of a changeset that is held, with its parents in normal form. Nothing is hashed for that.
+fn is_held(held: Option<&Graph>, fields: &RecordBytes<'_>) -> bool
+    ensures { IsTrue result → IsItsRecord (fields_of fields.now) }
+{
+    match held {
+        Some(graph) => match graph.changeset(fields.id) {
+            Some(changeset) => are_fields_of(fields, changeset),
+            None => false,
+        },
+        None => false,
+    }
+}
+
+// Whether these are the id, the parents and the text of the changeset. So its id is known to be their hash.
+fn are_fields_of(fields: &RecordBytes<'_>, changeset: &Changeset) -> bool
+    ensures { IsTrue result → IsItsRecord (fields_of fields.now) }
+{
+    let (first, second) = changeset.parents();
+    if changeset.node() != fields.id || first != fields.p || second != fields.q {
+        return false;
+    }
+    changeset.text() == fields.text
+}
+
 // The bytes after the record of this index. It takes no memory.
 #[tactic(auto, unfolding(crate::specs::Record::record_at))]
-fn skip_record(total: usize, index: u32, bytes: &[u8]) -> Result<&[u8], MessageFault>
+fn skip_record<'a>(
+    held: Option<&Graph>,
+    total: usize,
+    index: u32,
+    bytes: &'a [u8],
+) -> Result<&'a [u8], MessageFault>
     ensures { IsReading (λ rest. rest.now) result (left (record_at total index bytes.now)) }
 {
     let (record, rest) = split_record(total, index, bytes)?;
+    if is_held(held, &record) {
+        return Ok(rest);
+    }
     match Changeset::id_of(record.p, record.q, record.text) {
         Ok(id) if id == record.id => Ok(rest),
         Err(ChangesetError::SameParent) => Err(MessageFault::BadParents(index)),
@@ -60,8 +94,14 @@ fn skip_record(total: usize, index: u32, bytes: &[u8]) -> Result<&[u8], MessageF
     }
 }
 
-/// The bytes after so many records. It takes no memory.
-pub(crate) fn skip_records(total: usize, count: u32, bytes: &[u8]) -> Result<&[u8], MessageFault>
+/// The bytes after so many records, of which those of changesets that are held are spared their hash. It takes no
+/// memory.
+pub(crate) fn skip_records<'a>(
+    held: Option<&Graph>,
+    total: usize,
+    count: u32,
+    bytes: &'a [u8],
+) -> Result<&'a [u8], MessageFault>
     ensures { MatchResult result
         (λ rest. (changesets : List Contents)
         × (counted (record_at total) 0 count bytes.now ≡ Ok (changesets, rest.now)))
@@ -69,7 +109,7 @@ pub(crate) fn skip_records(total: usize, count: u32, bytes: &[u8]) -> Result<&[u
 {
     let mut rest = bytes;
     for index in 0..count {
-        match skip_record(total, index, rest) {
+        match skip_record(held, total, index, rest) {
             Ok(after) => rest = after,
             Err(fault) => return Err(fault),
         }

@@ -3,17 +3,33 @@ use crate::rows::{CHILD, FIRST, NOTHING, ROOT, SERVED, WHOLE, all_kinds, one_cha
 use hg_message::{
     MarkerFault, Message, MessageError, MessageFault, Node, ReadError, Scope, StoreFault,
 };
+use hg_replica::Replica;
 use std::alloc::Global;
 use std::process::Abort;
 use std::test::Fail;
 
 // The fault of the bytes, where they have one.
 fn fault_of(rt: &impl Abort, alloc: Global, bytes: &[u8]) -> Option<MessageFault> {
-    match Message::from_bytes(alloc, bytes) {
+    fault_in(rt, Message::from_bytes(alloc, bytes))
+}
+
+fn fault_in(
+    rt: &impl Abort,
+    read: Result<Message, ReadError<MessageFault>>,
+) -> Option<MessageFault> {
+    match read {
         Ok(_) => None,
         Err(ReadError::Fault(fault)) => Some(fault),
         Err(ReadError::NoMemory) => panic!(rt; "memory"),
     }
+}
+
+// A replica that took in the message.
+fn holder(alloc: Global, bytes: &[u8]) -> Option<Replica> {
+    let part = Message::from_bytes(alloc, bytes).ok()?.into_part().ok()?;
+    let mut replica = Replica::new(alloc);
+    replica.absorb(&part).ok()?;
+    Some(replica)
 }
 
 // The last of the places that isn't past this one.
@@ -189,6 +205,35 @@ fn all_kinds_with_a_byte_turned(rt: HostRuntime) {
         assert!(rt; fault == all_kinds_turned(place), "at {place}");
         turn(&mut bytes, place);
     }
+}
+
+// Ids that are held are no less looked at: with a byte of a parent or a text turned, the record has another hash.
+#[test]
+fn all_kinds_with_a_byte_turned_where_they_are_held(rt: HostRuntime) {
+    let alloc = rt.alloc();
+    let mut bytes = all_kinds(alloc, FIRST, ROOT, Node::NULL).expect(&rt, "memory");
+    let replica = holder(alloc, &bytes).expect(&rt, "a replica");
+    assert!(rt; bytes.len() == 309);
+    for place in 0..309 {
+        turn(&mut bytes, place);
+        let read = Message::from_bytes_at(alloc, Some(replica.graph()), &bytes);
+        assert!(rt;
+            fault_in(&rt, read) == all_kinds_turned(place),
+            "at {place}"
+        );
+        turn(&mut bytes, place);
+    }
+}
+
+#[test]
+fn what_is_held_is_read_as_it_is_written(rt: HostRuntime) {
+    let alloc = rt.alloc();
+    let bytes = all_kinds(alloc, WHOLE, ROOT, Node::NULL).expect(&rt, "memory");
+    let replica = holder(alloc, &bytes).expect(&rt, "a replica");
+    let read = Message::from_bytes_at(alloc, Some(replica.graph()), &bytes);
+    let message = read.expect(&rt, "a message");
+    let written = message.to_bytes().expect(&rt, "memory");
+    assert!(rt; written.as_slice() == bytes.as_slice());
 }
 
 // Inverts the byte at this place.

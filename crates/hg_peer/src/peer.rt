@@ -37,6 +37,7 @@ use crate::ask::Ask;
 use crate::mark::Mark;
 use crate::refusal::PeerRefusal;
 use hg_changeset::Node;
+use hg_graph::Graph;
 use hg_history::Fault;
 use hg_join::{Actor, JoinState, NoMemory};
 use hg_message::{Message, Outgoing};
@@ -358,10 +359,31 @@ impl Actor for Peer {
         // Want of memory is told only of bytes without fault.
         ensures memory { IsErrOf result OutOfMemory → ((m : MessageValue) × (message_at bytes.now ≡ Ok m)) }
     {
-        match Message::from_bytes(alloc, bytes) {
-            Ok(message) => part_of(message),
-            Err(error) => Err(error.into()),
-        }
+        read_part(alloc, None, bytes)
+    }
+
+    fn read_at(&self, alloc: Global, bytes: &[u8]) -> Result<Part, PeerRefusal>
+        ensures ok { IfOk result (SpellsPart bytes.now) }
+        ensures err { IfErr result (λ refusal. AgainstBytes bytes.now refusal ⊎ IsMemory refusal) }
+        ensures due { IsDue (SpellsPart bytes.now) (AgainstBytes bytes.now) }
+
+        // Want of memory is told only of bytes without fault.
+        ensures memory { IsErrOf result OutOfMemory → ((m : MessageValue) × (message_at bytes.now ≡ Ok m)) }
+    {
+        read_part(alloc, Some(self.kept.replica().graph()), bytes)
+    }
+}
+
+/// The part that bytes spell. What is held is compared with them, and not hashed.
+fn read_part(alloc: Global, held: Option<&Graph>, bytes: &[u8]) -> Result<Part, PeerRefusal>
+    ensures ok { IfOk result (SpellsPart bytes.now) }
+    ensures err { IfErr result (λ refusal. AgainstBytes bytes.now refusal ⊎ IsMemory refusal) }
+    ensures due { IsDue (SpellsPart bytes.now) (AgainstBytes bytes.now) }
+    ensures memory { IsErrOf result OutOfMemory → ((m : MessageValue) × (message_at bytes.now ≡ Ok m)) }
+{
+    match Message::from_bytes_at(alloc, held, bytes) {
+        Ok(message) => part_of(message),
+        Err(error) => Err(error.into()),
     }
 }
 

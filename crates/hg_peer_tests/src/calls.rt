@@ -41,6 +41,7 @@ fn what_cannot_be_offered_or_read_is_told(rt: HostRuntime) {
     assert_eq!(rt; peer.offer(alloc, &ask).err(), Some(unknown));
     let short = PeerRefusal::Message(MessageFault::Truncated(0));
     assert_eq!(rt; Peer::read(alloc, b"HGF").err(), Some(short));
+    assert_eq!(rt; peer.read_at(alloc, b"HGF").err(), Some(short));
 }
 
 #[test]

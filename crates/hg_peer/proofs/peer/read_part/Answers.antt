@@ -1,7 +1,7 @@
 use Rattle.hg_message.specs.Message.{message_at}
 use Rattle.hg_peer.proofs.PeerLemmas.{read-memory}
 use Rattle.hg_peer.specs.BytesLaws.{bytes_due}
-use Rattle.hg_peer.proofs.peer.PeerActor.read.Goals as goal
+use Rattle.hg_peer.proofs.peer.read_part.Goals as goal
 
 pub returns-in-Ok-clause-due : goal.returns-in-Ok-clause-due
 returns-in-Ok-clause-due c = bytes_due c.args.bytes.now

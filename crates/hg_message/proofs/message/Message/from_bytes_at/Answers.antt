@@ -3,7 +3,7 @@ use Rattle.hg_marker.specs.Reading.{Gives}
 use Rattle.hg_message.specs.declared.error.MessageFault.{MessageFault}
 use Rattle.hg_message.specs.Value.{MessageValue}
 use Rattle.hg_message.proofs.MessageLemmas.{is_found, spelled_is_read}
-use Rattle.hg_message.proofs.message.Message.from_bytes.Goals as goal
+use Rattle.hg_message.proofs.message.Message.from_bytes_at.Goals as goal
 
 pub returns-clause-only : goal.returns-clause-only
 returns-clause-only c =
