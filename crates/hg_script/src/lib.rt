@@ -9,9 +9,11 @@
 //! [`run_fleet`] gives the world as the script leaves it, and its contract says so.
 #![tactic(auto)]
 
+mod blaming;
 mod command;
 mod counted;
 mod event;
+mod explaining;
 mod fault;
 mod fleet;
 mod input;
@@ -25,6 +27,9 @@ mod reading;
 mod report;
 mod script;
 mod steps;
+mod telling;
+mod told;
+mod tracing;
 
 pub use counted::CountedRead;
 pub use fault::{LineFault, RunFault};
@@ -32,3 +37,4 @@ pub use fleet::Fleet;
 pub use limits::{LINE_LIMIT, NAME_LIMIT, SCRIPT_LIMIT, limits_are_those_of_the_format};
 pub use output::printed_lines_are_those_of_the_format;
 pub use script::{run_counted, run_counted_named, run_fleet, run_named, run_script};
+pub use telling::{Notes, ToldFault, run_counted_told, run_told};
