@@ -224,8 +224,7 @@ fn tell_words<W: Write>(
             Ok(())
         }
         Err(fault) => {
-            // What was printed before the fault stays, where it can be written.
-            let _ = writer.write_all(&text);
+            keep_printed(&text, writer);
             Err(blamed(alloc, fleet, words, fault, notes))
         }
     }
@@ -238,6 +237,11 @@ fn write_text<W: Write>(text: &[u8], writer: &mut W) -> Result<(), RunFault>
         Ok(()) => Ok(()),
         Err(_) => Err(RunFault::Write),
     }
+}
+
+// What was printed before a fault stays, where it can be written.
+fn keep_printed<W: Write>(text: &[u8], writer: &mut W) {
+    let _ = writer.write_all(text);
 }
 
 // How many rounds the line of these words takes, if it is a pull that is to be traced.

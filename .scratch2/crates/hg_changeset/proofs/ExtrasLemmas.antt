@@ -1,0 +1,41 @@
+-- Extras, as they are written one after another, and the order of their keys.
+use Rattle.std.proofs.Common.{◌≡◌, ℕ, List, [], ◌∷◌, ◌++◌, map, refl, ap, Vec, Global}
+use Rattle.std.proofs.lemmas.List.{append-nil}
+use Rattle.std.specs.List.{join_with_byte, AllByRecursion}
+use Rattle.std.specs.List.Sorted.{IsStrictlySortedBy}
+use Rattle.std.specs.Ordering.{nat_cmp}
+use Rattle.std.specs.Cmp.Lexicographic.{slice_cmp}
+use Rattle.std.specs.declared.cmp.Ordering.{Ordering}
+use Rattle.std.specs.declared.cmp.Ordering.TheVariants.{Less}
+use Rattle.hg_changeset.specs.EntryValue.{extra_bytes}
+use Rattle.hg_changeset.specs.Extras.{item, extras_text, AscendByKey}
+
+-- each item with a byte before it: `before` at the first, NUL at the others
+abbrev pub led : ℕ → List (List ℕ × List ℕ) → List ℕ
+led before [] = []
+led before (x ∷ xs) = before ∷ (item x ++ led 0 xs)
+
+led_cons : (before : ℕ) (x : List ℕ × List ℕ) (xs : List (List ℕ × List ℕ))
+    → led before (x ∷ xs) ≡ before ∷ join_with_byte 0 (map item (x ∷ xs))
+led_cons before x [] = ap (λ (s : List ℕ). before ∷ s) (append-nil (item x))
+led_cons before x (y ∷ ys) = ap (λ (s : List ℕ). before ∷ (item x ++ s)) (led_cons 0 y ys)
+
+pub extras_are_led : (xs : List (List ℕ × List ℕ)) → led 32 xs ≡ extras_text xs
+extras_are_led [] = refl
+extras_are_led (x ∷ xs) = led_cons 32 x xs
+
+-- keys that ascend do so as byte strings
+abbrev pub vec_cmp : Vec ℕ Global → Vec ℕ Global → Ordering
+vec_cmp x y = slice_cmp nat_cmp x.items y.items
+
+below_all : (key : List ℕ) (es : List (Vec ℕ Global × Vec ℕ Global))
+    → AllByRecursion (λ y. slice_cmp nat_cmp key y.items ≡ Less) (map (λ e. e.0) es)
+    → AllByRecursion (λ y. slice_cmp nat_cmp key y ≡ Less) (map (λ x. x.0) (extra_bytes es))
+below_all key [] h = h
+below_all key (e ∷ es) h = (h.0, below_all key es h.1)
+
+pub ascend : (es : List (Vec ℕ Global × Vec ℕ Global)) → IsStrictlySortedBy vec_cmp (map (λ e. e.0) es)
+    → AscendByKey (extra_bytes es)
+unfolding IsStrictlySortedBy
+ascend [] h = h
+ascend (e ∷ es) h = (below_all e.0.items es h.0, ascend es h.1)

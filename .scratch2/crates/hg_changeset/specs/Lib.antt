@@ -1,0 +1,13 @@
+pub mod Bytes
+pub mod Node
+pub mod Fed
+pub mod Contents
+pub mod Changeset
+pub mod WhiteSpace
+pub mod Extras
+pub mod Description
+pub mod EntryValue
+pub mod EntryText
+pub mod EntryAnswer
+pub mod Refusals
+pub mod Same

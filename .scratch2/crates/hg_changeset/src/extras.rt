@@ -1,0 +1,67 @@
+//! Extras: what else is noted of a changeset, as keys with values.
+//!
+//! In the text of an entry they are items `key:value`, ascending by key and joined by NUL. A byte that would end an
+//! item or a line is written as two characters, and so is the backslash that begins such a pair.
+ghost use Rattle.std.specs.Prelude.{◌≡◌, ◌++◌, OnOk};
+ghost use Rattle.std.specs.List.{list_any, flat_map};
+ghost use Rattle.hg_changeset.specs.EntryValue.{extra_bytes};
+ghost use Rattle.hg_changeset.specs.Extras.{escape, extras_text, AscendByKey};
+ghost use Rattle.hg_changeset.specs.EntryAnswer.{is_bad_key};
+
+use std::alloc::AllocError;
+use std::collections::BTreeMap;
+
+/// Whether some key is empty, holds a colon or is `branch`.
+pub fn has_bad_key(extra: &BTreeMap<Vec<u8>, Vec<u8>>) -> bool
+    ensures some { result ≡ list_any (λ x. is_bad_key x.0) (extra_bytes extra.now.entries) }
+    ensures ascending { AscendByKey (extra_bytes extra.now.entries) }
+{
+    for (key, _) in extra {
+        if is_bad_key(key) {
+            return true;
+        }
+    }
+    false
+}
+
+fn is_bad_key(key: &[u8]) -> bool
+    ensures { result ≡ is_bad_key key.now }
+{
+    key.is_empty() || key.contains(&b':') || key == b"branch".as_slice()
+}
+
+/// Appends a space and the extras; nothing where there are none.
+pub fn push_extras(text: &mut Vec<u8>, extra: &BTreeMap<Vec<u8>, Vec<u8>>) -> Result<(), AllocError>
+    ensures { OnOk result (text.new.items ≡ text.old.items ++ extras_text (extra_bytes extra.now.entries)) }
+{
+    let mut before = b' ';
+    for (key, value) in extra {
+        text.push(before)?;
+        push_escaped(text, key)?;
+        text.push(b':')?;
+        push_escaped(text, value)?;
+        before = 0;
+    }
+    Ok(())
+}
+
+fn push_escaped(text: &mut Vec<u8>, bytes: &[u8]) -> Result<(), AllocError>
+    ensures { OnOk result (text.new.items ≡ text.old.items ++ flat_map escape bytes.now) }
+{
+    for b in bytes {
+        push_escape(text, *b)?;
+    }
+    Ok(())
+}
+
+fn push_escape(text: &mut Vec<u8>, b: u8) -> Result<(), AllocError>
+    ensures { OnOk result (text.new.items ≡ text.old.items ++ escape b) }
+{
+    match b {
+        b'\\' => text.extend_from_slice(b"\\\\"),
+        b'\n' => text.extend_from_slice(b"\\n"),
+        b'\r' => text.extend_from_slice(b"\\r"),
+        0 => text.extend_from_slice(b"\\0"),
+        _ => Ok(text.push(b)?),
+    }
+}

@@ -1,0 +1,4 @@
+pub mod Order
+pub mod Lows
+pub mod LowLaws
+pub mod Pairs

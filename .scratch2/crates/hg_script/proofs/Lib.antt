@@ -1,0 +1,5 @@
+pub mod EndingLemmas
+pub mod InputLemmas
+pub mod LineLemmas
+pub mod ScriptLemmas
+pub mod WordLemmas

@@ -1,0 +1,10 @@
+pub mod Commands
+pub mod Endings
+pub mod Events
+pub mod Faults
+pub mod Limits
+pub mod Names
+pub mod Outputs
+pub mod Printing
+pub mod Scripts
+pub mod Words

@@ -1,0 +1,54 @@
+//! Reading a whole script.
+ghost use Rattle.std.specs.Prelude.{◌≡◌, ◌<◌, ◌≤◌, ◌+◌, ℕ, List, Option, ◌⊎◌, length, IfOk, IfErr, IfSome, OnOk};
+ghost use Rattle.std.specs.Prelude.{IsErrOf};
+ghost use Rattle.std.specs.Io.KnownBytes.{Consumes, IsAtEnd};
+ghost use Rattle.hg_script.specs.Faults.{IsInputFault};
+ghost use Rattle.hg_script.specs.Limits.{script_limit};
+
+use crate::counted::CountedRead;
+use crate::fault::RunFault;
+use crate::limits::SCRIPT_LIMIT;
+use std::alloc::Global;
+
+// How many bytes a read asks for.
+const CHUNK: usize = 8192;
+
+/// Reads to the end, with at most one read more than a script may have bytes. A read that fails, an interrupted one
+/// too, isn't tried again.
+pub fn read_script<R: CountedRead>(alloc: Global, reader: &mut R) -> Result<Vec<u8>, RunFault>
+    ensures whole { IfOk result (λ text. IfSome (R.remaining reader.old) (λ bytes. bytes ≡ text.items)) }
+    ensures limit { IfOk result (λ text. length text.items ≤ script_limit) }
+    ensures fault { IfErr result IsInputFault }
+    ensures too_long { IsErrOf result RunFault.ScriptTooLong
+        → IfSome (R.remaining reader.old) (λ bytes. script_limit < length bytes) }
+    ensures reads { R.reads reader.new ≤ R.reads reader.old + (script_limit + 1) }
+{
+    let mut text = Vec::new(alloc);
+    for _ in 0..=SCRIPT_LIMIT {
+        if read_more(reader, &mut text)? == 0 {
+            return Ok(text);
+        }
+        if text.len() > SCRIPT_LIMIT {
+            return Err(RunFault::ScriptTooLong);
+        }
+    }
+    Err(RunFault::ScriptTooLong)
+}
+
+// One read. It answers how many bytes were appended.
+fn read_more<R: CountedRead>(reader: &mut R, text: &mut Vec<u8>) -> Result<usize, RunFault>
+    ensures counted { IfOk result (λ n. length text.new.items ≡ length text.old.items + n) }
+    ensures bytes { OnOk result ((all : Option (List ℕ)) → Consumes all (R.remaining reader.old) text.old.items
+        → Consumes all (R.remaining reader.new) text.new.items) }
+    ensures end { IfOk result (λ n. n ≡ 0 → IsAtEnd (R.remaining reader.new)) }
+    ensures fault { IfErr result (λ fault. (fault ≡ RunFault.Read) ⊎ (fault ≡ RunFault.NoMemory)) }
+    ensures read { R.reads reader.new ≡ R.reads reader.old + 1 }
+{
+    let mut chunk = [0u8; CHUNK];
+    let count = match reader.read_once(&mut chunk) {
+        Ok(count) => count,
+        Err(_) => return Err(RunFault::Read),
+    };
+    text.extend_from_slice(&chunk[..count])?;
+    Ok(count)
+}

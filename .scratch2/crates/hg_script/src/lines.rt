@@ -1,0 +1,98 @@
+//! Lines and words.
+ghost use Rattle.std.specs.Prelude.{◌≡◌, ◌≤◌, ◌<◌, ◌↔◌, ◌==◌, ◌∷◌, IfOk, IsTrue, length, map, count_by, position};
+ghost use Rattle.std.specs.Option.{option_copied};
+ghost use Rattle.std.specs.Str.Lines.{lines, strip_carriage_return};
+ghost use Rattle.hg_script.specs.Words.{first_word, has_node, spaced, words_of};
+ghost use Rattle.hg_script.specs.Limits.{line_limit};
+
+use crate::limits::LINE_LIMIT;
+use std::alloc::{AllocError, Global};
+
+/// The first line of the text, without its LF and without one CR before that, and what comes after it.
+pub fn cut_line(text: &[u8]) -> (&[u8], &[u8])
+    requires { 0 < length text.now }
+    ensures lines { lines text.now ≡ result.0.now ∷ lines result.1.now }
+    ensures shorter { length result.1.now < length text.now }
+{
+    match end_of_line(text) {
+        Some(end) => (without_return(&text[..end]), &text[end + 1..]),
+        None => (text, &text[text.len()..]),
+    }
+}
+
+// The place of the first LF.
+fn end_of_line(text: &[u8]) -> Option<usize>
+    ensures { result ≡ position (λ b. b == 10) text.now }
+{
+    text.iter().position(|b| *b == b'\n')
+}
+
+// The line without one CR at its end.
+fn without_return(line: &[u8]) -> &[u8]
+    ensures { result.now ≡ strip_carriage_return line.now }
+{
+    match line {
+        [rest @ .., b'\r'] => rest,
+        _ => line,
+    }
+}
+
+/// How many lines of the text have `node` as their first word.
+pub fn count_nodes(text: &[u8]) -> usize
+    ensures { result ≡ count_by has_node (lines text.now) }
+{
+    let mut count = 0;
+    let mut rest = text;
+    while !rest.is_empty() {
+        let (line, after) = cut_line(rest);
+        if has_node(line) {
+            count += 1;
+        }
+        rest = after;
+    }
+    count
+}
+
+// Whether the first word of the line is `node`.
+fn has_node(line: &[u8]) -> bool
+    ensures { result ≡ has_node line.now }
+{
+    match first_word(line) {
+        Some(word) => word == b"node".as_slice(),
+        None => false,
+    }
+}
+
+// The first of what stands between spaces.
+fn first_word(line: &[u8]) -> Option<&[u8]>
+    ensures { option_copied result ≡ first_word line.now }
+{
+    line.split(|byte| *byte == b' ')
+        .find(|word| !word.is_empty())
+}
+
+/// Whether the line has no more bytes than a line may have.
+pub fn is_short(line: &[u8]) -> bool
+    ensures { IsTrue result ↔ (length line.now ≤ line_limit) }
+{
+    line.len() <= LINE_LIMIT
+}
+
+/// The words of the line, divided by spaces; a comment has none.
+pub fn words_of<'a>(alloc: Global, line: &'a [u8]) -> Result<Vec<&'a [u8]>, AllocError>
+    ensures { IfOk result (λ words. map (λ w. w.now) words.items ≡ words_of line.now) }
+{
+    match line {
+        [] | [b'#', ..] => Ok(Vec::new(alloc)),
+        _ => spaced(alloc, line),
+    }
+}
+
+// What stands between spaces.
+fn spaced<'a>(alloc: Global, line: &'a [u8]) -> Result<Vec<&'a [u8]>, AllocError>
+    ensures { IfOk result (λ words. map (λ w. w.now) words.items ≡ spaced line.now) }
+{
+    line.split(|b| *b == b' ')
+        .filter(|word| !word.is_empty())
+        .collect(alloc)
+}

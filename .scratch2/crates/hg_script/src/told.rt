@@ -1,0 +1,8 @@
+//! A stub.
+
+/// A stub.
+#[derive(Drop)]
+pub enum Told {
+    Nothing,
+    Some { at: usize, nodes: Vec<u8> },
+}
