@@ -1,4 +1,4 @@
-use Rattle.std.proofs.Common.{ℕ, subst, inl, inr}
+use Rattle.std.proofs.Common.{ℕ, subst}
 use Rattle.std.proofs.lemmas.Result.{err_from_is_err_and}
 use Rattle.hg_script.specs.Scripts.{IsNewFleet}
 use Rattle.hg_script.proofs.EndingLemmas.{stopped_told}

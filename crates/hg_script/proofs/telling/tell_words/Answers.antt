@@ -1,4 +1,4 @@
-use Rattle.std.proofs.Common.{refl, inl, inr}
+use Rattle.std.proofs.Common.{inr}
 use Rattle.std.proofs.lemmas.Result.{err_from_is_err_and}
 use Rattle.hg_script.proofs.EndingLemmas.{told_of}
 use Rattle.hg_script.proofs.ScriptLemmas.{says_some}
