@@ -1,7 +1,0 @@
-pub mod NodeLemmas
-pub mod SameLemmas
-pub mod ChangesetLemmas
-pub mod ExtrasLemmas
-pub mod DescriptionLemmas
-pub mod EntryLemmas
-pub mod ListLemmas

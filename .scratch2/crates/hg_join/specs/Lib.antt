@@ -1,4 +1,0 @@
-pub mod Order
-pub mod Lows
-pub mod LowLaws
-pub mod Pairs

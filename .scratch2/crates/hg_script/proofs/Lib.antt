@@ -1,5 +1,0 @@
-pub mod EndingLemmas
-pub mod InputLemmas
-pub mod LineLemmas
-pub mod ScriptLemmas
-pub mod WordLemmas
