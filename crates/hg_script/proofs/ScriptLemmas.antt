@@ -165,8 +165,8 @@ ran_after old mid new event answer (part, h) same = (one event answer part, (mid
 -- ---- commands that ask for no event
 
 -- a new node prints nothing
-pub added : {E : Type 0} (line : ℕ) (old : Fleet) (at : Word) (new : Fleet) (held : Option Text)
-    (r : Result (Unit {0}) E) → OnOk r (Does old (node at) no_trace new)
+pub added : {T E : Type 0} (line : ℕ) (old : Fleet) (at : Word) (new : Fleet) (held : Option Text)
+    (r : Result T E) → OnOk r (Does old (node at) no_trace new)
     → OnOk r (IsDone line old (node at) new held held)
 added line old at new held (Ok x) does = (no_trace, [], does, refl, Appends-nil held)
 added line old at new held (Err e) does = tt

@@ -20,10 +20,10 @@ use crate::command::Command;
 use crate::event::{PeerAnswer, run_event};
 use crate::fault::{LineFault, RunFault};
 use crate::marking::Marking;
-use crate::names::{are_distinct, bind, bound, name_of};
+use crate::names::{are_distinct, bind, bound};
 use crate::operation::{Names, Operation};
 use crate::output::print_line;
-use crate::report::print_report;
+use crate::report::{label_of, print_report};
 use crate::told::Told;
 use hg_changeset::{Changeset, Node};
 use hg_discovery::heads_in_common_kept;
@@ -145,9 +145,21 @@ impl Fleet {
         bound(&self.labels, label)
     }
 
-    /// The first label of the changeset, in byte order.
+    /// The label of the changeset, where one of the nodes holds it. Each changeset of a script is held where it was
+    /// made, and has its label as its description.
     pub(crate) fn label_of(&self, node: Node) -> Option<&[u8]> {
-        name_of(&self.labels, node)
+        for place in 0..self.nodes.len() {
+            match self.changeset_at(place, node) {
+                Some(changeset) => return Some(label_of(changeset)),
+                None => {}
+            }
+        }
+        None
+    }
+
+    // The changeset of this id, where the node at a place holds it.
+    fn changeset_at(&self, place: usize, node: Node) -> Option<&Changeset> {
+        self.kept_at(place)?.replica().graph().changeset(node)
     }
 
     /// The part of the operation at the node of this name, if all is known that it names and it isn't refused.

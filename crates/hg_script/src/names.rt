@@ -2,7 +2,6 @@
 ghost use Rattle.std.specs.Prelude.{◌≡◌, ◌↔◌, IfOk, IsTrue, OnOk};
 ghost use Rattle.hg_script.specs.Names.{AreDistinct, value_of, Binds};
 
-use hg_changeset::Node;
 use std::alloc::{AllocError, Global};
 use std::collections::{BTreeMap, BTreeSet};
 
@@ -11,16 +10,6 @@ pub fn bound<V: Copy>(names: &BTreeMap<Vec<u8>, V>, name: &[u8]) -> Option<V>
     ensures { result ≡ value_of names.now name.now }
 {
     names.get(name).copied()
-}
-
-/// The first name of the changeset, in byte order, if it has one.
-pub fn name_of(names: &BTreeMap<Vec<u8>, Node>, wanted: Node) -> Option<&[u8]> {
-    for (name, node) in names {
-        if *node == wanted {
-            return Some(name.as_slice());
-        }
-    }
-    None
 }
 
 /// Binds the name to the value, in place of what it stood for.

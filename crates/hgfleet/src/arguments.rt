@@ -214,8 +214,8 @@ For example:
 static FORMS: [&str; 3] = ["store", "roots", "message"];
 
 /// Reads the words of a command line, the program's name first. A run has the word `run` alone, and one with notes a
-/// flag or two behind it, and a race the number of its nodes, from 2 to 16, and that of its rounds, from 1 to 1,000. A log may have names of nodes and two flags,
-/// what is shown has a form, and what is written a form and a name.
+/// flag or two behind it. A race has the number of its nodes, from 2 to 16, and that of its rounds, from 1 to 1,000. A
+/// log may have names of nodes and two flags, what is shown has a form, and what is written a form and a name.
 pub fn read_args(alloc: Global, words: &[&str]) -> Result<Wanted, ArgumentFault>
     ensures { ArgumentsAnswer (map (λ s. s.now) words.now) result }
 {

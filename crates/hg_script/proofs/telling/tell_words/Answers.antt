@@ -9,7 +9,7 @@ returns-in_err-write_text-in-Ok-clause-stopped g c =
     let p = err_from_is_err_and c.from_residual-in_err-write_text-in-Ok.result
     c.from_residual-in_err-write_text-in-Ok.ensures.1 in
     let d = c.in-Ok.ensures.done in
-    rw (p.1, p.2, c.in_err-write_text-in-Ok.ensures) (inr (says_some _ _ _ d.0 d.1 c.requires d.3))
+    rw (p.1, p.2, c.in_err-write_text-in-Ok.ensures) (inr (says_some _ c.args.fleet.now _ d.0 d.1 c.requires d.3))
 
 pub returns-in-Ok-clause-done : goal.returns-in-Ok-clause-done
 returns-in-Ok-clause-done g c = let d = c.in-Ok.ensures.done in (d.0, d.2)
