@@ -2,7 +2,7 @@
 use Rattle.std.proofs.Common.{◌≡◌, ◌⊎◌, inl, inr, ℕ, ◌+◌, ◌≤◌, ◌<◌, List, [], ◌∷◌, ◌++◌, length, get_or, slice_get}
 use Rattle.std.proofs.Common.{Bool, true, false, IsTrue, Option, Some, None, IsSome, is_some, IfSome, IsErrOf}
 use Rattle.std.proofs.Common.{Result, Ok, Err, IfOk, IfErr, refl, sym, ap, subst, ◌∙◌, arith, zero-add, zero, suc}
-use Rattle.std.proofs.Common.{true≢false}
+use Rattle.std.proofs.Common.{true≢false, count_by}
 use Rattle.std.specs.Option.{option_and_then}
 use Rattle.std.specs.Str.Lines.{lines}
 use Rattle.std.specs.declared.vec.Vec.{Vec}
@@ -49,6 +49,8 @@ use Rattle.hg_script.specs.Faults.{IsInputFault}
 use Rattle.hg_script.specs.Limits.{script_limit}
 use Rattle.hg_script.specs.Names.{AreDistinct}
 use Rattle.hg_script.specs.Scripts.{places, ids, numbers, node_named, message_named, may_be_bound, DoesLine, DoesLines}
+use Rattle.hg_script.specs.Scripts.{IsNewFleet}
+use Rattle.hg_script.specs.Words.{has_node}
 use Rattle.hg_script.proofs.LabelLemmas.{twice_taken, nothing_free, new_apart, made_for}
 
 -- ---- names that stand for nothing
@@ -403,6 +405,21 @@ pub stops_here : (start fleet : Fleet) (number : ℕ) (all ls more : List Text) 
 stops_here start fleet number all ls more line fault e leads ends =
     stops_among start all fault (leads (subst (λ (xs : List Text). DoesUntil number fleet xs fault) (sym e) (inl ends)))
 
+-- what is told of a fault that ended the line is that fault, or want of memory
+pub told_of : (number : ℕ) (f : Fleet) (line : Text) (fault told : RunFault) → (told ≡ fault) ⊎ (told ≡ NoMemory)
+    → EndsAt number f line fault → (told ≡ NoMemory) ⊎ EndsAt number f line told
+told_of number f line fault told (inl same) ends = inr (subst (EndsAt number f line) (sym same) ends)
+told_of number f line fault told (inr none) ends = inl none
+
+-- the same, where it ended so or for want of memory
+pub ended_here : (start fleet : Fleet) (number : ℕ) (all ls more : List Text) (line : Text) (fault : RunFault)
+    → ls ≡ line ∷ more
+    → (DoesUntil number fleet ls fault → DoesUntil 1 start all fault)
+    → (fault ≡ NoMemory) ⊎ EndsAt number fleet line fault → (fault ≡ NoMemory) ⊎ StopsAmong start all fault
+ended_here start fleet number all ls more line fault e leads (inl none) = inl none
+ended_here start fleet number all ls more line fault e leads (inr ends) =
+    inr (stops_here start fleet number all ls more line fault e leads ends)
+
 -- ---- whole scripts
 
 pub script_of : (known : Option Text) (items text : Text) → text ≡ items → length items ≤ script_limit
@@ -426,6 +443,12 @@ pub left_as : (known : Option Text) (fleet : Fleet) (world : Snapshot KeptValue)
 left_as known fleet world left e =
     subst (λ (w : Snapshot KeptValue). IsLeftWorld known w) (sym e) (left_world known fleet left)
 
+-- what stopped the lines of a text, from a new fleet on, stopped the text
+pub stopped_told : (text : Text) (start : Fleet) (fault : RunFault) → IsNewFleet (count_by has_node (lines text)) start
+    → (fault ≡ NoMemory) ⊎ StopsAmong start (lines text) fault → (fault ≡ NoMemory) ⊎ IsStoppedBy text fault
+stopped_told text start fault new (inl e) = inl e
+stopped_told text start fault new (inr stops) = inr (record { start = start; is_new = new; stops = stops })
+
 -- what stopped the text that was read is what stopped the script
 stop_of : (known : Option Text) (text : Text) (fault : RunFault) → IsScriptOf known text
     → (fault ≡ NoMemory) ⊎ IsStoppedBy text fault → IsStop known fault
@@ -438,10 +461,11 @@ stop_of known text Write script (inl e) = absurd (cc)
 stop_of known text Write script (inr h) = (text, script, h)
 stop_of known text NoMemory script h = tt
 
-pub stops_of : {T : Type 0} (known : Option Text) (text : Text) (r : Result T RunFault) → IsScriptOf known text
-    → IfErr r (λ fault. (fault ≡ NoMemory) ⊎ IsStoppedBy text fault) → IfErr r (IsStop known)
-stops_of known text (Ok x) script h = tt
-stops_of known text (Err fault) script h = stop_of known text fault script h
+pub stops_of : {T E : Type 0} (fault_of : E → RunFault) (known : Option Text) (text : Text) (r : Result T E)
+    → IsScriptOf known text → IfErr r (λ e. (fault_of e ≡ NoMemory) ⊎ IsStoppedBy text (fault_of e))
+    → IfErr r (λ e. IsStop known (fault_of e))
+stops_of fault_of known text (Ok x) script h = tt
+stops_of fault_of known text (Err e) script h = stop_of known text (fault_of e) script h
 
 not_line : (number : ℕ) (fault : LineFault) → IsInputFault (Line number fault) → ⊥
 not_line number fault (inl e) = cc

@@ -1,6 +1,6 @@
 -- Single events, single commands, and whole scripts as one run.
 use Rattle.std.proofs.Common.{◌≡◌, ◌↔◌, ℕ, ◌+◌, List, [], ◌∷◌, ◌++◌, Option, Some, None, Bool, IsTrue, count_by}
-use Rattle.std.proofs.Common.{is_some}
+use Rattle.std.proofs.Common.{is_some, ◌≢◌, inl, inr}
 use Rattle.std.proofs.Common.{Result, Ok, Err, OnOk, IfOk, IsOkAnd}
 use Rattle.std.proofs.Common.{refl, sym, ap, subst, ◌∙◌}
 use Rattle.std.specs.Str.Lines.{lines}
@@ -23,17 +23,19 @@ use Rattle.hg_world.specs.declared.event.Answer.TheVariants.{Accepted, Offered, 
 use Rattle.hg_peer.specs.declared.refusal.PeerRefusal.{PeerRefusal}
 use Rattle.hg_peer.specs.Words.{peer_state, peer_words}
 use Rattle.hg_message.specs.declared.scope.Scope.{Scope}
+use Rattle.hg_script.specs.declared.command.Command.{Command}
 use Rattle.hg_script.specs.declared.command.Command.TheVariants.{Node as node, Pull, Report, Agree}
 use Rattle.hg_script.specs.declared.fleet.Fleet.{Fleet}
 use Rattle.hg_script.specs.Commands.{Text, Word}
+use Rattle.hg_script.specs.Endings.{Says}
 use Rattle.hg_script.specs.Events.{Trace, PeerEvent, PeerAnswer, no_trace, joined, Ran, IsTold, AreLeftOutAt, taken}
 use Rattle.hg_script.specs.Events.{asking}
 use Rattle.hg_script.specs.Outputs.{Printed}
 use Rattle.hg_script.specs.Printing.{answer_line, answer_lines, agree_line, IsDone, PrintsTaken, PrintsLines, PrintsRun}
-use Rattle.hg_script.specs.Printing.{PrintsScript}
+use Rattle.hg_script.specs.Printing.{PrintsLine, PrintsScript}
 use Rattle.hg_script.specs.Reports.{IsReport}
 use Rattle.hg_script.specs.Scripts.{places, node_named, Does, DoesWords, DoesLines, IsNewFleet, IsRunTo}
-use Rattle.hg_script.specs.Words.{has_node}
+use Rattle.hg_script.specs.Words.{has_node, words_of}
 
 -- two runs, one after the other, are one
 abbrev pub Compose : Type 0
@@ -163,8 +165,8 @@ ran_after old mid new event answer (part, h) same = (one event answer part, (mid
 -- ---- commands that ask for no event
 
 -- a new node prints nothing
-pub added : {E : Type 0} (line : ℕ) (old : Fleet) (at : Word) (new : Fleet) (held : Option Text)
-    (r : Result (Unit {0}) E) → OnOk r (Does old (node at) no_trace new)
+pub added : {T E : Type 0} (line : ℕ) (old : Fleet) (at : Word) (new : Fleet) (held : Option Text)
+    (r : Result T E) → OnOk r (Does old (node at) no_trace new)
     → OnOk r (IsDone line old (node at) new held held)
 added line old at new held (Ok x) does = (no_trace, [], does, refl, Appends-nil held)
 added line old at new held (Err e) does = tt
@@ -215,6 +217,12 @@ does_printed number old [] t new text h = (h.0, h.1)
 does_printed number old (line ∷ ls) t new text (mid, here, later, first, rest, did, prints, more, e, same) =
     (mid, here, later, did, does_printed (number + 1) mid ls later new rest more, e)
 
+-- a line with words says a command
+pub says_some : (number : ℕ) (f : Fleet) (line : Text) (t : Trace) (text : Text) → words_of line ≢ []
+    → PrintsLine number f line t text → (command : Command) × Says line command
+says_some number f line t text some (inl (none, empty)) = absurd (some none)
+says_some number f line t text some (inr (command, says, prints)) = (command, says)
+
 -- what the lines of a script print, from a new fleet on, is what its run prints
 pub printed_run : Compose → (text : Text) (start : Fleet) (t : Trace) (end : Fleet) (output : Text)
     (held holds : Option Text) → IsNewFleet (count_by has_node (lines text)) start
@@ -237,21 +245,25 @@ printed_run compose text start t end output held holds new prints grew =
     }
 
 -- the lines of a script, done from a new fleet on, are a run that leaves the last fleet
+pub run_done : Compose → (text : Text) (start : Fleet) (t : Trace) (end : Fleet)
+    → IsNewFleet (count_by has_node (lines text)) start → DoesLines start (lines text) t end → IsRunTo text end
+run_done compose text start t end new did = (
+  record {
+    start = start;
+    is_new = new;
+    trace = t;
+    end = end;
+    did = did;
+    ended = refl;
+    ran = does_lines_ran compose start (lines text) t end did;
+  },
+  refl,
+)
+
 pub run_to : Compose → (text : Text) (start : Fleet) (t : Trace) (end : Fleet) (output : Text)
     → IsNewFleet (count_by has_node (lines text)) start → PrintsLines 1 start (lines text) t end output → IsRunTo text end
 run_to compose text start t end output new prints =
-    let did = does_printed 1 start (lines text) t end output prints in (
-      record {
-        start = start;
-        is_new = new;
-        trace = t;
-        end = end;
-        did = did;
-        ended = refl;
-        ran = does_lines_ran compose start (lines text) t end did;
-      },
-      refl,
-    )
+    run_done compose text start t end new (does_printed 1 start (lines text) t end output prints)
 
 -- what is printed is told of the world under any name
 pub printed_of : (known : Option Text) (world other : Snapshot KeptValue) (held holds : Option Text)

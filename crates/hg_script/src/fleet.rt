@@ -23,7 +23,8 @@ use crate::marking::Marking;
 use crate::names::{are_distinct, bind, bound};
 use crate::operation::{Names, Operation};
 use crate::output::print_line;
-use crate::report::print_report;
+use crate::report::{label_of, print_report};
+use crate::told::Told;
 use hg_changeset::{Changeset, Node};
 use hg_discovery::heads_in_common_kept;
 use hg_join::{JoinState, NoMemory};
@@ -119,13 +120,72 @@ impl Fleet {
             .collect(self.alloc)
     }
 
-    /// Does the command of the line with this number.
+    /// The replica of the node at a place, with its instabilities and its pins.
+    pub(crate) fn kept_at(&self, place: usize) -> Option<&Kept> {
+        Some(self.world.state(place)?.kept())
+    }
+
+    /// The place of the node with this name.
+    pub(crate) fn place_of(&self, name: &[u8]) -> Option<usize> {
+        bound(&self.nodes, name)
+    }
+
+    /// The bytes of the message with this number.
+    pub(crate) fn message_at(&self, number: usize) -> Option<&[u8]> {
+        self.world.message(number)
+    }
+
+    /// The number of the message with this name.
+    pub(crate) fn number_of(&self, name: &[u8]) -> Option<usize> {
+        bound(&self.messages, name)
+    }
+
+    /// The changeset that the label names.
+    pub(crate) fn node_of(&self, label: &[u8]) -> Option<Node> {
+        bound(&self.labels, label)
+    }
+
+    /// The label of the changeset, where one of the nodes holds it. Each changeset of a script is held where it was
+    /// made, and has its label as its description.
+    pub(crate) fn label_of(&self, node: Node) -> Option<&[u8]> {
+        for place in 0..self.nodes.len() {
+            match self.changeset_at(place, node) {
+                Some(changeset) => return Some(label_of(changeset)),
+                None => {}
+            }
+        }
+        None
+    }
+
+    // The changeset of this id, where the node at a place holds it.
+    fn changeset_at(&self, place: usize, node: Node) -> Option<&Changeset> {
+        self.kept_at(place)?.replica().graph().changeset(node)
+    }
+
+    /// The part of the operation at the node of this name, if all is known that it names and it isn't refused.
+    pub(crate) fn part_of(
+        &self,
+        number: usize,
+        at: &[u8],
+        operation: Operation<'_>,
+    ) -> Result<Option<Part>, RunFault> {
+        let names = Names {
+            alloc: self.alloc,
+            number,
+            labels: &self.labels,
+        };
+        let op = operation.resolve(&names)?;
+        let kept = self.kept(number, self.place(number, at)?)?;
+        decided(self.alloc, kept, &op)
+    }
+
+    /// Does the command of the line with this number. It gives what the events of the command were answered.
     pub(crate) fn execute<W: Write>(
         &mut self,
         number: usize,
         command: Command<'_>,
         writer: &mut W,
-    ) -> Result<(), RunFault>
+    ) -> Result<Told, RunFault>
         ensures ok { OnOk result (IsDone number self.old command.entry self.new
             (W.contents writer.old) (W.contents writer.new)) }
         ensures err { IfErr result (λ fault. IsLeftBy number self.old command.entry fault self.new) }
@@ -145,7 +205,7 @@ impl Fleet {
     }
 
     // A new node has the next place.
-    fn add_node(&mut self, number: usize, at: &[u8]) -> Result<(), RunFault>
+    fn add_node(&mut self, number: usize, at: &[u8]) -> Result<Told, RunFault>
         ensures ok { OnOk result (Does self.old (Command.Node at.entry) no_trace self.new) }
         ensures err { IfErr result (λ fault. IsLeftBy number self.old (Command.Node at.entry) fault self.new) }
     {
@@ -154,7 +214,7 @@ impl Fleet {
             return Err(RunFault::Line(number, LineFault::NameTaken));
         }
         bind(self.alloc, &mut self.nodes, at, place)?;
-        Ok(())
+        Ok(Told::Nothing)
     }
 
     // The new labels are looked at before the operation is done, but only where it isn't refused. A refusal is printed,
@@ -165,7 +225,7 @@ impl Fleet {
         at: &[u8],
         operation: Operation<'_>,
         writer: &mut W,
-    ) -> Result<(), RunFault>
+    ) -> Result<Told, RunFault>
         ensures ok { OnOk result (IsDone number self.old (Command.Operation at.entry operation.entry) self.new
             (W.contents writer.old) (W.contents writer.new)) }
         ensures err { IfErr result
@@ -184,7 +244,7 @@ impl Fleet {
         let event = Event::Local { at: place, op };
         let answer = run_event(self.alloc, number, &mut self.world, event, writer)?;
         label(self.alloc, &mut self.labels, labels, &answer)?;
-        Ok(())
+        Ok(Told::Event { at: place, answer })
     }
 
     // Whether the labels may name what the operation is to make. Where they are new, whatever it makes; otherwise it is
@@ -222,7 +282,7 @@ impl Fleet {
         at: &[u8],
         marking: Marking<'_>,
         writer: &mut W,
-    ) -> Result<(), RunFault>
+    ) -> Result<Told, RunFault>
         ensures ok { OnOk result (IsDone number self.old (Command.Mark at.entry marking.entry) self.new
             (W.contents writer.old) (W.contents writer.new)) }
         ensures err { IfErr result
@@ -236,8 +296,8 @@ impl Fleet {
         let mark = marking.resolve(&names)?;
         let place = self.place(number, at)?;
         let event = Event::Mark { at: place, mark };
-        run_event(self.alloc, number, &mut self.world, event, writer)?;
-        Ok(())
+        let answer = run_event(self.alloc, number, &mut self.world, event, writer)?;
+        Ok(Told::Event { at: place, answer })
     }
 
     // Keeps what a node offers of a scope above the changesets of these labels under the name of a message. A refused
@@ -250,7 +310,7 @@ impl Fleet {
         message: &[u8],
         labels: &[&[u8]],
         writer: &mut W,
-    ) -> Result<(), RunFault>
+    ) -> Result<Told, RunFault>
         ensures ok { OnOk result (IsDone number self.old
             (Command.Offer scope at.entry message.entry labels.entry) self.new (W.contents writer.old)
             (W.contents writer.new)) }
@@ -273,7 +333,7 @@ impl Fleet {
         };
         let answer = run_event(self.alloc, number, &mut self.world, event, writer)?;
         keep(self.alloc, &mut self.messages, message, &answer)?;
-        Ok(())
+        Ok(Told::Event { at: place, answer })
     }
 
     fn take<W: Write>(
@@ -282,7 +342,7 @@ impl Fleet {
         at: &[u8],
         message: &[u8],
         writer: &mut W,
-    ) -> Result<(), RunFault>
+    ) -> Result<Told, RunFault>
         ensures ok { OnOk result (IsDone number self.old (Command.Take at.entry message.entry) self.new
             (W.contents writer.old) (W.contents writer.new)) }
         ensures err { IfErr result
@@ -294,8 +354,12 @@ impl Fleet {
             None => return Err(RunFault::Line(number, LineFault::UnknownName)),
         };
         let event = Event::Take { at, message };
-        run_event(self.alloc, number, &mut self.world, event, writer)?;
-        Ok(())
+        let answer = run_event(self.alloc, number, &mut self.world, event, writer)?;
+        Ok(Told::Taken {
+            at,
+            message,
+            answer,
+        })
     }
 
     // One node takes in what the other offers of a scope: what it serves above the changesets that they have in common,
@@ -307,7 +371,7 @@ impl Fleet {
         to: &[u8],
         from: &[u8],
         writer: &mut W,
-    ) -> Result<(), RunFault>
+    ) -> Result<Told, RunFault>
         ensures ok { OnOk result (IsDone number self.old (Command.Pull scope to.entry from.entry) self.new
             (W.contents writer.old) (W.contents writer.new)) }
         ensures err { IfErr result
@@ -321,8 +385,12 @@ impl Fleet {
             ask: Ask { common, scope },
         };
         let answer = run_event(self.alloc, number, &mut self.world, offer, writer)?;
-        take_offered(self.alloc, number, &mut self.world, taker, &answer, writer)?;
-        Ok(())
+        let taken = take_offered(self.alloc, number, &mut self.world, taker, &answer, writer)?;
+        Ok(Told::Pulled {
+            at: taker,
+            offered: answer,
+            taken,
+        })
     }
 
     // What the taker leaves out of what it asks of the giver: by its heads what it has in common with it, where it asks
@@ -357,7 +425,7 @@ impl Fleet {
         one: &[u8],
         other: &[u8],
         writer: &mut W,
-    ) -> Result<(), RunFault>
+    ) -> Result<Told, RunFault>
         ensures ok { OnOk result (IsDone number self.now (Command.Agree one.entry other.entry) self.now
             (W.contents writer.old) (W.contents writer.new)) }
         ensures err { IfErr result (IsCommandFault number self.now (Command.Agree one.entry other.entry)) }
@@ -366,17 +434,17 @@ impl Fleet {
         let second = self.kept(number, self.place(number, other)?)?;
         let answer = are_same(first.replica(), second.replica())?;
         print_agreement(self.alloc, one, other, answer, writer)?;
-        Ok(())
+        Ok(Told::Nothing)
     }
 
-    fn report<W: Write>(&self, number: usize, at: &[u8], writer: &mut W) -> Result<(), RunFault>
+    fn report<W: Write>(&self, number: usize, at: &[u8], writer: &mut W) -> Result<Told, RunFault>
         ensures ok { OnOk result (IsDone number self.now (Command.Report at.entry) self.now
             (W.contents writer.old) (W.contents writer.new)) }
         ensures err { IfErr result (IsCommandFault number self.now (Command.Report at.entry)) }
     {
         let kept = self.kept(number, self.place(number, at)?)?;
         print_report(self.alloc, at, kept, writer)?;
-        Ok(())
+        Ok(Told::Nothing)
     }
 
     // The place of the node with this name.
@@ -555,7 +623,7 @@ fn keep(
     }
 }
 
-// The node at a place takes the message that was offered, if one was.
+// The node at a place takes the message that was offered, if one was. It gives what the taking was answered.
 fn take_offered<W: Write>(
     alloc: Global,
     number: usize,
@@ -563,7 +631,7 @@ fn take_offered<W: Write>(
     at: usize,
     answer: &PeerAnswer,
     writer: &mut W,
-) -> Result<(), RunFault>
+) -> Result<Option<PeerAnswer>, RunFault>
     ensures ok { OnOk result (PrintsTaken number world.old at answer.now world.new
         (W.contents writer.old) (W.contents writer.new)) }
     ensures err { IfErr result (IsTakeFault number world.old at answer.now) }
@@ -575,11 +643,11 @@ fn take_offered<W: Write>(
                 at,
                 message: *message,
             };
-            run_event(alloc, number, world, take, writer)?;
-            Ok(())
+            let taken = run_event(alloc, number, world, take, writer)?;
+            Ok(Some(taken))
         }
-        Answer::Accepted(_) => Ok(()),
-        Answer::Marked => Ok(()),
-        Answer::Refused(_) => Ok(()),
+        Answer::Accepted(_) => Ok(None),
+        Answer::Marked => Ok(None),
+        Answer::Refused(_) => Ok(None),
     }
 }

@@ -24,9 +24,11 @@
 //! ```
 #![tactic(auto)]
 
+mod blaming;
 mod command;
 mod counted;
 mod event;
+mod explaining;
 mod fault;
 mod fleet;
 mod input;
@@ -40,6 +42,9 @@ mod reading;
 mod report;
 mod script;
 mod steps;
+mod telling;
+mod told;
+mod tracing;
 
 pub use counted::CountedRead;
 pub use fault::{LineFault, RunFault};
@@ -47,3 +52,4 @@ pub use fleet::Fleet;
 pub use limits::{LINE_LIMIT, NAME_LIMIT, SCRIPT_LIMIT, limits_are_those_of_the_format};
 pub use output::printed_lines_are_those_of_the_format;
 pub use script::{run_counted, run_counted_named, run_fleet, run_named, run_script};
+pub use telling::{Notes, ToldFault, run_counted_told, run_told};

@@ -83,8 +83,8 @@ fn push_where(line: &mut Vec<u8>, is_so: bool, word: &[u8]) -> Result<(), AllocE
 // A changeset of a replica: its label and its place.
 type Row<'a> = (&'a [u8], usize);
 
-// The label of a changeset: its description, which is the last line of its text.
-fn label_of(changeset: &Changeset) -> &[u8]
+/// The label of a changeset: its description, which is the last line of its text.
+pub fn label_of(changeset: &Changeset) -> &[u8]
     ensures { result.now ≡ label_of changeset.now }
 {
     let text = changeset.text();

@@ -17,6 +17,7 @@ use crate::fleet::Fleet;
 use crate::input::read_script;
 use crate::lines::{count_nodes, cut_line, is_short, words_of};
 use crate::reading::read_command;
+use crate::told::Told;
 use hg_peer::Peer;
 use hg_world::{World, runs_compose};
 use std::alloc::Global;
@@ -158,13 +159,14 @@ fn run_lines<W: Write>(
     Ok(())
 }
 
-fn run_line<W: Write>(
+/// Does the line with this number. It gives what the line was answered.
+pub(crate) fn run_line<W: Write>(
     alloc: Global,
     fleet: &mut Fleet,
     number: usize,
     line: &[u8],
     writer: &mut W,
-) -> Result<(), RunFault>
+) -> Result<Told, RunFault>
     ensures done { OnOk result ((t : Trace) × (output : Text) × DoesLine fleet.old line.now t fleet.new
         × PrintsLine number fleet.old line.now t output
         × Printed (W.contents writer.old) output (W.contents writer.new)) }
@@ -176,9 +178,9 @@ fn run_line<W: Write>(
     let words = words_of(alloc, line)?;
     let command = match read_command(&words) {
         Ok(Some(command)) => command,
-        Ok(None) => return Ok(()),
+        Ok(None) => return Ok(Told::Nothing),
         Err(fault) => return Err(RunFault::Line(number, fault)),
     };
-    fleet.execute(number, command, writer)?;
-    Ok(())
+    let told = fleet.execute(number, command, writer)?;
+    Ok(told)
 }

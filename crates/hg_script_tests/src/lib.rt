@@ -8,6 +8,8 @@ mod fleets;
 #[cfg(test)]
 mod labels;
 #[cfg(test)]
+mod notes;
+#[cfg(test)]
 mod pins;
 #[cfg(test)]
 mod sharing;

@@ -13,7 +13,8 @@ use Rattle.hgfleet.specs.Arguments.{ArgumentsAnswer, IsRun, IsWithinBounds, Name
 use Rattle.hgfleet.specs.Arguments.{program_at, race_numbers, reference}
 use Rattle.hgfleet.specs.declared.arguments.ArgumentFault.{ArgumentFault}
 use Rattle.hgfleet.specs.declared.arguments.Wanted.{Wanted}
-use Rattle.hgfleet.specs.declared.arguments.Wanted.TheVariants.{Run, Race, Log, Show, Write, Help, Version}
+use Rattle.hgfleet.specs.declared.arguments.Wanted.TheVariants.{Run, RunTold, Race, Log, Show, Write, Help}
+use Rattle.hgfleet.specs.declared.arguments.Wanted.TheVariants.{Version}
 
 pub at_help : (name : Text) → faults_at (name ∷ codes "--help" ∷ []) ≡ DisplayHelp ∷ []
 unfolding clap_on_literals faults_at
@@ -136,6 +137,7 @@ second_alone (a ∷ b ∷ x ∷ xs) d l = absurd (omega (arith, l))
 pub answer_within : (words : List Text) (r : Result Wanted ArgumentFault) → ArgumentsAnswer words r
     → IfOk r IsWithinBounds
 answer_within words (Ok Run) h = tt
+answer_within words (Ok (RunTold explains traces)) h = tt
 answer_within words (Ok (Race nodes rounds)) h = h.2
 answer_within words (Ok (Log nodes shows_hidden is_graph)) h = tt
 answer_within words (Ok (Show form)) h = tt

@@ -1,10 +1,38 @@
--- What the words of a log, of what is shown and of what is written ask for, where they are written out.
-use Rattle.std.proofs.Common.{◌≡◌, ◌∷◌, [], codes, refl, true, false, Some}
+-- What the words of a run with notes, of a log, of what is shown and of what is written ask for, where they are written
+-- out.
+use Rattle.std.proofs.Common.{◌≡◌, ◌∷◌, [], codes, refl, true, false, Some, None}
 use Rattle.clap.specs.Words.{Text}
 use Rattle.clap.specs.declared.error.kind.ErrorKind.TheVariants.{DisplayHelp, InvalidValue, MissingRequiredArgument}
+use Rattle.clap.specs.declared.error.kind.ErrorKind.TheVariants.{UnknownArgument}
 use Rattle.clap.proofs.OnLiterals.{clap_on_literals}
-use Rattle.hgfleet.specs.Arguments.{faults_at, log_options, shown_form, written_form}
+use Rattle.hgfleet.specs.Arguments.{faults_at, log_options, run_notes, shown_form, written_form}
 use Rattle.hg_show.specs.declared.form.Form.TheVariants.{Store, Message}
+
+pub at_no_notes : (name : Text) → run_notes (name ∷ codes "run" ∷ []) ≡ None
+unfolding clap_on_literals run_notes
+at_no_notes name = refl
+
+pub at_explain : (name : Text) → faults_at (name ∷ codes "run" ∷ codes "--explain" ∷ []) ≡ []
+unfolding clap_on_literals faults_at
+at_explain name = refl
+
+pub at_explained : (name : Text) → run_notes (name ∷ codes "run" ∷ codes "--explain" ∷ []) ≡ Some (true, false)
+unfolding clap_on_literals run_notes
+at_explained name = refl
+
+pub at_traced : (name : Text) → run_notes (name ∷ codes "run" ∷ codes "--trace" ∷ []) ≡ Some (false, true)
+unfolding clap_on_literals run_notes
+at_traced name = refl
+
+pub at_both_notes : (name : Text)
+    → run_notes (name ∷ codes "run" ∷ codes "--trace" ∷ codes "--explain" ∷ []) ≡ Some (true, true)
+unfolding clap_on_literals run_notes
+at_both_notes name = refl
+
+pub at_explain_more : (name : Text)
+    → faults_at (name ∷ codes "run" ∷ codes "--explain" ∷ codes "x" ∷ []) ≡ UnknownArgument ∷ []
+unfolding clap_on_literals faults_at
+at_explain_more name = refl
 
 pub at_log : (name : Text) → faults_at (name ∷ codes "log" ∷ []) ≡ []
 unfolding clap_on_literals faults_at

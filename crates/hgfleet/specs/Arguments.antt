@@ -1,7 +1,7 @@
 -- The command line of the program, and what its words ask for.
 use Rattle.std.specs.Prelude.{ℕ, Bool, List, ◌∷◌, [], ◌≡◌, ◌≢◌, ◌⊎◌, ◌≤◌, codes, true, false, pos, drop, map}
 use Rattle.std.specs.Prelude.{if◌then◌else◌, Option, Some, None, Result, Ok, Err, option_and_then}
-use Rattle.std.specs.Prelude.{unwrap_or, String, string_bytes}
+use Rattle.std.specs.Prelude.{unwrap_or, String, string_bytes, ◌||◌}
 use Rattle.std.specs.Borrow.{Bor}
 use Rattle.std.specs.Option.{option_map_or}
 use Rattle.std.specs.Str.{bytes_eq}
@@ -18,7 +18,8 @@ use Rattle.clap.specs.declared.error.kind.ErrorKind.TheVariants.{DisplayHelp, Di
 use Rattle.hg_show.specs.declared.form.Form.{Form}
 use Rattle.hg_show.specs.declared.form.Form.TheVariants.{Store, Roots, Message}
 use Rattle.hgfleet.specs.declared.arguments.Wanted.{Wanted}
-use Rattle.hgfleet.specs.declared.arguments.Wanted.TheVariants.{Run, Race, Log, Show, Write, Help, Version}
+use Rattle.hgfleet.specs.declared.arguments.Wanted.TheVariants.{Run, RunTold, Race, Log, Show, Write, Help}
+use Rattle.hgfleet.specs.declared.arguments.Wanted.TheVariants.{Version}
 use Rattle.hgfleet.specs.declared.arguments.ArgumentFault.{ArgumentFault}
 use Rattle.hgfleet.specs.declared.arguments.ArgumentFault.TheVariants.{BadArguments, NotText, NoMemory}
 
@@ -39,6 +40,10 @@ race = with_rule (with_rule (new_app (codes "race")) (wanted_number (codes "node
 -- a flag `--NAME`
 abbrev pub flag_rule : Text → Rule
 flag_rule name = record (new_rule name) { long = Some name; action = Some SetTrue }
+
+-- `run` with its two flags
+abbrev pub run : App
+run = with_rule (with_rule (new_app (codes "run")) (flag_rule (codes "explain"))) (flag_rule (codes "trace"))
 
 -- the names of nodes, any number of them
 abbrev pub nodes_rule : Rule
@@ -87,7 +92,7 @@ program_alone = let bare = new_app (codes "hgfleet") in
 -- `hgfleet` with its commands, where the forms have the names behind these references
 abbrev pub program_at : Words → App
 program_at words =
-    let with_run = with_subcommand program_alone (new_app (codes "run")).top in
+    let with_run = with_subcommand program_alone run.top in
     let with_log = with_subcommand (with_subcommand with_run race.top) log.top in
     with_subcommand (with_subcommand with_log (show_at words).top) (write_at words).top
 
@@ -147,6 +152,27 @@ names_given rows = unwrap_or (all_of (codes "nodes") rows) []
 -- the flag of this name is given
 abbrev pub flag_given : Text → List Row → Bool
 flag_given name rows = option_map_or (λ text. bytes_eq text (codes "true")) (one_of name rows) false
+
+-- whether a run says what refusals are about, and whether it says what accepted lines did
+abbrev pub RunNotes : Type 0
+RunNotes = Bool × Bool
+
+-- two flags, where one is given
+abbrev pub any_note : Bool → Bool → Option RunNotes
+any_note explains traces = if explains || traces then Some (explains, traces) else None
+
+-- the notes that are given for a run, none where no flag is given
+abbrev pub notes_given : List Row → Option RunNotes
+notes_given rows = any_note (flag_given (codes "explain") rows) (flag_given (codes "trace") rows)
+
+-- the notes that are given for a run, where `run` is the command that was met
+abbrev pub run_met : Option (Text × List Row) → Option RunNotes
+run_met None = None
+run_met (Some met) = if bytes_eq met.0 (codes "run") then notes_given met.1 else None
+
+-- the notes that words without a fault give for a run, none where they ask for no run with notes
+unfoldable pub run_notes : List Text → Option RunNotes
+run_notes words = run_met (subcommand_of program words)
 
 -- the names that are given for a log, whether it shows what is hidden, and whether it is a graph
 abbrev pub LogOptions : Type 0
@@ -218,6 +244,11 @@ IsRaceOf numbers (Some (Race nodes rounds)) = numbers ≡ Some (nodes, rounds)
 IsRaceOf numbers None = numbers ≡ None
 IsRaceOf numbers _ = ⊥
 
+abbrev pub IsRunTold : Option RunNotes → Option Wanted → Type 0
+IsRunTold notes (Some (RunTold explains traces)) = notes ≡ Some (explains, traces)
+IsRunTold notes None = notes ≡ None
+IsRunTold notes _ = ⊥
+
 abbrev pub IsLogOf : LogOptions → Option Wanted → Type 0
 IsLogOf options (Some (Log nodes shows_hidden is_graph)) = options ≡ (texts_of nodes.items, shows_hidden, is_graph)
 IsLogOf options _ = ⊥
@@ -234,18 +265,22 @@ IsWriteOf given _ = ⊥
 
 -- the command that was met, with its rows, asks for this; none where it asks for nothing more than a run
 abbrev pub MeetsWanted : Option (Text × List Row) → Option Wanted → Type 0
+MeetsWanted met (Some (RunTold explains traces)) = run_met met ≡ Some (explains, traces)
 MeetsWanted met (Some (Race nodes rounds)) = race_met met ≡ Some (nodes, rounds)
 MeetsWanted met (Some (Log nodes shows_hidden is_graph)) =
     log_met met ≡ Some (texts_of nodes.items, shows_hidden, is_graph)
 MeetsWanted met (Some (Show form)) = show_met met ≡ Some form
 MeetsWanted met (Some (Write form name)) = write_met met ≡ Some (form, string_bytes name)
 MeetsWanted met (Some _) = ⊥
-MeetsWanted met None = (race_met met ≡ None) × (log_met met ≡ None) × (show_met met ≡ None) × (write_met met ≡ None)
+MeetsWanted met None =
+    (run_met met ≡ None) × (race_met met ≡ None) × (log_met met ≡ None) × (show_met met ≡ None)
+    × (write_met met ≡ None)
 
--- the words give nothing for a race, a log, what is shown and what is written
+-- the words give nothing for a run with notes, a race, a log, what is shown and what is written
 abbrev pub GivesNothing : List Text → Type 0
 GivesNothing words =
-    (race_numbers words ≡ None) × (log_options words ≡ None) × (shown_form words ≡ None) × (written_form words ≡ None)
+    (run_notes words ≡ None) × (race_numbers words ≡ None) × (log_options words ≡ None) × (shown_form words ≡ None)
+    × (written_form words ≡ None)
 
 -- the parser finds no fault, and what is wanted is what the command that the words name asks for; or it tells a fault
 -- of the words, or that memory ran out
@@ -257,13 +292,16 @@ ParseAnswer words (Err e) = HasKind (faults_at words) e
 abbrev pub IsMistake : Error → Type 0
 IsMistake e = (kind_of e ≢ DisplayHelp) × (kind_of e ≢ DisplayVersion) × (kind_of e ≢ OutOfMemory)
 
--- the words of a run ask for a run, and no others do; a race is asked for by words without a fault that give its
+-- the words of a run ask for a run, and no others do; a run with notes is asked for by words without a fault that give
+-- its flags; a race is asked for by words without a fault that give its
 -- numbers, and these are within their bounds; a log by words without a fault that give its options, what is shown by
 -- such that give a form, what is written by such that give a form and a name; help and the version are given where the
 -- parser says that they are asked for; all else is bad, and is what the parser says, or words that it passes over and
 -- that give nothing for any of these
 abbrev pub ArgumentsAnswer : List Text → Result Wanted ArgumentFault → Type 0
 ArgumentsAnswer words (Ok Run) = IsRun words
+ArgumentsAnswer words (Ok (RunTold explains traces)) =
+    (faults_at words ≡ []) × (run_notes words ≡ Some (explains, traces))
 ArgumentsAnswer words (Ok (Race nodes rounds)) =
     (faults_at words ≡ []) × (race_numbers words ≡ Some (nodes, rounds)) × IsRaceSize nodes rounds
 ArgumentsAnswer words (Ok (Log nodes shows_hidden is_graph)) =

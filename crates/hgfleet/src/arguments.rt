@@ -7,7 +7,8 @@ ghost use Rattle.hgfleet.specs.declared.arguments.ArgumentFault.TheVariants.{NoM
 ghost use Rattle.hg_show.specs.declared.form.Form.TheVariants.{Store, Message};
 ghost use Rattle.hgfleet.specs.Arguments.{ArgumentsAnswer, IsRun, MeetsWanted, ParseAnswer, faults_at};
 ghost use Rattle.hgfleet.specs.Arguments.{program_at, program_alone};
-ghost use Rattle.hgfleet.specs.Arguments.{race, log, show_at, write_at, flag_rule, form_rule, nodes_rule};
+ghost use Rattle.hgfleet.specs.Arguments.{run, race, log, show_at, write_at, flag_rule, form_rule, nodes_rule};
+ghost use Rattle.hgfleet.specs.Arguments.{IsRunTold, notes_given, run_notes};
 ghost use Rattle.hgfleet.specs.Arguments.{IsRaceOf, number_given, numbers_given, race_numbers};
 ghost use Rattle.hgfleet.specs.Arguments.{IsLogOf, flag_given, log_given, log_options, names_given, texts_of};
 ghost use Rattle.hgfleet.specs.Arguments.{IsShowOf, form_given, form_named, shown_form};
@@ -25,6 +26,11 @@ use std::fmt;
 pub enum Wanted {
     /// That the script of standard input is run.
     Run,
+    /// That it is run with notes: what refusals are about, what accepted lines did, or both.
+    RunTold {
+        explains: bool,
+        traces: bool,
+    },
     /// That so many nodes race for so many rounds.
     Race {
         nodes: u8,
@@ -207,9 +213,9 @@ For example:
 // The words that name the forms.
 static FORMS: [&str; 3] = ["store", "roots", "message"];
 
-/// Reads the words of a command line, the program's name first. A run has the word `run` alone, and a race the number
-/// of its nodes, from 2 to 16, and that of its rounds, from 1 to 1,000. A log may have names of nodes and two flags,
-/// what is shown has a form, and what is written a form and a name.
+/// Reads the words of a command line, the program's name first. A run has the word `run` alone, and one with notes a
+/// flag or two behind it. A race has the number of its nodes, from 2 to 16, and that of its rounds, from 1 to 1,000. A
+/// log may have names of nodes and two flags, what is shown has a form, and what is written a form and a name.
 pub fn read_args(alloc: Global, words: &[&str]) -> Result<Wanted, ArgumentFault>
     ensures { ArgumentsAnswer (map (λ s. s.now) words.now) result }
 {
@@ -280,11 +286,25 @@ fn given_to(alloc: Global, name: &str, given: &ArgMatches<'_>) -> Result<Option<
     ensures { IfOk result (MeetsWanted (Some (name.now, rows_of (found_of given.now)))) }
 {
     match name {
+        "run" => Ok(run_of(given)),
         "race" => Ok(race_of(given)),
         "log" => log_of(alloc, given),
         "show" => Ok(show_of(given)),
         "write" => write_of(alloc, given),
         _ => Ok(None),
+    }
+}
+
+// The run with notes of these flags, none where no flag is given.
+fn run_of(run: &ArgMatches<'_>) -> Option<Wanted>
+    ensures { IsRunTold (notes_given (rows_of (found_of run.now))) result }
+{
+    let explains = flag_of(run, "explain");
+    let traces = flag_of(run, "trace");
+    if explains || traces {
+        Some(Wanted::RunTold { explains, traces })
+    } else {
+        None
     }
 }
 
@@ -411,7 +431,7 @@ fn program<'a>(alloc: Global, forms: &'a [&'a str]) -> Result<Command<'a>, Alloc
     ensures { IfOk result (λ command. app_of command ≡ program_at forms.entry) }
 {
     let command = program_alone(alloc)
-        .subcommand(run(alloc))?
+        .subcommand(run(alloc)?)?
         .subcommand(race(alloc)?)?
         .subcommand(log(alloc)?)?
         .subcommand(show(alloc, forms)?)?
@@ -431,12 +451,18 @@ fn program_alone<'a>(alloc: Global) -> Command<'a>
         .arg_required_else_help(false)
 }
 
-fn run<'a>(alloc: Global) -> Command<'a>
-    ensures { (app_of result ≡ new_app (codes "run")) × ((out-Command result).has_globals ≡ false) }
+fn run<'a>(alloc: Global) -> Result<Command<'a>, AllocError>
+    ensures { IfOk result (λ command. (app_of command ≡ run) × ((out-Command command).has_globals ≡ false)) }
 {
     Command::new(alloc, "run")
         .about("Does the script of standard input and prints its reports")
         .after_help(SCRIPT_HELP)
+        .arg(flag(
+            alloc,
+            "explain",
+            "Says what each refusal is about, and which word is at fault",
+        ))?
+        .arg(flag(alloc, "trace", "Says what each accepted line did"))
 }
 
 fn race<'a>(alloc: Global) -> Result<Command<'a>, AllocError>
@@ -538,6 +564,15 @@ pub fn what_words_ask_for()
     ensures run { (name : Text) → faults_at (name ∷ codes "run" ∷ []) ≡ [] }
     ensures more { (name : Text) → faults_at (name ∷ codes "run" ∷ codes "x" ∷ []) ≡ ErrorKind.UnknownArgument ∷ [] }
     ensures run_numbers { (name : Text) → race_numbers (name ∷ codes "run" ∷ []) ≡ None }
+    ensures no_notes { (name : Text) → run_notes (name ∷ codes "run" ∷ []) ≡ None }
+    ensures explain { (name : Text) → faults_at (name ∷ codes "run" ∷ codes "--explain" ∷ []) ≡ [] }
+    ensures explained { (name : Text)
+        → run_notes (name ∷ codes "run" ∷ codes "--explain" ∷ []) ≡ Some (true, false) }
+    ensures traced { (name : Text) → run_notes (name ∷ codes "run" ∷ codes "--trace" ∷ []) ≡ Some (false, true) }
+    ensures both_notes { (name : Text)
+        → run_notes (name ∷ codes "run" ∷ codes "--trace" ∷ codes "--explain" ∷ []) ≡ Some (true, true) }
+    ensures explain_more { (name : Text)
+        → faults_at (name ∷ codes "run" ∷ codes "--explain" ∷ codes "x" ∷ []) ≡ ErrorKind.UnknownArgument ∷ [] }
     ensures race { (name : Text) → faults_at (name ∷ codes "race" ∷ codes "--nodes" ∷ codes "4" ∷ codes "--rounds"
         ∷ codes "3" ∷ []) ≡ [] }
     ensures race_numbers { (name : Text) → race_numbers (name ∷ codes "race" ∷ codes "--nodes" ∷ codes "4"

@@ -4,7 +4,7 @@ ghost use Rattle.std.specs.Prelude.{◌≤◌};
 use crate::failure::Failure;
 use hg_log::{draw_graph, draw_log};
 use hg_race::run_race;
-use hg_script::{Fleet, RunFault, run_counted, run_counted_named};
+use hg_script::{Fleet, Notes, RunFault, run_counted, run_counted_named, run_counted_told};
 use hg_show::{Form, write_roots, write_store};
 use hg_view::Kept;
 use std::alloc::{AllocError, Global};
@@ -23,6 +23,23 @@ pub fn run(rt: &(impl Print + Input + AllocGlobal)) -> Result<(), Failure<'stati
     let flushed = writer.flush().map_err(|_| RunFault::Write);
     done.and(flushed)?;
     Ok(())
+}
+
+/// Runs the script of standard input with notes. What was printed before a fault stays.
+pub fn run_told(
+    rt: &(impl Print + Input + AllocGlobal),
+    notes: Notes,
+) -> Result<(), Failure<'static>> {
+    let mut writer = match BufWriter::new(rt.alloc(), io::writer(rt)) {
+        Ok(writer) => writer,
+        Err(_) => return Err(Failure::Run(RunFault::NoMemory)),
+    };
+    let done = run_counted_told(rt.alloc(), rt.reader(), &mut writer, notes);
+    let flushed = writer.flush().map_err(|_| Failure::Run(RunFault::Write));
+    match done {
+        Ok(_) => flushed,
+        Err(told) => Err(Failure::Told(told)),
+    }
 }
 
 /// Runs a race of so many nodes for so many rounds.

@@ -1,15 +1,17 @@
 //! Why a command ended early.
 use hg_log::DrawFault;
-use hg_script::RunFault;
+use hg_script::{RunFault, ToldFault};
 use hg_show::{ShowFault, WriteFault};
 use std::alloc::{AllocError, AllocFailed};
 use std::fmt;
 
 /// Why a command ended early. What was printed before stays.
-#[derive(Clone, Copy, PartialEq, Eq, Debug)]
+#[derive(Debug, Drop)]
 pub enum Failure<'a> {
     /// What ended a script, a race, a drawing, or the writing of bytes.
     Run(RunFault),
+    /// What ended a script with notes.
+    Told(ToldFault),
     /// Why bytes weren't shown.
     Show(ShowFault),
     /// The script leaves no node, or no message, of this name.
@@ -21,6 +23,7 @@ impl Failure<'_> {
     pub fn status(&self) -> u8 {
         match self {
             Failure::Run(fault) => fault.status(),
+            Failure::Told(fault) => fault.status(),
             Failure::Show(fault) => fault.status(),
             Failure::UnknownName(_) => 1,
         }
@@ -29,8 +32,9 @@ impl Failure<'_> {
 
 impl fmt::Display for Failure<'_> {
     fn fmt<W: fmt::Write>(&self, f: &mut fmt::Formatter<W>) -> fmt::Result {
-        match *self {
+        match self {
             Failure::Run(fault) => write!(f, "{fault}"),
+            Failure::Told(fault) => write!(f, "{fault}"),
             Failure::Show(fault) => write!(f, "{fault}"),
             Failure::UnknownName(name) => write!(f, "unknown name: {name}"),
         }

@@ -15,9 +15,9 @@ mod failure;
 
 use arguments::{ArgumentFault, Wanted, read_args};
 use clap::Error;
-use commands::{Drawing, log, race, run, show, write};
+use commands::{Drawing, log, race, run, run_told, show, write};
 use failure::Failure;
-use hg_script::RunFault;
+use hg_script::{Notes, RunFault};
 use std::env;
 use std::env::Env;
 use std::io::ErrorKind;
@@ -26,6 +26,9 @@ use std::process::ExitCode;
 fn main(rt: HostRuntime) -> ExitCode {
     match read_wanted(&rt) {
         Ok(Wanted::Run) => finish(&rt, run(&rt)),
+        Ok(Wanted::RunTold { explains, traces }) => {
+            finish(&rt, run_told(&rt, Notes { explains, traces }))
+        }
         Ok(Wanted::Race { nodes, rounds }) => finish(&rt, race(&rt, nodes, rounds)),
         Ok(
             Wanted::Log {

@@ -32,7 +32,7 @@ returns-clause-done g c =
     let mapped = ap (map (λ (w : Word). w.now)) c.deref.ensures.value ∙ c.in_ok-words.ensures in
     let command = c.in-Ok-Some.command in
     let says = rw c.in-Ok-Some.field-0-is at c.in-Ok-Some.ensures in
-    let d = c.in_ok-execute.ensures.ok in (
+    let d = c.in_ok-told.ensures.ok in (
       d.0,
       d.1,
       (short, (c.deref.result.now, mapped, inr (command, says, d.2))),
@@ -49,9 +49,9 @@ returns-in-Err-clause-stopped g c =
     ) in
     (refl, words_fault _ _ c.deref.result.now _ has c.in-Err.ensures)
 
-pub returns-in_err-execute-clause-stopped : goal.returns-in_err-execute-clause-stopped
-returns-in_err-execute-clause-stopped g c =
-    let p = err_from_is_err_and c.from_residual-in_err-execute.result c.from_residual-in_err-execute.ensures.1 in
+pub returns-in_err-told-clause-stopped : goal.returns-in_err-told-clause-stopped
+returns-in_err-told-clause-stopped g c =
+    let p = err_from_is_err_and c.from_residual-in_err-told.result c.from_residual-in_err-told.ensures.1 in
     let has : HasWords c.args.line.now c.deref.result.now = (
       c.is_short.ensures.0 c.if-not-is_short.false,
       ap (map (λ (w : Word). w.now)) c.deref.ensures.value
@@ -59,4 +59,4 @@ returns-in_err-execute-clause-stopped g c =
     ) in
     let says : Says c.args.line.now c.in-Ok-Some.command =
     (c.deref.result.now, has, rw c.in-Ok-Some.field-0-is at c.in-Ok-Some.ensures) in
-    rw (p.1, p.2) (command_ends _ _ _ c.in-Ok-Some.command _ says c.in_err-execute.ensures.err.0)
+    rw (p.1, p.2) (command_ends _ _ _ c.in-Ok-Some.command _ says c.in_err-told.ensures.err.0)

@@ -1,4 +1,5 @@
 use Rattle.std.proofs.lemmas.Result.{err_from_is_err_and}
+use Rattle.hg_script.specs.declared.fault.RunFault.{RunFault}
 use Rattle.hg_script.specs.declared.fleet.Fleet.{Fleet}
 use Rattle.hg_script.specs.Commands.{Text}
 use Rattle.hg_script.specs.Printing.{PrintsRun}
@@ -27,6 +28,6 @@ returns-clause-printed g c =
 
 pub returns-clause-stopped : goal.returns-clause-stopped
 returns-clause-stopped g c =
-    stops_of _ _ c.run_text.result
+    stops_of (λ (fault : RunFault). fault) _ _ c.run_text.result
     (script_of _ _ _ c.deref.ensures.value c.in_ok-text.ensures.limit c.in_ok-text.ensures.whole)
     c.run_text.ensures.stopped

@@ -1,13 +1,13 @@
-use Rattle.std.proofs.Common.{ap, ap₂, codes, ◌≡◌, ◌∙◌}
-use Rattle.clap.specs.Words.{App, Shape, app_of, new_app, with_subcommand}
-use Rattle.hgfleet.specs.Arguments.{log, program_alone, race, show_at}
+use Rattle.std.proofs.Common.{ap, ap₂, ◌≡◌, ◌∙◌}
+use Rattle.clap.specs.Words.{App, Shape, app_of, with_subcommand}
+use Rattle.hgfleet.specs.Arguments.{log, program_alone, race, run, show_at}
 use Rattle.hgfleet.proofs.arguments.program.Goals as goal
 
 abbrev top_of : App → Shape
 top_of a = a.top
 
 abbrev with_run : App
-with_run = with_subcommand program_alone (new_app (codes "run")).top
+with_run = with_subcommand program_alone run.top
 
 abbrev with_race : App
 with_race = with_subcommand with_run race.top
@@ -18,8 +18,8 @@ with_log = with_subcommand with_race log.top
 pub returns : goal.returns
 returns c =
     let run_in : app_of c.in_ok-subcommand.field-0 ≡ with_run =
-    c.in_ok-subcommand.ensures.shape c.run.ensures.1
-    ∙ ap₂ with_subcommand c.program_alone.ensures (ap top_of c.run.ensures.0) in
+    c.in_ok-subcommand.ensures.shape c.in_ok-run.ensures.1
+    ∙ ap₂ with_subcommand c.program_alone.ensures (ap top_of c.in_ok-run.ensures.0) in
     let race_in : app_of c.in_ok-subcommand-2.field-0 ≡ with_race =
     c.in_ok-subcommand-2.ensures.shape c.in_ok-race.ensures.1
     ∙ ap₂ with_subcommand run_in (ap top_of c.in_ok-race.ensures.0) in

@@ -6,6 +6,8 @@ use Rattle.hgfleet.proofs.RowLemmas.{at_log, at_log_options, at_log_of_two, at_o
 use Rattle.hgfleet.proofs.RowLemmas.{at_help_of_log, at_show_store, at_shown_store, at_show_nothing}
 use Rattle.hgfleet.proofs.RowLemmas.{at_show_alone, at_help_of_show, at_write_store, at_written_store}
 use Rattle.hgfleet.proofs.RowLemmas.{at_written_message, at_write_no_name, at_help_of_write}
+use Rattle.hgfleet.proofs.RowLemmas.{at_no_notes, at_explain, at_explained, at_traced, at_both_notes}
+use Rattle.hgfleet.proofs.RowLemmas.{at_explain_more}
 use Rattle.hgfleet.proofs.arguments.what_words_ask_for.Goals as goal
 
 pub returns-clause-help : goal.returns-clause-help
@@ -106,3 +108,21 @@ returns-clause-write_no_name c = at_write_no_name
 
 pub returns-clause-help_of_write : goal.returns-clause-help_of_write
 returns-clause-help_of_write c = at_help_of_write
+
+pub returns-clause-no_notes : goal.returns-clause-no_notes
+returns-clause-no_notes c = at_no_notes
+
+pub returns-clause-explain : goal.returns-clause-explain
+returns-clause-explain c = at_explain
+
+pub returns-clause-explained : goal.returns-clause-explained
+returns-clause-explained c = at_explained
+
+pub returns-clause-traced : goal.returns-clause-traced
+returns-clause-traced c = at_traced
+
+pub returns-clause-both_notes : goal.returns-clause-both_notes
+returns-clause-both_notes c = at_both_notes
+
+pub returns-clause-explain_more : goal.returns-clause-explain_more
+returns-clause-explain_more c = at_explain_more

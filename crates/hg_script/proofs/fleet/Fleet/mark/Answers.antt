@@ -27,27 +27,27 @@ returns-in_err-place-clause-err g c =
       (no_trace, refl),
     )
 
-pub returns-in_err-run_event-clause-err : goal.returns-in_err-run_event-clause-err
-returns-in_err-run_event-clause-err g c =
-    let p = err_from_is_err_and c.from_residual-in_err-run_event.result c.from_residual-in_err-run_event.ensures.1 in
+pub returns-in_err-answer-clause-err : goal.returns-in_err-answer-clause-err
+returns-in_err-answer-clause-err g c =
+    let p = err_from_is_err_and c.from_residual-in_err-answer.result c.from_residual-in_err-answer.ensures.1 in
     let leads = mark_nowhere c.args.self.now c.args.at c.in_ok-place.place c.in_ok-mark.mark c.in_ok-place.ensures.ok in
     rw (p.1, p.2) (
       fault_of_command _ _ c.args.self.now (command.Mark c.args.at c.args.marking) _ (λ h. inl (leads h))
-          c.in_err-run_event.ensures.fault,
-      (no_trace, c.in_err-run_event.ensures.unchanged),
+          c.in_err-answer.ensures.fault,
+      (no_trace, c.in_err-answer.ensures.unchanged),
     )
 
 pub returns-clause-ok : goal.returns-clause-ok
 returns-clause-ok g c =
-    let h = c.in_ok-run_event.ensures.happens in (
-      one (Mark c.in_ok-place.place c.in_ok-mark.mark) c.in_ok-run_event.field-0 h.0,
-      answer_line c.args.number c.in_ok-run_event.field-0,
+    let h = c.in_ok-answer.ensures.happens in (
+      one (Mark c.in_ok-place.place c.in_ok-mark.mark) c.in_ok-answer.answer h.0,
+      answer_line c.args.number c.in_ok-answer.answer,
       record {
         asked = (c.in_ok-place.place, c.in_ok-mark.mark, c.in_ok-place.ensures.ok, c.in_ok-mark.ensures.ok, refl);
         ran = (c.run_event.new.world, h.1, refl);
-        told = (c.in_ok-run_event.ensures.told, tt);
+        told = (c.in_ok-answer.ensures.told, tt);
         named = (refl, refl, refl);
       },
-      one_line c.args.number c.in_ok-run_event.field-0,
-      c.in_ok-run_event.ensures.printed,
+      one_line c.args.number c.in_ok-answer.answer,
+      c.in_ok-answer.ensures.printed,
     )

@@ -48,17 +48,17 @@ returns-in_err-answer-clause-err g c =
       (no_trace, c.in_err-answer.ensures.unchanged),
     )
 
-pub returns-in_err-take_offered-clause-err : goal.returns-in_err-take_offered-clause-err
-returns-in_err-take_offered-clause-err g c =
-    let p = err_from_is_err_and c.from_residual-in_err-take_offered.result
-    c.from_residual-in_err-take_offered.ensures.1 in
+pub returns-in_err-taken-clause-err : goal.returns-in_err-taken-clause-err
+returns-in_err-taken-clause-err g c =
+    let p = err_from_is_err_and c.from_residual-in_err-taken.result
+    c.from_residual-in_err-taken.ensures.1 in
     let happens = c.in_ok-answer.ensures.happens in
     let offer = Offer c.in_ok-giver.giver (asking c.args.scope c.in_ok-common.common) in
     rw (p.1, p.2) (
       taken_fails _ c.args.self.now c.args.scope (command.Pull c.args.scope c.args.to c.args.from)
           c.run_event.new.world c.in_ok-giver.giver c.in_ok-taker.taker c.in_ok-common.common c.in_ok-answer.answer _ c.in_ok-common.ensures.ok happens
-          c.in_err-take_offered.ensures.err,
-      ran_after _ _ _ offer _ happens c.in_err-take_offered.ensures.unchanged,
+          c.in_err-taken.ensures.err,
+      ran_after _ _ _ offer _ happens c.in_err-taken.ensures.unchanged,
     )
 
 pub returns-clause-ok : goal.returns-clause-ok
@@ -66,4 +66,4 @@ returns-clause-ok g c =
     pulled c.args.number c.args.self.now c.args.scope c.args.to c.args.from c.in_ok-giver.giver c.in_ok-taker.taker
     c.in_ok-common.common c.in_ok-answer.answer c.run_event.new.world _ _ _ _ c.in_ok-giver.ensures.ok
     c.in_ok-taker.ensures.ok c.in_ok-common.ensures.ok c.in_ok-answer.ensures.told c.in_ok-answer.ensures.happens
-    c.in_ok-answer.ensures.printed c.in_ok-take_offered.ensures.ok refl refl refl
+    c.in_ok-answer.ensures.printed c.in_ok-taken.ensures.ok refl refl refl

@@ -21,28 +21,28 @@ pub returns-in-None-clause-err : goal.returns-in-None-clause-err
 returns-in-None-clause-err g c =
     ((refl, inr (no_message c.args.self.now _ (sym c.bound.ensures ∙ c.in-None.is))), (no_trace, refl))
 
-pub returns-in_err-run_event-clause-err : goal.returns-in_err-run_event-clause-err
-returns-in_err-run_event-clause-err g c =
-    let p = err_from_is_err_and c.from_residual-in_err-run_event.result c.from_residual-in_err-run_event.ensures.1 in
+pub returns-in_err-answer-clause-err : goal.returns-in_err-answer-clause-err
+returns-in_err-answer-clause-err g c =
+    let p = err_from_is_err_and c.from_residual-in_err-answer.result c.from_residual-in_err-answer.ensures.1 in
     let leads = take_nowhere c.args.self.now c.args.at c.args.message c.in_ok-at.at c.in-Some.message
     c.in_ok-at.ensures.ok (sym c.bound.ensures ∙ c.in-Some.is) in
     rw (p.1, p.2) (
       fault_of_command _ _ c.args.self.now (command.Take c.args.at c.args.message) _ leads
-          c.in_err-run_event.ensures.fault,
-      (no_trace, c.in_err-run_event.ensures.unchanged),
+          c.in_err-answer.ensures.fault,
+      (no_trace, c.in_err-answer.ensures.unchanged),
     )
 
 pub returns-clause-ok : goal.returns-clause-ok
 returns-clause-ok g c =
-    let h = c.in_ok-run_event.ensures.happens in (
+    let h = c.in_ok-answer.ensures.happens in (
       one _ _ h.0,
-      answer_line c.args.number c.in_ok-run_event.field-0,
+      answer_line c.args.number c.in_ok-answer.answer,
       record {
         asked = (c.in_ok-at.at, c.in-Some.message, c.in_ok-at.ensures.ok, sym c.bound.ensures ∙ c.in-Some.is, refl);
         ran = (c.run_event.new.world, h.1, refl);
-        told = (c.in_ok-run_event.ensures.told, tt);
+        told = (c.in_ok-answer.ensures.told, tt);
         named = (refl, refl, refl);
       },
-      one_line c.args.number c.in_ok-run_event.field-0,
-      c.in_ok-run_event.ensures.printed,
+      one_line c.args.number c.in_ok-answer.answer,
+      c.in_ok-answer.ensures.printed,
     )

@@ -1,0 +1,323 @@
+//! Scripts with notes: why a line was refused, and what an accepted one did.
+//!
+//! A script with notes does what it does without them, line by line; the notes of a line are written with what it
+//! prints.
+ghost use Rattle.std.specs.Prelude.{◌≡◌, ◌≢◌, ◌≤◌, ◌<◌, ◌+◌, ◌⊎◌, [], IfOk, IfErr, OnOk};
+ghost use Rattle.std.specs.Str.Lines.{lines};
+ghost use Rattle.hg_script.specs.Events.{Trace};
+ghost use Rattle.hg_script.specs.Endings.{EndsAt, IsLeftFleet, IsStop, IsStoppedBy, StopsAmong};
+ghost use Rattle.hg_script.specs.Faults.{status_of};
+ghost use Rattle.hg_script.specs.Limits.{script_limit};
+ghost use Rattle.hg_script.specs.Scripts.{DoesLine, DoesLines, IsRunTo};
+ghost use Rattle.hg_script.specs.Words.{words_of};
+ghost use Rattle.hg_script.specs.declared.fault.RunFault.TheVariants.{NoMemory};
+
+use crate::blaming::word_at_fault;
+use crate::counted::{Counted, CountedRead};
+use crate::explaining::explain;
+use crate::fault::RunFault;
+use crate::fleet::Fleet;
+use crate::input::read_script;
+use crate::lines::{count_nodes, cut_line, words_of};
+use crate::reading::read_command;
+use crate::script::run_line;
+use crate::told::Told;
+use crate::tracing::{rounds_of, trace};
+use hg_peer::Peer;
+use hg_world::runs_compose;
+use std::alloc::{AllocError, Global};
+use std::error::Error;
+use std::fmt;
+use std::io::{Read, Write};
+use std::marker::Brand;
+use std::sync::ledger::{Blank, Ledger};
+
+/// Which notes a script is run with.
+#[derive(Clone, Copy, PartialEq, Eq, Debug)]
+pub struct Notes {
+    /// Behind a refusal stands what it is about, and behind the fault that ends the script the word at fault.
+    pub explains: bool,
+    /// Behind what a line prints that was accepted stands a line of what it did.
+    pub traces: bool,
+}
+
+/// What ended a script with notes.
+#[derive(Debug, Drop)]
+pub struct ToldFault {
+    pub fault: RunFault,
+    /// The word that the fault is about, as it is printed.
+    pub word: Option<String>,
+}
+
+impl ToldFault {
+    /// The exit status.
+    pub fn status(&self) -> u8
+        ensures { result ≡ status_of self.now.fault }
+    {
+        self.fault.status()
+    }
+}
+
+impl fmt::Display for ToldFault {
+    fn fmt<W: fmt::Write>(&self, f: &mut fmt::Formatter<W>) -> fmt::Result {
+        match &self.word {
+            Some(word) => write!(f, "{}: {word}", self.fault),
+            None => write!(f, "{}", self.fault),
+        }
+    }
+}
+
+impl Error for ToldFault {}
+
+impl From<RunFault> for ToldFault {
+    ghost from_gives = { λ fault told. told.fault ≡ fault };
+
+    fn from(fault: RunFault) -> ToldFault {
+        ToldFault { fault, word: None }
+    }
+}
+
+impl From<AllocError> for ToldFault {
+    ghost from_gives = { λ _ told. told.fault ≡ NoMemory };
+
+    fn from(_error: AllocError) -> ToldFault {
+        ToldFault {
+            fault: RunFault::NoMemory,
+            word: None,
+        }
+    }
+}
+
+impl From<hg_join::NoMemory> for ToldFault {
+    ghost from_gives = { λ _ told. told.fault ≡ NoMemory };
+
+    fn from(_error: hg_join::NoMemory) -> ToldFault {
+        ToldFault {
+            fault: RunFault::NoMemory,
+            word: None,
+        }
+    }
+}
+
+/// [`run_named`](crate::run_named), with notes on its lines. The lines of the script are done as without notes.
+pub fn run_told<R: CountedRead, W: Write>(
+    alloc: Global,
+    reader: &mut R,
+    writer: &mut W,
+    notes: Notes,
+) -> Result<Fleet, ToldFault>
+    ensures ran { IfOk result (IsLeftFleet (R.remaining reader.old)) }
+    ensures stopped { IfErr result (λ told. IsStop (R.remaining reader.old) told.fault) }
+    ensures reads { R.reads reader.new ≤ R.reads reader.old + (script_limit + 1) }
+{
+    let text = read_script(alloc, reader)?;
+    tell_text(alloc, &text, writer, notes)
+}
+
+/// [`run_told`] of a reader that counts nothing, by a count of its own.
+pub fn run_counted_told<R: Read + Drop, W: Write>(
+    alloc: Global,
+    reader: R,
+    writer: &mut W,
+    notes: Notes,
+) -> Result<Fleet, ToldFault>
+    ensures ran { IfOk result (IsLeftFleet (R.remaining reader)) }
+    ensures stopped { IfErr result (λ told. IsStop (R.remaining reader) told.fault) }
+{
+    count_and_tell::<R, W, Brand>(alloc, reader, writer, notes, Blank::new(1))
+}
+
+fn count_and_tell<R: Read + Drop, W: Write, L: Ledger>(
+    alloc: Global,
+    reader: R,
+    writer: &mut W,
+    notes: Notes,
+    blank: Blank,
+) -> Result<Fleet, ToldFault>
+    requires name { blank.name ≡ L.name }
+    requires parts { blank.parts ≡ L.parts }
+    requires some { 0 < blank.parts }
+    ensures ran { IfOk result (IsLeftFleet (R.remaining reader)) }
+    ensures stopped { IfErr result (λ told. IsStop (R.remaining reader) told.fault) }
+{
+    let mut counted = Counted::<R, L>::new(reader, blank);
+    run_told(alloc, &mut counted, writer, notes)
+}
+
+fn tell_text<W: Write>(
+    alloc: Global,
+    text: &[u8],
+    writer: &mut W,
+    notes: Notes,
+) -> Result<Fleet, ToldFault>
+    ensures ran { IfOk result (IsRunTo text.now) }
+    ensures stopped { IfErr result (λ told. (told.fault ≡ NoMemory) ⊎ IsStoppedBy text.now told.fault) }
+{
+    let mut fleet = Fleet::new(alloc, count_nodes(text))?;
+    runs_compose::<Peer>();
+    tell_lines(alloc, &mut fleet, text, writer, notes)?;
+    Ok(fleet)
+}
+
+fn tell_lines<W: Write>(
+    alloc: Global,
+    fleet: &mut Fleet,
+    text: &[u8],
+    writer: &mut W,
+    notes: Notes,
+) -> Result<(), ToldFault>
+    ensures done { OnOk result ((t : Trace) × DoesLines fleet.old (lines text.now) t fleet.new) }
+    ensures stopped { IfErr result (λ told.
+        (told.fault ≡ NoMemory) ⊎ StopsAmong fleet.old (lines text.now) told.fault) }
+{
+    let mut rest = text;
+    let mut number = 0usize;
+    while !rest.is_empty() {
+        let (line, after) = cut_line(rest);
+        number += 1;
+        tell_line(alloc, fleet, number, line, writer, notes)?;
+        rest = after;
+    }
+    Ok(())
+}
+
+// A line without words is done, and nothing is told of it.
+fn tell_line<W: Write>(
+    alloc: Global,
+    fleet: &mut Fleet,
+    number: usize,
+    line: &[u8],
+    writer: &mut W,
+    notes: Notes,
+) -> Result<(), ToldFault>
+    ensures done { OnOk result ((t : Trace) × DoesLine fleet.old line.now t fleet.new) }
+    ensures stopped { IfErr result (λ told. (told.fault ≡ NoMemory) ⊎ EndsAt number fleet.old line.now told.fault) }
+{
+    let words = words_of(alloc, line)?;
+    if words.is_empty() {
+        run_line(alloc, fleet, number, line, writer)?;
+        return Ok(());
+    }
+    tell_words(alloc, fleet, number, line, &words, writer, notes)
+}
+
+// Does the line of these words, and writes what it prints with its notes.
+fn tell_words<W: Write>(
+    alloc: Global,
+    fleet: &mut Fleet,
+    number: usize,
+    line: &[u8],
+    words: &[&[u8]],
+    writer: &mut W,
+    notes: Notes,
+) -> Result<(), ToldFault>
+    requires { words_of line.now ≢ [] }
+    ensures done { OnOk result ((t : Trace) × DoesLine fleet.old line.now t fleet.new) }
+    ensures stopped { IfErr result (λ told. (told.fault ≡ NoMemory) ⊎ EndsAt number fleet.old line.now told.fault) }
+{
+    let rounds = rounds_before(alloc, fleet, words, notes)?;
+    let mut text = Vec::new(alloc);
+    match run_line(alloc, fleet, number, line, &mut text) {
+        Ok(told) => {
+            push_notes(alloc, fleet, number, words, &told, rounds, notes, &mut text)?;
+            write_text(&text, writer)?;
+            Ok(())
+        }
+        Err(fault) => {
+            keep_printed(&text, writer);
+            Err(blamed(alloc, fleet, words, fault, notes))
+        }
+    }
+}
+
+fn write_text<W: Write>(text: &[u8], writer: &mut W) -> Result<(), RunFault>
+    ensures { IfErr result (λ fault. fault ≡ RunFault.Write) }
+{
+    match writer.write_all(text) {
+        Ok(()) => Ok(()),
+        Err(_) => Err(RunFault::Write),
+    }
+}
+
+// What was printed before a fault stays, where it can be written.
+fn keep_printed<W: Write>(text: &[u8], writer: &mut W) {
+    let _ = writer.write_all(text);
+}
+
+// How many rounds the line of these words takes, if it is a pull that is to be traced.
+fn rounds_before(
+    alloc: Global,
+    fleet: &Fleet,
+    words: &[&[u8]],
+    notes: Notes,
+) -> Result<Option<usize>, AllocError> {
+    if !notes.traces {
+        return Ok(None);
+    }
+    match read_command(words) {
+        Ok(Some(command)) => rounds_of(alloc, fleet, command),
+        Ok(None) | Err(_) => Ok(None),
+    }
+}
+
+// Appends to what the line with this number printed what is told of it.
+fn push_notes(
+    alloc: Global,
+    fleet: &Fleet,
+    number: usize,
+    words: &[&[u8]],
+    told: &Told,
+    rounds: Option<usize>,
+    notes: Notes,
+    text: &mut Vec<u8>,
+) -> Result<(), AllocError> {
+    if notes.explains {
+        explain(alloc, fleet, told, text)?;
+    }
+    if !notes.traces {
+        return Ok(());
+    }
+    match read_command(words) {
+        Ok(Some(command)) => trace(alloc, fleet, number, command, told, rounds, text),
+        Ok(None) | Err(_) => Ok(()),
+    }
+}
+
+// The fault that ended the script, with the word that it is about where that is asked for.
+fn blamed(alloc: Global, fleet: &Fleet, words: &[&[u8]], fault: RunFault, notes: Notes) -> ToldFault
+    ensures { (result.fault ≡ fault) ⊎ (result.fault ≡ NoMemory) }
+{
+    if !notes.explains {
+        return ToldFault::from(fault);
+    }
+    match word_of(alloc, fleet, words, fault) {
+        Ok(word) => ToldFault { fault, word },
+        Err(_) => ToldFault::from(AllocError),
+    }
+}
+
+// The word that the fault is about, as it is printed.
+fn word_of(
+    alloc: Global,
+    fleet: &Fleet,
+    words: &[&[u8]],
+    fault: RunFault,
+) -> Result<Option<String>, RunFault> {
+    let (number, fault) = match fault {
+        RunFault::Line(number, fault) => (number, fault),
+        _ => return Ok(None),
+    };
+    match word_at_fault(alloc, fleet, number, words, fault)? {
+        Some(word) => Ok(Some(printable(alloc, word)?)),
+        None => Ok(None),
+    }
+}
+
+// The word, where bytes that aren't printed, quotes and backslashes are escaped.
+fn printable(alloc: Global, word: &[u8]) -> Result<String, AllocError> {
+    let mut text = String::new(alloc);
+    for byte in word.escape_ascii() {
+        text.push(char::from(byte))?;
+    }
+    Ok(text)
+}
