@@ -1,7 +1,6 @@
 pub mod Texts
 pub mod Fields
 pub mod Same
-pub mod Fed
 pub mod Parents
 pub mod Refusals
 pub mod Reading

@@ -18,7 +18,6 @@ use crate::parents::{Parents, parents_of};
 use crate::successors::Successors;
 use hg_changeset::Node;
 use std::alloc::{AllocError, Global};
-use std::hash::{Hash, Hasher};
 use std::marker::Model;
 
 /// The most bytes that the metadata of a marker may take.
@@ -91,22 +90,6 @@ impl Eq for Marker {
     ghost use Rattle.hg_marker.specs.Same.{fields_equivalence};
 
     ghost laws = { fields_equivalence };
-}
-
-impl Hash for Marker {
-    ghost use Rattle.hg_marker.specs.Fed.{fields_fed, fields_alike};
-
-    ghost hash_input = { fields_fed };
-
-    ghost respects_eq = { fields_alike };
-
-    #[tactic(auto, unfolding(crate::specs::Fed::fields_fed))]
-    fn hash<H: Hasher>(&self, state: &mut H) {
-        self.predecessor.hash(state);
-        Node::hash_slice(self.successors.as_slice(), state);
-        self.flags.hash(state);
-        self.metadata.hash(state);
-    }
 }
 
 impl Marker {

@@ -14,9 +14,7 @@ use crate::entries::Entries;
 use crate::pieces::{is_written, read_texts};
 use crate::text_map::{TextMap, ends_key, has_nul};
 use crate::written::WrittenTexts;
-use hg_changeset::feed_bytes;
 use std::alloc::{AllocError, Global};
-use std::hash::{Hash, Hasher};
 use std::marker::Model;
 
 /// Values by key.
@@ -71,22 +69,6 @@ impl Eq for Metadata {
     ghost use Rattle.hg_marker.specs.Same.{texts_equivalence};
 
     ghost laws = { texts_equivalence };
-}
-
-impl Hash for Metadata {
-    ghost use Rattle.hg_marker.specs.Fed.{texts_fed, texts_alike};
-
-    ghost hash_input = { texts_fed };
-
-    ghost respects_eq = { texts_alike };
-
-    #[tactic(auto, unfolding(crate::specs::Fed::texts_fed))]
-    fn hash<H: Hasher>(&self, state: &mut H) {
-        match &self.form {
-            Form::Written(texts) => feed_bytes(texts.as_bytes(), state),
-            Form::Unwritable(texts) => texts.hash(state),
-        }
-    }
 }
 
 impl Metadata {

@@ -1,16 +1,14 @@
 //! Texts by key, as a map: what second spellings are read into, and what holds texts that can't be written.
-ghost use Rattle.std.specs.Prelude.{◌≡◌, ◌++◌, ◌^◌, ◌-◌, OnOk, OnErr, IfOk, option_copied, length, min, fold};
+ghost use Rattle.std.specs.Prelude.{◌≡◌, ◌++◌, ◌^◌, ◌-◌, OnOk, OnErr, IfOk, option_copied, length, min};
 ghost use Rattle.std.specs.FinMap as finite;
 ghost use Rattle.std.specs.List.{list_any};
 ghost use Rattle.hg_marker.specs.Texts.{entry_bytes};
 ghost use Rattle.hg_changeset.specs.Same.{same_pairs};
-ghost use Rattle.hg_marker.specs.Fed.{entries_fed};
 ghost use Rattle.hg_marker.specs.Metadata.{written, piece, is_nul};
 ghost use Rattle.hg_marker.specs.Making.{has_bad_key, has_bad_value, ends_key};
 
 use std::alloc::{AllocError, Global};
 use std::collections::{BTreeMap, btree_map};
-use std::hash::{Hash, Hasher};
 use std::marker::Model;
 
 // Values by key, both byte strings.
@@ -52,18 +50,6 @@ impl Eq for TextMap {
     ghost use Rattle.hg_marker.specs.Same.{texts_equivalence};
 
     ghost laws = { texts_equivalence };
-}
-
-impl Hash for TextMap {
-    ghost use Rattle.hg_marker.specs.Fed.{map_fed, map_alike};
-
-    ghost hash_input = { map_fed };
-
-    ghost respects_eq = { map_alike };
-
-    fn hash<H: Hasher>(&self, state: &mut H) {
-        feed(&self.texts, state);
-    }
 }
 
 impl TextMap {
@@ -178,16 +164,6 @@ fn are_same(a: &BTreeMap<Vec<u8>, Vec<u8>>, b: &BTreeMap<Vec<u8>, Vec<u8>>) -> b
     ensures { result ≡ same_pairs (entry_bytes a.now.entries) (entry_bytes b.now.entries) }
 {
     a == b
-}
-
-// Each key and its value go into the hasher.
-fn feed<H: Hasher>(texts: &BTreeMap<Vec<u8>, Vec<u8>>, state: &mut H)
-    ensures { state.new ≡ fold H.write state.old (entries_fed (entry_bytes texts.now.entries)) }
-{
-    for (key, value) in texts {
-        state.write(key);
-        state.write(value);
-    }
 }
 
 // Appends a key and its value, with a colon between them.

@@ -6,7 +6,6 @@ use hg_marker::{
 };
 use std::alloc::{AllocError, Global};
 use std::fmt::Display;
-use std::hash::{DefaultHasher, Hash, Hasher};
 use std::process::Abort;
 
 const OLD: Node = Node([0x11; 20]);
@@ -274,23 +273,6 @@ fn insert(
     value: &[u8],
 ) -> Result<(), AllocError> {
     metadata.insert(Vec::from_slice(alloc, key)?, Vec::from_slice(alloc, value)?)
-}
-
-// What the standard hasher makes of the marker that bytes spell.
-fn hash_of(rt: &impl Abort, alloc: Global, text: &[u8]) -> u64 {
-    let bytes = bytes_with(alloc, NEW, text).expect(rt, "memory");
-    let (marker, _) = decode(alloc, &bytes).expect(rt, "memory");
-    let mut state = DefaultHasher::default();
-    marker.hash(&mut state);
-    state.finish()
-}
-
-#[test]
-fn hashes_spellings_alike(rt: HostRuntime) {
-    let alloc = rt.alloc();
-    let written = hash_of(&rt, alloc, b"date:0 0\0user:bob");
-    assert_eq!(rt; hash_of(&rt, alloc, b"user:bob\0\0date:0 0\0"), written);
-    assert!(rt; hash_of(&rt, alloc, b"date:0 0\0user:bo") != written);
 }
 
 // The parents that a marker with this metadata records.
