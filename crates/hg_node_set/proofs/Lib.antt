@@ -1,0 +1,2 @@
+pub mod KeyLemmas
+mod SlotLemmas

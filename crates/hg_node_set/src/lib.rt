@@ -19,5 +19,6 @@
 #![tactic(auto)]
 
 mod set;
+mod slots;
 
 pub use set::NodeSet;

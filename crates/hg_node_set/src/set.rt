@@ -1,38 +1,49 @@
 //! Node ids with numbers.
 
-ghost use Rattle.std.specs.Prelude.{◌≡◌, [], length, take, IfOk, OnOk, OnErr, not, false};
+ghost use Rattle.std.specs.Prelude.{◌≡◌, ◌++◌, ◌∷◌, ◌+◌, [], length, take, IfOk, OnOk, OnErr, not, false};
 ghost use Rattle.std.specs.List.{list_any, IsDistinct};
 ghost use Rattle.hg_changeset.specs.Node.{node_eq};
 ghost use Rattle.hg_node_set.specs.Keys.{insert_key, number_of, number_after};
+ghost use Rattle.hg_node_set.specs.Slots.{AreFound};
 
+use crate::slots::Slots;
 use hg_changeset::Node;
-use indexmap::IndexSet;
 use std::alloc::{AllocError, Global};
 use std::marker::Model;
 
-/// Node ids, each once, in the order in which they came. An id has the number of its place.
+// So many ids are looked through one by one.
+const FEW: usize = 8;
+
+/// Node ids, each once, in the order in which they came. An id has the number of its place. Contracts see the list.
+///
+/// A look-up costs about one look at a list where ids are hashes, as those of changesets are, and the logarithm of
+/// their number whatever ids they are.
 pub struct NodeSet {
     alloc: Global,
-    nodes: IndexSet<Node>,
+    nodes: Vec<Node>,
+    slots: Slots,
 }
 
 // Whoever owns a set calls this once, and is proved without a look at each collection in it.
 impl Drop for NodeSet {
     fn drop(self) {
-        let NodeSet { alloc: _, nodes: _ } = self;
+        let NodeSet {
+            alloc: _,
+            nodes: _,
+            slots: _,
+        } = self;
     }
 }
 
 impl Model for NodeSet {
-    ghost use Rattle.hg_changeset.specs.Node.{node_eq};
-    ghost use Rattle.indexmap.specs.IndexSet.{IsUnique};
     ghost use Rattle.hg_node_set.specs.Keys.{Keys};
+    ghost use Rattle.hg_node_set.specs.Slots.{AreFound};
 
     ghost Value = { Keys };
 
-    ghost view = { λ s. record { keys = s.nodes.keys } };
+    ghost view = { λ s. record { keys = s.nodes.items } };
 
-    ghost invariant = { λ s. IsUnique node_eq s.nodes };
+    ghost invariant = { λ s. AreFound s.nodes.items s.slots.first.items s.slots.others.entries };
 }
 
 impl NodeSet {
@@ -42,7 +53,8 @@ impl NodeSet {
     {
         NodeSet {
             alloc,
-            nodes: IndexSet::new(alloc),
+            nodes: Vec::new(alloc),
+            slots: Slots::none(alloc),
         }
     }
 
@@ -71,14 +83,18 @@ impl NodeSet {
     pub fn contains(&self, node: Node) -> bool
         ensures contains { result ≡ list_any (node_eq node) self.now.keys }
     {
-        self.nodes.contains(&node)
+        self.get_index_of(node).is_some()
     }
 
     /// The number of an id.
     pub fn get_index_of(&self, node: Node) -> Option<usize>
         ensures index { result ≡ number_of self.now.keys node }
+        ensures unique { IsDistinct node_eq self.now.keys }
     {
-        self.nodes.get_index_of(&node)
+        if self.slots.is_empty() {
+            return self.nodes.iter().position(|held| node == *held);
+        }
+        self.slots.find(&self.nodes, node)
     }
 
     /// Puts an id last, unless it is there. Tells whether it is new. Where memory is refused nothing changes.
@@ -103,14 +119,81 @@ impl NodeSet {
         ensures err { OnErr result (self.new ≡ self.old) }
         ensures absent { OnErr result (list_any (node_eq node) self.old.keys ≡ false) }
     {
-        let found = self.nodes.insert_full(node)?;
-        Ok(found)
+        match self.get_index_of(node) {
+            Some(number) => Ok((number, false)),
+            None => {
+                let number = self.append(node)?;
+                Ok((number, true))
+            }
+        }
     }
 
     /// Forgets the ids from a number on. It costs what is forgotten.
     pub fn truncate(&mut self, len: usize)
         ensures { self.new.keys ≡ take len self.old.keys }
     {
-        self.nodes.truncate(len);
+        while self.len() > len {
+            let number = self.len() - 1;
+            self.forget(number);
+        }
+    }
+
+    // Makes more slots where half of them may be taken, or where ids are no longer few.
+    fn make_slots(&mut self) -> Result<(), AllocError>
+        ensures { self.new ≡ self.old }
+    {
+        let count = self.nodes.len();
+        if count < FEW || count < self.slots.first.len() / 2 {
+            return Ok(());
+        }
+        let more = count.saturating_mul(4);
+        self.slots = Slots::of(self.alloc, &self.nodes, more)?;
+        Ok(())
+    }
+
+    // Puts a new id last, and tells its number.
+    fn append(&mut self, node: Node) -> Result<usize, AllocError>
+        requires { list_any (node_eq node) self.old.keys ≡ false }
+        ensures keys { OnOk result (self.new.keys ≡ self.old.keys ++ node ∷ []) }
+        ensures number { IfOk result (λ number. number ≡ length self.old.keys) }
+        ensures err { OnErr result (self.new ≡ self.old) }
+    {
+        let number = self.nodes.len();
+        self.make_slots()?;
+        self.push(node)?;
+        Ok(number)
+    }
+
+    // Puts a new id last, where there is a slot for it.
+    fn push(&mut self, node: Node) -> Result<(), AllocError>
+        requires { list_any (node_eq node) self.old.keys ≡ false }
+        ensures ok { OnOk result (self.new.keys ≡ self.old.keys ++ node ∷ []) }
+        ensures err { OnErr result (self.new ≡ self.old) }
+    {
+        let number = self.nodes.len();
+        self.nodes.push(node)?;
+        if self.slots.is_empty() {
+            return Ok(());
+        }
+        match self.slots.add(node, number) {
+            Ok(()) => Ok(()),
+            Err(error) => {
+                let _ = self.nodes.pop();
+                Err(error)
+            }
+        }
+    }
+
+    // Forgets the last id.
+    fn forget(&mut self, number: usize)
+        requires { number + 1 ≡ length self.old.keys }
+        ensures { self.new.keys ≡ take number self.old.keys }
+    {
+        let node = self.nodes[number];
+        self.nodes.truncate(number);
+        if self.slots.is_empty() {
+            return;
+        }
+        self.slots.remove(node, number);
     }
 }
