@@ -13,7 +13,7 @@ ghost use Rattle.hg_graph.specs.Answers.{IsFirstMissing, IsNew, AddAnswer, LookU
 use crate::error::GraphError;
 use crate::links::Links;
 use hg_changeset::{Changeset, Node};
-use indexmap::IndexMap;
+use hg_node_set::NodeSet;
 use std::alloc::{AllocError, Global};
 use std::marker::Model;
 
@@ -37,7 +37,9 @@ pub struct ParentPlaces {
 
 /// Changesets in an order in which every parent is there and comes first.
 pub struct Graph {
-    changesets: IndexMap<Node, Changeset>,
+    // The number of an id is the place of its changeset.
+    ids: NodeSet,
+    changesets: Vec<Changeset>,
     links: Links,
 }
 
@@ -45,6 +47,7 @@ pub struct Graph {
 impl Drop for Graph {
     fn drop(self) {
         let Graph {
+            ids: _,
             changesets: _,
             links: _,
         } = self;
@@ -53,17 +56,16 @@ impl Drop for Graph {
 
 impl Model for Graph {
     ghost use Rattle.std.specs.Prelude.{◌≡◌, List};
-    ghost use Rattle.indexmap.specs.IndexMap.{keys, values};
     ghost use Rattle.hg_changeset.specs.Contents.{Contents};
     ghost use Rattle.hg_graph.specs.Graph.{IsGraph, nodes};
     ghost use Rattle.hg_graph.specs.Places.{ArePlaces};
 
     ghost Value = { List Contents };
 
-    ghost view = { λ g. values g.changesets };
+    ghost view = { λ g. g.changesets.items };
 
-    ghost invariant = { λ g. (keys g.changesets ≡ nodes (values g.changesets)) × IsGraph (values g.changesets)
-        × ArePlaces (values g.changesets) g.links };
+    ghost invariant = { λ g. (g.ids.keys ≡ nodes g.changesets.items) × IsGraph g.changesets.items
+        × ArePlaces g.changesets.items g.links };
 }
 
 impl Graph {
@@ -72,7 +74,8 @@ impl Graph {
         ensures { result ≡ [] }
     {
         Graph {
-            changesets: IndexMap::new(alloc),
+            ids: NodeSet::new(alloc),
+            changesets: Vec::new(alloc),
             links: Links::new(alloc),
         }
     }
@@ -81,7 +84,7 @@ impl Graph {
     pub(crate) fn alloc(&self) -> Global
         ensures { IsGraph self.now }
     {
-        *self.changesets.allocator()
+        self.ids.allocator()
     }
 
     /// How many changesets are held.
@@ -112,7 +115,10 @@ impl Graph {
         ensures missing { IsNone result → ¬ (Holds self.now node) }
         ensures null { node ≡ null_node → IsNone result }
     {
-        self.changesets.get(&node)
+        match self.place(node) {
+            Some(place) => self.changeset_at(place),
+            None => None,
+        }
     }
 
     /// Where the changeset with this id stands. The null id is answered without a look-up.
@@ -120,31 +126,25 @@ impl Graph {
         ensures place { MatchOption result (¬ (Holds self.now node)) (IsOnlyAt self.now node) }
         ensures graph { IsGraph self.now }
     {
-        let changesets = &self.changesets;
+        let ids = &self.ids;
         if node.is_null() {
             return None;
         }
-        changesets.get_index_of(&node)
+        ids.get_index_of(node)
     }
 
     /// The id of the changeset at a place.
     pub fn node_at(&self, place: usize) -> Option<Node>
         ensures { result ≡ slice_get (nodes self.now) place }
     {
-        match self.changesets.get_index(place) {
-            Some((node, _)) => Some(*node),
-            None => None,
-        }
+        self.ids.as_slice().get(place).copied()
     }
 
     /// The changeset at a place.
     pub fn changeset_at(&self, place: usize) -> Option<&Changeset>
         ensures { option_copied result ≡ slice_get self.now place }
     {
-        match self.changesets.get_index(place) {
-            Some((_, changeset)) => Some(changeset),
-            None => None,
-        }
+        self.changesets.get(place)
     }
 
     /// Where the parents of the changeset at a place stand.
@@ -246,12 +246,16 @@ impl Graph {
         ensures unchanged { OnErr result (self.new ≡ self.old) }
     {
         let node = changeset.node();
+        self.changesets.reserve(1)?;
         self.links.push(parents)?;
-        match self.changesets.insert(node, changeset) {
-            Ok(_) => Ok(()),
+        match self.ids.insert(node) {
+            Ok(_) => {
+                self.changesets.push(changeset)?;
+                Ok(())
+            }
             Err(refused) => {
                 self.links.pop();
-                Err(refused.into())
+                Err(refused)
             }
         }
     }
@@ -261,6 +265,7 @@ impl Graph {
     pub fn truncate(&mut self, len: usize)
         ensures { self.new ≡ take len self.old }
     {
+        self.ids.truncate(len);
         self.changesets.truncate(len);
         self.links.truncate(len);
     }
@@ -270,7 +275,8 @@ impl Graph {
         ensures { IfOk result (λ graph. graph ≡ self.now) }
     {
         let mut graph = Graph {
-            changesets: IndexMap::with_capacity(self.alloc(), self.len())?,
+            ids: NodeSet::new(self.alloc()),
+            changesets: Vec::with_capacity(self.alloc(), self.len())?,
             links: Links::with_capacity(self.alloc(), self.len())?,
         };
         for place in 0..self.len() {
