@@ -1,21 +1,119 @@
 -- Tables after a change under one number, and after an entry more.
 use Rattle.std.proofs.Common.{◌≡◌, ◌≢◌, ◌<◌, ◌++◌, ◌∷◌, [], ◌∙◌, ⊎_elim, arith, sym, ap, subst, ℕ, zero, suc, List}
-use Rattle.std.proofs.Common.{Option, None, Some, refl, length, length-append, slice_set, slice_get, true, false}
-use Rattle.std.proofs.lemmas.Option.{slice_get_within, same_Some}
-use Rattle.std.proofs.lemmas.Bool.{cases_eq, false_from_ne_true}
+use Rattle.std.proofs.Common.{Option, None, Some, refl, length, length-append, slice_set, slice_get, true, false, Bool}
+use Rattle.std.proofs.Common.{get_or, ◌≤◌, ◌+◌, not}
+use Rattle.std.specs.Prelude.{if◌then◌else◌, position}
+use Rattle.std.specs.List.{list_any, position_or_len, IsDistinct}
+use Rattle.std.proofs.lemmas.Option.{slice_get_within, get_or_from_slice_get}
+use Rattle.std.proofs.lemmas.Bool.{cases_Bool, cases_lt, false_from_ne_true, false≢true}
+use Rattle.std.proofs.lemmas.List.{get_or_append_left, get_or_push}
+use Rattle.std.proofs.lemmas.List.Folds.{list_any_at, list_any_none}
+use Rattle.std.proofs.lemmas.List.Quantifiers.{position-Some}
+use Rattle.std.proofs.lemmas.List.Sums.{fails_before_first, position_or_len_is, prefix_len-le-length}
+use Rattle.std.proofs.lemmas.Map.Made.{AllPairs-from_IsDistinct}
 use Rattle.std.specs.BTreeMap.{is_at}
 use Rattle.std.specs.Ordering.{is_eq}
 use Rattle.std.specs.declared.cmp.Ordering.{Ordering}
 use Rattle.std.specs.declared.cmp.Ordering.TheVariants.{Less, Equal, Greater}
 use Rattle.hg_changeset.specs.declared.node.Node.{Node}
-use Rattle.hg_changeset.proofs.NodeLemmas.{node_cases, node_cmp_exact}
-use Rattle.hg_changeset.specs.Node.{node_cmp}
+use Rattle.hg_changeset.proofs.ListLemmas.{position-found, position-none, slice_get-append, slice_get_some}
+use Rattle.hg_changeset.proofs.NodeLemmas.{node_apart, node_cases, node_cmp_exact, node_itself, same_node}
+use Rattle.hg_changeset.specs.Node.{node_cmp, node_eq}
+use Rattle.hg_node_set.specs.Keys.{insert_key, number_after, number_of}
 use Rattle.hg_obsstore.specs.declared.index.Role.{Role}
 use Rattle.hg_obsstore.specs.declared.index.Roles.{Roles}
-use Rattle.hg_obsstore.specs.Entries.{Table, AreNumbered, PutsAt, ChangesPlaces, ChangesRole, SameRoles, at_number}
-use Rattle.hg_obsstore.specs.Entries.{known}
-use Rattle.hg_obsstore.specs.Entries.{found_as, listed_as, number_of, places_at, roles_of}
-use Rattle.hg_obsstore.proofs.StoreLemmas.{stays, was, last}
+use Rattle.hg_obsstore.specs.Entries.{Table, PutsAt, ChangesPlaces, ChangesRole, SameRoles, at_number, known}
+use Rattle.hg_obsstore.specs.Entries.{found_as, listed_as, places_at}
+use Rattle.hg_obsstore.proofs.StoreLemmas.{last}
+
+-- the first place that passes, with an element more
+module _ {X : Type 0} (p : X → Bool) (xs : List X) where
+  first_at : (i : ℕ) → i < length xs → position_or_len p xs ≡ i → position p xs ≡ Some i
+  first_at i lt is = by (position p xs) refl
+    where
+      by : (o : Option ℕ) → position p xs ≡ o → position p xs ≡ Some i
+      by None e = let past = position-none p xs e in absurd (omega (arith, past, lt, is))
+      by (Some j) e = e ∙ ap Some (sym (position-found p xs j e).1 ∙ is)
+
+  nowhere : list_any p xs ≡ false → position p xs ≡ None
+  nowhere h = by (position p xs) refl
+    where
+      by : (o : Option ℕ) → position p xs ≡ o → position p xs ≡ None
+      by None e = e
+      by (Some j) e = let q : (x : X) × (slice_get xs j ≡ Some x) = slice_get_some xs j
+          (let f = position-found p xs j e in omega (arith, f)) in
+          let s = position-Some p xs j q.0 e in
+          absurd (false≢true (sym h ∙ list_any_at p xs j q.0 s.0 s.1))
+
+  somewhere : list_any p xs ≡ true → position p xs ≡ Some (position_or_len p xs)
+  somewhere h = by (position p xs) refl
+    where
+      by : (o : Option ℕ) → position p xs ≡ o → position p xs ≡ Some (position_or_len p xs)
+      by None e = let past = position-none p xs e in
+          absurd (false≢true (sym (list_any_none p xs (λ k d lt. fails_before_first p xs k d (omega (arith, past, lt))))
+          ∙ h))
+      by (Some j) e = e ∙ ap Some (sym (position-found p xs j e).1)
+
+module _ {X : Type 0} (p : X → Bool) (xs : List X) (y : X) where
+  long : length (xs ++ y ∷ []) ≡ length xs + 1
+  long = length-append xs (y ∷ [])
+
+  fails : position p xs ≡ None → (k : ℕ) (d : X) → k < length xs → p (get_or (xs ++ y ∷ []) k d) ≡ false
+  fails none k d lt = let past = position-none p xs none in
+      rw (get_or_append_left xs (y ∷ []) d k lt) (fails_before_first p xs k d (omega (arith, past, lt)))
+
+  first_pushed : position p xs ≡ None → p y ≡ true → position p (xs ++ y ∷ []) ≡ Some (length xs)
+  first_pushed none passes = first_at p (xs ++ y ∷ []) (length xs) (omega (arith, long))
+      (position_or_len_is p (xs ++ y ∷ []) (length xs) y (omega (arith, long))
+      (λ k lt. fails none k y lt)
+      (λ lt. rw (get_or_push xs y y (length xs) refl) passes))
+
+  first_kept : p y ≡ false → position p (xs ++ y ∷ []) ≡ position p xs
+  first_kept fail = by (position p xs) refl
+    where
+      by : (o : Option ℕ) → position p xs ≡ o → position p (xs ++ y ∷ []) ≡ position p xs
+      by None e = nowhere p (xs ++ y ∷ []) (list_any_none p (xs ++ y ∷ []) (λ k d lt. ⊎_elim
+          (λ (l : k < length xs). fails e k d l)
+          (λ (ge : length xs ≤ k). rw (get_or_push xs y d k (omega (arith, ge, lt, long))) fail)
+          (cases_lt k (length xs))))
+          ∙ sym e
+      by (Some j) e = let s = position-Some p xs j y e in
+          first_at p (xs ++ y ∷ []) j (omega (arith, long, s.0))
+          (position_or_len_is p (xs ++ y ∷ []) j y (omega (arith, long, s.0))
+          (λ k lt. rw (get_or_append_left xs (y ∷ []) y k (omega (arith, lt, s.0))) (s.2 k lt))
+          (λ lt. rw (get_or_append_left xs (y ∷ []) y j s.0) s.1)) ∙ sym e
+
+-- the numbers of nodes, after one is inserted
+module _ (keys : List Node) (node : Node) where
+  pub number_within : (k : ℕ) → number_of keys node ≡ Some k → k < length keys
+  number_within k is = let found = position-found (node_eq node) keys k is in omega (arith, found)
+
+  pub number_at : (k : ℕ) → IsDistinct node_eq keys → slice_get keys k ≡ Some node → number_of keys node ≡ Some k
+  number_at k apart at =
+      let lt = slice_get_within keys k node at in
+      let read : get_or keys k node ≡ node = get_or_from_slice_get keys k node node at in
+      let pairs = AllPairs-from_IsDistinct (λ a b. (same_node a b, node_itself a b)) keys apart in
+      first_at (node_eq node) keys k lt (position_or_len_is (node_eq node) keys k node (omega (arith, lt))
+      (λ j l. node_apart node (get_or keys j node) (λ e. pairs j k node l lt (sym e ∙ sym read)))
+      (λ l. node_itself node (get_or keys k node) (sym read)))
+
+  pub inserted_old : list_any (node_eq node) keys ≡ true → insert_key keys node ≡ keys
+  inserted_old e = ap (λ b. if b then keys else keys ++ node ∷ []) e
+
+  pub inserted_new : list_any (node_eq node) keys ≡ false → insert_key keys node ≡ keys ++ node ∷ []
+  inserted_new e = ap (λ b. if b then keys else keys ++ node ∷ []) e
+
+  pub number_inserted : number_of (insert_key keys node) node ≡ Some (number_after keys node)
+  number_inserted = ⊎_elim
+      (λ (e : list_any (node_eq node) keys ≡ true). ap (λ ks. number_of ks node) (inserted_old e)
+      ∙ somewhere (node_eq node) keys e)
+      (λ (e : list_any (node_eq node) keys ≡ false). let none = nowhere (node_eq node) keys e in
+      let past = position-none (node_eq node) keys none in
+      let within : number_after keys node ≤ length keys = prefix_len-le-length (λ x. not (node_eq node x)) keys in
+      let number : length keys ≡ number_after keys node = omega (arith, past, within) in
+      ap (λ ks. number_of ks node) (inserted_new e)
+      ∙ first_pushed (node_eq node) keys node none (node_itself node node refl) ∙ ap Some number)
+      (cases_Bool (list_any (node_eq node) keys))
 
 -- what each look-up gives after v was put at the node
 module _ (old new : Table) (node : Node) (v : Roles) (at : known new node ≡ Some v)
@@ -51,122 +149,74 @@ set_else (y ∷ xs) (suc k) zero a other = refl
 set_else (y ∷ xs) (suc k) (suc j) a other = set_else xs k j a (λ e. other (ap suc e))
 
 -- other roles under the number of a node
-module _ (numbers : List (Node × ℕ)) (es : List (Node × Roles)) (all : AreNumbered numbers es) (node : Node) (k : ℕ)
-    (is : number_of numbers node ≡ Some k) (entry : Node × Roles) (new : List (Node × Roles)) (v : Roles)
-    (puts : PutsAt k es new entry v) where
-  pub entry_is : entry ≡ (node, (all.entry node k is).0)
-  entry_is = same_Some _ _ (sym puts.was ∙ (all.entry node k is).1)
+module _ (keys : List Node) (old new : List Roles) (node : Node) (k : ℕ) (is : number_of keys node ≡ Some k)
+    (stood v : Roles) (puts : PutsAt k old new stood v) where
+  known_before : at_number old (number_of keys node) ≡ Some stood
+  known_before = ap (at_number old) is ∙ puts.was
 
-  here : slice_get new k ≡ Some (entry.0, v)
-  here = ap (λ es. slice_get es k) puts.is ∙ set_here es k (entry.0, v) entry puts.was
+  known_here : at_number new (number_of keys node) ≡ Some v
+  known_here = ap (at_number new) is ∙ ap (λ rs. slice_get rs k) puts.is ∙ set_here old k v stood puts.was
 
-  else : (j : ℕ) → j ≢ k → slice_get new j ≡ slice_get es j
-  else j other = ap (λ es. slice_get es j) puts.is ∙ set_else es k j (entry.0, v) other
+  one_each : (q : Node) → number_of keys q ≡ Some k → q ≡ node
+  one_each q at =
+      let a = position-Some (node_eq q) keys k node at in
+      let b = position-Some (node_eq node) keys k node is in
+      same_node q (get_or keys k node) a.1 ∙ sym (same_node node (get_or keys k node) b.1)
 
-  pub known_before : at_number es (number_of numbers node) ≡ Some entry.1
-  known_before = ap (at_number es) is ∙ ap roles_of puts.was
-
-  pub known_here : at_number new (number_of numbers node) ≡ Some v
-  known_here = ap (at_number new) is ∙ ap roles_of here
-
-  one_each : (q : Node) → number_of numbers q ≡ Some k → q ≡ node
-  one_each q at = ap (λ (e : Node × Roles). e.0) (same_Some _ _ (sym (all.entry q k at).1 ∙ (all.entry node k is).1))
-
-  pub known_else : (q : Node) → q ≢ node → at_number new (number_of numbers q) ≡ at_number es (number_of numbers q)
-  known_else q other = by (number_of numbers q) refl
+  known_else : (q : Node) → q ≢ node → at_number new (number_of keys q) ≡ at_number old (number_of keys q)
+  known_else q other = by (number_of keys q) refl
     where
-      by : (o : Option ℕ) → number_of numbers q ≡ o → at_number new o ≡ at_number es o
+      by : (o : Option ℕ) → number_of keys q ≡ o → at_number new o ≡ at_number old o
       by None at = refl
-      by (Some j) at = ap roles_of (else j (λ (e : j ≡ k). other (one_each q (at ∙ ap Some e))))
+      by (Some j) at = ap (λ rs. slice_get rs j) puts.is
+          ∙ set_else old k j v (λ (e : j ≡ k). other (one_each q (at ∙ ap Some e)))
 
-  pub numbered_put : AreNumbered numbers new
-  numbered_put = record {
-    entry = λ q j at. ⊎_elim
-        (λ (e : j ≡ k). let same : q ≡ node = one_each q (at ∙ ap Some e) in (
-          v,
-          ap (slice_get new) e ∙ here ∙ ap (λ (n : Node). Some (n, v)) (ap (λ (e : Node × Roles). e.0) entry_is
-              ∙ sym same),
-        ))
-        (λ (other : j ≢ k). let was = all.entry q j at in (was.0, else j other ∙ was.1)) (cases_eq j k);
-    number = λ j q w at. ⊎_elim
-        (λ (e : j ≡ k). let found : (entry.0, v) ≡ (q, w) =
-        same_Some _ _ (sym here ∙ ap (slice_get new) (sym e) ∙ at) in
-        ap (number_of numbers) (sym (ap (λ (x : Node × Roles). x.0) found) ∙ ap (λ (x : Node × Roles). x.0) entry_is)
-        ∙ is ∙ ap Some (sym e))
-        (λ (other : j ≢ k). all.number j q w (sym (else j other) ∙ at)) (cases_eq j k);
-  }
-
-  pub same : SameRoles entry.1 v → (t : Table) → record { numbers = numbers; entries = es } ≡ t → (role : Role)
-      → places_at (record { numbers = numbers; entries = new }) role ≡ places_at t role
+  pub same : SameRoles stood v → (t : Table) → record { keys = keys; roles = old } ≡ t → (role : Role)
+      → places_at (record { keys = keys; roles = new }) role ≡ places_at t role
   same alike t e role =
-      found_same (record { numbers = numbers; entries = es }) (record { numbers = numbers; entries = new }) node v
-      known_here known_else role (alike role ∙ ap (found_as role) (sym known_before))
-      ∙ ap (λ (t : Table). places_at t role) e
+      found_same (record { keys = keys; roles = old }) (record { keys = keys; roles = new }) node v known_here
+      known_else role (alike role ∙ ap (found_as role) (sym known_before)) ∙ ap (λ (t : Table). places_at t role) e
 
-  pub changed : (f : List ℕ → List ℕ) (role : Role) → ChangesRole role (f (listed_as role entry.1)) entry.1 v
-      → (t : Table) → record { numbers = numbers; entries = es } ≡ t
-      → ChangesPlaces (places_at t) (places_at (record { numbers = numbers; entries = new })) role node
+  pub changed : (f : List ℕ → List ℕ) (role : Role) → ChangesRole role (f (listed_as role stood)) stood v
+      → (t : Table) → record { keys = keys; roles = old } ≡ t
+      → ChangesPlaces (places_at t) (places_at (record { keys = keys; roles = new })) role node
       (f (places_at t role node))
   changed f role changes t e =
-      subst (λ (t : Table). ChangesPlaces (places_at t) (places_at (record { numbers = numbers; entries = new })) role
-      node (f (places_at t role node))) e
-      (found_changed (record { numbers = numbers; entries = es }) (record { numbers = numbers; entries = new }) node v
-      known_here known_else role (f (found_as role (at_number es (number_of numbers node))))
+      subst (λ (t : Table). ChangesPlaces (places_at t) (places_at (record { keys = keys; roles = new })) role node
+      (f (places_at t role node))) e
+      (found_changed (record { keys = keys; roles = old }) (record { keys = keys; roles = new }) node v known_here
+      known_else role (f (found_as role (at_number old (number_of keys node))))
       (changes.here ∙ ap (λ (o : Option Roles). f (found_as role o)) (sym known_before))
       (λ other apart. changes.others other apart ∙ ap (found_as other) (sym known_before)))
 
--- an entry more, for a node without a number
-module _ (numbers more : List (Node × ℕ)) (es : List (Node × Roles)) (all : AreNumbered numbers es) (node : Node)
-    (none : number_of numbers node ≡ None) (v : Roles) (at : number_of more node ≡ Some (length es))
-    (off : (q : Node) → q ≢ node → number_of more q ≡ number_of numbers q) where
-  pub more_here : at_number (es ++ (node, v) ∷ []) (number_of more node) ≡ Some v
-  more_here = ap (at_number (es ++ (node, v) ∷ [])) at ∙ ap roles_of (last es (node, v))
+-- an entry more, without places, for a node without a number
+module _ (keys : List Node) (roles : List Roles) (long : length keys ≡ length roles) (node : Node)
+    (none : list_any (node_eq node) keys ≡ false) (empty : Roles)
+    (nothing : (role : Role) → listed_as role empty ≡ []) where
+  more_here : at_number (roles ++ empty ∷ []) (number_of (keys ++ node ∷ []) node) ≡ Some empty
+  more_here = ap (at_number (roles ++ empty ∷ []))
+      (first_pushed (node_eq node) keys node (nowhere (node_eq node) keys none) (node_itself node node refl)
+      ∙ ap Some long) ∙ last roles empty
 
-  pub more_else : (q : Node) → q ≢ node
-      → at_number (es ++ (node, v) ∷ []) (number_of more q) ≡ at_number es (number_of numbers q)
-  more_else q other = ap (at_number (es ++ (node, v) ∷ [])) (off q other) ∙ by (number_of numbers q) refl
+  more_else : (q : Node) → q ≢ node
+      → at_number (roles ++ empty ∷ []) (number_of (keys ++ node ∷ []) q) ≡ at_number roles (number_of keys q)
+  more_else q other = ap (at_number (roles ++ empty ∷ [])) (first_kept (node_eq q) keys node (node_apart q node other))
+      ∙ by (number_of keys q) refl
     where
-      by : (o : Option ℕ) → number_of numbers q ≡ o → at_number (es ++ (node, v) ∷ []) o ≡ at_number es o
+      by : (o : Option ℕ) → number_of keys q ≡ o → at_number (roles ++ empty ∷ []) o ≡ at_number roles o
       by None is = refl
-      by (Some j) is = let was = all.entry q j is in
-          ap roles_of (stays es (node, v) j (q, was.0) was.1 ∙ sym was.1)
+      by (Some j) is =
+          let lt = number_within keys q j is in
+          let was = slice_get_some roles j (omega (arith, lt, long)) in
+          slice_get-append roles (empty ∷ []) j was.0 was.1 ∙ sym was.1
 
-  pub numbered_more : AreNumbered more (es ++ (node, v) ∷ [])
-  numbered_more = record {
-    entry = λ q j is. ⊎_elim
-        (λ (e : q ≡ node). let place : length es ≡ j = same_Some _ _ (sym at ∙ ap (number_of more) (sym e) ∙ is) in (
-          v,
-          ap (slice_get (es ++ (node, v) ∷ [])) (sym place) ∙ last es (node, v)
-              ∙ ap (λ (n : Node). Some (n, v)) (sym e),
-        ))
-        (λ (other : q ≢ node). let was = all.entry q j (sym (off q other) ∙ is) in
-        (was.0, stays es (node, v) j (q, was.0) was.1)) (node_cases q node);
-    number = λ j q w is. ⊎_elim
-        (λ (e : j ≡ length es). let found : (node, v) ≡ (q, w) =
-        same_Some _ _ (sym (last es (node, v)) ∙ ap (slice_get (es ++ (node, v) ∷ [])) (sym e) ∙ is) in
-        ap (number_of more) (sym (ap (λ (x : Node × Roles). x.0) found)) ∙ at ∙ ap Some (sym e))
-        (λ (other : j ≢ length es).
-        let within = slice_get_within (es ++ (node, v) ∷ []) j (q, w) is in
-        let lt : j < length es = omega (arith, within, length-append es ((node, v) ∷ []), other) in
-        let had : number_of numbers q ≡ Some j = all.number j q w (was es (node, v) j (q, w) is lt) in
-        ⊎_elim (λ (e : q ≡ node). let f : None ≡ Some j = sym none ∙ ap (number_of numbers) (sym e) ∙ had in absurd cc)
-        (λ (apart : q ≢ node). off q apart ∙ had) (node_cases q node)) (cases_eq j (length es));
-  }
-
-  pub changed_more : (f : List ℕ → List ℕ) (role : Role) (empty : Roles)
-      → ((other : Role) → listed_as other empty ≡ []) → ChangesRole role (f (listed_as role empty)) empty v
-      → (t : Table) → record { numbers = numbers; entries = es } ≡ t
-      → ChangesPlaces (places_at t) (places_at (record { numbers = more; entries = es ++ (node, v) ∷ [] })) role node
-      (f (places_at t role node))
-  changed_more f role empty nothing changes t e =
-      let before : (other : Role) → listed_as other empty ≡ found_as other (at_number es (number_of numbers node)) =
-      λ other. nothing other ∙ ap (λ (o : Option ℕ). found_as other (at_number es o)) (sym none) in
-      subst (λ (t : Table). ChangesPlaces (places_at t)
-      (places_at (record { numbers = more; entries = es ++ (node, v) ∷ [] })) role node (f (places_at t role node))) e
-      (found_changed (record { numbers = numbers; entries = es })
-      (record { numbers = more; entries = es ++ (node, v) ∷ [] }) node v more_here more_else role
-      (f (found_as role (at_number es (number_of numbers node)))) (changes.here ∙ ap f (before role))
-      (λ other apart. changes.others other apart ∙ before other))
+  pub same_more : (role : Role) → places_at (record { keys = keys ++ node ∷ []; roles = roles ++ empty ∷ [] }) role
+      ≡ places_at (record { keys = keys; roles = roles }) role
+  same_more role =
+      found_same (record { keys = keys; roles = roles })
+      (record { keys = keys ++ node ∷ []; roles = roles ++ empty ∷ [] }) node empty more_here more_else role
+      (nothing role ∙ sym (ap (λ (o : Option ℕ). found_as role (at_number roles o))
+      (nowhere (node_eq node) keys none)))
 
 -- another node isn't found by this one
 equal_told : (o : Ordering) → is_eq o ≡ true → o ≡ Equal

@@ -1,9 +1,7 @@
--- Places by node, under the numbers of entries.
+-- Places by node, under the numbers of nodes.
 use Rattle.std.specs.Prelude.{◌≡◌, ◌≢◌, ◌∷◌, [], ℕ, List, Option, None, Some, slice_get, slice_set}
-use Rattle.std.specs.BTreeMap.{is_at}
-use Rattle.std.specs.Map.{lookup}
 use Rattle.hg_changeset.specs.declared.node.Node.{Node}
-use Rattle.hg_changeset.specs.Node.{node_cmp}
+use Rattle.hg_node_set.specs.Keys.{number_of}
 use Rattle.hg_obsstore.specs.declared.places.Places.{Places}
 use Rattle.hg_obsstore.specs.declared.places.Places.TheVariants.{Empty, One, Several}
 use Rattle.hg_obsstore.specs.declared.index.Role.{Role}
@@ -26,36 +24,23 @@ abbrev pub found_as : Role → Option Roles → List ℕ
 found_as role None = []
 found_as role (Some roles) = listed_as role roles
 
--- the numbers of nodes, and what stands under each number
+-- nodes by number, and what is known of the node of each number
 pub record Table : Type 0 where
-  pub numbers : List (Node × ℕ)
-  pub entries : List (Node × Roles)
-
--- the number of a node
-abbrev pub number_of : List (Node × ℕ) → Node → Option ℕ
-number_of numbers node = lookup (is_at (node_cmp node)) numbers
-
-abbrev pub roles_of : Option (Node × Roles) → Option Roles
-roles_of None = None
-roles_of (Some entry) = Some entry.1
+  pub keys : List Node
+  pub roles : List Roles
 
 -- what stands under a number
-abbrev pub at_number : List (Node × Roles) → Option ℕ → Option Roles
-at_number entries None = None
-at_number entries (Some number) = roles_of (slice_get entries number)
+abbrev pub at_number : List Roles → Option ℕ → Option Roles
+at_number roles None = None
+at_number roles (Some number) = slice_get roles number
 
 -- what is known of a node
 abbrev pub known : Table → Node → Option Roles
-known table node = at_number table.entries (number_of table.numbers node)
+known table node = at_number table.roles (number_of table.keys node)
 
 -- the places for a node in a role
 abbrev pub places_at : Table → Role → Node → List ℕ
 places_at table role node = found_as role (known table node)
-
--- each number is that of the entry of its node, and each entry has the number of its node
-pub record AreNumbered (numbers : List (Node × ℕ)) (entries : List (Node × Roles)) : Type 0 where
-  pub entry : (n : Node) (k : ℕ) → number_of numbers n ≡ Some k → (v : Roles) × (slice_get entries k ≡ Some (n, v))
-  pub number : (k : ℕ) (n : Node) (v : Roles) → slice_get entries k ≡ Some (n, v) → number_of numbers n ≡ Some k
 
 -- one role has these places, and the others have what they had
 pub record ChangesRole (role : Role) (places : List ℕ) (old new : Roles) : Type 0 where
@@ -71,15 +56,15 @@ pub record ChangesPlaces (old new : Role → Node → List ℕ) (role : Role) (n
   pub others : (other : Node) → other ≢ node → new role other ≡ old role other
   pub aside : (other : Role) → other ≢ role → new other ≡ old other
 
--- what stands under one number is put in place of what stood there, for the same node
-pub record PutsAt (number : ℕ) (old new : List (Node × Roles)) (entry : Node × Roles) (v : Roles) : Type 0 where
-  pub was : slice_get old number ≡ Some entry
-  pub is : new ≡ slice_set old number (entry.0, v)
+-- what stands under one number is put in place of what stood there
+pub record PutsAt (number : ℕ) (old new : List Roles) (stood v : Roles) : Type 0 where
+  pub was : slice_get old number ≡ Some stood
+  pub is : new ≡ slice_set old number v
 
 -- the role of the entry of a number has what f makes of what it had, and all else is as it was
-abbrev pub ChangesEntry : ℕ → Role → (List ℕ → List ℕ) → List (Node × Roles) → List (Node × Roles) → Type 0
-ChangesEntry number role f old new = (entry : Node × Roles) × (v : Roles) × PutsAt number old new entry v
-    × ChangesRole role (f (listed_as role entry.1)) entry.1 v
+abbrev pub ChangesEntry : ℕ → Role → (List ℕ → List ℕ) → List Roles → List Roles → Type 0
+ChangesEntry number role f old new = (stood : Roles) × (v : Roles) × PutsAt number old new stood v
+    × ChangesRole role (f (listed_as role stood)) stood v
 
-abbrev pub SameEntry : ℕ → List (Node × Roles) → List (Node × Roles) → Type 0
-SameEntry number old new = (entry : Node × Roles) × (v : Roles) × PutsAt number old new entry v × SameRoles entry.1 v
+abbrev pub SameEntry : ℕ → List Roles → List Roles → Type 0
+SameEntry number old new = (stood : Roles) × (v : Roles) × PutsAt number old new stood v × SameRoles stood v

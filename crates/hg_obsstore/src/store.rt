@@ -12,9 +12,10 @@ ghost use Rattle.hg_obsstore.specs.Places.{ListsAll};
 ghost use Rattle.hg_obsstore.specs.Markers.{AreDifferent, ArePlaces};
 ghost use Rattle.hg_obsstore.specs.Growth.{AddAnswer, AreNewPlaces, StartsWith, holds, new_among, united, with_marker};
 ghost use Rattle.hg_obsstore.specs.Sets.{IsUnion};
-ghost use Rattle.hg_obsstore.specs.Index.{SamePlaces};
-ghost use Rattle.hg_obsstore.specs.Indexes.{HaveBelow, AddMarker};
-ghost use Rattle.hg_obsstore.specs.Digests.{IsUnderDigest, KeepsOtherDigests};
+ghost use Rattle.hg_obsstore.specs.Index.{places_of, SamePlaces};
+ghost use Rattle.hg_obsstore.specs.Indexes.{AreIndexed, HaveBelow, AddMarker};
+ghost use Rattle.hg_obsstore.specs.Digests.{AreDigested, IsUnderDigest, KeepsOtherDigests};
+ghost use Rattle.hg_obsstore.specs.declared.index.Role.TheVariants.{Predecessor};
 
 use crate::digests::Digests;
 use crate::index::{Hint, Index, Mentions};
@@ -39,8 +40,8 @@ pub enum Added {
 /// Two stores are `==` where they hold the same markers in the same order.
 ///
 /// It joins as a [`JoinState`](hg_join::JoinState). A call that adds costs what it is given, and a refused one no more;
-/// the look-ups cost one look-up in an ordered index, however many markers they tell of. Whoever chooses the markers
-/// can't make them cost more.
+/// a look-up costs about one look at a list, however many markers it tells of, and an ordered look-up at the worst.
+/// Whoever chooses the markers can't make it cost more.
 pub struct Store {
     alloc: Global,
     markers: Vec<Marker>,
@@ -149,8 +150,8 @@ impl Store {
     pub fn contains(&self, marker: &Marker) -> bool
         ensures { IsTrue result ↔ Contains self.now marker.now }
     {
-        let places = self.index.mentions(marker.predecessor()).as_predecessor();
-        self.digests.hold(&self.markers, places, marker)
+        let (held, _) = look_up(&self.markers, &self.index, &self.digests, marker);
+        held
     }
 
     /// The places of the markers that name this node, in each role, by one look-up.
@@ -206,7 +207,8 @@ impl Store {
         // Where an equal marker is held no memory is taken.
         ensures memory { OnErr result (¬ Contains self.old marker) }
     {
-        if self.contains(&marker) {
+        let (held, before) = look_up(&self.markers, &self.index, &self.digests, &marker);
+        if held {
             return Ok(Added::Known);
         }
         let place = self.markers.len();
@@ -217,6 +219,7 @@ impl Store {
             &mut self.index,
             &mut self.digests,
             marker,
+            before,
             place,
         ) {
             self.markers.truncate(place);
@@ -416,22 +419,35 @@ impl Store {
     }
 }
 
-// Adds a marker at a place that is above all others. After an error nothing is found elsewhere than before.
+// Whether an equal marker is held, and how many have its predecessor, by one look-up.
+fn look_up(markers: &[Marker], index: &Index, digests: &Digests, marker: &Marker) -> (bool, usize)
+    requires indexed { AreIndexed markers.now index.now }
+    requires digested { AreDigested markers.now index.now digests.now }
+    ensures held { IsTrue result.0 ↔ Contains markers.now marker.now }
+    ensures before { result.1 ≡ length (places_of Predecessor index.now marker.now.predecessor) }
+    ensures marker { IsMarker marker.now }
+{
+    let places = index.mentions(marker.predecessor()).as_predecessor();
+    (digests.hold(markers, places, marker), places.len())
+}
+
+// Adds a marker at a place that is above all others, where `before` markers have its predecessor. After an error
+// nothing is found elsewhere than before.
 fn add_marker(
     alloc: Global,
     index: &mut Index,
     digests: &mut Digests,
     marker: &Marker,
+    before: usize,
     place: usize,
 ) -> Result<(), AllocError>
-    requires { HaveBelow index.old place }
+    requires below { HaveBelow index.old place }
+    requires before { before ≡ length (places_of Predecessor index.old marker.now.predecessor) }
     ensures ok { OnOk result (AddMarker marker.now place index.old index.new) }
     ensures digest { OnOk result (IsUnderDigest index.new digests.new marker.now place) }
     ensures err { OnErr result (SamePlaces index.old index.new) }
     ensures kept { KeepsOtherDigests place digests.old digests.new }
-    ensures marker { IsMarker marker.now }
 {
-    let before = index.mentions(marker.predecessor()).as_predecessor().len();
     digests.add(alloc, marker, before, place)?;
     match index.add(marker, place) {
         Ok(()) => Ok(()),

@@ -1,19 +1,14 @@
-use Rattle.std.proofs.Common.{◌≡◌, ◌∙◌, ◌≤◌, [], sym, ap, subst, List, ℕ, length, Contains, drop}
+use Rattle.std.proofs.Common.{◌≤◌, [], sym, subst, List, ℕ, Contains, drop}
 use Rattle.std.proofs.lemmas.List.Elements.{Contains-push}
-use Rattle.hg_obsstore.specs.Index.{places_of}
 use Rattle.hg_obsstore.specs.Digests.{few}
-use Rattle.hg_obsstore.specs.declared.index.Role.TheVariants.{Predecessor}
 use Rattle.hg_obsstore.proofs.DigestLemmas.{beyond_last}
 use Rattle.hg_obsstore.proofs.store.add_marker.Goals as goal
 
 pub returns-in-Ok-clause-digest : goal.returns-in-Ok-clause-digest
 returns-in-Ok-clause-digest c = λ d.
     let node = c.args.marker.now.predecessor in
-    let is : c.as_predecessor-before.result.now ≡ places_of Predecessor c.args.index.now node =
-    c.as_predecessor-before.ensures ∙ c.mentions.ensures.predecessor
-    ∙ ap (places_of Predecessor c.args.index.now) c.predecessor.ensures.predecessor in
     let here = c.in-Ok.ensures.ok.predecessor.here node (Contains-push [] node) in
-    c.in_ok-add.ensures.ok (subst (λ (ps : List ℕ). few ≤ length ps) (sym is)
+    c.in_ok-add.ensures.ok (subst (λ n. few ≤ n) (sym c.requires.before)
     (beyond_last _ c.args.place (subst (λ (ps : List ℕ). Contains (drop few ps) c.args.place) here d)))
 
 pub returns-in-Err-clause-kept : goal.returns-in-Err-clause-kept

@@ -12,7 +12,7 @@ returns-in_err-push-clause-err c =
     let m = c.args.marker.now in
     let old = c.args.self.now in
     let added = c.put_marker.new.self in
-    let adds = c.in_ok-put_marker.ensures.ok in
+    let adds = c.in_ok-hint.ensures.ok in
     on_err_anyway c.from_residual-in_err-push.result _ (record {
       predecessor =
           adds_may (predecessors m) c.args.place (places_of Predecessor old) (places_of Predecessor added)

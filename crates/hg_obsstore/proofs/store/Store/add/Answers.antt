@@ -13,8 +13,8 @@ use Rattle.hg_obsstore.proofs.DigestLemmas.{digested_push, digested_same}
 use Rattle.hg_obsstore.proofs.StoreLemmas.{held, read_last, cut_back, all_below, all_push, all_same}
 use Rattle.hg_obsstore.proofs.store.Store.add.Goals as goal
 
-pub add_marker-requires : goal.add_marker-requires
-add_marker-requires c =
+pub add_marker-requires-clause-below : goal.add_marker-requires-clause-below
+add_marker-requires-clause-below c =
     let at : c.len-place.result ≡ length c.self.inside.markers.items = search rules in
     subst (HaveBelow c.self.inside.index) (sym at)
     (all_below c.self.inside.markers.items c.self.inside.index c.self.invariant.1)
@@ -54,13 +54,14 @@ invariant_of-self-in_default c =
     (subst (λ x. IsUnderDigest c.add_marker.new.index c.add_marker.new.digests x c.len-place.result) same
     c.in_default.ensures.digest) in
     let absent : list_any (same_fields m) ms ≡ false =
-    false_from_ne_true (list_any (same_fields m) ms) (λ t. false≢true (sym c.if-contains.false
-    ∙ c.contains.ensures.1 (subst (λ (xs : List Fields). Contains xs m) c.self.view_is (held ms m t)))) in (
+    false_from_ne_true (list_any (same_fields m) ms) (λ t. false≢true (sym c.if-held.false
+    ∙ c.look_up-held.ensures.held.1
+    (subst (λ (xs : List Fields). Contains xs m) (sym c.deref.ensures.value) (held ms m t)))) in (
       subst AreApart (sym items) (IsDistinct-push fields_equivalence ms m c.self.invariant.0 absent),
       subst (λ (xs : List Fields). AreIndexed xs c.add_marker.new.index) (sym items)
           (all_push ms m c.self.inside.index c.add_marker.new.index c.self.invariant.1 added),
       subst (All IsMarker) (sym items)
-          (All-push IsMarker ms m c.self.invariant.2 (subst IsMarker same c.add_marker.ensures.marker)),
+          (All-push IsMarker ms m c.self.invariant.2 c.look_up-held.ensures.marker),
       subst (λ (xs : List Fields). AreDigested xs c.add_marker.new.index c.add_marker.new.digests) (sym items)
           (digested_push ms m c.self.inside.index c.add_marker.new.index c.self.inside.digests
           c.add_marker.new.digests c.self.invariant.3 added.predecessor digest
