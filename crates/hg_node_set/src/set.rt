@@ -138,7 +138,8 @@ impl NodeSet {
         }
     }
 
-    // Makes more slots where half of them may be taken, or where ids are no longer few.
+    // Makes more slots where half of them may be taken, or where ids are no longer few. They are four times as many each
+    // time, so that each id gets its slot again once or twice at most.
     fn make_slots(&mut self) -> Result<(), AllocError>
         ensures { self.new ≡ self.old }
     {
@@ -146,7 +147,7 @@ impl NodeSet {
         if count < FEW || count < self.slots.first.len() / 2 {
             return Ok(());
         }
-        let more = count.saturating_mul(4);
+        let more = count.saturating_mul(8);
         self.slots = Slots::of(self.alloc, &self.nodes, more)?;
         Ok(())
     }

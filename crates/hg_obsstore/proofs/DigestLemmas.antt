@@ -28,7 +28,7 @@ use Rattle.hg_marker.specs.Same.{same_fields, fields_decides}
 use Rattle.hg_obsstore.specs.Digests.{KeepsOtherDigests, few, found_places, nodes_bytes, under, AreDigested}
 use Rattle.hg_obsstore.specs.Digests.{IsUnderDigest, digest_of}
 use Rattle.hg_obsstore.specs.Digests.{is_it, stands_at, stands_among}
-use Rattle.hg_obsstore.proofs.EntryLemmas.{not_at}
+use Rattle.hg_node_set.proofs.KeyLemmas.{not_at}
 use Rattle.hg_obsstore.proofs.ForgetLemmas.{end_view, cut_at, parts_forget}
 use Rattle.hg_obsstore.proofs.IndexLemmas.{take_one_more, among_or_not}
 use Rattle.hg_obsstore.proofs.StoreLemmas.{stays, was, last}

@@ -1,25 +1,21 @@
 -- Tables after a change under one number, and after an entry more.
-use Rattle.std.proofs.Common.{◌≡◌, ◌≢◌, ◌<◌, ◌++◌, ◌∷◌, [], ◌∙◌, ⊎_elim, arith, sym, ap, subst, ℕ, zero, suc, List}
-use Rattle.std.proofs.Common.{Option, None, Some, refl, length, length-append, slice_set, slice_get, true, false, Bool}
+use Rattle.std.proofs.Common.{◌≡◌, ◌≢◌, ◌<◌, ◌++◌, ◌∷◌, [], ◌∙◌, ⊎_elim, arith, sym, ap, subst, ℕ, List}
+use Rattle.std.proofs.Common.{Option, None, Some, refl, length, length-append, slice_get, true, false, Bool}
 use Rattle.std.proofs.Common.{get_or, ◌≤◌, ◌+◌, not}
 use Rattle.std.specs.Prelude.{if◌then◌else◌, position}
-use Rattle.std.specs.List.{list_any, position_or_len, IsDistinct}
-use Rattle.std.proofs.lemmas.Option.{slice_get_within, get_or_from_slice_get}
-use Rattle.std.proofs.lemmas.Bool.{cases_Bool, cases_lt, false_from_ne_true, false≢true}
+use Rattle.std.specs.List.{list_any, position_or_len}
+use Rattle.std.proofs.lemmas.Option.{slice_get_within}
+use Rattle.std.proofs.lemmas.Bool.{cases_Bool, cases_lt, false≢true}
 use Rattle.std.proofs.lemmas.List.{get_or_append_left, get_or_push}
 use Rattle.std.proofs.lemmas.List.Folds.{list_any_at, list_any_none}
 use Rattle.std.proofs.lemmas.List.Quantifiers.{position-Some}
 use Rattle.std.proofs.lemmas.List.Sums.{fails_before_first, position_or_len_is, prefix_len-le-length}
-use Rattle.std.proofs.lemmas.Map.Made.{AllPairs-from_IsDistinct}
-use Rattle.std.specs.BTreeMap.{is_at}
-use Rattle.std.specs.Ordering.{is_eq}
-use Rattle.std.specs.declared.cmp.Ordering.{Ordering}
-use Rattle.std.specs.declared.cmp.Ordering.TheVariants.{Less, Equal, Greater}
 use Rattle.hg_changeset.specs.declared.node.Node.{Node}
 use Rattle.hg_changeset.proofs.ListLemmas.{position-found, position-none, slice_get-append, slice_get_some}
-use Rattle.hg_changeset.proofs.NodeLemmas.{node_apart, node_cases, node_cmp_exact, node_itself, same_node}
-use Rattle.hg_changeset.specs.Node.{node_cmp, node_eq}
+use Rattle.hg_changeset.proofs.NodeLemmas.{node_apart, node_cases, node_itself, same_node}
+use Rattle.hg_changeset.specs.Node.{node_eq}
 use Rattle.hg_node_set.specs.Keys.{insert_key, number_after, number_of}
+use Rattle.hg_node_set.proofs.KeyLemmas.{set_else, set_here}
 use Rattle.hg_obsstore.specs.declared.index.Role.{Role}
 use Rattle.hg_obsstore.specs.declared.index.Roles.{Roles}
 use Rattle.hg_obsstore.specs.Entries.{Table, PutsAt, ChangesPlaces, ChangesRole, SameRoles, at_number, known}
@@ -88,15 +84,6 @@ module _ (keys : List Node) (node : Node) where
   pub number_within : (k : ℕ) → number_of keys node ≡ Some k → k < length keys
   number_within k is = let found = position-found (node_eq node) keys k is in omega (arith, found)
 
-  pub number_at : (k : ℕ) → IsDistinct node_eq keys → slice_get keys k ≡ Some node → number_of keys node ≡ Some k
-  number_at k apart at =
-      let lt = slice_get_within keys k node at in
-      let read : get_or keys k node ≡ node = get_or_from_slice_get keys k node node at in
-      let pairs = AllPairs-from_IsDistinct (λ a b. (same_node a b, node_itself a b)) keys apart in
-      first_at (node_eq node) keys k lt (position_or_len_is (node_eq node) keys k node (omega (arith, lt))
-      (λ j l. node_apart node (get_or keys j node) (λ e. pairs j k node l lt (sym e ∙ sym read)))
-      (λ l. node_itself node (get_or keys k node) (sym read)))
-
   pub inserted_old : list_any (node_eq node) keys ≡ true → insert_key keys node ≡ keys
   inserted_old e = ap (λ b. if b then keys else keys ++ node ∷ []) e
 
@@ -135,19 +122,6 @@ module _ (old new : Table) (node : Node) (v : Roles) (at : known new node ≡ So
     aside = λ other apart. found_same other (asides other apart);
   }
 
-set_here : {A : Type 0} (xs : List A) (k : ℕ) (a x : A) → slice_get xs k ≡ Some x
-    → slice_get (slice_set xs k a) k ≡ Some a
-set_here [] k a x h = absurd cc
-set_here (y ∷ xs) zero a x h = refl
-set_here (y ∷ xs) (suc k) a x h = set_here xs k a x h
-
-set_else : {A : Type 0} (xs : List A) (k j : ℕ) (a : A) → j ≢ k → slice_get (slice_set xs k a) j ≡ slice_get xs j
-set_else [] k j a other = refl
-set_else (y ∷ xs) zero zero a other = absurd (other refl)
-set_else (y ∷ xs) zero (suc j) a other = refl
-set_else (y ∷ xs) (suc k) zero a other = refl
-set_else (y ∷ xs) (suc k) (suc j) a other = set_else xs k j a (λ e. other (ap suc e))
-
 -- other roles under the number of a node
 module _ (keys : List Node) (old new : List Roles) (node : Node) (k : ℕ) (is : number_of keys node ≡ Some k)
     (stood v : Roles) (puts : PutsAt k old new stood v) where
@@ -155,7 +129,7 @@ module _ (keys : List Node) (old new : List Roles) (node : Node) (k : ℕ) (is :
   known_before = ap (at_number old) is ∙ puts.was
 
   known_here : at_number new (number_of keys node) ≡ Some v
-  known_here = ap (at_number new) is ∙ ap (λ rs. slice_get rs k) puts.is ∙ set_here old k v stood puts.was
+  known_here = ap (at_number new) is ∙ ap (λ rs. slice_get rs k) puts.is ∙ set_here old k v (slice_get_within old k stood puts.was)
 
   one_each : (q : Node) → number_of keys q ≡ Some k → q ≡ node
   one_each q at =
@@ -217,14 +191,3 @@ module _ (keys : List Node) (roles : List Roles) (long : length keys ≡ length 
       (record { keys = keys ++ node ∷ []; roles = roles ++ empty ∷ [] }) node empty more_here more_else role
       (nothing role ∙ sym (ap (λ (o : Option ℕ). found_as role (at_number roles o))
       (nowhere (node_eq node) keys none)))
-
--- another node isn't found by this one
-equal_told : (o : Ordering) → is_eq o ≡ true → o ≡ Equal
-equal_told Less h = absurd cc
-equal_told Equal h = refl
-equal_told Greater h = absurd cc
-
-pub not_at : (node q : Node) → q ≢ node → is_at (node_cmp node) q ≡ false
-not_at node q other =
-    false_from_ne_true (is_at (node_cmp node) q)
-    (λ h. other (sym (node_cmp_exact node q (equal_told (node_cmp node q) h))))

@@ -3,7 +3,7 @@ use Rattle.std.proofs.lemmas.Option.{slice_get_read}
 use Rattle.hg_changeset.specs.declared.node.Node.{Node}
 use Rattle.hg_obsstore.specs.declared.index.Roles.{Roles}
 use Rattle.hg_obsstore.specs.Entries.{Table, at_number, known}
-use Rattle.hg_obsstore.proofs.EntryLemmas.{number_at}
+use Rattle.hg_node_set.proofs.KeyLemmas.{number_at}
 use Rattle.hg_obsstore.proofs.entries.Entries.get.Goals as goal
 
 pub returns-in-Some-get : goal.returns-in-Some-get
