@@ -1,8 +1,8 @@
 -- Steps over markers, and the walk along them.
 use Rattle.std.proofs.Common.{◌≡◌, ℕ, zero, suc, ◌+◌, ◌<◌, ◌≤◌, List, [], ◌∷◌, ◌++◌, length, take, get_or, slice_get}
-use Rattle.std.proofs.Common.{Some, Contains, Bool, true, false, ◌↔◌, ◌⊎◌, inl, inr, refl, sym, ap, subst, ◌∙◌}
+use Rattle.std.proofs.Common.{Some, Contains, ◌↔◌, ◌⊎◌, inl, inr, refl, sym, ap, subst, ◌∙◌}
 use Rattle.std.proofs.Common.{append_assoc, arith}
-use Rattle.std.specs.List.{list_any, IsDistinct}
+use Rattle.std.specs.List.{IsDistinct}
 use Rattle.std.proofs.lemmas.List.{append-nil, take_all}
 use Rattle.std.proofs.lemmas.List.Elements.{Contains-append_left, Contains-append_right, Contains-get_or}
 use Rattle.std.proofs.lemmas.Map.Made.{length-le_from_is_member}
@@ -20,8 +20,10 @@ use Rattle.hg_instab.specs.declared.walk.Way.{Way}
 use Rattle.hg_instab.specs.declared.walk.Way.TheVariants.{ToSuccessors, Both}
 use Rattle.hg_instab.specs.Walk.{IsFollowed, IsReached, IsNext, IsBefore, IsStep, IsOfOneAt, Leads, Adds}
 use Rattle.hg_instab.specs.Walk.Leads.{one, further}
-use Rattle.hg_changeset.proofs.ListLemmas.{Contains-pushed, Contains-taken}
-use Rattle.indexmap.specs.IndexSet.{insert_key}
+use Rattle.hg_changeset.proofs.ListLemmas.{Contains-taken}
+use Rattle.hg_node_set.specs.Keys.{insert_key}
+use Rattle.hg_node_set.proofs.CallerLemmas.{insert_key-grows, Contains-insert_key, Contains-insert_key_kept}
+use Rattle.hg_node_set.proofs.CallerLemmas.{Contains-insert_key_cases}
 
 -- ---- what is added
 
@@ -58,27 +60,23 @@ adds-same P Q xs ys same a = record {
 }
 
 -- one node
-pub adds-one : (xs ys : List Node) (x : Node) → ys ≡ insert_key node_eq xs x → Adds (λ n. x ≡ n) xs ys
-adds-one xs ys x is = by (list_any (node_eq x) xs) refl
-  where
-    by : (b : Bool) → list_any (node_eq x) xs ≡ b → Adds (λ n. x ≡ n) xs ys
-    by true e =
-        let same : ys ≡ xs = is ∙ rw e refl in
-        subst (Adds (λ n. x ≡ n) xs) (sym same)
-        (adds-nothing (λ n. x ≡ n) xs (λ n at. subst (Contains xs) at (Contains-from_any same_node x xs e)))
-    by false e =
-        let same : ys ≡ xs ++ x ∷ [] = is ∙ rw e refl in
-        record {
-          kept = (x ∷ [], same);
-          members = λ n. (
-            λ h. (Contains-pushed xs x n).0 (subst (λ zs. Contains zs n) same h),
-            λ h. subst (λ zs. Contains zs n) (sym same) ((Contains-pushed xs x n).1 h),
-          );
-        }
+pub adds-one : (xs ys : List Node) (x : Node) → ys ≡ insert_key xs x → Adds (λ n. x ≡ n) xs ys
+adds-one xs ys x is =
+    let grows = insert_key-grows xs x in
+    record {
+      kept = (grows.0, is ∙ grows.1);
+      members = λ n. (
+        λ h. Contains-insert_key_cases xs x n (subst (λ zs. Contains zs n) is h),
+        λ h. subst (λ zs. Contains zs n) (sym is) (elim h [
+          | inl old ↦ Contains-insert_key_kept xs x n old
+          | inr e ↦ subst (Contains (insert_key xs x)) e (Contains-insert_key xs x)
+        ]),
+      );
+    }
 
 -- the nodes up to one more
 pub adds-more : (nodes : List Node) (i : ℕ) (x : Node) (xs ys zs : List Node) → i < length nodes
-    → get_or nodes i x ≡ x → Adds (Contains (take i nodes)) xs ys → zs ≡ insert_key node_eq ys x
+    → get_or nodes i x ≡ x → Adds (Contains (take i nodes)) xs ys → zs ≡ insert_key ys x
     → Adds (Contains (take (i + 1) nodes)) xs zs
 adds-more nodes i x xs ys zs l at before is = adds-then (Contains (take i nodes)) (λ n. x ≡ n)
     (Contains (take (i + 1) nodes)) xs ys zs (λ n. Contains-taken nodes i x n l at) before (adds-one ys zs x is)

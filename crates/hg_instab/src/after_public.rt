@@ -15,14 +15,15 @@ ghost use Rattle.hg_instab.specs.Changed.{Follows};
 ghost use Rattle.hg_instab.specs.Near.{IsAfterPublic};
 ghost use Rattle.hg_instab.specs.Walk.{IsReached, Adds};
 
+use crate::among::is_missing;
 use crate::query::has_phase;
 use crate::walk::{Followed, add_successors, follow};
 use hg_changeset::Node;
 use hg_marker::Marker;
+use hg_node_set::NodeSet;
 use hg_obsstore::Store;
 use hg_phases::Phase;
 use hg_replica::{Change, Replica};
-use indexmap::IndexSet;
 use std::alloc::{AllocError, Global};
 use std::collections::BTreeSet;
 
@@ -33,7 +34,7 @@ pub(crate) fn newly_after_public(
     replica: &Replica,
     change: &Change,
     after_public: &BTreeSet<Node>,
-) -> Result<IndexSet<Node>, AllocError>
+) -> Result<NodeSet, AllocError>
     ensures exact { IfOk result (λ met. (s : ReplicaState) → IsValid s
         → Follows (content_of s) (content_of replica.now) change.now replica.now.markers
         → ((n : Node) → Contains after_public.now.keys n ↔ IsAfterPublic (content_of s) n)
@@ -42,9 +43,8 @@ pub(crate) fn newly_after_public(
     ensures apart { IfOk result (λ met. (n : Node) → Contains met.keys n → ¬ (Contains after_public.now.keys n)) }
 {
     let starts = starts(alloc, replica, change, after_public)?;
-    let mut met = reached_beyond(replica.store(), after_public, starts)?;
-    remove_known(&mut met, after_public);
-    Ok(met)
+    let seen = reached_beyond(replica.store(), after_public, starts)?;
+    unknown(alloc, seen.as_slice(), after_public)
 }
 
 // What the change puts right after something public: the successors of fresh markers, and of what is public now and was
@@ -54,11 +54,11 @@ fn starts(
     replica: &Replica,
     change: &Change,
     known: &BTreeSet<Node>,
-) -> Result<IndexSet<Node>, AllocError>
+) -> Result<NodeSet, AllocError>
     ensures { IfOk result (λ starts. (n : Node) → Contains starts.keys n
         ↔ IsStart (content_of replica.now) change.now replica.now.markers known.now.keys n) }
 {
-    let mut starts = IndexSet::new(alloc);
+    let mut starts = NodeSet::new(alloc);
     add_after_markers(replica, change, known, &mut starts)?;
     add_after_each(replica, &change.added, &mut starts)?;
     add_after_each(replica, &change.lowered, &mut starts)?;
@@ -70,7 +70,7 @@ fn add_after_markers(
     replica: &Replica,
     change: &Change,
     known: &BTreeSet<Node>,
-    seen: &mut IndexSet<Node>,
+    seen: &mut NodeSet,
 ) -> Result<(), AllocError>
     ensures { OnOk result (Adds (IsAfterFresh (content_of replica.now) change.now replica.now.markers known.now.keys)
         seen.old.keys seen.new.keys) }
@@ -89,7 +89,7 @@ fn hand_on(
     replica: &Replica,
     marker: &Marker,
     known: &BTreeSet<Node>,
-    seen: &mut IndexSet<Node>,
+    seen: &mut NodeSet,
 ) -> Result<(), AllocError>
     ensures { OnOk result (Adds (λ n. HandsOn (content_of replica.now) known.now.keys marker.now
         × Contains marker.now.successors n) seen.old.keys seen.new.keys) }
@@ -113,11 +113,7 @@ fn is_known(known: &BTreeSet<Node>, node: Node) -> bool
 }
 
 // Adds what comes next after those of the nodes that are public.
-fn add_after_each(
-    replica: &Replica,
-    nodes: &[Node],
-    seen: &mut IndexSet<Node>,
-) -> Result<(), AllocError>
+fn add_after_each(replica: &Replica, nodes: &[Node], seen: &mut NodeSet) -> Result<(), AllocError>
     ensures { OnOk result (Adds (IsAfterAny (content_of replica.now) replica.now.markers nodes.now)
         seen.old.keys seen.new.keys) }
 {
@@ -128,7 +124,7 @@ fn add_after_each(
 }
 
 // Adds what comes next after the node, if it is public.
-fn add_after(replica: &Replica, node: Node, seen: &mut IndexSet<Node>) -> Result<(), AllocError>
+fn add_after(replica: &Replica, node: Node, seen: &mut NodeSet) -> Result<(), AllocError>
     ensures { OnOk result (Adds (λ n. HasPhase (content_of replica.now) node public_phase
         × IsRewrittenTo replica.now.markers node n) seen.old.keys seen.new.keys) }
 {
@@ -142,8 +138,8 @@ fn add_after(replica: &Replica, node: Node, seen: &mut IndexSet<Node>) -> Result
 fn reached_beyond(
     store: &Store,
     known: &BTreeSet<Node>,
-    starts: IndexSet<Node>,
-) -> Result<IndexSet<Node>, AllocError>
+    starts: NodeSet,
+) -> Result<NodeSet, AllocError>
     ensures { IfOk result (λ seen. (n : Node) → Contains seen.keys n
         ↔ IsReached (IsRewrittenBeyond known.now.keys store.now) starts.keys n) }
 {
@@ -162,7 +158,7 @@ fn add_beyond(
     store: &Store,
     known: &BTreeSet<Node>,
     node: Node,
-    seen: &mut IndexSet<Node>,
+    seen: &mut NodeSet,
 ) -> Result<(), AllocError>
     ensures { OnOk result (Adds (IsRewrittenBeyond known.now.keys store.now node) seen.old.keys seen.new.keys) }
 {
@@ -172,9 +168,16 @@ fn add_beyond(
     add_successors(store, Followed::NotBumpedFix, node, seen)
 }
 
-// Takes out what is known.
-fn remove_known(seen: &mut IndexSet<Node>, known: &BTreeSet<Node>)
-    ensures { (n : Node) → Contains seen.new.keys n ↔ (Contains seen.old.keys n × ¬ (Contains known.now.keys n)) }
+// Those of the nodes that aren't known.
+fn unknown(alloc: Global, nodes: &[Node], known: &BTreeSet<Node>) -> Result<NodeSet, AllocError>
+    ensures { IfOk result (λ found. (n : Node) → Contains found.keys n
+        ↔ (Contains nodes.now n × ¬ (Contains known.now.keys n))) }
 {
-    seen.retain(|node| !known.contains(node));
+    let mut found = NodeSet::new(alloc);
+    for node in nodes {
+        if is_missing(known, *node) {
+            found.insert(*node)?;
+        }
+    }
+    Ok(found)
 }

@@ -12,10 +12,10 @@ ghost use Rattle.hg_instab.specs.Walk.{IsFork, IsReached, IsStep};
 use crate::among::current_among;
 use crate::walk::{Followed, Way, reached};
 use hg_changeset::Node;
+use hg_node_set::NodeSet;
 use hg_obsstore::Store;
 use hg_replica::Replica;
 use hg_succ::several_among;
-use indexmap::IndexSet;
 use std::alloc::{AllocError, Global};
 
 // Those of a region that are content-divergent, where with an id all that markers name together with it is in the
@@ -33,11 +33,7 @@ pub(crate) fn divergent_within(
 }
 
 // What is neither public nor obsolete of the starts and of all that they lead to.
-fn current_from(
-    alloc: Global,
-    replica: &Replica,
-    starts: IndexSet<Node>,
-) -> Result<Vec<Node>, AllocError>
+fn current_from(alloc: Global, replica: &Replica, starts: NodeSet) -> Result<Vec<Node>, AllocError>
     ensures { IfOk result (λ found. (n : Node) → Contains found.items n
         ↔ (IsReached (IsStep (Way.ToSuccessors Followed.Every) replica.now.markers) starts.keys n
         × IsCurrent (content_of replica.now) n)) }

@@ -14,9 +14,9 @@ use crate::divergence::is_fork;
 use crate::walk::{Way, reached};
 use hg_changeset::Node;
 use hg_marker::Marker;
+use hg_node_set::NodeSet;
 use hg_obsstore::Store;
 use hg_replica::{Change, Replica};
-use indexmap::IndexSet;
 use std::alloc::{AllocError, Global};
 use std::collections::BTreeSet;
 
@@ -26,7 +26,7 @@ pub(crate) fn region(
     replica: &Replica,
     change: &Change,
     near: &BTreeSet<Node>,
-) -> Result<IndexSet<Node>, AllocError>
+) -> Result<NodeSet, AllocError>
     ensures { IfOk result (λ region. IsRegion (content_of replica.now) change.now replica.now.markers near.now.keys
         region.keys) }
 {
@@ -41,20 +41,17 @@ pub(crate) fn region_starts(
     replica: &Replica,
     change: &Change,
     near: &BTreeSet<Node>,
-) -> Result<IndexSet<Node>, AllocError>
+) -> Result<NodeSet, AllocError>
     ensures { IfOk result (λ starts. AreStarts replica.now.markers change.now near.now.keys starts.keys) }
 {
-    let mut starts = IndexSet::new(alloc);
+    let mut starts = NodeSet::new(alloc);
     add_rewritten(replica.store(), &change.markers, near, &mut starts)?;
     add_near(&change.added, near, &mut starts)?;
     Ok(starts)
 }
 
 // The region that begins so.
-pub(crate) fn region_from(
-    replica: &Replica,
-    starts: IndexSet<Node>,
-) -> Result<IndexSet<Node>, AllocError>
+pub(crate) fn region_from(replica: &Replica, starts: NodeSet) -> Result<NodeSet, AllocError>
     ensures { IfOk result (λ region. (change : ChangeValue) (near : List Node)
         → AreStarts replica.now.markers change near starts.keys
         → IsRegion (content_of replica.now) change replica.now.markers near region.keys) }
@@ -67,7 +64,7 @@ fn add_rewritten(
     store: &Store,
     places: &[usize],
     near: &BTreeSet<Node>,
-    starts: &mut IndexSet<Node>,
+    starts: &mut NodeSet,
 ) -> Result<(), AllocError>
     ensures { OnOk result (Adds (IsStart store.now near.now.keys places.now) starts.old.keys starts.new.keys) }
 {
@@ -85,7 +82,7 @@ fn add_touched(
     store: &Store,
     marker: &Marker,
     near: &BTreeSet<Node>,
-    starts: &mut IndexSet<Node>,
+    starts: &mut NodeSet,
 ) -> Result<(), AllocError>
     ensures { OnOk result (Adds (IsStartOf store.now near.now.keys marker.now) starts.old.keys starts.new.keys) }
 {
@@ -120,11 +117,7 @@ pub(crate) fn is_near(node: Node, near: &BTreeSet<Node>) -> bool
 }
 
 // Adds those of the nodes that were near forks.
-fn add_near(
-    nodes: &[Node],
-    near: &BTreeSet<Node>,
-    starts: &mut IndexSet<Node>,
-) -> Result<(), AllocError>
+fn add_near(nodes: &[Node], near: &BTreeSet<Node>, starts: &mut NodeSet) -> Result<(), AllocError>
     ensures { OnOk result (Adds (λ n. Contains nodes.now n × Contains near.now.keys n) starts.old.keys
         starts.new.keys) }
 {

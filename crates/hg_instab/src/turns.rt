@@ -27,8 +27,8 @@ use crate::seeds::seeds;
 use crate::turn::Turn;
 use crate::turned::has_now;
 use hg_changeset::Node;
+use hg_node_set::NodeSet;
 use hg_replica::{Change, Replica};
-use indexmap::IndexSet;
 use std::alloc::{AllocError, Global};
 use std::collections::BTreeSet;
 
@@ -77,7 +77,7 @@ impl Turns {
         let seeds = seeds(alloc, replica, change)?;
         let met = newly_after_public(alloc, replica, change, sets.after_public())?;
         let starts = region_starts(alloc, replica, change, sets.near_forks())?;
-        if met.is_empty() && starts.is_empty() {
+        if met.len() == 0 && starts.len() == 0 {
             let retired = retired_among(alloc, replica, sets.extinct(), &seeds)?;
             let stranded = stranded_among(alloc, replica, sets, &retired, &seeds)?;
             if are_calm(alloc, replica, sets, holders, &retired, &stranded, &seeds) {
@@ -95,8 +95,8 @@ impl Turns {
         replica: &Replica,
         change: &Change,
         seeds: &[Node],
-        met: &IndexSet<Node>,
-        starts: IndexSet<Node>,
+        met: &NodeSet,
+        starts: NodeSet,
     ) -> Result<Turns, AllocError>
         ensures turns { IfOk result (AreTurns sets.now) }
         ensures told { IfOk result (λ turns. (s : ReplicaState) → IsValid replica.now
@@ -224,7 +224,7 @@ fn phase_turn(
     replica: &Replica,
     sets: &Instabilities,
     seeds: &[Node],
-    met: &IndexSet<Node>,
+    met: &NodeSet,
 ) -> Result<Turn, AllocError>
     ensures turn { IfOk result (IsTurn sets.now.phase_divergent) }
     ensures told { IfOk result (λ turn. (f : Content)
@@ -245,7 +245,7 @@ fn current_after(
     alloc: Global,
     replica: &Replica,
     after_public: &BTreeSet<Node>,
-    met: &IndexSet<Node>,
+    met: &NodeSet,
     nodes: &[Node],
 ) -> Result<Vec<Node>, AllocError>
     ensures { IfOk result (λ found. (n : Node) → Contains found.items n ↔ (Contains nodes.now n
@@ -264,7 +264,7 @@ fn current_after(
 fn is_current_after(
     replica: &Replica,
     after_public: &BTreeSet<Node>,
-    met: &IndexSet<Node>,
+    met: &NodeSet,
     node: Node,
 ) -> bool
     ensures { IsTrue result ↔ (IsCurrent (content_of replica.now) node
@@ -281,7 +281,7 @@ fn divergence_turns(
     change: &Change,
     sets: &Instabilities,
     seeds: &[Node],
-    starts: IndexSet<Node>,
+    starts: NodeSet,
 ) -> Result<(Turn, Turn), AllocError>
     ensures turns { IfOk result (AreDivergenceTurns sets.now) }
     ensures told { IfOk result (λ turns. (s : ReplicaState) → IsValid replica.now
@@ -301,7 +301,7 @@ fn turns_by_region(
     replica: &Replica,
     sets: &Instabilities,
     seeds: &[Node],
-    starts: IndexSet<Node>,
+    starts: NodeSet,
 ) -> Result<(Turn, Turn), AllocError>
     ensures turns { IfOk result (AreDivergenceTurns sets.now) }
     ensures told { IfOk result (λ turns. (s : ReplicaState) (change : ChangeValue) → IsValid replica.now
@@ -322,7 +322,7 @@ fn content_turn(
     replica: &Replica,
     sets: &Instabilities,
     seeds: &[Node],
-    region: &IndexSet<Node>,
+    region: &NodeSet,
 ) -> Result<Turn, AllocError>
     ensures turn { IfOk result (IsTurn sets.now.content_divergent) }
     ensures told { IfOk result (λ turn. (f : Content) → IsClosed (content_of replica.now) (Contains region.now.keys)
@@ -352,7 +352,7 @@ fn divergent_now(
     alloc: Global,
     replica: &Replica,
     set: &BTreeSet<Node>,
-    region: &IndexSet<Node>,
+    region: &NodeSet,
     found: &BTreeSet<Node>,
     nodes: &[Node],
 ) -> Result<Vec<Node>, AllocError>
@@ -374,7 +374,7 @@ fn divergent_now(
 fn is_divergent_now(
     replica: &Replica,
     set: &BTreeSet<Node>,
-    region: &IndexSet<Node>,
+    region: &NodeSet,
     found: &BTreeSet<Node>,
     node: Node,
 ) -> bool
@@ -402,8 +402,8 @@ fn turn_of_set(
     Turn::of(alloc, set, &turned)
 }
 
-fn has_met(met: &IndexSet<Node>, node: Node) -> bool
+fn has_met(met: &NodeSet, node: Node) -> bool
     ensures { IsTrue result ↔ Contains met.now.keys node }
 {
-    met.contains(&node)
+    met.contains(node)
 }

@@ -9,8 +9,8 @@ ghost use Rattle.hg_instab.specs.Walk.{IsFollowed, IsReached, IsNext, IsBefore, 
 
 use hg_changeset::Node;
 use hg_marker::Marker;
+use hg_node_set::NodeSet;
 use hg_obsstore::Store;
-use indexmap::IndexSet;
 use std::alloc::AllocError;
 
 // The flag of a marker whose successors were written in answer to a predecessor that had become public: Mercurial's
@@ -32,11 +32,7 @@ pub(crate) enum Way {
 }
 
 // The starts, and all that steps lead to from them.
-pub(crate) fn reached(
-    store: &Store,
-    way: Way,
-    starts: IndexSet<Node>,
-) -> Result<IndexSet<Node>, AllocError>
+pub(crate) fn reached(store: &Store, way: Way, starts: NodeSet) -> Result<NodeSet, AllocError>
     ensures { IfOk result (λ seen. (n : Node) → Contains seen.keys n ↔ IsReached (IsStep way store.now) starts.keys n) }
 {
     let mut seen = starts;
@@ -50,12 +46,7 @@ pub(crate) fn reached(
 }
 
 // Adds what one step from the node leads to.
-fn add_next(
-    store: &Store,
-    way: Way,
-    node: Node,
-    seen: &mut IndexSet<Node>,
-) -> Result<(), AllocError>
+fn add_next(store: &Store, way: Way, node: Node, seen: &mut NodeSet) -> Result<(), AllocError>
     ensures { OnOk result (Adds (IsStep way store.now node) seen.old.keys seen.new.keys) }
 {
     match way {
@@ -65,7 +56,7 @@ fn add_next(
 }
 
 // Adds the successors of the node's markers, and the predecessors of the markers that have it as a successor.
-fn add_neighbors(store: &Store, node: Node, seen: &mut IndexSet<Node>) -> Result<(), AllocError>
+fn add_neighbors(store: &Store, node: Node, seen: &mut NodeSet) -> Result<(), AllocError>
     ensures { OnOk result (Adds (IsStep Way.Both store.now node) seen.old.keys seen.new.keys) }
 {
     add_successors(store, Followed::Every, node, seen)?;
@@ -73,7 +64,7 @@ fn add_neighbors(store: &Store, node: Node, seen: &mut IndexSet<Node>) -> Result
 }
 
 // Adds the predecessors of the markers that have the node as a successor.
-fn add_predecessors(store: &Store, node: Node, seen: &mut IndexSet<Node>) -> Result<(), AllocError>
+fn add_predecessors(store: &Store, node: Node, seen: &mut NodeSet) -> Result<(), AllocError>
     ensures { OnOk result (Adds (IsBefore store.now node) seen.old.keys seen.new.keys) }
 {
     for place in store.with_successor(node) {
@@ -92,7 +83,7 @@ pub(crate) fn add_successors(
     store: &Store,
     followed: Followed,
     node: Node,
-    seen: &mut IndexSet<Node>,
+    seen: &mut NodeSet,
 ) -> Result<(), AllocError>
     ensures { OnOk result (Adds (IsNext (IsFollowed followed) store.now node) seen.old.keys seen.new.keys) }
 {
@@ -109,7 +100,7 @@ pub(crate) fn add_successors(
 pub(crate) fn follow(
     marker: &Marker,
     followed: Followed,
-    seen: &mut IndexSet<Node>,
+    seen: &mut NodeSet,
 ) -> Result<(), AllocError>
     ensures { OnOk result (Adds (λ n. IsFollowed followed marker.now × Contains marker.now.successors n) seen.old.keys
         seen.new.keys) }
@@ -136,7 +127,7 @@ fn is_bumped_fix(marker: &Marker) -> bool
 }
 
 // Adds the nodes.
-fn add_all(seen: &mut IndexSet<Node>, nodes: &[Node]) -> Result<(), AllocError>
+fn add_all(seen: &mut NodeSet, nodes: &[Node]) -> Result<(), AllocError>
     ensures { OnOk result (Adds (Contains nodes.now) seen.old.keys seen.new.keys) }
 {
     for node in nodes {

@@ -1,17 +1,16 @@
 -- Numbers of nodes, as they are given.
-use Rattle.std.proofs.Common.{◌≡◌, ℕ, zero, suc, ◌+◌, ◌<◌, Bool, true, false, if◌then◌else◌, List, [], ◌∷◌, ◌++◌}
+use Rattle.std.proofs.Common.{◌≡◌, ℕ, zero, suc, ◌+◌, ◌<◌, List, [], ◌∷◌, ◌++◌}
 use Rattle.std.proofs.Common.{length, take, slice_get, Some, Contains, ◌⊎◌, ◌↔◌, inl, inr, refl, sym, ap, subst, ◌∙◌}
 use Rattle.std.proofs.Common.{arith, get_or, Vec, Global}
-use Rattle.std.specs.List.{list_any, IsDistinct}
+use Rattle.std.specs.List.{IsDistinct}
 use Rattle.std.specs.Option.{option_map_or}
 use Rattle.std.proofs.lemmas.List.{append_assoc, append-nil, map-append, take_more, length-map}
 use Rattle.std.proofs.lemmas.List.Elements.{Contains-append_left, Contains-push, Contains-push_cases}
 use Rattle.std.proofs.lemmas.Option.{slice_get_within, none-some}
 use Rattle.hg_changeset.specs.declared.node.Node.{Node}
 use Rattle.hg_changeset.specs.Node.{node_eq}
-use Rattle.hg_changeset.proofs.NodeLemmas.{same_node}
-use Rattle.indexmap.specs.IndexSet.{insert_key}
-use Rattle.indexmap.proofs.CallerLemmas.{Contains-insert_key}
+use Rattle.hg_node_set.specs.Keys.{insert_key}
+use Rattle.hg_node_set.proofs.CallerLemmas.{Contains-insert_key, Contains-insert_key_kept, Contains-insert_key_cases}
 use Rattle.hg_marker.specs.Fields.{Fields}
 use Rattle.hg_obsstore.specs.Markers.{ArePlaces}
 use Rattle.hg_replica.specs.State.{ReplicaState}
@@ -79,28 +78,6 @@ adds_join P Q S a b c r s t f g both = record {
     | inr q ↦ g.each y q
   ];
 }
-
--- the keys after an insert are those before it, and then perhaps a new one
-pub insert_grows : (b : Bool) (old new : List Node) (k : Node) → new ≡ (if b then old else old ++ k ∷ [])
-    → (more : List Node) × (new ≡ old ++ more)
-insert_grows true old new k e = ([], e ∙ sym (append-nil old))
-insert_grows false old new k e = (k ∷ [], e)
-
--- an insert keeps the keys
-pub insert_keeps : (keys : List Node) (k n : Node) → Contains keys n → Contains (insert_key node_eq keys k) n
-insert_keeps keys k n h = by (list_any (node_eq k) keys)
-  where
-    by : (b : Bool) → Contains (if b then keys else keys ++ k ∷ []) n
-    by true = h
-    by false = Contains-append_left keys (k ∷ []) n h
-
--- and adds one at most
-insert_cases : (keys : List Node) (k n : Node) → Contains (insert_key node_eq keys k) n → Contains keys n ⊎ (k ≡ n)
-insert_cases keys k n h = by (list_any (node_eq k) keys) h
-  where
-    by : (b : Bool) → Contains (if b then keys else keys ++ k ∷ []) n → Contains keys n ⊎ (k ≡ n)
-    by true h = inl h
-    by false h = Contains-push_cases keys k n h
 
 -- one more of a list
 pub more_of : {X : Type 0} (xs : List X) (i : ℕ) (x : X) → i < length xs → x ≡ get_or xs i x → (y : X)
@@ -225,15 +202,15 @@ AreAmong nodes P found = (n : Node) → Contains found n ↔ (Contains nodes n �
 
 module _ (nodes : List Node) (P : Node → Type 0) (found : List Node) (i : ℕ) (x : Node) (within : i < length nodes)
     (is : x ≡ get_or nodes i x) (those : AreAmong (take i nodes) P found) where
-  pub among_found : P x → AreAmong (take (i + 1) nodes) P (insert_key node_eq found x)
+  pub among_found : P x → AreAmong (take (i + 1) nodes) P (insert_key found x)
   among_found p n = (
-    λ h. elim (insert_cases found x n h) [
+    λ h. elim (Contains-insert_key_cases found x n h) [
       | inl old ↦ let y = (those n).0 old in ((more_of nodes i x within is n).1 (inl y.0), y.1)
       | inr e ↦ ((more_of nodes i x within is n).1 (inr e), subst P e p)
     ],
     λ h. elim ((more_of nodes i x within is n).0 h.0) [
-      | inl old ↦ insert_keeps found x n ((those n).1 (old, h.1))
-      | inr e ↦ subst (Contains (insert_key node_eq found x)) e (Contains-insert_key node_eq same_node found x)
+      | inl old ↦ Contains-insert_key_kept found x n ((those n).1 (old, h.1))
+      | inr e ↦ subst (Contains (insert_key found x)) e (Contains-insert_key found x)
     ],
   )
 

@@ -26,8 +26,8 @@ use crate::sets::{Sets, UNION_LIMIT};
 use crate::unions::{copy_of, largest, products};
 use hg_changeset::Node;
 use hg_marker::Marker;
+use hg_node_set::NodeSet;
 use hg_replica::Replica;
-use indexmap::IndexSet;
 use std::alloc::{AllocError, Global};
 
 /// What is known of a node that is done.
@@ -41,7 +41,7 @@ pub(crate) enum Solved {
 /// The successors sets of the nodes that are done.
 pub(crate) struct Table {
     alloc: Global,
-    nodes: IndexSet<Node>,
+    nodes: NodeSet,
     /// For each of the nodes, by its number, what is known of it, once it is done.
     answers: Vec<Option<Solved>>,
     families: Vec<Vec<Vec<Node>>>,
@@ -63,7 +63,7 @@ impl Drop for Table {
 pub(crate) fn table_of(
     alloc: Global,
     replica: &Replica,
-    roots: IndexSet<Node>,
+    roots: NodeSet,
 ) -> Result<Table, AllocError>
     ensures table { IfOk result (IsTable (content_of replica.now)) }
     ensures done { IfOk result (λ table. (n : Node) → Contains roots.keys n → HasEntry table n) }
@@ -77,7 +77,7 @@ pub(crate) fn table_of(
 
 impl Table {
     // None of the nodes is done.
-    fn new(alloc: Global, nodes: IndexSet<Node>) -> Result<Table, AllocError>
+    fn new(alloc: Global, nodes: NodeSet) -> Result<Table, AllocError>
         ensures nodes { IfOk result (λ table. table.nodes.keys ≡ nodes.keys) }
         ensures long { IfOk result (λ table. length table.answers.items ≡ length table.nodes.keys) }
         ensures none { IfOk result (λ table. (n : Node) → answer table n ≡ None) }
@@ -360,7 +360,7 @@ impl Table {
     fn answer(&self, node: Node) -> Option<Solved>
         ensures { result ≡ answer self.now node }
     {
-        self.answer_at(self.nodes.get_index_of(&node)?)
+        self.answer_at(self.nodes.get_index_of(node)?)
     }
 
     // What is known of the node with this number, once it is done.

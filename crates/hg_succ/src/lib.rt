@@ -24,7 +24,7 @@
 //!     };
 //!     // Those of the nodes that have more than one set, or are overfull.
 //!     let several = several_among(alloc, replica, &[node])?;
-//!     Ok((count, several.contains(&node)))
+//!     Ok((count, several.contains(node)))
 //! }
 //! ```
 #![tactic(auto)]

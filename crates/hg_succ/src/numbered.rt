@@ -10,22 +10,22 @@ ghost use Rattle.hg_succ.specs.Numbered.{successors_at, Adds, IsRow, IsNumbered}
 
 use hg_changeset::Node;
 use hg_marker::Marker;
+use hg_node_set::NodeSet;
 use hg_replica::Replica;
-use indexmap::IndexSet;
 use std::alloc::{AllocError, Global};
 
 /// Nodes with numbers, from 0, and for each of them the numbers of what markers rewrote it to.
 #[derive(Drop)]
 pub(crate) struct Numbered {
-    pub nodes: IndexSet<Node>,
+    pub nodes: NodeSet,
     pub rows: Vec<Vec<usize>>,
 }
 
 /// The nodes, each once.
-pub(crate) fn set_of(alloc: Global, nodes: &[Node]) -> Result<IndexSet<Node>, AllocError>
+pub(crate) fn set_of(alloc: Global, nodes: &[Node]) -> Result<NodeSet, AllocError>
     ensures { IfOk result (λ set. (n : Node) → Contains nodes.now n → Contains set.keys n) }
 {
-    let mut set = IndexSet::new(alloc);
+    let mut set = NodeSet::new(alloc);
     for node in nodes {
         set.insert(*node)?;
     }
@@ -36,7 +36,7 @@ pub(crate) fn set_of(alloc: Global, nodes: &[Node]) -> Result<IndexSet<Node>, Al
 pub(crate) fn number(
     alloc: Global,
     replica: &Replica,
-    roots: IndexSet<Node>,
+    roots: NodeSet,
 ) -> Result<Numbered, AllocError>
     ensures { IfOk result
         (λ numbered. IsNumbered (content_of replica.now) roots.keys numbered.nodes.keys (rows_of numbered.rows.items)) }
@@ -56,7 +56,7 @@ fn next_row(
     alloc: Global,
     replica: &Replica,
     node: Node,
-    nodes: &mut IndexSet<Node>,
+    nodes: &mut NodeSet,
 ) -> Result<Vec<usize>, AllocError>
     ensures grows { OnOk result ((more : List Node) × (nodes.new.keys ≡ nodes.old.keys ++ more)) }
     ensures row { IfOk result (λ row. IsRow (content_of replica.now) nodes.new.keys node row.items) }
@@ -83,7 +83,7 @@ pub(crate) fn successors_at(markers: &[Marker], place: usize) -> &[Node]
 // Adds the number of each of the nodes.
 fn number_each(
     successors: &[Node],
-    nodes: &mut IndexSet<Node>,
+    nodes: &mut NodeSet,
     row: &mut Vec<usize>,
 ) -> Result<(), AllocError>
     ensures { OnOk result (Adds (Contains successors.now) nodes.old.keys nodes.new.keys row.old.items row.new.items) }

@@ -9,8 +9,8 @@ use crate::families::table_of;
 use crate::numbered::set_of;
 use crate::sets::Sets;
 use hg_changeset::Node;
+use hg_node_set::NodeSet;
 use hg_replica::Replica;
-use indexmap::IndexSet;
 use std::alloc::{AllocError, Global};
 
 /// The successors sets of a node, held or not: Mercurial's `successorssets`. It costs what the node leads to by
@@ -18,7 +18,7 @@ use std::alloc::{AllocError, Global};
 pub fn successors_sets(alloc: Global, replica: &Replica, node: Node) -> Result<Sets, AllocError>
     ensures { IfOk result (AreSets (content_of replica.now) node) }
 {
-    let mut roots = IndexSet::new(alloc);
+    let mut roots = NodeSet::new(alloc);
     roots.insert(node)?;
     let table = table_of(alloc, replica, roots)?;
     table.sets(replica, node)
@@ -30,12 +30,12 @@ pub fn several_among(
     alloc: Global,
     replica: &Replica,
     nodes: &[Node],
-) -> Result<IndexSet<Node>, AllocError>
+) -> Result<NodeSet, AllocError>
     ensures { IfOk result (λ found. (n : Node) → Contains found.keys n
         ↔ (Contains nodes.now n × HasSeveral (content_of replica.now) n)) }
 {
     let table = table_of(alloc, replica, set_of(alloc, nodes)?)?;
-    let mut found = IndexSet::new(alloc);
+    let mut found = NodeSet::new(alloc);
     for node in nodes {
         if table.has_several(*node) {
             found.insert(*node)?;

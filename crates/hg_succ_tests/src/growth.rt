@@ -35,6 +35,6 @@ fn refused_growth_in_the_search_of_several_is_told_and_passes(rt: HostRuntime) {
     };
     if several_among(alloc, &replica, &[node]).is_err() {
         let found = several_among(alloc, &replica, &[node]).expect(&rt, "memory");
-        assert!(rt; found.contains(&node));
+        assert!(rt; found.contains(node));
     }
 }

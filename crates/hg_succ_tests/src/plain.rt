@@ -168,7 +168,7 @@ fn agrees(alloc: Global, nodes: &[Node], store: &Store) -> Option<bool> {
         let id = node_at(nodes, node)?;
         let sets = successors_sets(alloc, &replica, id).ok()?;
         let several = expected.count_ones() > 1;
-        if numbers_of(nodes, &sets) != Some(expected) || found.contains(&id) != several {
+        if numbers_of(nodes, &sets) != Some(expected) || found.contains(id) != several {
             return Some(false);
         }
     }

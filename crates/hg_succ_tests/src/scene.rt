@@ -107,7 +107,7 @@ pub fn tells(alloc: Global, replica: &Replica, name: u8, sets: &[&[u8]]) -> Opti
     let family = family(alloc, sets)?;
     let told = successors_sets(alloc, replica, node).ok()?;
     let several = several_among(alloc, replica, &[node]).ok()?;
-    Some(are_sets(&told, &family) && several.contains(&node) == (sets.len() > 1))
+    Some(are_sets(&told, &family) && several.contains(node) == (sets.len() > 1))
 }
 
 fn is_overfull(told: &Sets) -> bool {
@@ -122,5 +122,5 @@ pub fn tells_overfull(alloc: Global, replica: &Replica, name: u8) -> Option<bool
     let node = id(alloc, name)?;
     let told = successors_sets(alloc, replica, node).ok()?;
     let several = several_among(alloc, replica, &[node]).ok()?;
-    Some(is_overfull(&told) && several.contains(&node))
+    Some(is_overfull(&told) && several.contains(node))
 }

@@ -19,7 +19,7 @@ fn those_of_several_sets_are_found_among_others(rt: HostRuntime) {
     let nodes = ids(alloc, b"xbya").expect(&rt, "memory");
     let found = several_among(alloc, &replica, &nodes).expect(&rt, "memory");
     for (place, node) in nodes.iter().enumerate() {
-        assert_eq!(rt; found.contains(node), place % 2 == 1);
+        assert_eq!(rt; found.contains(*node), place % 2 == 1);
     }
 }
 

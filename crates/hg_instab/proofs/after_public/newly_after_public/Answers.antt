@@ -1,4 +1,5 @@
-use Rattle.std.proofs.Common.{List, Contains, ◌↔◌, subst}
+use Rattle.std.proofs.Common.{List, Contains, ◌↔◌, sym, subst}
+use Rattle.std.proofs.lemmas.Result.{IfOk-weaker}
 use Rattle.hg_changeset.specs.declared.node.Node.{Node}
 use Rattle.hg_marker.specs.Fields.{Fields}
 use Rattle.hg_instab.specs.AfterPublic.{IsRewrittenBeyond}
@@ -11,11 +12,14 @@ returns c =
     let t = c.args.replica.now in
     let known = c.args.after_public.now.keys in
     let starts = c.in_ok-starts.starts.keys in
-    let seen = c.in_ok-met.met.keys in
+    let seen = c.as_slice.result.now in
     let walked = subst (λ (ms : List Fields). (n : Node) → Contains seen n
-    ↔ IsReached (IsRewrittenBeyond known ms) starts n) c.store.ensures c.in_ok-met.ensures in
+    ↔ IsReached (IsRewrittenBeyond known ms) starts n) c.store.ensures
+    (subst (λ (ns : List Node). (n : Node) → Contains ns n
+    ↔ IsReached (IsRewrittenBeyond known c.store.result.now) starts n) (sym c.as_slice.ensures.keys)
+    c.in_ok-seen.ensures) in
     record {
-      exact = λ s v follows exact. after-met s t c.args.change.now known starts seen follows exact
-          c.in_ok-starts.ensures walked c.remove_known.new.seen.keys c.remove_known.ensures;
-      apart = λ n h. ((c.remove_known.ensures n).0 h).1;
+      exact = IfOk-weaker c.unknown.result _ _ (λ met told s v follows exact. after-met s t c.args.change.now known
+          starts seen follows exact c.in_ok-starts.ensures walked met.keys told) c.unknown.ensures;
+      apart = IfOk-weaker c.unknown.result _ _ (λ met told n h. ((told n).0 h).1) c.unknown.ensures;
     }

@@ -19,7 +19,7 @@ returns c =
     c.deref.ensures.value ∙ ap (λ (v : ChangeValue). v.markers) c.change.view_is in
     let added : c.deref-2.result.now ≡ change.added =
     c.deref-2.ensures.value ∙ ap (λ (v : ChangeValue). v.added) c.change.view_is in
-    starts-are s.markers change near xs ys starts c.new-starts.ensures.empty
+    starts-are s.markers change near xs ys starts c.new-starts.ensures
     (subst (λ (ms : List Fields). Adds (IsStart ms near change.markers) xs ys) c.store.ensures
     (subst (λ (ps : List ℕ). Adds (IsStart c.store.result.now near ps) xs ys) markers c.in_ok-add_rewritten.ensures))
     (subst (λ (ns : List Node). Adds (λ n. Contains ns n × Contains near n) ys starts) added c.in_ok-add_near.ensures)

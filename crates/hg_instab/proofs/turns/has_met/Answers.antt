@@ -5,6 +5,6 @@ use Rattle.hg_instab.proofs.turns.has_met.Goals as goal
 
 pub returns : goal.returns
 returns c = (
-  λ h. Contains-from_any same_node c.args.node c.args.met.now.keys (sym c.contains.ensures ∙ h),
-  λ h. c.contains.ensures ∙ list_any-from_Contains node_eq_laws c.args.node c.args.met.now.keys h,
+  λ h. Contains-from_any same_node c.args.node c.args.met.now.keys (sym c.contains.ensures.contains ∙ h),
+  λ h. c.contains.ensures.contains ∙ list_any-from_Contains node_eq_laws c.args.node c.args.met.now.keys h,
 )

@@ -1,4 +1,4 @@
-use Rattle.std.proofs.Common.{◌↔◌, ◌⊎◌, List, Contains, subst}
+use Rattle.std.proofs.Common.{◌⊎◌, List, Contains, subst}
 use Rattle.hg_changeset.specs.declared.node.Node.{Node}
 use Rattle.hg_replica.specs.Content.{content_of}
 use Rattle.hg_instab.specs.Near.{IsRegion}

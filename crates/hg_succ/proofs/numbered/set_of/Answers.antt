@@ -1,11 +1,9 @@
 use Rattle.std.proofs.Common.{List, [], get_or, Contains, inl, inr, sym, subst}
 use Rattle.std.proofs.lemmas.List.{get_or_default, take_all}
 use Rattle.hg_changeset.specs.declared.node.Node.{Node}
-use Rattle.hg_changeset.specs.Node.{node_eq}
-use Rattle.hg_changeset.proofs.NodeLemmas.{same_node}
-use Rattle.indexmap.specs.IndexSet.{insert_key}
-use Rattle.indexmap.proofs.CallerLemmas.{Contains-insert_key}
-use Rattle.hg_succ.proofs.NumberLemmas.{more_of, insert_keeps}
+use Rattle.hg_node_set.specs.Keys.{insert_key}
+use Rattle.hg_node_set.proofs.CallerLemmas.{Contains-insert_key, Contains-insert_key_kept}
+use Rattle.hg_succ.proofs.NumberLemmas.{more_of}
 use Rattle.hg_succ.proofs.numbered.set_of.Goals as goal
 
 pub loop-node-preserved : goal.loop-node-preserved
@@ -18,8 +16,8 @@ loop-node-preserved c n h =
     subst (λ (ks : List Node). Contains ks n) (sym c.in_ok-insert.ensures.keys)
     (elim ((more_of nodes i x c.loop-node-test.true (sym (get_or_default nodes i x first c.loop-node-test.true))
     n).0 h) [
-      | inl before ↦ insert_keeps keys x n (c.loop-node.invariant n before)
-      | inr same ↦ subst (Contains (insert_key node_eq keys x)) same (Contains-insert_key node_eq same_node keys x)
+      | inl before ↦ Contains-insert_key_kept keys x n (c.loop-node.invariant n before)
+      | inr same ↦ subst (Contains (insert_key keys x)) same (Contains-insert_key keys x)
     ])
 
 pub returns : goal.returns

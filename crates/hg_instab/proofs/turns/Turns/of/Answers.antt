@@ -27,8 +27,8 @@ returns-then-are_calm-clause-told c =
     let met = c.in_ok-met.met.keys in
     let starts = c.in_ok-starts.starts.keys in
     let seeds = c.deref.result.now in
-    let same : seeds ≡ c.deref-then-is_empty-2-2.result.now =
-    c.deref.ensures.value ∙ sym c.deref-then-is_empty-2-2.ensures.value in
+    let same : seeds ≡ c.deref-then-len-eq0-2-2.result.now =
+    c.deref.ensures.value ∙ sym c.deref-then-len-eq0-2-2.ensures.value in
     let begun : AreStarts t.markers change sets.near_forks starts =
     subst (λ (xs : List Node). AreStarts t.markers change xs starts) c.near_forks.ensures c.in_ok-starts.ensures in
     let retired = c.in_ok-retired.retired.keys in
@@ -37,7 +37,7 @@ returns-then-are_calm-clause-told c =
     let stranded = c.in_ok-stranded.stranded.keys in
     let strays : AreStranded g sets retired seeds stranded =
     subst (λ (xs : List Node). AreStranded g sets retired xs stranded)
-    (c.deref-then-is_empty-2.ensures.value ∙ sym c.deref.ensures.value) c.in_ok-stranded.ensures in
+    (c.deref-then-len-eq0-2.ensures.value ∙ sym c.deref.ensures.value) c.in_ok-stranded.ensures in
     let calm : (n : Node) → Contains seeds n → IsHeld g.0 n → IsCalm g sets retired stranded n =
     λ n h. c.are_calm.ensures c.if-are_calm.true n (subst (λ (xs : List Node). Contains xs n) same h) in
     IfOk-weaker c.calm_turns.result _ _ (λ turns are s is at.
@@ -47,14 +47,13 @@ returns-then-are_calm-clause-told c =
     (λ n h. subst (λ (xs : List Node). Contains xs n) (sym c.deref.ensures.value)
     ((c.in_ok-seeds.ensures n).1 h))
     those strays calm met
-    (emptied met (λ l. let none = c.is_empty.ensures.0 c.if-is_empty.true in omega (arith, l, none)))
+    (emptied met (λ l. omega (arith, l, c.len.ensures.len, c.if-len-eq0.true)))
     (λ n. subst (λ (xs : List Node). IsAfterPublic g n ↔ (Contains xs n ⊎ Contains met n)) c.after_public.ensures
     (c.in_ok-met.ensures.exact s is.valid follows
     (set-along c.after_public.result.now.keys sets.after_public (IsAfterPublic f) c.after_public.ensures
     at.after_public) n))
     (no-region t change sets.near_forks starts
-    (emptied starts
-    (λ l. let none = c.is_empty-then-is_empty.ensures.0 c.if-is_empty-2.true in omega (arith, l, none)))
+    (emptied starts (λ l. omega (arith, l, c.len-then-len-eq0.ensures.len, c.if-len-eq0-2.true)))
     begun) turns are) c.calm_turns.ensures.calm
 
 pub returns-clause-told : goal.returns-clause-told
