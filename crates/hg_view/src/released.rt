@@ -16,6 +16,7 @@ ghost use Rattle.hg_view.specs.Released.{AreReleased, IsUpheldStill, IsPinnedBut
 use crate::pins::Pins;
 use hg_changeset::Node;
 use hg_graph::Graph;
+use hg_node_set::NodeSet;
 use hg_replica::Replica;
 use indexmap::IndexSet;
 use std::alloc::{AllocError, Global};
@@ -29,13 +30,13 @@ pub(crate) fn released(
     pins: &Pins,
     upheld: &IndexSet<Node>,
     node: Node,
-) -> Result<IndexSet<Node>, AllocError>
+) -> Result<NodeSet, AllocError>
     requires { AreUpheld (content_of replica.now) pins.now upheld.now.keys }
     ensures { IfOk result
         (λ gone. AreReleased (content_of replica.now) pins.now node upheld.now.keys gone.keys) }
 {
     let graph = replica.graph();
-    let mut gone = IndexSet::new(alloc);
+    let mut gone = NodeSet::new(alloc);
     let mut waiting = BTreeSet::new(alloc);
     wait_at(graph, upheld, &gone, graph.place(node), &mut waiting)?;
     while let Some(place) = waiting.pop_last() {
@@ -51,7 +52,7 @@ pub(crate) fn released(
 }
 
 // Takes those out that go.
-pub(crate) fn take_out(upheld: &mut IndexSet<Node>, gone: &IndexSet<Node>)
+pub(crate) fn take_out(upheld: &mut IndexSet<Node>, gone: &NodeSet)
     ensures { (n : Node) → Contains upheld.new.keys n ↔ IsLeft upheld.old.keys gone.now.keys n }
 {
     for node in gone.as_slice() {
@@ -65,7 +66,7 @@ fn released_at(
     pins: &Pins,
     upheld: &IndexSet<Node>,
     but: Node,
-    gone: &IndexSet<Node>,
+    gone: &NodeSet,
     place: usize,
 ) -> Option<Node>
     ensures { MatchOption result
@@ -98,7 +99,7 @@ fn is_pinned_but(pins: &Pins, but: Node, node: Node) -> bool
 
 // Whether something at the places is left. It begins with the last, since what was added last is the likeliest to be
 // pinned, and ends at the first that is left.
-fn has_left(graph: &Graph, upheld: &IndexSet<Node>, gone: &IndexSet<Node>, places: &[usize]) -> bool
+fn has_left(graph: &Graph, upheld: &IndexSet<Node>, gone: &NodeSet, places: &[usize]) -> bool
     ensures { IsTrue result
         ↔ ((n : Node) × IsAtOne graph.now places.now n × IsLeft upheld.now.keys gone.now.keys n) }
 {
@@ -111,7 +112,7 @@ fn has_left(graph: &Graph, upheld: &IndexSet<Node>, gone: &IndexSet<Node>, place
 }
 
 // Whether what stands at the place is left.
-fn is_left_at(graph: &Graph, upheld: &IndexSet<Node>, gone: &IndexSet<Node>, place: usize) -> bool
+fn is_left_at(graph: &Graph, upheld: &IndexSet<Node>, gone: &NodeSet, place: usize) -> bool
     ensures { IsTrue result ↔ IsLeftAt graph.now upheld.now.keys gone.now.keys place }
 {
     match graph.node_at(place) {
@@ -121,17 +122,17 @@ fn is_left_at(graph: &Graph, upheld: &IndexSet<Node>, gone: &IndexSet<Node>, pla
 }
 
 // Whether a changeset is left: it was upheld, and doesn't go.
-fn is_left(upheld: &IndexSet<Node>, gone: &IndexSet<Node>, node: Node) -> bool
+fn is_left(upheld: &IndexSet<Node>, gone: &NodeSet, node: Node) -> bool
     ensures { IsTrue result ↔ IsLeft upheld.now.keys gone.now.keys node }
 {
-    upheld.contains(&node) && !gone.contains(&node)
+    upheld.contains(&node) && !gone.contains(node)
 }
 
 // The places of the parents wait, where what stands there is left.
 fn wait_parents(
     graph: &Graph,
     upheld: &IndexSet<Node>,
-    gone: &IndexSet<Node>,
+    gone: &NodeSet,
     place: usize,
     waiting: &mut BTreeSet<usize>,
 ) -> Result<(), AllocError>
@@ -148,7 +149,7 @@ fn wait_parents(
 fn wait_at(
     graph: &Graph,
     upheld: &IndexSet<Node>,
-    gone: &IndexSet<Node>,
+    gone: &NodeSet,
     place: Option<usize>,
     waiting: &mut BTreeSet<usize>,
 ) -> Result<(), AllocError>

@@ -10,8 +10,8 @@ ghost use Rattle.hg_view.specs.Shown.{IsChild, IsAtOne};
 use crate::pins::{Pins, counts_as_obsolete};
 use hg_changeset::Node;
 use hg_graph::Graph;
+use hg_node_set::NodeSet;
 use hg_replica::Replica;
-use indexmap::IndexSet;
 use std::alloc::{AllocError, Global};
 
 /// Whether a changeset is visible under the pins. One that isn't obsolete, or is pinned, costs a few look-ups; for any
@@ -41,7 +41,7 @@ fn has_shown(alloc: Global, replica: &Replica, pins: &Pins, node: Node) -> Resul
     ensures { IfOk result (λ answer. IsTrue answer ↔ IsVisibleUnder (content_of replica.now) pins.now node) }
 {
     let graph = replica.graph();
-    let mut met = IndexSet::new(alloc);
+    let mut met = NodeSet::new(alloc);
     met.insert(node)?;
     let mut next = 0;
     while next < met.len() {
@@ -93,7 +93,7 @@ fn has_shown_at(replica: &Replica, pins: &Pins, places: &[usize]) -> bool
 }
 
 // Adds the children of a changeset.
-fn add_children(graph: &Graph, node: Node, met: &mut IndexSet<Node>) -> Result<(), AllocError>
+fn add_children(graph: &Graph, node: Node, met: &mut NodeSet) -> Result<(), AllocError>
     ensures { OnOk result (Adds (IsChild graph.now node) met.old.keys met.new.keys) }
 {
     match graph.place(node) {
@@ -103,7 +103,7 @@ fn add_children(graph: &Graph, node: Node, met: &mut IndexSet<Node>) -> Result<(
 }
 
 // Adds what stands at the places.
-fn add_at(graph: &Graph, places: &[usize], met: &mut IndexSet<Node>) -> Result<(), AllocError>
+fn add_at(graph: &Graph, places: &[usize], met: &mut NodeSet) -> Result<(), AllocError>
     ensures { OnOk result (Adds (IsAtOne graph.now places.now) met.old.keys met.new.keys) }
 {
     for place in places {

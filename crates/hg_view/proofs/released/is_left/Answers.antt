@@ -10,8 +10,8 @@ returns-then-contains c =
     let upheld = c.args.upheld.now.keys in
     let gone = c.args.gone.now.keys in
     let goes : IsTrue c.contains-then-contains.result ↔ Contains gone node = (
-      λ t. Contains-from_any same_node node gone (sym c.contains-then-contains.ensures ∙ t),
-      λ h. c.contains-then-contains.ensures ∙ list_any-from_Contains node_eq_laws node gone h,
+      λ t. Contains-from_any same_node node gone (sym c.contains-then-contains.ensures.contains ∙ t),
+      λ h. c.contains-then-contains.ensures.contains ∙ list_any-from_Contains node_eq_laws node gone h,
     ) in
     let isnt = isnt_so c.contains-then-contains.result (Contains gone node) goes in (
       λ t. (

@@ -24,7 +24,7 @@ loop-place-init c =
     let there : MatchOption place (¬ (Holds (changesets s.history) node)) (IsOnlyAt (changesets s.history) node) =
     subst (λ (cs : List Contents). MatchOption place (¬ (Holds cs node)) (IsOnlyAt cs node))
     c.graph-graph.ensures.graph c.place.ensures.place in
-    releasing-start s c.args.pins.now node upheld gone place old waiting c.requires c.new-gone.ensures.empty there
+    releasing-start s c.args.pins.now node upheld gone place old waiting c.requires c.new-gone.ensures there
     (subst (λ (cs : List Contents). Widens (λ k. (place ≡ Some k) × IsLeftAt cs upheld gone k) old waiting)
     c.graph-graph.ensures.graph c.in_ok-wait_at.ensures)
 
