@@ -2,9 +2,9 @@ use Rattle.std.proofs.Common.{◌≡◌, ◌+◌, ℕ, List, Option, ap, subst, 
 use Rattle.std.specs.BTreeMap.{btree_map_len}
 use Rattle.std.specs.Map.{update}
 use Rattle.std.specs.Str.{bytes_eq}
-use Rattle.hg_script.specs.Names.{value_of}
-use Rattle.hg_script.proofs.NameLemmas.{value_of-bound}
-use Rattle.hg_script.proofs.names.bind.Goals as goal
+use Rattle.hg_names.specs.Names.{value_of}
+use Rattle.hg_names.proofs.NameLemmas.{value_of-bound}
+use Rattle.hg_names.proofs.names.bind.Goals as goal
 
 pub returns : goal.returns
 returns g c =

@@ -2,8 +2,8 @@ use Rattle.std.proofs.Common.{sym, ◌∙◌}
 use Rattle.std.proofs.lemmas.Iterator.{YieldsList-from_slice, items_from_drains}
 use Rattle.std.proofs.lemmas.Iterator.Consumers.{YieldsList-at, YieldsList-from_copied}
 use Rattle.std.proofs.lemmas.List.{map-id}
-use Rattle.hg_script.proofs.NameLemmas.{few_are_distinct, distinct_by_count}
-use Rattle.hg_script.proofs.names.are_distinct.Goals as goal
+use Rattle.hg_names.proofs.NameLemmas.{few_are_distinct, distinct_by_count}
+use Rattle.hg_names.proofs.names.are_distinct.Goals as goal
 
 pub returns-then-names-lt2 : goal.returns-then-names-lt2
 returns-then-names-lt2 c = few_are_distinct c.args.names.now c.if-names-lt2.true

@@ -1,6 +1,6 @@
 //! Names of a script, and what each stands for.
 ghost use Rattle.std.specs.Prelude.{◌≡◌, ◌↔◌, IfOk, IsTrue, OnOk};
-ghost use Rattle.hg_script.specs.Names.{AreDistinct, value_of, Binds};
+ghost use Rattle.hg_names.specs.Names.{AreDistinct, value_of, Binds};
 
 use std::alloc::{AllocError, Global};
 use std::collections::{BTreeMap, BTreeSet};

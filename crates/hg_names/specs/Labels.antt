@@ -1,0 +1,35 @@
+-- What labels stand for: those of few bytes by a number, and the others by their text.
+use Rattle.std.specs.Prelude.{ℕ, ◌≡◌, ◌+◌, ◌*◌, Bool, ◌&&◌, List, Option, Some, fold, if◌then◌else◌, length, nat_lt}
+use Rattle.std.specs.declared.vec.Vec.{Vec}
+use Rattle.std.specs.declared.alloc.Global.{Global}
+use Rattle.std.specs.BTreeMap.{BTreeMap, get}
+use Rattle.std.specs.List.{list_all}
+use Rattle.std.specs.Map.{update}
+use Rattle.std.specs.Ordering.{nat_cmp}
+use Rattle.std.specs.Str.{bytes_eq}
+use Rattle.hg_changeset.specs.declared.node.Node.{Node}
+use Rattle.hg_names.specs.declared.labels.Labels.{Labels}
+use Rattle.hg_names.specs.Names.{value_of}
+
+-- the bytes as digits of base 256, behind what is given
+abbrev pub digits_behind : ℕ → List ℕ → ℕ
+digits_behind key label = fold (λ key byte. key * 256 + byte) key label
+
+-- whether a number is a byte
+abbrev pub is_byte : ℕ → Bool
+is_byte byte = nat_lt byte 256
+
+-- whether a label is looked up by its number: at most seven bytes
+abbrev pub is_short : List ℕ → Bool
+is_short label = nat_lt (length label) 8 && list_all is_byte label
+
+-- what a label stands for, if it is bound
+abbrev pub node_in : BTreeMap ℕ Node → BTreeMap (Vec ℕ Global) Node → List ℕ → Option Node
+node_in short long label = if is_short label then get nat_cmp short (digits_behind 1 label) else value_of long label
+
+abbrev pub node_of : Labels → List ℕ → Option Node
+node_of labels label = node_in labels.short labels.long label
+
+-- the label stands for the node, and each other for what it did
+abbrev pub BindsNode : (List ℕ → Option Node) → List ℕ → Node → (List ℕ → Option Node) → Type 0
+BindsNode old label node new = (other : List ℕ) → new other ≡ update bytes_eq old label (Some node) other
