@@ -17,7 +17,7 @@ use Rattle.std.proofs.lemmas.Option.{none-some, same_Some}
 use Rattle.std.proofs.lemmas.Slice.Eq.{bytes_eq-Decides}
 use mathlib.Core.Logic.{⊎_elim}
 use Rattle.hg_changeset.specs.declared.node.Node.{Node}
-use Rattle.hg_names.specs.Labels.{BindsNode, digits_behind, is_byte, is_short, node_in}
+use Rattle.hg_names.specs.Labels.{BindsNode, digits_behind, is_byte, is_short, labelled_in}
 use Rattle.hg_names.specs.Names.{value_of}
 
 -- a number above each that a label of this length spells
@@ -112,20 +112,20 @@ module _ (short new : BTreeMap ℕ Node) (long : BTreeMap (Vec ℕ Global) Node)
   bytes xs h = (both (nat_lt (length xs) 8) (list_all is_byte xs) h).1
 
   by_number : (m : BTreeMap ℕ Node) (xs : List ℕ) → is_short xs ≡ true
-      → node_in m long xs ≡ get nat_cmp m (digits_behind 1 xs)
+      → labelled_in m long xs ≡ get nat_cmp m (digits_behind 1 xs)
   by_number m xs h = ap (λ b. if b then get nat_cmp m (digits_behind 1 xs) else value_of long xs) h
 
-  by_text : (m : BTreeMap ℕ Node) (xs : List ℕ) → is_short xs ≡ false → node_in m long xs ≡ value_of long xs
+  by_text : (m : BTreeMap ℕ Node) (xs : List ℕ) → is_short xs ≡ false → labelled_in m long xs ≡ value_of long xs
   by_text m xs h = ap (λ b. if b then get nat_cmp m (digits_behind 1 xs) else value_of long xs) h
 
-  same : (other : List ℕ) → bytes_eq label other ≡ true → node_in new long other ≡ Some n
-  same other h = subst (λ xs. node_in new long xs ≡ Some n) ((bytes_eq-Decides label other).0 h)
+  same : (other : List ℕ) → bytes_eq label other ≡ true → labelled_in new long other ≡ Some n
+  same other h = subst (λ xs. labelled_in new long xs ≡ Some n) ((bytes_eq-Decides label other).0 h)
       (by_number new label is ∙ updates.1)
 
-  others_stay : (other : List ℕ) → bytes_eq label other ≡ false → node_in new long other ≡ node_in short long other
+  others_stay : (other : List ℕ) → bytes_eq label other ≡ false → labelled_in new long other ≡ labelled_in short long other
   others_stay other h = by (is_short other) refl
     where
-      by : (b : Bool) → is_short other ≡ b → node_in new long other ≡ node_in short long other
+      by : (b : Bool) → is_short other ≡ b → labelled_in new long other ≡ labelled_in short long other
       by true e =
           by_number new other e
           ∙ updates.2 (digits_behind 1 other) (other_number (digits_behind 1 label) (digits_behind 1 other)
@@ -134,20 +134,20 @@ module _ (short new : BTreeMap ℕ Node) (long : BTreeMap (Vec ℕ Global) Node)
           ∙ sym (by_number short other e)
       by false e = by_text new other e ∙ sym (by_text short other e)
 
-  pub bound_short : BindsNode (node_in short long) label n (node_in new long)
+  pub bound_short : BindsNode (labelled_in short long) label n (labelled_in new long)
   bound_short other = ⊎_elim
-      (λ h. same other h ∙ sym (cond-true (bytes_eq label other) (Some n) (node_in short long other) h))
-      (λ h. others_stay other h ∙ sym (cond-false (bytes_eq label other) (Some n) (node_in short long other) h))
+      (λ h. same other h ∙ sym (cond-true (bytes_eq label other) (Some n) (labelled_in short long other) h))
+      (λ h. others_stay other h ∙ sym (cond-false (bytes_eq label other) (Some n) (labelled_in short long other) h))
       (cases_Bool (bytes_eq label other))
 
 -- the key that was found is that of a short label
 pub bound_key : (short new : BTreeMap ℕ Node) (long : BTreeMap (Vec ℕ Global) Node) (label : List ℕ) (n : Node) (k : ℕ)
     → Some k ≡ (if is_short label then Some (digits_behind 1 label) else None)
-    → Updates nat_cmp short new k (Some n) → BindsNode (node_in short long) label n (node_in new long)
+    → Updates nat_cmp short new k (Some n) → BindsNode (labelled_in short long) label n (labelled_in new long)
 bound_key short new long label n k h updates = by (is_short label) refl h
   where
     by : (b : Bool) → is_short label ≡ b → Some k ≡ (if b then Some (digits_behind 1 label) else None)
-        → BindsNode (node_in short long) label n (node_in new long)
+        → BindsNode (labelled_in short long) label n (labelled_in new long)
     by true e found =
         bound_short short new long label n e
         (subst (λ k. Updates nat_cmp short new k (Some n)) (same_Some k (digits_behind 1 label) found) updates)

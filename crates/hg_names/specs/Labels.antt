@@ -24,11 +24,11 @@ abbrev pub is_short : List ℕ → Bool
 is_short label = nat_lt (length label) 8 && list_all is_byte label
 
 -- what a label stands for, if it is bound
-abbrev pub node_in : BTreeMap ℕ Node → BTreeMap (Vec ℕ Global) Node → List ℕ → Option Node
-node_in short long label = if is_short label then get nat_cmp short (digits_behind 1 label) else value_of long label
+abbrev pub labelled_in : BTreeMap ℕ Node → BTreeMap (Vec ℕ Global) Node → List ℕ → Option Node
+labelled_in short long label = if is_short label then get nat_cmp short (digits_behind 1 label) else value_of long label
 
-abbrev pub node_of : Labels → List ℕ → Option Node
-node_of labels label = node_in labels.short labels.long label
+abbrev pub labelled : Labels → List ℕ → Option Node
+labelled labels label = labelled_in labels.short labels.long label
 
 -- the label stands for the node, and each other for what it did
 abbrev pub BindsNode : (List ℕ → Option Node) → List ℕ → Node → (List ℕ → Option Node) → Type 0

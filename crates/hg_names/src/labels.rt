@@ -1,7 +1,7 @@
 //! What labels stand for.
 ghost use Rattle.std.specs.Prelude.{◌≡◌, ◌<◌, List, ℕ, None, Some, OnOk, if◌then◌else◌, true, length};
 ghost use Rattle.std.specs.List.{list_all};
-ghost use Rattle.hg_names.specs.Labels.{digits_behind, is_byte, is_short, node_of, BindsNode};
+ghost use Rattle.hg_names.specs.Labels.{digits_behind, is_byte, is_short, labelled, BindsNode};
 
 use crate::names::{bind, bound};
 use hg_changeset::Node;
@@ -32,7 +32,7 @@ impl Drop for Labels {
 impl Labels {
     /// No label is bound. It takes its memory from the allocator.
     pub fn new(alloc: Global) -> Labels
-        ensures { (label : List ℕ) → node_of result label ≡ None }
+        ensures { (label : List ℕ) → labelled result label ≡ None }
     {
         Labels {
             alloc,
@@ -43,7 +43,7 @@ impl Labels {
 
     /// What the label stands for, if it is bound.
     pub fn get(&self, label: &[u8]) -> Option<Node>
-        ensures { result ≡ node_of self.now label.now }
+        ensures { result ≡ labelled self.now label.now }
     {
         match short_key(label) {
             Some(key) => self.short.get(&key).copied(),
@@ -53,7 +53,7 @@ impl Labels {
 
     /// Binds the label to the node, in place of what it stood for.
     pub fn bind(&mut self, label: &[u8], node: Node) -> Result<(), AllocError>
-        ensures { OnOk result (BindsNode (node_of self.old) label.now node (node_of self.new)) }
+        ensures { OnOk result (BindsNode (labelled self.old) label.now node (labelled self.new)) }
     {
         match short_key(label) {
             Some(key) => {

@@ -47,7 +47,7 @@ use Rattle.hg_script.specs.Events.{LacksMessage, IsNowhere, IsUnknownWhere, IsTa
 use Rattle.hg_script.specs.Events.{asking, brought, new_labels}
 use Rattle.hg_script.specs.Faults.{IsInputFault}
 use Rattle.hg_script.specs.Limits.{script_limit}
-use Rattle.hg_script.specs.Names.{AreDistinct}
+use Rattle.hg_names.specs.Names.{AreDistinct}
 use Rattle.hg_script.specs.Scripts.{places, ids, numbers, node_named, message_named, may_be_bound, DoesLine, DoesLines}
 use Rattle.hg_script.specs.Scripts.{IsNewFleet}
 use Rattle.hg_script.specs.Words.{has_node}

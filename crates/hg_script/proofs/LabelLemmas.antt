@@ -43,9 +43,9 @@ use Rattle.hg_script.specs.Endings.{AreLabelsFree, IsTakenFault}
 use mathlib.Core.Logic.{⊎_elim}
 use Rattle.hg_script.specs.Entries.{entry_of, IsPruneOf}
 use Rattle.hg_script.specs.Events.{Meaning, IsOperation, new_labels}
-use Rattle.hg_script.specs.Names.{AreDistinct}
+use Rattle.hg_names.specs.Names.{AreDistinct}
 use Rattle.hg_script.specs.Scripts.{may_name, each_may_name, may_be_bound}
-use Rattle.hg_script.proofs.NameLemmas.{unequal}
+use Rattle.hg_names.proofs.NameLemmas.{unequal}
 
 not_there : {V : Type 0} (o : Option V) → is_none o ≡ true → o ≡ None
 not_there None h = refl

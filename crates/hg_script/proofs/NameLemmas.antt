@@ -23,7 +23,8 @@ use denote.Bor.{Bor}
 use mathlib.Core.Logic.{⊎_elim}
 use Rattle.hg_changeset.specs.declared.node.Node.{Node}
 use Rattle.hg_script.specs.Events.{AreIds}
-use Rattle.hg_script.specs.Names.{AreDistinct, value_of, Binds}
+use Rattle.hg_names.specs.declared.labels.Labels.{Labels}
+use Rattle.hg_names.specs.Labels.{BindsNode, labelled}
 use Rattle.hg_script.specs.Scripts.{bound_to}
 
 -- the names that are bound after hang on what each name stands for before alone
@@ -36,17 +37,15 @@ bound_to-same f g (l ∷ labels) (n ∷ ns) h name =
     (λ q. ap (λ (v : Option Node). cond (bytes_eq l q) (Some n) v) (h q)) name
 
 -- one label more is bound
-pub bound_step : (old new : BTreeMap (Vec ℕ Global) Node) (label : Bor (List ℕ)) (n : Node)
-    (ls labels : List (Bor (List ℕ))) (ns nodes : List Node)
-    → Binds old label.now n new → labels ≡ label ∷ ls → nodes ≡ n ∷ ns
+pub bound_step : (old new : Labels) (label : Bor (List ℕ)) (n : Node) (ls labels : List (Bor (List ℕ)))
+    (ns nodes : List Node) → BindsNode (labelled old) label.now n (labelled new) → labels ≡ label ∷ ls → nodes ≡ n ∷ ns
     → (name : List ℕ)
-    → bound_to (value_of new) (map (λ w. w.now) ls) ns name ≡ bound_to (value_of old) (map (λ w. w.now) labels)
+    → bound_to (labelled new) (map (λ w. w.now) ls) ns name ≡ bound_to (labelled old) (map (λ w. w.now) labels)
     nodes name
 bound_step old new label n ls labels ns nodes b l k name =
-    bound_to-same (value_of new) (update bytes_eq (value_of old) label.now (Some n)) (map (λ w. w.now) ls) ns b.values
-    name
-    ∙ sym (ap (λ (xs : List (Bor (List ℕ))). bound_to (value_of old) (map (λ w. w.now) xs) nodes name) l
-    ∙ ap (λ (ys : List Node). bound_to (value_of old) (map (λ w. w.now) (label ∷ ls)) ys name) k)
+    bound_to-same (labelled new) (update bytes_eq (labelled old) label.now (Some n)) (map (λ w. w.now) ls) ns b name
+    ∙ sym (ap (λ (xs : List (Bor (List ℕ))). bound_to (labelled old) (map (λ w. w.now) xs) nodes name) l
+    ∙ ap (λ (ys : List Node). bound_to (labelled old) (map (λ w. w.now) (label ∷ ls)) ys name) k)
 
 -- no label is left, or nothing that it could name
 pub bound_end : (f : List ℕ → Option Node) (labels : List (Bor (List ℕ))) (ns : List Node)

@@ -23,7 +23,7 @@ use Rattle.hg_script.specs.Commands.{Text, Word, texts, CommandAnswer}
 use Rattle.hg_script.specs.Events.{Trace, Ran, Meaning, HasUnknown, AreIds, IsOperation, old_labels, new_labels}
 use Rattle.hg_script.specs.Events.{marked_label}
 use Rattle.hg_script.specs.Limits.{line_limit, script_limit}
-use Rattle.hg_script.specs.Names.{AreDistinct}
+use Rattle.hg_names.specs.Names.{AreDistinct}
 use Rattle.hg_script.specs.Scripts.{places, ids, numbers, node_named, message_named, may_be_bound, DoesLines}
 use Rattle.hg_script.specs.Scripts.{IsNewFleet, IsRunOf, IsRunTo}
 use Rattle.hg_script.specs.Words.{has_node, words_of}

@@ -45,7 +45,7 @@ use Rattle.hg_script.specs.declared.operation.Parents.{Parents}
 use Rattle.hg_script.specs.declared.operation.Parents.TheVariants.{NoParent, One, Two}
 use Rattle.hg_script.specs.Commands.{Text, Word, parent_words, texts}
 use Rattle.hg_script.specs.Entries.{entry_of, IsPruneOf}
-use Rattle.hg_script.specs.Names.{value_of}
+use Rattle.hg_names.specs.Labels.{labelled}
 
 abbrev pub PeerEvent : Type 0
 PeerEvent = peers.PeerEvent
@@ -177,7 +177,7 @@ old_labels (Advance label phase) = label.now ∷ []
 
 -- one of the labels stands for nothing: so they can end the script
 abbrev pub IsUnresolved : Names → List Text → RunFault → Type 0
-IsUnresolved names labels = IsUnknownWhere names.number (HasUnknown (value_of names.labels.now) labels)
+IsUnresolved names labels = IsUnknownWhere names.number (HasUnknown (labelled names.labels.now) labels)
 
 -- the new labels, in the order in which the operation makes their changesets
 abbrev pub new_labels : Operation → List Text

@@ -4,7 +4,6 @@ pub mod Entries
 pub mod Events
 pub mod Faults
 pub mod Limits
-pub mod Names
 pub mod Outputs
 pub mod Printing
 pub mod Reports

@@ -22,7 +22,9 @@ use Rattle.hg_script.specs.Commands.{Text, Word, CommandAnswer}
 use Rattle.hg_script.specs.Events.{Trace, no_trace, joined, Ran, AreTold, PeerAnswer, Meaning, brought, node_at}
 use Rattle.hg_script.specs.Events.{message_at, new_labels, AreEventsOf}
 use Rattle.hg_script.specs.Limits.{line_limit}
-use Rattle.hg_script.specs.Names.{value_of, Binds}
+use Rattle.hg_names.specs.declared.labels.Labels.{Labels}
+use Rattle.hg_names.specs.Labels.{labelled}
+use Rattle.hg_names.specs.Names.{value_of, Binds}
 use Rattle.hg_script.specs.Words.{has_node, words_of}
 
 -- ---- the names of a fleet
@@ -31,7 +33,7 @@ abbrev pub places : Fleet → Meaning ℕ
 places f = value_of f.nodes
 
 abbrev pub ids : Fleet → Meaning Node
-ids f = value_of f.labels
+ids f = labelled f.labels
 
 abbrev pub numbers : Fleet → Meaning ℕ
 numbers f = value_of f.messages
@@ -75,11 +77,10 @@ bound_to names (label ∷ labels) [] = names
 bound_to names (label ∷ labels) (n ∷ nodes) = bound_to (update bytes_eq names label (Some n)) labels nodes
 
 -- the labels name what the operation added, in order, if it was accepted
-abbrev pub AreLabelled : BTreeMap (Vec ℕ Global) Node → List Text → List PeerAnswer → BTreeMap (Vec ℕ Global) Node
-    → Type 0
+abbrev pub AreLabelled : Labels → List Text → List PeerAnswer → Labels → Type 0
 AreLabelled old labels [] new = new ≡ old
 AreLabelled old labels (Accepted change ∷ answers) new = (name : Text)
-    → value_of new name ≡ bound_to (value_of old) labels change.added name
+    → labelled new name ≡ bound_to (labelled old) labels change.added name
 AreLabelled old labels (Offered number ∷ answers) new = new ≡ old
 AreLabelled old labels (Marked ∷ answers) new = new ≡ old
 AreLabelled old labels (Refused refusal ∷ answers) new = new ≡ old

@@ -3,10 +3,10 @@ use crate::command::Command;
 use crate::fault::{LineFault, RunFault};
 use crate::fleet::Fleet;
 use crate::marking::Marking;
-use crate::names::are_distinct;
 use crate::operation::{Operation, Parents};
 use crate::reading::{is_name, read_command};
 use hg_changeset::Changeset;
+use hg_names::are_distinct;
 use std::alloc::Global;
 
 /// The word that the fault of the line with this number is about, if it is about one: the word that is unknown, taken

@@ -9,7 +9,7 @@ ghost use Rattle.hg_script.specs.Commands.{texts};
 ghost use Rattle.hg_script.specs.Endings.{AreLabelsFree, IsCommandFault, IsDecided, IsLeftBy, IsNodeFault};
 ghost use Rattle.hg_script.specs.Endings.{IsTakenFault};
 ghost use Rattle.hg_script.specs.Events.{AreLeftOutAt, IsTakeFault, no_trace};
-ghost use Rattle.hg_script.specs.Names.{value_of};
+ghost use Rattle.hg_names.specs.Labels.{labelled};
 ghost use Rattle.hg_script.specs.Outputs.{Printed};
 ghost use Rattle.hg_script.specs.Printing.{IsDone, PrintsTaken, agree_line};
 ghost use Rattle.hg_script.specs.Scripts.{AreLabelled, Does, IsKept, IsNewFleet, bound_to, each_may_name, ids};
@@ -20,7 +20,6 @@ use crate::command::Command;
 use crate::event::{PeerAnswer, run_event};
 use crate::fault::{LineFault, RunFault};
 use crate::marking::Marking;
-use crate::names::{are_distinct, bind, bound};
 use crate::operation::{Names, Operation};
 use crate::output::print_line;
 use crate::report::{label_of, print_report};
@@ -28,6 +27,7 @@ use crate::told::Told;
 use hg_changeset::{Changeset, Node};
 use hg_discovery::heads_in_common_kept;
 use hg_join::{JoinState, NoMemory};
+use hg_names::{Labels, are_distinct, bind, bound};
 use hg_peer::{Ask, Peer, Scope};
 use hg_replica::{Part, Replica};
 use hg_rewrite::{Op, decide_kept};
@@ -43,7 +43,7 @@ pub struct Fleet {
     world: World<Peer>,
     // The place of each node in the world.
     nodes: BTreeMap<Vec<u8>, usize>,
-    labels: BTreeMap<Vec<u8>, Node>,
+    labels: Labels,
     // The number of each message in the world's pool.
     messages: BTreeMap<Vec<u8>, usize>,
 }
@@ -71,7 +71,7 @@ impl Fleet {
             alloc,
             world: World::new(alloc, count)?,
             nodes: BTreeMap::new(alloc),
-            labels: BTreeMap::new(alloc),
+            labels: Labels::new(alloc),
             messages: BTreeMap::new(alloc),
         })
     }
@@ -142,7 +142,7 @@ impl Fleet {
 
     /// The changeset that the label names.
     pub(crate) fn node_of(&self, label: &[u8]) -> Option<Node> {
-        bound(&self.labels, label)
+        self.labels.get(label)
     }
 
     /// The label of the changeset, where one of the nodes holds it. Each changeset of a script is held where it was
@@ -243,7 +243,7 @@ impl Fleet {
         self.check_labels(number, kept, &op, labels)?;
         let event = Event::Local { at: place, op };
         let answer = run_event(self.alloc, number, &mut self.world, event, writer)?;
-        label(self.alloc, &mut self.labels, labels, &answer)?;
+        label(&mut self.labels, labels, &answer)?;
         Ok(Told::Event { at: place, answer })
     }
 
@@ -525,28 +525,23 @@ fn decided(alloc: Global, kept: &Kept, op: &Op) -> Result<Option<Part>, RunFault
 }
 
 // Whether the labels, all different or not, may name the changesets of the part.
-fn are_free(
-    names: &BTreeMap<Vec<u8>, Node>,
-    labels: &[&[u8]],
-    are_distinct: bool,
-    part: &Part,
-) -> bool
+fn are_free(names: &Labels, labels: &[&[u8]], are_distinct: bool, part: &Part) -> bool
     ensures { result ≡ (are_distinct
-        && each_may_name (value_of names.now) (texts labels.now) (nodes part.now.history.changesets)) }
+        && each_may_name (labelled names.now) (texts labels.now) (nodes part.now.history.changesets)) }
 {
     are_distinct && may_bind(names, labels, &part.changesets)
 }
 
 // Whether each label names nothing yet.
-fn are_unbound(names: &BTreeMap<Vec<u8>, Node>, labels: &[&[u8]]) -> bool
-    ensures { result ≡ list_all (λ w. is_none (value_of names.now w.now)) labels.now }
+fn are_unbound(names: &Labels, labels: &[&[u8]]) -> bool
+    ensures { result ≡ list_all (λ w. is_none (labelled names.now w.now)) labels.now }
 {
-    labels.iter().all(|label| bound(names, *label).is_none())
+    labels.iter().all(|label| names.get(*label).is_none())
 }
 
 // Whether each label names nothing yet or the changeset that it is to name.
-fn may_bind(names: &BTreeMap<Vec<u8>, Node>, labels: &[&[u8]], changesets: &[Changeset]) -> bool
-    ensures { result ≡ each_may_name (value_of names.now) (texts labels.now) (nodes changesets.now) }
+fn may_bind(names: &Labels, labels: &[&[u8]], changesets: &[Changeset]) -> bool
+    ensures { result ≡ each_may_name (labelled names.now) (texts labels.now) (nodes changesets.now) }
 {
     for (label, changeset) in labels.iter().zip(changesets) {
         if !may_name(names, *label, changeset.node()) {
@@ -557,28 +552,23 @@ fn may_bind(names: &BTreeMap<Vec<u8>, Node>, labels: &[&[u8]], changesets: &[Cha
 }
 
 // Whether the label names nothing yet, or this node.
-fn may_name(names: &BTreeMap<Vec<u8>, Node>, label: &[u8], node: Node) -> bool
-    ensures { result ≡ may_name (value_of names.now) label.now node }
+fn may_name(names: &Labels, label: &[u8], node: Node) -> bool
+    ensures { result ≡ may_name (labelled names.now) label.now node }
 {
-    match bound(names, label) {
+    match names.get(label) {
         Some(named) => named == node,
         None => true,
     }
 }
 
 // Binds each label to what the operation added at its place, if it was accepted.
-fn label(
-    alloc: Global,
-    names: &mut BTreeMap<Vec<u8>, Node>,
-    labels: &[&[u8]],
-    answer: &PeerAnswer,
-) -> Result<(), RunFault>
+fn label(names: &mut Labels, labels: &[&[u8]], answer: &PeerAnswer) -> Result<(), RunFault>
     ensures ok { OnOk result (AreLabelled names.old (map (λ w. w.now) labels.now) (answer.now ∷ []) names.new) }
     ensures err { IfErr result (λ fault. fault ≡ RunFault.NoMemory) }
 {
     match answer {
         Answer::Accepted(change) => {
-            bind_labels(alloc, names, labels, &change.added)?;
+            bind_labels(names, labels, &change.added)?;
             Ok(())
         }
         Answer::Offered(_) => Ok(()),
@@ -588,18 +578,13 @@ fn label(
 }
 
 // Binds each label to the node at its place.
-fn bind_labels(
-    alloc: Global,
-    names: &mut BTreeMap<Vec<u8>, Node>,
-    labels: &[&[u8]],
-    nodes: &[Node],
-) -> Result<(), RunFault>
+fn bind_labels(names: &mut Labels, labels: &[&[u8]], nodes: &[Node]) -> Result<(), RunFault>
     ensures ok { OnOk result ((name : List ℕ)
-        → value_of names.new name ≡ bound_to (value_of names.old) (map (λ w. w.now) labels.now) nodes.now name) }
+        → labelled names.new name ≡ bound_to (labelled names.old) (map (λ w. w.now) labels.now) nodes.now name) }
     ensures err { IfErr result (λ fault. fault ≡ RunFault.NoMemory) }
 {
     for (label, node) in labels.iter().zip(nodes) {
-        bind(alloc, names, *label, *node)?;
+        names.bind(*label, *node)?;
     }
     Ok(())
 }

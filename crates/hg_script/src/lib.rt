@@ -35,7 +35,6 @@ mod input;
 mod limits;
 mod lines;
 mod marking;
-mod names;
 mod operation;
 mod output;
 mod reading;

@@ -1,7 +1,7 @@
 //! Marks of a script: by a label, and what they ask of a node once the label stands for an id.
 ghost use Rattle.std.specs.Prelude.{◌∷◌, [], IfOk, IfErr};
 ghost use Rattle.hg_script.specs.Events.{IsMark, IsUnresolved, marked_label};
-ghost use Rattle.hg_script.specs.Names.{value_of};
+ghost use Rattle.hg_names.specs.Labels.{labelled};
 
 use crate::fault::RunFault;
 use crate::operation::Names;
@@ -17,7 +17,7 @@ pub enum Marking<'a> {
 impl Marking<'_> {
     /// What the mark asks of a node. Its label has to be bound.
     pub fn resolve(self, names: &Names) -> Result<Mark, RunFault>
-        ensures ok { IfOk result (IsMark (value_of names.now.labels.now) self.entry) }
+        ensures ok { IfOk result (IsMark (labelled names.now.labels.now) self.entry) }
         ensures err { IfErr result (IsUnresolved names.now (marked_label self.entry ∷ [])) }
     {
         match self {

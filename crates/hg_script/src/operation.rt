@@ -3,11 +3,11 @@ ghost use Rattle.std.specs.Prelude.{◌≡◌, ◌∷◌, [], map, Some, IfOk, I
 ghost use Rattle.hg_script.specs.Commands.{parent_words, texts};
 ghost use Rattle.hg_script.specs.Entries.{entry_of};
 ghost use Rattle.hg_script.specs.Events.{AreIds, AreParentIds, IsOperation, IsUnresolved, new_labels, old_labels};
-ghost use Rattle.hg_script.specs.Names.{value_of};
+ghost use Rattle.hg_names.specs.Labels.{labelled};
 
 use crate::fault::{LineFault, RunFault};
-use crate::names::bound;
 use hg_changeset::{Entry, Node};
+use hg_names::Labels;
 use hg_phases::Phase;
 use hg_rewrite::Op;
 use std::alloc::{AllocError, Global};
@@ -76,7 +76,7 @@ impl<'a> Operation<'a> {
 
     /// What the operation asks of a replica. All its labels but the new ones have to be bound.
     pub fn resolve(self, names: &Names) -> Result<Op, RunFault>
-        ensures ok { IfOk result (IsOperation (value_of names.now.labels.now) self.entry) }
+        ensures ok { IfOk result (IsOperation (labelled names.now.labels.now) self.entry) }
         ensures err { IfErr result (IsUnresolved names.now (old_labels self.entry)) }
     {
         match self {
@@ -101,16 +101,16 @@ pub struct Names<'a> {
     pub alloc: Global,
     /// The line's number.
     pub number: usize,
-    pub labels: &'a BTreeMap<Vec<u8>, Node>,
+    pub labels: &'a Labels,
 }
 
 impl Names<'_> {
     /// The id that a label names.
     pub fn node(&self, label: &[u8]) -> Result<Node, RunFault>
-        ensures ok { IfOk result (λ node. value_of self.now.labels.now label.now ≡ Some node) }
+        ensures ok { IfOk result (λ node. labelled self.now.labels.now label.now ≡ Some node) }
         ensures err { IfErr result (IsUnresolved self.now (label.now ∷ [])) }
     {
-        match bound(self.labels, label) {
+        match self.labels.get(label) {
             Some(node) => Ok(node),
             None => Err(RunFault::Line(self.number, LineFault::UnknownName)),
         }
@@ -118,7 +118,7 @@ impl Names<'_> {
 
     // The ids that the labels of parents name, and the null id for each that is absent.
     fn parents(&self, labels: Parents<'_>) -> Result<(Node, Node), RunFault>
-        ensures ok { IfOk result (λ ps. AreParentIds (value_of self.now.labels.now) labels.entry ps.0 ps.1) }
+        ensures ok { IfOk result (λ ps. AreParentIds (labelled self.now.labels.now) labels.entry ps.0 ps.1) }
         ensures err { IfErr result (IsUnresolved self.now (parent_words labels.entry)) }
     {
         match labels {
@@ -129,7 +129,7 @@ impl Names<'_> {
     }
 
     fn commit(&self, new: &[u8], secret: bool, parents: Parents<'_>) -> Result<Op, RunFault>
-        ensures ok { IfOk result (IsOperation (value_of self.now.labels.now)
+        ensures ok { IfOk result (IsOperation (labelled self.now.labels.now)
             (Operation.Commit new.entry secret parents.entry)) }
         ensures err { IfErr result (IsUnresolved self.now (parent_words parents.entry)) }
     {
@@ -143,7 +143,7 @@ impl Names<'_> {
     }
 
     fn amend(&self, old: &[u8], new: &[u8]) -> Result<Op, RunFault>
-        ensures ok { IfOk result (IsOperation (value_of self.now.labels.now) (Operation.Amend old.entry new.entry)) }
+        ensures ok { IfOk result (IsOperation (labelled self.now.labels.now) (Operation.Amend old.entry new.entry)) }
         ensures err { IfErr result (IsUnresolved self.now (old.now ∷ [])) }
     {
         Ok(Op::Amend {
@@ -153,7 +153,7 @@ impl Names<'_> {
     }
 
     fn split(&self, old: &[u8], new: &[&[u8]]) -> Result<Op, RunFault>
-        ensures ok { IfOk result (IsOperation (value_of self.now.labels.now) (Operation.Split old.entry new.entry)) }
+        ensures ok { IfOk result (IsOperation (labelled self.now.labels.now) (Operation.Split old.entry new.entry)) }
         ensures err { IfErr result (IsUnresolved self.now (old.now ∷ [])) }
     {
         Ok(Op::Split {
@@ -163,7 +163,7 @@ impl Names<'_> {
     }
 
     fn fold(&self, new: &[u8], old: &[&[u8]]) -> Result<Op, RunFault>
-        ensures ok { IfOk result (IsOperation (value_of self.now.labels.now) (Operation.Fold new.entry old.entry)) }
+        ensures ok { IfOk result (IsOperation (labelled self.now.labels.now) (Operation.Fold new.entry old.entry)) }
         ensures err { IfErr result (IsUnresolved self.now (texts old.now)) }
     {
         Ok(Op::Fold {
@@ -174,7 +174,7 @@ impl Names<'_> {
 
     // The user and the date of a prune are those of an entry.
     fn prune(&self, old: &[u8]) -> Result<Op, RunFault>
-        ensures ok { IfOk result (IsOperation (value_of self.now.labels.now) (Operation.Prune old.entry)) }
+        ensures ok { IfOk result (IsOperation (labelled self.now.labels.now) (Operation.Prune old.entry)) }
         ensures err { IfErr result (IsUnresolved self.now (old.now ∷ [])) }
     {
         Ok(Op::Prune {
@@ -186,7 +186,7 @@ impl Names<'_> {
     }
 
     fn relocate(&self, old: &[u8], new: &[u8], parents: Parents<'_>) -> Result<Op, RunFault>
-        ensures ok { IfOk result (IsOperation (value_of self.now.labels.now)
+        ensures ok { IfOk result (IsOperation (labelled self.now.labels.now)
             (Operation.Relocate old.entry new.entry parents.entry)) }
         ensures err { IfErr result (IsUnresolved self.now (old.now ∷ parent_words parents.entry)) }
     {
@@ -201,7 +201,7 @@ impl Names<'_> {
     }
 
     fn advance(&self, label: &[u8], phase: Phase) -> Result<Op, RunFault>
-        ensures ok { IfOk result (IsOperation (value_of self.now.labels.now) (Operation.Advance label.entry phase)) }
+        ensures ok { IfOk result (IsOperation (labelled self.now.labels.now) (Operation.Advance label.entry phase)) }
         ensures err { IfErr result (IsUnresolved self.now (label.now ∷ [])) }
     {
         Ok(Op::Advance {
@@ -212,7 +212,7 @@ impl Names<'_> {
 
     /// The ids that labels name.
     pub fn nodes(&self, labels: &[&[u8]]) -> Result<Vec<Node>, RunFault>
-        ensures ok { IfOk result (λ nodes. AreIds (value_of self.now.labels.now) labels.now nodes.items) }
+        ensures ok { IfOk result (λ nodes. AreIds (labelled self.now.labels.now) labels.now nodes.items) }
         ensures err { IfErr result (IsUnresolved self.now (texts labels.now)) }
     {
         let mut nodes = Vec::new(self.alloc);

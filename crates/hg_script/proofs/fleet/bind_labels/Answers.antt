@@ -1,6 +1,6 @@
 use Rattle.std.proofs.Common.{◌∙◌, inl, inr}
 use mathlib.Core.Logic.{⊎_elim}
-use Rattle.hg_script.specs.Names.{value_of}
+use Rattle.hg_names.specs.Labels.{labelled}
 use Rattle.hg_script.proofs.NameLemmas.{bound_step, bound_end}
 use Rattle.hg_script.proofs.fleet.bind_labels.Goals as goal
 
@@ -12,5 +12,5 @@ loop-label-preserved c = λ name.
 
 pub returns-clause-ok : goal.returns-clause-ok
 returns-clause-ok c = λ name.
-    bound_end (value_of c.loop-label.names) _ _ (⊎_elim (λ a. inl a.1.0) (λ b. inr b.1.0) c.in-None.ensures.steps) name
+    bound_end (labelled c.loop-label.names) _ _ (⊎_elim (λ a. inl a.1.0) (λ b. inr b.1.0) c.in-None.ensures.steps) name
     ∙ c.loop-label.invariant name

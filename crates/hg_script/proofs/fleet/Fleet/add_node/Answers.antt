@@ -1,7 +1,7 @@
 use Rattle.std.proofs.Common.{ℕ, refl, sym, ap, subst, ◌∙◌, is_some, Option}
 use Rattle.std.proofs.lemmas.Result.{err_from_is_err_and}
 use Rattle.hg_script.specs.Events.{no_trace}
-use Rattle.hg_script.specs.Names.{Binds}
+use Rattle.hg_names.specs.Names.{Binds}
 use Rattle.hg_script.proofs.NameLemmas.{unbound}
 use Rattle.hg_script.proofs.fleet.Fleet.add_node.Goals as goal
 

@@ -1,0 +1,5 @@
+//! Tests of `hg_names`, from outside.
+#![tactic(auto)]
+
+#[cfg(test)]
+mod tests;
