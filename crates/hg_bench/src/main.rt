@@ -106,6 +106,7 @@ fn spent_on_states(
         "roots" => tell_roots(rt, size),
         "add-chain" => add_markers(rt, size, Shape::Chain),
         "add-fan" => add_markers(rt, size, Shape::Fan),
+        "add-meeting" => add_markers(rt, size, Shape::Meeting),
         "write" => write_markers(rt, size),
         "read" => read_markers(rt, size),
         "list" => list_markers(rt, size),

@@ -15,6 +15,8 @@ pub enum Shape {
     Chain,
     /// All of them one node.
     Fan,
+    /// As in a chain, of ids that all begin alike, as somebody may choose them.
+    Meeting,
 }
 
 /// Markers added to an empty store, one by one.
@@ -96,11 +98,13 @@ fn written(alloc: Global, size: usize) -> Result<Vec<u8>, AllocError> {
 fn markers(alloc: Global, size: usize, shape: Shape) -> Result<Vec<Marker>, AllocError> {
     let mut markers = Vec::new(alloc);
     for number in 0..size {
-        let old = match shape {
-            Shape::Chain => number,
-            Shape::Fan => size,
+        let next = number.wrapping_add(1);
+        let (old, new) = match shape {
+            Shape::Chain => (node(number), node(next)),
+            Shape::Fan => (node(size), node(next)),
+            Shape::Meeting => (meeting(number), meeting(next)),
         };
-        if let Some(marker) = marker(alloc, node(old), node(number.wrapping_add(1))) {
+        if let Some(marker) = marker(alloc, old, new) {
             markers.push(marker)?;
         }
     }
@@ -131,9 +135,19 @@ fn metadata(alloc: Global) -> Result<Metadata, AllocError> {
     Ok(metadata)
 }
 
-/// The id whose first bytes are the number.
+/// An id for each number, which begins as a hash might: with the number times an odd one.
 pub fn node(number: usize) -> Node {
     let mut bytes = [0; 20];
-    BigEndian::write_u64(&mut bytes[..8], number as u64);
+    BigEndian::write_u64(
+        &mut bytes[..8],
+        (number as u64).wrapping_mul(0x9E37_79B9_7F4A_7C15),
+    );
+    Node(bytes)
+}
+
+// An id for each number, which ends with it and begins as the others do.
+fn meeting(number: usize) -> Node {
+    let mut bytes = [0; 20];
+    BigEndian::write_u64(&mut bytes[12..], number as u64);
     Node(bytes)
 }

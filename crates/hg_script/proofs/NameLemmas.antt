@@ -1,23 +1,9 @@
 -- Names of a script after one of them is bound, and after several are.
-use Rattle.std.proofs.Common.{◌≡◌, ◌↔◌, IsTrue, Ordering, nat_eq, ℕ, List, [], ◌∷◌, Bool, true, false, cond, ◌+◌, ◌<◌}
-use Rattle.std.proofs.Common.{◌++◌, ◌⊎◌, length, map, take, get_or, Option, Some, None, is_some, refl, sym, ap, subst}
+use Rattle.std.proofs.Common.{◌≡◌, ℕ, List, [], ◌∷◌, false, cond, ◌+◌, ◌<◌}
+use Rattle.std.proofs.Common.{◌++◌, ◌⊎◌, length, map, take, get_or, Option, Some, None, is_some, refl, sym, ap}
 use Rattle.std.proofs.Common.{◌∙◌, arith}
-use Rattle.std.specs.declared.vec.Vec.{Vec}
-use Rattle.std.specs.declared.alloc.Global.{Global}
-use Rattle.std.specs.BTreeMap.{BTreeMap, UpdatesBy}
-use Rattle.std.specs.BTreeSet.{BTreeSet, IsFromIterResult, btree_set_len}
-use Rattle.std.specs.Cmp.{IsTotalOrder, on_total}
-use Rattle.std.specs.Cmp.Lexicographic.{slice_cmp}
-use Rattle.std.specs.List.{IsDistinct}
-use Rattle.std.specs.Map.{KeepsOthers, update}
-use Rattle.std.specs.Ordering.{is_eq, nat_cmp, eq_by_cmp}
+use Rattle.std.specs.Map.{update}
 use Rattle.std.specs.Str.{bytes_eq}
-use Rattle.std.proofs.lemmas.Bool.{cases_Bool, cond-true, cond-false, eqb-true, eq-eqb}
-use Rattle.std.proofs.lemmas.Cmp.{eq_by_cmp_equiv, nat_list_cmp_total}
-use Rattle.std.proofs.lemmas.Map.Made.{IsDistinct-from_count, distinct_count-from_IsDistinct}
-use Rattle.std.proofs.lemmas.Map.Text.{is_eq-slice_cmp}
-use Rattle.std.proofs.lemmas.Map.Views.{btree_set_len-from_list}
-use Rattle.std.proofs.lemmas.Slice.Eq.{bytes_eq-Decides}
 use Rattle.std.proofs.lemmas.List.{take_more, map-append}
 use denote.Bor.{Bor}
 use mathlib.Core.Logic.{⊎_elim}
