@@ -11,11 +11,13 @@ use Rattle.hg_marker.specs.Fields.{Fields}
 use Rattle.hg_succ.specs.declared.families.Table.{Table}
 use Rattle.hg_succ.specs.Successors.{ways}
 use Rattle.hg_succ.specs.Numbered.{successors_at}
-use Rattle.hg_succ.specs.Cover.{Known, entry, families, family_in, NoneOverfull}
-use Rattle.hg_succ.specs.Cover.Known.{are_sets, overfull}
+use Rattle.hg_succ.specs.Cover.{Known, entry, count_in, NoneOverfull}
+use Rattle.hg_succ.specs.Cover.Known.{are_sets, counted, overfull}
 use Rattle.hg_succ.specs.Unions.{counts}
-use Rattle.hg_succ.specs.Factors.{factor_in, FewWays, HasManyWays, ways_at, many_at}
+use Rattle.hg_succ.specs.Factors.{factor_in, FewWays, HasManyWays, ways_at, many_at, have_none, empties_at}
+use Rattle.std.proofs.lemmas.Bool.{cases_Bool}
 use Rattle.hg_succ.proofs.NumberLemmas.{more_of}
+use Rattle.hg_succ.proofs.SetLemmas.{filter_take, filter_drop}
 
 factor_pos : (c : ℕ) → 0 < max c 1
 factor_pos c = omega arith
@@ -37,33 +39,36 @@ pub ways_push : (cs : List ℕ) (c : ℕ) → ways (cs ++ c ∷ []) ≡ ways cs 
 ways_push cs c = ways-append cs (c ∷ []) ∙ ap (λ n. ways cs * n) (mul-one (max c 1))
 
 -- what a factor says of what is known
-pub factor_some : (o : Option Known) (f : ℕ) → factor_in o ≡ Some f → (f ≡ max (length (family_in o)) 1)
+pub factor_some : (o : Option Known) (f : ℕ) → factor_in o ≡ Some f → (f ≡ max (count_in o) 1)
     × ((o ≡ Some overfull) → ⊥)
 factor_some None f e = (sym (same_Some 1 f e), λ h. none-some overfull h)
 factor_some (Some overfull) f e = absurd (none-some f e)
 factor_some (Some (are_sets family)) f e =
     (sym (same_Some (max (length family) 1) f e), λ h. (let g = same_Some (are_sets family) overfull h in cc))
+factor_some (Some (counted count)) f e =
+    (sym (same_Some (max count 1) f e), λ h. (let g = same_Some (counted count) overfull h in cc))
 
 pub factor_none : (o : Option Known) → factor_in o ≡ None → o ≡ Some overfull
 factor_none None e = absurd (none-some 1 (sym e))
 factor_none (Some overfull) e = refl
 factor_none (Some (are_sets family)) e = absurd (none-some (max (length family) 1) (sym e))
+factor_none (Some (counted count)) e = absurd (none-some (max count 1) (sym e))
 
 module _ (t : Table) (nodes : List Node) (i : ℕ) (x : Node) (inside : i < length nodes)
     (read : x ≡ get_or nodes i x) where
   split_nodes : take (i + 1) nodes ≡ take i nodes ++ x ∷ []
   split_nodes = take_more nodes i x inside ∙ ap (λ (z : Node). take i nodes ++ z ∷ []) (sym read)
 
-  counts_more : counts t (take (i + 1) nodes) ≡ counts t (take i nodes) ++ length (families t x) ∷ []
-  counts_more = ap (counts t) split_nodes ∙ map-append (λ n. length (families t n)) (take i nodes) (x ∷ [])
+  counts_more : counts t (take (i + 1) nodes) ≡ counts t (take i nodes) ++ count_in (entry t x) ∷ []
+  counts_more = ap (counts t) split_nodes ∙ map-append (λ n. count_in (entry t n)) (take i nodes) (x ∷ [])
 
-  ways_more : ways (counts t (take (i + 1) nodes)) ≡ ways (counts t (take i nodes)) * max (length (families t x)) 1
-  ways_more = ap ways counts_more ∙ ways_push (counts t (take i nodes)) (length (families t x))
+  ways_more : ways (counts t (take (i + 1) nodes)) ≡ ways (counts t (take i nodes)) * max (count_in (entry t x)) 1
+  ways_more = ap ways counts_more ∙ ways_push (counts t (take i nodes)) (count_in (entry t x))
 
   ways_all : ways (counts t (take (i + 1) nodes)) ≤ ways (counts t nodes)
   ways_all =
       let e : counts t nodes ≡ counts t (take (i + 1) nodes) ++ counts t (drop (i + 1) nodes) =
-      ap (counts t) (sym (take-append-drop (i + 1) nodes)) ∙ map-append (λ n. length (families t n))
+      ap (counts t) (sym (take-append-drop (i + 1) nodes)) ∙ map-append (λ n. count_in (entry t n))
       (take (i + 1) nodes) (drop (i + 1) nodes) in
       let l = ways_front (counts t (take (i + 1) nodes)) (counts t (drop (i + 1) nodes)) in
       omega (arith, l, ap ways e)
@@ -146,3 +151,19 @@ module _ (t : Table) (markers : List Fields) (places : List ℕ) (i place : ℕ)
       ]),
       sym sum_is,
     )
+
+-- each marker gives a union, so there are no fewer than markers that give the empty one
+pub empties_few : (t : Table) (markers : List Fields) (places : List ℕ)
+    → empties_at t markers places ≤ sum (ways_at t markers places)
+empties_few t markers [] = omega arith
+empties_few t markers (p ∷ ps) =
+    let rest = empties_few t markers ps in
+    let one = ways_pos (counts t (successors_at markers p)) in
+    let first : sum (ways_at t markers (p ∷ ps)) ≡ ways (counts t (successors_at markers p)) + sum (ways_at t markers ps)
+    = sum_by-append (λ n. n) (ways (counts t (successors_at markers p)) ∷ []) (ways_at t markers ps)
+    ∙ ap (λ k. k + sum (ways_at t markers ps)) (zero-add (ways (counts t (successors_at markers p)))) in
+    let test = λ (q : ℕ). have_none t (successors_at markers q) in
+    elim (cases_Bool (test p)) [
+      | inl empty ↦ (let e = ap length (filter_take test p ps empty) in omega (arith, rest, one, first, e))
+      | inr some ↦ (let e = ap length (filter_drop test p ps some) in omega (arith, rest, one, first, e))
+    ]

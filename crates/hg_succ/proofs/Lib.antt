@@ -8,6 +8,9 @@ pub mod SettleLemmas
 pub mod NumberLemmas
 pub mod FamilyLemmas
 pub mod SetLemmas
+pub mod ApartLemmas
+pub mod CountLemmas
+pub mod SurveyLemmas
 pub mod FactorLemmas
 pub mod SolveLemmas
 pub mod PathLemmas

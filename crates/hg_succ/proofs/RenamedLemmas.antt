@@ -3,19 +3,15 @@
 use Rattle.std.proofs.Common.{◌≡◌, ◌≢◌, ◌⊎◌, ◌↔◌, ◌∷◌, ◌++◌, [], ℕ, List, length, Contains, inl, inr, refl, sym}
 use Rattle.std.proofs.Common.{ap, subst, ◌∙◌, arith}
 use Rattle.std.specs.List.Sorted.{IsStrictlySortedBy}
-use Rattle.std.specs.Ordering.{is_eq, nat_cmp}
-use Rattle.std.specs.Cmp.{unsigned_ties}
-use Rattle.std.specs.Cmp.Lexicographic.{slice_cmp, lists_ties, lists_total, pointwise_decides}
+use Rattle.std.specs.Cmp.Lexicographic.{slice_cmp, lists_total}
 use Rattle.std.proofs.lemmas.List.Elements.{Contains-append_left, Contains-append_right, Contains-append_cases}
 use Rattle.std.proofs.lemmas.Map.Keys.{sorted_tail}
-use Rattle.std.proofs.lemmas.Map.Lookups.{CmpEqualImpliesEq}
 use Rattle.hg_changeset.specs.declared.node.Node.{Node}
 use Rattle.hg_changeset.specs.Node.{node_cmp}
-use Rattle.hg_changeset.proofs.NodeLemmas.{node_cmp_total, node_cmp_exact, node_cases, same_node, node_itself}
+use Rattle.hg_changeset.proofs.NodeLemmas.{node_cmp_total, node_cases}
 use Rattle.hg_changeset.proofs.ListLemmas.{Contains-first, Contains-later, Contains-none, Contains-one}
 use Rattle.hg_changeset.proofs.ListLemmas.{Contains-cons_cases}
 use Rattle.hg_marker.specs.Fields.{Fields}
-use Rattle.hg_obsstore.proofs.IndexLemmas.{among_or_not}
 use Rattle.hg_history.specs.Content.{IsHeld}
 use Rattle.hg_replica.specs.Content.{Content}
 use Rattle.hg_replica.specs.Evolution.{IsMarker, IsPredecessor, Precedes}
@@ -29,45 +25,8 @@ use Rattle.hg_succ.specs.Successors.IsOverfull.{passed_on, too_many}
 use Rattle.hg_succ.proofs.AlikeLemmas.{each_zip}
 use Rattle.hg_succ.proofs.FamilyLemmas.{cycle_rewritten, precedes_rewritten, pick_of_one, pick_free_held}
 use Rattle.hg_succ.proofs.SingleLemmas.{AllSingle, single_not_several}
+use Rattle.hg_succ.proofs.SetLemmas.{sets_exact, ascending_of}
 use Rattle.hg_succ.proofs.SortedLemmas.{one_more, same_members, below_rest, not_below_itself}
-
--- lists of nodes that the order can't tell apart are one
-sets_exact : CmpEqualImpliesEq (slice_cmp node_cmp)
-sets_exact xs ys e = (pointwise_decides (λ x y. ((λ h. same_node x y h), (λ h. node_itself x y h))) xs ys).0
-    (lists_ties node_cmp (λ x y. lists_ties nat_cmp unsigned_ties x.0 y.0) xs ys ∙ ap is_eq e)
-
--- what a list has, ascending
-ascending_of : (p : List Node) → (set : List Node) × IsStrictlySortedBy node_cmp set × AreWithin set p × AreWithin p set
-unfolding IsStrictlySortedBy
-ascending_of [] = ([], tt, (λ x h. h), (λ x h. h))
-ascending_of (n ∷ p) = by (ascending_of p)
-  where
-    by : (set : List Node) × IsStrictlySortedBy node_cmp set × AreWithin set p × AreWithin p set
-        → (set : List Node) × IsStrictlySortedBy node_cmp set × AreWithin set (n ∷ p) × AreWithin (n ∷ p) set
-    by rest = elim (among_or_not rest.0 n) [
-      | inl in' ↦ (
-        rest.0,
-        rest.1,
-        (λ x h. Contains-later n p x (rest.2 x h)),
-        λ x h. elim (Contains-cons_cases n p x h) [
-          | inl s ↦ subst (Contains rest.0) s in'
-          | inr k ↦ rest.3 x k
-        ],
-      )
-      | inr out ↦ (
-          let more = one_more node_cmp_total node_cmp_exact n rest.0 rest.1 out in (
-            more.0,
-            more.1.ascending,
-            (λ x h. elim ((more.1.members x).0 h) [
-              | inl s ↦ subst (Contains (n ∷ p)) s (Contains-first n p)
-              | inr k ↦ Contains-later n p x (rest.2 x k)
-            ]),
-            (λ x h. elim (Contains-cons_cases n p x h) [
-              | inl s ↦ (more.1.members x).1 (inl s)
-              | inr k ↦ (more.1.members x).1 (inr (rest.3 x k))
-            ]),
-          ))
-    ]
 
 -- ---- matched lists
 

@@ -6,13 +6,14 @@ use Rattle.std.proofs.Common.{is_ok}
 use Rattle.std.specs.List.{dedup, flat_map, list_any, list_all, AllByRecursion}
 use Rattle.std.specs.List.Sorted.{IsStrictlySortedBy, IsSorted, IsNonDecreasingBy, IsSearchInRange}
 use Rattle.std.specs.List.Sorted.{IsBinarySearchResult}
-use Rattle.std.specs.Ordering.{ordering_index}
+use Rattle.std.specs.Ordering.{ordering_index, is_eq}
 use Rattle.std.specs.declared.cmp.Ordering.TheVariants.{Less, Equal, Greater}
 use Rattle.std.specs.Cmp.{unsigned_Decides, unsigned_ties, IsEquivalence, IsTotalOrder}
 use Rattle.std.specs.declared.cmp.Ordering.{Ordering}
 use Rattle.std.specs.Cmp.Lexicographic.{slice_cmp, lists_ties, lists_total, lists_equiv, pointwise, pointwise_decides}
 use Rattle.std.proofs.lemmas.List.Folds.{Any-from_list_any, list_any_at, list_all_at}
 use Rattle.std.proofs.lemmas.Map.Keys.{sorted_tail}
+use Rattle.std.proofs.lemmas.Map.Lookups.{CmpEqualImpliesEq}
 use Rattle.std.proofs.lemmas.Bool.{cases_Bool, cases_lt, and_parts, and_from, lt-ltb, ltb-true}
 use Rattle.std.proofs.lemmas.List.Elements.{Contains-push, Contains-push_cases, Contains-append_left}
 use Rattle.std.proofs.lemmas.List.Elements.{Contains-append_right, Contains-append_cases, Contains-get_or}
@@ -29,7 +30,8 @@ use Rattle.hg_succ.specs.Successors.{AreWithin}
 use Rattle.hg_succ.specs.Answer.{sets_of}
 use Rattle.hg_succ.specs.Unions.{IsSetOf, AreSetsOf, AreLargest, is_within, is_within_larger, is_largest, products}
 use Rattle.hg_succ.specs.Unions.{with_sets, choices_on, IsChoice}
-use Rattle.hg_succ.proofs.SortedLemmas.{below_rest, less_by_place}
+use Rattle.hg_obsstore.proofs.IndexLemmas.{among_or_not}
+use Rattle.hg_succ.proofs.SortedLemmas.{below_rest, less_by_place, one_more}
 use Rattle.hg_succ.proofs.NumberLemmas.{more_of}
 use Rattle.hg_changeset.proofs.ListLemmas.{Contains-cons_cases, Contains-later, Contains-first, Contains-none}
 use Rattle.hg_changeset.proofs.ListLemmas.{Contains-map, Contains-map_from}
@@ -54,10 +56,10 @@ not_true true h = absurd (true≢false (sym h))
 not_true false h = refl
 
 module _ {X : Type 0} (p : X → Bool) where
-  filter_take : (x : X) (xs : List X) → p x ≡ true → filter p (x ∷ xs) ≡ x ∷ filter p xs
+  pub filter_take : (x : X) (xs : List X) → p x ≡ true → filter p (x ∷ xs) ≡ x ∷ filter p xs
   filter_take x xs e = ap (λ b. cond b (x ∷ filter p xs) (filter p xs)) e
 
-  filter_drop : (x : X) (xs : List X) → p x ≡ false → filter p (x ∷ xs) ≡ filter p xs
+  pub filter_drop : (x : X) (xs : List X) → p x ≡ false → filter p (x ∷ xs) ≡ filter p xs
   filter_drop x xs e = ap (λ b. cond b (x ∷ filter p xs) (filter p xs)) e
 
   pub contains_filter : (xs : List X) (x : X) → Contains xs x → p x ≡ true → Contains (filter p xs) x
@@ -489,3 +491,43 @@ sets_push xs x = map-append (λ (v : Vec Node Global). v.items) xs (x ∷ [])
 pub empty_list : {X : Type 0} (xs : List X) → length xs ≡ 0 → xs ≡ []
 empty_list [] h = refl
 empty_list (x ∷ xs) h = absurd (omega (arith, h))
+
+-- ---- one set more
+
+-- lists of nodes that the order can't tell apart are one
+pub sets_exact : CmpEqualImpliesEq (slice_cmp node_cmp)
+sets_exact xs ys e = (pointwise_decides (λ x y. ((λ h. same_node x y h), (λ h. node_itself x y h))) xs ys).0
+    (lists_ties node_cmp (λ x y. lists_ties nat_cmp unsigned_ties x.0 y.0) xs ys ∙ ap is_eq e)
+
+-- what a list has, ascending
+pub ascending_of : (p : List Node) → (set : List Node) × IsStrictlySortedBy node_cmp set × AreWithin set p × AreWithin p set
+unfolding IsStrictlySortedBy
+ascending_of [] = ([], tt, (λ x h. h), (λ x h. h))
+ascending_of (n ∷ p) = by (ascending_of p)
+  where
+    by : (set : List Node) × IsStrictlySortedBy node_cmp set × AreWithin set p × AreWithin p set
+        → (set : List Node) × IsStrictlySortedBy node_cmp set × AreWithin set (n ∷ p) × AreWithin (n ∷ p) set
+    by rest = elim (among_or_not rest.0 n) [
+      | inl in' ↦ (
+        rest.0,
+        rest.1,
+        (λ x h. Contains-later n p x (rest.2 x h)),
+        λ x h. elim (Contains-cons_cases n p x h) [
+          | inl s ↦ subst (Contains rest.0) s in'
+          | inr k ↦ rest.3 x k
+        ],
+      )
+      | inr out ↦ (
+          let more = one_more node_cmp_total node_cmp_exact n rest.0 rest.1 out in (
+            more.0,
+            more.1.ascending,
+            (λ x h. elim ((more.1.members x).0 h) [
+              | inl s ↦ subst (Contains (n ∷ p)) s (Contains-first n p)
+              | inr k ↦ Contains-later n p x (rest.2 x k)
+            ]),
+            (λ x h. elim (Contains-cons_cases n p x h) [
+              | inl s ↦ (more.1.members x).1 (inl s)
+              | inr k ↦ (more.1.members x).1 (inr (rest.3 x k))
+            ]),
+          ))
+    ]

@@ -1,11 +1,11 @@
 -- The sets of a node from those of its successors.
-use Rattle.std.proofs.Common.{max, zero-add, ◌*◌, ◌≡◌, ℕ, ◌<◌, ◌≤◌, List, [], ◌∷◌, ◌++◌, length, map, sum, Contains}
-use Rattle.std.proofs.Common.{◌⊎◌, ◌↔◌, inl, inr, refl, sym, ap, subst, ◌∙◌, arith, Option, Some, None}
+use Rattle.std.proofs.Common.{max, zero-add, ◌*◌, ◌-◌, ◌≡◌, ℕ, ◌<◌, ◌≤◌, List, [], ◌∷◌, ◌++◌, length, map, sum, Contains}
+use Rattle.std.proofs.Common.{Vec, Global, ◌⊎◌, ◌↔◌, inl, inr, refl, sym, ap, subst, ◌∙◌, arith, Option, Some, None}
 use Rattle.std.specs.List.{AllZip, flat_map}
 use Rattle.std.specs.List.Sorted.{IsStrictlySortedBy}
 use Rattle.std.specs.Cmp.Lexicographic.{lists_total}
 use Rattle.std.proofs.Math.Nat.{mul-one}
-use Rattle.std.proofs.lemmas.List.{append-nil}
+use Rattle.std.proofs.lemmas.List.{append-nil, length-map}
 use Rattle.std.proofs.lemmas.List.Kept.{AllPairs-from_increasing}
 use Rattle.std.proofs.lemmas.Option.{none-some, same_Some}
 use Rattle.hg_changeset.specs.declared.node.Node.{Node}
@@ -23,6 +23,7 @@ use Rattle.hg_replica.specs.Evolution.{IsMarker, IsPredecessor}
 use Rattle.hg_replica.proofs.MarkerLemmas.{holds-from, in_from_holds}
 use Rattle.std.specs.Option.{option_map}
 use Rattle.hg_succ.specs.declared.families.Solved.{Solved}
+use Rattle.hg_succ.specs.declared.families.Solved.TheVariants.{Family, Counted, Overfull}
 use Rattle.hg_succ.specs.declared.families.Table.{Table}
 use Rattle.hg_succ.specs.Rows.{At}
 use Rattle.hg_succ.specs.Successors.{IsRewrittenTo, IsOnCycle, IsPick, IsPickOfEach, IsOverfull, IsFamily, AreWithin}
@@ -30,16 +31,21 @@ use Rattle.hg_succ.specs.Successors.{HasCount, HasCounts, AreMarkersOf, HasSever
 use Rattle.hg_succ.specs.Successors.IsPick.{on_cycle, itself, unknown, rewritten}
 use Rattle.hg_succ.specs.Successors.IsPickOfEach.{no_places, next_place}
 use Rattle.hg_succ.specs.Successors.IsOverfull.{passed_on, too_many}
+use Rattle.hg_succ.specs.Answer.{sets_of}
 use Rattle.hg_succ.specs.Numbered.{successors_at, IsRow}
 use Rattle.hg_succ.specs.Cover.{Known, IsCover, IsSolved, IsTable, IsSeveral, HasEntry, known_by, answer, answer_at}
-use Rattle.hg_succ.specs.Cover.{entry, families, family_in, NoneOverfull, SomeOverfull}
-use Rattle.hg_succ.specs.Cover.Known.{are_sets, overfull}
-use Rattle.hg_succ.specs.Unions.{choices, counts, AreLargest, IsChoice}
-use Rattle.hg_succ.specs.Factors.{many_at, few_at, ways_at, IsFew, IsOnlySuccessor}
+use Rattle.hg_succ.specs.Cover.{entry, families, family_in, count_in, count_of, IsKept, sets_at, NoneOverfull, SomeOverfull}
+use Rattle.hg_succ.specs.Cover.Known.{are_sets, counted, overfull}
+use Rattle.hg_succ.specs.Unions.{choices, choices_on, counts, AreLargest, IsChoice}
+use Rattle.hg_succ.specs.Factors.{many_at, few_at, ways_at, IsFew, IsOnlySuccessor, AllWays}
+use Rattle.hg_succ.specs.Factors.{empties_at}
+use Rattle.hg_succ.specs.Plan.{IsApart, AreStrangers}
 use Rattle.hg_succ.proofs.NumberLemmas.{successors_there, rewritten_places}
 use Rattle.hg_succ.proofs.SortedLemmas.{same_members}
 use Rattle.hg_succ.proofs.MarkerLists.{there, place_of_one, one_at_place, different_there, sum_among}
 use Rattle.hg_succ.proofs.LookupLemmas.{look_at}
+use Rattle.hg_succ.proofs.ApartLemmas.{pairs_from_all}
+use Rattle.hg_succ.proofs.CountLemmas.{largest_unions, unions_and_empties}
 use Rattle.hg_succ.proofs.TableLemmas.{entry_solved, entry_known, known_several}
 use Rattle.hg_succ.proofs.SetLemmas.{flat_contains, contains_flat, choices_have}
 use Rattle.hg_succ.proofs.FamilyLemmas.{family_from_cover, pick_on_cycle, not_overfull, pick_free_held}
@@ -77,6 +83,7 @@ is_over : (o : Option Known) → (o ≡ Some overfull) ⊎ (¬ (o ≡ Some overf
 is_over None = inr (λ e. none-some overfull e)
 is_over (Some overfull) = inl refl
 is_over (Some (are_sets f)) = inr (λ e. (let g = same_Some (are_sets f) overfull e in cc))
+is_over (Some (counted k)) = inr (λ e. (let g = same_Some (counted k) overfull e in cc))
 
 over_or_not : (t : Table) (ns : List Node) → SomeOverfull t ns ⊎ NoneOverfull t ns
 over_or_not t [] = inr (λ x h e. Contains-none x h)
@@ -104,12 +111,63 @@ over_at_or_not t markers (q ∷ ps) = elim (over_or_not t (successors_at markers
   ]
 ]
 
--- what is known of a node that isn't overfull
-solved_family : (s : Content) (n : Node) (o : Option Known) → ((e : Known) → o ≡ Some e → IsSolved s n e)
-    → (e : Known) × (o ≡ Some e) → (¬ (o ≡ Some overfull)) → IsCover s n (family_in o) × (¬ IsOverfull s n)
-solved_family s n None so e none = absurd (none-some e.0 e.1)
-solved_family s n (Some overfull) so e none = absurd (none refl)
-solved_family s n (Some (are_sets f)) so e none = so (are_sets f) refl
+-- the sets of a node of which this is known, also where only their number is
+abbrev pub sets_known : (f : Content) (n : Node) (o : Option Known) → ((k : Known) → o ≡ Some k → IsSolved f n k)
+    → List (List Node)
+sets_known f n None so = []
+sets_known f n (Some (are_sets family)) so = family
+sets_known f n (Some (counted count)) so = (so (counted count) refl).0.0
+sets_known f n (Some overfull) so = []
+
+length_known : (f : Content) (n : Node) (o : Option Known) (so : (k : Known) → o ≡ Some k → IsSolved f n k)
+    → length (sets_known f n o so) ≡ count_in o
+length_known f n None so = refl
+length_known f n (Some (are_sets family)) so = refl
+length_known f n (Some (counted count)) so = (so (counted count) refl).0.2
+length_known f n (Some overfull) so = refl
+
+cover_known : (f : Content) (n : Node) (o : Option Known) (so : (k : Known) → o ≡ Some k → IsSolved f n k)
+    → (k : Known) × (o ≡ Some k) → (¬ (o ≡ Some overfull)) → IsCover f n (sets_known f n o so) × (¬ IsOverfull f n)
+cover_known f n None so e fine = absurd (none-some e.0 e.1)
+cover_known f n (Some (are_sets family)) so e fine = so (are_sets family) refl
+cover_known f n (Some (counted count)) so e fine = (let w = so (counted count) refl in (w.0.1, w.1))
+cover_known f n (Some overfull) so e fine = absurd (fine refl)
+
+kept_known : (f : Content) (n : Node) (o : Option Known) (so : (k : Known) → o ≡ Some k → IsSolved f n k)
+    → ((count : ℕ) → ¬ (o ≡ Some (counted count))) → family_in o ≡ sets_known f n o so
+kept_known f n None so kept = refl
+kept_known f n (Some (are_sets family)) so kept = refl
+kept_known f n (Some (counted count)) so kept = absurd (kept count refl)
+kept_known f n (Some overfull) so kept = refl
+
+-- what is kept is known by its sets
+kept_entry : (families : List (Vec (Vec Node Global) Global)) (o : Option Solved)
+    → ((count : ℕ) → ¬ (o ≡ Some (Counted count))) → (count : ℕ)
+    → ¬ (option_map (known_by families) o ≡ Some (counted count))
+kept_entry families None kept count e = none-some (counted count) e
+kept_entry families (Some (Family place)) kept count e =
+    (let g = same_Some (are_sets (sets_at families place)) (counted count) e in cc)
+kept_entry families (Some (Counted other)) kept count e = kept other refl
+kept_entry families (Some Overfull) kept count e = (let g = same_Some overfull (counted count) e in cc)
+
+-- the sets of a node, by a table
+abbrev pub sets_of_node : (f : Content) (t : Table) → IsTable f t → Node → List (List Node)
+sets_of_node f t so x = sets_known f x (entry t x) (entry_solved f t so x)
+
+-- the unions of the markers at places, where each node has such sets
+abbrev pub unions_of : (Node → List (List Node)) → List Fields → List ℕ → List (List Node)
+unions_of sets markers places = flat_map (λ p. choices_on (map sets (successors_at markers p)) ([] ∷ [])) places
+
+flat_same : {X Y : Type 0} (f g : X → List Y) (xs : List X) → ((x : X) → Contains xs x → f x ≡ g x)
+    → flat_map f xs ≡ flat_map g xs
+flat_same f g [] same = refl
+flat_same f g (x ∷ xs) same = λ i. same x (Contains-first x xs) i
+    ++ flat_same f g xs (λ y h. same y (Contains-later x xs y h)) i
+
+map_same : {X Y : Type 0} (f g : X → Y) (xs : List X) → ((x : X) → Contains xs x → f x ≡ g x) → map f xs ≡ map g xs
+map_same f g [] same = refl
+map_same f g (x ∷ xs) same = λ i. same x (Contains-first x xs) i
+    ∷ map_same f g xs (λ y h. same y (Contains-later x xs y h)) i
 
 -- the ways of a marker, by a table
 abbrev ways_of : Table → Fields → ℕ
@@ -162,22 +220,27 @@ module _ (s : ReplicaState) (t : Table) (so : IsTable (content_of s) t) (n : Nod
 
   module _ (none : (p : ℕ) → Contains places p → NoneOverfull t (successors_at s.markers p)) where
     known : (p : ℕ) (x : Node) → Contains places p → Contains (successors_at s.markers p) x
-        → IsCover (content_of s) x (families t x) × ¬ (IsOverfull (content_of s) x)
-    known p x h g = solved_family (content_of s) x (entry t x) (entry_solved (content_of s) t so x)
+        → IsCover (content_of s) x (sets_of_node (content_of s) t so x) × ¬ (IsOverfull (content_of s) x)
+    known p x h g = cover_known (content_of s) x (entry t x) (entry_solved (content_of s) t so x)
         (entry_known t x (below x (step_at p x h g))) (none p h x g)
 
     known_successor : (m : Fields) → IsMarker (content_of s) m → m.predecessor ≡ n → (x : Node)
-        → Contains m.successors x → IsCover (content_of s) x (families t x)
+        → Contains m.successors x → IsCover (content_of s) x (sets_of_node (content_of s) t so x)
     known_successor m held at x g =
         let place = place_from_Contains s.markers m (in_from_holds s.markers m held) in
         (known place.0 x ((are.exact place.0).1 (m, place.1, at))
         (subst (λ (ns : List Node). Contains ns x) (sym (successors_there s.markers place.0 m place.1)) g)).0
 
-    count_each : (ns : List Node) → ((x : Node) → Contains ns x → IsCover (content_of s) x (families t x))
+    count_each : (ns : List Node)
+        → ((x : Node) → Contains ns x → IsCover (content_of s) x (sets_of_node (content_of s) t so x))
         → AllZip (HasCount (content_of s)) ns (counts t ns)
     count_each [] h = tt
     count_each (x ∷ ns) h = (
-      (families t x, family_from_cover (content_of s) x (families t x) (h x (Contains-first x ns)), refl),
+      (
+        sets_of_node (content_of s) t so x,
+        family_from_cover (content_of s) x (sets_of_node (content_of s) t so x) (h x (Contains-first x ns)),
+        length_known (content_of s) x (entry t x) (entry_solved (content_of s) t so x),
+      ),
       count_each ns (λ y g. h y (Contains-later x ns y g)),
     )
 
@@ -208,36 +271,37 @@ module _ (s : ReplicaState) (t : Table) (so : IsTable (content_of s) t) (n : Nod
         ap sum (same_ways t s.markers places own.0 own.1) in
         omega (arith, l, many, e, among, all)
 
-    unions_are : AreUnions (content_of s) n (families t) (flat_map (λ p. choices t (successors_at s.markers p)) places)
+    unions_are : AreUnions (content_of s) n (sets_of_node (content_of s) t so)
+        (unions_of (sets_of_node (content_of s) t so) s.markers places)
     unions_are = record {
       sound = λ u h.
-          let f = flat_contains (λ p. choices t (successors_at s.markers p)) places u h in
+          let f = flat_contains (λ p. choices_on (map (sets_of_node (content_of s) t so) (successors_at s.markers p)) ([] ∷ [])) places u h in
           let w = (are.exact f.0).0 f.1 in
-          let c = (choices_have (map (families t) (successors_at s.markers f.0)) ([] ∷ []) u).0 f.2 in
+          let c = (choices_have (map (sets_of_node (content_of s) t so) (successors_at s.markers f.0)) ([] ∷ []) u).0 f.2 in
           let first : c.0 ≡ [] = sym (Contains-one [] c.0 c.2) in
           let u_is : u ≡ c.1 = c.4 ∙ ap (λ (a : List Node). a ++ c.1) first in (
             w.0,
             holds-from s.markers w.0 (Contains-from_place s.markers f.0 w.0 w.1),
             w.2,
-            subst (λ (ns : List Node). IsChoice (map (families t) ns) u) (successors_there s.markers f.0 w.0 w.1)
-                (subst (IsChoice (map (families t) (successors_at s.markers f.0))) (sym u_is) c.3),
+            subst (λ (ns : List Node). IsChoice (map (sets_of_node (content_of s) t so) ns) u) (successors_there s.markers f.0 w.0 w.1)
+                (subst (IsChoice (map (sets_of_node (content_of s) t so) (successors_at s.markers f.0))) (sym u_is) c.3),
           );
       complete = λ m u held at choice.
           let place = place_from_Contains s.markers m (in_from_holds s.markers m held) in
           let there' = (are.exact place.0).1 (m, place.1, at) in
-          let choice' : IsChoice (map (families t) (successors_at s.markers place.0)) u =
-          subst (λ (ns : List Node). IsChoice (map (families t) ns) u)
+          let choice' : IsChoice (map (sets_of_node (content_of s) t so) (successors_at s.markers place.0)) u =
+          subst (λ (ns : List Node). IsChoice (map (sets_of_node (content_of s) t so) ns) u)
           (sym (successors_there s.markers place.0 m place.1)) choice in
-          contains_flat (λ p. choices t (successors_at s.markers p)) places place.0 u there'
-          ((choices_have (map (families t) (successors_at s.markers place.0)) ([] ∷ []) u).1
+          contains_flat (λ p. choices_on (map (sets_of_node (content_of s) t so) (successors_at s.markers p)) ([] ∷ [])) places place.0 u there'
+          ((choices_have (map (sets_of_node (content_of s) t so) (successors_at s.markers place.0)) ([] ∷ []) u).1
           ([], u, Contains-first [] [], choice', refl));
     }
 
     solved_cover : IsPredecessor (content_of s) n → (family : List (List Node))
-        → AreLargest (flat_map (λ p. choices t (successors_at s.markers p)) places) family
+        → AreLargest (unions_of (sets_of_node (content_of s) t so) s.markers places) family
         → IsCover (content_of s) n family
-    solved_cover is family largest = cover_from_unions (content_of s) n (families t)
-        (flat_map (λ p. choices t (successors_at s.markers p)) places) family off is known_successor unions_are largest
+    solved_cover is family largest = cover_from_unions (content_of s) n (sets_of_node (content_of s) t so)
+        (unions_of (sets_of_node (content_of s) t so) s.markers places) family off is known_successor unions_are largest
 
   -- where too much is to be done the node is overfull
   pub solved_over : many_at t s.markers places → IsOverfull (content_of s) n
@@ -249,11 +313,42 @@ module _ (s : ReplicaState) (t : Table) (so : IsTable (content_of s) t) (n : Nod
     ]
   ]
 
+  -- the unions that are formed are those of the sets, where the successors' families are kept
+  same_unions : ((x : Node) → IsRewrittenTo (content_of s) n x → IsKept t x)
+      → flat_map (λ p. choices t (successors_at s.markers p)) places
+      ≡ unions_of (sets_of_node (content_of s) t so) s.markers places
+  same_unions kept = flat_same (λ p. choices t (successors_at s.markers p))
+      (λ p. choices_on (map (sets_of_node (content_of s) t so) (successors_at s.markers p)) ([] ∷ [])) places
+      (λ p h. ap (λ fs. choices_on fs ([] ∷ []))
+      (map_same (families t) (sets_of_node (content_of s) t so) (successors_at s.markers p) (λ x g.
+      kept_known (content_of s) x (entry t x) (entry_solved (content_of s) t so x)
+      (kept_entry t.families.items (answer t x) (kept x (step_at p x h g))))))
+
   -- and otherwise its sets are the largest of the unions
-  pub solved_few : few_at t s.markers places → IsPredecessor (content_of s) n → (family : List (List Node))
+  pub solved_few : few_at t s.markers places → ((x : Node) → IsRewrittenTo (content_of s) n x → IsKept t x)
+      → IsPredecessor (content_of s) n → (family : List (List Node))
       → AreLargest (flat_map (λ p. choices t (successors_at s.markers p)) places) family
       → IsCover (content_of s) n family × ¬ (IsOverfull (content_of s) n)
-  solved_few few is family largest = (solved_cover few.0 is family largest, not_over few.0 few.1)
+  solved_few few kept is family largest = (
+    solved_cover few.0 is family (subst (λ found. AreLargest found family) (same_unions kept) largest),
+    not_over few.0 few.1,
+  )
+
+  -- where the successors have nothing in common, it has a set for each union that isn't empty
+  pub solved_apart : (w : ℕ) → AllWays t s.markers places w → IsApart s n → IsPredecessor (content_of s) n
+      → IsSolved (content_of s) n (counted (w - empties_at t s.markers places))
+  solved_apart w all apart is =
+      let few = all.few in
+      let sets = sets_of_node (content_of s) t so in
+      let counted' = λ (x : Node). length_known (content_of s) x (entry t x) (entry_solved (content_of s) t so x) in
+      let covers = λ (p : ℕ) (x : Node) (h : Contains places p) (g : Contains (successors_at s.markers p) x).
+      (known few.0 p x h g).0 in
+      let pairs = pairs_from_all (AreStrangers (content_of s)) (flat_map (successors_at s.markers) places)
+      (apart places are) in
+      let r = largest_unions (content_of s) t s.markers sets counted' places covers pairs in
+      let l = unions_and_empties (content_of s) t s.markers sets counted' places in
+      let e : length r.0 ≡ w - empties_at t s.markers places = omega (arith, r.2, l, all.ways) in
+      ((r.0, solved_cover few.0 is r.0 r.1, e), not_over few.0 few.1)
 
   -- ---- one marker with one successor
 
@@ -270,6 +365,15 @@ module _ (s : ReplicaState) (t : Table) (so : IsTable (content_of s) t) (n : Nod
         let w = (are.exact only.0).0
         (subst (λ (ps : List ℕ). Contains ps only.0) (sym only.1) (Contains-first only.0 [])) in
         (w.0, holds-from s.markers w.0 (Contains-from_place s.markers only.0 w.0 w.1), w.2)
+
+    pub only_step : IsRewrittenTo (content_of s) n x
+    only_step = let m = only_marker in (
+      m.0,
+      m.1,
+      m.2,
+      subst (λ (ns : List Node). Contains ns x) (sym (one_successor m.0 m.1 m.2))
+          (Contains-first x []),
+    )
 
     pick_up : (p : List Node) → IsPick (content_of s) x p → IsPick (content_of s) n p
     pick_up p pick =
@@ -298,31 +402,32 @@ module _ (s : ReplicaState) (t : Table) (so : IsTable (content_of s) t) (n : Nod
       covers = λ p pick. c.covers p (pick_down p pick);
     }
 
-    few_only : (family : List (List Node)) → entry t x ≡ Some (are_sets family)
-        → length family ≤ 4096 → few_at t s.markers places
-    few_only family is le =
-        let counted : ways_at t s.markers places ≡ (max (length family) 1 * 1) ∷ [] =
+    few_only : (k : Known) → entry t x ≡ Some k → ¬ (k ≡ overfull) → count_of k ≤ 4096 → few_at t s.markers places
+    few_only k is fine le =
+        let told : ways_at t s.markers places ≡ (max (count_of k) 1 * 1) ∷ [] =
         ap (ways_at t s.markers) only.1
         ∙ ap (λ (ns : List Node). ways (counts t ns) ∷ []) only.2
-        ∙ ap (λ (o : Option Known). (max (length (family_in o)) 1 * 1) ∷ []) is in
-        let one : sum ((max (length family) 1 * 1) ∷ []) ≡ max (length family) 1 = zero-add (max (length family) 1 * 1)
-        ∙ mul-one (max (length family) 1) in (
+        ∙ ap (λ (o : Option Known). (max (count_in o) 1 * 1) ∷ []) is in
+        let one : sum ((max (count_of k) 1 * 1) ∷ []) ≡ max (count_of k) 1 = zero-add (max (count_of k) 1 * 1)
+        ∙ mul-one (max (count_of k) 1) in (
           λ p h y g over.
               let here : only.0 ≡ p = Contains-one only.0 p (subst (λ (ps : List ℕ). Contains ps p) only.1 h) in
               let same : x ≡ y =
               Contains-one x y
               (subst (λ (ns : List Node). Contains ns y) (ap (successors_at s.markers) (sym here) ∙ only.2) g) in
-              let bad : are_sets family ≡ overfull = same_Some (are_sets family) overfull
-              (sym is ∙ ap (entry t) same ∙ over) in
-              cc,
-          (let e = ap sum counted in omega (arith, e, one, le)),
+              fine (same_Some k overfull (sym is ∙ ap (entry t) same ∙ over)),
+          (let e = ap sum told in omega (arith, e, one, le)),
         )
 
     -- what is known of the successor is so of the node
     pub solved_shared : (k : Known) → entry t x ≡ Some k → IsFew k → IsSolved (content_of s) n k
     solved_shared (are_sets family) is le =
-        let few = few_only family is le in
+        let few = few_only (are_sets family) is (λ e. cc) le in
         (shared_cover family (entry_solved (content_of s) t so x (are_sets family) is).0, not_over few.0 few.1)
+    solved_shared (counted count) is le =
+        let few = few_only (counted count) is (λ e. cc) le in
+        let w = entry_solved (content_of s) t so x (counted count) is in
+        ((w.0.0, shared_cover w.0.0 w.0.1, w.0.2), not_over few.0 few.1)
     solved_shared overfull is le =
         let m = only_marker in
         passed_on off (
@@ -423,6 +528,9 @@ entry_several s t so n has =
 pub told_family : (s : Content) (n : Node) (family sets : List (List Node)) → IsSolved s n (are_sets family)
     → sets ≡ family → IsFamily s n sets × ¬ (IsOverfull s n)
 told_family s n family sets so is = (subst (IsFamily s n) (sym is) (family_from_cover s n family so.0), so.1)
+
+pub length_sets : (family : Vec (Vec Node Global) Global) → family.len ≡ length (sets_of family.items)
+length_sets family = family.ok.0 ∙ sym (length-map family.items (λ (set : Vec Node Global). set.items))
 
 -- whether a node has markers, by their places
 pub rewritten_somewhere : (s : ReplicaState) (n : Node) (places : List ℕ)

@@ -14,13 +14,13 @@ use Rattle.hg_changeset.proofs.ListLemmas.{slice_get_some, slice_get-append, sli
 use Rattle.hg_changeset.proofs.ListLemmas.{Contains-first, Contains-later, Contains-one}
 use Rattle.hg_replica.specs.Content.{Content}
 use Rattle.hg_succ.specs.declared.families.Solved.{Solved}
-use Rattle.hg_succ.specs.declared.families.Solved.TheVariants.{Family, Overfull}
+use Rattle.hg_succ.specs.declared.families.Solved.TheVariants.{Family, Counted, Overfull}
 use Rattle.hg_succ.specs.declared.families.Table.{Table}
 use Rattle.hg_succ.specs.Successors.{IsFamily, IsOverfull, HasSeveral}
 use Rattle.hg_succ.specs.Answer.{sets_of}
 use Rattle.hg_succ.specs.Cover.{Known, IsSolved, IsRight, IsPlaced, IsTable, IsSeveral, HasEntry, Keeps, PutsLast}
-use Rattle.hg_succ.specs.Cover.{Solves, AddsAnswer, known_by, sets_at, answer, entry}
-use Rattle.hg_succ.specs.Cover.Known.{are_sets, overfull}
+use Rattle.hg_succ.specs.Cover.{Solves, AddsAnswer, IsKept, known_by, sets_at, answer, entry}
+use Rattle.hg_succ.specs.Cover.Known.{are_sets, counted, overfull}
 use Rattle.hg_succ.specs.Rows.{At}
 use Rattle.hg_succ.specs.Numbered.{AreOnce}
 use Rattle.hg_succ.proofs.ListLemmas.{get_one}
@@ -55,10 +55,12 @@ sets_at-append families more place l =
 known-append : (families more : Families) (e : Solved) → IsPlaced families e
     → known_by (families ++ more) e ≡ known_by families e
 known-append families more (Family place) l = ap are_sets (sets_at-append families more place l)
+known-append families more (Counted count) l = refl
 known-append families more Overfull l = refl
 
 placed-append : (families more : Families) (e : Solved) → IsPlaced families e → IsPlaced (families ++ more) e
 placed-append families more (Family place) l = omega (arith, l, length-append families more)
+placed-append families more (Counted count) l = tt
 placed-append families more Overfull l = tt
 
 pub right-append : (f : Content) (n : Node) (families more : Families) (e : Solved) → IsRight f n families e
@@ -101,6 +103,12 @@ solves_last f n old new family e solved put = record {
   keeps = record { nodes = put.nodes; answers = put.answers; families = (family ∷ [], put.families) };
 }
 
+-- a family that is put last isn't only counted
+pub last_kept : (old new : Table) (family : Vec (Vec Node Global) Global) (e : Solved) → PutsLast family old new e
+    → (count : ℕ) → ¬ (e ≡ Counted count)
+last_kept old new family e put count is =
+    (let g : Family (length old.families.items) ≡ Counted count = sym put.place ∙ is in cc)
+
 -- what was answered stays answered, where nodes and answers do
 answer_same : (old new : Table) → new.nodes.keys ≡ old.nodes.keys → new.answers.items ≡ old.answers.items → (n : Node)
     → answer new n ≡ answer old n
@@ -142,6 +150,15 @@ module _ (f : Content) (old mid new : Table) (number : ℕ) (node : Node) (solve
   now_kept n h = elim (either n) [
     | inl same ↦ (solved, ap (answer new) (sym same) ∙ here)
     | inr other ↦ (h.0, other ∙ h.1)
+  ]
+
+  -- what isn't only counted stays so
+  pub adds_kept : (P : Node → Type 0) → (P node → (count : ℕ) → ¬ (solved ≡ Counted count))
+      → ((n : Node) → P n → IsKept old n) → (n : Node) → P n → IsKept new n
+  adds_kept P now' before n p count is = elim (either n) [
+    | inl same ↦ now' (subst P (sym same) p) count (same_Some solved (Counted count)
+        (sym here ∙ ap (answer new) same ∙ is))
+    | inr other ↦ before n p count (sym other ∙ is)
   ]
 
   pub adds_answer : AddsAnswer f number old new
@@ -194,4 +211,7 @@ family_several f n family is fine = (
 
 pub known_several : (f : Content) (n : Node) (k : Known) → IsSolved f n k → IsSeveral (Some k) ↔ HasSeveral f n
 known_several f n (are_sets family) so = family_several f n family (family_from_cover f n family so.0) so.1
+known_several f n (counted count) so =
+    let several = family_several f n so.0.0 (family_from_cover f n so.0.0 so.0.1) so.1 in
+    (λ l. several.0 (subst (λ k. 1 < k) (sym so.0.2) l), λ h. subst (λ k. 1 < k) so.0.2 (several.1 h))
 known_several f n overfull so = (λ h. inl so, λ h. tt)

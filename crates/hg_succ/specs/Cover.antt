@@ -11,7 +11,7 @@ use Rattle.hg_changeset.specs.declared.node.Node.{Node}
 use Rattle.hg_changeset.specs.Node.{node_cmp, node_eq}
 use Rattle.hg_replica.specs.Content.{Content}
 use Rattle.hg_succ.specs.declared.families.Solved.{Solved}
-use Rattle.hg_succ.specs.declared.families.Solved.TheVariants.{Family, Overfull}
+use Rattle.hg_succ.specs.declared.families.Solved.TheVariants.{Family, Counted, Overfull}
 use Rattle.hg_succ.specs.declared.families.Table.{Table}
 use Rattle.hg_succ.specs.Successors.{IsPick, AreWithin, IsOverfull}
 use Rattle.hg_succ.specs.Answer.{sets_of}
@@ -29,13 +29,16 @@ pub record IsCover (f : Content) (n : Node) (family : List (List Node)) : Type 0
   pub apart : (a b : List Node) → Contains family a → Contains family b → AreWithin a b → a ≡ b
   pub covers : (p : List Node) → IsPick f n p → (p ≡ []) ⊎ ((set : List Node) × Contains family set × AreWithin p set)
 
--- the sets of a node, or that it is overfull
+-- the sets of a node, or only how many there are, or that it is overfull
 pub data Known : Type 0 where
   are_sets : List (List Node) → Known
+  counted : ℕ → Known
   overfull : Known
 
 abbrev pub IsSolved : Content → Node → Known → Type 0
 IsSolved f n (are_sets family) = IsCover f n family × ¬ (IsOverfull f n)
+IsSolved f n (counted count) = ((family : List (List Node)) × IsCover f n family × (length family ≡ count))
+    × ¬ (IsOverfull f n)
 IsSolved f n overfull = IsOverfull f n
 
 -- the sets of the family at a place
@@ -45,11 +48,13 @@ sets_at families place = option_map_or (λ family. sets_of family.items) (slice_
 -- a node's answer tells where its family stands, if it isn't overfull
 abbrev pub known_by : List (Vec (Vec Node Global) Global) → Solved → Known
 known_by families (Family place) = are_sets (sets_at families place)
+known_by families (Counted count) = counted count
 known_by families Overfull = overfull
 
 -- a family stands there
 abbrev pub IsPlaced : List (Vec (Vec Node Global) Global) → Solved → Type 0
 IsPlaced families (Family place) = place < length families
+IsPlaced families (Counted count) = Unit {0}
 IsPlaced families Overfull = Unit {0}
 
 -- the answer is placed, and right
@@ -77,9 +82,24 @@ pub record IsTable (f : Content) (table : Table) : Type 0 where
   pub long : length table.answers.items ≡ length table.nodes.keys
   pub right : (n : Node) (solved : Solved) → answer table n ≡ Some solved → IsRight f n table.families.items solved
 
+-- the node's sets aren't only counted
+abbrev pub IsKept : Table → Node → Type 0
+IsKept table n = (count : ℕ) → ¬ (answer table n ≡ Some (Counted count))
+
+-- how many sets there are; none where the node is overfull
+abbrev pub count_of : Known → ℕ
+count_of (are_sets family) = length family
+count_of (counted count) = count
+count_of overfull = 0
+
+abbrev pub count_in : Option Known → ℕ
+count_in (Some known) = count_of known
+count_in None = 0
+
 -- the family that is known, if any
 abbrev pub family_in : Option Known → List (List Node)
 family_in (Some (are_sets family)) = family
+family_in (Some (counted count)) = []
 family_in (Some overfull) = []
 family_in None = []
 
@@ -97,6 +117,7 @@ SomeOverfull table ns = (x : Node) × Contains ns x × (entry table x ≡ Some o
 -- several sets, or overfull
 abbrev pub IsSeveral : Option Known → Type 0
 IsSeveral (Some (are_sets family)) = 1 < length family
+IsSeveral (Some (counted count)) = 1 < count
 IsSeveral (Some overfull) = Unit {0}
 IsSeveral None = ⊥
 

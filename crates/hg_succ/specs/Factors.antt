@@ -1,18 +1,22 @@
 -- How many unions are to be formed.
 use Rattle.std.specs.Prelude.{◌≡◌, ◌⊎◌, ◌<◌, ◌≤◌, ◌∷◌, [], ℕ, List, max, sum, map, length, Contains, Option, Some, None}
+use Rattle.std.specs.Prelude.{Bool, not, nat_lt, filter}
+use Rattle.std.specs.List.{list_any}
 use Rattle.hg_changeset.specs.declared.node.Node.{Node}
 use Rattle.hg_marker.specs.Fields.{Fields}
 use Rattle.hg_succ.specs.declared.families.Solved.{Solved}
 use Rattle.hg_succ.specs.declared.families.Table.{Table}
 use Rattle.hg_succ.specs.Successors.{ways}
 use Rattle.hg_succ.specs.Numbered.{successors_at}
-use Rattle.hg_succ.specs.Cover.{Known, NoneOverfull, SomeOverfull, answer_at, known_by}
-use Rattle.hg_succ.specs.Cover.Known.{are_sets, overfull}
+use Rattle.hg_succ.specs.Cover.{Known, NoneOverfull, SomeOverfull, answer_at, known_by, count_of}
+use Rattle.hg_succ.specs.Cover.{count_in, entry}
+use Rattle.hg_succ.specs.Cover.Known.{are_sets, counted, overfull}
 use Rattle.hg_succ.specs.Unions.{counts}
 
 -- the number of the sets, or 1 where there are none
 abbrev pub factor_in : Option Known → Option ℕ
 factor_in (Some (are_sets family)) = Some (max (length family) 1)
+factor_in (Some (counted count)) = Some (max count 1)
 factor_in (Some overfull) = None
 factor_in None = Some 1
 
@@ -38,10 +42,22 @@ abbrev pub few_at : Table → List Fields → List ℕ → Type 0
 few_at table markers places = ((place : ℕ) → Contains places place → NoneOverfull table (successors_at markers place))
     × (sum (ways_at table markers places) ≤ 4096)
 
+-- the markers at these places give so many unions, 4,096 at most, and none of their successors is overfull
+pub record AllWays (table : Table) (markers : List Fields) (places : List ℕ) (w : ℕ) : Type 0 where
+  pub few : few_at table markers places
+  pub ways : w ≡ sum (ways_at table markers places)
+
+-- whether none of the nodes has sets
+abbrev pub have_none : Table → List Node → Bool
+have_none table nodes = not (list_any (λ n. nat_lt 0 (count_in (entry table n))) nodes)
+
+-- how many of the markers at these places give the empty union
+abbrev pub empties_at : Table → List Fields → List ℕ → ℕ
+empties_at table markers places = length (filter (λ place. have_none table (successors_at markers place)) places)
+
 -- not more sets than ways are allowed
 abbrev pub IsFew : Known → Type 0
-IsFew (are_sets family) = length family ≤ 4096
-IsFew overfull = Unit {0}
+IsFew known = count_of known ≤ 4096
 
 -- one place is given, and the marker there has x as its one successor
 abbrev pub IsOnlySuccessor : List Fields → List ℕ → Node → Type 0

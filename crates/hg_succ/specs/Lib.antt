@@ -9,3 +9,4 @@ pub mod Numbered
 pub mod Cover
 pub mod Unions
 pub mod Factors
+pub mod Plan

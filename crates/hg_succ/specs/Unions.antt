@@ -7,7 +7,7 @@ use Rattle.std.specs.Cmp.Lexicographic.{slice_cmp}
 use Rattle.hg_changeset.specs.declared.node.Node.{Node}
 use Rattle.hg_changeset.specs.Node.{node_cmp, node_eq}
 use Rattle.hg_succ.specs.Successors.{AreWithin}
-use Rattle.hg_succ.specs.Cover.{families}
+use Rattle.hg_succ.specs.Cover.{families, count_in, entry}
 use Rattle.hg_succ.specs.declared.families.Table.{Table}
 
 -- what one set of each family gives, families without sets being skipped
@@ -36,7 +36,7 @@ choices table ns = choices_on (map (families table) ns) ([] ∷ [])
 
 -- how many sets each of the nodes has
 abbrev pub counts : Table → List Node → List ℕ
-counts table ns = map (λ n. length (families table n)) ns
+counts table ns = map (λ n. count_in (entry table n)) ns
 
 -- each is ascending
 abbrev pub AreAscending : List (List Node) → Type 0

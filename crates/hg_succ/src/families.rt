@@ -15,12 +15,15 @@ ghost use Rattle.hg_succ.specs.Answer.{AreSets, sets_of};
 ghost use Rattle.hg_succ.specs.Numbered.{successors_at, AreRows, IsRow};
 ghost use Rattle.hg_succ.specs.Cover.Known.{are_sets};
 ghost use Rattle.hg_succ.specs.Cover.{IsTable, IsSolved, IsSeveral, HasEntry, PutsLast, Solves, AddsAnswer, answer};
-ghost use Rattle.hg_succ.specs.Cover.{answer_at, entry, families, known_by, sets_at};
+ghost use Rattle.hg_succ.specs.Cover.{answer_at, entry, families, known_by, sets_at, count_in, count_of, IsKept};
+ghost use Rattle.hg_succ.specs.Plan.{Lists, IsPlan};
 ghost use Rattle.hg_succ.specs.Unions.{with_sets, choices};
-ghost use Rattle.hg_succ.specs.Factors.{factor_in, HasManyWays, FewWays, many_at, few_at, IsFew, IsOnlySuccessor};
+ghost use Rattle.hg_succ.specs.Factors.{factor_in, HasManyWays, FewWays, AllWays, many_at, IsFew, IsOnlySuccessor};
+ghost use Rattle.hg_succ.specs.Factors.{have_none, empties_at};
 ghost use Rattle.hg_succ.specs.Factors.{IsShared};
 
 use crate::numbered::{Numbered, number, successors_at};
+use crate::plan::{Asked, Plan};
 use crate::search::{Settled, order};
 use crate::sets::{Sets, UNION_LIMIT};
 use crate::unions::{copy_of, largest, products};
@@ -35,6 +38,8 @@ use std::alloc::{AllocError, Global};
 pub(crate) enum Solved {
     /// Its successors sets are the family at this place.
     Family(usize),
+    /// It has so many successors sets, of which no list is kept.
+    Counted(usize),
     Overfull,
 }
 
@@ -59,19 +64,22 @@ impl Drop for Table {
     }
 }
 
-/// The sets of the roots and of all that they lead to.
+/// The sets of the roots and of all that they lead to, or how many there are.
 pub(crate) fn table_of(
     alloc: Global,
     replica: &Replica,
     roots: NodeSet,
+    asked: Asked,
 ) -> Result<Table, AllocError>
     ensures table { IfOk result (IsTable (content_of replica.now)) }
     ensures done { IfOk result (λ table. (n : Node) → Contains roots.keys n → HasEntry table n) }
+    ensures sets { asked ≡ Asked.Sets → IfOk result (λ table. (n : Node) → IsKept table n) }
 {
     let Numbered { nodes, rows } = number(alloc, replica, roots)?;
     let order = order(alloc, &rows)?;
+    let plan = Plan::new(alloc, replica, asked, &nodes, &rows, &order)?;
     let mut table = Table::new(alloc, nodes)?;
-    table.add_all(replica, &rows, &order)?;
+    table.add_all(replica, &plan, &rows, &order)?;
     Ok(table)
 }
 
@@ -91,10 +99,11 @@ impl Table {
         })
     }
 
-    /// The sets of a node. It is done, unless no marker rewrote it.
+    /// The sets of a node. It is done, unless no marker rewrote it, and they aren't only counted.
     pub(crate) fn sets(&self, replica: &Replica, node: Node) -> Result<Sets, AllocError>
         requires table { IsTable (content_of replica.now) self.now }
         requires done { IsPredecessor (content_of replica.now) node → HasEntry self.now node }
+        requires kept { IsKept self.now node }
         ensures { IfOk result (AreSets (content_of replica.now) node) }
     {
         match self.answer(node) {
@@ -102,6 +111,8 @@ impl Table {
                 let family = copy_of(self.alloc, self.family_at(place))?;
                 Ok(Sets::Family(family))
             }
+            // never, since they are kept
+            Some(Solved::Counted(_)) => Ok(Sets::Overfull),
             Some(Solved::Overfull) => Ok(Sets::Overfull),
             None => {
                 let family = self.own_set(replica, node)?;
@@ -116,6 +127,7 @@ impl Table {
     {
         match self.answer(node) {
             Some(Solved::Family(place)) => self.family_at(place).len() > 1,
+            Some(Solved::Counted(count)) => count > 1,
             Some(Solved::Overfull) => true,
             None => false,
         }
@@ -125,6 +137,7 @@ impl Table {
     fn add_all(
         &mut self,
         replica: &Replica,
+        plan: &Plan,
         rows: &[Vec<usize>],
         order: &[Settled],
     ) -> Result<(), AllocError>
@@ -132,13 +145,16 @@ impl Table {
         requires all { length rows.now ≡ length self.old.nodes.keys }
         requires rows { AreRows (content_of replica.now) self.old.nodes.keys (rows_of rows.now) }
         requires order { IsOrder (rows_of rows.now) order.now }
+        requires plan { IsPlan replica.now self.old.nodes.keys plan.now }
+        requires kept { (n : Node) → Lists plan.now n → IsKept self.old n }
         ensures table { OnOk result (IsTable (content_of replica.now) self.new) }
+        ensures kept { OnOk result ((n : Node) → Lists plan.now n → IsKept self.new n) }
         ensures done { OnOk result ((k : ℕ) (e : Settled) (x : Node) → At order.now k e
             → At self.old.nodes.keys e.node x → HasEntry self.new x) }
     {
         for settled in order {
             let number = settled.node;
-            self.add(replica, number, &rows[number], settled.cyclic)?;
+            self.add(replica, plan, number, &rows[number], settled.cyclic)?;
         }
         Ok(())
     }
@@ -147,6 +163,7 @@ impl Table {
     fn add(
         &mut self,
         replica: &Replica,
+        plan: &Plan,
         number: usize,
         row: &[usize],
         cyclic: bool,
@@ -159,10 +176,13 @@ impl Table {
             ↔ IsOnCycle (content_of replica.now) n }
         requires below { cyclic ≡ false → (n y : Node) → At self.old.nodes.keys number n
             → IsRewrittenTo (content_of replica.now) n y → HasEntry self.old y }
-        ensures { OnOk result (AddsAnswer (content_of replica.now) number self.old self.new) }
+        requires plan { IsPlan replica.now self.old.nodes.keys plan.now }
+        requires kept { (n : Node) → Lists plan.now n → IsKept self.old n }
+        ensures answer { OnOk result (AddsAnswer (content_of replica.now) number self.old self.new) }
+        ensures kept { OnOk result ((n : Node) → Lists plan.now n → IsKept self.new n) }
     {
         let node = self.nodes.as_slice()[number];
-        let solved = self.solve(replica, node, row, cyclic)?;
+        let solved = self.solve(replica, plan, node, row, cyclic)?;
         self.answers[number] = Some(solved);
         Ok(())
     }
@@ -171,6 +191,7 @@ impl Table {
     fn solve(
         &mut self,
         replica: &Replica,
+        plan: &Plan,
         node: Node,
         row: &[usize],
         cyclic: bool,
@@ -180,7 +201,11 @@ impl Table {
         requires cyclic { IsTrue cyclic ↔ IsOnCycle (content_of replica.now) node }
         requires below { cyclic ≡ false → (y : Node) → IsRewrittenTo (content_of replica.now) node y
             → HasEntry self.old y }
-        ensures { IfOk result (Solves (content_of replica.now) node self.old self.new) }
+        requires plan { IsPlan replica.now self.old.nodes.keys plan.now }
+        requires kept { (n : Node) → Lists plan.now n → IsKept self.old n }
+        requires held { Contains self.old.nodes.keys node }
+        ensures solves { IfOk result (Solves (content_of replica.now) node self.old self.new) }
+        ensures kept { Lists plan.now node → IfOk result (λ solved. (count : ℕ) → ¬ (solved ≡ Solved.Counted count)) }
     {
         if cyclic {
             return self.keep(Vec::new(self.alloc));
@@ -196,12 +221,20 @@ impl Table {
             Some(solved) => return Ok(solved),
             None => {}
         }
-        if self.is_overfull(markers, places) {
-            return Ok(Solved::Overfull);
+        let ways = match self.all_ways(markers, places) {
+            Some(ways) => ways,
+            None => return Ok(Solved::Overfull),
+        };
+        if !plan.unites(node) {
+            let empty = self.empty_ways(markers, places);
+            return Ok(Solved::Counted(ways - empty));
         }
         let found = self.unions(markers, places)?;
         let family = largest(self.alloc, found)?;
-        self.keep(family)
+        if plan.lists(node) {
+            return self.keep(family);
+        }
+        Ok(Solved::Counted(family.len()))
     }
 
     // Puts the family last.
@@ -246,28 +279,47 @@ impl Table {
     fn has_many(&self, solved: Solved) -> bool
         ensures { result ≡ false → IsFew (known_by self.now.families.items solved) }
     {
-        match solved {
-            Solved::Family(place) => self.family_at(place).len() > UNION_LIMIT,
-            Solved::Overfull => false,
-        }
+        self.count_of(solved) > UNION_LIMIT
     }
 
-    // Whether a successor of the markers is overfull, or over 4,096 unions are to be formed.
-    fn is_overfull(&self, markers: &[Marker], places: &[usize]) -> bool
-        ensures many { IsTrue result → many_at self.now markers.now places.now }
-        ensures few { result ≡ false → few_at self.now markers.now places.now }
+    // How many unions the markers give, where no successor is overfull and they are 4,096 at most.
+    fn all_ways(&self, markers: &[Marker], places: &[usize]) -> Option<usize>
+        ensures few { IfSome result (AllWays self.now markers.now places.now) }
+        ensures many { IfNone result (many_at self.now markers.now places.now) }
     {
         let mut sum = 0;
         for place in places {
-            match self.ways(successors_at(markers, *place)) {
-                Some(ways) => sum += ways,
-                None => return true,
-            }
+            sum += self.ways(successors_at(markers, *place))?;
             if sum > UNION_LIMIT {
-                return true;
+                return None;
             }
         }
-        false
+        Some(sum)
+    }
+
+    // How many of the markers give the empty union.
+    fn empty_ways(&self, markers: &[Marker], places: &[usize]) -> usize
+        ensures { result ≡ empties_at self.now markers.now places.now }
+    {
+        let mut count = 0;
+        for place in places {
+            if self.have_none(successors_at(markers, *place)) {
+                count += 1;
+            }
+        }
+        count
+    }
+
+    // Whether none of the nodes has sets.
+    fn have_none(&self, nodes: &[Node]) -> bool
+        ensures { result ≡ have_none self.now nodes.now }
+    {
+        for node in nodes {
+            if self.count(*node) > 0 {
+                return false;
+            }
+        }
+        true
     }
 
     // How many unions the nodes' sets give, where none of them is overfull and they are 4,096 at most.
@@ -291,9 +343,30 @@ impl Table {
         ensures { result ≡ factor_in (entry self.now node) }
     {
         match self.answer(node) {
-            Some(Solved::Family(place)) => Some(self.family_at(place).len().max(1)),
             Some(Solved::Overfull) => None,
+            Some(solved) => Some(self.count_of(solved).max(1)),
             None => Some(1),
+        }
+    }
+
+    // How many sets a node has; none where it isn't done, or is overfull.
+    fn count(&self, node: Node) -> usize
+        ensures { result ≡ count_in (entry self.now node) }
+    {
+        match self.answer(node) {
+            Some(solved) => self.count_of(solved),
+            None => 0,
+        }
+    }
+
+    // How many sets a node has of which this is known; none where it is overfull.
+    fn count_of(&self, solved: Solved) -> usize
+        ensures { result ≡ count_of (known_by self.now.families.items solved) }
+    {
+        match solved {
+            Solved::Family(place) => self.family_at(place).len(),
+            Solved::Counted(count) => count,
+            Solved::Overfull => 0,
         }
     }
 
@@ -335,12 +408,13 @@ impl Table {
         products(self.alloc, &unions, family)
     }
 
-    // The sets of a node that is done; none where it isn't, or is overfull.
+    // The sets of a node that are kept; none where none are.
     fn family(&self, node: Node) -> &[Vec<Node>]
         ensures { sets_of result.now ≡ families self.now node }
     {
         match self.answer(node) {
             Some(Solved::Family(place)) => self.family_at(place),
+            Some(Solved::Counted(_)) => &[],
             Some(Solved::Overfull) => &[],
             None => &[],
         }

@@ -32,9 +32,11 @@
 mod families;
 mod laws;
 mod numbered;
+mod plan;
 mod search;
 mod sets;
 mod successors;
+mod survey;
 mod unions;
 
 pub use laws::{

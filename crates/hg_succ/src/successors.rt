@@ -7,6 +7,7 @@ ghost use Rattle.hg_succ.specs.Answer.{AreSets};
 
 use crate::families::table_of;
 use crate::numbered::set_of;
+use crate::plan::Asked;
 use crate::sets::Sets;
 use hg_changeset::Node;
 use hg_node_set::NodeSet;
@@ -20,7 +21,7 @@ pub fn successors_sets(alloc: Global, replica: &Replica, node: Node) -> Result<S
 {
     let mut roots = NodeSet::new(alloc);
     roots.insert(node)?;
-    let table = table_of(alloc, replica, roots)?;
+    let table = table_of(alloc, replica, roots, Asked::Sets)?;
     table.sets(replica, node)
 }
 
@@ -34,7 +35,7 @@ pub fn several_among(
     ensures { IfOk result (λ found. (n : Node) → Contains found.keys n
         ↔ (Contains nodes.now n × HasSeveral (content_of replica.now) n)) }
 {
-    let table = table_of(alloc, replica, set_of(alloc, nodes)?)?;
+    let table = table_of(alloc, replica, set_of(alloc, nodes)?, Asked::Counts)?;
     let mut found = NodeSet::new(alloc);
     for node in nodes {
         if table.has_several(*node) {

@@ -46,19 +46,20 @@ loop-settled-preserved c =
     let i = c.loop-settled.settled-index in
     let e : Settled = get_or order i (record { node = 0; cyclic = false }) in
     let e_at : At order i e = slice_get-get_or order i (record { node = 0; cyclic = false }) c.loop-settled-test.true in
-    let now : c.add.new.self.nodes.keys ≡ nodes = c.in_ok-add.ensures.nodes ∙ c.loop-settled.invariant.nodes in
+    let now : c.add.new.self.nodes.keys ≡ nodes = c.in_ok-add.ensures.answer.nodes ∙ c.loop-settled.invariant.nodes in
     record {
-      table = c.in_ok-add.ensures.table;
+      table = c.in_ok-add.ensures.answer.table;
       nodes = now;
       done = λ k d y l d_at y_at. elim (cases_lt k i) [
-        | inl before ↦ c.in_ok-add.ensures.kept y (c.loop-settled.invariant.done k d y before d_at y_at)
+        | inl before ↦ c.in_ok-add.ensures.answer.kept y (c.loop-settled.invariant.done k d y before d_at y_at)
         | inr last ↦
             let k_is : k ≡ i = omega arith in
             let d_is : d ≡ e = get_one order i d e (subst (λ j. At order j d) k_is d_at) e_at in
-            c.in_ok-add.ensures.done y
+            c.in_ok-add.ensures.answer.done y
             (subst (λ (ns : List Node). At ns e.node y) (sym now)
             (subst (λ (s : Settled). At nodes s.node y) d_is y_at))
       ];
+      kept = c.in_ok-add.ensures.kept;
     }
 
 pub returns-clause-done : goal.returns-clause-done

@@ -2,7 +2,7 @@ use Rattle.std.proofs.Common.{◌≡◌, ◌≤◌, ℕ, take, sum, Contains}
 use Rattle.hg_succ.specs.Numbered.{successors_at}
 use Rattle.hg_succ.specs.Cover.{NoneOverfull}
 use Rattle.hg_succ.specs.Factors.{ways_at}
-use Rattle.hg_succ.proofs.families.Table.is_overfull.Given as goal
+use Rattle.hg_succ.proofs.families.Table.all_ways.Given as goal
 
 abbrev pub invariant-loop-place : goal.invariant-loop-place
 invariant-loop-place l = record {
