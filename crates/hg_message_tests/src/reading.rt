@@ -44,19 +44,6 @@ fn last_up_to(places: &[usize], place: usize) -> usize {
 }
 
 #[test]
-fn one_changeset_cut_anywhere_is_truncated(rt: HostRuntime) {
-    let alloc = rt.alloc();
-    let fields = [0, 4, 5, 9, 29, 49, 69, 73, 77, 81, 101, 105];
-    let bytes = one_changeset(alloc, FIRST).expect(&rt, "memory");
-    assert!(rt; bytes.len() == 106);
-    for len in 0..106 {
-        let fault = fault_of(&rt, alloc, &bytes[..len]);
-        let place = last_up_to(&fields, len);
-        assert!(rt; fault == Some(MessageFault::Truncated(place)), "at {len}");
-    }
-}
-
-#[test]
 fn one_changeset_of_version_2_cut_anywhere_is_truncated(rt: HostRuntime) {
     let alloc = rt.alloc();
     let fields = [0, 4, 5, 6, 10, 30, 50, 70, 74, 78, 82, 102, 106];
@@ -107,19 +94,6 @@ fn one_changeset_turned(place: usize) -> Option<MessageFault> {
         101..=104 => Some(MessageFault::Truncated(105)),
         105 => Some(MessageFault::BadMarker(105, StoreFault::BadVersion(128))),
         _ => None,
-    }
-}
-
-#[test]
-fn one_changeset_with_a_byte_turned(rt: HostRuntime) {
-    let alloc = rt.alloc();
-    let mut bytes = one_changeset(alloc, FIRST).expect(&rt, "memory");
-    assert!(rt; bytes.len() == 106);
-    for place in 0..106 {
-        turn(&mut bytes, place);
-        let fault = fault_of(&rt, alloc, &bytes);
-        assert!(rt; fault == one_changeset_turned(place), "at {place}");
-        turn(&mut bytes, place);
     }
 }
 
