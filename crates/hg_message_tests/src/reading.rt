@@ -44,6 +44,19 @@ fn last_up_to(places: &[usize], place: usize) -> usize {
 }
 
 #[test]
+fn one_changeset_cut_anywhere_is_truncated(rt: HostRuntime) {
+    let alloc = rt.alloc();
+    let fields = [0, 4, 5, 9, 29, 49, 69, 73, 77, 81, 101, 105];
+    let bytes = one_changeset(alloc, FIRST).expect(&rt, "memory");
+    assert!(rt; bytes.len() == 106);
+    for len in 0..106 {
+        let fault = fault_of(&rt, alloc, &bytes[..len]);
+        let place = last_up_to(&fields, len);
+        assert!(rt; fault == Some(MessageFault::Truncated(place)), "at {len}");
+    }
+}
+
+#[test]
 fn one_changeset_of_version_2_cut_anywhere_is_truncated(rt: HostRuntime) {
     let alloc = rt.alloc();
     let fields = [0, 4, 5, 6, 10, 30, 50, 70, 74, 78, 82, 102, 106];
@@ -274,7 +287,8 @@ fn a_field_of_one_changeset_is_at_fault(rt: HostRuntime) {
     let parents = [0x11; 40];
     let len = [0, 0x10, 0, 1];
     let phase = [0, 0, 0, 32];
-    let faults: [(usize, &[u8], MessageFault); 4] = [
+    let faults: [(usize, &[u8], MessageFault); 5] = [
+        (28, &[0], MessageFault::HashMismatch(0)),
         (29, &parents, MessageFault::BadParents(0)),
         (69, &len, MessageFault::TextTooLong(0)),
         (77, &phase, MessageFault::BadPhase),

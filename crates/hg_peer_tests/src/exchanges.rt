@@ -92,6 +92,14 @@ fn take(at: usize, message: usize) -> PeerEvent {
     Event::Take { at, message }
 }
 
+fn publish(at: usize, node: Node) -> PeerEvent {
+    let op = Op::Advance {
+        node,
+        phase: Phase::Public,
+    };
+    Event::Local { at, op }
+}
+
 fn mark(at: usize, mark: Mark) -> PeerEvent {
     Event::Mark { at, mark }
 }
@@ -119,6 +127,35 @@ fn is_pinned_at(world: &World<Peer>, at: usize, node: Node) -> Option<bool> {
 
 fn phase_at(world: &World<Peer>, at: usize, node: Node) -> Option<Phase> {
     world.state(at)?.replica().phase_of(node).ok()?
+}
+
+#[test]
+fn late_reordered_and_repeated_messages_leave_the_same(rt: HostRuntime) {
+    let alloc = rt.alloc();
+    let a = Node::from_hex(A).expect(&rt, "an id");
+    let mut world = World::<Peer>::new(alloc, 2).expect(&rt, "memory");
+    let events = [
+        commit(alloc, 0, false).expect(&rt, "memory"),
+        offer(alloc, 0),
+        publish(0, a),
+        offer(alloc, 0),
+        take(1, 1),
+        take(1, 0),
+        take(1, 1),
+    ];
+    let answers = world.run(&events).expect(&rt, "memory");
+    let expected = [
+        Outcome::Changed(1, 0, 0),
+        Outcome::Offered(0),
+        Outcome::Changed(0, 1, 0),
+        Outcome::Offered(1),
+        Outcome::Changed(1, 0, 0),
+        Outcome::Changed(0, 0, 0),
+        Outcome::Changed(0, 0, 0),
+    ];
+    expect_answers(&rt, &answers, &expected);
+    assert_eq!(rt; phase_at(&world, 0, a), Some(Phase::Public));
+    assert_eq!(rt; phase_at(&world, 1, a), Some(Phase::Public));
 }
 
 // What is obsolete is hidden, and goes over with the marker; a repeated take changes nothing.
