@@ -140,21 +140,6 @@ fn what_is_pinned_is_known(rt: HostRuntime) {
     assert!(rt; pinned.as_slice() == [true].as_slice());
 }
 
-// The same of a kept replica, under the pins that it holds.
-#[test]
-fn a_kept_replica_knows_what_it_pins(rt: HostRuntime) {
-    let alloc = rt.alloc();
-    let mut other = Replica::new(alloc);
-    let [_, b, _] = chain(alloc, &mut other, b"ab").expect(&rt, "memory");
-    prune(alloc, &mut other, b).expect(&rt, "memory");
-    let mut other = Kept::new(alloc, other).expect(&rt, "memory");
-    let unpinned = known_kept(alloc, &other, &[b]).expect(&rt, "memory");
-    assert!(rt; unpinned.as_slice() == [false].as_slice());
-    assert!(rt; other.pin(b) == Ok(()));
-    let pinned = known_kept(alloc, &other, &[b]).expect(&rt, "memory");
-    assert!(rt; pinned.as_slice() == [true].as_slice());
-}
-
 // What the asker hides is common, where the other side serves it.
 #[test]
 fn kept_replicas_have_heads_in_common(rt: HostRuntime) {

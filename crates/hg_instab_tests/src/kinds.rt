@@ -103,15 +103,6 @@ fn steps_lead_over_what_is_not_held_and_only_from_public_changesets(rt: HostRunt
     expect_kinds(&rt, alloc, &replica, &public);
 }
 
-// Two draft roots, each of which was rewritten to the other.
-fn cycle(alloc: Global, replica: &mut Replica) -> Option<(Node, Node)> {
-    let x = commit(alloc, replica, Node::NULL, b"x", Phase::Draft)?;
-    let y = commit(alloc, replica, Node::NULL, b"y", Phase::Draft)?;
-    rewrite(alloc, replica, x, &[y], 0)?;
-    rewrite(alloc, replica, y, &[x], 0)?;
-    Some((x, y))
-}
-
 fn expect_extinct(rt: &impl Abort, alloc: Global, replica: &Replica, nodes: &[Node]) {
     let kinds = Kinds {
         obsolete: nodes,
@@ -122,14 +113,6 @@ fn expect_extinct(rt: &impl Abort, alloc: Global, replica: &Replica, nodes: &[No
         content_divergent: &[],
     };
     expect_kinds(rt, alloc, replica, &kinds);
-}
-
-#[test]
-fn changesets_on_a_cycle_are_extinct(rt: HostRuntime) {
-    let alloc = rt.alloc();
-    let mut replica = Replica::new(alloc);
-    let (x, y) = cycle(alloc, &mut replica).expect(&rt, "memory");
-    expect_extinct(&rt, alloc, &replica, &[x, y]);
 }
 
 #[test]

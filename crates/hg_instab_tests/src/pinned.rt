@@ -1,7 +1,7 @@
 //! Kept replicas with pins: what they show is what is told from scratch, and what is refused changes nothing.
 use crate::chance::{planned, some_node, some_part};
 use crate::same::has_exactly;
-use crate::scene::{ELSEWHERE, commit, empty, push_marker, rewrite};
+use crate::scene::{commit, empty, push_marker, rewrite};
 use hg_changeset::{Changeset, Node};
 use hg_join_tests::Dice;
 use hg_phases::Phase;
@@ -86,26 +86,6 @@ fn an_unpin_leaves_what_another_pin_upholds(rt: HostRuntime) {
     assert!(rt; is_right(alloc, &kept).expect(&rt, "memory"));
     assert!(rt; kept.unpin(right).is_ok());
     assert!(rt; has_exactly(&kept.visible().expect(&rt, "memory"), &[root]));
-}
-
-#[test]
-fn what_a_pin_above_upholds_stays_once_it_is_unpinned(rt: HostRuntime) {
-    let alloc = rt.alloc();
-    let (mut kept, [root, trunk, tip]) = stack(alloc, true).expect(&rt, "memory");
-    assert!(rt; kept.pin(trunk).is_ok() && kept.pin(tip).is_ok());
-    assert!(rt; kept.unpin(trunk).is_ok());
-    assert!(rt; has_exactly(&kept.visible().expect(&rt, "memory"), &[root, trunk, tip]));
-    assert!(rt; is_right(alloc, &kept).expect(&rt, "memory"));
-}
-
-#[test]
-fn pins_of_a_kept_replica_are_refused_as_pins_are(rt: HostRuntime) {
-    let (mut kept, [_, trunk, tip]) = stack(rt.alloc(), true).expect(&rt, "memory");
-    assert!(rt; kept.pin(ELSEWHERE) == Err(PinRefusal::Unknown(ELSEWHERE)));
-    assert!(rt; kept.pin(Node::NULL) == Err(PinRefusal::Unknown(Node::NULL)));
-    assert!(rt; kept.pin(trunk).is_ok() && kept.pin(trunk).is_ok());
-    assert!(rt; kept.unpin(tip) == Err(PinRefusal::NotPinned(tip)));
-    assert!(rt; has_exactly(kept.pins().nodes(), &[trunk]));
 }
 
 #[test]

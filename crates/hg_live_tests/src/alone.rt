@@ -73,21 +73,6 @@ fn messages_come_out_in_order_at_any_seat_and_the_last_at_the_close(rt: HostRunt
 }
 
 #[test]
-fn what_is_left_comes_out_front_first(rt: HostRuntime) {
-    let alloc = rt.alloc();
-    let mut inbox = Inbox::new(alloc, 2).expect(&rt, "an inbox");
-    let mut s = inbox.seat().expect(&rt, "a seat");
-    let t = inbox.seat().expect(&rt, "a seat");
-    assert!(rt; inbox.put(&rt, &mut s, message(&rt, alloc, b"y")).is_ok());
-    assert!(rt; inbox.put(&rt, &mut s, message(&rt, alloc, b"z")).is_ok());
-
-    let rest = left(&rt, alloc, inbox, s, t);
-    assert_eq!(rt; rest.len(), 2);
-    assert_eq!(rt; rest[0].as_slice(), b"y".as_slice());
-    assert_eq!(rt; rest[1].as_slice(), b"z".as_slice());
-}
-
-#[test]
 fn an_inbox_for_no_message_is_refused(rt: HostRuntime) {
     match Inbox::new(rt.alloc(), 0) {
         Ok(_) => assert!(rt; false, "it holds nothing"),

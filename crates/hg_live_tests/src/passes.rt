@@ -2,11 +2,9 @@
 ghost use Rattle.std.specs.Prelude.{◌≡◌};
 
 use crate::making::{A, MESSAGE, Open, amend, answer, counts, id, root};
-use hg_live::{
-    Blank, CallRefusal, CloseRefusal, LookRefusal, NoPass, Node, NodeName, NotOffered, OpenGate,
-};
-use hg_message::{Message, MessageFault};
-use hg_peer::{Ask, PeerRefusal, Scope};
+use hg_live::{Blank, CallRefusal, CloseRefusal, LookRefusal, NoPass, Node, NodeName, OpenGate};
+use hg_message::MessageFault;
+use hg_peer::PeerRefusal;
 use hg_phases::Phase;
 use hg_replica::Replica;
 use std::alloc::Global;
@@ -167,63 +165,4 @@ fn known(rt: &impl Abort, answers: Result<Vec<bool>, LookRefusal>) -> [bool; 1] 
     let answers = answers.expect(rt, "a look");
     assert_eq!(rt; answers.len(), 1);
     [answers[0]]
-}
-
-#[test]
-fn an_offer_goes_by_its_scope(rt: HostRuntime) {
-    let alloc = rt.alloc();
-    let blank = Blank::new(alloc, Replica::new(alloc)).expect(&rt, "a blank");
-    offer_both_scopes::<Brand, _, _>(&rt, alloc, blank, &rt);
-}
-
-fn offer_both_scopes<K: NodeName, R: Wait + Abort, W: Wait + Drop>(
-    rt: &R,
-    alloc: Global,
-    blank: Blank,
-    keep: W,
-)
-    requires opening { K.opening ≡ blank.opening }
-    requires book { blank.opened ≡ K.book }
-    requires name { blank.tokens.name ≡ K.name }
-    requires parts { blank.tokens.parts ≡ K.parts }
-{
-    let node: Open<K, W> = Node::new(keep, alloc, blank, OpenGate).expect(rt, "a node");
-    let mut pass = node.pass(rt).expect(rt, "a pass");
-    let commit = root(alloc, b"a").expect(rt, "memory");
-    let rewrite = amend(alloc, id(rt, A), b"b").expect(rt, "memory");
-    assert_eq!(rt; answer(node.local(rt, &mut pass, &commit)), "shown");
-    assert_eq!(rt; answer(node.local(rt, &mut pass, &rewrite)), "shown");
-
-    // What is served is the new changeset alone; the whole is both.
-    assert_eq!(rt;
-        offered(
-            rt,
-            alloc,
-            Open::<K, W>::offer(&mut pass, &ask(alloc, Scope::Served))
-        ),
-        1
-    );
-    assert_eq!(rt;
-        offered(
-            rt,
-            alloc,
-            Open::<K, W>::offer(&mut pass, &ask(alloc, Scope::Whole))
-        ),
-        2
-    );
-}
-
-// To offer all of a scope.
-fn ask(alloc: Global, scope: Scope) -> Ask {
-    Ask {
-        common: Vec::new(alloc),
-        scope,
-    }
-}
-
-// How many changesets the offer holds.
-fn offered(rt: &impl Abort, alloc: Global, bytes: Result<Vec<u8>, NotOffered>) -> usize {
-    let bytes = bytes.expect(rt, "an offer");
-    let message = Message::from_bytes(alloc, &bytes).expect(rt, "a message");
-    message.changesets().len()
 }

@@ -136,30 +136,13 @@ fn leaves_out_common_changesets_and_tells_their_phases(rt: HostRuntime) {
 }
 
 #[test]
-fn finds_what_goes_out_before_it_is_copied(rt: HostRuntime) {
-    let alloc = rt.alloc();
-    let mut replica = Replica::new(alloc);
-    let nodes = scene(alloc, &mut replica).expect(&rt, "memory");
-    let found = Outgoing::above(
-        alloc,
-        &replica,
-        &Pins::new(alloc),
-        &[nodes.b],
-        Scope::Served,
-    )
-    .expect(&rt, "memory");
-    assert!(rt; !found.is_too_large());
-    let message = found.message().expect(&rt, "memory");
-    assert!(rt; are(&message, &[nodes.c]) && message.markers().len() == 2);
-}
-
-#[test]
 fn finds_what_goes_out_of_a_kept_replica(rt: HostRuntime) {
     let alloc = rt.alloc();
     let mut replica = Replica::new(alloc);
     let nodes = scene(alloc, &mut replica).expect(&rt, "memory");
     let kept = Kept::new(alloc, replica).expect(&rt, "memory");
     let found = Outgoing::above_kept(alloc, &kept, &[nodes.b], Scope::Served).expect(&rt, "memory");
+    assert!(rt; !found.is_too_large());
     let message = found.message().expect(&rt, "memory");
     assert!(rt; are(&message, &[nodes.c]) && message.markers().len() == 2);
     let unknown = Node([0x33; 20]);

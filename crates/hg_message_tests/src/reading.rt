@@ -110,19 +110,6 @@ fn one_changeset_turned(place: usize) -> Option<MessageFault> {
     }
 }
 
-#[test]
-fn one_changeset_with_a_byte_turned(rt: HostRuntime) {
-    let alloc = rt.alloc();
-    let mut bytes = one_changeset(alloc, FIRST).expect(&rt, "memory");
-    assert!(rt; bytes.len() == 106);
-    for place in 0..106 {
-        turn(&mut bytes, place);
-        let fault = fault_of(&rt, alloc, &bytes);
-        assert!(rt; fault == one_changeset_turned(place), "at {place}");
-        turn(&mut bytes, place);
-    }
-}
-
 // What is told of the same message of version 2, so: behind the scope all is one later.
 fn one_changeset_of_version_2_turned(place: usize) -> Option<MessageFault> {
     match place {
@@ -300,7 +287,8 @@ fn a_field_of_one_changeset_is_at_fault(rt: HostRuntime) {
     let parents = [0x11; 40];
     let len = [0, 0x10, 0, 1];
     let phase = [0, 0, 0, 32];
-    let faults: [(usize, &[u8], MessageFault); 4] = [
+    let faults: [(usize, &[u8], MessageFault); 5] = [
+        (28, &[0], MessageFault::HashMismatch(0)),
         (29, &parents, MessageFault::BadParents(0)),
         (69, &len, MessageFault::TextTooLong(0)),
         (77, &phase, MessageFault::BadPhase),

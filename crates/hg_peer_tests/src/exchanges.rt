@@ -130,21 +130,6 @@ fn phase_at(world: &World<Peer>, at: usize, node: Node) -> Option<Phase> {
 }
 
 #[test]
-fn what_is_missing_is_told_and_an_own_message_changes_nothing(rt: HostRuntime) {
-    let alloc = rt.alloc();
-    let mut world = World::<Peer>::new(alloc, 1).expect(&rt, "memory");
-    let events = [take(0, 0), offer(alloc, 1), offer(alloc, 0), take(0, 0)];
-    let answers = world.run(&events).expect(&rt, "memory");
-    let expected = [
-        Outcome::NoMessage,
-        Outcome::NoNode,
-        Outcome::Offered(0),
-        Outcome::Changed(0, 0, 0),
-    ];
-    expect_answers(&rt, &answers, &expected);
-}
-
-#[test]
 fn late_reordered_and_repeated_messages_leave_the_same(rt: HostRuntime) {
     let alloc = rt.alloc();
     let a = Node::from_hex(A).expect(&rt, "an id");
@@ -309,25 +294,6 @@ fn refused_growth_of_a_mark_changes_nothing(rt: HostRuntime) {
         Err(_) => false,
     };
     assert_eq!(rt; is_pinned_at(&world, 0, a), Some(marked));
-}
-
-#[test]
-fn refused_growth_of_a_run_leaves_what_its_answers_say(rt: HostRuntime) {
-    let alloc = rt.alloc();
-    let a = Node::from_hex(A).expect(&rt, "an id");
-    let Ok(mut world) = World::<Peer>::new(alloc, 1) else {
-        return;
-    };
-    let Some(event) = commit(alloc, 0, false) else {
-        return;
-    };
-    let accepted = match world.run(&[event]) {
-        Ok(answers) => answers
-            .iter()
-            .any(|answer| outcome_of(answer) == Outcome::Changed(1, 0, 0)),
-        Err(_) => false,
-    };
-    assert_eq!(rt; phase_at(&world, 0, a).is_some(), accepted);
 }
 
 #[test]

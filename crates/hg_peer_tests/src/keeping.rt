@@ -1,9 +1,9 @@
 //! Replicas that keep their sets of instabilities while they rewrite and exchange: after each event the sets are those
 //! that are told from scratch.
-use crate::operations::{entry_of, some_node, some_operation};
+use crate::operations::{some_node, some_operation};
 use hg_changeset::Node;
 use hg_history::Fault;
-use hg_instab_tests::{are_same, has_exactly, is_up_to_date};
+use hg_instab_tests::{are_same, is_up_to_date};
 use hg_join_tests::Dice;
 use hg_message::{Message, OfferRefusal, Outgoing, Scope};
 use hg_phases::Phase;
@@ -12,7 +12,6 @@ use hg_rewrite::{Op, Refusal, decide};
 use hg_view::Kept;
 use std::alloc::Global;
 use std::collections::BTreeSet;
-use std::process::Abort;
 
 const COUNT: usize = 5;
 
@@ -218,144 +217,4 @@ fn kept_sets_of_any_events_are_those_from_scratch(rt: HostRuntime) {
         assert_eq!(rt; fleet.gather(at), Some(true));
         assert_eq!(rt; fleet.agrees(at), Some(true));
     }
-}
-
-// Two replicas that hold one draft root.
-struct Pair {
-    alloc: Global,
-    left: Kept,
-    right: Kept,
-    root: Node,
-}
-
-impl Drop for Pair {
-    fn drop(self) {
-        let Pair {
-            alloc: _,
-            left: _,
-            right: _,
-            root: _,
-        } = self;
-    }
-}
-
-impl Pair {
-    fn new(alloc: Global) -> Option<Pair> {
-        let mut left = Kept::new(alloc, Replica::new(alloc)).ok()?;
-        let mut right = Kept::new(alloc, Replica::new(alloc)).ok()?;
-        let root = commit(alloc, &mut left, Node::NULL, 0)?;
-        pull(alloc, &mut right, &left)?;
-        Some(Pair {
-            alloc,
-            left,
-            right,
-            root,
-        })
-    }
-
-    // Whether the sets of both are those that are told from scratch.
-    fn is_right(&self) -> Option<bool> {
-        let left = is_up_to_date(self.alloc, &self.left).ok()?;
-        let right = is_up_to_date(self.alloc, &self.right).ok()?;
-        Some(left && right)
-    }
-}
-
-// Does an operation that isn't refused, and gives the last changeset that it made, or the null id.
-fn make(alloc: Global, kept: &mut Kept, op: &Op) -> Option<Node> {
-    let part = decide(alloc, kept.replica(), kept.pins(), op).ok()?;
-    let made = match part.changesets.last() {
-        Some(changeset) => changeset.node(),
-        None => Node::NULL,
-    };
-    kept.absorb(&part).ok()?;
-    Some(made)
-}
-
-fn commit(alloc: Global, kept: &mut Kept, p: Node, number: usize) -> Option<Node> {
-    let op = Op::Commit {
-        p,
-        q: Node::NULL,
-        entry: entry_of(alloc, number)?,
-        secret: false,
-    };
-    make(alloc, kept, &op)
-}
-
-fn amend(alloc: Global, kept: &mut Kept, node: Node, number: usize) -> Option<Node> {
-    let entry = entry_of(alloc, number)?;
-    make(alloc, kept, &Op::Amend { node, entry })
-}
-
-fn publish(alloc: Global, kept: &mut Kept, node: Node) -> Option<Node> {
-    let phase = Phase::Public;
-    make(alloc, kept, &Op::Advance { node, phase })
-}
-
-// The one takes all that the other offers.
-fn pull(alloc: Global, kept: &mut Kept, other: &Kept) -> Option<()> {
-    let message = offer(alloc, other, &[], Scope::Served)?;
-    if take(alloc, kept, &message)? {
-        Some(())
-    } else {
-        None
-    }
-}
-
-// Whether a set has exactly these.
-fn expect_right(rt: &impl Abort, pair: &Pair) {
-    assert_eq!(rt; pair.is_right(), Some(true));
-}
-
-#[test]
-fn two_that_amend_one_changeset_diverge_when_they_pull(rt: HostRuntime) {
-    let alloc = rt.alloc();
-    let mut pair = Pair::new(alloc).expect(&rt, "memory");
-    let root = pair.root;
-    let one = amend(alloc, &mut pair.left, root, 1).expect(&rt, "memory");
-    expect_right(&rt, &pair);
-    let other = amend(alloc, &mut pair.right, root, 2).expect(&rt, "memory");
-    expect_right(&rt, &pair);
-    pull(alloc, &mut pair.left, &pair.right).expect(&rt, "memory");
-    expect_right(&rt, &pair);
-    pull(alloc, &mut pair.right, &pair.left).expect(&rt, "memory");
-    expect_right(&rt, &pair);
-    for kept in [&pair.left, &pair.right] {
-        let sets = kept.instabilities();
-        assert!(rt; has_exactly(sets.content_divergent(), &[one, other]));
-        assert!(rt; has_exactly(sets.extinct(), &[root]));
-    }
-}
-
-#[test]
-fn a_pull_of_an_amend_makes_an_orphan(rt: HostRuntime) {
-    let alloc = rt.alloc();
-    let mut pair = Pair::new(alloc).expect(&rt, "memory");
-    let root = pair.root;
-    let child = commit(alloc, &mut pair.right, root, 1).expect(&rt, "memory");
-    expect_right(&rt, &pair);
-    amend(alloc, &mut pair.left, root, 2).expect(&rt, "memory");
-    expect_right(&rt, &pair);
-    pull(alloc, &mut pair.right, &pair.left).expect(&rt, "memory");
-    expect_right(&rt, &pair);
-    let sets = pair.right.instabilities();
-    assert!(rt; has_exactly(sets.orphan(), &[child]));
-    assert!(rt; has_exactly(sets.suspended(), &[root]));
-    assert!(rt; pair.right.is_visible(root) && !pair.left.is_visible(root));
-}
-
-#[test]
-fn a_pull_of_a_publication_makes_a_rewriting_phase_divergent(rt: HostRuntime) {
-    let alloc = rt.alloc();
-    let mut pair = Pair::new(alloc).expect(&rt, "memory");
-    let root = pair.root;
-    let amended = amend(alloc, &mut pair.right, root, 1).expect(&rt, "memory");
-    expect_right(&rt, &pair);
-    publish(alloc, &mut pair.left, root).expect(&rt, "memory");
-    expect_right(&rt, &pair);
-    pull(alloc, &mut pair.right, &pair.left).expect(&rt, "memory");
-    expect_right(&rt, &pair);
-    let sets = pair.right.instabilities();
-    assert!(rt; sets.obsolete().is_empty());
-    assert!(rt; has_exactly(sets.phase_divergent(), &[amended]));
 }

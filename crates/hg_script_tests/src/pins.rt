@@ -14,17 +14,6 @@ fn a_pin_keeps_a_changeset_in_view_until_it_is_taken_away(rt: HostRuntime) {
     expect(&rt, rt.alloc(), script, output, "");
 }
 
-#[test]
-fn what_is_pinned_is_served_and_the_pin_stays_home(rt: HostRuntime) {
-    let script =
-        b"node A\nnode B\ncommit A r draft\nprune A r\npin B r\npull B A\nreport B\npin A r\npull B A\nreport B\n\
-            agree A B\n";
-    let output =
-        b"5: view 1 Unknown\nreport B\n0 changesets 0 markers\nreport B\nr draft obsolete extinct hidden\n\
-            1 changesets 1 markers\nagree A B: yes\n";
-    expect(&rt, rt.alloc(), script, output, "");
-}
-
 // A second pin changes nothing, so one that is taken away is gone. What stands below a pin is in view with it.
 #[test]
 fn a_second_pin_changes_nothing(rt: HostRuntime) {

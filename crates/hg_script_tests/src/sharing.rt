@@ -1,26 +1,6 @@
 //! Scripts in which nodes offer their whole history.
 use crate::tests::expect;
 
-#[test]
-fn what_is_hidden_is_shared_with_its_marker(rt: HostRuntime) {
-    let script =
-        b"node A\nnode B\ncommit A r draft\npull B A\nprune B r\npull A B\nagree A B\nshare A B\nreport A\nagree A B\n";
-    let output =
-        b"agree A B: no\nreport A\nr draft obsolete extinct hidden\n1 changesets 1 markers\nagree A B: yes\n";
-    expect(&rt, rt.alloc(), script, output, "");
-}
-
-#[test]
-fn what_is_secret_stays_home(rt: HostRuntime) {
-    let script =
-        b"node A\nnode B\ncommit A b draft\ncommit A s secret b\namend A b b2\ncommit B x draft\nshare B A\nshare A B\n\
-            report A\nreport B\nagree A B\n";
-    let output =
-        b"report A\nb draft obsolete suspended\nb2 draft\ns secret orphan\nx draft\n4 changesets 1 markers\nreport B\n\
-            b draft obsolete extinct hidden\nb2 draft\nx draft\n3 changesets 1 markers\nagree A B: no\n";
-    expect(&rt, rt.alloc(), script, output, "");
-}
-
 // A message of the whole leaves out what stands below its labels, which its taker has to have.
 #[test]
 fn a_whole_offer_is_kept_above_labels(rt: HostRuntime) {
