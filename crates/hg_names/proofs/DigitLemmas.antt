@@ -1,10 +1,10 @@
 -- Labels and the numbers that they spell.
 use Rattle.std.proofs.Common.{◌≡◌, ℕ, ◌+◌, ◌*◌, ◌-◌, ◌<◌, ◌≤◌, Bool, true, false, ◌&&◌, List, [], ◌∷◌, ◌++◌, length, take}
 use Rattle.std.proofs.Common.{drop, get_or, fold, nat_eq, nat_lt, None, Some, inl, inr, if◌then◌else◌, refl, sym, ap, subst}
-use Rattle.std.proofs.Common.{◌∙◌, arith, true≢false}
+use Rattle.std.proofs.Common.{◌∙◌, arith, true≢false, Option}
 use Rattle.std.specs.declared.vec.Vec.{Vec}
 use Rattle.std.specs.declared.alloc.Global.{Global}
-use Rattle.std.specs.BTreeMap.{BTreeMap, Updates, get}
+use Rattle.std.specs.BTreeMap.{BTreeMap}
 use Rattle.std.specs.Cmp.{unsigned_ties}
 use Rattle.std.specs.List.{list_all}
 use Rattle.std.specs.Ordering.{is_eq, nat_cmp}
@@ -19,6 +19,7 @@ use mathlib.Core.Logic.{⊎_elim}
 use Rattle.hg_changeset.specs.declared.node.Node.{Node}
 use Rattle.hg_names.specs.Labels.{BindsNode, digits_behind, is_byte, is_short, labelled_in}
 use Rattle.hg_names.specs.Names.{value_of}
+use Rattle.hg_names.specs.Slots.{BindsKey}
 
 -- a number above each that a label of this length spells
 abbrev pub bound_of : List ℕ → ℕ
@@ -102,25 +103,25 @@ same_label xs ys all alls h = elim (cases_order (length xs) (length ys)) [
   ]
 ]
 
-other_number : (a b : ℕ) → (a ≡ b → ⊥) → is_eq (nat_cmp a b) ≡ false
+pub other_number : (a b : ℕ) → (a ≡ b → ⊥) → is_eq (nat_cmp a b) ≡ false
 other_number a b apart = sym (unsigned_ties a b) ∙ false_from_ne_true (nat_eq a b) (λ h. apart (eqb-true a b h))
 
 -- a short label is bound
-module _ (short new : BTreeMap ℕ Node) (long : BTreeMap (Vec ℕ Global) Node) (label : List ℕ) (n : Node)
-    (is : is_short label ≡ true) (updates : Updates nat_cmp short new (digits_behind 1 label) (Some n)) where
+module _ (short new : ℕ → Option Node) (long : BTreeMap (Vec ℕ Global) Node) (label : List ℕ) (n : Node)
+    (is : is_short label ≡ true) (binds : BindsKey short (digits_behind 1 label) n new) where
   bytes : (xs : List ℕ) → is_short xs ≡ true → list_all is_byte xs ≡ true
   bytes xs h = (both (nat_lt (length xs) 8) (list_all is_byte xs) h).1
 
-  by_number : (m : BTreeMap ℕ Node) (xs : List ℕ) → is_short xs ≡ true
-      → labelled_in m long xs ≡ get nat_cmp m (digits_behind 1 xs)
-  by_number m xs h = ap (λ b. if b then get nat_cmp m (digits_behind 1 xs) else value_of long xs) h
+  by_number : (m : ℕ → Option Node) (xs : List ℕ) → is_short xs ≡ true
+      → labelled_in m long xs ≡ m (digits_behind 1 xs)
+  by_number m xs h = ap (λ b. if b then m (digits_behind 1 xs) else value_of long xs) h
 
-  by_text : (m : BTreeMap ℕ Node) (xs : List ℕ) → is_short xs ≡ false → labelled_in m long xs ≡ value_of long xs
-  by_text m xs h = ap (λ b. if b then get nat_cmp m (digits_behind 1 xs) else value_of long xs) h
+  by_text : (m : ℕ → Option Node) (xs : List ℕ) → is_short xs ≡ false → labelled_in m long xs ≡ value_of long xs
+  by_text m xs h = ap (λ b. if b then m (digits_behind 1 xs) else value_of long xs) h
 
   same : (other : List ℕ) → bytes_eq label other ≡ true → labelled_in new long other ≡ Some n
   same other h = subst (λ xs. labelled_in new long xs ≡ Some n) ((bytes_eq-Decides label other).0 h)
-      (by_number new label is ∙ updates.1)
+      (by_number new label is ∙ binds.here)
 
   others_stay : (other : List ℕ) → bytes_eq label other ≡ false → labelled_in new long other ≡ labelled_in short long other
   others_stay other h = by (is_short other) refl
@@ -128,9 +129,9 @@ module _ (short new : BTreeMap ℕ Node) (long : BTreeMap (Vec ℕ Global) Node)
       by : (b : Bool) → is_short other ≡ b → labelled_in new long other ≡ labelled_in short long other
       by true e =
           by_number new other e
-          ∙ updates.2 (digits_behind 1 other) (other_number (digits_behind 1 label) (digits_behind 1 other)
+          ∙ binds.others (digits_behind 1 other)
           (λ d. true≢false (sym ((bytes_eq-Decides label other).1
-          (same_label label other (bytes label is) (bytes other e) d)) ∙ h)))
+          (same_label label other (bytes label is) (bytes other e) (sym d))) ∙ h))
           ∙ sym (by_number short other e)
       by false e = by_text new other e ∙ sym (by_text short other e)
 
@@ -141,14 +142,14 @@ module _ (short new : BTreeMap ℕ Node) (long : BTreeMap (Vec ℕ Global) Node)
       (cases_Bool (bytes_eq label other))
 
 -- the key that was found is that of a short label
-pub bound_key : (short new : BTreeMap ℕ Node) (long : BTreeMap (Vec ℕ Global) Node) (label : List ℕ) (n : Node) (k : ℕ)
+pub bound_key : (short new : ℕ → Option Node) (long : BTreeMap (Vec ℕ Global) Node) (label : List ℕ) (n : Node) (k : ℕ)
     → Some k ≡ (if is_short label then Some (digits_behind 1 label) else None)
-    → Updates nat_cmp short new k (Some n) → BindsNode (labelled_in short long) label n (labelled_in new long)
-bound_key short new long label n k h updates = by (is_short label) refl h
+    → BindsKey short k n new → BindsNode (labelled_in short long) label n (labelled_in new long)
+bound_key short new long label n k h binds = by (is_short label) refl h
   where
     by : (b : Bool) → is_short label ≡ b → Some k ≡ (if b then Some (digits_behind 1 label) else None)
         → BindsNode (labelled_in short long) label n (labelled_in new long)
     by true e found =
         bound_short short new long label n e
-        (subst (λ k. Updates nat_cmp short new k (Some n)) (same_Some k (digits_behind 1 label) found) updates)
+        (subst (λ k. BindsKey short k n new) (same_Some k (digits_behind 1 label) found) binds)
     by false e found = absurd (none-some k (sym found))

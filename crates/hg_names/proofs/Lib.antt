@@ -1,2 +1,3 @@
 pub mod NameLemmas
 mod DigitLemmas
+mod SlotLemmas

@@ -2,14 +2,14 @@
 use Rattle.std.specs.Prelude.{ℕ, ◌≡◌, ◌+◌, ◌*◌, Bool, ◌&&◌, List, Option, Some, fold, if◌then◌else◌, length, nat_lt}
 use Rattle.std.specs.declared.vec.Vec.{Vec}
 use Rattle.std.specs.declared.alloc.Global.{Global}
-use Rattle.std.specs.BTreeMap.{BTreeMap, get}
+use Rattle.std.specs.BTreeMap.{BTreeMap}
 use Rattle.std.specs.List.{list_all}
 use Rattle.std.specs.Map.{update}
-use Rattle.std.specs.Ordering.{nat_cmp}
 use Rattle.std.specs.Str.{bytes_eq}
 use Rattle.hg_changeset.specs.declared.node.Node.{Node}
 use Rattle.hg_names.specs.declared.labels.Labels.{Labels}
 use Rattle.hg_names.specs.Names.{value_of}
+use Rattle.hg_names.specs.Slots.{node_of}
 
 -- the bytes as digits of base 256, behind what is given
 abbrev pub digits_behind : ℕ → List ℕ → ℕ
@@ -24,11 +24,11 @@ abbrev pub is_short : List ℕ → Bool
 is_short label = nat_lt (length label) 8 && list_all is_byte label
 
 -- what a label stands for, if it is bound
-abbrev pub labelled_in : BTreeMap ℕ Node → BTreeMap (Vec ℕ Global) Node → List ℕ → Option Node
-labelled_in short long label = if is_short label then get nat_cmp short (digits_behind 1 label) else value_of long label
+abbrev pub labelled_in : (ℕ → Option Node) → BTreeMap (Vec ℕ Global) Node → List ℕ → Option Node
+labelled_in short long label = if is_short label then short (digits_behind 1 label) else value_of long label
 
 abbrev pub labelled : Labels → List ℕ → Option Node
-labelled labels label = labelled_in labels.short labels.long label
+labelled labels label = labelled_in (node_of labels.short) labels.long label
 
 -- the label stands for the node, and each other for what it did
 abbrev pub BindsNode : (List ℕ → Option Node) → List ℕ → Node → (List ℕ → Option Node) → Type 0

@@ -1,2 +1,3 @@
 pub mod Names
+pub mod Slots
 pub mod Labels

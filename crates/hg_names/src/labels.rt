@@ -4,6 +4,7 @@ ghost use Rattle.std.specs.List.{list_all};
 ghost use Rattle.hg_names.specs.Labels.{digits_behind, is_byte, is_short, labelled, BindsNode};
 
 use crate::names::{bind, bound};
+use crate::short::ShortLabels;
 use hg_changeset::Node;
 use std::alloc::{AllocError, Global};
 use std::collections::BTreeMap;
@@ -14,7 +15,7 @@ const SHORT: usize = 7;
 /// What labels stand for: for each label, which is bytes, a node or nothing.
 pub struct Labels {
     alloc: Global,
-    short: BTreeMap<u64, Node>,
+    short: ShortLabels,
     long: BTreeMap<Vec<u8>, Node>,
 }
 
@@ -36,7 +37,7 @@ impl Labels {
     {
         Labels {
             alloc,
-            short: BTreeMap::new(alloc),
+            short: ShortLabels::new(alloc),
             long: BTreeMap::new(alloc),
         }
     }
@@ -46,7 +47,7 @@ impl Labels {
         ensures { result ≡ labelled self.now label.now }
     {
         match short_key(label) {
-            Some(key) => self.short.get(&key).copied(),
+            Some(key) => self.short.get(key),
             None => bound(&self.long, label),
         }
     }
@@ -56,9 +57,7 @@ impl Labels {
         ensures { OnOk result (BindsNode (labelled self.old) label.now node (labelled self.new)) }
     {
         match short_key(label) {
-            Some(key) => {
-                self.short.insert(key, node)?;
-            }
+            Some(key) => self.short.bind(key, node)?,
             None => bind(self.alloc, &mut self.long, label, node)?,
         }
         Ok(())

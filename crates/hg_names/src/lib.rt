@@ -1,9 +1,10 @@
 //! Names in a script, and what they stand for.
 //!
 //! [`bound`] and [`bind`] look names up in an ordered map. Labels, of which a script has as many as changesets, have a
-//! type of their own, [`Labels`]: a label of up to seven bytes is looked up as the number that it spells, so that it
-//! costs a few comparisons of numbers and no copy of the label; a longer one is looked up by its text. No choice of
-//! names makes a look-up dear.
+//! type of their own, [`Labels`]: a label of up to seven bytes is looked up as the number that it spells. The number
+//! tells four slots, and mostly stands at the first, so a look-up costs a comparison of numbers as a rule, and no copy
+//! of the label. Labels that find their slots taken stand in an ordered map, and longer ones in one of texts, so no
+//! choice of names makes a look-up dear.
 //!
 //! # Example
 //!
@@ -20,6 +21,7 @@
 
 mod labels;
 mod names;
+mod short;
 
 pub use labels::Labels;
 pub use names::{are_distinct, bind, bound};

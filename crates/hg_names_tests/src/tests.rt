@@ -37,6 +37,77 @@ fn labels_of_any_length_stand_for_what_they_were_bound_to_last(rt: HostRuntime) 
     }
 }
 
+// Labels with one and the same slot among 32 or fewer, so that all but one of them stand aside.
+const SHARED: [[u8; 5]; 12] = [
+    *b"aa7x5", *b"ci3nx", *b"cy4n5", *b"dh28n", *b"eodab", *b"evz1c", *b"e0guj", *b"f3sk5",
+    *b"gqj06", *b"hiak7", *b"hjzgh", *b"ijsuk",
+];
+
+// A label of eight bytes, whose first four are one too.
+fn text_of(number: usize) -> [u8; 8] {
+    let hundreds = (number / 100 % 10) as u8;
+    let tens = (number / 10 % 10) as u8;
+    let ones = (number % 10) as u8;
+    [
+        b'0' + hundreds,
+        b'0' + tens,
+        b'0' + ones,
+        b'.',
+        b'l',
+        b'o',
+        b'n',
+        b'g',
+    ]
+}
+
+#[test]
+fn labels_that_share_their_slots_are_found(rt: HostRuntime) {
+    let mut labels = Labels::new(rt.alloc());
+    for number in 0..SHARED.len() {
+        assert_eq!(rt; labels.get(&SHARED[number]), None);
+        labels
+            .bind(&SHARED[number], Node([number as u8; 20]))
+            .expect(&rt, "memory");
+    }
+    labels
+        .bind(&SHARED[7], Node([77; 20]))
+        .expect(&rt, "memory");
+    for number in 0..SHARED.len() {
+        let node = if number == 7 { 77 } else { number as u8 };
+        assert_eq!(rt; labels.get(&SHARED[number]), Some(Node([node; 20])));
+    }
+    assert_eq!(rt; labels.get(b"ynano"), None);
+}
+
+#[test]
+fn many_labels_are_found_behind_those_that_share_slots(rt: HostRuntime) {
+    let mut labels = Labels::new(rt.alloc());
+    for label in &SHARED {
+        labels.bind(label, Node([255; 20])).expect(&rt, "memory");
+    }
+    for number in 0..500 {
+        let text = text_of(number);
+        let node = (number % 100) as u8;
+        assert_eq!(rt; labels.get(&text[..4]), None);
+        labels
+            .bind(&text[..4], Node([node; 20]))
+            .expect(&rt, "memory");
+        assert_eq!(rt; labels.get(&text), None);
+        labels
+            .bind(&text, Node([node + 100; 20]))
+            .expect(&rt, "memory");
+    }
+    for number in 0..500 {
+        let text = text_of(number);
+        let node = (number % 100) as u8;
+        assert_eq!(rt; labels.get(&text[..4]), Some(Node([node; 20])));
+        assert_eq!(rt; labels.get(&text), Some(Node([node + 100; 20])));
+    }
+    for label in &SHARED {
+        assert_eq!(rt; labels.get(label), Some(Node([255; 20])));
+    }
+}
+
 #[test]
 fn names_that_come_twice(rt: HostRuntime) {
     let alloc = rt.alloc();
@@ -59,5 +130,27 @@ fn refused_growth_binds_nothing(rt: HostRuntime) {
             assert!(rt; labels.bind(text, node).is_ok());
         }
         assert_eq!(rt; labels.get(text), Some(node));
+    }
+}
+
+#[test]
+fn refused_growth_keeps_what_is_bound(rt: HostRuntime) {
+    let mut labels = Labels::new(rt.alloc());
+    let node = Node([7; 20]);
+    for label in &SHARED {
+        assert!(rt; labels.bind(label, node).is_ok() || labels.bind(label, node).is_ok());
+    }
+    for number in 0..20 {
+        let text = text_of(number);
+        assert!(rt; labels.bind(&text, node).is_ok() || labels.bind(&text, node).is_ok());
+        assert!(rt; labels.bind(&text[..4], node).is_ok() || labels.bind(&text[..4], node).is_ok());
+    }
+    for label in &SHARED {
+        assert_eq!(rt; labels.get(label), Some(node));
+    }
+    for number in 0..20 {
+        let text = text_of(number);
+        assert_eq!(rt; labels.get(&text), Some(node));
+        assert_eq!(rt; labels.get(&text[..4]), Some(node));
     }
 }
