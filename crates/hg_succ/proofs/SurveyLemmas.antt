@@ -1,7 +1,8 @@
 -- Spans that lie beside each other, and what their nodes then have in common.
 use Rattle.std.proofs.Common.{◌≡◌, ℕ, ◌<◌, ◌≤◌, true, false, nat_lt, ◌||◌, List, [], ◌∷◌, ◌++◌}
 use Rattle.std.proofs.Common.{length, map, get_or, Contains, Option, Some, None, ◌⊎◌, inl, inr, refl, sym, ap, subst}
-use Rattle.std.proofs.Common.{◌∙◌, ◌+◌, ◌↔◌, IsTrue, true≢false, length-set, arith, set}
+use Rattle.std.specs.Cmp.{unsigned_Decides}
+use Rattle.std.proofs.Common.{Bool, eqb, zero, suc, ◌∙◌, ◌+◌, ◌↔◌, IsTrue, true≢false, length-set, arith, set}
 use Rattle.std.specs.List.{AllPairs, flat_map, list_any}
 use Rattle.std.specs.Option.{option_map_or, option_and_then}
 use Rattle.std.proofs.lemmas.Bool.{cases_Bool, cases_eq, cases_lt, and_parts, ltb-true}
@@ -31,6 +32,8 @@ use Rattle.hg_succ.specs.Search.{IsListed}
 use Rattle.hg_succ.specs.Successors.{IsPick, IsPickOfEach, IsOnCycle, IsRewrittenTo}
 use Rattle.hg_succ.specs.Successors.IsPick.{on_cycle, itself, unknown, rewritten}
 use Rattle.hg_succ.specs.Successors.IsPickOfEach.{no_places, next_place}
+use Rattle.std.proofs.lemmas.List.{append-nil}
+use Rattle.hg_succ.specs.Factors.{IsOnlySuccessor}
 use Rattle.hg_succ.specs.Numbered.{successors_at, AreOnce, AreRows, IsNumbered}
 use Rattle.hg_succ.specs.Plan.{AreStrangers, IsApart, InSpan, IsSpan, IsSeen, rank_of, span_at, span_of, both}
 use Rattle.hg_succ.specs.Plan.{are_beside, no_span, gathered, gather_all, seen_at, IsSurveyed, HasStarts, Surveys}
@@ -297,6 +300,25 @@ pub seen_some : (rank : ℕ) (spans : List (Option Span)) (nodes : List Node) (m
 seen_some rank spans nodes markers [] some = absurd (some refl)
 seen_some rank spans nodes markers (p ∷ ps) some = refl
 
+-- one successor alone hands its span on
+pub seen_only : (s : ReplicaState) (nodes : List Node) (n : Node) (places : List ℕ)
+    → ArePlaces (λ m. m.predecessor ≡ n) s.markers places → (spans : List (Option Span)) (rank : ℕ) (x : Node)
+    → IsOnlySuccessor s.markers places x → (j : ℕ) (y : Node) → AreOnce nodes → At nodes j y
+    → IsRewrittenTo (content_of s) n y
+    → gathered no_span (span_at spans j) ≡ seen_at rank spans nodes s.markers places
+seen_only s nodes n places are spans rank x only j y once at to =
+    let w = (rewritten_places s places n are y).1 to in
+    let p_is : only.0 ≡ w.0 = Contains-one only.0 w.0 (subst (λ (ps : List ℕ). Contains ps w.0) only.1 w.1) in
+    let same : x ≡ y = Contains-one x y
+    (subst (λ (ns : List Node). Contains ns y) (ap (successors_at s.markers) (sym p_is) ∙ only.2) w.2) in
+    let span : span_of spans nodes x ≡ span_at spans j = ap (span_of spans nodes) same
+    ∙ span_at_number spans nodes j y once at in
+    let flat : flat_map (successors_at s.markers) (only.0 ∷ []) ≡ x ∷ [] = append-nil (successors_at s.markers only.0)
+    ∙ only.2 in
+    ap (gathered no_span) (sym span)
+    ∙ sym (ap (seen_at rank spans nodes s.markers) only.1
+    ∙ ap (λ (ns : List Node). gather_all no_span (map (span_of spans nodes) ns)) flat)
+
 -- ---- one node more is seen
 
 module _ (s : ReplicaState) (ranks : List ℕ) (nodes : List Node) (order : List Settled) (rows : List (List ℕ))
@@ -429,3 +451,7 @@ closed_nodes s roots nodes rows is n y h to =
     let at = place_from_Contains nodes n h in
     let e = edge_from (content_of s) nodes rows is.once is.all is.exact at.0 n y at.1 to in
     Contains-from_place nodes e.0 y e.1
+
+pub some_numbers : (empty : Bool) (count : ℕ) → empty ≡ eqb count 0 → empty ≡ false → 0 < count
+some_numbers empty zero e f = absurd (true≢false (sym (e ∙ (unsigned_Decides 0 0).1 refl) ∙ f))
+some_numbers empty (suc count) e f = omega arith

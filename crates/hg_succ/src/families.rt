@@ -448,8 +448,8 @@ impl Table {
     }
 }
 
-// Whether one place is given, and the marker there has one successor.
-fn has_one_successor(markers: &[Marker], places: &[usize]) -> bool
+/// Whether one place is given, and the marker there has one successor.
+pub(crate) fn has_one_successor(markers: &[Marker], places: &[usize]) -> bool
     ensures { IsTrue result → (x : Node) × IsOnlySuccessor markers.now places.now x }
 {
     if places.len() != 1 {

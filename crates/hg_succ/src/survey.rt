@@ -9,10 +9,11 @@ ghost use Rattle.hg_changeset.specs.declared.node.Node.{Node};
 ghost use Rattle.hg_replica.specs.Content.{content_of};
 ghost use Rattle.hg_succ.specs.declared.search.Settled.{Settled};
 ghost use Rattle.hg_succ.specs.Rows.{At, rows_of, IsOrder};
-ghost use Rattle.hg_succ.specs.Numbered.{successors_at, AreOnce, AreRows};
+ghost use Rattle.hg_succ.specs.Numbered.{successors_at, AreOnce, AreRows, IsRow};
 ghost use Rattle.hg_succ.specs.Plan.{Surveys, IsSeen, Tangles};
-ghost use Rattle.hg_succ.specs.Plan.{gathered, gather_all, span_of, no_span};
+ghost use Rattle.hg_succ.specs.Plan.{gathered, gather_all, span_at, span_of, no_span};
 
+use crate::families::has_one_successor;
 use crate::numbered::successors_at;
 use crate::search::Settled;
 use hg_changeset::Node;
@@ -113,10 +114,18 @@ impl Survey {
     {
         for settled in order {
             let number = settled.node;
-            let gathered = self.gathered(replica, nodes, ranks[number], number, settled.cyclic);
+            let row = &rows[number];
+            let gathered = self.gathered(
+                replica,
+                nodes,
+                ranks[number],
+                number,
+                row,
+                settled.cyclic,
+            );
             self.spans[number] = gathered.span;
             if !gathered.are_apart {
-                self.tangle(nodes, number, &rows[number])?;
+                self.tangle(nodes, number, row)?;
             }
         }
         Ok(())
@@ -129,9 +138,13 @@ impl Survey {
         nodes: &NodeSet,
         rank: usize,
         number: usize,
+        row: &[usize],
         cyclic: bool,
     ) -> Gathered
         requires number { number < length nodes.now.keys }
+        requires once { AreOnce nodes.now.keys }
+        requires row { (n : Node) → At nodes.now.keys number n
+            → IsRow (content_of replica.now) nodes.now.keys n row.now }
         ensures cyclic { IsTrue cyclic → result ≡ no_span }
         ensures seen { cyclic ≡ false → (n : Node) → At nodes.now.keys number n
             → IsSeen replica.now self.now.spans.items nodes.now.keys rank n result }
@@ -151,7 +164,25 @@ impl Survey {
                 are_apart: true,
             };
         }
-        self.gather_all(nodes, store.markers(), places)
+        let markers = store.markers();
+        if has_one_successor(markers, places) && !row.is_empty() {
+            return self.passed_on(row[0]);
+        }
+        self.gather_all(nodes, markers, places)
+    }
+
+    // Of one successor alone, whose number is given.
+    fn passed_on(&self, number: usize) -> Gathered
+        ensures { result ≡ gathered no_span (span_at self.now.spans.items number) }
+    {
+        let span = match self.spans.get(number) {
+            Some(span) => *span,
+            None => None,
+        };
+        Gathered {
+            span,
+            are_apart: true,
+        }
     }
 
     // Of the successors of the markers at these places.

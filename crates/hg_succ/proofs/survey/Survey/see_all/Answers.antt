@@ -32,7 +32,7 @@ tangle-requires-clause-row c j h =
     let at : At (rows_of rows) e.node row.items = row_at rows e.node row l c.index-rows-number.is in
     let w = rows_within (content_of c.args.replica.now) nodes (rows_of rows) c.requires.once
     (all_rows rows nodes c.requires.all) c.requires.rows e.node j
-    (row.items, at, subst (λ (js : List ℕ). Contains js j) c.deref.ensures.value h) in
+    (row.items, at, subst (λ (js : List ℕ). Contains js j) c.deref-then-not-gathered.ensures.value h) in
     omega (arith, w, all_rows rows nodes c.requires.all)
 
 pub loop-settled-preserved : goal.loop-settled-preserved
@@ -57,15 +57,15 @@ loop-settled-preserved c =
     elim c.if-not-gathered.branch [
       | then-not-gathered+in_ok-tangle w ↦
           let tangles = w.in_ok-tangle.ensures some.0 some.1 in
-          let row = w.index-rows-number.result in
-          let at : At (rows_of rows) e.node row.items = row_at rows e.node row l w.index-rows-number.is in
+          let row = c.index-rows-number.result in
+          let at : At (rows_of rows) e.node row.items = row_at rows e.node row l c.index-rows-number.is in
           subst (IsSurveyed s ranks nodes order (i + 1)) (sym w.self-is)
           (surveyed_more s ranks nodes order (rows_of rows) c.requires.once all c.requires.rows c.requires.order i e e_at
           old before g told.cyclic told.seen w.tangle.new.self tangles.spans (λ x h. tangles.kept x h)
           (λ apart x x_at. (w.in_ok-tangle.ensures x x_at).there)
           (starts_more s ranks nodes order (rows_of rows) c.requires.once all c.requires.rows c.requires.order i e e_at
           old before g told.cyclic told.seen row.items w.tangle.new.self at some.0 some.1 tangles.only
-          (λ j y h y_at. tangles.starts j y (subst (λ (js : List ℕ). Contains js j) (sym w.deref.ensures.value) h) y_at)
+          (λ j y h y_at. tangles.starts j y (subst (λ (js : List ℕ). Contains js j) (sym w.deref-then-not-gathered.ensures.value) h) y_at)
           tangles.starts_kept))
       | else-not-gathered w ↦
           subst (IsSurveyed s ranks nodes order (i + 1)) (sym w.self-is)
