@@ -63,7 +63,8 @@ fn push_unions(
 fn union(alloc: Global, first: &[Node], second: &[Node]) -> Result<Vec<Node>, AllocError>
     ensures { IfOk result (λ both. both.items ≡ first.now ++ second.now) }
 {
-    let mut both = Vec::from_slice(alloc, first)?;
+    let mut both = Vec::with_capacity(alloc, first.len() + second.len())?;
+    both.extend_from_slice(first)?;
     both.extend_from_slice(second)?;
     Ok(both)
 }
