@@ -437,13 +437,13 @@ def splits_in_a_chain(size):
 
 def splits_that_meet_its_sets(size):
     """Splits into `Y` and one more that is in half of the sets of `Y`: its last part is relocated onto `Y`, and then
-    split into that one and another at one node, and amended at the other."""
+    split into that one and another at one node, and into two others at the other. So the sets differ in length."""
     last = WIDE_PARTS - 1
     yield from wide_split(["commit A k draft Y"])
     yield f"relocate A p{last} q Y"
     yield "pull B A"
     yield "split A q l m"
-    yield "amend B q r"
+    yield "split B q r s"
     yield from amends_of_parts("A", "a", last)
     yield from amends_of_parts("B", "b", last)
     for number in range(size):
@@ -532,7 +532,7 @@ CASES += [
         lambda size: splits_and_reports(size, lambda number: f"z{number // 2}"), WIDE_SIZES,
         lambda size: WIDE_LINES + size // 2),
     ("the same, where the one more is in half of the 4,096 sets", splits_that_meet_its_sets, MEETING_SIZES,
-        lambda size: WIDE_LINES + 1),
+        lambda size: WIDE_LINES + 2),
     ("the same, where each one more is met between the parts of the id", splits_met_between_its_parts, WIDE_SIZES,
         lambda size: WIDE_LINES + 3 * size),
     ("the same in a chain, each into the one before and one more", splits_in_a_chain, (50, 100, 200),
