@@ -537,8 +537,8 @@ CASES += [
         lambda size: WIDE_LINES + 3 * size),
     ("the same in a chain, each into the one before and one more", splits_in_a_chain, (50, 100, 200),
         lambda size: WIDE_LINES - 1 + 2 * size),
-    ("20 such splits, and reports", lambda size: splits_and_reports(20, reports=size), (50, 100, 200),
-        lambda size: (WIDE_LINES + 20) * size),
+    ("one such split, and so many reports", lambda size: splits_and_reports(1, reports=size), (2_000, 4_000, 8_000),
+        lambda size: (WIDE_LINES + 1) * size),
     ("such splits pulled one by one above the forks, and a report", splits_pulled_above_forks, (16, 32, 64),
         lambda size: WIDE_LINES + size),
 ]
