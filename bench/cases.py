@@ -364,6 +364,111 @@ def mixed(size):
     yield from ("agree A B", "agree B C", "agree C A")
 
 
+# ---- many successors sets: an id that was split into 12, each of which was rewritten in two ways at two nodes
+
+
+WIDE_PARTS = 12
+
+
+def amends_of_parts(node, letter, parts):
+    """Amends of so many parts at a node, from the last on."""
+    for part in reversed(range(parts)):
+        yield f"amend {node} p{part} {letter}{part}"
+
+
+def wide_split(at_first=()):
+    """Two nodes and an id `Y` that is split into 12, with some lines before. Once its parts are amended at both nodes
+    it has 4,096 successors sets."""
+    yield from ("node A", "node B", "commit A Y draft")
+    yield from at_first
+    yield "split A Y " + " ".join(f"p{part}" for part in range(WIDE_PARTS))
+    yield "pull B A"
+
+
+def split_at_its_own_node(number, *new):
+    """A root that is split into these at a node of its own, where none of them is held yet."""
+    yield f"node {number}"
+    yield f"commit {number} x{number} draft"
+    yield f"split {number} x{number} " + " ".join(new)
+
+
+def pulled_into_one(size):
+    """The nodes of so many splits pulled into one, which holds no fork until the last pull."""
+    yield "node T"
+    yield from (f"pull T {number}" for number in range(size))
+    yield from ("pull T A", "pull T B")
+
+
+def splits_into_a_wide_one(size, further):
+    """Splits into `Y` and what is further for each number, pulled into one node."""
+    yield from wide_split()
+    yield from amends_of_parts("A", "a", WIDE_PARTS)
+    yield from amends_of_parts("B", "b", WIDE_PARTS)
+    for number in range(size):
+        yield from split_at_its_own_node(number, "Y", further(number))
+    yield from pulled_into_one(size)
+
+
+def splits_and_reports(size, further=lambda number: f"z{number}", reports=1):
+    yield from splits_into_a_wide_one(size, further)
+    for _ in range(reports):
+        yield "report T"
+
+
+def splits_pulled_above_forks(size):
+    """The same splits, each pulled by itself into a node that holds the forks already, and a report."""
+    yield from splits_into_a_wide_one(0, None)
+    for number in range(size):
+        yield from split_at_its_own_node(number, "Y", f"z{number}")
+        yield f"pull T {number}"
+    yield "report T"
+
+
+def splits_in_a_chain(size):
+    """Splits in a chain above `Y`: each is into the one before and one more. They are pulled into one node."""
+    yield from wide_split()
+    yield from amends_of_parts("A", "a", WIDE_PARTS)
+    yield from amends_of_parts("B", "b", WIDE_PARTS)
+    for number in range(size):
+        yield from split_at_its_own_node(number, f"x{number - 1}" if number else "Y", f"z{number}")
+    yield from pulled_into_one(size)
+    yield "report T"
+
+
+def splits_that_meet_its_sets(size):
+    """Splits into `Y` and one more that is in half of the sets of `Y`: its last part is relocated onto `Y`, and then
+    split into that one and another at one node, and into two others at the other. So the sets differ in length."""
+    last = WIDE_PARTS - 1
+    yield from wide_split(["commit A k draft Y"])
+    yield f"relocate A p{last} q Y"
+    yield "pull B A"
+    yield "split A q l m"
+    yield "split B q r s"
+    yield from amends_of_parts("A", "a", last)
+    yield from amends_of_parts("B", "b", last)
+    for number in range(size):
+        yield from split_at_its_own_node(number, "Y", "l")
+    yield from pulled_into_one(size)
+    yield "report T"
+
+
+def splits_met_between_its_parts(size):
+    """Splits into `Y` and one of their own, which another id was split into, too, and that was rewritten in two ways.
+    So a walk from what was rewritten in two ways, in the order of the markers, meets each one more behind the first
+    part of `Y` and before the others."""
+    last = WIDE_PARTS - 1
+    yield from wide_split(f"commit A w{number} draft Y" for number in range(size))
+    yield from amends_of_parts("A", "a", WIDE_PARTS)
+    yield from (f"split A w{number} z{number} v{number}" for number in range(size))
+    yield f"amend B p{last} b{last}"
+    yield from (f"amend B w{number} c{number}" for number in range(size))
+    yield from amends_of_parts("B", "b", last)
+    for number in range(size):
+        yield from split_at_its_own_node(number, "Y", f"z{number}")
+    yield from pulled_into_one(size)
+    yield "report T"
+
+
 SIZES = (10_000, 20_000, 40_000)
 SMALL = (5_000, 10_000, 20_000)
 
@@ -411,4 +516,29 @@ CASES += [
     ("a changeset with so many children, amended, published and pulled", many_children, SIZES, lambda size: 1),
     ("pulls between nodes of so many heads each", pulls_between_many_heads, SMALL, lambda size: 1),
     ("a mixed script with 20 pulls", mixed, (12_000, 24_000, 48_000), lambda size: 3),
+]
+
+# Of the 12 parts and the 24 changesets that they became, one is hidden. With `Y` and two lines around them that is 38.
+WIDE_SIZES = (800, 1_600, 3_200)
+MEETING_SIZES = (8, 16, 32)
+WIDE_LINES = 38
+CASES += [
+    ("splits at nodes of their own into an id with 4,096 sets and one more", splits_and_reports, WIDE_SIZES,
+        lambda size: WIDE_LINES + size),
+    ("the same, where the one more is the same for all",
+        lambda size: splits_and_reports(size, lambda number: "z"), WIDE_SIZES,
+        lambda size: WIDE_LINES + 1),
+    ("the same, where pairs share the one more",
+        lambda size: splits_and_reports(size, lambda number: f"z{number // 2}"), WIDE_SIZES,
+        lambda size: WIDE_LINES + size // 2),
+    ("the same, where the one more is in half of the 4,096 sets", splits_that_meet_its_sets, MEETING_SIZES,
+        lambda size: WIDE_LINES + 2),
+    ("the same, where each one more is met between the parts of the id", splits_met_between_its_parts, WIDE_SIZES,
+        lambda size: WIDE_LINES + 3 * size),
+    ("the same in a chain, each into the one before and one more", splits_in_a_chain, (50, 100, 200),
+        lambda size: WIDE_LINES - 1 + 2 * size),
+    ("one such split, and so many reports", lambda size: splits_and_reports(1, reports=size), (2_000, 4_000, 8_000),
+        lambda size: (WIDE_LINES + 1) * size),
+    ("such splits pulled one by one above the forks, and a report", splits_pulled_above_forks, (16, 32, 64),
+        lambda size: WIDE_LINES + size),
 ]

@@ -21,6 +21,7 @@ mod rewrites;
 mod signals;
 mod states;
 mod successors;
+mod wide;
 
 use calling::call_beside_readers;
 use discoveries::discover;
@@ -41,6 +42,7 @@ use std::thread::Threads;
 use std::time::{Clock, CpuClock, Duration};
 use std::{env, io};
 use successors::{Chains, tell_divergent, tell_sets};
+use wide::{Wide, tell_wide};
 
 const MANY: Chains = Chains {
     length: 1000,
@@ -126,6 +128,11 @@ fn spent_on_exchange(
         "sets-of-chains" => tell_sets(rt, size, MANY),
         "sets-of-pairs" => tell_sets(rt, size, PAIRS),
         "sets-of-one-chain" => tell_sets(rt, size, one_chain(size)),
+        "sets-wide" => tell_wide(rt, size, Wide::Alone),
+        "sets-split" => tell_wide(rt, size, Wide::Split),
+        "sets-split-between" => tell_wide(rt, size, Wide::Between),
+        "sets-split-chain" => tell_wide(rt, size, Wide::Chain),
+        "sets-tangled" => tell_wide(rt, size, Wide::Tangled),
         "divergence-of-chains" => tell_divergent(rt, size, MANY),
         "divergence-of-pairs" => tell_divergent(rt, size, PAIRS),
         "divergence-of-one-chain" => tell_divergent(rt, size, one_chain(size)),

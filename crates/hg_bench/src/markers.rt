@@ -104,7 +104,7 @@ fn markers(alloc: Global, size: usize, shape: Shape) -> Result<Vec<Marker>, Allo
             Shape::Fan => (node(size), node(next)),
             Shape::Meeting => (meeting(number), meeting(next)),
         };
-        if let Some(marker) = marker(alloc, old, new) {
+        if let Some(marker) = marker(alloc, old, &[new]) {
             markers.push(marker)?;
         }
     }
@@ -113,15 +113,25 @@ fn markers(alloc: Global, size: usize, shape: Shape) -> Result<Vec<Marker>, Allo
 
 /// Adds to the part that the one was rewritten to the other.
 pub fn add_marker(alloc: Global, part: &mut Part, old: Node, new: Node) -> Result<(), AllocError> {
+    add_split(alloc, part, old, &[new])
+}
+
+/// Adds to the part that the one was rewritten to these, all together.
+pub fn add_split(
+    alloc: Global,
+    part: &mut Part,
+    old: Node,
+    new: &[Node],
+) -> Result<(), AllocError> {
     if let Some(marker) = marker(alloc, old, new) {
         part.markers.push(marker)?;
     }
     Ok(())
 }
 
-// A marker of 200 bytes.
-fn marker(alloc: Global, old: Node, new: Node) -> Option<Marker> {
-    let successors = Vec::from_slice(alloc, &[new]).ok()?;
+// A marker, of 200 bytes where it has one successor.
+fn marker(alloc: Global, old: Node, new: &[Node]) -> Option<Marker> {
+    let successors = Vec::from_slice(alloc, new).ok()?;
     let metadata = metadata(alloc).ok()?;
     Marker::new(old, successors, 0, metadata).ok()
 }

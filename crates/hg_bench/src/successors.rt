@@ -45,8 +45,8 @@ pub fn tell_divergent(
     Ok(rt.thread_cpu_time()?.saturating_sub(before))
 }
 
-// The predecessors of all markers.
-fn predecessors(alloc: Global, replica: &Replica) -> Result<Vec<Node>, AllocError> {
+/// The predecessors of all markers.
+pub fn predecessors(alloc: Global, replica: &Replica) -> Result<Vec<Node>, AllocError> {
     let mut nodes = Vec::new(alloc);
     for marker in replica.store().markers() {
         nodes.push(marker.predecessor())?;

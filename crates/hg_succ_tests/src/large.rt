@@ -31,8 +31,8 @@ fn doubled(alloc: Global, count: u8) -> Option<Replica> {
     replica_of(alloc, &part)
 }
 
-// Whether the family has so many sets of so many nodes each, in lexicographic order.
-fn is_of(sets: &Sets, count: usize, size: usize) -> bool {
+/// Whether the family has so many sets of so many nodes each, in lexicographic order.
+pub fn is_of(sets: &Sets, count: usize, size: usize) -> bool {
     match sets {
         Sets::Family(family) => {
             let rises = family.as_slice().windows(2).all(|pair| pair[0] < pair[1]);
@@ -71,8 +71,8 @@ fn twice_as_many_ways_are_too_many_also_for_what_led_there(rt: HostRuntime) {
 
 const LENGTH: u16 = 3000;
 
-// The node of a chain with this number.
-fn link(number: u16) -> Node {
+/// The node of a chain with this number.
+pub fn link(number: u16) -> Node {
     let [high, low] = number.to_be_bytes();
     let mut bytes = [0x11; 20];
     bytes[0] = high;

@@ -11,3 +11,5 @@ mod plain;
 mod scene;
 #[cfg(test)]
 mod small;
+#[cfg(test)]
+mod wide;
