@@ -23,7 +23,7 @@ const OFFERED: &[u8] =
 
 // What is asked at a node that took the message.
 #[derive(Drop)]
-enum Look {
+enum Question {
     /// The status of a changeset alone.
     Read,
     /// Which of these it serves: the first, and not the second.
@@ -37,7 +37,7 @@ fn refused_growth_touches_no_look_at_a_changeset(rt: HostRuntime) {
     let Ok(blank) = Blank::new(alloc, Replica::new(alloc)) else {
         return;
     };
-    ask_again::<Brand, _, _>(&rt, alloc, blank, &rt, &Look::Read);
+    ask_again::<Brand, _, _>(&rt, alloc, blank, &rt, &Question::Read);
 }
 
 #[test]
@@ -46,7 +46,7 @@ fn refused_growth_in_what_is_known_is_told_and_passes(rt: HostRuntime) {
     let Ok(blank) = Blank::new(alloc, Replica::new(alloc)) else {
         return;
     };
-    let asked = Look::Known([id(&rt, N1), id(&rt, A)]);
+    let asked = Question::Known([id(&rt, N1), id(&rt, A)]);
     ask_again::<Brand, _, _>(&rt, alloc, blank, &rt, &asked);
 }
 
@@ -56,7 +56,7 @@ fn refused_growth_in_an_offer_is_told_and_passes(rt: HostRuntime) {
     let Ok(blank) = Blank::new(alloc, Replica::new(alloc)) else {
         return;
     };
-    let asked = Look::Offer(Ask {
+    let asked = Question::Offer(Ask {
         common: Vec::new(alloc),
         scope: Scope::Served,
     });
@@ -69,7 +69,7 @@ fn ask_again<K: NodeName, R: Wait + Abort, W: Wait + Drop>(
     alloc: Global,
     blank: Blank,
     keep: W,
-    asked: &Look,
+    asked: &Question,
 )
     requires opening { K.opening ≡ blank.opening }
     requires book { blank.opened ≡ K.book }
@@ -93,13 +93,17 @@ fn ask_again<K: NodeName, R: Wait + Abort, W: Wait + Drop>(
 }
 
 // Whether the look was answered, and not refused for want of memory. The answer is right.
-fn is_told<K: NodeName, W: Wait + Drop>(rt: &impl Abort, pass: &mut Pass<K>, asked: &Look) -> bool {
+fn is_told<K: NodeName, W: Wait + Drop>(
+    rt: &impl Abort,
+    pass: &mut Pass<K>,
+    asked: &Question,
+) -> bool {
     match asked {
-        Look::Read => {
+        Question::Read => {
             look::<K, W>(rt, pass);
             true
         }
-        Look::Known(nodes) => match Open::<K, W>::known(pass, nodes) {
+        Question::Known(nodes) => match Open::<K, W>::known(pass, nodes) {
             Ok(answers) => {
                 assert!(rt; answers.as_slice() == [true, false].as_slice());
                 true
@@ -109,7 +113,7 @@ fn is_told<K: NodeName, W: Wait + Drop>(rt: &impl Abort, pass: &mut Pass<K>, ask
                 false
             }
         },
-        Look::Offer(ask) => match Open::<K, W>::offer(pass, ask) {
+        Question::Offer(ask) => match Open::<K, W>::offer(pass, ask) {
             Ok(bytes) => {
                 assert!(rt; bytes.as_slice() == OFFERED);
                 true
