@@ -1,4 +1,5 @@
 pub mod NodeLemmas
+pub mod ComparingLemmas
 pub mod SameLemmas
 pub mod ChangesetLemmas
 pub mod ExtrasLemmas

@@ -4,13 +4,12 @@
 //! id is 40 hexadecimal digits, which are written in lower case and read in either case.
 ghost use Rattle.std.specs.Prelude.{◌≡◌, ◌↔◌, ◌*◌, nat_eq, replicate, IsTrue, IsOk, IfOk, length, refl, Some};
 ghost use Rattle.std.specs.List.{AllPass};
-ghost use Rattle.std.specs.Cmp.Lexicographic.{slice_cmp};
-ghost use Rattle.std.specs.Ordering.{nat_cmp};
 ghost use lib.Pointwise.{pointwise};
 ghost use Rattle.hex.specs.Hex.{encode_lower, is_hex_digit, IsBytes};
 ghost use Rattle.hg_changeset.specs.Node.{null_node, IsNode, id_value, node_of_hex};
 ghost use Rattle.hg_changeset.specs.Refusals.{node_error_number, node_error_name};
 
+use crate::comparing::{are_same_bytes, bytes_order};
 use crate::feeding::feed_bytes;
 use hex::{FromHex, encode_to_slice};
 use std::cmp::Ordering;
@@ -19,8 +18,22 @@ use std::fmt;
 use std::hash::{Hash, Hasher};
 
 /// A node id.
-#[derive(Clone, Copy, PartialEq, Eq, PartialOrd, Debug)]
+#[derive(Clone, Copy, Eq, PartialOrd, Debug)]
 pub struct Node(pub [u8; 20]);
+
+impl PartialEq for Node {
+    ghost use Rattle.std.specs.Cmp.{partial_equiv_from_equiv};
+    ghost use Rattle.std.specs.Cmp.Lexicographic.{on_texts_equal};
+    ghost use Rattle.hg_changeset.specs.Node.{node_eq};
+
+    ghost eq = { node_eq };
+
+    ghost laws = { partial_equiv_from_equiv (on_texts_equal (λ n. n.0)) };
+
+    fn eq(&self, other: &Node) -> bool {
+        are_same_bytes(&self.0, &other.0)
+    }
+}
 
 impl Ord for Node {
     ghost use Rattle.std.specs.Cmp.Lexicographic.{lists_agrees, on_texts, texts_ties};
@@ -125,25 +138,6 @@ impl Node {
         write_hex(&self.0, &mut text);
         text
     }
-}
-
-// Which bytes come first. Ids mostly differ in one of their first bytes, so these are asked before all.
-fn bytes_order(a: &[u8; 20], b: &[u8; 20]) -> Ordering
-    ensures { result ≡ slice_cmp nat_cmp a.now b.now }
-{
-    let first = a[0].cmp(&b[0]);
-    if first.is_ne() {
-        return first;
-    }
-    let second = a[1].cmp(&b[1]);
-    if second.is_ne() {
-        return second;
-    }
-    let third = a[2].cmp(&b[2]);
-    if third.is_ne() {
-        return third;
-    }
-    a.cmp(b)
 }
 
 // Whether these are the bytes of the null id.
