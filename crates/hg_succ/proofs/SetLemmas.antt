@@ -29,7 +29,10 @@ use Rattle.hg_changeset.proofs.NodeLemmas.{same_not_less, greater_is_less}
 use Rattle.hg_succ.specs.Successors.{AreWithin}
 use Rattle.hg_succ.specs.Answer.{sets_of}
 use Rattle.hg_succ.specs.Unions.{IsSetOf, AreSetsOf, AreLargest, is_within, is_within_larger, is_largest, products}
-use Rattle.hg_succ.specs.Unions.{with_sets, choices_on, IsChoice}
+use Rattle.hg_succ.specs.Unions.{with_sets, choices_on, IsChoice, bit_of, mask_of}
+use Rattle.std.specs.Int.Bits.{bit_or, or_self, or_zero_l, or_zero_r}
+use Rattle.std.proofs.lemmas.Nat.{or_comm}
+use Rattle.std.proofs.lemmas.Nat.Bits.{bit_at_or, same_from_bits}
 use Rattle.hg_obsstore.proofs.IndexLemmas.{among_or_not}
 use Rattle.hg_succ.proofs.SortedLemmas.{below_rest, less_by_place, one_more}
 use Rattle.hg_succ.proofs.NumberLemmas.{more_of}
@@ -531,3 +534,52 @@ ascending_of (n ∷ p) = by (ascending_of p)
             ]),
           ))
     ]
+
+-- ---- masks
+
+or_assoc : (a b c : ℕ) → bit_or (bit_or a b) c ≡ bit_or a (bit_or b c)
+or_assoc a b c = same_from_bits (bit_or (bit_or a b) c) (bit_or a (bit_or b c)) (λ i.
+    let l = bit_at_or (bit_or a b) c i in
+    let m = bit_at_or a b i in
+    let r = bit_at_or a (bit_or b c) i in
+    let s = bit_at_or b c i in
+    omega (arith, l, m, r, s))
+
+or_later : (a b c : ℕ) → bit_or a c ≡ c → bit_or a (bit_or b c) ≡ bit_or b c
+or_later a b c e = sym (or_assoc a b c) ∙ ap (λ d. bit_or d c) (or_comm a b) ∙ or_assoc b a c ∙ ap (bit_or b) e
+
+pub mask_push : (xs : List Node) (x : Node) → mask_of (xs ++ x ∷ []) ≡ bit_or (mask_of xs) (bit_of x)
+mask_push [] x = or_zero_r (bit_of x) ∙ sym (or_zero_l (bit_of x))
+mask_push (y ∷ xs) x = ap (bit_or (bit_of y)) (mask_push xs x) ∙ sym (or_assoc (bit_of y) (mask_of xs) (bit_of x))
+
+mask_has : (ys : List Node) (x : Node) → Contains ys x → bit_or (bit_of x) (mask_of ys) ≡ mask_of ys
+mask_has [] x h = absurd (Contains-none x h)
+mask_has (y ∷ ys) x h = elim (Contains-cons_cases y ys x h) [
+  | inl same ↦ ap (λ (z : Node). bit_or (bit_of z) (bit_or (bit_of y) (mask_of ys))) (sym same)
+      ∙ sym (or_assoc (bit_of y) (bit_of y) (mask_of ys)) ∙ ap (λ k. bit_or k (mask_of ys)) (or_self (bit_of y))
+  | inr later ↦ or_later (bit_of x) (bit_of y) (mask_of ys) (mask_has ys x later)
+]
+
+mask_within : (xs ys : List Node) → AreWithin xs ys → bit_or (mask_of xs) (mask_of ys) ≡ mask_of ys
+mask_within [] ys w = or_zero_l (mask_of ys)
+mask_within (x ∷ xs) ys w =
+    or_assoc (bit_of x) (mask_of xs) (mask_of ys)
+    ∙ ap (bit_or (bit_of x)) (mask_within xs ys (λ z h. w z (Contains-later x xs z h)))
+    ∙ mask_has ys x (w x (Contains-first x xs))
+
+-- a set with another bit isn't within the other
+pub masked_out : (set other : List Node) → ¬ (bit_or (mask_of set) (mask_of other) ≡ mask_of other)
+    → is_within_larger set other ≡ false
+masked_out set other out = elim (cases_Bool (is_within_larger set other)) [
+  | inl within ↦ absurd (out (mask_within set other
+      (within_by_test set other (and_parts (nat_lt (length set) (length other)) (is_within set other) within).1)))
+  | inr less ↦ less
+]
+
+pub mask_at : (sets : List (Vec Node Global)) (i : ℕ) (v : Vec Node Global) → i < length sets → v ≡ get_or sets i v
+    → (masks : List ℕ) → masks ≡ map mask_of (sets_of sets) → get_or masks i 0 ≡ mask_of v.items
+mask_at [] i v l e masks m = absurd (omega (arith, l))
+mask_at (w ∷ sets) zero v l e masks m = ap (λ (ms : List ℕ). get_or ms 0 0) m
+    ∙ ap (λ (u : Vec Node Global). mask_of u.items) (sym e)
+mask_at (w ∷ sets) (suc i) v l e masks m = ap (λ (ms : List ℕ). get_or ms (suc i) 0) m
+    ∙ mask_at sets i v (omega (arith, l)) e (map mask_of (sets_of sets)) refl

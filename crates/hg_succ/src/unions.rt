@@ -2,7 +2,7 @@
 //!
 //! Unions are formed as lists in any order. The largest of them are made sets, sorted and once each; then what is
 //! within a larger one is dropped. Only a set that is smaller than the largest can be, and only it is compared with the
-//! others.
+//! others: first by masks, in which each id has one of 64 bits.
 ghost use Rattle.std.specs.Prelude.{◌≡◌, ◌≤◌, ◌++◌, List, filter, length, map, Contains, IfOk, OnOk, not};
 ghost use Rattle.std.specs.List.{list_any};
 ghost use Rattle.std.specs.List.Sorted.{IsStrictlySortedBy};
@@ -10,7 +10,7 @@ ghost use Rattle.hg_changeset.specs.declared.node.Node.{Node};
 ghost use Rattle.hg_changeset.specs.Node.{node_cmp, node_eq};
 ghost use Rattle.hg_succ.specs.Answer.{sets_of};
 ghost use Rattle.hg_succ.specs.Unions.{products, is_within, is_within_larger, is_largest, IsSetOf, AreSetsOf};
-ghost use Rattle.hg_succ.specs.Unions.{AreLargest, AreAscending};
+ghost use Rattle.hg_succ.specs.Unions.{AreLargest, AreAscending, bit_of, mask_of};
 
 use hg_changeset::Node;
 use std::alloc::{AllocError, Global};
@@ -107,14 +107,44 @@ fn without_subsets(alloc: Global, sets: &[Vec<Node>]) -> Result<Vec<Vec<Node>>, 
     ensures { IfOk result (λ kept. sets_of kept.items ≡ filter (is_largest (sets_of sets.now)) (sets_of sets.now)) }
 {
     let longest = longest(sets);
+    let masks = masks_of(alloc, sets)?;
     let mut kept = Vec::new(alloc);
     for set in sets {
-        if is_largest(set, longest, sets) {
+        if is_largest(set, longest, sets, &masks) {
             let copy = Vec::from_slice(alloc, set)?;
             kept.push(copy)?;
         }
     }
     Ok(kept)
+}
+
+// A mask for each of the sets.
+fn masks_of(alloc: Global, sets: &[Vec<Node>]) -> Result<Vec<u64>, AllocError>
+    ensures { IfOk result (λ masks. masks.items ≡ map mask_of (sets_of sets.now)) }
+{
+    let mut masks = Vec::with_capacity(alloc, sets.len())?;
+    for set in sets {
+        masks.push(mask_of(set))?;
+    }
+    Ok(masks)
+}
+
+// A bit for each member of the set: what is within it has no other bits.
+fn mask_of(set: &[Node]) -> u64
+    ensures { result ≡ mask_of set.now }
+{
+    let mut mask = 0;
+    for node in set {
+        mask |= bit_of(*node);
+    }
+    mask
+}
+
+// One of 64 bits, by the last byte of the id.
+fn bit_of(node: Node) -> u64
+    ensures { result ≡ bit_of node }
+{
+    1 << (node.0[19] % 64)
 }
 
 // A length that none of the sets exceeds.
@@ -131,9 +161,10 @@ fn longest(sets: &[Vec<Node>]) -> usize
 }
 
 // Whether the set isn't empty and isn't within a larger one. None of the sets is longer than `longest`.
-fn is_largest(set: &[Node], longest: usize, sets: &[Vec<Node>]) -> bool
+fn is_largest(set: &[Node], longest: usize, sets: &[Vec<Node>], masks: &[u64]) -> bool
     requires longest { (set : List Node) → Contains (sets_of sets.now) set → length set ≤ longest }
     requires ascending { AreAscending (sets_of sets.now) }
+    requires masks { masks.now ≡ map mask_of (sets_of sets.now) }
     ensures { result ≡ is_largest (sets_of sets.now) set.now }
 {
     if set.is_empty() {
@@ -142,20 +173,35 @@ fn is_largest(set: &[Node], longest: usize, sets: &[Vec<Node>]) -> bool
     if set.len() >= longest {
         return true;
     }
-    is_within_none(set, sets)
+    is_within_none(set, sets, masks)
 }
 
 // Whether the set is within no larger one.
-fn is_within_none(set: &[Node], sets: &[Vec<Node>]) -> bool
-    requires { AreAscending (sets_of sets.now) }
+fn is_within_none(set: &[Node], sets: &[Vec<Node>], masks: &[u64]) -> bool
+    requires ascending { AreAscending (sets_of sets.now) }
+    requires masks { masks.now ≡ map mask_of (sets_of sets.now) }
     ensures { result ≡ not (list_any (is_within_larger set.now) (sets_of sets.now)) }
 {
-    for other in sets {
-        if is_within_larger(set, other) {
+    let mask = mask_of(set);
+    for place in 0..sets.len() {
+        if is_within_masked(set, mask, &sets[place], masks[place]) {
             return false;
         }
     }
     true
+}
+
+// Whether the set is smaller than the other and within it. Their masks are given.
+fn is_within_masked(set: &[Node], mask: u64, other: &[Node], other_mask: u64) -> bool
+    requires ascending { IsStrictlySortedBy node_cmp other.now }
+    requires mask { mask ≡ mask_of set.now }
+    requires other_mask { other_mask ≡ mask_of other.now }
+    ensures { result ≡ is_within_larger set.now other.now }
+{
+    if mask | other_mask != other_mask {
+        return false;
+    }
+    is_within_larger(set, other)
 }
 
 // Whether the set is smaller than the other and within it.
