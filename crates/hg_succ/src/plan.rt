@@ -3,7 +3,6 @@
 //! How many sets a node has is known without a list of them where what its successors lead to has nothing in common:
 //! then no union is within another, and the numbers are multiplied and added. Only where ways may meet again are lists
 //! formed and compared, and those of all that such a node leads to.
-//!
 ghost use Rattle.std.specs.Prelude.{◌≡◌, ◌↔◌, ◌<◌, ℕ, length, IsTrue, IfOk};
 ghost use Rattle.hg_changeset.specs.declared.node.Node.{Node};
 ghost use Rattle.hg_replica.specs.Content.{content_of};

@@ -175,12 +175,8 @@ impl Survey {
     fn passed_on(&self, number: usize) -> Gathered
         ensures { result ≡ gathered no_span (span_at self.now.spans.items number) }
     {
-        let span = match self.spans.get(number) {
-            Some(span) => *span,
-            None => None,
-        };
         Gathered {
-            span,
+            span: self.span_at(number),
             are_apart: true,
         }
     }
@@ -212,7 +208,14 @@ impl Survey {
     fn span(&self, nodes: &NodeSet, node: Node) -> Option<Span>
         ensures { result ≡ span_of self.now.spans.items nodes.now.keys node }
     {
-        match self.spans.get(nodes.get_index_of(node)?) {
+        self.span_at(nodes.get_index_of(node)?)
+    }
+
+    // The span of the node with this number.
+    fn span_at(&self, number: usize) -> Option<Span>
+        ensures { result ≡ span_at self.now.spans.items number }
+    {
+        match self.spans.get(number) {
             Some(span) => *span,
             None => None,
         }
