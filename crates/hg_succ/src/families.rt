@@ -6,7 +6,7 @@ ghost use Rattle.std.specs.Prelude.{◌≡◌, ◌↔◌, ◌<◌, ℕ, length, 
 ghost use Rattle.std.specs.Prelude.{false};
 ghost use Rattle.std.specs.List.{flat_map};
 ghost use Rattle.hg_changeset.specs.declared.node.Node.{Node};
-ghost use Rattle.hg_replica.specs.Content.{content_of};
+ghost use Rattle.hg_replica.specs.Content.{Content, content_of};
 ghost use Rattle.hg_replica.specs.Evolution.{IsPredecessor};
 ghost use Rattle.hg_succ.specs.declared.search.Settled.{Settled};
 ghost use Rattle.hg_succ.specs.Rows.{At, rows_of, IsOrder};
@@ -231,7 +231,16 @@ impl Table {
         }
         let found = self.unions(markers, places)?;
         let family = largest(self.alloc, found)?;
-        if plan.lists(node) {
+        self.keep_or_count(plan.lists(node), family)
+    }
+
+    // Puts the family last where it is to be kept, and else counts its sets.
+    fn keep_or_count(&mut self, is_kept: bool, family: Vec<Vec<Node>>) -> Result<Solved, AllocError>
+        ensures solves { IfOk result (λ solved. (f : Content) (n : Node)
+            → IsSolved f n (are_sets (sets_of family.items)) → Solves f n self.old self.new solved) }
+        ensures kept { IsTrue is_kept → IfOk result (λ solved. (count : ℕ) → ¬ (solved ≡ Solved.Counted count)) }
+    {
+        if is_kept {
             return self.keep(family);
         }
         Ok(Solved::Counted(family.len()))

@@ -17,7 +17,7 @@ use Rattle.hg_succ.specs.Cover.{answer, IsSolved, PutsLast, Solves, known_by}
 use Rattle.hg_succ.specs.Cover.Known.{are_sets, counted}
 use Rattle.hg_succ.specs.Unions.{choices, AreLargest}
 use Rattle.hg_succ.proofs.SolveLemmas.{shared_answer, solved_cycle, solved_over, solved_few, solved_shared}
-use Rattle.hg_succ.proofs.SolveLemmas.{rewritten_somewhere, rewritten_nowhere, solved_apart, only_step, length_sets}
+use Rattle.hg_succ.proofs.SolveLemmas.{rewritten_somewhere, rewritten_nowhere, solved_apart, only_step}
 use Rattle.hg_succ.proofs.FactorLemmas.{empties_few}
 use Rattle.hg_succ.proofs.TableLemmas.{solves_same, solves_last, last_kept}
 use Rattle.hg_succ.proofs.families.Table.solve.Goals as goal
@@ -190,46 +190,6 @@ pub returns-then-not-unites-clause-kept : goal.returns-then-not-unites-clause-ke
 returns-then-not-unites-clause-kept c lists count same =
     true≢false (sym (c.unites.ensures.1 (inl lists)) ∙ c.if-not-unites.true)
 
-pub returns-then-lists-clause-solves : goal.returns-then-lists-clause-solves
-returns-then-lists-clause-solves c =
-    let s = c.args.replica.now in
-    let f = content_of s in
-    let n = c.args.node in
-    let t = c.args.self.now in
-    let places = c.with_predecessor-places.result.now in
-    let ms : c.markers-markers.result.now ≡ s.markers = c.markers-markers.ensures.markers ∙ c.store-store.ensures in
-    let are : ArePlaces (λ m. m.predecessor ≡ n) s.markers places =
-    subst (λ (ms : List Fields). ArePlaces (λ m. m.predecessor ≡ n) ms places) c.store-store.ensures
-    c.with_predecessor-places.ensures in
-    let different : AreDifferent s.markers = subst AreDifferent c.store-store.ensures
-    c.markers-markers.ensures.different in
-    let off = λ (on : IsOnCycle f n). true≢false (sym (c.requires.cyclic.1 on) ∙ c.if-cyclic.false) in
-    let some = rewritten_somewhere s n places are
-    (λ e. true≢false (sym ((unsigned_Decides (length places) 0).1 e) ∙ sym c.is_empty.ensures
-    ∙ c.if-is_empty.false)) in
-    let all : AllWays t s.markers places c.in-Some-all_ways.ways =
-    subst (λ (ks : List Fields). AllWays t ks places c.in-Some-all_ways.ways) ms c.in-Some-all_ways.ensures.few in
-    let family = sets_of c.in_ok-family.family.items in
-    let largest : AreLargest (flat_map (λ p. choices t (successors_at s.markers p)) places) family =
-    subst (λ lists. AreLargest lists family)
-    (c.in_ok-found.ensures ∙ ap (λ (ks : List Fields). flat_map (λ p. choices t (successors_at ks p)) places) ms)
-    c.in_ok-family.ensures in
-    let unites = c.unites.ensures.0 c.if-not-unites.false in
-    let solved = solved_few s t c.requires.table n off (c.requires.below c.if-cyclic.false) different places are all.few
-    (λ x to. c.requires.kept x (c.requires.plan.closed n x unites to)) some family largest in
-    IfOk-weaker c.keep-then-lists.result (PutsLast c.in_ok-family.family t c.keep-then-lists.new.self)
-    (Solves f n t c.keep-then-lists.new.self)
-    (λ e put. solves_last f n t c.keep-then-lists.new.self c.in_ok-family.family e solved put)
-    c.keep-then-lists.ensures
-
-pub returns-then-lists-clause-kept : goal.returns-then-lists-clause-kept
-returns-then-lists-clause-kept c lists =
-    IfOk-weaker c.keep-then-lists.result
-    (PutsLast c.in_ok-family.family c.args.self.now c.keep-then-lists.new.self)
-    (λ e. (count : ℕ) → ¬ (e ≡ Counted count))
-    (λ e put. last_kept c.args.self.now c.keep-then-lists.new.self c.in_ok-family.family e put)
-    c.keep-then-lists.ensures
-
 pub returns-clause-solves : goal.returns-clause-solves
 returns-clause-solves c =
     let s = c.args.replica.now in
@@ -257,10 +217,8 @@ returns-clause-solves c =
     let unites = c.unites.ensures.0 c.if-not-unites.false in
     let solved = solved_few s t c.requires.table n off (c.requires.below c.if-cyclic.false) different places are all.few
     (λ x to. c.requires.kept x (c.requires.plan.closed n x unites to)) some family largest in
-    let long : c.len.result ≡ length family = c.len.ensures ∙ length_sets c.in_ok-family.family in
-    solves_same f n t (Counted c.len.result)
-    (tt, ((family, solved.0, sym long), solved.1))
+    IfOk-weaker c.keep_or_count.result _ (Solves f n t c.keep_or_count.new.self)
+    (λ e told. told f n solved) c.keep_or_count.ensures.solves
 
 pub returns-clause-kept : goal.returns-clause-kept
-returns-clause-kept c lists count same =
-    true≢false (sym (c.lists.ensures.1 lists) ∙ c.if-lists.false)
+returns-clause-kept c lists = c.keep_or_count.ensures.kept (c.lists.ensures.1 lists)
