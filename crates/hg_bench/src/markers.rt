@@ -139,9 +139,7 @@ fn marker(alloc: Global, old: Node, new: &[Node]) -> Option<Marker> {
 // As much as makes a marker with one successor 200 bytes long.
 fn metadata(alloc: Global) -> Result<Metadata, AllocError> {
     let mut metadata = Metadata::new(alloc);
-    let key = Vec::from_slice(alloc, b"user")?;
-    let value = vec![in alloc; b'x'; 149]?;
-    metadata.insert(key, value)?;
+    metadata.insert(alloc, b"user", &[b'x'; 149])?;
     Ok(metadata)
 }
 

@@ -134,6 +134,27 @@ fn refused_growth_of_a_pin_changes_nothing(rt: HostRuntime) {
     }
 }
 
+// Whether pins are copied, at the second try where memory is refused, and stay as they are. `None` where it was refused
+// before.
+fn copies_or_stays(alloc: Global) -> Option<bool> {
+    let (mut kept, [_, trunk, tip]) = stack(alloc, true)?;
+    kept.pin(trunk).ok()?;
+    kept.pin(tip).ok()?;
+    let pins = kept.pins();
+    let copy = match pins.copy() {
+        Ok(copy) => copy,
+        Err(_) => pins.copy().ok()?,
+    };
+    Some(copy.nodes() == pins.nodes() && has_exactly(copy.nodes(), &[trunk, tip]))
+}
+
+#[test]
+fn refused_growth_leaves_pins_that_are_copied(rt: HostRuntime) {
+    if let Some(answer) = copies_or_stays(rt.alloc()) {
+        assert!(rt; answer);
+    }
+}
+
 // Pins or unpins some changeset, which may be refused.
 fn mark_some(kept: &mut Kept, plan: &[Changeset], dice: &mut Dice) {
     let node = some_node(plan, dice);

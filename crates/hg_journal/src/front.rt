@@ -45,7 +45,8 @@ impl<K: HistoryName, E> Front<K, E> {
         }
     }
 
-    /// Whether this is no longer than another beginning of the same history, and so begins it. Else the other begins it.
+    /// Whether this is no longer than another beginning of the same history, and so begins it. Else the other begins
+    /// it.
     pub fn begins(&self, other: &Front<K, E>) -> bool
         ensures prefix { MatchBool result (IsPrefix self.now other.now) (IsPrefix other.now self.now) }
         ensures exact { IsTrue result ↔ (length self.now ≤ length other.now) }

@@ -1,8 +1,8 @@
 //! One history that threads share, and its beginnings.
 //!
-//! A [`History`] is a list of entries that only grows, and only by whoever has it. A [`Front`] is a beginning of it that
-//! was seen, and may lie anywhere: of two fronts of one history the one that is no longer begins the other. The entries
-//! exist in the proofs alone; what is stored of a history and of a front is a count.
+//! A [`History`] is a list of entries that only grows, and only by whoever has it. A [`Front`] is a beginning of it
+//! that was seen, and may lie anywhere: of two fronts of one history the one that is no longer begins the other. The
+//! entries exist in the proofs alone; what is stored of a history and of a front is a count.
 //!
 //! # Example
 //!

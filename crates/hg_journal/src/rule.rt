@@ -1,14 +1,14 @@
 //! The rule of a history, and its steps.
 use logbook::{Gain, Pen, Plain, Play, Rule};
 
-/// What is noted of a step: the entry that was added, if any, and a number that no program sees, the key of the cell that
-/// is away since then.
+/// What is noted of a step: the entry that was added, if any, and a number that no program sees, the key of the cell
+/// that is away since then.
 pub type Note<E> = (Option<E>, u64);
 
 /// The rule of a history: a word is the number of its notes, and of all notes but the last the cell is at home.
 ///
-/// So whoever has the pen of a cell that is away, which the last note names, has seen the whole history, and nobody else
-/// can add to it.
+/// So whoever has the pen of a cell that is away, which the last note names, has seen the whole history, and nobody
+/// else can add to it.
 pub struct Counted;
 
 impl<E> Rule<Note<E>, u64> for Counted {

@@ -21,9 +21,9 @@
 //! ```
 //!
 //! What a node accepts, one [`Entry`] after the other, is its journal: the parts of operations and of messages, and the
-//! marks of pins. [`Node::local`], [`Node::take`], [`Node::pin`] and [`Node::unpin`] work at the newest state, under the
-//! lock; [`Node::read`], [`Node::known`] and [`Node::offer`] answer from the state that was published last, without the
-//! lock, and wait for nobody.
+//! marks of pins. [`Node::local`], [`Node::take`], [`Node::pin`] and [`Node::unpin`] work at the newest state, under
+//! the lock; [`Node::read`], [`Node::known`] and [`Node::offer`] answer from the state that was published last, without
+//! the lock, and wait for nobody.
 //!
 //! What a pass has seen, and what it was told, are beginnings of the one journal. So:
 //!
@@ -61,10 +61,10 @@
 //!
 //! # What is not promised
 //!
-//! The calls of a node that take its lock wait for whoever has it, and publishing waits for readers of what is no longer
-//! published, so no contract says that they return. Nothing is said of the order of two calls of passes that told each
-//! other nothing. That [`Accepted::Later`] comes only where memory was wanting, and a pass is refused only where there
-//! are 16, is for tests.
+//! The calls of a node that take its lock wait for whoever has it, and publishing waits for readers of what is no
+//! longer published, so no contract says that they return. Nothing is said of the order of two calls of passes that
+//! told each other nothing. That [`Accepted::Later`] comes only where memory was wanting, and a pass is refused only
+//! where there are 16, is for tests.
 //!
 //! [`Inbox::put`], [`Inbox::take`] and [`Inbox::close`] may wait for a thread that was stopped in the midst of its own
 //! call, so no contract says that they return. Nor can a contract tell a refusal that had to be from one that had not:

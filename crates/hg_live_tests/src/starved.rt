@@ -18,6 +18,8 @@ enum Call<'a> {
     Local(&'a Op),
     Take(&'a [u8]),
     Pin(Id),
+    /// Of what was pinned.
+    Unpin(Id),
 }
 
 fn make_call<K: NodeName, R: Wait, W: Wait + Drop>(
@@ -30,7 +32,29 @@ fn make_call<K: NodeName, R: Wait, W: Wait + Drop>(
         Call::Local(op) => node.local(rt, pass, op),
         Call::Take(bytes) => node.take(rt, pass, bytes),
         Call::Pin(node_id) => node.pin(rt, pass, *node_id),
+        Call::Unpin(node_id) => node.unpin(rt, pass, *node_id),
     }
+}
+
+// Commits `a`, and pins what is to be unpinned. `None` where memory was refused.
+fn prepare<K: NodeName, R: Wait, W: Wait + Drop>(
+    rt: &R,
+    alloc: Global,
+    node: &Open<K, W>,
+    pass: &mut Pass<K>,
+    asked: &Call<'_>,
+) -> Option<()> {
+    let first = root(alloc, b"a")?;
+    let Ok(Accepted::Shown) = node.local(rt, pass, &first) else {
+        return None;
+    };
+    let Call::Unpin(pinned) = asked else {
+        return Some(());
+    };
+    let Ok(Accepted::Shown) = node.pin(rt, pass, *pinned) else {
+        return None;
+    };
+    Some(())
 }
 
 #[test]
@@ -66,6 +90,16 @@ fn refused_growth_in_a_pin_changes_nothing_that_is_seen(rt: HostRuntime) {
     starve::<Brand, _, _>(&rt, alloc, blank, &rt, &Call::Pin(a), a);
 }
 
+#[test]
+fn refused_growth_in_an_unpin_changes_nothing_that_is_seen(rt: HostRuntime) {
+    let alloc = rt.alloc();
+    let Ok(blank) = Blank::new(alloc, Replica::new(alloc)) else {
+        return;
+    };
+    let a = id(&rt, A);
+    starve::<Brand, _, _>(&rt, alloc, blank, &rt, &Call::Unpin(a), a);
+}
+
 // Calls a node that holds `a`, and looks at what the call is about, before it, after it, and after it was tried again.
 fn starve<K: NodeName, R: Wait + Abort, W: Wait + Drop>(
     rt: &R,
@@ -86,15 +120,12 @@ fn starve<K: NodeName, R: Wait + Abort, W: Wait + Drop>(
     let Ok(mut pass) = node.pass(rt) else {
         return;
     };
-    let Some(first) = root(alloc, b"a") else {
-        return;
-    };
     let Some(last) = root(alloc, b"c") else {
         return;
     };
-    let Ok(Accepted::Shown) = node.local(rt, &mut pass, &first) else {
+    if prepare(rt, alloc, &node, &mut pass, asked).is_none() {
         return;
-    };
+    }
     let before = look::<K, W>(rt, &mut pass, about);
     let answer = make_call(rt, &node, &mut pass, asked);
     let after = look::<K, W>(rt, &mut pass, about);

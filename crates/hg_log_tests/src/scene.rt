@@ -47,10 +47,8 @@ pub fn rewrite(
     old: Node,
     new: &[Node],
 ) -> Option<()> {
-    let key = Vec::from_slice(alloc, b"operation").ok()?;
-    let value = Vec::from_slice(alloc, operation).ok()?;
     let mut metadata = Metadata::new(alloc);
-    metadata.insert(key, value).ok()?;
+    metadata.insert(alloc, b"operation", operation).ok()?;
     let new = Vec::from_slice(alloc, new).ok()?;
     let marker = Marker::new(old, new, 0, metadata).ok()?;
     let mut part = nothing(alloc);

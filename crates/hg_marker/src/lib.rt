@@ -10,10 +10,10 @@
 //!     alloc: Global,
 //!     old: Node,
 //!     new: Node,
-//!     user: Vec<u8>,
+//!     user: &[u8],
 //! ) -> anyhow::Result<(Vec<u8>, Marker)> {
 //!     let mut metadata = Metadata::new(alloc);
-//!     metadata.insert(Vec::from_slice(alloc, b"user")?, user)?;
+//!     metadata.insert(alloc, b"user", user)?;
 //!     let successors = Vec::from_slice(alloc, &[new])?;
 //!     // SelfSuccessor where both are one node, NullSuccessor where the new one is the null id, BadValue where the
 //!     // user holds a NUL, and MetaTooLong where the user is too long: the first of these that applies.

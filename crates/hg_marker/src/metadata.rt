@@ -102,27 +102,26 @@ impl Metadata {
     }
 
     /// Sets the value of a key. Without memory nothing changes.
-    pub fn insert(&mut self, key: Vec<u8>, value: Vec<u8>) -> Result<(), AllocError>
-        ensures ok { OnOk result (self.new ≡ finite.insert self.old key.items value.items) }
+    pub fn insert(&mut self, alloc: Global, key: &[u8], value: &[u8]) -> Result<(), AllocError>
+        ensures ok { OnOk result (self.new ≡ finite.insert self.old key.now value.now) }
         ensures err { OnErr result (self.new ≡ self.old) }
     {
-        *self = self.with(key, value)?;
+        *self = self.with(alloc, key, value)?;
         Ok(())
     }
 
     // The same, but for this value of this key.
-    fn with(&self, key: Vec<u8>, value: Vec<u8>) -> Result<Metadata, AllocError>
-        ensures { IfOk result (λ all. all ≡ finite.insert self.now key.items value.items) }
+    fn with(&self, alloc: Global, key: &[u8], value: &[u8]) -> Result<Metadata, AllocError>
+        ensures { IfOk result (λ all. all ≡ finite.insert self.now key.now value.now) }
     {
         if let Form::Written(texts) = &self.form {
-            if !ends_key(&key) && !has_nul(&value) {
-                let form = Form::Written(texts.with(&key, &value)?);
+            if !ends_key(key) && !has_nul(value) {
+                let form = Form::Written(texts.with(key, value)?);
                 return Ok(Metadata { form });
             }
         }
-        let alloc = *key.allocator();
         let mut texts = self.to_map()?;
-        texts.insert(key, value)?;
+        texts.insert(Vec::from_slice(alloc, key)?, Vec::from_slice(alloc, value)?)?;
         Metadata::of_map(alloc, texts)
     }
 

@@ -31,7 +31,7 @@ fn fault_of(read: Result<(Marker, usize), ReadError<MarkerFault>>) -> Option<Mar
 fn metadata_of(alloc: Global, texts: &[(&[u8], &[u8])]) -> Result<Metadata, AllocError> {
     let mut metadata = Metadata::new(alloc);
     for (key, value) in texts {
-        insert(&mut metadata, alloc, key, value)?;
+        metadata.insert(alloc, key, value)?;
     }
     Ok(metadata)
 }
@@ -262,17 +262,8 @@ fn keeps_what_no_marker_can_have(rt: HostRuntime) {
     assert!(rt; lists(&metadata, &[(b"b", b"\0"), (b"k", b"a:b")]));
     let clean = metadata_of(alloc, &[(b"b", b""), (b"k", b"a:b")]).expect(&rt, "memory");
     assert!(rt; metadata != clean);
-    insert(&mut metadata, alloc, b"b", b"").expect(&rt, "memory");
+    metadata.insert(alloc, b"b", b"").expect(&rt, "memory");
     assert!(rt; metadata == clean);
-}
-
-fn insert(
-    metadata: &mut Metadata,
-    alloc: Global,
-    key: &[u8],
-    value: &[u8],
-) -> Result<(), AllocError> {
-    metadata.insert(Vec::from_slice(alloc, key)?, Vec::from_slice(alloc, value)?)
 }
 
 // The parents that a marker with this metadata records.
@@ -422,9 +413,9 @@ fn refused_growth_inserts_nothing(rt: HostRuntime) {
     let alloc = rt.alloc();
     let mut metadata = Metadata::new(alloc);
     for value in [b"eve".as_slice(), b"bob"] {
-        if insert(&mut metadata, alloc, b"user", value).is_err() {
+        if metadata.insert(alloc, b"user", value).is_err() {
             assert!(rt; metadata.get(b"user") != Some(value));
-            assert!(rt; insert(&mut metadata, alloc, b"user", value).is_ok());
+            assert!(rt; metadata.insert(alloc, b"user", value).is_ok());
         }
         assert!(rt; metadata.get(b"user") == Some(value));
     }

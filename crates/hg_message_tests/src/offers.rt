@@ -43,9 +43,7 @@ fn rewrite(
     parent: Node,
 ) -> Option<()> {
     let mut metadata = Metadata::new(alloc);
-    let key = Vec::from_slice(alloc, b"p1").ok()?;
-    let value = Vec::from_slice(alloc, &parent.to_hex()).ok()?;
-    metadata.insert(key, value).ok()?;
+    metadata.insert(alloc, b"p1", &parent.to_hex()).ok()?;
     let new = Vec::from_slice(alloc, new).ok()?;
     let marker = Marker::new(old, new, 0, metadata).ok()?;
     let mut part = empty(alloc);
@@ -195,8 +193,8 @@ fn offers_what_is_pinned_of_a_kept_replica(rt: HostRuntime) {
     assert!(rt; are(&message, &nodes));
 }
 
-// What is hidden goes out of the whole, and what is secret doesn't; every marker does, also one that leads to nothing but
-// what is secret. A pin makes no difference.
+// What is hidden goes out of the whole, and what is secret doesn't; every marker does, also one that leads to nothing
+// but what is secret. A pin makes no difference.
 #[test]
 fn offers_the_whole_without_what_is_secret(rt: HostRuntime) {
     let alloc = rt.alloc();

@@ -138,8 +138,8 @@ impl NodeSet {
         }
     }
 
-    // Makes more slots where half of them may be taken, or where ids are no longer few. They are four times as many each
-    // time, so that each id gets its slot again once or twice at most.
+    // Makes more slots where half of them may be taken, or where ids are no longer few. They are four times as many
+    // each time, so that each id gets its slot again once or twice at most.
     fn make_slots(&mut self) -> Result<(), AllocError>
         ensures { self.new ≡ self.old }
     {

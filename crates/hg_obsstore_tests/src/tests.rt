@@ -24,9 +24,7 @@ fn marker(alloc: Global, predecessor: Node, successors: &[Node]) -> Option<Marke
 fn prune(alloc: Global) -> Option<Marker> {
     let mut metadata = Metadata::new(alloc);
     for key in [b"p1", b"p2"] {
-        let key = Vec::from_slice(alloc, key).ok()?;
-        let parent = Vec::from_slice(alloc, &[b'2'; 40]).ok()?;
-        metadata.insert(key, parent).ok()?;
+        metadata.insert(alloc, key, &[b'2'; 40]).ok()?;
     }
     Marker::new(OLD, Vec::new(alloc), 0, metadata).ok()
 }

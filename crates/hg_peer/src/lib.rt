@@ -13,26 +13,35 @@
 //! cover each other's contributions agree on changesets, phases, markers and every instability, and on the visible set
 //! where their pins are equal; and no message holds a changeset that was secret at its maker.**
 //!
-//! | In the sentence | What it means | Where it is said |
-//! |---|---|---|
-//! | every list | any list of [`Event`](hg_world::Event)s, in one call or in several | [`World::run`](hg_world::World::run), [`runs_compose`](hg_world::runs_compose) |
-//! | losses, repeats, late or reordered deliveries | a message that nobody takes is lost; any peer may take any message of the pool at any time, and again | [`World::run`](hg_world::World::run) |
-//! | is the least valid state covering | it is valid, covers each accepted part, and is below each valid state that does so | [`states_are_least`](hg_world::states_are_least) |
-//! | | by the formula: the changesets and markers of the parts, and for each changeset the lowest phase that a bound gives it; from a new world on, those and nothing else | [`peers_are_least`], `specs/Laws.antt` |
-//! | every operation and message it accepted | those that were answered [`Accepted`](hg_world::Answer::Accepted); the part of an operation is that of the table of operations, at the state in which it was decided | [`World::run`](hg_world::World::run), `specs/Peers.antt` |
-//! | cover each other's contributions | the state of each covers each part that the other accepted | [`covering_peers_agree`] |
-//! | agree on changesets, phases, markers and every instability | the sets of obsolete, orphan, suspended, extinct, phase-divergent and content-divergent changesets are among them | [`covering_peers_agree`], `specs/Agreement.antt` |
-//! | on the visible set where their pins are equal | each sees the same under its own pins, and serves the same, where both pin the same changesets, in whatever order | [`covering_peers_agree`], `specs/Agreement.antt` |
-//! | no message holds | neither as a record nor as a bound; a marker may name any id | [`no_message_holds_a_secret`] |
-//! | secret at its maker | in the state that the Offer read | [`no_message_holds_a_secret`], `specs/Secrets.antt` |
+//! What the words of the sentence mean, and where that is said:
+//!
+//! - *Every list*: any list of [`Event`](hg_world::Event)s, in one call or in several:
+//!   [`World::run`](hg_world::World::run), [`runs_compose`](hg_world::runs_compose).
+//! - *Losses, repeats, late or reordered deliveries*: a message that nobody takes is lost; any peer may take any
+//!   message of the pool at any time, and again: [`World::run`](hg_world::World::run).
+//! - *Is the least valid state covering*: it is valid, covers each accepted part, and is below each valid state that
+//!   does so: [`states_are_least`](hg_world::states_are_least). By the formula: the changesets and markers of the
+//!   parts, and for each changeset the lowest phase that a bound gives it; from a new world on, those and nothing else:
+//!   [`peers_are_least`], `specs/Laws.antt`.
+//! - *Every operation and message it accepted*: those that were answered
+//!   [`Accepted`](hg_world::Answer::Accepted); the part of an operation is that of the table of operations, at the
+//!   state in which it was decided: [`World::run`](hg_world::World::run), `specs/Peers.antt`.
+//! - *Cover each other's contributions*: the state of each covers each part that the other accepted:
+//!   [`covering_peers_agree`].
+//! - *Agree on changesets, phases, markers and every instability*: the sets of obsolete, orphan, suspended, extinct,
+//!   phase-divergent and content-divergent changesets are among them: [`covering_peers_agree`], `specs/Agreement.antt`.
+//! - *On the visible set where their pins are equal*: each sees the same under its own pins, and serves the same, where
+//!   both pin the same changesets, in whatever order: [`covering_peers_agree`], `specs/Agreement.antt`.
+//! - *No message holds*: neither as a record nor as a bound; a marker may name any id: [`no_message_holds_a_secret`].
+//! - *Secret at its maker*: in the state that the Offer read: [`no_message_holds_a_secret`], `specs/Secrets.antt`.
 //!
 //! The laws speak of the trace of a run: its events, what each was answered, and the part that each brought. The
 //! contract of [`World::run`](hg_world::World::run) says that what happened has one. Each law is a word of
 //! `specs/Laws.antt` or of `specs/Sharing.antt`.
 //!
 //! Peers that exchange what they serve need not come to share it all, since what is hidden stays with them. Two whole
-//! offers do that: one each way, with nothing new accepted meanwhile, makes two peers share one history, but for what is
-//! secret ([`whole_offers_share_one_history`]).
+//! offers do that: one each way, with nothing new accepted meanwhile, makes two peers share one history, but for what
+//! is secret ([`whole_offers_share_one_history`]).
 //!
 //! # The premises
 //!

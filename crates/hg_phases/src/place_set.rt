@@ -3,8 +3,8 @@
 //! All places are listed, those in the set first, and the seat of each in that list is known. A place comes in, or goes
 //! out, by changing seats with the one at the border. So neither takes memory, and what is in the set is listed without
 //! a look at the other places. The form is Briggs' and Torczon's ("An Efficient Representation for Sparse Sets", 1993).
-ghost use Rattle.std.specs.Prelude.{◌≡◌, ◌<◌, ◌≤◌, ◌-◌, ◌↔◌, [], Some, true, false, ℕ, List, Contains, length, map, take};
-ghost use Rattle.std.specs.Prelude.{slice_get, slice_set, IfOk, OnOk, OnErr};
+ghost use Rattle.std.specs.Prelude.{◌≡◌, ◌<◌, ◌≤◌, ◌-◌, ◌↔◌, [], Some, true, false, ℕ, List, Contains, length, map};
+ghost use Rattle.std.specs.Prelude.{take, slice_get, slice_set, IfOk, OnOk, OnErr};
 ghost use Rattle.hg_phases.specs.Seats.{AreSeated, swapped};
 
 use std::alloc::{AllocError, Global};

@@ -22,9 +22,7 @@ pub fn add(
 ) -> Option<()> {
     let mut metadata = Metadata::new(alloc);
     if let Some(parent) = parent {
-        let key = Vec::from_slice(alloc, b"p1").ok()?;
-        let id = Vec::from_slice(alloc, &parent.to_hex()).ok()?;
-        metadata.insert(key, id).ok()?;
+        metadata.insert(alloc, b"p1", &parent.to_hex()).ok()?;
     }
     let successors = Vec::from_slice(alloc, successors).ok()?;
     let marker = Marker::new(predecessor, successors, 0, metadata).ok()?;

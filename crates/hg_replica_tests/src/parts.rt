@@ -36,9 +36,7 @@ pub fn push_child(alloc: Global, part: &mut Part, parent: Node, phase: Phase) ->
 /// Adds to the part the marker that one node was rewritten to another by the user `bob`.
 pub fn push_marker(alloc: Global, part: &mut Part, old: Node, new: Node) -> Option<()> {
     let mut metadata = Metadata::new(alloc);
-    let user = Vec::from_slice(alloc, b"user").ok()?;
-    let bob = Vec::from_slice(alloc, b"bob").ok()?;
-    metadata.insert(user, bob).ok()?;
+    metadata.insert(alloc, b"user", b"bob").ok()?;
     let successors = Vec::from_slice(alloc, &[new]).ok()?;
     let marker = Marker::new(old, successors, 0, metadata).ok()?;
     part.markers.push(marker).ok()

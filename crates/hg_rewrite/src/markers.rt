@@ -1,6 +1,5 @@
 //! The markers of an operation: one for each node that is rewritten, with what is noted of the operation.
-ghost use Rattle.std.specs.Prelude.{◌≡◌, IfOk, OnOk, map};
-ghost use Rattle.std.specs.FinMap.{insert};
+ghost use Rattle.std.specs.Prelude.{◌≡◌, IfOk, map};
 ghost use Rattle.hg_changeset.specs.EntryText.{date_text};
 ghost use Rattle.hg_rewrite.specs.Parts.{new_ids, noted, noted_of, noted_of_first, with_parents, metadata, marker};
 ghost use Rattle.hg_rewrite.specs.Parts.{markers};
@@ -88,9 +87,9 @@ fn noted(
     let mut date = Vec::new(alloc);
     push_date(&mut date, secs, offset)?;
     let mut texts = Metadata::new(alloc);
-    note(alloc, &mut texts, b"date", &date)?;
-    note(alloc, &mut texts, b"operation", operation)?;
-    note(alloc, &mut texts, b"user", trimmed_user(user))?;
+    texts.insert(alloc, b"date", &date)?;
+    texts.insert(alloc, b"operation", operation)?;
+    texts.insert(alloc, b"user", trimmed_user(user))?;
     Ok(texts)
 }
 
@@ -104,18 +103,12 @@ fn with_parents(
 {
     let mut texts = texts;
     let (first, second) = parents;
-    note(alloc, &mut texts, b"p1", &first.to_hex())?;
+    texts.insert(alloc, b"p1", &first.to_hex())?;
     if second.is_null() {
         return Ok(texts);
     }
-    note(alloc, &mut texts, b"p2", &second.to_hex())?;
+    texts.insert(alloc, b"p2", &second.to_hex())?;
     Ok(texts)
-}
-
-fn note(alloc: Global, texts: &mut Metadata, key: &[u8], value: &[u8]) -> Result<(), AllocError>
-    ensures { OnOk result (texts.new ≡ insert texts.old key.now value.now) }
-{
-    texts.insert(Vec::from_slice(alloc, key)?, Vec::from_slice(alloc, value)?)
 }
 
 // A marker from each node to all the ids.

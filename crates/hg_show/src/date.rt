@@ -1,8 +1,8 @@
 //! Dates of markers.
 //!
-//! Format 0 keeps the date of a marker in its metadata, as seconds since 1970 (UTC), which may have a fraction, a space,
-//! and the time zone's offset in seconds west of UTC. As Mercurial does, a marker without a date, or with another text
-//! there, is shown with the date `0 0`.
+//! Format 0 keeps the date of a marker in its metadata, as seconds since 1970 (UTC), which may have a fraction, a
+//! space, and the time zone's offset in seconds west of UTC. As Mercurial does, a marker without a date, or with
+//! another text there, is shown with the date `0 0`.
 use jiff::{Error, Timestamp};
 use std::alloc::{AllocError, Global};
 use std::num::saturating_f64_to_i32;
@@ -32,8 +32,8 @@ impl Date {
         }
     }
 
-    // The time that a clock of the time zone showed, in whole seconds since 1970, rounded down. As Mercurial does, it is
-    // kept within 32 bits.
+    // The time that a clock of the time zone showed, in whole seconds since 1970, rounded down. As Mercurial does, it
+    // is kept within 32 bits.
     fn local_seconds(self) -> i32 {
         let local = self.seconds - f64::from(self.offset);
         let whole = saturating_f64_to_i32(local);

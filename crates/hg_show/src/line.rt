@@ -4,8 +4,8 @@ ghost use Rattle.std.specs.Io.KnownBytes.{Appends};
 ghost use Rattle.std.specs.Char.Escape.{escape_ascii};
 ghost use Rattle.std.specs.List.{flat_map};
 ghost use Rattle.hex.specs.Hex.{encode_lower};
-ghost use Rattle.hg_show.specs.Printing.{braced_ids, escaped, escaped_byte, id_behind, is_other_quote, line_of, listed_ids};
-ghost use Rattle.hg_show.specs.Printing.{quote_for, quoted};
+ghost use Rattle.hg_show.specs.Printing.{braced_ids, escaped, escaped_byte, id_behind, is_other_quote, line_of};
+ghost use Rattle.hg_show.specs.Printing.{listed_ids, quote_for, quoted};
 
 use crate::fault::ShowFault;
 use hg_changeset::Node;

@@ -159,7 +159,8 @@ empties_few t markers [] = omega arith
 empties_few t markers (p ∷ ps) =
     let rest = empties_few t markers ps in
     let one = ways_pos (counts t (successors_at markers p)) in
-    let first : sum (ways_at t markers (p ∷ ps)) ≡ ways (counts t (successors_at markers p)) + sum (ways_at t markers ps)
+    let first : sum (ways_at t markers (p ∷ ps))
+    ≡ ways (counts t (successors_at markers p)) + sum (ways_at t markers ps)
     = sum_by-append (λ n. n) (ways (counts t (successors_at markers p)) ∷ []) (ways_at t markers ps)
     ∙ ap (λ k. k + sum (ways_at t markers ps)) (zero-add (ways (counts t (successors_at markers p)))) in
     let test = λ (q : ℕ). have_none t (successors_at markers q) in

@@ -8,6 +8,7 @@ pub mod SettleLemmas
 pub mod NumberLemmas
 pub mod FamilyLemmas
 pub mod SetLemmas
+pub mod HolderLemmas
 pub mod ApartLemmas
 pub mod CountLemmas
 pub mod SurveyLemmas

@@ -117,7 +117,7 @@ pub test_contains : (xs : List ℕ) (x : ℕ) (r : Bool) → IsAnyAnswer (λ y b
 test_contains xs x r cases = Decides-contains xs x r (contains_decides eqb unsigned_Decides xs x r cases)
 
 -- the row that stands at a number
-pub row_at : (rows : List (Vec ℕ Global)) (i : ℕ) (row : Vec ℕ Global) → i < length rows → row ≡ get_or rows i row
-    → At (map (λ r. r.items) rows) i row.items
-row_at rows i row l e = slice_get-map (λ (r : Vec ℕ Global). r.items) rows i
-    ∙ ap (option_map (λ (r : Vec ℕ Global). r.items)) (slice_get_read rows (length rows) i row refl l e)
+pub row_at : {A : Type 0} (rows : List (Vec A Global)) (i : ℕ) (row : Vec A Global) → i < length rows
+    → row ≡ get_or rows i row → At (map (λ r. r.items) rows) i row.items
+row_at {A} rows i row l e = slice_get-map (λ (r : Vec A Global). r.items) rows i
+    ∙ ap (option_map (λ (r : Vec A Global). r.items)) (slice_get_read rows (length rows) i row refl l e)

@@ -35,7 +35,8 @@ adds_none P nodes row none = record {
 }
 
 -- what was put last leaves the others where they are
-grown : (old new : List Node) → (more : List Node) × (new ≡ old ++ more) → (j : ℕ) (y : Node) → At old j y → At new j y
+pub grown : (old new : List Node) → (more : List Node) × (new ≡ old ++ more) → (j : ℕ) (y : Node) → At old j y
+    → At new j y
 grown old new g j y h = subst (λ (ns : List Node). At ns j y) (sym g.1) (slice_get-append old g.0 j y h)
 
 grown_on : (a b c : List Node) → (more : List Node) × (b ≡ a ++ more) → (more : List Node) × (c ≡ b ++ more)

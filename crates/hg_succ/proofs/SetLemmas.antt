@@ -1,22 +1,20 @@
 -- Members of lists that are made from others, and the largest of some sets.
 use Rattle.std.proofs.Common.{◌≡◌, ◌≢◌, take, nat_cmp, IsPermutation, ℕ, zero, suc, ◌+◌, ◌<◌, ◌≤◌, Bool, true, false}
 use Rattle.std.proofs.Common.{cond, not, List, [], ◌∷◌, ◌++◌, length, map, filter, Contains, ◌⊎◌, ◌↔◌, inl, inr, refl}
-use Rattle.std.proofs.Common.{sym, ap, subst, ◌∙◌, arith, true≢false, eqb, Vec, Global, nat_lt, get_or, Result, Ok, Err}
-use Rattle.std.proofs.Common.{is_ok}
+use Rattle.std.proofs.Common.{sym, ap, subst, ◌∙◌, arith, true≢false, eqb, Vec, Global, nat_lt, get_or}
 use Rattle.std.specs.List.{dedup, flat_map, list_any, list_all, AllByRecursion}
-use Rattle.std.specs.List.Sorted.{IsStrictlySortedBy, IsSorted, IsNonDecreasingBy, IsSearchInRange}
-use Rattle.std.specs.List.Sorted.{IsBinarySearchResult}
-use Rattle.std.specs.Ordering.{ordering_index, is_eq}
-use Rattle.std.specs.declared.cmp.Ordering.TheVariants.{Less, Equal, Greater}
+use Rattle.std.specs.List.Sorted.{IsStrictlySortedBy, IsSorted}
+use Rattle.std.specs.Ordering.{is_eq}
+use Rattle.std.specs.declared.cmp.Ordering.TheVariants.{Less}
 use Rattle.std.specs.Cmp.{unsigned_Decides, unsigned_ties, IsEquivalence, IsTotalOrder}
 use Rattle.std.specs.declared.cmp.Ordering.{Ordering}
 use Rattle.std.specs.Cmp.Lexicographic.{slice_cmp, lists_ties, lists_total, lists_equiv, pointwise, pointwise_decides}
 use Rattle.std.proofs.lemmas.List.Folds.{Any-from_list_any, list_any_at, list_all_at}
 use Rattle.std.proofs.lemmas.Map.Keys.{sorted_tail}
 use Rattle.std.proofs.lemmas.Map.Lookups.{CmpEqualImpliesEq}
-use Rattle.std.proofs.lemmas.Bool.{cases_Bool, cases_lt, and_parts, and_from, lt-ltb, ltb-true}
+use Rattle.std.proofs.lemmas.Bool.{cases_Bool, and_parts, and_from, lt-ltb, ltb-true}
 use Rattle.std.proofs.lemmas.List.Elements.{Contains-push, Contains-push_cases, Contains-append_left}
-use Rattle.std.proofs.lemmas.List.Elements.{Contains-append_right, Contains-append_cases, Contains-get_or}
+use Rattle.std.proofs.lemmas.List.Elements.{Contains-append_right, Contains-append_cases, filter-append}
 use Rattle.std.proofs.lemmas.List.Kept.{IsStrictlySortedBy-filter, IsStrictlySortedBy-dedup, Contains-dedup}
 use Rattle.std.proofs.lemmas.List.Kept.{Contains-from_dedup, Any-dedup}
 use Rattle.std.proofs.lemmas.List.Sorted.{Contains-permutation, IsPermutation-sym}
@@ -25,16 +23,13 @@ use Rattle.std.proofs.lemmas.List.{append-nil, append_assoc, take_more, map-appe
 use Rattle.hg_changeset.specs.declared.node.Node.{Node}
 use Rattle.hg_changeset.specs.Node.{node_cmp, node_eq}
 use Rattle.hg_changeset.proofs.NodeLemmas.{node_eq_laws, same_node, node_itself, node_cmp_total, node_cmp_exact}
-use Rattle.hg_changeset.proofs.NodeLemmas.{same_not_less, greater_is_less}
+use Rattle.hg_changeset.proofs.NodeLemmas.{same_not_less}
 use Rattle.hg_succ.specs.Successors.{AreWithin}
 use Rattle.hg_succ.specs.Answer.{sets_of}
 use Rattle.hg_succ.specs.Unions.{IsSetOf, AreSetsOf, AreLargest, is_within, is_within_larger, is_largest, products}
-use Rattle.hg_succ.specs.Unions.{with_sets, choices_on, IsChoice, bit_of, mask_of}
-use Rattle.std.specs.Int.Bits.{bit_or, or_self, or_zero_l, or_zero_r}
-use Rattle.std.proofs.lemmas.Nat.{or_comm}
-use Rattle.std.proofs.lemmas.Nat.Bits.{bit_at_or, same_from_bits}
+use Rattle.hg_succ.specs.Unions.{with_sets, choices_on, IsChoice}
 use Rattle.hg_obsstore.proofs.IndexLemmas.{among_or_not}
-use Rattle.hg_succ.proofs.SortedLemmas.{below_rest, less_by_place, one_more}
+use Rattle.hg_succ.proofs.SortedLemmas.{below_rest, one_more}
 use Rattle.hg_succ.proofs.NumberLemmas.{more_of}
 use Rattle.hg_changeset.proofs.ListLemmas.{Contains-cons_cases, Contains-later, Contains-first, Contains-none}
 use Rattle.hg_changeset.proofs.ListLemmas.{Contains-map, Contains-map_from}
@@ -159,54 +154,6 @@ same_or_smaller (x ∷ xs) (y ∷ ys) up vp w = elim (Contains-cons_cases y ys x
 pub nothing_within : (xs : List Node) → AreWithin xs [] → xs ≡ []
 nothing_within [] w = refl
 nothing_within (x ∷ xs) w = absurd (Contains-none x (w x (Contains-first x xs)))
-
--- ---- a search in a set
-
--- comparisons with x rise along the set
-rises : (x a b : Node) → node_cmp a b ≡ Less → ordering_index (node_cmp a x) ≤ ordering_index (node_cmp b x)
-rises x a b l = by (node_cmp b x) refl
-  where
-    by : (o : Ordering) → node_cmp b x ≡ o → ordering_index (node_cmp a x) ≤ ordering_index o
-    by Less e = subst (λ o. ordering_index o ≤ ordering_index Less) (sym (node_cmp_total.trans a b x l e)) (omega arith)
-    by Equal e = subst (λ o. ordering_index o ≤ ordering_index Equal)
-        (sym (subst (λ z. node_cmp a z ≡ Less) (node_cmp_exact b x e) l)) (omega arith)
-    by Greater e = highest (node_cmp a x)
-      where
-        highest : (o : Ordering) → ordering_index o ≤ ordering_index Greater
-        highest Less = omega arith
-        highest Equal = omega arith
-        highest Greater = omega arith
-
-rise : (set : List Node) (x : Node) → IsStrictlySortedBy node_cmp set
-    → IsNonDecreasingBy (λ y. ordering_index (node_cmp y x)) set
-rise set x up i j d le within = elim (cases_lt i j) [
-  | inl l ↦ rises x (get_or set i d) (get_or set j d) (less_by_place node_cmp_total set up i j d l within)
-  | inr ge ↦ let same : i ≡ j = omega arith in
-      subst (λ k. ordering_index (node_cmp (get_or set i d) x) ≤ ordering_index (node_cmp (get_or set k d) x)) same
-      (omega arith)
-]
-
--- a binary search in a set tells whether a node is in it
-pub searched_has : (set : List Node) (x : Node) (r : Result ℕ ℕ) → IsStrictlySortedBy node_cmp set
-    → IsSearchInRange r (length set) → IsBinarySearchResult (λ y. node_cmp y x) set r
-    → is_ok r ≡ list_any (λ y. node_eq y x) set
-searched_has set x (Ok i) up within found =
-    let y = get_or set i x in
-    sym (has_any (λ z. node_eq z x) set y (Contains-get_or set i x within)
-    (node_itself y x (node_cmp_exact y x (found x))))
-searched_has set x (Err i) up within parted = elim (cases_Bool (list_any (λ z. node_eq z x) set)) [
-  | inr none ↦ sym none
-  | inl any ↦
-      let y = any_has (λ z. node_eq z x) set any in
-      let at = y.1 in
-      let is : get_or set at.0 y.0 ≡ x = at.2 ∙ same_node y.0 x y.2 in
-      let sides = parted (rise set x up) in
-      absurd (elim (cases_lt at.0 i) [
-        | inl l ↦ same_not_less (get_or set at.0 y.0) x is (sides.0 at.0 y.0 (omega arith) l)
-        | inr ge ↦ same_not_less x (get_or set at.0 y.0) (sym is)
-            (greater_is_less (get_or set at.0 y.0) x (sides.1 at.0 y.0 ge at.1))
-      ])
-]
 
 -- a length that no set exceeds
 pub longest_of : (sets : List (List Node)) → (n : ℕ) × ((set : List Node) → Contains sets set → length set ≤ n)
@@ -372,6 +319,17 @@ all_more p xs i x l e before here = has_all p (take (i + 1) xs)
           ap p (sym same) ∙ here
     ])
 
+pub filter_all : {X : Type 0} (p : X → Bool) (xs : List X) → ((x : X) → Contains xs x → p x ≡ true) → filter p xs ≡ xs
+filter_all p [] h = refl
+filter_all {X} p (x ∷ xs) h =
+    ap (λ b. cond b (x ∷ filter p xs) (filter p xs)) (h x (Contains-first x xs))
+    ∙ ap (λ (ys : List X). x ∷ ys) (filter_all p xs (λ y g. h y (Contains-later x xs y g)))
+
+pub some_at : {X : Type 0} (xs : List X) (i : ℕ) → i < length xs → (x : X) × (x ≡ get_or xs i x)
+some_at [] i l = absurd (omega (arith, l))
+some_at (x ∷ xs) zero l = (x, refl)
+some_at (x ∷ xs) (suc i) l = some_at xs i (omega (arith, l))
+
 -- a set that is as long as any is within no larger one
 pub none_longer : (sets : List (List Node)) (longest : ℕ) (set : List Node)
     → ((other : List Node) → Contains sets other → length other ≤ longest) → longest ≤ length set
@@ -487,6 +445,23 @@ sets_more xs i x l e =
     ap sets_of (take_more xs i x l ∙ ap (λ (z : Vec Node Global). take i xs ++ z ∷ []) (sym e))
     ∙ map-append (λ (v : Vec Node Global). v.items) (take i xs) (x ∷ [])
 
+-- one set more of those that pass a test
+module _ (p : List Node → Bool) (xs : List (Vec Node Global)) (i : ℕ) (x : Vec Node Global) (l : i < length xs)
+    (e : x ≡ get_or xs i x) where
+  filter_last : filter p (sets_of (take (i + 1) xs))
+      ≡ filter p (sets_of (take i xs)) ++ cond (p x.items) (x.items ∷ []) []
+  filter_last = ap (filter p) (sets_more xs i x l e) ∙ filter-append p (sets_of (take i xs)) (x.items ∷ [])
+
+  pub filter_with : p x.items ≡ true
+      → filter p (sets_of (take (i + 1) xs)) ≡ filter p (sets_of (take i xs)) ++ x.items ∷ []
+  filter_with h = filter_last
+      ∙ ap (λ b. filter p (sets_of (take i xs)) ++ cond b (x.items ∷ []) []) h
+
+  pub filter_without : p x.items ≡ false → filter p (sets_of (take (i + 1) xs)) ≡ filter p (sets_of (take i xs))
+  filter_without h = filter_last
+      ∙ ap (λ b. filter p (sets_of (take i xs)) ++ cond b (x.items ∷ []) []) h
+      ∙ append-nil (filter p (sets_of (take i xs)))
+
 pub sets_push : (xs : List (Vec Node Global)) (x : Vec Node Global)
     → sets_of (xs ++ x ∷ []) ≡ sets_of xs ++ x.items ∷ []
 sets_push xs x = map-append (λ (v : Vec Node Global). v.items) xs (x ∷ [])
@@ -503,7 +478,8 @@ sets_exact xs ys e = (pointwise_decides (λ x y. ((λ h. same_node x y h), (λ h
     (lists_ties node_cmp (λ x y. lists_ties nat_cmp unsigned_ties x.0 y.0) xs ys ∙ ap is_eq e)
 
 -- what a list has, ascending
-pub ascending_of : (p : List Node) → (set : List Node) × IsStrictlySortedBy node_cmp set × AreWithin set p × AreWithin p set
+pub ascending_of : (p : List Node)
+    → (set : List Node) × IsStrictlySortedBy node_cmp set × AreWithin set p × AreWithin p set
 unfolding IsStrictlySortedBy
 ascending_of [] = ([], tt, (λ x h. h), (λ x h. h))
 ascending_of (n ∷ p) = by (ascending_of p)
@@ -534,52 +510,3 @@ ascending_of (n ∷ p) = by (ascending_of p)
             ]),
           ))
     ]
-
--- ---- masks
-
-or_assoc : (a b c : ℕ) → bit_or (bit_or a b) c ≡ bit_or a (bit_or b c)
-or_assoc a b c = same_from_bits (bit_or (bit_or a b) c) (bit_or a (bit_or b c)) (λ i.
-    let l = bit_at_or (bit_or a b) c i in
-    let m = bit_at_or a b i in
-    let r = bit_at_or a (bit_or b c) i in
-    let s = bit_at_or b c i in
-    omega (arith, l, m, r, s))
-
-or_later : (a b c : ℕ) → bit_or a c ≡ c → bit_or a (bit_or b c) ≡ bit_or b c
-or_later a b c e = sym (or_assoc a b c) ∙ ap (λ d. bit_or d c) (or_comm a b) ∙ or_assoc b a c ∙ ap (bit_or b) e
-
-pub mask_push : (xs : List Node) (x : Node) → mask_of (xs ++ x ∷ []) ≡ bit_or (mask_of xs) (bit_of x)
-mask_push [] x = or_zero_r (bit_of x) ∙ sym (or_zero_l (bit_of x))
-mask_push (y ∷ xs) x = ap (bit_or (bit_of y)) (mask_push xs x) ∙ sym (or_assoc (bit_of y) (mask_of xs) (bit_of x))
-
-mask_has : (ys : List Node) (x : Node) → Contains ys x → bit_or (bit_of x) (mask_of ys) ≡ mask_of ys
-mask_has [] x h = absurd (Contains-none x h)
-mask_has (y ∷ ys) x h = elim (Contains-cons_cases y ys x h) [
-  | inl same ↦ ap (λ (z : Node). bit_or (bit_of z) (bit_or (bit_of y) (mask_of ys))) (sym same)
-      ∙ sym (or_assoc (bit_of y) (bit_of y) (mask_of ys)) ∙ ap (λ k. bit_or k (mask_of ys)) (or_self (bit_of y))
-  | inr later ↦ or_later (bit_of x) (bit_of y) (mask_of ys) (mask_has ys x later)
-]
-
-mask_within : (xs ys : List Node) → AreWithin xs ys → bit_or (mask_of xs) (mask_of ys) ≡ mask_of ys
-mask_within [] ys w = or_zero_l (mask_of ys)
-mask_within (x ∷ xs) ys w =
-    or_assoc (bit_of x) (mask_of xs) (mask_of ys)
-    ∙ ap (bit_or (bit_of x)) (mask_within xs ys (λ z h. w z (Contains-later x xs z h)))
-    ∙ mask_has ys x (w x (Contains-first x xs))
-
--- a set with another bit isn't within the other
-pub masked_out : (set other : List Node) → ¬ (bit_or (mask_of set) (mask_of other) ≡ mask_of other)
-    → is_within_larger set other ≡ false
-masked_out set other out = elim (cases_Bool (is_within_larger set other)) [
-  | inl within ↦ absurd (out (mask_within set other
-      (within_by_test set other (and_parts (nat_lt (length set) (length other)) (is_within set other) within).1)))
-  | inr less ↦ less
-]
-
-pub mask_at : (sets : List (Vec Node Global)) (i : ℕ) (v : Vec Node Global) → i < length sets → v ≡ get_or sets i v
-    → (masks : List ℕ) → masks ≡ map mask_of (sets_of sets) → get_or masks i 0 ≡ mask_of v.items
-mask_at [] i v l e masks m = absurd (omega (arith, l))
-mask_at (w ∷ sets) zero v l e masks m = ap (λ (ms : List ℕ). get_or ms 0 0) m
-    ∙ ap (λ (u : Vec Node Global). mask_of u.items) (sym e)
-mask_at (w ∷ sets) (suc i) v l e masks m = ap (λ (ms : List ℕ). get_or ms (suc i) 0) m
-    ∙ mask_at sets i v (omega (arith, l)) e (map mask_of (sets_of sets)) refl

@@ -1,5 +1,6 @@
 -- The sets of a node from those of its successors.
-use Rattle.std.proofs.Common.{max, zero-add, ◌*◌, ◌-◌, ◌≡◌, ℕ, ◌<◌, ◌≤◌, List, [], ◌∷◌, ◌++◌, length, map, sum, Contains}
+use Rattle.std.proofs.Common.{max, zero-add, ◌*◌, ◌-◌, ◌≡◌, ℕ, ◌<◌, ◌≤◌, List, [], ◌∷◌, ◌++◌, length, map, sum}
+use Rattle.std.proofs.Common.{Contains}
 use Rattle.std.proofs.Common.{Vec, Global, ◌⊎◌, ◌↔◌, inl, inr, refl, sym, ap, subst, ◌∙◌, arith, Option, Some, None}
 use Rattle.std.specs.List.{AllZip, flat_map}
 use Rattle.std.specs.List.Sorted.{IsStrictlySortedBy}
@@ -34,7 +35,8 @@ use Rattle.hg_succ.specs.Successors.IsOverfull.{passed_on, too_many}
 use Rattle.hg_succ.specs.Answer.{sets_of}
 use Rattle.hg_succ.specs.Numbered.{successors_at, IsRow}
 use Rattle.hg_succ.specs.Cover.{Known, IsCover, IsSolved, IsTable, IsSeveral, HasEntry, known_by, answer, answer_at}
-use Rattle.hg_succ.specs.Cover.{entry, families, family_in, count_in, count_of, IsKept, sets_at, NoneOverfull, SomeOverfull}
+use Rattle.hg_succ.specs.Cover.{entry, families, family_in, count_in, count_of, IsKept, sets_at, NoneOverfull}
+use Rattle.hg_succ.specs.Cover.{SomeOverfull}
 use Rattle.hg_succ.specs.Cover.Known.{are_sets, counted, overfull}
 use Rattle.hg_succ.specs.Unions.{choices, choices_on, counts, AreLargest, IsChoice}
 use Rattle.hg_succ.specs.Factors.{many_at, few_at, ways_at, IsFew, IsOnlySuccessor, AllWays}
@@ -275,16 +277,20 @@ module _ (s : ReplicaState) (t : Table) (so : IsTable (content_of s) t) (n : Nod
         (unions_of (sets_of_node (content_of s) t so) s.markers places)
     unions_are = record {
       sound = λ u h.
-          let f = flat_contains (λ p. choices_on (map (sets_of_node (content_of s) t so) (successors_at s.markers p)) ([] ∷ [])) places u h in
+          let f = flat_contains
+          (λ p. choices_on (map (sets_of_node (content_of s) t so) (successors_at s.markers p)) ([] ∷ [])) places u h in
           let w = (are.exact f.0).0 f.1 in
-          let c = (choices_have (map (sets_of_node (content_of s) t so) (successors_at s.markers f.0)) ([] ∷ []) u).0 f.2 in
+          let c = (choices_have (map (sets_of_node (content_of s) t so) (successors_at s.markers f.0))
+          ([] ∷ []) u).0 f.2 in
           let first : c.0 ≡ [] = sym (Contains-one [] c.0 c.2) in
           let u_is : u ≡ c.1 = c.4 ∙ ap (λ (a : List Node). a ++ c.1) first in (
             w.0,
             holds-from s.markers w.0 (Contains-from_place s.markers f.0 w.0 w.1),
             w.2,
-            subst (λ (ns : List Node). IsChoice (map (sets_of_node (content_of s) t so) ns) u) (successors_there s.markers f.0 w.0 w.1)
-                (subst (IsChoice (map (sets_of_node (content_of s) t so) (successors_at s.markers f.0))) (sym u_is) c.3),
+            subst (λ (ns : List Node). IsChoice (map (sets_of_node (content_of s) t so) ns) u)
+                (successors_there s.markers f.0 w.0 w.1)
+                (subst (IsChoice (map (sets_of_node (content_of s) t so) (successors_at s.markers f.0)))
+                (sym u_is) c.3),
           );
       complete = λ m u held at choice.
           let place = place_from_Contains s.markers m (in_from_holds s.markers m held) in
@@ -292,7 +298,8 @@ module _ (s : ReplicaState) (t : Table) (so : IsTable (content_of s) t) (n : Nod
           let choice' : IsChoice (map (sets_of_node (content_of s) t so) (successors_at s.markers place.0)) u =
           subst (λ (ns : List Node). IsChoice (map (sets_of_node (content_of s) t so) ns) u)
           (sym (successors_there s.markers place.0 m place.1)) choice in
-          contains_flat (λ p. choices_on (map (sets_of_node (content_of s) t so) (successors_at s.markers p)) ([] ∷ [])) places place.0 u there'
+          contains_flat (λ p. choices_on (map (sets_of_node (content_of s) t so) (successors_at s.markers p)) ([] ∷ []))
+          places place.0 u there'
           ((choices_have (map (sets_of_node (content_of s) t so) (successors_at s.markers place.0)) ([] ∷ []) u).1
           ([], u, Contains-first [] [], choice', refl));
     }

@@ -184,7 +184,8 @@ module _ (s : ReplicaState) (ranks : List ℕ) (nodes : List Node) (n : Node) (p
 
   strangers : (spans : List (Option Span)) → AreSpans spans → ArePairs AreClear (map (span_of spans nodes) followers)
       → ArePairs (AreStrangers (content_of s)) followers
-  strangers spans told clear = pairs_back_map (AreStrangers (content_of s)) AreClear (span_of spans nodes) followers clear
+  strangers spans told clear =
+      pairs_back_map (AreStrangers (content_of s)) AreClear (span_of spans nodes) followers clear
       (λ y z h g clear' p q pick_p pick_q x i j. clear' (rank_of ranks nodes x)
       (told y (follows y h) p x pick_p i) (told z (follows z g) q x pick_q j))
 

@@ -8,5 +8,6 @@ pub mod Search
 pub mod Numbered
 pub mod Cover
 pub mod Unions
+pub mod Holders
 pub mod Factors
 pub mod Plan

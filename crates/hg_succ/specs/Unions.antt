@@ -1,7 +1,6 @@
 -- The unions that one set of each of several families give, and the largest of some sets.
 use Rattle.std.specs.Prelude.{◌≡◌, ◌≢◌, ◌⊎◌, ◌==◌, ℕ, List, [], ◌∷◌, ◌++◌, map, length, Contains, Bool, not, ◌&&◌}
-use Rattle.std.specs.Prelude.{nat_lt, get_or, ◌^◌, ◌%◌}
-use Rattle.std.specs.Int.Bits.{bit_or}
+use Rattle.std.specs.Prelude.{nat_lt}
 use Rattle.std.specs.List.{flat_map, list_any, list_all}
 use Rattle.std.specs.List.Sorted.{IsStrictlySortedBy}
 use Rattle.std.specs.Cmp.Lexicographic.{slice_cmp}
@@ -38,15 +37,6 @@ choices table ns = choices_on (map (families table) ns) ([] ∷ [])
 -- how many sets each of the nodes has
 abbrev pub counts : Table → List Node → List ℕ
 counts table ns = map (λ n. count_in (entry table n)) ns
-
--- one of 64 bits for each id
-abbrev pub bit_of : Node → ℕ
-bit_of n = 2 ^ (get_or n.0 19 0 % 64)
-
--- the bits of all
-abbrev pub mask_of : List Node → ℕ
-mask_of [] = 0
-mask_of (n ∷ ns) = bit_or (bit_of n) (mask_of ns)
 
 -- each is ascending
 abbrev pub AreAscending : List (List Node) → Type 0

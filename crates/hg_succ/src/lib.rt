@@ -30,6 +30,7 @@
 #![tactic(auto)]
 
 mod families;
+mod holders;
 mod laws;
 mod numbered;
 mod plan;

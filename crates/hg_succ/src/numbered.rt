@@ -81,7 +81,7 @@ pub(crate) fn successors_at(markers: &[Marker], place: usize) -> &[Node]
 }
 
 // Adds the number of each of the nodes.
-fn number_each(
+pub(crate) fn number_each(
     successors: &[Node],
     nodes: &mut NodeSet,
     row: &mut Vec<usize>,

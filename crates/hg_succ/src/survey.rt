@@ -2,7 +2,8 @@
 //!
 //! Each node has a rank, its place in the order, and a span: from the first to the last rank of what its picks have.
 //! Nodes that are met together are settled together, so where each successor leads to ids of its own, their spans lie
-//! beside each other, and nothing is in common. Where spans don't, a node is tangled, though nothing might be in common.
+//! beside each other, and nothing is in common. Where spans don't, a node is tangled, though nothing might be in
+//! common.
 ghost use Rattle.std.specs.Prelude.{◌≡◌, ◌<◌, ℕ, [], length, map, false, Contains, IsTrue, IfOk, OnOk};
 ghost use Rattle.std.specs.List.{flat_map};
 ghost use Rattle.hg_changeset.specs.declared.node.Node.{Node};

@@ -30,11 +30,11 @@
 //!
 //! | Law | What it says |
 //! |---|---|
-//! | [`states_are_least`] | each state is the least that covers what the node accepted; from empty nodes on, of all that is valid |
+//! | [`states_are_least`] | a state is the least over what its node accepted; from empty nodes on, of all valid ones |
 //! | [`covering_nodes_agree`] | nodes that cover what the other accepted have one content |
-//! | [`runs_compose`] | two runs, one after the other, are one: a list of events may be given in one call or in several |
+//! | [`runs_compose`] | two runs, one after the other, are one: events may be given in one call or in several |
 //! | [`messages_are_offers`] | messages stay, and each that a run adds is what a node offered at an event of it |
-//! | [`answers_are_exact`] | what is missing is told exactly, and what may succeed is refused for want of memory alone |
+//! | [`answers_are_exact`] | what is missing is told exactly; what may succeed is refused for want of memory alone |
 //! | [`marks_say_nothing`] | a mark changes what is one node's own and nothing that it says; nothing else does so |
 //! | [`events_and_answers_tell`] | events and answers alone tell what became of every node |
 //!

@@ -22,6 +22,7 @@ returns c =
       c.in_ok-push_date_of.ensures,
       c.in_ok-push_line-2.ensures,
       c.in_ok-push_line.ensures,
+      c.in_ok-extend_from_slice.ensures.items,
       c.in_ok-text.ensures.items,
       c.requires,
       extra,

@@ -16,9 +16,9 @@ returns c =
     ∙ ap (λ bytes. bytes ++ date_text (to_z w64 (of_z w64 c.args.secs)) (to_z w32 (of_z w32 c.args.offset)))
     c.new-date.ensures.items
     ∙ (λ i. date_text (to_z-of_z w64 c.args.secs c.ranges.secs i) (to_z-of_z w32 c.args.offset c.ranges.offset i)) in
-    let one : c.note.new.texts ≡ insert empty (codes "date") (date_text c.args.secs c.args.offset) =
-    c.in_ok-note.ensures ∙ (λ i. insert (c.new-texts.ensures i) (codes "date") (date i)) in
-    let two : c.note-2.new.texts ≡ insert (insert empty (codes "date") (date_text c.args.secs c.args.offset))
+    let one : c.insert.new.self ≡ insert empty (codes "date") (date_text c.args.secs c.args.offset) =
+    c.in_ok-insert.ensures.ok ∙ (λ i. insert (c.new-texts.ensures i) (codes "date") (date i)) in
+    let two : c.insert-2.new.self ≡ insert (insert empty (codes "date") (date_text c.args.secs c.args.offset))
     (codes "operation") c.args.operation.now =
-    c.in_ok-note-2.ensures ∙ ap (λ texts. insert texts (codes "operation") c.args.operation.now) one in
-    c.in_ok-note-3.ensures ∙ (λ i. insert (two i) (codes "user") (c.trimmed_user.ensures i))
+    c.in_ok-insert-2.ensures.ok ∙ ap (λ texts. insert texts (codes "operation") c.args.operation.now) one in
+    c.in_ok-insert-3.ensures.ok ∙ (λ i. insert (two i) (codes "user") (c.trimmed_user.ensures i))

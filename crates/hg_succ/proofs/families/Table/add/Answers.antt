@@ -56,7 +56,9 @@ returns-clause-kept c =
     let at = read_at c.args.self.now.nodes.keys c.as_slice.result.now c.args.number c.as_slice.ensures.keys
     c.requires.number in
     adds_kept (content_of c.args.replica.now) c.args.self.now c.solve.new.self
-    (record c.solve.new.self { answers = with_item c.solve.new.self.answers c.args.number (Some c.in_ok-solved.solved) })
+    (record c.solve.new.self {
+      answers = with_item c.solve.new.self.answers c.args.number (Some c.in_ok-solved.solved);
+    })
     c.args.number node
     c.in_ok-solved.solved c.requires.table at c.in_ok-solved.ensures.solves refl refl refl (Lists c.args.plan.now)
     c.in_ok-solved.ensures.kept c.requires.kept

@@ -30,14 +30,17 @@ returns-clause-seen c off n at =
     let same = node_there c.args.nodes.now.keys c.as_slice.result.now c.args.number n c.as_slice.ensures.keys at in
     let are = places_of c.args.replica.now c.store-store.result.now _ n places c.store-store.ensures same
     c.with_predecessor-places.ensures in
-    let ms : c.markers-markers.result.now ≡ c.args.replica.now.markers = c.markers-markers.ensures.markers ∙ c.store-store.ensures in (
+    let ms : c.markers-markers.result.now ≡ c.args.replica.now.markers =
+    c.markers-markers.ensures.markers ∙ c.store-store.ensures in (
       places,
       are,
       c.gather_all.ensures
-          ∙ ap (λ (ks : List Fields). gather_all no_span (map (span_of c.args.self.now.spans.items c.args.nodes.now.keys)
+          ∙ ap (λ (ks : List Fields). gather_all no_span
+          (map (span_of c.args.self.now.spans.items c.args.nodes.now.keys)
           (flat_map (successors_at ks) places))) ms
           ∙ seen_some c.args.rank c.args.self.now.spans.items c.args.nodes.now.keys c.args.replica.now.markers places
-          (λ e. true≢false (sym ((unsigned_Decides (length places) 0).1 e) ∙ sym c.is_empty.ensures ∙ c.if-is_empty.false)),
+          (λ e. true≢false (sym ((unsigned_Decides (length places) 0).1 e) ∙ sym c.is_empty.ensures
+          ∙ c.if-is_empty.false)),
     )
 
 pub returns-then-not-is_empty-clause-seen : goal.returns-then-not-is_empty-clause-seen
@@ -59,5 +62,6 @@ returns-then-not-is_empty-clause-seen c off n at =
       places,
       are,
       c.passed_on.ensures
-          ∙ seen_only s nodes n places are c.args.self.now.spans.items c.args.rank told.0 only j y.0 c.requires.once y.2 y.1,
+          ∙ seen_only s nodes n places are c.args.self.now.spans.items c.args.rank told.0 only j y.0
+          c.requires.once y.2 y.1,
     )

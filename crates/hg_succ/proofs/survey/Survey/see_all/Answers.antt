@@ -1,4 +1,5 @@
-use Rattle.std.proofs.Common.{◌≡◌, ◌+◌, ◌<◌, ℕ, List, length, get_or, Contains, refl, sym, ap, subst, ◌∙◌, arith, Vec, Global}
+use Rattle.std.proofs.Common.{◌≡◌, ◌+◌, ◌<◌, ℕ, List, length, get_or, Contains, refl, sym, ap, subst, ◌∙◌}
+use Rattle.std.proofs.Common.{arith, Vec, Global}
 use Rattle.std.proofs.Common.{false, not, true≢false}
 use Rattle.std.proofs.lemmas.List.{length-map}
 use Rattle.std.proofs.lemmas.Option.{slice_get-get_or, slice_get_within}
@@ -60,16 +61,19 @@ loop-settled-preserved c =
           let row = c.index-rows-number.result in
           let at : At (rows_of rows) e.node row.items = row_at rows e.node row l c.index-rows-number.is in
           subst (IsSurveyed s ranks nodes order (i + 1)) (sym w.self-is)
-          (surveyed_more s ranks nodes order (rows_of rows) c.requires.once all c.requires.rows c.requires.order i e e_at
+          (surveyed_more s ranks nodes order (rows_of rows) c.requires.once all c.requires.rows c.requires.order i e
+          e_at
           old before g told.cyclic told.seen w.tangle.new.self tangles.spans (λ x h. tangles.kept x h)
           (λ apart x x_at. (w.in_ok-tangle.ensures x x_at).there)
           (starts_more s ranks nodes order (rows_of rows) c.requires.once all c.requires.rows c.requires.order i e e_at
           old before g told.cyclic told.seen row.items w.tangle.new.self at some.0 some.1 tangles.only
-          (λ j y h y_at. tangles.starts j y (subst (λ (js : List ℕ). Contains js j) (sym w.deref-then-not-gathered.ensures.value) h) y_at)
+          (λ j y h y_at. tangles.starts j y
+          (subst (λ (js : List ℕ). Contains js j) (sym w.deref-then-not-gathered.ensures.value) h) y_at)
           tangles.starts_kept))
       | else-not-gathered w ↦
           subst (IsSurveyed s ranks nodes order (i + 1)) (sym w.self-is)
-          (surveyed_more s ranks nodes order (rows_of rows) c.requires.once all c.requires.rows c.requires.order i e e_at
+          (surveyed_more s ranks nodes order (rows_of rows) c.requires.once all c.requires.rows c.requires.order i e
+          e_at
           old before g told.cyclic told.seen _ refl (λ x h. h)
           (λ apart x x_at. absurd (true≢false (sym (ap not apart) ∙ w.if-not-gathered.false))) before.starts)
     ]
