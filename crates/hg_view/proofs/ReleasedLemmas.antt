@@ -1,16 +1,12 @@
 -- What pins no longer uphold once one of them is taken away, and the walk that finds it.
 use Rattle.std.proofs.Common.{◌≡◌, ◌≢◌, ℕ, ◌+◌, ◌<◌, List, [], take, get_or, length, slice_get, Option, Some, None}
-use Rattle.std.proofs.Common.{false, true≢false, cond, MatchOption, Contains, ◌↔◌, ◌⊎◌, inl, inr, refl}
+use Rattle.std.proofs.Common.{MatchOption, Contains, ◌↔◌, ◌⊎◌, inl, inr, refl}
 use Rattle.std.proofs.Common.{sym, ap, subst, ◌∙◌, arith}
-use Rattle.indexmap.specs.IndexSet.{IndexSet, Updates, contains}
-use Rattle.std.proofs.lemmas.Bool.{cases_Bool, cases_eq}
-use Rattle.std.proofs.lemmas.Map.Views.{hash_set_contains_iff}
+use Rattle.std.proofs.lemmas.Bool.{cases_eq}
 use Rattle.std.proofs.lemmas.Option.{same_Some}
 use Rattle.hg_changeset.specs.declared.node.Node.{Node}
-use Rattle.hg_changeset.specs.Node.{node_eq}
 use Rattle.hg_changeset.specs.Contents.{Contents}
 use Rattle.hg_changeset.proofs.ListLemmas.{Contains-none, Contains-taken}
-use Rattle.hg_changeset.proofs.NodeLemmas.{same_node, node_eq_laws}
 use Rattle.hg_graph.specs.Graph.{nodes, Holds, IsGraph}
 use Rattle.hg_graph.specs.Places.{IsAt, IsOnlyAt, IsParentPlace}
 use Rattle.hg_graph.proofs.GraphLemmas.{Contains-from_place}
@@ -184,26 +180,6 @@ module _ (s : ReplicaState) (v : IsValid s) (upheld gone : List Node) (node : No
   )
 
 -- ---- what goes is taken out
-
--- a node less
-pub node-taken : {S : Type 0} (s t : IndexSet Node S) (k : Node) → Updates node_eq s t k false → (n : Node)
-    → Contains t.keys n ↔ (Contains s.keys n × (n ≢ k))
-node-taken s t k up n =
-    let before = hash_set_contains_iff node_eq_laws same_node s n in
-    let after = hash_set_contains_iff node_eq_laws same_node t n in (
-      λ h. (
-        elim (cases_Bool (node_eq k n)) [
-          | inl e ↦ absurd (true≢false
-              (sym (after.1 h) ∙ up.0 n ∙ ap (λ b. cond b false (contains node_eq s n)) e))
-          | inr ne ↦ before.0 (sym (up.2 n ne) ∙ after.1 h)
-        ],
-        λ same. true≢false (sym (after.1 h) ∙ ap (contains node_eq t) same ∙ up.1),
-      ),
-      λ h. elim (cases_Bool (node_eq k n)) [
-        | inl e ↦ absurd (h.1 (sym (same_node k n e)))
-        | inr ne ↦ after.0 (up.2 n ne ∙ before.1 h.0)
-      ],
-    )
 
 -- one more goes
 pub left-less : (upheld gone now new : List Node) (i : ℕ) (x : Node) → i < length gone → get_or gone i x ≡ x

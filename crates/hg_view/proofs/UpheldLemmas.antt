@@ -5,11 +5,11 @@ use Rattle.std.proofs.Common.{refl, sym, ap, subst, ◌∙◌, arith}
 use Rattle.std.proofs.Common.{append_assoc, append-nil}
 use Rattle.std.specs.List.{IsDistinct}
 use Rattle.std.proofs.lemmas.List.{take_all}
-use Rattle.std.proofs.lemmas.List.Elements.{Contains-get_or}
+use Rattle.std.proofs.lemmas.List.Elements.{Contains-get_or, Contains-append_left, Contains-append_right}
+use Rattle.std.proofs.lemmas.List.Elements.{Contains-append_cases}
 use Rattle.std.proofs.lemmas.Map.Made.{length-le_from_is_member}
 use Rattle.std.proofs.lemmas.Map.Views.{Contains-from_any, list_any-from_Contains}
 use Rattle.std.proofs.lemmas.Option.{same_Some, none-some}
-use Rattle.indexmap.specs.IndexSet.{insert_key}
 use Rattle.hg_changeset.specs.declared.node.Node.{Node}
 use Rattle.hg_changeset.specs.Node.{node_eq}
 use Rattle.hg_changeset.proofs.ListLemmas.{Contains-none, Contains-taken}
@@ -37,6 +37,7 @@ use Rattle.hg_instab.specs.Instabilities.{AreInstabilities, InstabilitySets}
 use Rattle.hg_instab.specs.Local.{IsParentOf}
 use Rattle.hg_instab.proofs.LocalLemmas.{leads-from_parent}
 use Rattle.hg_instab.proofs.SettlingLemmas.{parent-from_place, place-from_parent, parent-held, placed-node}
+use Rattle.hg_node_set.specs.Keys.{insert_key}
 use Rattle.hg_instab.specs.Walk.{Adds}
 use Rattle.hg_instab.proofs.TurnedLemmas.{contains-or}
 use Rattle.hg_instab.proofs.SetLemmas.{along}
@@ -46,8 +47,8 @@ use Rattle.hg_view.specs.declared.refusal.PinRefusal.TheVariants.{Unknown, NotPi
 use Rattle.hg_view.specs.declared.refusal.PinRefusal.TheVariants as pin
 use Rattle.hg_view.specs.Kept.{KeptUnpinAnswer}
 use Rattle.hg_view.specs.Pins.{IsVisibleUnder, PinAnswer, UnpinAnswer}
-use Rattle.hg_view.specs.Released.{IsPinnedBut}
-use Rattle.hg_view.specs.Upheld.{AreUpheld, IsUpholding, IsMutableParent}
+use Rattle.hg_view.specs.Released.{IsLeft, IsPinnedBut}
+use Rattle.hg_view.specs.Upheld.{AreApart, AreUpheld, IsUpholding, IsMutableParent}
 use Rattle.hg_view.proofs.HiddenLemmas.{obsolete-or, visible-not_extinct}
 use Rattle.hg_view.proofs.KeptLemmas.{visible-outside}
 use Rattle.hg_view.proofs.PinLemmas.{visible-pinned, visible-under}
@@ -307,12 +308,78 @@ upheld-none f = record {
 
 -- ---- what one step adds
 
+-- what is added is added behind a front as well
+adds-behind : (P : Node → Type 0) (front old new : List Node) → Adds P old new → Adds P (front ++ old) (front ++ new)
+adds-behind P front old new a = record {
+  kept = (a.kept.0, ap (λ l. front ++ l) a.kept.1 ∙ sym (append_assoc front old a.kept.0));
+  members = λ n. (
+    λ h. elim (Contains-append_cases front new n h) [
+      | inl there ↦ inl (Contains-append_left front old n there)
+      | inr found ↦ elim ((a.members n).0 found) [
+        | inl before ↦ inl (Contains-append_right front old n before)
+        | inr p ↦ inr p
+      ]
+    ],
+    λ h. elim h [
+      | inl before ↦ elim (Contains-append_cases front old n before) [
+        | inl there ↦ Contains-append_left front new n there
+        | inr found ↦ Contains-append_right front new n ((a.members n).1 (inl found))
+      ]
+      | inr p ↦ Contains-append_right front new n ((a.members n).1 (inr p))
+    ],
+  );
+}
+
 -- one that isn't public
-pub adds-mutable : (f : Content) (old new : List Node) (node : Node) → IsMutable f node
-    → new ≡ insert_key node_eq old node → Adds (λ n. (node ≡ n) × IsMutable f n) old new
-adds-mutable f old new node m is =
-    adds-same (λ n. node ≡ n) (λ n. (node ≡ n) × IsMutable f n) old new
-    (λ n. (λ h. h.0, λ e. (e, subst (IsMutable f) e m))) (adds-one old new node is)
+pub adds-mutable : (f : Content) (upheld old new : List Node) (node : Node) → IsMutable f node
+    → new ≡ insert_key old node → Adds (λ n. (node ≡ n) × IsMutable f n) (upheld ++ old) (upheld ++ new)
+adds-mutable f upheld old new node m is =
+    adds-behind (λ n. (node ≡ n) × IsMutable f n) upheld old new
+    (adds-same (λ n. node ≡ n) (λ n. (node ≡ n) × IsMutable f n) old new
+    (λ n. (λ h. h.0, λ e. (e, subst (IsMutable f) e m))) (adds-one old new node is))
+
+-- one that is upheld already, or isn't to be
+pub adds-no_more : (f : Content) (upheld old : List Node) (node : Node)
+    → (IsMutable f node → Contains (upheld ++ old) node)
+    → Adds (λ n. (node ≡ n) × IsMutable f n) (upheld ++ old) (upheld ++ old)
+adds-no_more f upheld old node known = adds-nothing (λ n. (node ≡ n) × IsMutable f n) (upheld ++ old)
+    (λ n h. subst (Contains (upheld ++ old)) h.0 (known (subst (IsMutable f) (sym h.0) h.1)))
+
+-- what wasn't upheld is found apart from what is
+pub apart-more : (upheld old new : List Node) (node : Node) → ¬ (Contains upheld node) → new ≡ insert_key old node
+    → AreApart old upheld → AreApart new upheld
+apart-more upheld old new node out is apart n found there = elim (((adds-one old new node is).members n).0 found) [
+  | inl before ↦ apart n before there
+  | inr e ↦ out (subst (Contains upheld) (sym e) there)
+]
+
+-- of the same changesets the same is upheld
+pub upheld-same : (f : Content) (pins upheld now : List Node) → ((n : Node) → Contains now n ↔ Contains upheld n)
+    → AreUpheld f pins upheld → AreUpheld f pins now
+upheld-same f pins upheld now same are = record {
+  pinned = are.pinned;
+  held = λ n h. are.held n ((same n).0 h);
+  stands = λ n h. elim (are.stands n ((same n).0 h)) [
+    | inl pinned ↦ inl pinned
+    | inr child ↦ inr (child.0, (same child.0).1 child.1, child.2)
+  ];
+  begun = λ n pinned m. (same n).1 (are.begun n pinned m);
+  closed = λ n child m. (same n).1 (are.closed n (child.0, (same child.0).0 child.1, child.2) m);
+}
+
+-- what was put in and is taken out again leaves what there was
+pub taken-back : (old found put left : List Node) → AreApart found old
+    → ((n : Node) → Contains put n ↔ Contains (old ++ found) n) → ((n : Node) → Contains left n ↔ IsLeft put found n)
+    → (n : Node) → Contains left n ↔ Contains old n
+taken-back old found put left apart are lefts n = (
+  λ h.
+      let still = (lefts n).0 h in
+      elim (Contains-append_cases old found n ((are n).0 still.0)) [
+        | inl before ↦ before
+        | inr goes ↦ absurd (still.1 goes)
+      ],
+  λ h. (lefts n).1 ((are n).1 (Contains-append_left old found n h), λ goes. apart n goes h),
+)
 
 -- what stands at a place
 abbrev pub IsMutableAt : ReplicaState → Option ℕ → Node → Type 0

@@ -18,7 +18,7 @@ ghost use Rattle.hg_view.specs.Pins.{IsServedUnder, IsVisibleUnder, PinAnswer};
 use crate::pins::Pins;
 use crate::refusal::PinRefusal;
 use crate::released::{released, take_out};
-use crate::upheld::uphold;
+use crate::upheld::{put_in, upheld_besides};
 use crate::view::{not_secret, set_at};
 use hg_changeset::Node;
 use hg_graph::Graph;
@@ -26,7 +26,6 @@ use hg_history::Fault;
 use hg_instab::{Instabilities, has_phase};
 use hg_phases::Phase;
 use hg_replica::{Absorbed, Change, NoMemory, Part, Replica, Undo};
-use indexmap::IndexSet;
 use std::alloc::{AllocError, Global};
 use std::collections::BTreeSet;
 use std::marker::Model;
@@ -40,7 +39,7 @@ pub struct Kept {
     pins: Pins,
 
     // What the pins uphold.
-    upheld: IndexSet<Node>,
+    upheld: BTreeSet<Node>,
 }
 
 // Whoever owns one calls this once, and is proved without a look at what it holds.
@@ -90,7 +89,7 @@ impl Kept {
             replica,
             instabilities,
             pins: Pins::new(alloc),
-            upheld: IndexSet::new(alloc),
+            upheld: BTreeSet::new(alloc),
         })
     }
 
@@ -148,15 +147,12 @@ impl Kept {
         if !self.replica.graph().contains(node) {
             return Err(PinRefusal::Unknown(node));
         }
-        let from = self.upheld.len();
-        match uphold(&self.replica, &mut self.upheld, node) {
-            Ok(()) => {}
-            Err(AllocError) => return Err(PinRefusal::NoMemory),
-        }
+        let found = upheld_besides(self.alloc, &self.replica, &self.upheld, node)?;
+        put_in(&mut self.upheld, &found)?;
         match self.pins.pin(&self.replica, node) {
             Ok(()) => Ok(()),
             Err(refusal) => {
-                self.upheld.truncate(from);
+                take_out(&mut self.upheld, &found);
                 Err(refusal)
             }
         }
@@ -331,7 +327,7 @@ fn shown_marks(
     alloc: Global,
     replica: &Replica,
     instabilities: &Instabilities,
-    upheld: &IndexSet<Node>,
+    upheld: &BTreeSet<Node>,
 ) -> Result<Vec<bool>, AllocError>
     ensures len { IfOk result (λ marks. length marks.items ≡ length (changesets replica.now.history)) }
     ensures exact { IfOk result (λ marks. (n : Node) → IsMarkedNode (changesets replica.now.history) marks.items n
@@ -351,7 +347,7 @@ fn is_shown_at(
     graph: &Graph,
     place: usize,
     instabilities: &Instabilities,
-    upheld: &IndexSet<Node>,
+    upheld: &BTreeSet<Node>,
 ) -> bool
     ensures { (n : Node) → IsAt graph.now n place
         → (IsTrue result ↔ (¬ (Contains instabilities.now.extinct n) ⊎ Contains upheld.now.keys n)) }
@@ -363,7 +359,7 @@ fn is_shown_at(
 }
 
 // Whether a changeset that is held isn't extinct or is upheld.
-fn is_shown(instabilities: &Instabilities, upheld: &IndexSet<Node>, node: Node) -> bool
+fn is_shown(instabilities: &Instabilities, upheld: &BTreeSet<Node>, node: Node) -> bool
     ensures { IsTrue result ↔ (¬ (Contains instabilities.now.extinct node) ⊎ Contains upheld.now.keys node) }
 {
     if instabilities.extinct().contains(&node) {

@@ -18,7 +18,6 @@ use hg_changeset::Node;
 use hg_graph::Graph;
 use hg_node_set::NodeSet;
 use hg_replica::Replica;
-use indexmap::IndexSet;
 use std::alloc::{AllocError, Global};
 use std::collections::BTreeSet;
 
@@ -28,7 +27,7 @@ pub(crate) fn released(
     alloc: Global,
     replica: &Replica,
     pins: &Pins,
-    upheld: &IndexSet<Node>,
+    upheld: &BTreeSet<Node>,
     node: Node,
 ) -> Result<NodeSet, AllocError>
     requires { AreUpheld (content_of replica.now) pins.now upheld.now.keys }
@@ -52,11 +51,11 @@ pub(crate) fn released(
 }
 
 // Takes those out that go.
-pub(crate) fn take_out(upheld: &mut IndexSet<Node>, gone: &NodeSet)
+pub(crate) fn take_out(upheld: &mut BTreeSet<Node>, gone: &NodeSet)
     ensures { (n : Node) → Contains upheld.new.keys n ↔ IsLeft upheld.old.keys gone.now.keys n }
 {
     for node in gone.as_slice() {
-        upheld.swap_remove(node);
+        upheld.remove(node);
     }
 }
 
@@ -64,7 +63,7 @@ pub(crate) fn take_out(upheld: &mut IndexSet<Node>, gone: &NodeSet)
 fn released_at(
     replica: &Replica,
     pins: &Pins,
-    upheld: &IndexSet<Node>,
+    upheld: &BTreeSet<Node>,
     but: Node,
     gone: &NodeSet,
     place: usize,
@@ -99,7 +98,7 @@ fn is_pinned_but(pins: &Pins, but: Node, node: Node) -> bool
 
 // Whether something at the places is left. It begins with the last, since what was added last is the likeliest to be
 // pinned, and ends at the first that is left.
-fn has_left(graph: &Graph, upheld: &IndexSet<Node>, gone: &NodeSet, places: &[usize]) -> bool
+fn has_left(graph: &Graph, upheld: &BTreeSet<Node>, gone: &NodeSet, places: &[usize]) -> bool
     ensures { IsTrue result
         ↔ ((n : Node) × IsAtOne graph.now places.now n × IsLeft upheld.now.keys gone.now.keys n) }
 {
@@ -112,7 +111,7 @@ fn has_left(graph: &Graph, upheld: &IndexSet<Node>, gone: &NodeSet, places: &[us
 }
 
 // Whether what stands at the place is left.
-fn is_left_at(graph: &Graph, upheld: &IndexSet<Node>, gone: &NodeSet, place: usize) -> bool
+fn is_left_at(graph: &Graph, upheld: &BTreeSet<Node>, gone: &NodeSet, place: usize) -> bool
     ensures { IsTrue result ↔ IsLeftAt graph.now upheld.now.keys gone.now.keys place }
 {
     match graph.node_at(place) {
@@ -122,7 +121,7 @@ fn is_left_at(graph: &Graph, upheld: &IndexSet<Node>, gone: &NodeSet, place: usi
 }
 
 // Whether a changeset is left: it was upheld, and doesn't go.
-fn is_left(upheld: &IndexSet<Node>, gone: &NodeSet, node: Node) -> bool
+fn is_left(upheld: &BTreeSet<Node>, gone: &NodeSet, node: Node) -> bool
     ensures { IsTrue result ↔ IsLeft upheld.now.keys gone.now.keys node }
 {
     upheld.contains(&node) && !gone.contains(node)
@@ -131,7 +130,7 @@ fn is_left(upheld: &IndexSet<Node>, gone: &NodeSet, node: Node) -> bool
 // The places of the parents wait, where what stands there is left.
 fn wait_parents(
     graph: &Graph,
-    upheld: &IndexSet<Node>,
+    upheld: &BTreeSet<Node>,
     gone: &NodeSet,
     place: usize,
     waiting: &mut BTreeSet<usize>,
@@ -148,7 +147,7 @@ fn wait_parents(
 // The place waits, if there is one and what stands there is left.
 fn wait_at(
     graph: &Graph,
-    upheld: &IndexSet<Node>,
+    upheld: &BTreeSet<Node>,
     gone: &NodeSet,
     place: Option<usize>,
     waiting: &mut BTreeSet<usize>,

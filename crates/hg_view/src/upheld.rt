@@ -2,7 +2,7 @@
 //!
 //! Public changesets are never obsolete, and what isn't public now never was. So this has all that can be obsolete
 //! below a pin, now and whatever a replica absorbs later: pins alone change it.
-ghost use Rattle.std.specs.Prelude.{◌≡◌, ◌↔◌, ◌⊎◌, ℕ, ◌++◌, List, Some, length, Contains, OnOk, OnErr};
+ghost use Rattle.std.specs.Prelude.{◌≡◌, ◌↔◌, ◌⊎◌, ℕ, ◌++◌, List, Some, length, Contains, IfOk, OnOk, OnErr};
 ghost use Rattle.hg_changeset.specs.declared.node.Node.{Node};
 ghost use Rattle.hg_graph.specs.Places.{IsAt};
 ghost use Rattle.hg_phases.specs.State.{changesets};
@@ -11,68 +11,97 @@ ghost use Rattle.hg_replica.specs.State.{IsValid};
 ghost use Rattle.hg_replica.specs.Content.{content_of};
 ghost use Rattle.hg_replica.specs.Evolution.{IsMutable};
 ghost use Rattle.hg_instab.specs.Walk.{Adds};
-ghost use Rattle.hg_view.specs.Upheld.{AreUpheld, IsUpholding, IsMutableParent};
+ghost use Rattle.hg_view.specs.Upheld.{AreApart, AreUpheld, IsUpholding, IsMutableParent};
 
+use crate::released::take_out;
 use hg_changeset::Node;
 use hg_instab::is_mutable;
+use hg_node_set::NodeSet;
 use hg_replica::Replica;
-use indexmap::IndexSet;
-use std::alloc::AllocError;
+use std::alloc::{AllocError, Global};
+use std::collections::BTreeSet;
 
-// Upholds one more, with its ancestors down to the public ones, at the cost of those that weren't upheld. What was
-// there comes first. Where memory is refused nothing changes.
-pub(crate) fn uphold(
+// What would be upheld besides, were one more pinned: it and its ancestors, down to the public ones, at the cost of those
+// that aren't upheld yet.
+pub(crate) fn upheld_besides(
+    alloc: Global,
     replica: &Replica,
-    upheld: &mut IndexSet<Node>,
+    upheld: &BTreeSet<Node>,
     node: Node,
-) -> Result<(), AllocError>
-    requires { (n : Node) → Contains upheld.old.keys n → IsHeld (content_of replica.now).0 n }
-    ensures kept { (more : List Node) × (upheld.new.keys ≡ upheld.old.keys ++ more) }
-    ensures ok { (pins more : List Node) → AreUpheld (content_of replica.now) pins upheld.old.keys
+) -> Result<NodeSet, AllocError>
+    requires { (n : Node) → Contains upheld.now.keys n → IsHeld (content_of replica.now).0 n }
+    ensures apart { IfOk result (λ found. AreApart found.keys upheld.now.keys) }
+    ensures upheld { IfOk result (λ found. (pins more : List Node)
+        → AreUpheld (content_of replica.now) pins upheld.now.keys
         → ((n : Node) → Contains more n ↔ (Contains pins n ⊎ (node ≡ n))) → IsHeld (content_of replica.now).0 node
-        → OnOk result (AreUpheld (content_of replica.now) more upheld.new.keys) }
-    ensures err { OnErr result (upheld.new.keys ≡ upheld.old.keys) }
+        → AreUpheld (content_of replica.now) more (upheld.now.keys ++ found.keys)) }
 {
-    let from = upheld.len();
-    add_mutable(replica, node, upheld)?;
-    match hang_below(replica, upheld, from) {
-        Ok(()) => Ok(()),
-        Err(error) => {
-            upheld.truncate(from);
-            Err(error)
-        }
-    }
+    let mut found = NodeSet::new(alloc);
+    add_mutable(replica, upheld, node, &mut found)?;
+    hang_below(replica, upheld, &mut found)?;
+    Ok(found)
 }
 
-// Adds the parents that aren't public of each from the place on, and of each that is added.
-fn hang_below(replica: &Replica, upheld: &mut IndexSet<Node>, from: usize) -> Result<(), AllocError>
-    requires { (n : Node) → Contains upheld.old.keys n → IsHeld (content_of replica.now).0 n }
-    ensures kept { (more : List Node) × (upheld.new.keys ≡ upheld.old.keys ++ more) }
-    ensures ok { (pins old : List Node) → IsUpholding (content_of replica.now) pins old upheld.old.keys from
-        → OnOk result (IsUpholding (content_of replica.now) pins old upheld.new.keys (length upheld.new.keys)) }
+// Puts all of them in. Where memory is refused none is there.
+pub(crate) fn put_in(upheld: &mut BTreeSet<Node>, found: &NodeSet) -> Result<(), AllocError>
+    requires { AreApart found.now.keys upheld.old.keys }
+    ensures ok { OnOk result ((n : Node) → Contains upheld.new.keys n
+        ↔ Contains (upheld.old.keys ++ found.now.keys) n) }
+    ensures err { OnErr result ((n : Node) → Contains upheld.new.keys n ↔ Contains upheld.old.keys n) }
 {
-    let mut next = from;
-    while next < upheld.len() {
-        let node = upheld.as_slice()[next];
-        add_parents(replica, node, upheld)?;
+    for node in found.as_slice() {
+        match upheld.insert(*node) {
+            Ok(_) => {}
+            Err(error) => {
+                take_out(upheld, found);
+                return Err(error.into());
+            }
+        }
+    }
+    Ok(())
+}
+
+// Adds the parents that aren't public of each that was found, and of each that is added.
+fn hang_below(
+    replica: &Replica,
+    upheld: &BTreeSet<Node>,
+    found: &mut NodeSet,
+) -> Result<(), AllocError>
+    requires { (n : Node) → Contains (upheld.now.keys ++ found.old.keys) n → IsHeld (content_of replica.now).0 n }
+    ensures apart { OnOk result (AreApart found.old.keys upheld.now.keys → AreApart found.new.keys upheld.now.keys) }
+    ensures ok { OnOk result ((pins : List Node)
+        → IsUpholding (content_of replica.now) pins upheld.now.keys (upheld.now.keys ++ found.old.keys)
+        (length upheld.now.keys)
+        → IsUpholding (content_of replica.now) pins upheld.now.keys (upheld.now.keys ++ found.new.keys)
+        (length (upheld.now.keys ++ found.new.keys))) }
+{
+    let mut next = 0;
+    while next < found.len() {
+        let node = found.as_slice()[next];
+        add_parents(replica, upheld, node, found)?;
         next += 1;
     }
     Ok(())
 }
 
 // Adds the parents of a changeset that aren't public.
-fn add_parents(replica: &Replica, node: Node, upheld: &mut IndexSet<Node>) -> Result<(), AllocError>
+fn add_parents(
+    replica: &Replica,
+    upheld: &BTreeSet<Node>,
+    node: Node,
+    found: &mut NodeSet,
+) -> Result<(), AllocError>
     ensures valid { IsValid replica.now }
-    ensures kept { (more : List Node) × (upheld.new.keys ≡ upheld.old.keys ++ more) }
-    ensures ok { OnOk result
-        (Adds (IsMutableParent (content_of replica.now) node) upheld.old.keys upheld.new.keys) }
+    ensures apart { OnOk result (AreApart found.old.keys upheld.now.keys → AreApart found.new.keys upheld.now.keys) }
+    ensures ok { OnOk result (Adds (IsMutableParent (content_of replica.now) node)
+        (upheld.now.keys ++ found.old.keys) (upheld.now.keys ++ found.new.keys)) }
 {
     let graph = replica.graph();
     match graph.place(node) {
         Some(place) => {
             let parents = graph.parent_places(place);
-            add_at(replica, parents.first, upheld)?;
-            add_at(replica, parents.second, upheld)
+            add_at(replica, upheld, parents.first, found)?;
+            add_at(replica, upheld, parents.second, found)
         }
         None => Ok(()),
     }
@@ -81,32 +110,38 @@ fn add_parents(replica: &Replica, node: Node, upheld: &mut IndexSet<Node>) -> Re
 // Adds what stands at the place, if there is one, where that isn't public.
 fn add_at(
     replica: &Replica,
+    upheld: &BTreeSet<Node>,
     place: Option<usize>,
-    upheld: &mut IndexSet<Node>,
+    found: &mut NodeSet,
 ) -> Result<(), AllocError>
-    ensures kept { (more : List Node) × (upheld.new.keys ≡ upheld.old.keys ++ more) }
+    ensures apart { OnOk result (AreApart found.old.keys upheld.now.keys → AreApart found.new.keys upheld.now.keys) }
     ensures ok { OnOk result (Adds (λ n. (k : ℕ) × (place ≡ Some k) × IsAt (changesets replica.now.history) n k
-        × IsMutable (content_of replica.now) n) upheld.old.keys upheld.new.keys) }
+        × IsMutable (content_of replica.now) n) (upheld.now.keys ++ found.old.keys)
+        (upheld.now.keys ++ found.new.keys)) }
 {
     let Some(place) = place else {
         return Ok(());
     };
     match replica.graph().node_at(place) {
-        Some(node) => add_mutable(replica, node, upheld),
+        Some(node) => add_mutable(replica, upheld, node, found),
         None => Ok(()),
     }
 }
 
-// Adds a changeset, unless it is public or isn't held.
-fn add_mutable(replica: &Replica, node: Node, upheld: &mut IndexSet<Node>) -> Result<(), AllocError>
-    ensures kept { (more : List Node) × (upheld.new.keys ≡ upheld.old.keys ++ more) }
-    ensures ok { OnOk result
-        (Adds (λ n. (node ≡ n) × IsMutable (content_of replica.now) n) upheld.old.keys upheld.new.keys) }
-    ensures err { OnErr result (upheld.new.keys ≡ upheld.old.keys) }
+// Adds a changeset, unless it is public, isn't held or is upheld already.
+fn add_mutable(
+    replica: &Replica,
+    upheld: &BTreeSet<Node>,
+    node: Node,
+    found: &mut NodeSet,
+) -> Result<(), AllocError>
+    ensures apart { OnOk result (AreApart found.old.keys upheld.now.keys → AreApart found.new.keys upheld.now.keys) }
+    ensures ok { OnOk result (Adds (λ n. (node ≡ n) × IsMutable (content_of replica.now) n)
+        (upheld.now.keys ++ found.old.keys) (upheld.now.keys ++ found.new.keys)) }
 {
-    if !is_mutable(replica, node) {
+    if upheld.contains(&node) || !is_mutable(replica, node) {
         return Ok(());
     }
-    upheld.insert(node)?;
+    found.insert(node)?;
     Ok(())
 }

@@ -1,7 +1,7 @@
 use Rattle.std.proofs.Common.{true≢false, List, IsTrue, Contains, ◌↔◌, inl, inr, refl, sym, subst, ◌∙◌}
-use Rattle.std.proofs.lemmas.Map.Views.{btree_set_contains_iff, Contains-from_any, list_any-from_Contains}
+use Rattle.std.proofs.lemmas.Map.Views.{btree_set_contains_iff}
 use Rattle.hg_changeset.specs.declared.node.Node.{Node}
-use Rattle.hg_changeset.proofs.NodeLemmas.{node_cmp_total, node_cmp_exact, same_node, node_eq_laws}
+use Rattle.hg_changeset.proofs.NodeLemmas.{node_cmp_total, node_cmp_exact}
 use Rattle.hg_view.proofs.kept.is_shown.Goals as goal
 
 pub returns-then-contains : goal.returns-then-contains
@@ -11,12 +11,15 @@ returns-then-contains c =
     let there : IsTrue c.contains.result ↔ Contains c.extinct.result.now.keys node =
     rw c.contains.ensures
     (btree_set_contains_iff node_cmp_total node_cmp_exact c.extinct.result.now node) in
+    let up : IsTrue c.contains-then-contains.result ↔ Contains keys node =
+    rw c.contains-then-contains.ensures
+    (btree_set_contains_iff node_cmp_total node_cmp_exact c.args.upheld.now node) in
     let extinct : Contains c.args.instabilities.now.extinct node =
     subst (λ (ns : List Node). Contains ns node) c.extinct.ensures (there.0 c.if-contains.true) in (
-      λ h. inr (Contains-from_any same_node node keys (sym c.contains-then-contains.ensures ∙ h)),
+      λ h. inr (up.0 h),
       λ h. elim h [
         | inl out ↦ absurd (out extinct)
-        | inr up ↦ c.contains-then-contains.ensures ∙ list_any-from_Contains node_eq_laws node keys up
+        | inr there ↦ up.1 there
       ],
     )
 

@@ -1,11 +1,12 @@
 use Rattle.std.proofs.Common.{◌<◌, ◌≤◌, ◌↔◌, false, List, [], get_or, length, Contains, subst}
 use Rattle.std.proofs.lemmas.List.{get_or_default, take_all}
-use Rattle.indexmap.specs.IndexSet.{Updates}
+use Rattle.std.specs.BTreeSet.{Updates}
 use Rattle.hg_changeset.specs.declared.node.Node.{Node}
-use Rattle.hg_changeset.specs.Node.{node_eq}
+use Rattle.hg_changeset.specs.Node.{node_cmp}
 use Rattle.hg_changeset.proofs.ListLemmas.{Contains-none}
 use Rattle.hg_view.specs.Released.{IsLeft}
-use Rattle.hg_view.proofs.ReleasedLemmas.{node-taken, left-less}
+use Rattle.hg_instab.proofs.TurnLemmas.{node-removed}
+use Rattle.hg_view.proofs.ReleasedLemmas.{left-less}
 use Rattle.hg_view.proofs.released.take_out.Goals as goal
 
 pub loop-node-init : goal.loop-node-init
@@ -19,12 +20,12 @@ loop-node-preserved c =
     let l : i < length gone = subst (λ (ns : List Node). i < length ns) c.as_slice-node-items.ensures.keys
     c.loop-node-test.true in
     let x = get_or gone i first in
-    let up : Updates node_eq c.loop-node.upheld c.swap_remove.new.self x false =
-    subst (λ (ns : List Node). Updates node_eq c.loop-node.upheld c.swap_remove.new.self (get_or ns i first) false)
-    c.as_slice-node-items.ensures.keys c.swap_remove.ensures.updates in
-    left-less c.args.upheld.now.keys gone c.loop-node.upheld.keys c.swap_remove.new.self.keys i x l
+    let up : Updates node_cmp c.loop-node.upheld c.remove.new.self x false =
+    subst (λ (ns : List Node). Updates node_cmp c.loop-node.upheld c.remove.new.self (get_or ns i first) false)
+    c.as_slice-node-items.ensures.keys c.remove.ensures.updates in
+    left-less c.args.upheld.now.keys gone c.loop-node.upheld.keys c.remove.new.self.keys i x l
     (get_or_default gone i x first l) c.loop-node.invariant
-    (node-taken c.loop-node.upheld c.swap_remove.new.self x up)
+    (node-removed c.loop-node.upheld c.remove.new.self x up)
 
 pub returns : goal.returns
 returns c =

@@ -1,4 +1,4 @@
-use Rattle.std.proofs.Common.{◌+◌, arith, ap, length}
+use Rattle.std.proofs.Common.{arith, ap, length}
 use Rattle.hg_view.proofs.ShareLemmas.{shares_more, shares_no_more, shares_all}
 use Rattle.hg_view.proofs.shared.share.Goals as goal
 use Rattle.hg_view.proofs.shared.share.Goals.{in-Some+in_ok-insert, in_default}

@@ -1,4 +1,4 @@
-use Rattle.std.proofs.Common.{◌≡◌, List, Option, ℕ, Some, slice_get, sym, subst, ◌∙◌}
+use Rattle.std.proofs.Common.{◌≡◌, ◌++◌, List, Option, ℕ, Some, slice_get, sym, subst, ◌∙◌}
 use Rattle.std.proofs.lemmas.Result.{on_ok_weaker}
 use Rattle.hg_changeset.specs.Contents.{Contents}
 use Rattle.hg_graph.specs.Graph.{nodes}
@@ -13,8 +13,8 @@ returns-in-Some-node_at-clause-ok c =
     let s = c.args.replica.now in
     let k = c.in-Some.place in
     let node = c.in-Some-node_at.node in
-    let old = c.args.upheld.now.keys in
-    let new = c.add_mutable.new.upheld.keys in
+    let old = c.args.upheld.now.keys ++ c.args.found.now.keys in
+    let new = c.args.upheld.now.keys ++ c.add_mutable.new.found.keys in
     let at : IsAt (changesets s.history) node k =
     subst (λ (cs : List Contents). slice_get (nodes cs) k ≡ Some node) c.graph.ensures.graph
     (sym c.node_at.ensures ∙ c.in-Some-node_at.is) in
