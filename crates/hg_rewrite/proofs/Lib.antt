@@ -9,3 +9,4 @@ pub mod PartLemmas
 pub mod TableLemmas
 pub mod MemoryLemmas
 pub mod DecideLemmas
+pub mod OrphanLemmas

@@ -2,7 +2,7 @@
 ghost use Rattle.std.specs.Prelude.{◌≡◌, ◌↔◌, ◌⊎◌, ◌∷◌, [], IsTrue, IsErrOf, IfOk, OnErr, MatchOption, map};
 ghost use Rattle.hg_changeset.specs.Node.{null_node};
 ghost use Rattle.hg_replica.specs.Content.{content_of};
-ghost use Rattle.hg_replica.specs.Evolution.{IsObsolete};
+ghost use Rattle.hg_replica.specs.Evolution.{IsObsolete, IsOrphan};
 ghost use Rattle.hg_rewrite.specs.Reading.{parents_in};
 ghost use Rattle.hg_phases.specs.State.{Holds, Reaches};
 ghost use Rattle.hg_replica.specs.State.{IsValid};
@@ -191,13 +191,18 @@ pub(crate) fn check_not_obsolete(replica: &Replica, op: &Op) -> Result<(), Refus
     Ok(())
 }
 
-// Refuses a fold of what is no line, and a relocation onto the node itself or a descendant.
-pub(crate) fn check_linear(replica: &Replica, op: &Op) -> Result<(), Refusal>
+// Refuses a fold of what is no line, and a relocation onto the node itself or a descendant. It looks for neither where
+// sets that are kept have told that it is apart.
+pub(crate) fn check_linear(replica: &Replica, op: &Op, is_apart: bool) -> Result<(), Refusal>
     requires known { NoneApplies (unknown_nodes replica.now op.now) }
     requires valid { IsValid replica.now }
+    requires apart { IsTrue is_apart → NoneApplies (not_linear replica.now op.now) }
     ensures answer { CheckedInMemory (not_linear replica.now op.now) result }
     ensures memory { IsErrOf result Refusal.NoMemory → WalksForDescendants replica.now.history op.now }
 {
+    if is_apart {
+        return Ok(());
+    }
     let is_linear = match op {
         Op::Fold { nodes, .. } => is_line(replica, nodes),
         Op::Relocate { node, p, q, .. } => !leads_to_either(replica, *node, *p, *q)?,
@@ -208,6 +213,31 @@ pub(crate) fn check_linear(replica: &Replica, op: &Op) -> Result<(), Refusal>
     } else {
         Err(Refusal::NotLinear)
     }
+}
+
+// Whether it is a relocation whose new parents can't be descendants: the node is an orphan, and they are neither orphans
+// nor obsolete, as all descendants of an orphan are. It is told by what is kept, and takes no memory.
+pub(crate) fn is_apart(kept: &Kept, op: &Op) -> bool
+    ensures { IsTrue result → NoneApplies (not_linear kept.now.replica op.now) }
+{
+    let Op::Relocate { node, p, q, .. } = op else {
+        return false;
+    };
+    // It says that the replica is in a valid state.
+    let _replica = kept.replica();
+    if !kept.instabilities().orphan().contains(node) {
+        return false;
+    }
+    is_settled(kept, *p) && is_settled(kept, *q)
+}
+
+// Whether it is neither an orphan nor obsolete, by what is kept.
+fn is_settled(kept: &Kept, node: Node) -> bool
+    ensures orphan { IsTrue result → ¬ (IsOrphan (content_of kept.now.replica) node) }
+    ensures obsolete { IsTrue result → ¬ (IsObsolete (content_of kept.now.replica) node) }
+{
+    let sets = kept.instabilities();
+    !sets.orphan().contains(&node) && !sets.obsolete().contains(&node)
 }
 
 // Whether a new parent is the node itself, which takes no memory, or a descendant.

@@ -1,18 +1,18 @@
 //! Deciding an operation.
-ghost use Rattle.std.specs.Prelude.{List, Contains, IfOk, IsErrOf};
+ghost use Rattle.std.specs.Prelude.{List, Contains, IfOk, IsErrOf, IsTrue};
 ghost use Rattle.hg_changeset.specs.declared.node.Node.{Node};
 ghost use Rattle.hg_changeset.specs.Contents.{Contents};
 ghost use Rattle.hg_changeset.specs.Changeset.{IsChangeset};
 ghost use Rattle.hg_replica.specs.State.{IsValid};
 ghost use Rattle.hg_rewrite.specs.Answer.{DecideAnswer};
 ghost use Rattle.hg_rewrite.specs.Memory.{MayWantMemory, MayWantMemoryLater};
-ghost use Rattle.hg_rewrite.specs.Refusals.{NoneApplies, unknown_nodes, hidden_parents};
+ghost use Rattle.hg_rewrite.specs.Refusals.{NoneApplies, unknown_nodes, hidden_parents, not_linear};
 
 use crate::bounds::bounds;
 use crate::changesets::{ids, new_changesets};
 use crate::check::{
     check_count, check_entries, check_known, check_linear, check_new, check_not_obsolete,
-    check_not_public, check_pruner, check_raise, check_shown, check_visible,
+    check_not_public, check_pruner, check_raise, check_shown, check_visible, is_apart,
 };
 use crate::markers::markers;
 use crate::op::Op;
@@ -37,7 +37,7 @@ pub fn decide(alloc: Global, replica: &Replica, pins: &Pins, op: &Op) -> Result<
 {
     check_known(replica, op)?;
     check_visible(alloc, replica, pins, op)?;
-    decide_shown(alloc, replica, op)
+    decide_shown(alloc, replica, op, false)
 }
 
 /// Decides an operation as [`decide`] does, at a replica whose instabilities are kept up to date, under the pins that
@@ -45,7 +45,7 @@ pub fn decide(alloc: Global, replica: &Replica, pins: &Pins, op: &Op) -> Result<
 ///
 /// Whether a new parent is hidden is told by look-ups, without memory. So the call costs what the operation names and
 /// writes, however much the replica holds and whatever stands on a parent; a relocation costs what lies between its
-/// nodes as well.
+/// nodes as well, but not that of an orphan onto what is neither an orphan nor obsolete, as where a stack is evolved.
 pub fn decide_kept(alloc: Global, kept: &Kept, op: &Op) -> Result<Part, Refusal>
     ensures answer { DecideAnswer kept.now.replica kept.now.pins op.now result }
     ensures memory { IsErrOf result Refusal.NoMemory → MayWantMemory kept.now.replica kept.now.pins op.now }
@@ -58,13 +58,15 @@ pub fn decide_kept(alloc: Global, kept: &Kept, op: &Op) -> Result<Part, Refusal>
     let replica = kept.replica();
     check_known(replica, op)?;
     check_shown(kept, op)?;
-    decide_shown(alloc, replica, op)
+    decide_shown(alloc, replica, op, is_apart(kept, op))
 }
 
-// Decides an operation whose nodes are held, under any pins under which its new parents aren't hidden.
-fn decide_shown(alloc: Global, replica: &Replica, op: &Op) -> Result<Part, Refusal>
+// Decides an operation whose nodes are held, under any pins under which its new parents aren't hidden. Whether it is
+// known to be apart, as sets that are kept tell of a relocation, spares a walk.
+fn decide_shown(alloc: Global, replica: &Replica, op: &Op, is_apart: bool) -> Result<Part, Refusal>
     requires known { NoneApplies (unknown_nodes replica.now op.now) }
     requires valid { IsValid replica.now }
+    requires apart { IsTrue is_apart → NoneApplies (not_linear replica.now op.now) }
     ensures answer { (pins : List Node) → NoneApplies (hidden_parents replica.now pins op.now)
         → DecideAnswer replica.now pins op.now result }
     ensures later { (pins : List Node) → NoneApplies (hidden_parents replica.now pins op.now)
@@ -73,7 +75,7 @@ fn decide_shown(alloc: Global, replica: &Replica, op: &Op) -> Result<Part, Refus
 {
     check_not_public(replica, op)?;
     check_not_obsolete(replica, op)?;
-    check_linear(replica, op)?;
+    check_linear(replica, op, is_apart)?;
     check_count(op)?;
     check_raise(replica, op)?;
     check_entries(op)?;
