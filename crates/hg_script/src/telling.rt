@@ -225,8 +225,18 @@ fn tell_words<W: Write>(
         }
         Err(fault) => {
             keep_printed(&text, writer);
-            Err(blamed(alloc, fleet, words, fault, notes))
+            Err(blamed(alloc, fleet, words, in_text(fault), notes))
         }
+    }
+}
+
+// What ended a line that printed into a text: such a write is refused for want of memory alone.
+fn in_text(fault: RunFault) -> RunFault
+    ensures { (result ≡ fault) ⊎ (result ≡ NoMemory) }
+{
+    match fault {
+        RunFault::Write => RunFault::NoMemory,
+        _ => fault,
     }
 }
 

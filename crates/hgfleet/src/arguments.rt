@@ -180,7 +180,8 @@ none is named, that of every node. The newest changeset comes first. Each has a 
 Lines lead from it to its parents. Beside it stand its short id, its label, its phase and its instabilities, and below
 an obsolete one what it was rewritten to. With --dot the same is a graph in the language of Graphviz.
 
-Statuses: 0 done, 1 a script that ended early or leaves no such name, 2 wrong arguments, 3 want of memory.
+Statuses: 0 done, 1 a script that ended early or leaves no such name, or a text that
+can't be written, 2 wrong arguments, 3 want of memory.
 
 For example:
   printf 'node A\\ncommit A a draft\\namend A a b\\n' | hgfleet log --hidden A";
@@ -193,7 +194,8 @@ Reads the bytes of standard input and prints them as text. What they may be:
   message  a message between nodes: its changesets, phases and markers
 Bytes that have another form are a fault, which is told with its place.
 
-Statuses: 0 done, 1 bytes of another form, 2 wrong arguments, 3 want of memory.
+Statuses: 0 done, 1 bytes of another form, or a stream that can't be read or written,
+2 wrong arguments, 3 want of memory.
 
 For example:
   hgfleet write store A < script | hgfleet show store";
@@ -205,7 +207,8 @@ Does the script of standard input, and then writes bytes to standard output. Wha
   roots    the text of the phase roots of the node NAME
   message  the message that an offer of the script keeps as NAME
 
-Statuses: 0 done, 1 a script that ended early or leaves no such name, 2 wrong arguments, 3 want of memory.
+Statuses: 0 done, 1 a script that ended early or leaves no such name, or a text that
+can't be written, 2 wrong arguments, 3 want of memory.
 
 For example:
   printf 'node A\\ncommit A a draft\\namend A a b\\n' | hgfleet write store A > markers";

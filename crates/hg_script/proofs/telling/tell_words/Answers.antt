@@ -1,4 +1,4 @@
-use Rattle.std.proofs.Common.{inr}
+use Rattle.std.proofs.Common.{inl, inr, ◌∙◌}
 use Rattle.std.proofs.lemmas.Result.{err_from_is_err_and}
 use Rattle.hg_script.proofs.EndingLemmas.{told_of}
 use Rattle.hg_script.proofs.ScriptLemmas.{says_some}
@@ -15,4 +15,11 @@ pub returns-in-Ok-clause-done : goal.returns-in-Ok-clause-done
 returns-in-Ok-clause-done g c = let d = c.in-Ok.ensures.done in (d.0, d.2)
 
 pub returns-clause-stopped : goal.returns-clause-stopped
-returns-clause-stopped g c = told_of c.args.number c.args.fleet.now c.args.line.now _ _ c.blamed.ensures c.in-Err.ensures.stopped
+returns-clause-stopped g c =
+    let number = c.args.number in
+    let fleet = c.args.fleet.now in
+    let line = c.args.line.now in
+    elim (told_of number fleet line _ _ c.in_text.ensures c.in-Err.ensures.stopped) [
+      | inl none ↦ elim c.blamed.ensures [ inl same ↦ inl (same ∙ none) | inr want ↦ inl want ]
+      | inr ends ↦ told_of number fleet line _ _ c.blamed.ensures ends
+    ]
