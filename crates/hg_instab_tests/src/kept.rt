@@ -1,17 +1,17 @@
 //! Replicas that keep their sets, where growth is refused.
 use crate::keeping::{stable, turning, upsetting};
-use crate::same::{are_same, is_up_to_date};
+use crate::same::{are_same, has_exactly, is_up_to_date};
+use hg_changeset::Node;
 use hg_replica::{Fault, Part, Replica};
 use hg_view::Kept;
 use std::alloc::Global;
 
-// A replica with changesets that are unstable in each way, and a part that takes from each set and brings to it.
-fn upset(alloc: Global, replica: &mut Replica) -> Option<Part> {
+// A replica with changesets that are unstable in each way.
+fn upset(alloc: Global, replica: &mut Replica) -> Option<[Node; 8]> {
     let nodes = stable(alloc, replica)?;
     let part = upsetting(alloc, &nodes)?;
     replica.absorb(&part).ok()?;
-    let (part, _) = turning(alloc, &nodes)?;
-    Some(part)
+    Some(nodes)
 }
 
 // Whether both hold the same, in the same sets.
@@ -67,65 +67,67 @@ fn refused_growth_of_a_copy_of_kept_sets_is_passed_on(rt: HostRuntime) {
     assert!(rt; are_equal(&copy, &kept) && is_right(alloc, &copy));
 }
 
-// Whether what absorbs the part stays as it was where memory is refused, at most once, and takes the part in at the
-// second try. `None` where memory was refused before.
-fn stays_or_absorbs(kept: &mut Kept, part: &Part) -> Option<bool> {
+// The ways in which it takes something in.
+#[derive(Drop)]
+enum Way<'a> {
+    Absorb(&'a Part),
+    AbsorbOwned(Part),
+    Join(&'a Kept),
+}
+
+fn take_in(kept: &mut Kept, way: Way<'_>) -> Result<(), Fault> {
+    let absorbed = match way {
+        Way::Absorb(part) => kept.absorb(part),
+        Way::AbsorbOwned(part) => kept.absorb_owned(part),
+        Way::Join(other) => return kept.join(other),
+    };
+    match absorbed {
+        Ok(_) => Ok(()),
+        Err(fault) => Err(fault),
+    }
+}
+
+// Whether both pin the same.
+fn pin_the_same(one: &Kept, other: &Kept) -> bool {
+    one.pins().nodes() == other.pins().nodes()
+}
+
+// Whether it stays as it was where memory is refused, at most once, and takes in at the second try what changes each
+// set. Its pins stay. `None` where memory was refused before.
+fn stays_or_takes_in(kept: &mut Kept, first: Way<'_>, again: Way<'_>) -> Option<bool> {
     let before = kept.copy().ok()?;
-    match kept.absorb(part) {
-        Ok(_) => Some(true),
-        Err(fault) => {
-            let stayed = fault == Fault::NoMemory && are_equal(kept, &before);
-            Some(stayed && kept.absorb(part).is_ok())
+    if let Err(fault) = take_in(kept, first) {
+        let stayed = are_equal(kept, &before) && pin_the_same(kept, &before);
+        if fault != Fault::NoMemory || !stayed || take_in(kept, again).is_err() {
+            return Some(false);
         }
     }
+    Some(pin_the_same(kept, &before))
+}
+
+// The same of one that pins what is extinct, in each way, after which all are equal to one that took the part in.
+fn takes_in_each_way(alloc: Global) -> Option<bool> {
+    let mut replica = Replica::new(alloc);
+    let nodes = upset(alloc, &mut replica)?;
+    let part = turning(alloc, &nodes)?.0;
+    let first = turning(alloc, &nodes)?.0;
+    let again = turning(alloc, &nodes)?.0;
+    let mut one = Kept::new(alloc, replica).ok()?;
+    let mut plain = one.copy().ok()?;
+    plain.absorb(&part).ok()?;
+    one.pin(nodes[3]).ok()?;
+    let mut two = one.copy().ok()?;
+    let mut three = one.copy().ok()?;
+    let right = stays_or_takes_in(&mut one, Way::Absorb(&part), Way::Absorb(&part))?
+        && stays_or_takes_in(&mut two, Way::AbsorbOwned(first), Way::AbsorbOwned(again))?
+        && stays_or_takes_in(&mut three, Way::Join(&plain), Way::Join(&plain))?
+        && has_exactly(one.pins().nodes(), &[nodes[3]]);
+    Some(right && are_equal(&one, &plain) && are_equal(&two, &plain) && are_equal(&three, &plain))
 }
 
 #[test]
-fn refused_growth_of_what_keeps_its_sets_changes_nothing(rt: HostRuntime) {
-    let alloc = rt.alloc();
-    let mut replica = Replica::new(alloc);
-    let Some(part) = upset(alloc, &mut replica) else {
-        return;
-    };
-    let Ok(mut kept) = Kept::new(alloc, replica) else {
-        return;
-    };
-    match stays_or_absorbs(&mut kept, &part) {
-        Some(answer) => assert!(rt; answer && is_right(alloc, &kept)),
-        None => assert!(rt; is_right(alloc, &kept)),
-    }
-}
-
-// Whether what joins another stays as it was where memory is refused, at most once, and joins it at the second try.
-// `None` where memory was refused before.
-fn stays_or_joins(kept: &mut Kept, other: &Kept) -> Option<bool> {
-    let before = kept.copy().ok()?;
-    match kept.join(other) {
-        Ok(()) => Some(true),
-        Err(fault) => {
-            let stayed = fault == Fault::NoMemory && are_equal(kept, &before);
-            Some(stayed && kept.join(other).is_ok())
-        }
-    }
-}
-
-#[test]
-fn refused_growth_of_a_join_of_kept_sets_changes_nothing(rt: HostRuntime) {
-    let alloc = rt.alloc();
-    let mut replica = Replica::new(alloc);
-    let Some(part) = upset(alloc, &mut replica) else {
-        return;
-    };
-    let Ok(mut kept) = Kept::new(alloc, replica) else {
-        return;
-    };
-    let Ok(mut other) = kept.copy() else {
-        return;
-    };
-    if other.absorb(&part).is_err() {
-        return;
-    }
-    if let Some(answer) = stays_or_joins(&mut kept, &other) {
-        assert!(rt; answer && are_equal(&kept, &other) && is_right(alloc, &kept));
+fn refused_growth_of_what_keeps_its_sets_and_pins_changes_nothing(rt: HostRuntime) {
+    if let Some(answer) = takes_in_each_way(rt.alloc()) {
+        assert!(rt; answer);
     }
 }

@@ -247,52 +247,69 @@ fn through_the_bound(rt: HostRuntime) {
 }
 
 #[test]
-fn refused_growth_in_absorbing_changes_nothing(rt: HostRuntime) {
+fn refused_growth_in_absorbing_changes_nothing_and_passes_again(rt: HostRuntime) {
     let Ok((mut map, part)) = twenties_and_fives(rt.alloc()) else {
         return;
     };
-    match map.absorb(&part) {
-        Ok(()) => assert!(rt; has(&map, Some(5), Some(5))),
-        Err(NoMemory) => assert!(rt; has(&map, Some(20), None)),
+    if map.absorb(&part).is_err() {
+        assert!(rt; has(&map, Some(20), None));
+        assert_eq!(rt; map.absorb(&part), Ok(()));
     }
+    assert!(rt; has(&map, Some(5), Some(5)));
 }
 
 #[test]
-fn refused_growth_in_joining_changes_nothing(rt: HostRuntime) {
+fn refused_growth_in_joining_changes_nothing_and_passes_again(rt: HostRuntime) {
     let Ok((mut map, part)) = twenties_and_fives(rt.alloc()) else {
         return;
     };
     let Ok(other) = map_of(rt.alloc(), &part) else {
         return;
     };
-    match map.join(&other) {
-        Ok(()) => assert!(rt; has(&map, Some(5), Some(5))),
-        Err(NoMemory) => assert!(rt; has(&map, Some(20), None)),
+    if map.join(&other).is_err() {
+        assert!(rt; has(&map, Some(20), None));
+        assert_eq!(rt; map.join(&other), Ok(()));
     }
+    assert!(rt; has(&map, Some(5), Some(5)));
+}
+
+/// Two maps, side by side.
+type Pair = Both<LowMap<u8>, LowMap<u8>>;
+
+/// Twenties beside fives, a copy of them, and a part with fives for the first half and a number of 200 for the second.
+fn pairs(alloc: Global) -> Result<(Pair, Pair, (Vec<(u8, u8)>, Vec<(u8, u8)>)), NoMemory> {
+    let (map, part) = twenties_and_fives(alloc)?;
+    let other = map_of(alloc, &part)?;
+    let more = [(200, 1)].to_vec(alloc)?;
+    let copy = Both::new(map.copy()?, other.copy()?);
+    Ok((Both::new(map, other), copy, (part, more)))
+}
+
+/// Whether the pair took the part in.
+fn is_grown(pair: &Pair) -> bool {
+    has(pair.first(), Some(5), Some(5)) && pair.second().get(200) == Some(1)
+}
+
+/// Whether it has nothing of it.
+fn is_as_before(pair: &Pair) -> bool {
+    has(pair.first(), Some(20), None) && pair.second().get(200).is_none()
 }
 
 #[test]
-fn refused_growth_in_a_half_changes_neither(rt: HostRuntime) {
-    let Ok((map, part)) = twenties_and_fives(rt.alloc()) else {
+fn refused_growth_in_a_half_changes_neither_and_passes_again(rt: HostRuntime) {
+    let Ok((mut pair, mut copy, parts)) = pairs(rt.alloc()) else {
         return;
     };
-    let Ok(other) = map_of(rt.alloc(), &part) else {
-        return;
-    };
-    let Ok(more) = [(200, 1)].to_vec(rt.alloc()) else {
-        return;
-    };
-    let mut pair = Both::new(map, other);
-    match pair.absorb(&(part, more)) {
-        Ok(_) => {
-            assert!(rt; has(pair.first(), Some(5), Some(5)));
-            assert_eq!(rt; pair.second().get(200), Some(1));
-        }
-        Err(_) => {
-            assert!(rt; has(pair.first(), Some(20), None));
-            assert_eq!(rt; pair.second().get(200), None);
-        }
+    if pair.absorb(&parts).is_err() {
+        assert!(rt; is_as_before(&pair));
+        assert!(rt; pair.absorb(&parts).is_ok());
     }
+    assert!(rt; is_grown(&pair));
+    if copy.join(&pair).is_err() {
+        assert!(rt; is_as_before(&copy));
+        assert!(rt; copy.join(&pair).is_ok());
+    }
+    assert!(rt; is_grown(&copy));
 }
 
 /// Two constants, side by side.

@@ -17,7 +17,7 @@ use std::thread;
 use std::thread::Threads;
 
 // How many calls each of the four threads makes.
-const CALLS: u8 = 250;
+const CALLS: u8 = 60;
 
 // What a writer does, call after call: it commits and amends in turn, each upon the one before. Its changesets stand in
 // a replica beside, so that their ids are known to who asks for them.
@@ -95,7 +95,7 @@ fn holds_all(rt: &impl Abort, alloc: Global, replica: &Replica) {
     let mut plain = Replica::new(alloc);
     take_all(rt, alloc, &mut plain, b'p');
     take_all(rt, alloc, &mut plain, b'q');
-    assert_eq!(rt; counts(replica), (500, 250));
+    assert_eq!(rt; counts(replica), (120, 60));
     assert_eq!(rt; replica.below(&plain), Ok(true));
     assert_eq!(rt; plain.below(replica), Ok(true));
 }

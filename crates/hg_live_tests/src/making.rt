@@ -16,6 +16,9 @@ pub const A: &[u8] = b"f96ca39738e6588d0bf7020cd1d44a23774c1b77";
 /// What comes of an amend of it to the description `b`.
 pub const B_FOR_A: &[u8] = b"760183dd5b1d32a969c6efe5a9df5f980b024a45";
 
+/// The changeset `c` of the same user and time, on no parent.
+pub const C: &[u8] = b"3832bee9b93a66601f64da077a203102fba6d406";
+
 /// The draft root without a text.
 pub const N1: &[u8] = b"b80de5d138758541c5f05265ad144ab9fa86d1db";
 

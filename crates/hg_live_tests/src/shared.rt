@@ -9,62 +9,53 @@ use std::alloc::Global;
 use std::marker::Brand;
 use std::process::Abort;
 use std::sync::Wait;
-use std::sync::atomic::{AtomicBool, AtomicU64, Ordering};
+use std::sync::atomic::{AtomicU64, Ordering};
 use std::test::*;
+use std::thread;
 use std::thread::Threads;
-use std::{hint, thread};
 
-// How many threads look while one publishes, how often in all, and for how many turns of how many spins that one waits
-// for them.
+// How many threads look while one publishes, and how often in all.
 const LOOKERS: u64 = 2;
 
 const LOOKS: u64 = 6;
 
-const TURNS: u64 = 1_000;
-
-const SPINS: u64 = 100_000;
-
-// What the thread that publishes and those that look tell each other.
+// What the thread that publishes and those that look tell each other. Each counts up from 0.
 #[derive(Drop)]
 struct Signals {
     ready: AtomicU64,
-    held: AtomicBool,
+    held: AtomicU64,
     answered: AtomicU64,
-    gave_up: AtomicBool,
 }
 
-// Once all are ready, it holds who publishes until their looks were answered, which begin only then. Each turn lets
-// another thread run.
+// Waits until the count is as wanted, and lets others run meanwhile. It never gives up, however slow they are: a look
+// that waited for who is held here would let the test run out of time.
+fn wait_for<W: Wait>(rt: &W, count: &AtomicU64, wanted: u64) {
+    for _ in rt.forever() {
+        if count.load(Ordering::SeqCst) == wanted {
+            return;
+        }
+        thread::yield_now();
+    }
+}
+
+// Once all are ready, it holds who publishes until their looks were answered, which begin only then.
 #[derive(Drop)]
-struct HeldGate<'a> {
+struct HeldGate<'a, W> {
+    keep: W,
     signals: &'a Signals,
 }
 
-impl Gate for HeldGate<'_> {
+impl<W: Wait> Gate for HeldGate<'_, W> {
     fn at_publish(&self) {
         if self.signals.ready.load(Ordering::SeqCst) < LOOKERS {
             return;
         }
-        self.signals.held.store(true, Ordering::SeqCst);
-        for _ in 0..TURNS {
-            if self.signals.answered.load(Ordering::SeqCst) == LOOKS {
-                return;
-            }
-            pause();
-        }
-        self.signals.gave_up.store(true, Ordering::SeqCst);
+        self.signals.held.store(1, Ordering::SeqCst);
+        wait_for(&self.keep, &self.signals.answered, LOOKS);
     }
 }
 
-// A turn: others get on meanwhile, on this processor too.
-fn pause() {
-    for _ in 0..SPINS {
-        hint::spin_loop();
-    }
-    thread::yield_now();
-}
-
-type Held<'a, K, R> = Node<K, HeldGate<'a>, Writer<K, &'a R>>;
+type Held<'a, K, R> = Node<K, HeldGate<'a, &'a R>, Writer<K, &'a R>>;
 
 #[test]
 fn looks_are_answered_while_another_thread_is_held_at_the_gate(rt: HostRuntime) {
@@ -72,13 +63,11 @@ fn looks_are_answered_while_another_thread_is_held_at_the_gate(rt: HostRuntime) 
     let blank = Blank::new(alloc, Replica::new(alloc)).expect(&rt, "a blank");
     let signals = Signals {
         ready: AtomicU64::new(0),
-        held: AtomicBool::new(false),
+        held: AtomicU64::new(0),
         answered: AtomicU64::new(0),
-        gave_up: AtomicBool::new(false),
     };
     hold_and_look::<Brand, _>(&rt, alloc, blank, &signals);
     assert_eq!(rt; signals.answered.load(Ordering::SeqCst), LOOKS);
-    assert!(rt; !signals.gave_up.load(Ordering::SeqCst));
 }
 
 fn hold_and_look<K: NodeName + Send + Sync, R: Threads + Wait + Abort + Sync>(
@@ -92,9 +81,8 @@ fn hold_and_look<K: NodeName + Send + Sync, R: Threads + Wait + Abort + Sync>(
     requires name { blank.tokens.name ≡ K.name }
     requires parts { blank.tokens.parts ≡ K.parts }
 {
-    let node: Held<'_, K, R> = Node::new(rt, alloc, blank, HeldGate { signals }).expect(
-        rt, "a node",
-    );
+    let gate = HeldGate { keep: rt, signals };
+    let node: Held<'_, K, R> = Node::new(rt, alloc, blank, gate).expect(rt, "a node");
     let mut writes = node.pass(rt).expect(rt, "a pass");
     let one = node.pass(rt).expect(rt, "a pass");
     let other = node.pass(rt).expect(rt, "a pass");
@@ -106,7 +94,7 @@ fn hold_and_look<K: NodeName + Send + Sync, R: Threads + Wait + Abort + Sync>(
     thread::join(
         rt,
         move || {
-            wait_for(rt, signals);
+            wait_for(rt, &signals.ready, LOOKERS);
             assert_eq!(rt; answer(shared.local(rt, &mut writes, &second)), "shown");
         },
         move || {
@@ -119,25 +107,10 @@ fn hold_and_look<K: NodeName + Send + Sync, R: Threads + Wait + Abort + Sync>(
     );
 }
 
-// Until all are ready that look.
-fn wait_for<R: Wait>(rt: &R, signals: &Signals) {
-    for _ in rt.forever() {
-        if signals.ready.load(Ordering::SeqCst) == LOOKERS {
-            return;
-        }
-        thread::yield_now();
-    }
-}
-
 // Three looks while another thread is held: none waits for it, and each sees the state before.
 fn look<K: NodeName, R: Wait + Abort>(rt: &R, alloc: Global, signals: &Signals, mut pass: Pass<K>) {
     signals.ready.fetch_add(1, Ordering::SeqCst);
-    for _ in rt.forever() {
-        if signals.held.load(Ordering::SeqCst) {
-            break;
-        }
-        thread::yield_now();
-    }
+    wait_for(rt, &signals.held, 1);
     let a = id(rt, A);
     let status = Held::<'_, K, R>::read(&mut pass, a).expect(rt, "a look");
     assert!(rt; !status.obsolete);

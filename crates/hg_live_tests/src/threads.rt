@@ -49,7 +49,7 @@ fn put_or_take<R: Wait + Abort>(
     }
 }
 
-// Tries to put 30,000 messages, with the numbers first, first + 2 and so on.
+// Tries to put 10,000 messages, with the numbers first, first + 2 and so on.
 fn trade<R: Wait + Abort>(
     rt: &R,
     alloc: Global,
@@ -64,7 +64,7 @@ fn trade<R: Wait + Abort>(
         put: Vec::new(alloc),
         taken: Vec::new(alloc),
     };
-    for step in 0..30_000u16 {
+    for step in 0..10_000u16 {
         let number = first.wrapping_add(step.wrapping_mul(2));
         put_or_take(rt, alloc, inbox, &mut seat, number, &mut traffic);
     }

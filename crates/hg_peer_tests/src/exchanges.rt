@@ -277,48 +277,30 @@ fn what_cannot_be_marked_is_told(rt: HostRuntime) {
     expect_answers(&rt, &answers, &expected);
 }
 
-#[test]
-fn refused_growth_of_a_mark_changes_nothing(rt: HostRuntime) {
-    let alloc = rt.alloc();
-    let a = Node::from_hex(A).expect(&rt, "an id");
-    let Ok(mut world) = World::<Peer>::new(alloc, 1) else {
-        return;
-    };
-    let Some(event) = commit(alloc, 0, false) else {
-        return;
-    };
-    let marked = match world.run(&[event, mark(0, Mark::Pin(a))]) {
-        Ok(answers) => answers
-            .iter()
-            .any(|answer| outcome_of(answer) == Outcome::Marked),
-        Err(_) => false,
-    };
-    assert_eq!(rt; is_pinned_at(&world, 0, a), Some(marked));
+// What all peers hold and pin, and the first two messages.
+#[derive(Drop)]
+struct Copied {
+    peers: [Peer; 2],
+    messages: [Vec<u8>; 2],
 }
 
-#[test]
-fn refused_growth_of_a_whole_offer_that_is_taken_changes_nothing(rt: HostRuntime) {
-    let alloc = rt.alloc();
-    let a = Node::from_hex(A).expect(&rt, "an id");
-    let Ok(mut world) = World::<Peer>::new(alloc, 2) else {
-        return;
-    };
-    let Some(event) = commit(alloc, 0, false) else {
-        return;
-    };
-    if world.run(&[event]).is_err() {
-        return;
-    }
-    let taken = match world.run(&[offer_of(alloc, 0, Scope::Whole), take(1, 0)]) {
-        Ok(answers) => answers
-            .iter()
-            .any(|answer| outcome_of(answer) == Outcome::Changed(1, 0, 0)),
-        Err(_) => false,
-    };
-    assert_eq!(rt; phase_at(&world, 1, a).is_some(), taken);
+// A message, or no bytes where there is none.
+fn message_of(world: &World<Peer>, number: usize) -> &[u8] {
+    world.message(number).unwrap_or(&[])
 }
 
-// Whether the peer at the place holds the same as this one, in the same sets.
+// `None` where memory was refused.
+fn copy_of(alloc: Global, world: &World<Peer>) -> Option<Copied> {
+    Some(Copied {
+        peers: [world.state(0)?.copy().ok()?, world.state(1)?.copy().ok()?],
+        messages: [
+            Vec::from_slice(alloc, message_of(world, 0)).ok()?,
+            Vec::from_slice(alloc, message_of(world, 1)).ok()?,
+        ],
+    })
+}
+
+// Whether the peer at the place holds the same as this one, in the same sets, and pins the same.
 fn is_as(world: &World<Peer>, at: usize, peer: &Peer) -> bool {
     let Some(now) = world.state(at) else {
         return false;
@@ -327,59 +309,81 @@ fn is_as(world: &World<Peer>, at: usize, peer: &Peer) -> bool {
     mine.is_below(theirs)
         && theirs.is_below(mine)
         && are_same(now.kept().instabilities(), peer.kept().instabilities())
+        && now.kept().pins().nodes() == peer.kept().pins().nodes()
 }
 
-// Whether memory was wanting for the one event, or for the list of its answer.
-fn is_want_of_memory(answers: &Result<Vec<PeerAnswer>, NoMemory>) -> bool {
-    match answers {
-        Ok(answers) => answers.iter().any(|answer| {
-            matches!(
-                outcome_of(answer),
-                Outcome::ByPeer(PeerRefusal::NoMemory) | Outcome::ByState(Fault::NoMemory)
-            )
-        }),
-        Err(NoMemory) => true,
+fn is_as_copied(world: &World<Peer>, copied: &Copied) -> bool {
+    is_as(world, 0, &copied.peers[0])
+        && is_as(world, 1, &copied.peers[1])
+        && message_of(world, 0) == copied.messages[0].as_slice()
+        && message_of(world, 1) == copied.messages[1].as_slice()
+        && world.message(2).is_none()
+}
+
+// Whether memory was wanting for the list of answers, or for the one event, and nothing else was said. Only what takes
+// a part in is refused by the state.
+fn is_want_of_memory(answers: &Result<Vec<PeerAnswer>, NoMemory>, takes_in: bool) -> bool {
+    let Ok(answers) = answers else {
+        return true;
+    };
+    let [answer] = answers.as_slice() else {
+        return false;
+    };
+    match outcome_of(answer) {
+        Outcome::ByPeer(PeerRefusal::NoMemory) => true,
+        Outcome::ByState(Fault::NoMemory) => takes_in,
+        _ => false,
     }
 }
 
-// Runs one event at this peer, and again where memory was refused, after which the peer was as before. `None` where
-// memory was refused for a copy to compare with.
+// Runs one event, and again where memory was refused, after which all was as before. `None` where memory was refused
+// for a copy to compare with.
 fn run_at_last(
     rt: &impl Abort,
+    alloc: Global,
     world: &mut World<Peer>,
-    at: usize,
-    event: &[PeerEvent],
+    event: PeerEvent,
 ) -> Option<Outcome> {
-    let before = world.state(at)?.copy().ok()?;
-    let mut answers = world.run(event);
-    if is_want_of_memory(&answers) {
-        assert!(rt; is_as(world, at, &before));
-        answers = world.run(event);
+    let takes_in = matches!(event, Event::Local { .. } | Event::Take { .. });
+    let copied = copy_of(alloc, world)?;
+    let events = [event];
+    let mut answers = world.run(&events);
+    if is_want_of_memory(&answers, takes_in) {
+        assert!(rt; is_as_copied(world, &copied));
+        answers = world.run(&events);
     }
     Some(outcome_of(answers.ok()?.first()?))
 }
 
-// A commit, an offer of it, and its take by another peer.
-fn exchange_at_last(
-    rt: &impl Abort,
-    alloc: Global,
-    world: &mut World<Peer>,
-) -> Option<[Outcome; 3]> {
-    let event = commit(alloc, 0, false)?;
-    let committed = run_at_last(rt, world, 0, &[event])?;
-    let offered = run_at_last(rt, world, 0, &[offer(alloc, 0)])?;
-    let taken = run_at_last(rt, world, 1, &[take(1, 0)])?;
-    Some([committed, offered, taken])
+// Each kind of event, with its outcome: a pin keeps `a` in view, until it is taken away and `a` is in no message of
+// what is served, but in that of the whole.
+fn each_kind(alloc: Global, a: Node) -> Option<[(PeerEvent, Outcome); 8]> {
+    Some([
+        (commit(alloc, 0, false)?, Outcome::Changed(1, 0, 0)),
+        (mark(0, Mark::Pin(a)), Outcome::Marked),
+        (amend(alloc, 0, a)?, Outcome::Changed(1, 0, 1)),
+        (mark(0, Mark::Unpin(a)), Outcome::Marked),
+        (offer(alloc, 0), Outcome::Offered(0)),
+        (offer_of(alloc, 0, Scope::Whole), Outcome::Offered(1)),
+        (take(1, 0), Outcome::Changed(1, 0, 1)),
+        (take(1, 1), Outcome::Changed(1, 0, 0)),
+    ])
 }
 
 #[test]
-fn refused_growth_of_an_event_passes_when_it_is_run_again(rt: HostRuntime) {
+fn refused_growth_of_an_event_leaves_all_as_it_was_and_passes_again(rt: HostRuntime) {
     let alloc = rt.alloc();
+    let a = Node::from_hex(A).expect(&rt, "an id");
     let Ok(mut world) = World::<Peer>::new(alloc, 2) else {
         return;
     };
-    if let Some(outcomes) = exchange_at_last(&rt, alloc, &mut world) {
-        let one_more = Outcome::Changed(1, 0, 0);
-        assert_eq!(rt; outcomes, [one_more, Outcome::Offered(0), one_more]);
+    let Some(events) = each_kind(alloc, a) else {
+        return;
+    };
+    for (event, expected) in events {
+        let Some(outcome) = run_at_last(&rt, alloc, &mut world, event) else {
+            return;
+        };
+        assert_eq!(rt; outcome, expected);
     }
 }

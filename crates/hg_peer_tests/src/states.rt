@@ -6,6 +6,7 @@ use hg_peer::{Mark, Peer};
 use hg_phases::Phase;
 use hg_replica::Part;
 use std::alloc::Global;
+use std::process::Abort;
 
 /// An id that no changeset here has.
 const ONES: Node = Node([0x11; 20]);
@@ -71,17 +72,55 @@ fn an_unknown_parent_is_told_and_changes_nothing(rt: HostRuntime) {
     assert_eq!(rt; count(&peer), 0);
 }
 
-#[test]
-fn refused_growth_of_a_peer_changes_nothing(rt: HostRuntime) {
-    let alloc = rt.alloc();
+// The ways in which a peer takes something in.
+#[derive(Drop)]
+enum Way<'a> {
+    Absorb(&'a Part),
+    AbsorbOwned(Part),
+    Join(&'a Peer),
+}
+
+fn take_in(peer: &mut Peer, way: Way<'_>) -> Result<(), Fault> {
+    let absorbed = match way {
+        Way::Absorb(part) => peer.absorb(part),
+        Way::AbsorbOwned(part) => peer.absorb_owned(part),
+        Way::Join(other) => return peer.join(other),
+    };
+    match absorbed {
+        Ok(_) => Ok(()),
+        Err(fault) => Err(fault),
+    }
+}
+
+// An empty peer takes one changeset in. Where memory is refused, it stays as it was, and the second try succeeds.
+fn take_in_at_last(rt: &impl Abort, alloc: Global, first: Way<'_>, again: Way<'_>) {
     let Ok(mut peer) = Peer::empty(alloc) else {
         return;
     };
+    if let Err(fault) = take_in(&mut peer, first) {
+        assert_eq!(rt; (fault, count(&peer)), (Fault::NoMemory, 0));
+        assert_eq!(rt; take_in(&mut peer, again), Ok(()));
+    }
+    assert_eq!(rt; count(&peer), 1);
+}
+
+#[test]
+fn refused_growth_of_a_peer_changes_nothing_and_passes_again(rt: HostRuntime) {
+    let alloc = rt.alloc();
     let Some(part) = child_of(alloc, Node::NULL) else {
         return;
     };
-    match peer.absorb(&part) {
-        Ok(change) => assert_eq!(rt; (change.added.len(), count(&peer)), (1, 1)),
-        Err(fault) => assert_eq!(rt; (fault, count(&peer)), (Fault::NoMemory, 0)),
+    let (Some(first), Some(again)) = (child_of(alloc, Node::NULL), child_of(alloc, Node::NULL))
+    else {
+        return;
+    };
+    let Ok(mut other) = Peer::empty(alloc) else {
+        return;
+    };
+    if other.absorb(&part).is_err() {
+        return;
     }
+    take_in_at_last(&rt, alloc, Way::Absorb(&part), Way::Absorb(&part));
+    take_in_at_last(&rt, alloc, Way::AbsorbOwned(first), Way::AbsorbOwned(again));
+    take_in_at_last(&rt, alloc, Way::Join(&other), Way::Join(&other));
 }

@@ -1,9 +1,10 @@
 //! Short lists of events, and what each is answered; each growth refused in turn.
 use crate::words::{PriceAnswer, PriceEvent};
-use hg_join::NoMemory;
+use hg_join::{Actor, NoMemory};
 use hg_join_tests::{PriceRefusal, Prices};
 use hg_world::{Answer, Event, EventRefusal, World};
 use std::alloc::Global;
+use std::process::Abort;
 
 #[test]
 fn what_is_missing_is_told_and_an_own_message_changes_nothing(rt: HostRuntime) {
@@ -132,15 +133,103 @@ fn refused_growth_of_a_world_is_told(rt: HostRuntime) {
     }
 }
 
+// What is seen of two nodes: their prices of item 1, how many messages there are, and how many bytes the first node
+// offers of item 1.
+#[derive(Clone, Copy, Debug, PartialEq, Eq)]
+struct Sight {
+    prices: [Option<u8>; 2],
+    messages: [bool; 2],
+    told: usize,
+}
+
+// `None` where memory ran out.
+fn sight_of(alloc: Global, world: &World<Prices>) -> Option<Sight> {
+    let ask = [1].to_vec(alloc).ok()?;
+    let told = world.state(0)?.offer(alloc, &ask).ok()?;
+    Some(Sight {
+        prices: [price_at(world, 0), price_at(world, 1)],
+        messages: [world.message(0).is_some(), world.message(1).is_some()],
+        told: told.len(),
+    })
+}
+
+fn with_prices(prices: [Option<u8>; 2], messages: [bool; 2], told: usize) -> Sight {
+    Sight {
+        prices,
+        messages,
+        told,
+    }
+}
+
+// Whether memory was wanting for the list of answers, or for the one event, and nothing else was said.
+fn is_want_of_memory(answers: &Result<Vec<PriceAnswer>, NoMemory>) -> bool {
+    let Ok(answers) = answers else {
+        return true;
+    };
+    let (actor, state) = (
+        [Answer::Refused(EventRefusal::ByActor(PriceRefusal::NoMemory))],
+        [Answer::Refused(EventRefusal::ByState(NoMemory))],
+    );
+    answers.as_slice() == actor.as_slice() || answers.as_slice() == state.as_slice()
+}
+
+// Runs one event, and again where memory was refused, after which all was as before. The answer is the last one.
+fn run_at_last(
+    rt: &impl Abort,
+    alloc: Global,
+    world: &mut World<Prices>,
+    event: PriceEvent,
+    before: Sight,
+) -> Result<Vec<PriceAnswer>, NoMemory> {
+    let events = [event];
+    let answers = world.run(&events);
+    if !is_want_of_memory(&answers) {
+        return answers;
+    }
+    assert_eq!(rt; sight_of(alloc, world), Some(before));
+    world.run(&events)
+}
+
 #[test]
-fn refused_growth_of_a_run_leaves_what_its_answers_say(rt: HostRuntime) {
-    let Ok(mut world) = World::<Prices>::new(rt.alloc(), 1) else {
+fn refused_growth_of_an_event_leaves_all_as_it_was_and_passes_again(rt: HostRuntime) {
+    let alloc = rt.alloc();
+    let Ok(mut world) = World::<Prices>::new(alloc, 2) else {
         return;
     };
     assert!(rt; world.run(&[]).is_ok());
-    let accepted = match world.run(&[Event::Local { at: 0, op: (1, 9) }]) {
-        Ok(answers) => answers.first() == Some(&Answer::Accepted(())),
-        Err(NoMemory) => false,
+    let (Some(first), Some(second)) = (offer_at(alloc, 0), offer_at(alloc, 0)) else {
+        return;
     };
-    assert_eq!(rt; price_at(&world, 0).is_some(), accepted);
+    let mut before = with_prices([None, None], [false, false], 0);
+    for (event, answer, after) in [
+        (
+            Event::Local { at: 0, op: (1, 9) },
+            Answer::Accepted(()),
+            with_prices([Some(9), None], [false, false], 2),
+        ),
+        (
+            first,
+            Answer::Offered(0),
+            with_prices([Some(9), None], [true, false], 2),
+        ),
+        (
+            Event::Take { at: 1, message: 0 },
+            Answer::Accepted(()),
+            with_prices([Some(9), Some(9)], [true, false], 2),
+        ),
+        (
+            Event::Mark { at: 0, mark: 1 },
+            Answer::Marked,
+            with_prices([Some(9), Some(9)], [true, false], 0),
+        ),
+        (
+            second,
+            Answer::Offered(1),
+            with_prices([Some(9), Some(9)], [true, true], 0),
+        ),
+    ] {
+        let answers = run_at_last(&rt, alloc, &mut world, event, before);
+        assert!(rt; answers.is_ok_and(|answers| answers.as_slice() == [answer].as_slice()));
+        before = after;
+    }
 }
