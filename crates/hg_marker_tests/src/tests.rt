@@ -64,7 +64,7 @@ fn copied(rt: &impl Abort, marker: &Marker) -> Marker {
 #[test]
 fn refused_growth_reads_and_writes_the_same(rt: HostRuntime) {
     let alloc = rt.alloc();
-    let Ok(bytes) = bytes_with(alloc, NEW, b"user:bob") else {
+    let Ok(mut bytes) = bytes_with(alloc, NEW, b"user:bob") else {
         return;
     };
     let (marker, used) = read(&rt, alloc, &bytes);
@@ -73,6 +73,9 @@ fn refused_growth_reads_and_writes_the_same(rt: HostRuntime) {
     assert!(rt; marker.successors() == [NEW].as_slice());
     let again = written(&rt, &copied(&rt, &marker));
     assert!(rt; again.as_slice() == bytes.as_slice());
+    // Metadata that claims as many bytes as it can takes no memory.
+    bytes[1..5].copy_from_slice(&[0xff; 4]);
+    assert!(rt; fault_of(decode(alloc, &bytes)) == Some(MarkerFault::Truncated));
 }
 
 #[test]
@@ -407,16 +410,21 @@ fn want_of_memory_is_no_fault(rt: HostRuntime) {
     assert_eq!(rt; text_of(&rt, rt.alloc(), &error).as_str(), "NoMemory");
 }
 
-// Where a growth is refused, the value is as it was, and the same call with memory answers as ever.
+// Where a growth is refused, the value is as it was, and the same call with memory answers as ever. The last value
+// can't be written.
 #[test]
-fn refused_growth_inserts_nothing(rt: HostRuntime) {
+fn refused_growth_inserts_and_copies_nothing(rt: HostRuntime) {
     let alloc = rt.alloc();
     let mut metadata = Metadata::new(alloc);
-    for value in [b"eve".as_slice(), b"bob"] {
+    for value in [b"eve".as_slice(), b"bob", b"\0"] {
         if metadata.insert(alloc, b"user", value).is_err() {
             assert!(rt; metadata.get(b"user") != Some(value));
             assert!(rt; metadata.insert(alloc, b"user", value).is_ok());
         }
-        assert!(rt; metadata.get(b"user") == Some(value));
+        let copy = match metadata.copy() {
+            Ok(copy) => copy,
+            Err(AllocError) => metadata.copy().expect(&rt, "memory"),
+        };
+        assert!(rt; copy == metadata && lists(&copy, &[(b"user", value)]));
     }
 }

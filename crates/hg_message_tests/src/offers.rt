@@ -1,5 +1,5 @@
 //! Offers of a few changesets: what is in them, in which order, and why there is none.
-use crate::rows::{ROOT, child_above_root};
+use crate::rows::{ROOT, SERVED, WHOLE, child_above_root};
 use hg_changeset::{Changeset, Node};
 use hg_marker::{Marker, Metadata};
 use hg_message::{Message, OfferRefusal, Outgoing, Scope, offer};
@@ -7,6 +7,7 @@ use hg_phases::Phase;
 use hg_replica::{Part, Replica};
 use hg_view::{Kept, Pins};
 use std::alloc::Global;
+use std::process::Abort;
 
 fn empty(alloc: Global) -> Part {
     Part {
@@ -253,7 +254,7 @@ fn with_child(alloc: Global, bytes: &[u8]) -> Option<Replica> {
 #[test]
 fn writes_what_goes_out(rt: HostRuntime) {
     let alloc = rt.alloc();
-    let bytes = child_above_root(alloc).expect(&rt, "memory");
+    let bytes = child_above_root(alloc, SERVED).expect(&rt, "memory");
     let replica = with_child(alloc, &bytes).expect(&rt, "a message");
     let found = Outgoing::above(alloc, &replica, &Pins::new(alloc), &[ROOT], Scope::Served).expect(
         &rt, "memory",
@@ -337,25 +338,46 @@ fn refused_growth_offers_nothing_of_the_whole(rt: HostRuntime) {
     assert!(rt; message.changesets().len() == 3 && message.markers().len() == 2);
 }
 
+// What goes out above ROOT, where one growth may be refused.
+fn above_root<'a>(rt: &impl Abort, alloc: Global, kept: &'a Kept, scope: Scope) -> Outgoing<'a> {
+    match Outgoing::above_kept(alloc, kept, &[ROOT], scope) {
+        Ok(found) => found,
+        Err(refusal) => {
+            assert!(rt; refusal == OfferRefusal::NoMemory);
+            Outgoing::above_kept(alloc, kept, &[ROOT], scope).expect(rt, "memory")
+        }
+    }
+}
+
+// The bytes that are written, where one growth may be refused.
+fn written(rt: &impl Abort, found: &Outgoing) -> Vec<u8> {
+    match found.to_bytes() {
+        Ok(written) => written,
+        Err(refusal) => {
+            assert!(rt; refusal == OfferRefusal::NoMemory);
+            found.to_bytes().expect(rt, "memory")
+        }
+    }
+}
+
+// The whole differs in its scope alone, since nothing is hidden and the marker leads to what is served.
 #[test]
 fn refused_growth_writes_nothing_that_goes_out(rt: HostRuntime) {
     let alloc = rt.alloc();
-    let Some(bytes) = child_above_root(alloc) else {
+    let Some(bytes) = child_above_root(alloc, SERVED) else {
         return;
     };
     let Some(replica) = with_child(alloc, &bytes) else {
         return;
     };
-    let Ok(found) = Outgoing::above(alloc, &replica, &Pins::new(alloc), &[ROOT], Scope::Served)
-    else {
+    let Ok(kept) = Kept::new(alloc, replica) else {
         return;
     };
-    let written = match found.to_bytes() {
-        Ok(written) => written,
-        Err(refusal) => {
-            assert!(rt; refusal == OfferRefusal::NoMemory);
-            found.to_bytes().expect(&rt, "memory")
-        }
-    };
-    assert!(rt; written == bytes);
+    for (scope, head) in [(Scope::Served, SERVED), (Scope::Whole, WHOLE)] {
+        let Some(bytes) = child_above_root(alloc, head) else {
+            return;
+        };
+        let found = above_root(&rt, alloc, &kept, scope);
+        assert!(rt; written(&rt, &found) == bytes);
+    }
 }

@@ -1,9 +1,8 @@
 //! Bytes that are read, and the first fault of those that aren't.
-use crate::rows::{CHILD, FIRST, NOTHING, ROOT, SERVED, WHOLE, all_kinds, one_changeset};
+use crate::rows::{CHILD, FIRST, NOTHING, ROOT, SERVED, WHOLE, all_kinds, holder, one_changeset};
 use hg_message::{
     MarkerFault, Message, MessageError, MessageFault, Node, ReadError, Scope, StoreFault,
 };
-use hg_replica::Replica;
 use std::alloc::Global;
 use std::process::Abort;
 use std::test::Fail;
@@ -22,14 +21,6 @@ fn fault_in(
         Err(ReadError::Fault(fault)) => Some(fault),
         Err(ReadError::NoMemory) => panic!(rt; "memory"),
     }
-}
-
-// A replica that took in the message.
-fn holder(alloc: Global, bytes: &[u8]) -> Option<Replica> {
-    let part = Message::from_bytes(alloc, bytes).ok()?.into_part().ok()?;
-    let mut replica = Replica::new(alloc);
-    replica.absorb(&part).ok()?;
-    Some(replica)
 }
 
 // The last of the places that isn't past this one.
@@ -301,10 +292,32 @@ fn a_field_of_one_changeset_is_at_fault(rt: HostRuntime) {
     }
 }
 
+// What is told of all kinds in version 2 where the marker at place 1 of the store, or that at place 55, is at fault.
+const FIRST_CUT: Option<MessageFault> = Some(MessageFault::BadMarker(
+    202,
+    StoreFault::Bad(1, MarkerFault::Truncated),
+));
+
+const FIRST_MISSPELLED: Option<MessageFault> = Some(MessageFault::BadMarker(
+    202,
+    StoreFault::Bad(1, MarkerFault::BadMetadata),
+));
+
+const SECOND_CUT: Option<MessageFault> = Some(MessageFault::BadMarker(
+    256,
+    StoreFault::Bad(55, MarkerFault::Truncated),
+));
+
+const SECOND_MISSPELLED: Option<MessageFault> = Some(MessageFault::BadMarker(
+    256,
+    StoreFault::Bad(55, MarkerFault::BadMetadata),
+));
+
 // What is told of all kinds in version 2 with this number in the field of four bytes at this place. Where a count or a
 // length is wrong, what follows is taken for other fields: after one record, CHILD's id, which begins with f8709bcd and
-// b0fa16b8, for the count of bounds and a phase; after one bound, a phase for the length of the store.
-const NUMBERS: [(usize, u32, Option<MessageFault>); 28] = [
+// b0fa16b8, for the count of bounds and a phase; after one bound, a phase for the length of the store; and after a
+// marker that has lost its metadata, that metadata for another marker.
+const NUMBERS: [(usize, u32, Option<MessageFault>); 39] = [
     (6, 0, Some(MessageFault::BadPhase)),
     (6, 1, Some(MessageFault::BadPhase)),
     (6, 3, Some(MessageFault::Truncated(209))),
@@ -314,9 +327,12 @@ const NUMBERS: [(usize, u32, Option<MessageFault>); 28] = [
     (70, 1_048_576, Some(MessageFault::Truncated(74))),
     (70, 1_048_577, Some(MessageFault::TextTooLong(0))),
     (70, 0xffff_ffff, Some(MessageFault::TextTooLong(0))),
+    (135, 0, Some(MessageFault::HashMismatch(1))),
     (135, 5, Some(MessageFault::HashMismatch(1))),
+    (135, 7, Some(MessageFault::HashMismatch(1))),
     (135, 1_048_576, Some(MessageFault::Truncated(139))),
     (135, 1_048_577, Some(MessageFault::TextTooLong(1))),
+    (135, 0xffff_ffff, Some(MessageFault::TextTooLong(1))),
     (145, 0, Some(MessageFault::Trailing)),
     (
         145,
@@ -331,16 +347,28 @@ const NUMBERS: [(usize, u32, Option<MessageFault>); 28] = [
     (149, 0x7fff_ffff, Some(MessageFault::BadPhase)),
     (149, 0x8000_0000, Some(MessageFault::BadPhase)),
     (173, 0, None),
+    (173, 1, None),
+    (173, 3, Some(MessageFault::BadPhase)),
     (173, 0xffff_ffff, Some(MessageFault::BadPhase)),
     (197, 0, Some(MessageFault::Trailing)),
     (197, 55, Some(MessageFault::Trailing)),
-    (
-        197,
-        108,
-        Some(MessageFault::BadMarker(256, StoreFault::Bad(55, MarkerFault::Truncated))),
-    ),
+    (197, 108, SECOND_CUT),
     (197, 110, Some(MessageFault::Truncated(201))),
     (197, 0xffff_ffff, Some(MessageFault::Truncated(201))),
+    (
+        203,
+        0,
+        Some(MessageFault::BadMarker(248, StoreFault::Bad(47, MarkerFault::Truncated))),
+    ),
+    (203, 1, FIRST_MISSPELLED),
+    (203, 0xffff_ffff, FIRST_CUT),
+    (
+        257,
+        0,
+        Some(MessageFault::BadMarker(302, StoreFault::Bad(101, MarkerFault::Truncated))),
+    ),
+    (257, 1, SECOND_MISSPELLED),
+    (257, 0xffff_ffff, SECOND_CUT),
 ];
 
 #[test]
@@ -353,6 +381,40 @@ fn counts_lengths_and_phases_at_their_edges(rt: HostRuntime) {
             fault_of(&rt, alloc, &bytes) == fault,
             "{number} at {place}"
         );
+    }
+}
+
+// The same with so many bytes at this place all being this one: an id, a marker's count of successors, or its flags. Of
+// ROOT's parents, and of CHILD's first, the bytes are 0 anyhow; and without a successor a marker's metadata is the
+// front of what was its successor.
+const FILLED: [(usize, usize, u8, Option<MessageFault>); 18] = [
+    (10, 20, 0, Some(MessageFault::HashMismatch(0))),
+    (10, 20, 0xff, Some(MessageFault::HashMismatch(0))),
+    (30, 20, 0, None),
+    (30, 20, 0xff, Some(MessageFault::HashMismatch(0))),
+    (50, 20, 0, None),
+    (50, 20, 0xff, Some(MessageFault::HashMismatch(0))),
+    (75, 20, 0, Some(MessageFault::HashMismatch(1))),
+    (75, 20, 0xff, Some(MessageFault::HashMismatch(1))),
+    (95, 20, 0, None),
+    (95, 20, 0xff, Some(MessageFault::HashMismatch(1))),
+    (115, 20, 0, Some(MessageFault::HashMismatch(1))),
+    (115, 20, 0xff, Some(MessageFault::HashMismatch(1))),
+    (202, 1, 0, FIRST_MISSPELLED),
+    (202, 1, 0xff, FIRST_CUT),
+    (207, 1, 0xff, None),
+    (256, 1, 0, SECOND_MISSPELLED),
+    (256, 1, 0xff, SECOND_CUT),
+    (261, 1, 0xff, None),
+];
+
+#[test]
+fn ids_and_bytes_at_their_edges(rt: HostRuntime) {
+    let alloc = rt.alloc();
+    for (place, len, byte, fault) in FILLED {
+        let mut bytes = all_kinds(alloc, SERVED, Node::NULL, ROOT).expect(&rt, "memory");
+        put(&mut bytes, place, &[byte; 20][..len.min(20)]);
+        assert!(rt; fault_of(&rt, alloc, &bytes) == fault, "{byte} at {place}");
     }
 }
 

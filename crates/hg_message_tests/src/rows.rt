@@ -1,5 +1,6 @@
 //! Messages byte for byte, field by field from the format. `None` where memory ran out.
-use hg_message::Node;
+use hg_message::{Message, Node};
+use hg_replica::Replica;
 use std::alloc::Global;
 
 /// The SHA-1 of 40 zero bytes: the root without a text.
@@ -71,9 +72,10 @@ pub fn all_kinds(alloc: Global, head: &[u8], p: Node, q: Node) -> Option<Vec<u8>
 }
 
 /// What is offered above ROOT, which is public, where CHILD stands on it and is draft, and a marker leads to CHILD: the
-/// message of CHILD, of the bounds (ROOT, public) and (CHILD, draft), and of the marker.
-pub fn child_above_root(alloc: Global) -> Option<Vec<u8>> {
-    let mut bytes = Vec::from_slice(alloc, b"HGFX\x02\0\0\0\0\x01").ok()?;
+/// message of CHILD, of the bounds (ROOT, public) and (CHILD, draft), and of the marker. It begins so.
+pub fn child_above_root(alloc: Global, head: &[u8]) -> Option<Vec<u8>> {
+    let mut bytes = Vec::from_slice(alloc, head).ok()?;
+    bytes.extend_from_slice(b"\0\0\0\x01").ok()?;
     push_record(&mut bytes, CHILD, ROOT, Node::NULL, b"\0\0\0\x06second")?;
     bytes.extend_from_slice(b"\0\0\0\x02\0\0\0\0").ok()?;
     bytes.extend_from_slice(&ROOT.0).ok()?;
@@ -82,6 +84,14 @@ pub fn child_above_root(alloc: Global) -> Option<Vec<u8>> {
     bytes.extend_from_slice(&[0, 0, 0, 55, 0]).ok()?;
     push_marker(&mut bytes, CHILD)?;
     Some(bytes)
+}
+
+/// A replica that took in the message.
+pub fn holder(alloc: Global, bytes: &[u8]) -> Option<Replica> {
+    let part = Message::from_bytes(alloc, bytes).ok()?.into_part().ok()?;
+    let mut replica = Replica::new(alloc);
+    replica.absorb(&part).ok()?;
+    Some(replica)
 }
 
 // A record, with the length of its text before the text.

@@ -1,6 +1,9 @@
 //! Messages that are written, copied and taken apart, and growths that are refused.
-use crate::rows::{CHILD, EMPTY, FIRST, NOTHING, ROOT, SERVED, WHOLE, all_kinds, one_changeset};
+use crate::rows::{
+    CHILD, EMPTY, FIRST, NOTHING, ROOT, SERVED, WHOLE, all_kinds, holder, one_changeset,
+};
 use hg_message::{Changeset, Message, Node, Phase, ReadError, Scope};
+use hg_replica::Graph;
 use std::alloc::{AllocError, Global};
 use std::process::Abort;
 
@@ -23,9 +26,16 @@ fn written(rt: &impl Abort, message: &Message) -> Vec<u8> {
 
 // The message that the bytes spell, where one growth may be refused.
 fn read(rt: &impl Abort, alloc: Global, bytes: &[u8]) -> Message {
-    match Message::from_bytes(alloc, bytes) {
+    read_at(rt, alloc, None, bytes)
+}
+
+// The same where some changesets are held.
+fn read_at(rt: &impl Abort, alloc: Global, held: Option<&Graph>, bytes: &[u8]) -> Message {
+    match Message::from_bytes_at(alloc, held, bytes) {
         Ok(message) => message,
-        Err(ReadError::NoMemory) => Message::from_bytes(alloc, bytes).expect(rt, "a message"),
+        Err(ReadError::NoMemory) => {
+            Message::from_bytes_at(alloc, held, bytes).expect(rt, "a message")
+        }
         Err(ReadError::Fault(_)) => panic!(rt; "a fault in place of want of memory"),
     }
 }
@@ -119,15 +129,21 @@ fn the_part_bounds_what_it_adds(rt: HostRuntime) {
     assert!(rt; part.changesets.len() == 2 && part.markers.len() == 2);
 }
 
-// One allocation is refused, wherever it falls: the same call with memory answers as ever.
+// One allocation is refused, wherever it falls: the same call with memory answers as ever, whatever is held.
 #[test]
 fn refused_growth_reads_and_writes_nothing(rt: HostRuntime) {
     let alloc = rt.alloc();
-    let Some(bytes) = all_kinds(alloc, SERVED, ROOT, Node::NULL) else {
-        return;
-    };
-    let message = read(&rt, alloc, &bytes);
-    assert!(rt; written(&rt, &message) == bytes);
+    for head in [SERVED, WHOLE] {
+        let Some(bytes) = all_kinds(alloc, head, ROOT, Node::NULL) else {
+            return;
+        };
+        let message = read(&rt, alloc, &bytes);
+        assert!(rt; written(&rt, &message) == bytes);
+        let Some(replica) = holder(alloc, &bytes) else {
+            return;
+        };
+        assert!(rt; read_at(&rt, alloc, Some(replica.graph()), &bytes) == message);
+    }
 }
 
 #[test]

@@ -321,6 +321,14 @@ fn refused_growth_of_places_adds_nothing(rt: HostRuntime) {
     assert!(rt; store.with_child(NEW) == [1usize].as_slice());
 }
 
+// Adds OLD's prune with parents, and then a marker from NEW to OLD.
+fn add_two(alloc: Global, store: &mut Store) -> Option<()> {
+    store.add(prune(alloc)?).ok()?;
+    store.add(marker(alloc, NEW, &[OLD])?).ok()?;
+    Some(())
+}
+
+// Of the part two markers are new: at the places 2 and 3.
 #[test]
 fn refused_growth_takes_nothing_in(rt: HostRuntime) {
     let alloc = rt.alloc();
@@ -328,16 +336,41 @@ fn refused_growth_takes_nothing_in(rt: HostRuntime) {
         return;
     };
     let mut store = Store::new(alloc);
-    if let Err(NoMemory) = store.absorb(&part) {
-        assert!(rt; store.len() == 0 && store.with_predecessor(OLD).is_empty());
-        assert!(rt; store.absorb(&part).is_ok());
+    if add_two(alloc, &mut store).is_none() {
+        return;
     }
-    assert!(rt; store.len() == 2);
-    let copy = match store.copy() {
+    let before = match store.copy() {
         Ok(copy) => copy,
         Err(NoMemory) => store.copy().expect(&rt, "memory"),
     };
-    assert!(rt; copy.len() == 2 && copy.with_predecessor(OLD) == [0usize].as_slice());
+    assert!(rt; before == store && before.with_predecessor(OLD) == [0usize].as_slice());
+    if let Err(NoMemory) = store.absorb(&part) {
+        assert!(rt; store == before && store.with_predecessor(OLD) == [0usize].as_slice());
+        assert!(rt; store.absorb(&part).is_ok());
+    }
+    assert!(rt; store.len() == 4 && store.with_predecessor(OLD) == [0usize, 2].as_slice());
+}
+
+#[test]
+fn refused_growth_joins_nothing(rt: HostRuntime) {
+    let alloc = rt.alloc();
+    let Some(part) = prunes(alloc) else {
+        return;
+    };
+    let mut other = Store::new(alloc);
+    let mut store = Store::new(alloc);
+    if other.absorb(&part).is_err() || add_two(alloc, &mut store).is_none() {
+        return;
+    }
+    let Ok(before) = store.copy() else {
+        return;
+    };
+    if let Err(NoMemory) = store.join(&other) {
+        assert!(rt; store == before && store.with_predecessor(NEW) == [1usize].as_slice());
+        assert!(rt; store.join(&other).is_ok());
+    }
+    assert!(rt; store.len() == 4 && store.get(2) == part.get(0) && store.get(3) == part.get(1));
+    assert!(rt; store.with_predecessor(NEW) == [1usize, 3].as_slice());
 }
 
 // The ninth marker of one node takes memory of its own.
@@ -372,18 +405,23 @@ fn refused_growth_moves_nothing_in(rt: HostRuntime) {
 #[test]
 fn refused_growth_reads_and_writes_nothing(rt: HostRuntime) {
     let alloc = rt.alloc();
-    let Some(bytes) = bytes_of(alloc, &[b"user:bob", b"user:eve"]) else {
+    let Some(mut bytes) = bytes_of(alloc, &[b"user:bob", b"user:eve"]) else {
         return;
     };
     let store = match read_store(alloc, &bytes) {
         Ok(store) => store,
-        Err(_) => read_store(alloc, &bytes).expect(&rt, "memory"),
+        Err(ReadError::NoMemory) => read_store(alloc, &bytes).expect(&rt, "memory"),
+        Err(ReadError::Fault(fault)) => panic!(rt; "{fault}"),
     };
     let written = match store_bytes(&store) {
         Ok(written) => written,
         Err(AllocError) => store_bytes(&store).expect(&rt, "memory"),
     };
-    assert!(rt; written == bytes);
+    assert!(rt; written == bytes && bytes.len() == 109);
+    // Metadata of the second marker that claims as many bytes as it can takes no memory.
+    bytes[56..60].copy_from_slice(&[0xff; 4]);
+    let truncated = StoreFault::Bad(55, MarkerFault::Truncated);
+    assert!(rt; fault_of(alloc, &bytes) == Some(truncated));
 }
 
 #[test]

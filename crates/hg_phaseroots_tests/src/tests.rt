@@ -1,8 +1,8 @@
 //! Values from outside: texts byte for byte, the first line at fault, and growths that are refused.
-use hg_changeset::Node;
+use hg_changeset::{Changeset, Node};
 use hg_phaseroots::{RootsError, read_roots, roots_text};
-use hg_phases::{Phase, Roots};
-use std::alloc::Global;
+use hg_phases::{Graph, Phase, PhaseRoots, Roots};
+use std::alloc::{AllocError, Global};
 use std::process::Abort;
 use std::test::Fail;
 
@@ -136,4 +136,40 @@ fn refused_growth(rt: HostRuntime) {
         Err(_) => roots_text(&roots).expect(&rt, "memory"),
     };
     assert!(rt; written.len() == 86);
+}
+
+// Adds the root without a text, and a child of it.
+fn add_two(alloc: Global, graph: &mut Graph) -> Option<(Node, Node)> {
+    let root = Changeset::new(Node::NULL, Node::NULL, Vec::new(alloc)).ok()?;
+    let child = Changeset::new(root.node(), Node::NULL, Vec::new(alloc)).ok()?;
+    let nodes = (root.node(), child.node());
+    graph.add(root).ok()?;
+    graph.add(child).ok()?;
+    Some(nodes)
+}
+
+// The root is public, and the child secret.
+#[test]
+fn refused_growth_of_a_copy(rt: HostRuntime) {
+    let alloc = rt.alloc();
+    let mut graph = Graph::new(alloc);
+    let Some((root, child)) = add_two(alloc, &mut graph) else {
+        return;
+    };
+    let Ok(listed) = Vec::from_slice(alloc, &[(Phase::Secret, child)]) else {
+        return;
+    };
+    let Ok(kept) = PhaseRoots::open(alloc, &graph, &Roots::new(listed)) else {
+        return;
+    };
+    let copy = match kept.copy() {
+        Ok(copy) => copy,
+        Err(AllocError) => kept.copy().expect(&rt, "memory"),
+    };
+    assert!(rt; copy.phase_of(&graph, root) == Ok(Some(Phase::Public)));
+    assert!(rt; copy.phase_of(&graph, child) == Ok(Some(Phase::Secret)));
+    let Ok(roots) = copy.roots(&graph) else {
+        return;
+    };
+    assert!(rt; roots.as_slice() == [(Phase::Secret, child)].as_slice());
 }

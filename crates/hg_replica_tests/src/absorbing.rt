@@ -6,6 +6,7 @@ use hg_changeset::Node;
 use hg_phases::Phase;
 use hg_replica::{Fault, Part, Replica};
 use std::alloc::Global;
+use std::process::Abort;
 use std::test::Fail;
 
 #[test]
@@ -193,6 +194,24 @@ fn published_child(alloc: Global, root: Node) -> Option<(Part, Node)> {
     Some((part, node))
 }
 
+// Absorbs the part, after which there are two changesets, a marker and a public root, and takes that back.
+fn absorb_and_take_back(
+    rt: &impl Abort,
+    replica: &mut Replica,
+    part: &Part,
+    root: Node,
+) -> Result<(), Fault> {
+    match replica.absorb_with_undo(part) {
+        Ok(absorbed) => {
+            assert!(rt; counts(replica) == (2, 1));
+            assert!(rt; phase(replica, root) == Some(Phase::Public));
+            replica.take_back(absorbed.undo);
+            Ok(())
+        }
+        Err(fault) => Err(fault),
+    }
+}
+
 #[test]
 fn refused_growth_in_absorbing_changes_nothing(rt: HostRuntime) {
     let alloc = rt.alloc();
@@ -206,12 +225,11 @@ fn refused_growth_in_absorbing_changes_nothing(rt: HostRuntime) {
     let Some((part, _)) = published_child(alloc, root) else {
         return;
     };
-    if let Err(fault) = replica.absorb(&part) {
+    if let Err(fault) = absorb_and_take_back(&rt, &mut replica, &part, root) {
         assert!(rt; fault == Fault::NoMemory && are_equal(&replica, &before));
-        assert!(rt; replica.absorb(&part).is_ok());
+        assert!(rt; absorb_and_take_back(&rt, &mut replica, &part, root).is_ok());
     }
-    assert!(rt; counts(&replica) == (2, 1));
-    assert!(rt; phase(&replica, root) == Some(Phase::Public));
+    assert!(rt; are_equal(&replica, &before) && phase(&replica, root) == Some(Phase::Secret));
 }
 
 #[test]

@@ -6,6 +6,7 @@ use hg_changeset::Node;
 use hg_join::JoinState;
 use hg_phases::Phase;
 use hg_replica::{Fault, Replica};
+use std::process::Abort;
 
 // Whether two states are below each other.
 fn agree<S: JoinState>(one: &S, other: &S) -> Option<bool> {
@@ -72,6 +73,22 @@ fn a_join_is_taken_back(rt: HostRuntime) {
     assert!(rt; phase(&replica, root) == Some(Phase::Secret));
 }
 
+// Joins the other, after which there are two changesets and a marker, and takes that back.
+fn join_and_take_back(
+    rt: &impl Abort,
+    replica: &mut Replica,
+    other: &Replica,
+) -> Result<(), Fault> {
+    match replica.join_with_undo(other) {
+        Ok(undo) => {
+            assert!(rt; are_equal(replica, other) && counts(replica) == (2, 1));
+            replica.take_back(undo);
+            Ok(())
+        }
+        Err(fault) => Err(fault),
+    }
+}
+
 // The other replica has the root as public, a child of it, and a marker.
 #[test]
 fn refused_growth_in_joining_changes_nothing(rt: HostRuntime) {
@@ -96,10 +113,9 @@ fn refused_growth_in_joining_changes_nothing(rt: HostRuntime) {
     if other.absorb(&part).is_err() {
         return;
     }
-    if let Err(fault) = replica.join(&other) {
+    if let Err(fault) = join_and_take_back(&rt, &mut replica, &other) {
         assert!(rt; fault == Fault::NoMemory && are_equal(&replica, &before));
-        assert!(rt; replica.join(&other).is_ok());
+        assert!(rt; join_and_take_back(&rt, &mut replica, &other).is_ok());
     }
-    assert!(rt; counts(&replica) == (2, 1));
-    assert!(rt; phase(&replica, root) == Some(Phase::Public));
+    assert!(rt; are_equal(&replica, &before) && phase(&replica, root) == Some(Phase::Secret));
 }

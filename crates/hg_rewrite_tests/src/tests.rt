@@ -20,6 +20,8 @@ const S1: &[u8] = b"0aa197f561bad0791edaab69f99f664cdc976a22";
 
 const S2_ON_S1: &[u8] = b"857612b51da28d0d36f7f2a4ad6c4199d1c3754f";
 
+const M_ON_BOTH: &[u8] = b"c244c05ab53acba29801c797b856c5655bf368ee";
+
 const S3_ON_S2: &[u8] = b"b1b9de87b803f6cae0961ebcca03ea0477b3a31a";
 
 const F: &[u8] = b"bfb2e47e53835cfaa68462f9ef32b1b28c1bd073";
@@ -410,15 +412,20 @@ fn start_at_last(rt: &impl Abort, alloc: Global) -> Option<Replica> {
     Some(replica)
 }
 
+// The node becomes the draft `s1` and a child of it, `s2`.
+fn split_in_two(alloc: Global, node: Node) -> Result<Op, AllocError> {
+    let mut entries = Vec::with_capacity(alloc, 2)?;
+    entries.push(entry_by(alloc, b"fleet", b"s1")?)?;
+    entries.push(entry_by(alloc, b"fleet", b"s2")?)?;
+    Ok(Op::Split { node, entries })
+}
+
 // Operations on these two, each with how many changesets and markers its part has.
 fn further_operations(
     rt: &impl Abort,
     alloc: Global,
 ) -> Result<Vec<(Op, usize, usize)>, AllocError> {
     let (a, h) = (id(rt, A), id(rt, H_ON_A));
-    let mut entries = Vec::with_capacity(alloc, 2)?;
-    entries.push(entry_by(alloc, b"fleet", b"s1")?)?;
-    entries.push(entry_by(alloc, b"fleet", b"s2")?)?;
     let fold = Op::Fold {
         nodes: Vec::from_slice(alloc, &[a, h])?,
         entry: entry_by(alloc, b"fleet", b"f")?,
@@ -426,7 +433,7 @@ fn further_operations(
     let moved = relocate(h, Node::NULL, entry_by(alloc, b"fleet", b"g")?);
     let phase = Phase::Public;
     let mut ops = Vec::with_capacity(alloc, 4)?;
-    ops.push((Op::Split { node: a, entries }, 2, 1))?;
+    ops.push((split_in_two(alloc, a)?, 2, 1))?;
     ops.push((fold, 1, 2))?;
     ops.push((moved, 1, 1))?;
     ops.push((Op::Advance { node: h, phase }, 0, 0))?;
@@ -446,5 +453,102 @@ fn refused_growth_is_told_by_each_operation(rt: HostRuntime) {
         let part = decided_at_last(&rt, alloc, &replica, op);
         let counts = (part.changesets.len(), part.markers.len());
         assert_eq!(rt; counts, (*changesets, *markers));
+    }
+}
+
+// Absorbs what the operation gives.
+fn grow(alloc: Global, replica: &mut Replica, op: &Op) -> Option<()> {
+    let part = decide(alloc, replica, &Pins::new(alloc), op).ok()?;
+    replica.absorb(&part).ok()?;
+    Some(())
+}
+
+// The draft merge `m` of `s1` and its child `s2`.
+fn merge(rt: &impl Abort, alloc: Global) -> Option<Op> {
+    Some(Op::Commit {
+        p: id(rt, S1),
+        q: id(rt, S2_ON_S1),
+        entry: entry_by(alloc, b"fleet", b"m").ok()?,
+        secret: false,
+    })
+}
+
+// Beside `a` and its child `h`, which gets a child of its own, there is a root `f`, which is pruned and hidden. `a` is
+// split into `s1` and `s2`, which `m` merges, and shown all the same, since `h` stands on it.
+fn prune_split_and_merge(rt: &impl Abort, alloc: Global, replica: &mut Replica) -> Option<()> {
+    let root = commit(Node::NULL, entry_by(alloc, b"fleet", b"f").ok()?);
+    let child = commit(id(rt, H_ON_A), entry_by(alloc, b"fleet", b"k").ok()?);
+    grow(alloc, replica, &root)?;
+    grow(alloc, replica, &prune(alloc, id(rt, F), b"fleet").ok()?)?;
+    grow(alloc, replica, &child)?;
+    grow(alloc, replica, &split_in_two(alloc, id(rt, A)).ok()?)?;
+    grow(alloc, replica, &merge(rt, alloc)?)
+}
+
+// How many changesets and markers a part has, or why there is none.
+type Told = Result<(usize, usize), Refusal>;
+
+fn told(answer: Result<Part, Refusal>) -> Told {
+    match answer {
+        Ok(part) => Ok((part.changesets.len(), part.markers.len())),
+        Err(refusal) => Err(refusal),
+    }
+}
+
+// Operations with a new parent that is obsolete, or a merge which may stand on the node that is relocated: a walk tells
+// whether it is hidden, or does. Each has what is told of it.
+fn walking_operations(rt: &impl Abort, alloc: Global) -> Result<Vec<(Op, Told)>, AllocError> {
+    let (a, f, h) = (id(rt, A), id(rt, F), id(rt, H_ON_A));
+    let (s1, m) = (id(rt, S1), id(rt, M_ON_BOTH));
+    let on_a = commit(a, entry_by(alloc, b"fleet", b"g")?);
+    let on_f = commit(f, entry_by(alloc, b"fleet", b"g")?);
+    let beside = relocate(h, m, entry_by(alloc, b"fleet", b"g")?);
+    let onto_itself = relocate(s1, m, entry_by(alloc, b"fleet", b"g")?);
+    let mut ops = Vec::with_capacity(alloc, 4)?;
+    ops.push((on_a, Ok((1, 0))))?;
+    ops.push((on_f, Err(Refusal::Hidden(f))))?;
+    ops.push((beside, Ok((1, 1))))?;
+    ops.push((onto_itself, Err(Refusal::NotLinear)))?;
+    Ok(ops)
+}
+
+// Where one growth is refused, the answer tells it, and the next answer is right.
+fn expect_at_last(rt: &impl Abort, alloc: Global, replica: &Replica, op: &Op, answer: &Told) {
+    let pins = Pins::new(alloc);
+    let mut first = told(decide(alloc, replica, &pins, op));
+    if first == Err(Refusal::NoMemory) {
+        first = told(decide(alloc, replica, &pins, op));
+    }
+    assert!(rt; first == *answer);
+}
+
+// The same of a kept replica, which tells what is hidden without memory.
+fn expect_kept_at_last(rt: &impl Abort, alloc: Global, kept: &Kept, op: &Op, answer: &Told) {
+    let mut first = told(decide_kept(alloc, kept, op));
+    if first == Err(Refusal::NoMemory) {
+        assert!(rt; !matches!(answer, Err(Refusal::Hidden(_))));
+        first = told(decide_kept(alloc, kept, op));
+    }
+    assert!(rt; first == *answer);
+}
+
+#[test]
+fn refused_growth_of_walks_is_told(rt: HostRuntime) {
+    let alloc = rt.alloc();
+    let Ok(ops) = walking_operations(&rt, alloc) else {
+        return;
+    };
+    let Some(mut replica) = start_at_last(&rt, alloc) else {
+        return;
+    };
+    if prune_split_and_merge(&rt, alloc, &mut replica).is_none() {
+        return;
+    }
+    let Ok(kept) = Kept::new(alloc, replica) else {
+        return;
+    };
+    for (op, answer) in &ops {
+        expect_at_last(&rt, alloc, kept.replica(), op, answer);
+        expect_kept_at_last(&rt, alloc, &kept, op, answer);
     }
 }
