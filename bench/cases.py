@@ -1,4 +1,5 @@
 """The scripts that are measured: each case gives the lines of a script of a size, and how many lines it prints."""
+import itertools
 import random
 
 NAME_BYTES = "ABCDEFGHIJKLMNOPQRSTUVWXYZabcdefghijklmnopqrstuvwxyz0123456789_.-"
@@ -18,6 +19,20 @@ def short_label(number):
     return (short_label(number // base - 1) if number >= base else "") + NAME_BYTES[number % base]
 
 
+def stands_low(number):
+    """Whether the four slots of a number, as `hg_names` tells them, are among 11 of each 16. Such numbers never take
+    three of four slots, so there are no more than the first 16 as long as no others come, and nearly all stand aside."""
+    spread = (number ^ number >> 28) * 0x9E37_79B9_7F4A_7C15 % 2**64
+    return all((spread >> shift) % 16 < 11 for shift in (44, 36, 28, 20))
+
+
+def meeting_labels(size):
+    """So many labels of three characters that meet."""
+    every = map(label, range(len(NAME_BYTES) ** 3))
+    meeting = (text for text in every if stands_low(int.from_bytes(b"\1" + text.encode(), "big")))
+    return list(itertools.islice(meeting, size))
+
+
 # ---- operations
 
 
@@ -34,6 +49,13 @@ def roots(size):
     yield "node A"
     for number in range(size):
         yield f"commit A {label(number)} draft"
+
+
+def roots_named_again(labels):
+    """One node and a commit for each of the labels, each of which is named once more then."""
+    yield "node A"
+    yield from (f"commit A {new} draft" for new in labels)
+    yield from (f"phase A {held} draft" for held in labels)
 
 
 def secret_roots(size):
@@ -471,12 +493,17 @@ def splits_met_between_its_parts(size):
 
 SIZES = (10_000, 20_000, 40_000)
 SMALL = (5_000, 10_000, 20_000)
+NAMED_SIZES = (7_000, 14_000, 28_000)
 
 # Of each case the name, the lines, the sizes, and how many lines it prints: a refused line prints one, and so does each
 # changeset of a report.
 CASES = [
     ("commits in a chain", chain, SIZES, lambda size: 0),
     ("commits without parents", roots, SIZES, lambda size: 0),
+    ("commits without parents, each named again", lambda size: roots_named_again([label(it) for it in range(size)]),
+        NAMED_SIZES, lambda size: 0),
+    ("the same, of labels that meet", lambda size: roots_named_again(meeting_labels(size)),
+        NAMED_SIZES, lambda size: 0),
     ("secret commits", secret_roots, SIZES, lambda size: 0),
     ("merges of the last two", merges, SMALL, lambda size: 0),
     ("amends of one tip", amends, SIZES, lambda size: 0),

@@ -1,18 +1,24 @@
 #!/usr/bin/env python3
-"""Messages that make much of few bytes: ids with 4,096 successors sets, as bytes of docs/FORMATS.md.
+"""Messages and stores that make much of few bytes, as bytes of docs/FORMATS.md.
 
-    bench/hostile.py CASE SIZE > FILE      writes the message of a case
-    bench/hostile.py                       names the cases, and how long their messages are
+    bench/hostile.py CASE SIZE > FILE            writes the message of a case
+    bench/hostile.py store CASE SIZE > FILE      writes its markers alone, as a store
+    bench/hostile.py                             names the cases, and how long their messages are
 
-No script takes bytes, so bench/run has no case of these. `hgfleet show message` reads them; the cases of hg_bench from
-`sets-wide` to `sets-tangled` absorb markers of the same shapes, and tell which ids have several successors sets. What
-has 4,096 sets was split into 12 parts, each of which was rewritten in two ways.
+The first cases are of ids with 4,096 successors sets: such an id was split into 12 parts, each of which was rewritten
+in two ways. The others are of ids that meet, so that tables of ids find them by their order, and of as many that look
+like hashes. An id of a marker is whatever its sender writes. That of a changeset is its SHA-1: to let it begin with k
+given bits takes about 2^k tries.
+
+`hgfleet show` reads these bytes. No script takes any; the cases of hg_bench from `sets-wide` to `sets-tangled`, and
+those whose names hold `meeting`, absorb markers of the same shapes, and ask about them.
 """
 import hashlib
 import struct
 import sys
 
 PARTS = 12
+SUCCESSORS = 255
 DRAFT = 1
 NULL = bytes(20)
 SERVED = 0
@@ -41,14 +47,19 @@ def marker(old, new):
     return struct.pack(">BIB", len(new), 0, 0) + old + b"".join(new)
 
 
+def store(markers):
+    """The store of these markers."""
+    return b"\0" + b"".join(marker(old, new) for old, new in markers)
+
+
 def message(texts, markers):
     """The message of drafts with these texts, and of these markers."""
-    store = b"\0" + b"".join(marker(old, new) for old, new in markers)
+    told = store(markers)
     return b"".join((
         b"HGFX", struct.pack(">BB", 2, SERVED),
         struct.pack(">I", len(texts)), *(record(text) for text in texts),
         struct.pack(">I", len(texts)), *(bound(node_of(text)) for text in texts),
-        struct.pack(">I", len(store)), store,
+        struct.pack(">I", len(told)), told,
     ))
 
 
@@ -128,6 +139,27 @@ def between(size):
     return texts, markers[:2] + met + markers[2:]
 
 
+def meeting(number):
+    """An id that begins as all of these do, and ends so that they come in no order."""
+    return b"\1" * 16 + struct.pack(">I", number * 0x9E37_79B1 % 2**32)
+
+
+def scattered(number):
+    """An id that looks like a hash."""
+    return unheld(f"scattered {number}")
+
+
+def predecessors(size, id_of):
+    """The shortest markers, which tell of nothing but their predecessors: so many prunes."""
+    return [], [(id_of(number), []) for number in range(size)]
+
+
+def successors(size, id_of):
+    """So many splits, each into as many ids as one can have."""
+    firsts = range(0, size * SUCCESSORS, SUCCESSORS)
+    return [], [(unheld(f"split {first}"), list(map(id_of, range(first, first + SUCCESSORS)))) for first in firsts]
+
+
 CASES = {
     "wide": (wide, 250),
     "split": (split, 3_200),
@@ -136,18 +168,28 @@ CASES = {
     "tangled": (tangled, 3_200),
     "chain": (chain, 200),
     "between": (between, 3_200),
+    "meeting-predecessors": (lambda size: predecessors(size, meeting), 40_000),
+    "scattered-predecessors": (lambda size: predecessors(size, scattered), 40_000),
+    "meeting-successors": (lambda size: successors(size, meeting), 200),
+    "scattered-successors": (lambda size: successors(size, scattered), 200),
 }
+
+# Those of ids that meet, and what stands beside each.
+BESIDE = {f"meeting-{role}": f"scattered-{role}" for role in ("predecessors", "successors")}
 
 
 def main():
     words = sys.argv[1:]
+    is_store = words[:1] == ["store"]
+    asked = words[is_store:]
     if not words:
         for name, (made, size) in CASES.items():
             print(f"{name} {size:,}: {len(message(*made(size))):,} bytes")
-    elif len(words) == 2 and words[0] in CASES and words[1].isdigit():
-        sys.stdout.buffer.write(message(*CASES[words[0]][0](int(words[1]))))
+    elif len(asked) == 2 and asked[0] in CASES and asked[1].isdigit():
+        texts, markers = CASES[asked[0]][0](int(asked[1]))
+        sys.stdout.buffer.write(store(markers) if is_store else message(texts, markers))
     else:
-        sys.exit(f"usage: hostile.py [{'|'.join(CASES)} SIZE]")
+        sys.exit(f"usage: hostile.py [[store] {'|'.join(CASES)} SIZE]")
 
 
 if __name__ == "__main__":

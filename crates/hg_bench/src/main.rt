@@ -29,8 +29,10 @@ use hg_message::Scope;
 use histories::History;
 use keeping::{absorb, keep, tell};
 use looking::look_beside_writer;
-use markers::{Shape, add_markers, list_markers, read_markers, write_markers};
-use messages::{find_offer, make_offer, read_offer, send_offer, take_offer, write_offer};
+use markers::{Ids, Shape, add_markers, list_markers, read_markers, write_markers};
+use messages::{
+    find_offer, find_prunes, make_offer, read_offer, send_offer, take_offer, write_offer,
+};
 use nodes::call_alone;
 use pinning::{Pinned, pin, unpin_many};
 use rewrites::{amend_bottom, tell_instabilities};
@@ -47,11 +49,19 @@ use wide::{Wide, tell_wide};
 const MANY: Chains = Chains {
     length: 1000,
     are_paired: false,
+    ids: Ids::Scattered,
 };
 
 const PAIRS: Chains = Chains {
     length: 1000,
     are_paired: true,
+    ids: Ids::Scattered,
+};
+
+const MEETING_PAIRS: Chains = Chains {
+    length: 1000,
+    are_paired: true,
+    ids: Ids::Meeting,
 };
 
 fn main(rt: HostRuntime) -> io::Result<()> {
@@ -110,7 +120,8 @@ fn spent_on_states(
         "add-fan" => add_markers(rt, size, Shape::Fan),
         "add-meeting" => add_markers(rt, size, Shape::Meeting),
         "write" => write_markers(rt, size),
-        "read" => read_markers(rt, size),
+        "read" => read_markers(rt, size, Shape::Chain),
+        "read-meeting" => read_markers(rt, size, Shape::Meeting),
         "list" => list_markers(rt, size),
         "amend-bottom" => amend_bottom(rt, size),
         "instabilities" => tell_instabilities(rt, size),
@@ -135,9 +146,11 @@ fn spent_on_exchange(
         "sets-tangled" => tell_wide(rt, size, Wide::Tangled),
         "divergence-of-chains" => tell_divergent(rt, size, MANY),
         "divergence-of-pairs" => tell_divergent(rt, size, PAIRS),
+        "divergence-of-meeting-pairs" => tell_divergent(rt, size, MEETING_PAIRS),
         "divergence-of-one-chain" => tell_divergent(rt, size, one_chain(size)),
         "offer" => make_offer(rt, size),
         "find-offer" => find_offer(rt, size),
+        "find-prunes" => find_prunes(rt, size),
         "send-offer" => send_offer(rt, size, Scope::Served),
         "send-whole" => send_offer(rt, size, Scope::Whole),
         "write-offer" => write_offer(rt, size),
@@ -177,5 +190,6 @@ fn one_chain(size: usize) -> Chains {
     Chains {
         length: size,
         are_paired: false,
+        ids: Ids::Scattered,
     }
 }

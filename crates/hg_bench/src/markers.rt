@@ -15,7 +15,16 @@ pub enum Shape {
     Chain,
     /// All of them one node.
     Fan,
-    /// As in a chain, of ids that all begin alike, as somebody may choose them.
+    /// As in a chain, of ids that meet.
+    Meeting,
+}
+
+/// What ids look like.
+#[derive(Clone, Copy)]
+pub enum Ids {
+    /// Like hashes.
+    Scattered,
+    /// All of them begin alike, as somebody may choose them.
     Meeting,
 }
 
@@ -48,7 +57,7 @@ fn add_all(store: &mut Store, markers: Vec<Marker>) {
 
 /// A store of this size, written.
 pub fn write_markers(rt: &(impl CpuClock + AllocGlobal), size: usize) -> io::Result<Duration> {
-    let store = store_of(rt.alloc(), size)?;
+    let store = store_of(rt.alloc(), size, Shape::Chain)?;
     time_writing(rt, &store)
 }
 
@@ -59,8 +68,12 @@ fn time_writing(rt: &impl CpuClock, store: &Store) -> io::Result<Duration> {
 }
 
 /// A store of this size, read from its bytes, with its index.
-pub fn read_markers(rt: &(impl CpuClock + AllocGlobal), size: usize) -> io::Result<Duration> {
-    let bytes = written(rt.alloc(), size)?;
+pub fn read_markers(
+    rt: &(impl CpuClock + AllocGlobal),
+    size: usize,
+    shape: Shape,
+) -> io::Result<Duration> {
+    let bytes = written(rt.alloc(), size, shape)?;
     time_reading(rt, rt.alloc(), &bytes)
 }
 
@@ -72,7 +85,7 @@ fn time_reading(rt: &impl CpuClock, alloc: Global, bytes: &[u8]) -> io::Result<D
 
 /// The markers of a store of this size, read from its bytes as a list, without indexes.
 pub fn list_markers(rt: &(impl CpuClock + AllocGlobal), size: usize) -> io::Result<Duration> {
-    let bytes = written(rt.alloc(), size)?;
+    let bytes = written(rt.alloc(), size, Shape::Chain)?;
     time_listing(rt, rt.alloc(), &bytes)
 }
 
@@ -82,16 +95,16 @@ fn time_listing(rt: &impl CpuClock, alloc: Global, bytes: &[u8]) -> io::Result<D
     Ok(rt.thread_cpu_time()?.saturating_sub(before))
 }
 
-// A store of markers in a chain.
-fn store_of(alloc: Global, size: usize) -> Result<Store, AllocError> {
-    let markers = markers(alloc, size, Shape::Chain)?;
+// A store of so many markers.
+fn store_of(alloc: Global, size: usize, shape: Shape) -> Result<Store, AllocError> {
+    let markers = markers(alloc, size, shape)?;
     let mut store = Store::new(alloc);
     add_all(&mut store, markers);
     Ok(store)
 }
 
-fn written(alloc: Global, size: usize) -> Result<Vec<u8>, AllocError> {
-    let store = store_of(alloc, size)?;
+fn written(alloc: Global, size: usize, shape: Shape) -> Result<Vec<u8>, AllocError> {
+    let store = store_of(alloc, size, shape)?;
     store_bytes(&store)
 }
 
@@ -129,6 +142,26 @@ pub fn add_split(
     Ok(())
 }
 
+/// Adds to the part that a changeset on this parent was pruned.
+pub fn add_prune(
+    alloc: Global,
+    part: &mut Part,
+    old: Node,
+    parent: Node,
+) -> Result<(), AllocError> {
+    if let Some(marker) = prune(alloc, old, parent) {
+        part.markers.push(marker)?;
+    }
+    Ok(())
+}
+
+// A marker without successors, which records this parent.
+fn prune(alloc: Global, old: Node, parent: Node) -> Option<Marker> {
+    let mut metadata = Metadata::new(alloc);
+    metadata.insert(alloc, b"p1", &parent.to_hex()).ok()?;
+    Marker::new(old, Vec::new(alloc), 0, metadata).ok()
+}
+
 // A marker, of 200 bytes where it has one successor.
 fn marker(alloc: Global, old: Node, new: &[Node]) -> Option<Marker> {
     let successors = Vec::from_slice(alloc, new).ok()?;
@@ -141,6 +174,14 @@ fn metadata(alloc: Global) -> Result<Metadata, AllocError> {
     let mut metadata = Metadata::new(alloc);
     metadata.insert(alloc, b"user", &[b'x'; 149])?;
     Ok(metadata)
+}
+
+/// An id for each number.
+pub fn id(ids: Ids, number: usize) -> Node {
+    match ids {
+        Ids::Scattered => node(number),
+        Ids::Meeting => meeting(number),
+    }
 }
 
 /// An id for each number, which begins as a hash might: with the number times an odd one.

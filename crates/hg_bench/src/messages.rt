@@ -1,7 +1,7 @@
 //! Cases of messages: what offering, writing, reading and taking in cost. Half of what is offered are changesets, and
-//! half are markers, each of a changeset.
-use crate::chain::{chain_on, replica_of};
-use crate::markers::{add_marker, node};
+//! half are markers, each of a changeset; but for an offer of one changeset, below so many that were pruned.
+use crate::chain::{add_draft, chain_on, empty, replica_of};
+use crate::markers::{add_marker, add_prune, node};
 use hg_changeset::Node;
 use hg_message::{Message, Outgoing, Scope, offer};
 use hg_replica::{Part, Replica};
@@ -22,9 +22,19 @@ pub fn make_offer(rt: &(impl CpuClock + AllocGlobal), size: usize) -> io::Result
 /// The same, found alone.
 pub fn find_offer(rt: &(impl CpuClock + AllocGlobal), size: usize) -> io::Result<Duration> {
     let alloc = rt.alloc();
-    let replica = marked(alloc, size)?;
+    time_finding(rt, alloc, &marked(alloc, size)?)
+}
+
+/// The offer of one changeset below so many that were pruned, found alone. Each prune leads to the next one, and all of
+/// them are relevant to the changeset.
+pub fn find_prunes(rt: &(impl CpuClock + AllocGlobal), size: usize) -> io::Result<Duration> {
+    let alloc = rt.alloc();
+    time_finding(rt, alloc, &pruned(alloc, size)?)
+}
+
+fn time_finding(rt: &impl CpuClock, alloc: Global, replica: &Replica) -> io::Result<Duration> {
     let before = rt.thread_cpu_time()?;
-    let _found = Outgoing::above(alloc, &replica, &Pins::new(alloc), &[], Scope::Served);
+    let _found = Outgoing::above(alloc, replica, &Pins::new(alloc), &[], Scope::Served);
     Ok(rt.thread_cpu_time()?.saturating_sub(before))
 }
 
@@ -103,6 +113,18 @@ fn marked(alloc: Global, size: usize) -> Result<Replica, AllocError> {
             let new = changeset.node();
             add_marker(alloc, &mut part, node(number), new)?;
         }
+    }
+    Ok(replica_of(alloc, &part))
+}
+
+// A replica with a draft root, and with the prunes of so many changesets, each on the one before, which aren't held.
+fn pruned(alloc: Global, size: usize) -> Result<Replica, AllocError> {
+    let mut part = empty(alloc);
+    let mut parent = add_draft(alloc, &mut part, Node::NULL, 0)?;
+    for number in 0..size {
+        let old = node(number.wrapping_add(1));
+        add_prune(alloc, &mut part, old, parent)?;
+        parent = old;
     }
     Ok(replica_of(alloc, &part))
 }

@@ -1,6 +1,6 @@
 //! Cases of successors sets: markers in chains, each chain from an id that isn't held to a draft root.
 use crate::chain::{add_draft, empty};
-use crate::markers::{add_marker, node};
+use crate::markers::{Ids, add_marker, id};
 use hg_changeset::Node;
 use hg_instab::Instabilities;
 use hg_replica::{Part, Replica};
@@ -17,6 +17,9 @@ pub struct Chains {
 
     /// Whether chains begin in pairs, so that all of their ends diverge.
     pub are_paired: bool,
+
+    /// The ids that aren't held.
+    pub ids: Ids,
 }
 
 /// The successors sets of all predecessors, and which of these have several.
@@ -57,36 +60,30 @@ pub fn predecessors(alloc: Global, replica: &Replica) -> Result<Vec<Node>, Alloc
 // A replica with so many markers.
 fn replica_of(alloc: Global, size: usize, chains: Chains) -> Result<Replica, AllocError> {
     let mut replica = Replica::new(alloc);
-    let length = chains.length.max(1);
-    for chain in 0..size / length {
-        let part = part_of(alloc, chain, length, chains.are_paired)?;
+    for chain in 0..size / chains.length.max(1) {
+        let part = part_of(alloc, chain, chains)?;
         let _absorbed = replica.absorb(&part);
     }
     Ok(replica)
 }
 
 // The markers of a chain, and the root that they lead to.
-fn part_of(
-    alloc: Global,
-    chain: usize,
-    length: usize,
-    are_paired: bool,
-) -> Result<Part, AllocError> {
+fn part_of(alloc: Global, chain: usize, chains: Chains) -> Result<Part, AllocError> {
     let mut part = empty(alloc);
     let end = add_draft(alloc, &mut part, Node::NULL, chain)?;
-    let first = chain.wrapping_mul(length);
-    for step in 0..length {
+    let first = chain.wrapping_mul(chains.length);
+    for step in 0..chains.length {
         let old = match step {
-            0 if are_paired => node((chain & !1).wrapping_mul(length)),
-            _ => node(first.wrapping_add(step)),
+            0 if chains.are_paired => (chain & !1).wrapping_mul(chains.length),
+            _ => first.wrapping_add(step),
         };
         let next = step.wrapping_add(1);
-        let new = if next < length {
-            node(first.wrapping_add(next))
+        let new = if next < chains.length {
+            id(chains.ids, first.wrapping_add(next))
         } else {
             end
         };
-        add_marker(alloc, &mut part, old, new)?;
+        add_marker(alloc, &mut part, id(chains.ids, old), new)?;
     }
     Ok(part)
 }
