@@ -1,0 +1,10 @@
+use Rattle.hg_live_tests.proofs.starved.refused_growth_in_an_unpin_changes_nothing_that_is_seen.Given as goal
+
+abbrev pub ghosts-starve-K-NodeName : goal.ghosts-starve-K-NodeName
+ghosts-starve-K-NodeName g a = record { opening = a.blank.opening }
+
+abbrev pub ghosts-starve-K-HistoryName : goal.ghosts-starve-K-HistoryName
+ghosts-starve-K-HistoryName g a = record { book = a.blank.opened }
+
+abbrev pub ghosts-starve-K-Ledger : goal.ghosts-starve-K-Ledger
+ghosts-starve-K-Ledger g a = record { name = a.blank.tokens.name; parts = a.blank.tokens.parts }
