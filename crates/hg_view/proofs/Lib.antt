@@ -6,4 +6,5 @@ mod ShownLemmas
 mod HiddenLemmas
 mod KeptLemmas
 mod UpheldLemmas
+mod UnmarkLemmas
 mod ReleasedLemmas

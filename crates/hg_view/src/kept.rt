@@ -1,9 +1,7 @@
 //! A replica whose instabilities are kept up to date, with the pins of its node.
 ghost use Rattle.std.specs.Prelude.{◌≡◌, ◌↔◌, ◌⊎◌, [], Contains, IfOk, IsErrOf, IsTrue, length};
 ghost use Rattle.hg_changeset.specs.declared.node.Node.{Node};
-ghost use Rattle.hg_graph.specs.Graph.{Holds};
 ghost use Rattle.hg_graph.specs.Marks.{IsMarkedNode};
-ghost use Rattle.hg_graph.specs.Places.{IsAt};
 ghost use Rattle.hg_phases.specs.State.{changesets};
 ghost use Rattle.hg_history.specs.Content.{IsHeld};
 ghost use Rattle.hg_replica.specs.State.{ReplicaState, IsValid};
@@ -15,13 +13,14 @@ ghost use Rattle.hg_instab.specs.Instabilities.{AreInstabilities};
 ghost use Rattle.hg_view.specs.Kept.{FindsAgain, KeepsUp, KeptUnpinAnswer};
 ghost use Rattle.hg_view.specs.Pins.{IsServedUnder, IsVisibleUnder, PinAnswer};
 
+use crate::hidden::unmark_hidden;
 use crate::pins::Pins;
 use crate::refusal::PinRefusal;
 use crate::released::{released, take_out};
+use crate::shared::shared_marks;
 use crate::upheld::{put_in, upheld_besides};
-use crate::view::{not_secret, set_at};
+use crate::view::set_at;
 use hg_changeset::Node;
-use hg_graph::Graph;
 use hg_history::Fault;
 use hg_instab::{Instabilities, has_phase};
 use hg_phases::Phase;
@@ -246,16 +245,19 @@ impl Kept {
         self.is_visible(node) && !has_phase(&self.replica, node, Phase::Secret)
     }
 
-    /// The visible changesets under the pins. Mercurial's view `visible`.
+    /// The visible changesets under the pins. Mercurial's view `visible`. Only what is extinct is looked up.
     pub fn visible(&self) -> Result<BTreeSet<Node>, AllocError>
         ensures { IfOk result (λ set. (n : Node) → Contains set.keys n
             ↔ IsVisibleUnder (content_of self.now.replica) self.now.pins n) }
     {
-        let marks = shown_marks(self.alloc, &self.replica, &self.instabilities, &self.upheld)?;
+        let graph = self.replica.graph();
+        let mut marks = vec![in self.alloc; true; graph.len()]?;
+        unmark_hidden(graph, &self.instabilities, &self.upheld, &mut marks);
         set_at(self.alloc, &self.replica, &marks)
     }
 
-    /// A mark for each place of the graph: whether the changeset there is [served](Kept::is_served).
+    /// A mark for each place of the graph: whether the changeset there is [served](Kept::is_served). Only
+    /// what is extinct is looked up.
     pub fn served_marks(&self) -> Result<Vec<bool>, AllocError>
         ensures len { IfOk result
             (λ marks. length marks.items ≡ length (changesets self.now.replica.history)) }
@@ -263,8 +265,10 @@ impl Kept {
             → IsMarkedNode (changesets self.now.replica.history) marks.items n
             ↔ IsServedUnder (content_of self.now.replica) self.now.pins n) }
     {
-        let visible = shown_marks(self.alloc, &self.replica, &self.instabilities, &self.upheld)?;
-        not_secret(self.alloc, &self.replica, &visible)
+        let mut marks = shared_marks(self.alloc, &self.replica)?;
+        let graph = self.replica.graph();
+        unmark_hidden(graph, &self.instabilities, &self.upheld, &mut marks);
+        Ok(marks)
     }
 }
 
@@ -319,42 +323,6 @@ fn find_again(
             }
         },
         Err(fault) => Err(fault),
-    }
-}
-
-// A mark for each place of the graph: whether the changeset there isn't extinct or is upheld.
-fn shown_marks(
-    alloc: Global,
-    replica: &Replica,
-    instabilities: &Instabilities,
-    upheld: &BTreeSet<Node>,
-) -> Result<Vec<bool>, AllocError>
-    ensures len { IfOk result (λ marks. length marks.items ≡ length (changesets replica.now.history)) }
-    ensures exact { IfOk result (λ marks. (n : Node) → IsMarkedNode (changesets replica.now.history) marks.items n
-        ↔ (Holds (changesets replica.now.history) n
-        × (¬ (Contains instabilities.now.extinct n) ⊎ Contains upheld.now.keys n))) }
-{
-    let graph = replica.graph();
-    let mut marks = Vec::with_capacity(alloc, graph.len())?;
-    for place in 0..graph.len() {
-        marks.push(is_shown_at(graph, place, instabilities, upheld))?;
-    }
-    Ok(marks)
-}
-
-// Whether the changeset at a place isn't extinct or is upheld.
-fn is_shown_at(
-    graph: &Graph,
-    place: usize,
-    instabilities: &Instabilities,
-    upheld: &BTreeSet<Node>,
-) -> bool
-    ensures { (n : Node) → IsAt graph.now n place
-        → (IsTrue result ↔ (¬ (Contains instabilities.now.extinct n) ⊎ Contains upheld.now.keys n)) }
-{
-    match graph.node_at(place) {
-        Some(node) => is_shown(instabilities, upheld, node),
-        None => false,
     }
 }
 

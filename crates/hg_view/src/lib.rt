@@ -23,6 +23,7 @@
 //! ```
 #![tactic(auto)]
 
+mod hidden;
 mod kept;
 mod laws;
 mod pins;

@@ -85,11 +85,7 @@ fn shown_marks(alloc: Global, replica: &Replica, pins: &Pins) -> Result<Vec<bool
 }
 
 // The marks of those of the marked changesets that aren't secret.
-pub(crate) fn not_secret(
-    alloc: Global,
-    replica: &Replica,
-    marks: &[bool],
-) -> Result<Vec<bool>, AllocError>
+fn not_secret(alloc: Global, replica: &Replica, marks: &[bool]) -> Result<Vec<bool>, AllocError>
     requires { length marks.now ≡ length (changesets replica.now.history) }
     ensures len { IfOk result (λ found. length found.items ≡ length (changesets replica.now.history)) }
     ensures exact { IfOk result (λ found. (n : Node) → IsMarkedNode (changesets replica.now.history) found.items n
