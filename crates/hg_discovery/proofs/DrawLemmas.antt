@@ -21,7 +21,7 @@ use Rattle.hg_discovery.specs.declared.status.Status.{Status}
 use Rattle.hg_discovery.specs.declared.status.Status.TheVariants.{Undecided, Common, Missing}
 use Rattle.hg_discovery.specs.declared.status.Spot.{Spot}
 use Rattle.hg_discovery.specs.Under.{IsOneOf, IsParentAt, IsUnder, IsInOrder}
-use Rattle.hg_discovery.specs.Search.{Search, Is, IsSo, IsHead, Lists, AreSpots, IsSample, IsSearch}
+use Rattle.hg_discovery.specs.Search.{Search, Is, IsSo, IsHead, IsAscending, Lists, AreSpots, IsSample, IsSearch}
 use Rattle.hg_discovery.specs.Spread.{IsMarked, AreCovered, MarksPlace}
 use Rattle.hg_discovery.specs.Picking.{same_decided, is_decided, is_mark, is_picked}
 use Rattle.hg_discovery.proofs.UnderLemmas.{parent_under, child_on_way}
@@ -110,6 +110,17 @@ pub take_front : {X : Type 0} (n : ℕ) (xs ys : List X) → take n (take n xs +
 take_front zero xs ys = refl
 take_front (suc n) [] ys = refl
 take_front (suc n) (x ∷ xs) ys = ap (λ zs. x ∷ zs) (take_front n xs ys)
+
+take_behind : {X : Type 0} (m n : ℕ) (xs ys : List X) → m ≤ n → take m (xs ++ take n ys) ≡ take m (xs ++ ys)
+take_behind zero n xs ys le = refl
+take_behind (suc m) zero xs ys le = absurd (omega (arith, le))
+take_behind (suc m) (suc n) [] [] le = refl
+take_behind (suc m) (suc n) [] (y ∷ ys) le = ap (λ zs. y ∷ zs) (take_behind m n [] ys (omega (arith, le)))
+take_behind (suc m) (suc n) (x ∷ xs) ys le =
+    ap (λ zs. x ∷ zs) (take_behind m (suc n) xs ys (omega (arith, le)))
+
+pub take_both : {X : Type 0} (n : ℕ) (xs ys : List X) → take n (take n xs ++ take n ys) ≡ take n (xs ++ ys)
+take_both n xs ys = take_front n xs (take n ys) ∙ take_behind n n xs ys (omega arith)
 
 module _ (test : Spot → Bool) (limit : ℕ) (old xs : List Spot) (i : ℕ) (d : Spot) (lt : i < length xs)
     (found : List Spot) (inv : found ≡ take limit (old ++ filter test (take i xs))) where
@@ -274,43 +285,48 @@ module _ (s : Search) (so : Status) (marks : List Bool) (order : IsInOrder s.par
   mark_of : (x : Spot) → Contains s.spots x → (b : Bool) × (slice_get marks x.place ≡ Some b)
   mark_of x h = slice_get_some marks x.place (omega (arith, covered.len, spots.within x h))
 
-  pub heads_are : Lists (IsHead s so) (filter (is_picked s.decided marks so false) s.spots)
-  heads_are = (
-    AllPairs-filter Before (is_picked s.decided marks so false) s.spots spots.ascending,
-    λ x. (
+  -- of a line in which all that are decided so stand
+  module _ (line : List Spot) (sound : (x : Spot) → Contains line x → Contains s.spots x)
+      (complete : (x : Spot) → Contains s.spots x → Is s.decided so x.place → Contains line x) where
+    pub heads_among : (x : Spot) → Contains (filter (is_picked s.decided marks so false) line) x ↔ IsHead s so x
+    heads_among x = (
       λ h.
-          let p = passed (is_picked s.decided marks so false) s.spots x h in
+          let p = passed (is_picked s.decided marks so false) line x h in
           let q = from_picked s.decided marks so false x p.1 in
-          clear_is_head x (p.0, q.0) q.1,
+          clear_is_head x (sound x p.0, q.0) q.1,
       λ head.
           let b = mark_of x head.0.0 in
-          kept (is_picked s.decided marks so false) s.spots x head.0.0 (by x head b.0 b.1),
-    ),
-  )
-    where
-      by : (x : Spot) → IsHead s so x → (b : Bool) → slice_get marks x.place ≡ Some b
-          → is_picked s.decided marks so false x ≡ true
-      by x head true e = absurd (marked_is_no_head x head.0.0 e head)
-      by x head false e = picked s.decided marks so false x head.0.1 e
+          kept (is_picked s.decided marks so false) line x (complete x head.0.0 head.0.1) (by head b.0 b.1),
+    )
+      where
+        by : IsHead s so x → (b : Bool) → slice_get marks x.place ≡ Some b
+            → is_picked s.decided marks so false x ≡ true
+        by head true e = absurd (marked_is_no_head x head.0.0 e head)
+        by head false e = picked s.decided marks so false x head.0.1 e
 
-  pub others_are : Lists (λ x. IsSo s so x × ¬ (IsHead s so x)) (filter (is_picked s.decided marks so true) s.spots)
-  others_are = (
-    AllPairs-filter Before (is_picked s.decided marks so true) s.spots spots.ascending,
-    λ x. (
+    pub others_among : (x : Spot)
+        → Contains (filter (is_picked s.decided marks so true) line) x ↔ (IsSo s so x × ¬ (IsHead s so x))
+    others_among x = (
       λ h.
-          let p = passed (is_picked s.decided marks so true) s.spots x h in
+          let p = passed (is_picked s.decided marks so true) line x h in
           let q = from_picked s.decided marks so true x p.1 in
-          ((p.0, q.0), marked_is_no_head x p.0 q.1),
+          ((sound x p.0, q.0), marked_is_no_head x (sound x p.0) q.1),
       λ o.
           let b = mark_of x o.0.0 in
-          kept (is_picked s.decided marks so true) s.spots x o.0.0 (by x o.0 o.1 b.0 b.1),
-    ),
-  )
-    where
-      by : (x : Spot) → IsSo s so x → ¬ (IsHead s so x) → (b : Bool) → slice_get marks x.place ≡ Some b
-          → is_picked s.decided marks so true x ≡ true
-      by x is not_head true e = picked s.decided marks so true x is.1 e
-      by x is not_head false e = absurd (not_head (clear_is_head x is e))
+          kept (is_picked s.decided marks so true) line x (complete x o.0.0 o.0.1) (by o.0 o.1 b.0 b.1),
+    )
+      where
+        by : IsSo s so x → ¬ (IsHead s so x) → (b : Bool) → slice_get marks x.place ≡ Some b
+            → is_picked s.decided marks so true x ≡ true
+        by is not_head true e = picked s.decided marks so true x is.1 e
+        by is not_head false e = absurd (not_head (clear_is_head x is e))
+
+    pub heads_are : IsAscending line → Lists (IsHead s so) (filter (is_picked s.decided marks so false) line)
+    heads_are ascending = (AllPairs-filter Before (is_picked s.decided marks so false) line ascending, heads_among)
+
+    pub others_are : IsAscending line
+        → Lists (λ x. IsSo s so x × ¬ (IsHead s so x)) (filter (is_picked s.decided marks so true) line)
+    others_are ascending = (AllPairs-filter Before (is_picked s.decided marks so true) line ascending, others_among)
 
 -- ---- the sample
 

@@ -7,6 +7,9 @@ pub mod RoundLemmas
 pub mod BetweenLemmas
 pub mod StartLemmas
 pub mod SortLemmas
+pub mod PutLemmas
+pub mod LeastLemmas
+pub mod LineLemmas
 pub mod CountLemmas
 pub mod WalkLemmas
 pub mod LogLemmas

@@ -12,18 +12,11 @@ use Rattle.std.proofs.lemmas.List.Elements.{All-from_recursion, Contains-get_or}
 use Rattle.std.proofs.lemmas.List.Kept.{AllPairs-cons}
 use Rattle.hg_changeset.specs.Node.{node_cmp, node_eq}
 use Rattle.hg_changeset.proofs.NodeLemmas.{node_cmp_exact, same_node}
-use Rattle.hg_graph.specs.Graph.{IsGraph, nodes}
-use Rattle.hg_graph.specs.Places.{IsAt}
-use Rattle.hg_graph.proofs.PlaceLemmas.{same_place}
-use Rattle.hg_phases.specs.State.{State, changesets}
 use Rattle.hg_discovery.specs.declared.status.Spot.{Spot}
-use Rattle.hg_discovery.specs.Search.{IsAscending}
-use Rattle.hg_discovery.specs.Start.{IsShared}
+use Rattle.hg_discovery.specs.Order.{spot_cmp, in_order}
+use Rattle.hg_discovery.specs.Search.{IsAscending, Lists}
+use Rattle.hg_discovery.proofs.PutLemmas.{in_order_members, in_order_sorted}
 use Rattle.hg_discovery.proofs.StartLemmas.{one_spot}
-
--- by id, and then by place
-abbrev pub spot_cmp : Spot → Spot → Ordering
-spot_cmp x y = ordering_then (node_cmp x.node y.node) (nat_cmp x.place y.place)
 
 pub pairs : (xs : List Spot) → IsStrictlySortedBy spot_cmp xs → AllPairs (λ x y. spot_cmp x y ≡ Less) xs
 unfolding IsStrictlySortedBy
@@ -43,17 +36,16 @@ by_node Less x y e same h = refl
 by_node Equal x y e same h = absurd (not_below_itself x.place y.place (same (node_cmp_exact x.node y.node e)) h)
 by_node Greater x y e same h = h
 
--- no two spots of a graph have one id
-pub ascending_spots : (s : State) → IsGraph (changesets s) → (xs : List Spot)
-    → ((x : Spot) → Contains xs x ↔ IsShared s x) → IsStrictlySortedBy spot_cmp xs → IsAscending xs
-ascending_spots s graph xs shared sorted i j d lt within =
+-- where no two have one id
+pub ascending_spots : (xs : List Spot) → ((x y : Spot) → Contains xs x → Contains xs y → x.node ≡ y.node → x ≡ y)
+    → IsStrictlySortedBy spot_cmp xs → IsAscending xs
+ascending_spots xs distinct sorted i j d lt within =
     let x = get_or xs i d in
     let y = get_or xs j d in
-    let at_x = ((shared x).0 (Contains-get_or xs i d (omega (arith, lt, within)))).0 in
-    let at_y = ((shared y).0 (Contains-get_or xs j d within)).0 in
+    let in_x = Contains-get_or xs i d (omega (arith, lt, within)) in
+    let in_y = Contains-get_or xs j d within in
     let less = pairs xs sorted i j d lt within in
-    let place = λ (e : x.node ≡ y.node). same_place (nodes (changesets s)) x.node x.place y.place graph.distinct at_x
-    (subst (λ n. IsAt (changesets s) n y.place) (sym e) at_y) in
+    let place = λ (e : x.node ≡ y.node). ap (λ (z : Spot). z.place) (sym (distinct x y in_x in_y e)) in
     by_node (node_cmp x.node y.node) x y refl place less
 
 -- the derived test
@@ -70,3 +62,20 @@ pub same_spot : (x y : Spot) → spot_eq x y ≡ true → x ≡ y
 same_spot x y h =
     let parts = both_true (node_eq x.node y.node) (eqb x.place y.place) h in
     one_spot x y (same_node x.node y.node parts.0) (eqb-true x.place y.place parts.1)
+
+-- spots in strict order of which P holds
+pub sorted_lists : (xs : List Spot) (P : Spot → Type 0)
+    → ((x y : Spot) → Contains xs x → Contains xs y → x.node ≡ y.node → x ≡ y) → (some : List Spot)
+    → IsStrictlySortedBy spot_cmp some → ((x : Spot) → P x → Contains xs x) → ((x : Spot) → Contains some x ↔ P x)
+    → Lists P some
+sorted_lists xs P distinct some sorted within are = (
+  ascending_spots some (λ x y hx hy e. distinct x y (within x ((are x).0 hx)) (within y ((are y).0 hy)) e) sorted,
+  are,
+)
+
+-- some of these spots, put in order
+pub in_order_lists : (xs : List Spot) (P : Spot → Type 0)
+    → ((x y : Spot) → Contains xs x → Contains xs y → x.node ≡ y.node → x ≡ y) → (some : List Spot)
+    → ((x : Spot) → P x → Contains xs x) → ((x : Spot) → Contains some x ↔ P x) → Lists P (in_order some)
+in_order_lists xs P distinct some within are = sorted_lists xs P distinct (in_order some) (in_order_sorted some) within
+    (λ x. (λ h. (are x).0 ((in_order_members some x).0 h), λ p. (in_order_members some x).1 ((are x).1 p)))

@@ -13,7 +13,7 @@ use Rattle.hg_graph.specs.declared.graph.ParentPlaces.{ParentPlaces}
 use Rattle.hg_graph.specs.Places.{IsAt, IsParentPlace}
 use Rattle.hg_graph.proofs.GraphLemmas.{Contains-from_place}
 use Rattle.hg_graph.proofs.MarkLemmas.{get-set_same, get-set_other}
-use Rattle.hg_graph.proofs.PlaceLemmas.{IsAt-from, parent_first}
+use Rattle.hg_graph.proofs.PlaceLemmas.{IsAt-from, parent_first, same_place}
 use Rattle.hg_phases.specs.declared.phase.Phase.{Phase}
 use Rattle.hg_phases.specs.declared.phase.Phase.TheVariants.{Public, Draft, Secret}
 use Rattle.hg_phases.specs.State.{State, Held, changesets, rank, IsPhaseOf, IsValid}
@@ -24,7 +24,7 @@ use Rattle.hg_discovery.specs.declared.status.Status.{Status}
 use Rattle.hg_discovery.specs.declared.status.Status.TheVariants.{Undecided, Common, Missing}
 use Rattle.hg_discovery.specs.declared.status.Spot.{Spot}
 use Rattle.hg_discovery.specs.Under.{IsOneOf, IsParentAt, IsShapeOf, IsInOrder}
-use Rattle.hg_discovery.specs.Search.{Is, IsClosed, IsAscending, AreSpots}
+use Rattle.hg_discovery.specs.Search.{Is, IsClosed, AreSpots}
 use Rattle.hg_discovery.specs.Start.{IsShared}
 use Rattle.hg_discovery.proofs.UnderLemmas.{not_both_um, three}
 
@@ -215,9 +215,11 @@ module _ (s : State) (valid : IsValid s) (ps : List ParentPlaces) (shape : IsSha
       ];
     }
 
-    pub spots_start : IsAscending xs → AreSpots ds xs
-    spots_start ascending = record {
-      ascending = ascending;
+    pub spots_start : AreSpots ds xs
+    spots_start = record {
+      distinct = λ x y hx hy e. one_spot x y e (sym (same_place (nodes (changesets s)) x.node x.place y.place
+          valid.graph.distinct ((shared x).0 hx).0
+          (subst (λ n. IsAt (changesets s) n y.place) (sym e) ((shared y).0 hy).0)));
       apart = λ x y hx hy e. one_spot x y (same_Some x.node y.node
           (sym (subst (IsAt (changesets s) x.node) e ((shared x).0 hx).0) ∙ ((shared y).0 hy).0)) e;
       within = λ x h. omega (arith, len, shared_within x h);

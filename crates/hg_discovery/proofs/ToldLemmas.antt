@@ -117,7 +117,7 @@ all_closed ps (x ∷ xs) [] old new len order closed t = absurd t
 pub spots_after : (ps : List ParentPlaces) (asked : List Spot) (answers : List Bool) (old new : List Status)
     (xs : List Spot) → AreTold ps asked answers old new → AreSpots old xs → AreSpots new xs
 spots_after ps asked answers old new xs told spots = record {
-  ascending = spots.ascending;
+  distinct = spots.distinct;
   apart = spots.apart;
   within = λ x h. let l = spots.within x h in omega (arith, l, len);
   found = λ k h. spots.found k

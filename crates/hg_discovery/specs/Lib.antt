@@ -10,3 +10,5 @@ pub mod Family
 pub mod Cursor
 pub mod Between
 pub mod Refusals
+pub mod Order
+pub mod Line

@@ -51,7 +51,7 @@ pub record IsClosed (ps : List ParentPlaces) (ds : List Status) : Type 0 where
   pub missing : (j k : ℕ) → IsParentAt ps j k → Is ds Missing k → Is ds Missing j
 
 pub record AreSpots (ds : List Status) (xs : List Spot) : Type 0 where
-  pub ascending : IsAscending xs
+  pub distinct : (x y : Spot) → Contains xs x → Contains xs y → x.node ≡ y.node → x ≡ y
   pub apart : (x y : Spot) → Contains xs x → Contains xs y → x.place ≡ y.place → x ≡ y
   pub within : (x : Spot) → Contains xs x → x.place < length ds
   pub found : (k : ℕ) → Is ds Undecided k ⊎ Is ds Common k → (x : Spot) × Contains xs x × (x.place ≡ k)

@@ -1,15 +1,18 @@
 //! A discovery, from its start to its end.
 ghost use Rattle.std.specs.Prelude.{◌≡◌, ℕ, ◌↔◌, ◌≤◌, ◌-◌, IfOk, OnOk, OnErr, IsTrue, [], length};
-ghost use Rattle.hg_discovery.specs.Search.{IsSearch, nodes_of};
+ghost use Rattle.hg_discovery.specs.Search.{IsClosed, IsSearch, nodes_of};
 ghost use Rattle.hg_discovery.specs.Answers.{AnswerAnswer, AreTold};
 ghost use Rattle.hg_discovery.specs.Family.{IsFamily};
+ghost use Rattle.hg_discovery.specs.Line.{IsLine, IsLineIfMade};
 ghost use Rattle.hg_discovery.specs.Cursor.{AreDecidedTo};
+ghost use Rattle.hg_discovery.specs.Log.{KeepsLog};
 ghost use Rattle.hg_discovery.specs.Rounds.{undecided};
 ghost use Rattle.hg_discovery.specs.Start.{IsStart, AreCommonHeads};
 
-use crate::draw::{SAMPLE, common_heads, first_undecided_spot, sample};
+use crate::draw::{SAMPLE, common_heads, first_sample, first_undecided_spot, sample};
 use crate::error::DiscoveryError;
 use crate::family::{Family, family_of};
+use crate::line::{Line, line_up};
 use crate::spread::{take_back, tell_all};
 use crate::start::{parents_of, shared, undecided};
 use crate::status::{Spot, Status};
@@ -28,9 +31,7 @@ pub struct Discovery {
     decided: Vec<Status>,
     asked: Vec<Spot>,
     family: Family,
-
-    // No spot before it is undecided.
-    from: usize,
+    line: Line,
     alloc: Global,
 }
 
@@ -43,7 +44,7 @@ impl Drop for Discovery {
             decided: _,
             asked: _,
             family: _,
-            from: _,
+            line: _,
             alloc: _,
         } = self;
     }
@@ -53,7 +54,7 @@ impl Model for Discovery {
     ghost use Rattle.std.specs.Coded.{codes};
     ghost use Rattle.hg_discovery.specs.Search.{Search, IsSearch};
     ghost use Rattle.hg_discovery.specs.Family.{IsFamily};
-    ghost use Rattle.hg_discovery.specs.Cursor.{AreDecidedTo};
+    ghost use Rattle.hg_discovery.specs.Line.{IsLineIfMade};
 
     ghost Value = { Search };
 
@@ -73,7 +74,7 @@ impl Model for Discovery {
           decided = d.decided.items;
           asked = d.asked.items;
         }) × IsFamily d.parents.items d.decided.items d.family.children.items
-        d.family.left.items × AreDecidedTo d.decided.items d.spots.items d.from };
+        d.family.left.items × IsLineIfMade d.decided.items d.spots.items d.line };
 }
 
 impl Discovery {
@@ -85,15 +86,19 @@ impl Discovery {
         let spots = shared(alloc, replica)?;
         let decided = undecided(alloc, parents.len(), &spots)?;
         let mut family = family_of(alloc, replica.graph())?;
-        let room = Vec::with_capacity(alloc, SAMPLE)?;
-        let asked = sample(&mut family, &spots, &decided, 0, room);
+        let asked = first_sample(alloc, &mut family, &spots, &decided)?;
+        let line = Line {
+            spots: Vec::new(alloc),
+            from: 0,
+            is_made: false,
+        };
         Ok(Discovery {
             parents,
             spots,
             decided,
             asked,
             family,
-            from: 0,
+            line,
             alloc,
         })
     }
@@ -126,7 +131,7 @@ impl Discovery {
             &self.asked,
             answers,
             &mut self.decided,
-            &mut self.from,
+            &mut self.line,
         )?;
         self.asked = asked;
         Ok(())
@@ -169,12 +174,12 @@ fn next_sample(
     asked: &[Spot],
     answers: &[bool],
     decided: &mut [Status],
-    from: &mut usize,
+    line: &mut Line,
 ) -> Result<Vec<Spot>, AllocError>
     requires search { IsSearch
         (record { parents = parents.now; spots = spots.now; decided = decided.old; asked = asked.now }) }
     requires family { IsFamily parents.now decided.old family.old.children.items family.old.left.items }
-    requires from { AreDecidedTo decided.old spots.now from.old }
+    requires made { IsLineIfMade decided.old spots.now line.old }
     requires answers { length answers.now ≡ length asked.now }
     ensures told { IfOk result (λ xs. AreTold parents.now asked.now answers.now decided.old decided.new) }
     ensures search { IfOk result
@@ -186,17 +191,49 @@ fn next_sample(
         })) }
     ensures err { OnErr result (decided.new ≡ decided.old) }
     ensures family { IsFamily parents.now decided.new family.new.children.items family.new.left.items }
-    ensures from { AreDecidedTo decided.new spots.now from.new }
+    ensures made { IsLineIfMade decided.new spots.now line.new }
 {
     let room = Vec::with_capacity(alloc, SAMPLE)?;
     let mut log = Vec::new(alloc);
-    match tell_all(parents, family, asked, answers, decided, &mut log) {
+    match tell_and_line_up(
+        alloc, parents, family, spots, asked, answers, decided, &mut log, line,
+    ) {
         Ok(()) => {}
         Err(refused) => {
             take_back(&log, decided);
             return Err(refused);
         }
     }
-    *from = first_undecided_spot(spots, decided, *from);
-    Ok(sample(family, spots, decided, *from, room))
+    line.from = first_undecided_spot(&line.spots, decided, line.from);
+    Ok(sample(family, &line.spots, decided, line.from, room))
+}
+
+// Takes the answers to a sample in, and puts what is undecided then in line, unless that was done before.
+fn tell_and_line_up(
+    alloc: Global,
+    parents: &[ParentPlaces],
+    family: &Family,
+    spots: &[Spot],
+    asked: &[Spot],
+    answers: &[bool],
+    decided: &mut [Status],
+    log: &mut Vec<usize>,
+    line: &mut Line,
+) -> Result<(), AllocError>
+    requires search { IsSearch
+        (record { parents = parents.now; spots = spots.now; decided = decided.old; asked = asked.now }) }
+    requires family { IsFamily parents.now decided.old family.now.children.items family.now.left.items }
+    requires made { IsLineIfMade decided.old spots.now line.old }
+    requires answers { length answers.now ≡ length asked.now }
+    ensures told { OnOk result (AreTold parents.now asked.now answers.now decided.old decided.new) }
+    ensures closed { OnOk result (IsClosed parents.now decided.new) }
+    ensures len { length decided.new ≡ length decided.old }
+    ensures log { KeepsLog decided.old log.old.items decided.new log.new.items }
+    ensures line { OnOk result (IsLine decided.new spots.now line.new.spots.items) }
+    ensures from { OnOk result (AreDecidedTo decided.new line.new.spots.items line.new.from) }
+    ensures err { OnErr result (line.new ≡ line.old) }
+{
+    tell_all(parents, family, asked, answers, decided, log)?;
+    line_up(alloc, spots, decided, line)?;
+    Ok(())
 }

@@ -1,4 +1,4 @@
-//! The next sample.
+//! Samples, and the heads of what is common.
 ghost use Rattle.std.specs.Prelude.{◌≡◌, ℕ, ◌≤◌, ◌<◌, ◌++◌, [], Bool, List, Some, length, slice_get, take, filter};
 ghost use Rattle.std.specs.Prelude.{vec_len, All, OnOk, IfOk, Contains};
 ghost use Rattle.std.specs.Vec.{vec_capacity};
@@ -11,8 +11,11 @@ ghost use Rattle.hg_discovery.specs.Spread.{AreCovered, IsMarked, MarksPlace};
 ghost use Rattle.hg_discovery.specs.Picking.{is_picked};
 ghost use Rattle.hg_discovery.specs.Family.{IsFamily, KeepsFamily, FitsChildren};
 ghost use Rattle.hg_discovery.specs.Cursor.{AreDecidedTo};
+ghost use Rattle.hg_discovery.specs.Line.{IsLine};
+ghost use Rattle.hg_discovery.specs.Order.{in_order};
 
 use crate::family::{Family, has_undecided_child, is_undecided};
+use crate::order::{ascending, take_in};
 use crate::status::{Spot, Status};
 use hg_graph::ParentPlaces;
 use std::alloc::{AllocError, Global};
@@ -20,31 +23,86 @@ use std::alloc::{AllocError, Global};
 // How many changesets a round asks about.
 pub(crate) const SAMPLE: usize = 200;
 
-// The first of the undecided changesets: the heads among them, and then the others. No spot before the index is
-// undecided. There is room for all of them.
+// The first of the undecided changesets, from the index of a line on: the heads among them, and then the others. No
+// spot before the index is undecided. There is room for all of them.
 pub(crate) fn sample(
     family: &mut Family,
-    spots: &[Spot],
+    line: &[Spot],
     decided: &[Status],
     from: usize,
     mut found: Vec<Spot>,
 ) -> Vec<Spot>
     requires len { length decided.now ≡ length family.old.left.items }
     requires fits { FitsChildren family.old.children.items family.old.left.items }
-    requires spots { AreSpots decided.now spots.now }
-    requires decided { AreDecidedTo decided.now spots.now from }
+    requires within { (x : Spot) → Contains line.now x → x.place < length decided.now }
+    requires decided { AreDecidedTo decided.now line.now from }
     requires empty { found.items ≡ [] }
     requires room { 200 ≤ vec_capacity found }
-    ensures sample { (ps : List ParentPlaces) → IsInOrder ps → IsClosed ps decided.now
-        → IsFamily ps decided.now family.old.children.items family.old.left.items
-        → IsSample (record { parents = ps; spots = spots.now; decided = decided.now; asked = result.items })
-        result.items }
+    ensures sample { (ps : List ParentPlaces) (xs : List Spot) → IsInOrder ps → IsClosed ps decided.now
+        → IsFamily ps decided.now family.old.children.items family.old.left.items → AreSpots decided.now xs
+        → IsLine decided.now xs line.now
+        → IsSample (record { parents = ps; spots = xs; decided = decided.now; asked = result.items }) result.items }
     ensures family { KeepsFamily decided.now family.old.children.items family.old.left.items family.new.children.items
         family.new.left.items }
 {
-    draw(spots, decided, family, from, false, &mut found);
-    draw(spots, decided, family, from, true, &mut found);
+    draw(line, decided, family, from, false, &mut found);
+    draw(line, decided, family, from, true, &mut found);
     found
+}
+
+// The first sample, of spots in any order: the heads of what is undecided, and then the others.
+pub(crate) fn first_sample(
+    alloc: Global,
+    family: &mut Family,
+    spots: &[Spot],
+    decided: &[Status],
+) -> Result<Vec<Spot>, AllocError>
+    requires len { length decided.now ≡ length family.old.left.items }
+    requires fits { FitsChildren family.old.children.items family.old.left.items }
+    requires spots { AreSpots decided.now spots.now }
+    ensures sample { IfOk result (λ found. (ps : List ParentPlaces) → IsInOrder ps → IsClosed ps decided.now
+        → IsFamily ps decided.now family.old.children.items family.old.left.items
+        → IsSample (record { parents = ps; spots = spots.now; decided = decided.now; asked = found.items })
+        found.items) }
+    ensures family { KeepsFamily decided.now family.old.children.items family.old.left.items family.new.children.items
+        family.new.left.items }
+{
+    let mut found = least(alloc, spots, decided, family, false)?;
+    if found.len() >= SAMPLE {
+        return Ok(found);
+    }
+    let mut others = least(alloc, spots, decided, family, true)?;
+    found.append(&mut others)?;
+    found.truncate(SAMPLE);
+    Ok(found)
+}
+
+// The least 200 of the undecided ones of the spots that have an undecided child, or of those that have none, ascending.
+fn least(
+    alloc: Global,
+    spots: &[Spot],
+    decided: &[Status],
+    family: &mut Family,
+    covered: bool,
+) -> Result<Vec<Spot>, AllocError>
+    requires spots { (x : Spot) → Contains spots.now x → x.place < length family.old.left.items }
+    requires fits { FitsChildren family.old.children.items family.old.left.items }
+    ensures family { KeepsFamily decided.now family.old.children.items family.old.left.items family.new.children.items
+        family.new.left.items }
+    ensures len { length family.new.left.items ≡ length family.old.left.items }
+    ensures fits { FitsChildren family.new.children.items family.new.left.items }
+    ensures least { IfOk result (λ found. (ps : List ParentPlaces)
+        → IsFamily ps decided.now family.old.children.items family.old.left.items
+        → length decided.now ≡ length ps → (marks : List Bool) → AreCovered ps decided.now Undecided marks
+        → found.items ≡ take 200 (in_order (filter (is_picked decided.now marks Undecided covered) spots.now))) }
+{
+    let mut found = Vec::with_capacity(alloc, SAMPLE + 1)?;
+    for i in 0..spots.len() {
+        if is_next(spots[i], decided, family, covered) {
+            take_in(&mut found, spots[i])?;
+        }
+    }
+    Ok(found)
 }
 
 // Adds the undecided ones of the spots from the index on that have an undecided child, or those that have none, until
@@ -117,7 +175,7 @@ pub(crate) fn first_undecided_spot(spots: &[Spot], decided: &[Status], from: usi
     }
 }
 
-// The heads of what is common.
+// The heads of what is common, ascending.
 pub(crate) fn common_heads(
     alloc: Global,
     parents: &[ParentPlaces],
@@ -144,7 +202,7 @@ pub(crate) fn common_heads(
         spots.len(),
         &mut found,
     )?;
-    Ok(found)
+    Ok(ascending(found))
 }
 
 // Marks the changesets that have a child that is decided so.

@@ -4,7 +4,12 @@
 //! and then others. A yes makes a changeset and its ancestors common, a no makes it and its descendants missing. So
 //! what is undecided never has a decided changeset between two of its own, and a head is one without undecided
 //! children. An answer is spread by a walk that stops at what is decided, so all answers together cost what they
-//! decide. A sample is drawn from the first undecided changeset on, in the order of ids, and ends where it is full.
+//! decide.
+//!
+//! The first sample keeps the least 200 heads, and the least 200 others, of what comes in the graph's order. Its
+//! answers decide all where there are at most 200 heads and the other side serves them. What they leave undecided is
+//! put in the order of ids; each further sample is drawn from the first undecided changeset on in that line, and ends
+//! where it is full.
 //!
 //! The asker calls [`Discovery`], and the other side answers by [`known`], under its pins. Both may go on in the
 //! meantime. Where both stand in one process, [`heads_in_common`] does all of it.
@@ -38,6 +43,8 @@ mod draw;
 mod error;
 mod family;
 mod laws;
+mod line;
+mod order;
 mod spread;
 mod start;
 mod status;

@@ -1,11 +1,11 @@
 //! Where a discovery begins.
 ghost use Rattle.std.specs.Prelude.{◌≡◌, ◌≢◌, ℕ, ◌<◌, ◌↔◌, ◌⊎◌, Some, length, IfOk, IsTrue, Contains};
 ghost use Rattle.hg_discovery.specs.declared.status.Status.TheVariants.{Undecided, Common, Missing};
-ghost use Rattle.hg_phases.specs.State.{changesets, IsPhaseOf, IsValid};
+ghost use Rattle.hg_phases.specs.State.{changesets, IsPhaseOf};
 ghost use Rattle.hg_phases.specs.declared.phase.Phase.TheVariants.{Secret};
 ghost use Rattle.hg_discovery.specs.declared.status.Spot.{Spot};
 ghost use Rattle.hg_discovery.specs.Under.{IsShapeOf};
-ghost use Rattle.hg_discovery.specs.Search.{Is, IsAscending};
+ghost use Rattle.hg_discovery.specs.Search.{Is};
 ghost use Rattle.hg_discovery.specs.Start.{IsShared};
 
 use crate::status::{Spot, Status};
@@ -27,21 +27,9 @@ pub(crate) fn parents_of(alloc: Global, graph: &Graph) -> Result<Vec<ParentPlace
     Ok(parents)
 }
 
-// The changesets that aren't secret, ascending.
-pub(crate) fn shared(alloc: Global, replica: &Replica) -> Result<Vec<Spot>, AllocError>
-    ensures ascending { IfOk result (λ xs. IsAscending xs.items) }
-    ensures shared { IfOk result (λ xs. (x : Spot) → Contains xs.items x ↔ IsShared replica.now.history x) }
-{
-    let mut spots = unsorted(alloc, replica)?;
-    spots.sort_unstable();
-    spots.dedup();
-    Ok(spots)
-}
-
 // The changesets that aren't secret, in the graph's order. It takes no look-up.
-fn unsorted(alloc: Global, replica: &Replica) -> Result<Vec<Spot>, AllocError>
-    ensures valid { IsValid replica.now.history }
-    ensures shared { IfOk result (λ xs. (x : Spot) → Contains xs.items x ↔ IsShared replica.now.history x) }
+pub(crate) fn shared(alloc: Global, replica: &Replica) -> Result<Vec<Spot>, AllocError>
+    ensures { IfOk result (λ xs. (x : Spot) → Contains xs.items x ↔ IsShared replica.now.history x) }
 {
     let graph = replica.graph();
     let mut spots = Vec::new(alloc);

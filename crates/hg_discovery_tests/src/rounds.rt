@@ -1,5 +1,5 @@
 //! Rounds that are worked out by hand.
-use crate::scene::{ascending, chain, commit, prune};
+use crate::scene::{ascending, chain, changeset, commit, empty, prune};
 use hg_changeset::Node;
 use hg_discovery::{
     Discovery, DiscoveryError, heads_in_common, heads_in_common_kept, known, known_kept,
@@ -9,6 +9,15 @@ use hg_phases::Phase;
 use hg_replica::Replica;
 use hg_view::{Kept, Pins};
 use std::alloc::Global;
+
+// A draft chain of different texts, and its tip.
+fn long_chain(alloc: Global, replica: &mut Replica, count: u32) -> Option<Node> {
+    let mut tip = Node::NULL;
+    for number in 0..count {
+        tip = commit(alloc, replica, tip, &number.to_be_bytes(), Phase::Draft)?;
+    }
+    Some(tip)
+}
 
 // Draft roots of different texts.
 fn roots(alloc: Global, replica: &mut Replica, count: u32) -> Option<()> {
@@ -40,6 +49,21 @@ fn roots_are_asked_200_at_a_time(rt: HostRuntime) {
     }
     assert!(rt; discovery.done());
     assert!(rt; discovery.common_heads().expect(&rt, "memory").is_empty());
+}
+
+// Its ids come in no order, and 200 of them are asked about.
+#[test]
+fn a_long_chain_is_asked_about_by_its_tip_and_then_by_the_least_others(rt: HostRuntime) {
+    let alloc = rt.alloc();
+    let mut asker = Replica::new(alloc);
+    let tip = long_chain(alloc, &mut asker, 300).expect(&rt, "memory");
+    let discovery = Discovery::start(alloc, &asker).expect(&rt, "memory");
+    let sample = discovery.sample().expect(&rt, "memory");
+    assert!(rt; sample.len() == 200 && sample[0] == tip);
+    let mut ids = asker.graph().ancestors(&[tip]).expect(&rt, "memory");
+    assert!(rt; ids.pop() == Some(tip));
+    ids.sort_unstable();
+    assert!(rt; sample[1..] == ids[..199]);
 }
 
 #[test]
@@ -236,6 +260,42 @@ fn refused_growth_leaves_a_discovery_as_it_was(rt: HostRuntime) {
         Err(_) => discovery.common_heads().expect(&rt, "memory"),
     };
     assert!(rt; discovery.done() && heads.as_slice() == [a].as_slice());
+}
+
+// One that holds 201 draft roots, which it took in at once.
+fn many_roots(alloc: Global) -> Option<Replica> {
+    let mut part = empty(alloc);
+    for number in 0..201u32 {
+        let root = changeset(alloc, Node::NULL, Node::NULL, &number.to_be_bytes())?;
+        part.bounds.push((root.node(), Phase::Draft)).ok()?;
+        part.changesets.push(root).ok()?;
+    }
+    let mut replica = Replica::new(alloc);
+    replica.absorb_owned(part).ok()?;
+    Some(replica)
+}
+
+// The first round leaves one changeset undecided.
+#[test]
+fn refused_growth_leaves_a_discovery_between_two_rounds_as_it_was(rt: HostRuntime) {
+    let alloc = rt.alloc();
+    let Some(replica) = many_roots(alloc) else {
+        return;
+    };
+    let mut discovery = match Discovery::start(alloc, &replica) {
+        Ok(discovery) => discovery,
+        Err(_) => return,
+    };
+    if let Err(refusal) = discovery.answer(&[true; 200]) {
+        assert!(rt; refusal == DiscoveryError::NoMemory && !discovery.done());
+        assert!(rt; discovery.sample().expect(&rt, "memory").len() == 200);
+        assert!(rt; discovery.answer(&[true; 200]) == Ok(()));
+    }
+    let sample = match discovery.sample() {
+        Ok(sample) => sample,
+        Err(_) => discovery.sample().expect(&rt, "memory"),
+    };
+    assert!(rt; sample.len() == 1 && !discovery.done());
 }
 
 // One that holds a chain of two, and one that holds a child of it too.

@@ -1,4 +1,4 @@
-use Rattle.std.proofs.Common.{◌≡◌, ◌+◌, [], arith, get_or, take, sym, subst}
+use Rattle.std.proofs.Common.{◌≡◌, ◌+◌, [], arith, take, sym, subst}
 use Rattle.std.proofs.lemmas.List.{take_all}
 use Rattle.hg_graph.specs.Marks.{IsMarkedNode}
 use Rattle.hg_phases.specs.State.{changesets}

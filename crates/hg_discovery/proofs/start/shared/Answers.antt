@@ -1,33 +1,46 @@
-use Rattle.std.proofs.Common.{◌≡◌, Contains, sym, subst}
-use Rattle.std.specs.List.{dedup}
-use Rattle.std.specs.List.Sorted.{IsStrictlySortedBy}
-use Rattle.std.proofs.lemmas.List.Filters.{dedup_is}
-use Rattle.std.proofs.lemmas.List.Kept.{IsStrictlySortedBy-dedup, Contains-dedup, Contains-from_dedup}
-use Rattle.std.proofs.lemmas.List.Sorted.{Contains-permutation, IsPermutation-sym}
-use Rattle.hg_discovery.specs.contracts.status.SpotOrd.TheImpl.Laws.{total-law, matches_eq-law}
-use Rattle.hg_discovery.specs.contracts.status.SpotEq.TheImpl.Laws.{laws-law}
-use Rattle.hg_discovery.proofs.SortLemmas.{spot_cmp, spot_eq, same_spot, ascending_spots}
+use Rattle.std.proofs.Common.{◌≡◌, ◌+◌, ◌∙◌, arith, length, slice_get, Some, ap, sym, subst, true≢false}
+use Rattle.hg_graph.specs.Graph.{nodes}
+use Rattle.hg_graph.specs.Places.{IsAt}
+use Rattle.hg_phases.specs.declared.phase.Phase.TheVariants.{Secret}
+use Rattle.hg_phases.specs.State.{changesets}
+use Rattle.hg_graph.proofs.PlaceLemmas.{IsAt-within}
+use Rattle.std.proofs.lemmas.Option.{none-some}
+use Rattle.hg_discovery.proofs.StartLemmas.{phase_in_content, AreSharedTo, shared_push, shared_skip, shared_all}
 use Rattle.hg_discovery.proofs.start.shared.Goals as goal
+use Rattle.hg_discovery.proofs.start.shared.Goals.{in-Some+then-not-has_phase_at+in_ok-push}
+use Rattle.hg_discovery.proofs.start.shared.Goals.{in-Some+else-not-has_phase_at, in_default}
 
-pub returns-clause-shared : goal.returns-clause-shared
-returns-clause-shared c x =
-    let old = c.in_ok-spots.spots.items in
-    let sorted = c.sort_unstable.new.self.items in
-    let new = c.dedup.new.self.items in
-    let is : new ≡ dedup spot_eq sorted = dedup_is _ _ _ c.dedup.ensures.filtered in
-    let moved = c.sort_unstable.ensures.permutation in (
-      λ h. (c.in_ok-spots.ensures.shared x).0 (Contains-permutation sorted old x (IsPermutation-sym old sorted moved)
-          (Contains-from_dedup spot_eq sorted x (subst (λ ys. Contains ys x) is h))),
-      λ s. subst (λ ys. Contains ys x) (sym is) (Contains-dedup laws-law same_spot sorted x
-          (Contains-permutation old sorted x moved ((c.in_ok-spots.ensures.shared x).1 s))),
-    )
+pub loop-place-preserved : goal.loop-place-preserved
+loop-place-preserved c =
+    let s = c.args.replica.now.history in
+    let i = c.loop-place.place in
+    let before : AreSharedTo s i c.loop-place.spots.items = c.loop-place.invariant in
+    elim c.match-node_at.branch [
+      | in-Some+then-not-has_phase_at+in_ok-push w ↦
+          let at : IsAt (changesets s) w.in-Some.node i = subst
+          (λ ds. slice_get (nodes ds) i ≡ Some w.in-Some.node) c.graph-graph.ensures.graph
+          (sym c.node_at.ensures ∙ w.in-Some.is) in
+          subst (AreSharedTo s (i + 1)) (sym (ap (λ v. v.items) w.spots-is ∙ w.in_ok-push.ensures.items))
+          (shared_push s i w.in-Some.node c.loop-place.spots.items at before
+          (λ h. true≢false (sym ((w.has_phase_at.ensures w.in-Some.node at).1
+          ((phase_in_content s c.graph-graph.ensures.valid.graph w.in-Some.node Secret).1 h))
+          ∙ w.if-not-has_phase_at.true)))
+      | in-Some+else-not-has_phase_at w ↦
+          let at : IsAt (changesets s) w.in-Some.node i = subst
+          (λ ds. slice_get (nodes ds) i ≡ Some w.in-Some.node) c.graph-graph.ensures.graph
+          (sym c.node_at.ensures ∙ w.in-Some.is) in
+          subst (AreSharedTo s (i + 1)) (sym (ap (λ v. v.items) w.spots-is))
+          (shared_skip s i w.in-Some.node c.loop-place.spots.items at before
+          ((phase_in_content s c.graph-graph.ensures.valid.graph w.in-Some.node Secret).0
+          ((w.has_phase_at.ensures w.in-Some.node at).0 w.if-not-has_phase_at.false)))
+      | in_default w ↦
+          let there = IsAt-within c.graph-graph.result.now i (omega
+          (arith, c.loop-place-test.true, c.len-place-end.ensures.len)) in
+          absurd (none-some there.0 (sym (sym c.node_at.ensures ∙ w.in_default.is) ∙ there.1))
+    ]
 
-pub returns-clause-ascending : goal.returns-clause-ascending
-returns-clause-ascending c =
-    let sorted = c.sort_unstable.new.self.items in
-    let new = c.dedup.new.self.items in
-    let is : new ≡ dedup spot_eq sorted = dedup_is _ _ _ c.dedup.ensures.filtered in
-    let strict : IsStrictlySortedBy spot_cmp (dedup spot_eq sorted) =
-    IsStrictlySortedBy-dedup total-law matches_eq-law sorted c.sort_unstable.ensures.sorted in
-    ascending_spots c.args.replica.now.history c.in_ok-spots.ensures.valid.graph new (returns-clause-shared c)
-    (subst (IsStrictlySortedBy spot_cmp) (sym is) strict)
+pub returns : goal.returns
+returns c =
+    shared_all c.args.replica.now.history c.loop-place.place c.loop-place.spots.items
+    (omega (arith, c.loop-place-test.false, c.len-place-end.ensures.len, ap length c.graph-graph.ensures.graph))
+    c.loop-place.invariant

@@ -1,0 +1,218 @@
+-- Spots put in order one by one.
+use Rattle.std.proofs.Common.{◌≡◌, ◌↔◌, ◌⊎◌, ℕ, zero, suc, ◌<◌, ◌≤◌, inl, inr, List, [], ◌∷◌, ◌++◌, length, get_or}
+use Rattle.std.proofs.Common.{take, drop, Contains, refl, sym, ap, subst, ◌∙◌, arith}
+use Rattle.std.specs.List.{AllByRecursion}
+use Rattle.std.specs.List.Sorted.{IsStrictlySortedBy}
+use Rattle.std.specs.Ordering.{nat_cmp, ordering_then, ordering_reverse}
+use Rattle.std.specs.Cmp.{IsTotalOrder}
+use Rattle.std.specs.declared.cmp.Ordering.{Ordering}
+use Rattle.std.specs.declared.cmp.Ordering.TheVariants.{Less, Equal, Greater}
+use Rattle.std.proofs.lemmas.Cmp.{nat_cmp_total, on_total, then_total, tied_itself}
+use Rattle.std.proofs.lemmas.List.{take-take}
+use Rattle.std.proofs.lemmas.List.Elements.{All-from_recursion, recursion_from_All, All-contains, All-take}
+use Rattle.std.proofs.lemmas.List.Elements.{Contains-get_or}
+use Rattle.std.proofs.lemmas.Map.Lookups.{exact_unsigned}
+use Rattle.hg_changeset.specs.Node.{node_cmp}
+use Rattle.hg_changeset.proofs.NodeLemmas.{node_cmp_exact, node_cmp_total}
+use Rattle.hg_changeset.proofs.ListLemmas.{Contains-cons_cases, Contains-first, Contains-later, Contains-none}
+use Rattle.hg_discovery.specs.declared.status.Spot.{Spot}
+use Rattle.hg_discovery.specs.Order.{spot_cmp, put_beside, put, put_all, in_order}
+use Rattle.hg_discovery.proofs.StartLemmas.{one_spot}
+
+-- ---- the order
+
+pub spot_total : IsTotalOrder spot_cmp
+spot_total = then_total (on_total (λ (x : Spot). x.node) node_cmp_total)
+    (on_total (λ (x : Spot). x.place) nat_cmp_total)
+
+pub spot_exact : (x y : Spot) → spot_cmp x y ≡ Equal → x ≡ y
+spot_exact x y h = by (node_cmp x.node y.node) refl h
+  where
+    by : (o : Ordering) → node_cmp x.node y.node ≡ o → ordering_then o (nat_cmp x.place y.place) ≡ Equal → x ≡ y
+    by Less e h = let no : Less ≡ Equal = h in cc
+    by Equal e h = one_spot x y (node_cmp_exact x.node y.node e) (exact_unsigned x.place y.place h)
+    by Greater e h = let no : Greater ≡ Equal = h in cc
+
+greater_back : (x y : Spot) → spot_cmp x y ≡ Greater → spot_cmp y x ≡ Less
+greater_back x y g = spot_total.antisymm y x ∙ ap ordering_reverse g
+
+-- ---- what is in it
+
+put_beside_members : (o : Ordering) (x y : Spot) (ys rest : List Spot) (z : Spot) → (o ≡ Equal → y ≡ x)
+    → Contains rest z ↔ ((x ≡ z) ⊎ Contains ys z)
+    → Contains (put_beside o x y ys rest) z ↔ ((x ≡ z) ⊎ Contains (y ∷ ys) z)
+put_beside_members Less x y ys rest z same h = (
+  λ c. elim (Contains-cons_cases y rest z c) [
+    | inl e ↦ inr (subst (Contains (y ∷ ys)) e (Contains-first y ys))
+    | inr r ↦ elim (h.0 r) [ inl e ↦ inl e | inr old ↦ inr (Contains-later y ys z old) ]
+  ],
+  λ c. elim c [
+    | inl e ↦ Contains-later y rest z (h.1 (inl e))
+    | inr old ↦ elim (Contains-cons_cases y ys z old) [
+      | inl e ↦ subst (Contains (y ∷ rest)) e (Contains-first y rest)
+      | inr r ↦ Contains-later y rest z (h.1 (inr r))
+    ]
+  ],
+)
+put_beside_members Equal x y ys rest z same h = (
+  λ c. inr c,
+  λ c. elim c [ inl e ↦ subst (Contains (y ∷ ys)) (same refl ∙ e) (Contains-first y ys) | inr old ↦ old ],
+)
+put_beside_members Greater x y ys rest z same h = (
+  λ c. Contains-cons_cases x (y ∷ ys) z c,
+  λ c. elim c [
+    | inl e ↦ subst (Contains (x ∷ y ∷ ys)) e (Contains-first x (y ∷ ys))
+    | inr old ↦ Contains-later x (y ∷ ys) z old
+  ],
+)
+
+put_members : (x : Spot) (ys : List Spot) (z : Spot) → Contains (put x ys) z ↔ ((x ≡ z) ⊎ Contains ys z)
+put_members x [] z = (
+  λ c. Contains-cons_cases x [] z c,
+  λ c. elim c [ inl e ↦ subst (Contains (x ∷ [])) e (Contains-first x []) | inr old ↦ absurd (Contains-none z old) ],
+)
+put_members x (y ∷ ys) z = put_beside_members (spot_cmp y x) x y ys (put x ys) z (spot_exact y x) (put_members x ys z)
+
+put_all_members : (xs ys : List Spot) (z : Spot) → Contains (put_all xs ys) z ↔ (Contains xs z ⊎ Contains ys z)
+put_all_members [] ys z = (λ c. inr c, λ c. elim c [ inl old ↦ absurd (Contains-none z old) | inr old ↦ old ])
+put_all_members (x ∷ xs) ys z = (
+  λ c. elim ((put_all_members xs (put x ys) z).0 c) [
+    | inl later ↦ inl (Contains-later x xs z later)
+    | inr new ↦ elim ((put_members x ys z).0 new) [
+      | inl e ↦ inl (subst (Contains (x ∷ xs)) e (Contains-first x xs))
+      | inr old ↦ inr old
+    ]
+  ],
+  λ c. (put_all_members xs (put x ys) z).1 (elim c [
+    | inl one ↦ elim (Contains-cons_cases x xs z one) [
+      | inl e ↦ inr ((put_members x ys z).1 (inl e))
+      | inr later ↦ inl later
+    ]
+    | inr old ↦ inr ((put_members x ys z).1 (inr old))
+  ]),
+)
+
+pub in_order_members : (xs : List Spot) (z : Spot) → Contains (in_order xs) z ↔ Contains xs z
+in_order_members xs z = (
+  λ c. elim ((put_all_members xs [] z).0 c) [ inl one ↦ one | inr none ↦ absurd (Contains-none z none) ],
+  λ c. (put_all_members xs [] z).1 (inl c),
+)
+
+-- ---- it ascends
+
+abbrev Above : Spot → List Spot → Type 0
+Above y zs = AllByRecursion (λ z. spot_cmp y z ≡ Less) zs
+
+above_all : (y : Spot) (zs : List Spot) → ((z : Spot) → Contains zs z → spot_cmp y z ≡ Less) → Above y zs
+above_all y zs each =
+    recursion_from_All (λ z. spot_cmp y z ≡ Less) zs (λ k d l. each (get_or zs k d) (Contains-get_or zs k d l))
+
+above_each : (y : Spot) (zs : List Spot) → Above y zs → (z : Spot) → Contains zs z → spot_cmp y z ≡ Less
+above_each y zs h z = All-contains (λ x. spot_cmp y x ≡ Less) zs z (All-from_recursion (λ x. spot_cmp y x ≡ Less) zs h)
+
+put_beside_sorted : (o : Ordering) (x y : Spot) (ys : List Spot) → spot_cmp y x ≡ o → Above y ys
+    → IsStrictlySortedBy spot_cmp ys → IsStrictlySortedBy spot_cmp (put x ys)
+    → IsStrictlySortedBy spot_cmp (put_beside o x y ys (put x ys))
+unfolding IsStrictlySortedBy
+put_beside_sorted Less x y ys e above sorted rest = (
+  above_all y (put x ys) (λ z c. elim ((put_members x ys z).0 c) [
+    | inl same ↦ subst (λ v. spot_cmp y v ≡ Less) same e
+    | inr old ↦ above_each y ys above z old
+  ]),
+  rest,
+)
+put_beside_sorted Equal x y ys e above sorted rest = (above, sorted)
+put_beside_sorted Greater x y ys e above sorted rest =
+    let before : spot_cmp x y ≡ Less = greater_back y x e in (
+      above_all x (y ∷ ys) (λ z c. elim (Contains-cons_cases y ys z c) [
+        | inl same ↦ subst (λ v. spot_cmp x v ≡ Less) same before
+        | inr old ↦ spot_total.trans x y z before (above_each y ys above z old)
+      ]),
+      (above, sorted),
+    )
+
+pub put_sorted : (x : Spot) (ys : List Spot) → IsStrictlySortedBy spot_cmp ys → IsStrictlySortedBy spot_cmp (put x ys)
+unfolding IsStrictlySortedBy
+put_sorted x [] h = (tt, tt)
+put_sorted x (y ∷ ys) h = put_beside_sorted (spot_cmp y x) x y ys refl h.0 h.1 (put_sorted x ys h.1)
+
+put_all_sorted : (xs ys : List Spot) → IsStrictlySortedBy spot_cmp ys → IsStrictlySortedBy spot_cmp (put_all xs ys)
+put_all_sorted [] ys h = h
+put_all_sorted (x ∷ xs) ys h = put_all_sorted xs (put x ys) (put_sorted x ys h)
+
+pub nothing_sorted : IsStrictlySortedBy spot_cmp []
+unfolding IsStrictlySortedBy
+nothing_sorted = tt
+
+pub in_order_sorted : (xs : List Spot) → IsStrictlySortedBy spot_cmp (in_order xs)
+in_order_sorted xs = put_all_sorted xs [] nothing_sorted
+
+above_take : (n : ℕ) (y : Spot) (zs : List Spot) → Above y zs → Above y (take n zs)
+above_take n y zs h = recursion_from_All (λ z. spot_cmp y z ≡ Less) (take n zs)
+    (All-take (λ z. spot_cmp y z ≡ Less) n zs (All-from_recursion (λ z. spot_cmp y z ≡ Less) zs h))
+
+pub take_sorted : (n : ℕ) (ys : List Spot) → IsStrictlySortedBy spot_cmp ys → IsStrictlySortedBy spot_cmp (take n ys)
+unfolding IsStrictlySortedBy
+take_sorted zero ys h = tt
+take_sorted (suc n) [] h = tt
+take_sorted (suc n) (y ∷ ys) h = (above_take n y ys h.0, take_sorted n ys h.1)
+
+-- ---- one more
+
+put_all_more : (xs : List Spot) (x : Spot) (ys : List Spot) → put_all (xs ++ x ∷ []) ys ≡ put x (put_all xs ys)
+put_all_more [] x ys = refl
+put_all_more (w ∷ xs) x ys = put_all_more xs x (put w ys)
+
+pub in_order_more : (xs : List Spot) (x : Spot) → in_order (xs ++ x ∷ []) ≡ put x (in_order xs)
+in_order_more xs x = put_all_more xs x []
+
+take_beside : (o : Ordering) (n : ℕ) (x y : Spot) (ys rest other : List Spot) → take n rest ≡ take n other
+    → take (suc n) (put_beside o x y ys rest) ≡ take (suc n) (put_beside o x y (take n ys) other)
+take_beside Less n x y ys rest other e = ap (λ zs. y ∷ zs) e
+take_beside Equal n x y ys rest other e = ap (λ zs. y ∷ zs) (sym (take-take n n ys (omega arith)))
+take_beside Greater zero x y ys rest other e = refl
+take_beside Greater (suc m) x y ys rest other e = ap (λ zs. x ∷ y ∷ zs) (sym (take-take m (suc m) ys (omega arith)))
+
+-- of the first n with one more, only the first n from before have to be known
+pub take_put : (n : ℕ) (x : Spot) (ys : List Spot) → take n (put x ys) ≡ take n (put x (take n ys))
+take_put zero x ys = refl
+take_put (suc n) x [] = refl
+take_put (suc n) x (y ∷ ys) = take_beside (spot_cmp y x) n x y ys (put x ys) (put x (take n ys)) (take_put n x ys)
+
+-- ---- where it goes
+
+-- the place is behind all that are less, and none before it is equal or greater
+pub record IsPlaceOf (x : Spot) (ys : List Spot) (i : ℕ) : Type 0 where
+  pub within : i ≤ length ys
+  pub less : (k : ℕ) (d : Spot) → k < i → spot_cmp (get_or ys k d) x ≡ Less
+  pub greater : (k : ℕ) (d : Spot) → i ≤ k → k < length ys → spot_cmp (get_or ys k d) x ≡ Greater
+
+pub put_at : (x : Spot) (ys : List Spot) (i : ℕ) → IsPlaceOf x ys i → put x ys ≡ take i ys ++ x ∷ drop i ys
+put_at x [] zero p = refl
+put_at x [] (suc i) p = absurd (omega (arith, p.within))
+put_at x (y ∷ ys) zero p = ap (λ o. put_beside o x y ys (put x ys)) (p.greater 0 x (omega arith) (omega arith))
+put_at x (y ∷ ys) (suc i) p =
+    let rest : put x ys ≡ take i ys ++ x ∷ drop i ys = put_at x ys i (record {
+      within = omega (arith, p.within);
+      less = λ k d l. p.less (suc k) d (omega (arith, l));
+      greater = λ k d l within. p.greater (suc k) d (omega (arith, l)) (omega (arith, within));
+    }) in
+    ap (λ o. put_beside o x y ys (put x ys)) (p.less 0 x (omega arith)) ∙ ap (λ zs. y ∷ zs) rest
+
+-- what stands there already stays alone
+pub put_held : (x : Spot) (ys : List Spot) → IsStrictlySortedBy spot_cmp ys → Contains ys x → put x ys ≡ ys
+unfolding IsStrictlySortedBy
+put_held x [] sorted c = absurd (Contains-none x c)
+put_held x (y ∷ ys) sorted c = elim (Contains-cons_cases y ys x c) [
+  | inl e ↦ ap (λ o. put_beside o x y ys (put x ys)) (subst (λ z. spot_cmp y z ≡ Equal) e (tied_itself spot_total y))
+  | inr later ↦ ap (λ o. put_beside o x y ys (put x ys)) (above_each y ys sorted.0 x later)
+      ∙ ap (λ zs. y ∷ zs) (put_held x ys sorted.1 later)
+]
+
+-- behind the last of so many
+pub put_behind_all : (x : Spot) (ys : List Spot) → ((y : Spot) → Contains ys y → spot_cmp y x ≡ Less)
+    → put x ys ≡ ys ++ x ∷ []
+put_behind_all x [] all = refl
+put_behind_all x (y ∷ ys) all =
+    ap (λ o. put_beside o x y ys (put x ys)) (all y (Contains-first y ys))
+    ∙ ap (λ zs. y ∷ zs) (put_behind_all x ys (λ z c. all z (Contains-later y ys z c)))
