@@ -12,6 +12,7 @@ pub mod WritingLemmas
 pub mod HeldLemmas
 pub mod SpellingLemmas
 pub mod ThoseLemmas
+pub mod TouchedLemmas
 pub mod NamedLemmas
 pub mod OfferLemmas
 pub mod OfferLawLemmas

@@ -2,8 +2,7 @@
 use Rattle.hg_changeset.specs.declared.node.Node.{Node}
 use Rattle.hg_phases.specs.declared.phase.Phase.TheVariants.{Secret}
 use Rattle.hg_marker.specs.Fields.{Fields}
-use Rattle.hg_history.specs.Content.{IsHeld, Leads}
-use Rattle.hg_history.specs.Content.Leads.{itself}
+use Rattle.hg_history.specs.Content.{Leads}
 use Rattle.hg_relevant.specs.Relevant.{IsRelevant}
 use Rattle.hg_relevant.specs.Relevant.IsRelevant.{direct, further}
 use Rattle.hg_replica.specs.Content.{Content, IsValidContent}

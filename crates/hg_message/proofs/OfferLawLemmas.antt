@@ -18,11 +18,9 @@ use Rattle.hg_phases.specs.declared.phase.Phase.TheVariants.{Public, Draft, Secr
 use Rattle.hg_phases.specs.State.{Held, rank, changesets}
 use Rattle.hg_marker.specs.Fields.{Fields}
 use Rattle.hg_history.specs.ContentLaws.{leads-low}
-use Rattle.hg_relevant.specs.Relevant.{IsRelevant}
 use Rattle.hg_relevant.specs.Relevant.IsRelevant.{direct, further}
 use Rattle.hg_replica.specs.State.{ReplicaState}
 use Rattle.hg_replica.specs.Content.{Content, IsValidContent, ContentCovers, content_of}
-use Rattle.hg_replica.specs.Evolution.{IsMarker}
 use Rattle.hg_replica.proofs.MarkerLemmas.{holds-from, in_from_holds}
 use Rattle.hg_view.specs.Pins.{AreSamePins, IsServedUnder}
 use Rattle.hg_view.proofs.PinLemmas.{rest-alike, visible-members}

@@ -26,7 +26,7 @@ use Rattle.hg_history.specs.Content.{IsHeld}
 use Rattle.hg_history.proofs.ContentLemmas.{content-changeset, changeset_in_content, node_in_content, leads_from_reach}
 use Rattle.hg_history.proofs.ContentLemmas.{reach_from_leads}
 use Rattle.hg_obsstore.specs.Markers.{ArePlaces}
-use Rattle.hg_relevant.specs.Relevant.{IsRelevant}
+use Rattle.hg_relevant.specs.Relevant.{IsRelevant, Touches}
 use Rattle.hg_relevant.specs.Relevant.IsRelevant.{direct, further}
 use Rattle.hg_replica.specs.State.{ReplicaState, IsValid}
 use Rattle.hg_replica.specs.Content.{Content, content_of}
@@ -42,6 +42,7 @@ use Rattle.hg_message.specs.declared.refusal.OfferRefusal.TheVariants.{UnknownCo
 use Rattle.hg_message.specs.Value.{MessageValue, IsMessage, count_limit, is_too_large}
 use Rattle.hg_message.specs.Outgoing.{ArePlacesOf, CopyAnswer, FindAnswer}
 use Rattle.hg_message.specs.Those.{AreThose}
+use Rattle.hg_message.specs.Touched.{IsTouchedByOne}
 use Rattle.hg_message.specs.declared.scope.Scope.{Scope}
 use Rattle.hg_message.specs.declared.scope.Scope.TheVariants.{Served, Whole}
 use Rattle.hg_message.specs.Offer.{AreHeld, IsCommon, IsNamed, IsNamedMarker, IsOutgoing, IsOneWith, IsHead}
@@ -52,36 +53,38 @@ use Rattle.hg_message.proofs.ThoseLemmas.{those-member, those-next, those-none, 
 
 -- ---- relevance
 
-relevant-along : (H K : Fields → Type 0) (M N : Node → Type 0) → ((m : Fields) → H m → K m) → ((n : Node) → M n → N n)
-    → (m : Fields) → IsRelevant H M m → IsRelevant K N m
-relevant-along H K M N held named m (direct {n = n} one h touches) = direct (named n one) (held m h) touches
+relevant-along : (H K : Fields → Type 0) (M N : Node → Type 0) → ((m : Fields) → H m → K m)
+    → ((n : Node) (m : Fields) → H m → Touches n m → M n → N n) → (m : Fields) → IsRelevant H M m → IsRelevant K N m
+relevant-along H K M N held named m (direct {n = n} one h touches) = direct (named n m h touches one) (held m h) touches
 relevant-along H K M N held named m (further {before = b} r h touches) =
     further (relevant-along H K M N held named b r) (held m h) touches
 
--- what is relevant to a list of what is served, among the markers of the store
+-- what is relevant to a list of what is served, among the markers of the store; what no marker touches may be left out
 pub relevant-offered : (s : ReplicaState) (pins served : List Node)
-    → ((n : Node) → Contains served n ↔ IsServedUnder (content_of s) pins n) → (m : Fields)
+    → ((n : Node) → Contains served n → IsServedUnder (content_of s) pins n)
+    → ((n : Node) → IsServedUnder (content_of s) pins n → IsTouchedByOne s.markers n → Contains served n) → (m : Fields)
     → IsRelevant (Contains s.markers) (Contains served) m ↔ IsNamedMarker (content_of s) pins Served m
-relevant-offered s pins served are m = (
+relevant-offered s pins served sound complete m = (
   relevant-along (Contains s.markers) (IsMarker (content_of s)) (Contains served) (IsServedUnder (content_of s) pins)
-      (holds-from s.markers) (λ n. (are n).0) m,
+      (holds-from s.markers) (λ n k h touches. sound n) m,
   relevant-along (IsMarker (content_of s)) (Contains s.markers) (IsServedUnder (content_of s) pins) (Contains served)
-      (in_from_holds s.markers) (λ n. (are n).1) m,
+      (in_from_holds s.markers) (λ n k h touches one. complete n one (k, in_from_holds s.markers k h, touches)) m,
 )
 
 -- the places that are told of a store are those of what is offered
 pub places-offered : (s : ReplicaState) (pins served : List Node) (store : List Fields) (places : List ℕ)
-    → ((n : Node) → Contains served n ↔ IsServedUnder (content_of s) pins n) → store ≡ s.markers
-    → ArePlaces (IsRelevant (Contains store) (Contains served)) store places
+    → ((n : Node) → Contains served n → IsServedUnder (content_of s) pins n)
+    → ((n : Node) → IsServedUnder (content_of s) pins n → IsTouchedByOne s.markers n → Contains served n)
+    → store ≡ s.markers → ArePlaces (IsRelevant (Contains store) (Contains served)) store places
     → ArePlaces (IsNamedMarker (content_of s) pins Served) s.markers places
-places-offered s pins served store places are here all =
+places-offered s pins served store places sound complete here all =
     let listed = subst (λ (ms : List Fields). ArePlaces (IsRelevant (Contains ms) (Contains served)) ms places) here
     all in
     record {
       ascending = listed.ascending;
       exact = λ k. (
-        λ h. let x = (listed.exact k).0 h in (x.0, x.1, (relevant-offered s pins served are x.0).0 x.2),
-        λ h. (listed.exact k).1 (h.0, h.1, (relevant-offered s pins served are h.0).1 h.2),
+        λ h. let x = (listed.exact k).0 h in (x.0, x.1, (relevant-offered s pins served sound complete x.0).0 x.2),
+        λ h. (listed.exact k).1 (h.0, h.1, (relevant-offered s pins served sound complete h.0).1 h.2),
       );
     }
 

@@ -1,5 +1,5 @@
 -- Two whole offers, one each way, make two replicas share one history.
-use Rattle.std.proofs.Common.{◌≡◌, ◌≢◌, ◌≤◌, ◌++◌, ◌↔◌, inl, inr, List, Some, Contains, refl, sym, ap, subst}
+use Rattle.std.proofs.Common.{◌≡◌, ◌≢◌, ◌≤◌, ◌++◌, inl, inr, List, Some, Contains, refl, sym, ap, subst}
 use Rattle.std.proofs.Common.{◌∙◌, arith}
 use Rattle.std.proofs.lemmas.Bool.{or_cases}
 use Rattle.std.proofs.lemmas.Option.{same_Some}
@@ -7,11 +7,11 @@ use Rattle.hg_changeset.specs.declared.node.Node.{Node}
 use Rattle.hg_changeset.specs.Contents.{Contents}
 use Rattle.hg_graph.specs.Graph.{IsParent}
 use Rattle.hg_phases.specs.declared.phase.Phase.{Phase}
-use Rattle.hg_phases.specs.declared.phase.Phase.TheVariants.{Public, Draft, Secret}
+use Rattle.hg_phases.specs.declared.phase.Phase.TheVariants.{Public, Secret}
 use Rattle.hg_phases.specs.State.{Held, rank}
-use Rattle.hg_phases.proofs.RankLemmas.{rank-apart, rank-top}
+use Rattle.hg_phases.proofs.RankLemmas.{rank-apart}
 use Rattle.hg_marker.specs.Fields.{Fields}
-use Rattle.hg_history.specs.Content.{IsHeld, IsBelowAt, Leads}
+use Rattle.hg_history.specs.Content.{IsBelowAt, Leads}
 use Rattle.hg_history.specs.Content.Leads.{itself, below}
 use Rattle.hg_history.specs.ContentLaws.{leads-low}
 use Rattle.hg_replica.specs.Content.{Content, IsValidContent, ContentBelow, ContentAfter}

@@ -8,10 +8,8 @@ use Rattle.hg_marker.specs.Grammar.{IsMarker}
 use Rattle.hg_phases.specs.State.{Held}
 use Rattle.hg_replica.specs.State.{ReplicaState, IsValid}
 use Rattle.hg_replica.specs.Content.{content_of}
-use Rattle.hg_replica.specs.Evolution.{IsMarker as IsHeldMarker}
 use Rattle.hg_replica.proofs.ContentLemmas.{content-valid}
 use Rattle.hg_replica.proofs.MarkerLemmas.{in_from_holds}
-use Rattle.hg_view.specs.Pins.{IsServedUnder}
 use Rattle.hg_message.specs.Value.{MessageValue, is_too_large}
 use Rattle.hg_message.specs.Message.{message_at}
 use Rattle.hg_message.specs.Spelling.{HasNode, IsWritable, message_spelling}

@@ -18,3 +18,4 @@ pub mod Outgoing
 pub mod OfferRefusals
 pub mod Taken
 pub mod Shared
+pub mod Touched

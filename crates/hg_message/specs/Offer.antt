@@ -1,6 +1,6 @@
 -- What a replica offers, under the pins of its node, to one that has some common nodes: first over what it contains,
 -- free of order, and then in which order it stands.
-use Rattle.std.specs.Prelude.{◌≡◌, ◌≢◌, ℕ, true, List, [], ◌++◌, map, take, slice_get, Some, Contains, ◌↔◌}
+use Rattle.std.specs.Prelude.{◌≡◌, ℕ, true, List, [], ◌++◌, map, take, slice_get, Some, Contains, ◌↔◌}
 use Rattle.std.specs.Prelude.{Result, Ok, Err}
 use Rattle.std.specs.List.Sorted.{IsStrictlySortedBy}
 use Rattle.hg_changeset.specs.declared.node.Node.{Node}

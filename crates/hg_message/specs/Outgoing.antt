@@ -1,5 +1,5 @@
 -- What goes out, found by place and not copied yet, and the answers to the calls that find, copy and write it.
-use Rattle.std.specs.Prelude.{◌≡◌, ◌≢◌, ◌↔◌, ℕ, true, false, List, [], Bool, length, slice_get, Some, Result, Ok, Err}
+use Rattle.std.specs.Prelude.{◌≡◌, ◌↔◌, ℕ, true, false, List, Bool, length, slice_get, Some, Result, Ok, Err}
 use Rattle.hg_changeset.specs.declared.node.Node.{Node}
 use Rattle.hg_graph.specs.Marks.{IsMarkedNode}
 use Rattle.hg_phases.specs.State.{changesets}

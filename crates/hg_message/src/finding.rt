@@ -15,10 +15,11 @@ ghost use Rattle.hg_message.specs.declared.scope.Scope.{Scope};
 ghost use Rattle.hg_message.specs.declared.scope.Scope.TheVariants.{Served as served_scope};
 
 use crate::scope::Scope;
+use crate::touched::{name_little, touched};
 use hg_changeset::Node;
 use hg_instab::has_phase_at;
 use hg_phases::Phase;
-use hg_relevant::relevant_near;
+use hg_relevant::{relevant, relevant_near};
 use hg_replica::{Hint, Replica};
 use std::alloc::{AllocError, Global};
 
@@ -80,7 +81,8 @@ pub(crate) fn named_marker_places(
     }
 }
 
-// The places of the markers that are relevant to what is served, ascending.
+// The places of the markers that are relevant to what is served, ascending. Where markers name little, it costs what
+// they name, and otherwise a look near its hint for each changeset that is served.
 fn relevant_places(
     alloc: Global,
     replica: &Replica,
@@ -91,9 +93,27 @@ fn relevant_places(
         → AreMarksOf replica.now (IsNamed (content_of replica.now) pins served_scope) served.now
         → ArePlaces (IsNamedMarker (content_of replica.now) pins served_scope) replica.now.markers found.items) }
 {
+    if name_little(replica.store().markers(), served.len()) {
+        return relevant_to_touched(alloc, replica, served);
+    }
     let nodes = replica.graph().marked(served)?;
     let hints = marked_hints(alloc, replica, served)?;
     relevant_near(alloc, replica.store(), &nodes, &hints)
+}
+
+// The same, by those of the served changesets of which a marker tells: no marker is relevant for the others.
+fn relevant_to_touched(
+    alloc: Global,
+    replica: &Replica,
+    served: &[bool],
+) -> Result<Vec<usize>, AllocError>
+    requires { length served.now ≡ length (changesets replica.now.history) }
+    ensures { IfOk result (λ found. (pins : List Node)
+        → AreMarksOf replica.now (IsNamed (content_of replica.now) pins served_scope) served.now
+        → ArePlaces (IsNamedMarker (content_of replica.now) pins served_scope) replica.now.markers found.items) }
+{
+    let nodes = touched(alloc, replica, served)?;
+    relevant(alloc, replica.store(), nodes.as_slice())
 }
 
 // The hints that are of the changesets at the marked places, in their order.

@@ -45,6 +45,7 @@ mod place;
 mod record;
 mod refusal;
 mod scope;
+mod touched;
 mod writing;
 
 pub use error::{MessageError, MessageFault};

@@ -303,6 +303,54 @@ fn numbers_and_names_of_refusals(rt: HostRuntime) {
     assert!(rt; name.as_str() == "UnknownCommon");
 }
 
+// So many draft roots, taken in at once.
+fn roots(alloc: Global, replica: &mut Replica, count: u8) -> Option<()> {
+    let mut part = empty(alloc);
+    for number in 0..count {
+        let text = Vec::from_slice(alloc, &[number]).ok()?;
+        let root = Changeset::new(Node::NULL, Node::NULL, text).ok()?;
+        part.bounds.push((root.node(), Phase::Draft)).ok()?;
+        part.changesets.push(root).ok()?;
+    }
+    replica.absorb(&part).ok()?;
+    Some(())
+}
+
+// Many roots. The first came in place of something, two children of the second were pruned, and one marker tells of
+// none of them.
+fn many_roots_and_few_markers(alloc: Global) -> Option<Replica> {
+    let mut replica = Replica::new(alloc);
+    roots(alloc, &mut replica, 64)?;
+    let first = replica.graph().node_at(0)?;
+    let second = replica.graph().node_at(1)?;
+    let elsewhere = Node([0x55; 20]);
+    rewrite(alloc, &mut replica, Node([0x11; 20]), &[first], Node::NULL)?;
+    rewrite(alloc, &mut replica, Node([0x22; 20]), &[], second)?;
+    rewrite(alloc, &mut replica, Node([0x33; 20]), &[], second)?;
+    rewrite(alloc, &mut replica, Node([0x44; 20]), &[elsewhere], second)?;
+    Some(replica)
+}
+
+#[test]
+fn refused_growth_offers_nothing_where_markers_are_few(rt: HostRuntime) {
+    let alloc = rt.alloc();
+    let Some(replica) = many_roots_and_few_markers(alloc) else {
+        return;
+    };
+    let pins = Pins::new(alloc);
+    let message = match offer(alloc, &replica, &pins, &[], Scope::Served) {
+        Ok(message) => message,
+        Err(refusal) => {
+            assert!(rt; refusal == OfferRefusal::NoMemory);
+            offer(alloc, &replica, &pins, &[], Scope::Served).expect(&rt, "memory")
+        }
+    };
+    assert!(rt; message.changesets().len() == 64 && message.markers().len() == 3);
+    for (place, byte) in [0x11, 0x22, 0x33].iter().enumerate() {
+        assert!(rt; message.markers()[place].predecessor() == Node([*byte; 20]));
+    }
+}
+
 #[test]
 fn refused_growth_offers_nothing(rt: HostRuntime) {
     let alloc = rt.alloc();

@@ -1,8 +1,7 @@
-use Rattle.std.proofs.Common.{◌≡◌, ◌<◌, ◌∙◌, List, length, ap, arith}
+use Rattle.std.proofs.Common.{◌≡◌, ◌∙◌, length, ap, arith}
 use Rattle.std.proofs.lemmas.Option.{slice_get_within}
 use Rattle.hg_changeset.proofs.ListLemmas.{slice_get_some}
 use Rattle.hg_graph.proofs.GraphLemmas.{Contains-from_place}
-use Rattle.hg_marker.specs.Fields.{Fields}
 use Rattle.hg_obsstore.specs.Markers.{IsAt}
 use Rattle.hg_obsstore.proofs.PlaceLemmas.{one_more, all_listed}
 use Rattle.hg_replica.specs.Content.{content_of}

@@ -1,4 +1,4 @@
-use Rattle.std.proofs.Common.{List, Bool, sym, subst}
+use Rattle.std.proofs.Common.{sym, subst}
 use Rattle.hg_replica.specs.State.{ReplicaState}
 use Rattle.hg_replica.specs.Content.{content_of}
 use Rattle.hg_message.specs.Offer.{IsNamed, IsOfferOf}
