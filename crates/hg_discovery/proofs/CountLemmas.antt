@@ -20,7 +20,7 @@ use Rattle.hg_discovery.proofs.DrawLemmas.{sample_member, short_sample, done_is}
 
 -- ---- counting
 
-none_undecided : (ds : List Status) → ((k : ℕ) → Is ds Undecided k → ⊥) → undecided ds ≡ 0
+pub none_undecided : (ds : List Status) → ((k : ℕ) → Is ds Undecided k → ⊥) → undecided ds ≡ 0
 none_undecided [] none = refl
 none_undecided (Undecided ∷ ds) none = absurd (none zero refl)
 none_undecided (Common ∷ ds) none = none_undecided ds (λ k. none (suc k))

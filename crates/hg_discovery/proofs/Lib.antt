@@ -12,6 +12,7 @@ pub mod LeastLemmas
 pub mod LineLemmas
 pub mod CountLemmas
 pub mod WalkLemmas
+pub mod WholeLemmas
 pub mod LogLemmas
 pub mod FamilyLemmas
 pub mod SampleLemmas

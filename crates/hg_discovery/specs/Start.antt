@@ -1,17 +1,31 @@
 -- Where a discovery begins, and how it ends.
-use Rattle.std.specs.Prelude.{◌≡◌, ℕ, List, ◌↔◌, Contains}
+use Rattle.std.specs.Prelude.{◌≡◌, ℕ, List, length, ◌↔◌, Contains}
 use Rattle.hg_changeset.specs.declared.node.Node.{Node}
 use Rattle.hg_graph.specs.Places.{IsAt}
 use Rattle.hg_phases.specs.declared.phase.Phase.TheVariants.{Secret}
 use Rattle.hg_phases.specs.State.{State, changesets, IsPhaseOf}
+use Rattle.hg_graph.specs.declared.graph.ParentPlaces.{ParentPlaces}
+use Rattle.hg_discovery.specs.declared.status.Status.{Status}
 use Rattle.hg_discovery.specs.declared.status.Status.TheVariants.{Undecided, Common}
 use Rattle.hg_discovery.specs.declared.status.Spot.{Spot}
-use Rattle.hg_discovery.specs.Under.{IsShapeOf}
-use Rattle.hg_discovery.specs.Search.{Search, Is, IsSearch, IsHead, Lists, nodes_of}
+use Rattle.hg_discovery.specs.Under.{IsShapeOf, IsInOrder}
+use Rattle.hg_discovery.specs.Search.{Search, Is, IsSearch, IsClosed, AreSpots, IsHead, Lists, nodes_of}
 
 -- a changeset that isn't secret, and its place
 abbrev pub IsShared : State → Spot → Type 0
 IsShared s x = IsAt (changesets s) x.node x.place × (IsPhaseOf s x.node Secret → ⊥)
+
+-- what a discovery of the replica begins upon: its parents' places, its changesets that aren't secret, and these as
+-- undecided
+pub record IsGround (s : State) (ps : List ParentPlaces) (xs : List Spot) (ds : List Status) : Type 0 where
+  pub shape : IsShapeOf (changesets s) ps
+  pub shared : (x : Spot) → Contains xs x ↔ IsShared s x
+  pub undecided : (k : ℕ) → Is ds Undecided k ↔ ((x : Spot) × Contains xs x × (x.place ≡ k))
+  pub nothing_common : (k : ℕ) → Is ds Common k → ⊥
+  pub len : length ds ≡ length ps
+  pub in_order : IsInOrder ps
+  pub closed : IsClosed ps ds
+  pub spots : AreSpots ds xs
 
 -- the changesets that aren't secret are undecided, and nothing is common
 pub record IsStart (s : State) (t : Search) : Type 0 where

@@ -11,6 +11,8 @@ ghost use Rattle.hg_discovery.specs.Between.{AreHeadsInCommon};
 use crate::answers::known_by;
 use crate::discovery::Discovery;
 use crate::error::DiscoveryError;
+use crate::start::ground_of;
+use crate::whole::heads_of_all;
 use hg_changeset::Node;
 use hg_replica::Replica;
 use hg_view::{Kept, Pins, served_marks};
@@ -61,7 +63,11 @@ fn ask_in_rounds(
         → AreHeadsInCommon asker.now other.now pins heads.items) }
     ensures memory { IfErr result (λ error. error ≡ NoMemory) }
 {
-    let mut discovery = Discovery::start(alloc, asker)?;
+    let ground = ground_of(alloc, asker)?;
+    if let Some(heads) = heads_of_all(alloc, &ground, other, served)? {
+        return Ok(heads);
+    }
+    let mut discovery = Discovery::upon(alloc, asker, ground)?;
     while !discovery.done() {
         let asked = discovery.sample()?;
         let answers = known_by(alloc, other, served, &asked)?;

@@ -7,14 +7,14 @@ ghost use Rattle.hg_discovery.specs.Line.{IsLine, IsLineIfMade};
 ghost use Rattle.hg_discovery.specs.Cursor.{AreDecidedTo};
 ghost use Rattle.hg_discovery.specs.Log.{KeepsLog};
 ghost use Rattle.hg_discovery.specs.Rounds.{undecided};
-ghost use Rattle.hg_discovery.specs.Start.{IsStart, AreCommonHeads};
+ghost use Rattle.hg_discovery.specs.Start.{IsStart, IsGround, AreCommonHeads};
 
 use crate::draw::{SAMPLE, common_heads, first_sample, first_undecided_spot, sample};
 use crate::error::DiscoveryError;
 use crate::family::{Family, family_of};
 use crate::line::{Line, line_up};
 use crate::spread::{take_back, tell_all};
-use crate::start::{parents_of, shared, undecided};
+use crate::start::{Ground, ground_of};
 use crate::status::{Spot, Status};
 use hg_changeset::Node;
 use hg_graph::ParentPlaces;
@@ -82,9 +82,25 @@ impl Discovery {
     pub fn start(alloc: Global, replica: &Replica) -> Result<Discovery, AllocError>
         ensures { IfOk result (IsStart replica.now.history) }
     {
-        let parents = parents_of(alloc, replica.graph())?;
-        let spots = shared(alloc, replica)?;
-        let decided = undecided(alloc, parents.len(), &spots)?;
+        let ground = ground_of(alloc, replica)?;
+        let discovery = Discovery::upon(alloc, replica, ground)?;
+        Ok(discovery)
+    }
+
+    // Begins upon what was found of the replica.
+    pub(crate) fn upon(
+        alloc: Global,
+        replica: &Replica,
+        ground: Ground,
+    ) -> Result<Discovery, AllocError>
+        requires { IsGround replica.now.history ground.parents.items ground.spots.items ground.decided.items }
+        ensures { IfOk result (IsStart replica.now.history) }
+    {
+        let Ground {
+            parents,
+            spots,
+            decided,
+        } = ground;
         let mut family = family_of(alloc, replica.graph())?;
         let asked = first_sample(alloc, &mut family, &spots, &decided)?;
         let line = Line {
@@ -155,7 +171,7 @@ impl Discovery {
 }
 
 // The ids of the spots, in order.
-fn nodes(alloc: Global, spots: &[Spot]) -> Result<Vec<Node>, AllocError>
+pub(crate) fn nodes(alloc: Global, spots: &[Spot]) -> Result<Vec<Node>, AllocError>
     ensures { IfOk result (λ ns. ns.items ≡ nodes_of spots.now) }
 {
     let mut nodes = Vec::with_capacity(alloc, spots.len())?;

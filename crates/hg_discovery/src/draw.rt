@@ -206,7 +206,7 @@ pub(crate) fn common_heads(
 }
 
 // Marks the changesets that have a child that is decided so.
-fn covered(
+pub(crate) fn covered(
     alloc: Global,
     parents: &[ParentPlaces],
     decided: &[Status],
@@ -245,7 +245,7 @@ fn mark(place: Option<usize>, marks: &mut [bool])
 }
 
 // Adds the spots that are decided so and covered or not, up to a limit.
-fn pick(
+pub(crate) fn pick(
     spots: &[Spot],
     decided: &[Status],
     marks: &[bool],

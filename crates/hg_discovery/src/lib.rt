@@ -12,7 +12,8 @@
 //! where it is full.
 //!
 //! The asker calls [`Discovery`], and the other side answers by [`known`], under its pins. Both may go on in the
-//! meantime. Where both stand in one process, [`heads_in_common`] does all of it.
+//! meantime. Where both stand in one process, [`heads_in_common`] does all of it; where the asker has at most 200 heads
+//! there, and the other side serves each, it needs no round to tell that all is in common.
 //!
 //! # Example
 //!
@@ -48,6 +49,7 @@ mod order;
 mod spread;
 mod start;
 mod status;
+mod whole;
 
 pub use answers::{known, known_kept};
 pub use between::{heads_in_common, heads_in_common_kept};

@@ -13,6 +13,7 @@ use std::alloc::AllocError;
 pub(crate) fn ascending(mut spots: Vec<Spot>) -> Vec<Spot>
     ensures sorted { IsStrictlySortedBy spot_cmp result.items }
     ensures same { (x : Spot) → Contains result.items x ↔ Contains spots.items x }
+    ensures fewer { length result.items ≤ length spots.items }
 {
     spots.sort_unstable();
     spots.dedup();

@@ -6,7 +6,7 @@ ghost use Rattle.hg_phases.specs.declared.phase.Phase.TheVariants.{Secret};
 ghost use Rattle.hg_discovery.specs.declared.status.Spot.{Spot};
 ghost use Rattle.hg_discovery.specs.Under.{IsShapeOf};
 ghost use Rattle.hg_discovery.specs.Search.{Is};
-ghost use Rattle.hg_discovery.specs.Start.{IsShared};
+ghost use Rattle.hg_discovery.specs.Start.{IsShared, IsGround};
 
 use crate::status::{Spot, Status};
 use hg_changeset::Node;
@@ -16,8 +16,32 @@ use hg_phases::Phase;
 use hg_replica::Replica;
 use std::alloc::{AllocError, Global};
 
+// What a discovery begins upon: where the parents of each changeset stand, the changesets that aren't secret, and these
+// as undecided.
+#[derive(Drop)]
+pub(crate) struct Ground {
+    pub(crate) parents: Vec<ParentPlaces>,
+    pub(crate) spots: Vec<Spot>,
+    pub(crate) decided: Vec<Status>,
+}
+
+// What a discovery of the replica begins upon.
+pub(crate) fn ground_of(alloc: Global, replica: &Replica) -> Result<Ground, AllocError>
+    ensures { IfOk result (λ ground. IsGround replica.now.history ground.parents.items ground.spots.items
+        ground.decided.items) }
+{
+    let parents = parents_of(alloc, replica.graph())?;
+    let spots = shared(alloc, replica)?;
+    let decided = undecided(alloc, parents.len(), &spots)?;
+    Ok(Ground {
+        parents,
+        spots,
+        decided,
+    })
+}
+
 // Where the parents of each changeset stand.
-pub(crate) fn parents_of(alloc: Global, graph: &Graph) -> Result<Vec<ParentPlaces>, AllocError>
+fn parents_of(alloc: Global, graph: &Graph) -> Result<Vec<ParentPlaces>, AllocError>
     ensures { IfOk result (λ ps. IsShapeOf graph.now ps.items) }
 {
     let mut parents = Vec::with_capacity(alloc, graph.len())?;
@@ -28,11 +52,11 @@ pub(crate) fn parents_of(alloc: Global, graph: &Graph) -> Result<Vec<ParentPlace
 }
 
 // The changesets that aren't secret, in the graph's order. It takes no look-up.
-pub(crate) fn shared(alloc: Global, replica: &Replica) -> Result<Vec<Spot>, AllocError>
+fn shared(alloc: Global, replica: &Replica) -> Result<Vec<Spot>, AllocError>
     ensures { IfOk result (λ xs. (x : Spot) → Contains xs.items x ↔ IsShared replica.now.history x) }
 {
     let graph = replica.graph();
-    let mut spots = Vec::new(alloc);
+    let mut spots = Vec::with_capacity(alloc, graph.len())?;
     for place in 0..graph.len() {
         if let Some(node) = graph.node_at(place) {
             if !has_phase_at(replica, place, Phase::Secret) {
@@ -44,11 +68,7 @@ pub(crate) fn shared(alloc: Global, replica: &Replica) -> Result<Vec<Spot>, Allo
 }
 
 // The spots are undecided, and all else is missing.
-pub(crate) fn undecided(
-    alloc: Global,
-    len: usize,
-    spots: &[Spot],
-) -> Result<Vec<Status>, AllocError>
+fn undecided(alloc: Global, len: usize, spots: &[Spot]) -> Result<Vec<Status>, AllocError>
     requires { (x : Spot) → Contains spots.now x → x.place < len }
     ensures len { IfOk result (λ ds. length ds.items ≡ len) }
     ensures undecided { IfOk result (λ ds. (k : ℕ) → Is ds.items Undecided k

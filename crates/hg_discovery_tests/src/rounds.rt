@@ -309,6 +309,14 @@ fn two_chains(alloc: Global) -> Option<(Replica, Replica, Node)> {
 }
 
 #[test]
+fn more_heads_than_a_round_asks_about_are_in_common(rt: HostRuntime) {
+    let alloc = rt.alloc();
+    let replica = many_roots(alloc).expect(&rt, "memory");
+    let heads = heads_in_common(alloc, &replica, &replica, &Pins::new(alloc)).expect(&rt, "memory");
+    assert!(rt; heads.len() == 201);
+}
+
+#[test]
 fn refused_growth_of_a_whole_discovery_is_told(rt: HostRuntime) {
     let alloc = rt.alloc();
     let Some((asker, other, b)) = two_chains(alloc) else {
@@ -328,7 +336,7 @@ fn refused_growth_of_a_whole_discovery_is_told(rt: HostRuntime) {
 #[test]
 fn refused_growth_of_a_discovery_by_what_is_kept_is_told(rt: HostRuntime) {
     let alloc = rt.alloc();
-    let Some((asker, other, b)) = two_chains(alloc) else {
+    let Some((other, asker, b)) = two_chains(alloc) else {
         return;
     };
     let (Ok(asker), Ok(other)) = (Kept::new(alloc, asker), Kept::new(alloc, other)) else {

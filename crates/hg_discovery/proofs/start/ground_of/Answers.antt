@@ -1,0 +1,48 @@
+use Rattle.std.proofs.Common.{◌≡◌, ◌↔◌, ℕ, arith, length, Contains, subst}
+use Rattle.hg_phases.specs.State.{changesets}
+use Rattle.hg_discovery.specs.declared.status.Status.TheVariants.{Undecided}
+use Rattle.hg_discovery.specs.declared.status.Spot.{Spot}
+use Rattle.hg_discovery.specs.Under.{IsShapeOf}
+use Rattle.hg_discovery.specs.Search.{Is}
+use Rattle.hg_discovery.proofs.StartLemmas.{in_order, shared_within, closed_start, spots_start}
+use Rattle.hg_discovery.proofs.start.ground_of.Goals as goal
+
+pub undecided-requires : goal.undecided-requires
+undecided-requires c x h =
+    let s = c.args.replica.now.history in
+    let ps = c.in_ok-parents.parents.items in
+    let shape : IsShapeOf (changesets s) ps = subst (λ cs. IsShapeOf cs ps) c.graph.ensures.graph
+    c.in_ok-parents.ensures in
+    let within = shared_within s c.graph.ensures.valid ps shape c.in_ok-spots.spots.items c.in_ok-spots.ensures
+    x (subst (λ xs. Contains xs x) c.deref.ensures.value h) in
+    omega (arith, within, c.len.ensures, c.in_ok-parents.parents.ok.0)
+
+pub returns : goal.returns
+returns c =
+    let s = c.args.replica.now.history in
+    let ps = c.in_ok-parents.parents.items in
+    let xs = c.in_ok-spots.spots.items in
+    let ds = c.in_ok-decided.decided.items in
+    let valid = c.graph.ensures.valid in
+    let shape : IsShapeOf (changesets s) ps = subst (λ cs. IsShapeOf cs ps) c.graph.ensures.graph
+    c.in_ok-parents.ensures in
+    let len : length ds ≡ length ps = omega (
+      arith,
+      c.in_ok-decided.ensures.len,
+      c.len.ensures,
+      c.in_ok-parents.parents.ok.0,
+    ) in
+    let undecided : (k : ℕ) → Is ds Undecided k ↔ ((x : Spot) × Contains xs x × (x.place ≡ k)) =
+    subst (λ ys. (k : ℕ) → Is ds Undecided k ↔ ((x : Spot) × Contains ys x × (x.place ≡ k))) c.deref.ensures.value
+    c.in_ok-decided.ensures.undecided in
+    let nothing = c.in_ok-decided.ensures.nothing_common in
+    record {
+      shape = shape;
+      shared = c.in_ok-spots.ensures;
+      undecided = undecided;
+      nothing_common = nothing;
+      len = len;
+      in_order = in_order s valid ps shape xs c.in_ok-spots.ensures;
+      closed = closed_start s valid ps shape xs c.in_ok-spots.ensures ds len undecided nothing;
+      spots = spots_start s valid ps shape xs c.in_ok-spots.ensures ds len undecided nothing;
+    }
