@@ -1,5 +1,5 @@
 //! What a replica takes in, and what that changes.
-ghost use Rattle.std.specs.Prelude.{IsTrue, ◌↔◌};
+ghost use Rattle.std.specs.Prelude.{IsTrue, ◌≡◌, ◌↔◌};
 ghost use Rattle.hg_replica.specs.Change.{IsNothing};
 
 use hg_changeset::{Changeset, Node};
@@ -9,11 +9,21 @@ use std::marker::Model;
 
 /// What a replica takes in: changesets, bounds on phases, and markers. A bound `(node, phase)` says that the node and
 /// its ancestors have at most this phase.
-#[derive(Drop)]
 pub struct Part {
     pub changesets: Vec<Changeset>,
     pub bounds: Vec<(Node, Phase)>,
     pub markers: Vec<Marker>,
+}
+
+// Whoever owns one calls this once, and is proved without a look at each collection in it.
+impl Drop for Part {
+    fn drop(self) {
+        let Part {
+            changesets: _,
+            bounds: _,
+            markers: _,
+        } = self;
+    }
 }
 
 impl Model for Part {
@@ -31,13 +41,39 @@ impl Model for Part {
     } };
 }
 
+impl Part {
+    // Its changesets, its bounds and its markers.
+    pub(crate) fn into_lists(self) -> (Vec<Changeset>, Vec<(Node, Phase)>, Vec<Marker>)
+        ensures changesets { result.0.items ≡ self.history.changesets }
+        ensures bounds { result.1.items ≡ self.history.bounds }
+        ensures markers { result.2.items ≡ self.markers }
+    {
+        let Part {
+            changesets,
+            bounds,
+            markers,
+        } = self;
+        (changesets, bounds, markers)
+    }
+}
+
 /// What a part changed: the nodes that were added, in their order; the nodes held before whose phase went down, in no
 /// promised order; and the places of the new markers in the store, ascending.
-#[derive(Drop)]
 pub struct Change {
     pub added: Vec<Node>,
     pub lowered: Vec<Node>,
     pub markers: Vec<usize>,
+}
+
+// The same of what it changed.
+impl Drop for Change {
+    fn drop(self) {
+        let Change {
+            added: _,
+            lowered: _,
+            markers: _,
+        } = self;
+    }
 }
 
 impl Model for Change {

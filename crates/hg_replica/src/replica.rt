@@ -217,11 +217,7 @@ impl Replica {
         ensures valid { IsValid self.old }
         ensures still_valid { IsValid self.new }
     {
-        let Part {
-            changesets,
-            bounds,
-            markers,
-        } = part;
+        let (changesets, bounds, markers) = part.into_lists();
         let before = self.store.len();
         let markers = match self.store.absorb_owned(markers) {
             Ok(markers) => markers,

@@ -3,7 +3,6 @@ use hg_changeset::{Entry, Node};
 use hg_phases::Phase;
 
 /// What is to be done at a replica. The null id stands for an absent parent, in either place of a pair.
-#[derive(Drop)]
 pub enum Op {
     /// A new changeset on these parents, secret if it is asked for and otherwise draft, but no lower than a parent.
     Commit {
@@ -46,4 +45,37 @@ pub enum Op {
         node: Node,
         phase: Phase,
     },
+}
+
+// Whoever owns one calls this once, and is proved without a look at each collection in it.
+impl Drop for Op {
+    fn drop(self) {
+        match self {
+            Op::Commit {
+                p: _,
+                q: _,
+                entry: _,
+                secret: _,
+            } => {}
+            Op::Amend { node: _, entry: _ } => {}
+            Op::Split {
+                node: _,
+                entries: _,
+            } => {}
+            Op::Fold { nodes: _, entry: _ } => {}
+            Op::Prune {
+                node: _,
+                user: _,
+                secs: _,
+                offset: _,
+            } => {}
+            Op::Relocate {
+                node: _,
+                p: _,
+                q: _,
+                entry: _,
+            } => {}
+            Op::Advance { node: _, phase: _ } => {}
+        }
+    }
 }

@@ -21,16 +21,18 @@ module _ (c : After-drop-bounds-2) where
 
   abbrev k : PartValue
   k = record {
-    history = record { changesets = c.part.inside.changesets.items; bounds = c.deref.result.now };
-    markers = c.part.inside.markers.items;
+    history = record { changesets = c.into_lists-changesets.result.0.items; bounds = c.deref.result.now };
+    markers = c.into_lists-changesets.result.2.items;
   }
 
   k_is : k ≡ c.args.part
-  k_is = (λ i.
-      record {
-        history = record { changesets = c.part.inside.changesets.items; bounds = c.deref.ensures.value i };
-        markers = c.part.inside.markers.items;
-      }) ∙ c.part.view_is
+  k_is i = record {
+    history = record {
+      changesets = c.into_lists-changesets.ensures.changesets i;
+      bounds = (c.deref.ensures.value ∙ c.into_lists-changesets.ensures.bounds) i;
+    };
+    markers = c.into_lists-changesets.ensures.markers i;
+  }
 
 pub returns-clause-answer : goal.returns-clause-answer
 returns-clause-answer c =
@@ -101,6 +103,6 @@ pub returns-in-Err-clause-memory : goal.returns-in-Err-clause-memory
 unfolding IsGrowthBeforeFault
 returns-in-Err-clause-memory c =
     let new =
-    subst (λ ms. new_among c.self.inside.store ms ≢ []) (ap (λ (x : PartValue). x.markers) c.part.view_is)
+    subst (λ ms. new_among c.self.inside.store ms ≢ []) c.into_lists-changesets.ensures.markers
     c.in-Err.ensures.memory in
     λ e. inl (subst (λ (u : ReplicaState). new_among u.markers c.args.part.markers ≢ []) c.self.view_is new)
