@@ -35,7 +35,6 @@ pub(crate) const MOST: u64 = 1 << 62;
 
 /// What lies under a node's lock: the working replica with its pins, the journal of all that was accepted, and the
 /// writer of what is published. Contracts see the journal, what of it is published, and the working state.
-#[derive(Drop)]
 pub struct Desk<K: NodeName, S> {
     alloc: Global,
     working: Peer,
@@ -47,6 +46,24 @@ pub struct Desk<K: NodeName, S> {
     book: Book<K>,
     rest: Share<K>,
     left: u64,
+}
+
+// Whoever owns one calls this once, and is proved without a look at each collection in it.
+impl<K: NodeName, S: Drop> Drop for Desk<K, S> {
+    fn drop(self) {
+        let Desk {
+            alloc: _,
+            working: _,
+            journal: _,
+            shown: _,
+            start: _,
+            waiting: _,
+            writer: _,
+            book: _,
+            rest: _,
+            left: _,
+        } = self;
+    }
 }
 
 impl<K: NodeName, S> Model for Desk<K, S> {

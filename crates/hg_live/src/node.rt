@@ -61,10 +61,16 @@ impl Blank {
 }
 
 /// A replica with a lock of its own, which threads share.
-#[derive(Drop)]
 pub struct Node<K: NodeName, G, S> {
     desk: Mutex<Desk<K, S>>,
     gate: G,
+}
+
+// Whoever owns one calls this once, and is proved without a look at each collection in it.
+impl<K: NodeName, G: Drop, S: Drop> Drop for Node<K, G, S> {
+    fn drop(self) {
+        let Node { desk: _, gate: _ } = self;
+    }
 }
 
 /// A node that wasn't closed comes back, and so do the passes.

@@ -20,10 +20,16 @@ pub struct Step<K: NodeName> {
 }
 
 /// A state, and the entries that lead to it. Contracts see both.
-#[derive(Drop)]
 pub struct Published<K: NodeName> {
     peer: Peer,
     front: Front<K, Entry>,
+}
+
+// Whoever owns one calls this once, and is proved without a look at each collection in it.
+impl<K: NodeName> Drop for Published<K> {
+    fn drop(self) {
+        let Published { peer: _, front: _ } = self;
+    }
 }
 
 impl<K: NodeName> Model for Published<K> {
