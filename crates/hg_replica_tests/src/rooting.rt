@@ -35,7 +35,7 @@ fn merge(alloc: Global) -> Option<(Part, [Node; 4])> {
 fn lower(alloc: Global, replica: &mut Replica, node: Node, phase: Phase) -> Option<Vec<Node>> {
     let part = bound(alloc, node, phase)?;
     let change = replica.absorb(&part).ok()?;
-    Some(change.lowered)
+    change.lowered.clone().ok()
 }
 
 // Whether these are the replica's roots; false where memory ran out.
