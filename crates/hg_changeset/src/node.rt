@@ -141,11 +141,11 @@ impl Node {
 }
 
 // Whether these are the bytes of the null id.
-fn are_null(bytes: &[u8]) -> bool
+fn are_null(bytes: &[u8; 20]) -> bool
     ensures null { result ≡ pointwise nat_eq bytes.now (replicate 20 0) }
     ensures bytes { IsBytes bytes.now }
 {
-    bytes == Node::NULL.0.as_slice()
+    are_same_bytes(bytes, &Node::NULL.0)
 }
 
 // Writes the digits of the bytes.
