@@ -17,13 +17,18 @@ use Rattle.hg_changeset.specs.Contents.{Contents}
 use Rattle.hg_changeset.specs.Changeset.{node_of, changeset_of, changeset_fault}
 use Rattle.hg_rewrite.specs.declared.refusal.Refusal.TheVariants.{Fault, NoMemory}
 use Rattle.hg_rewrite.specs.declared.refusal.Cause.TheVariants.{Changeset, Entry}
-use Rattle.hg_rewrite.specs.Parts.{NewChangeset, contents_of, chain}
+use Rattle.hg_rewrite.specs.Parts.{NewChangeset, contents_of, on_parents, chain}
 use Rattle.hg_rewrite.specs.Refusals.{Applies, NoneApplies, IsFirstRefusal, changeset_refused, entry_refused}
 use Rattle.hg_rewrite.specs.Answer.{IsRefusal, entry_refusal}
 use Rattle.hg_rewrite.proofs.RowLemmas.{none_push, first_after, first_next}
 
 abbrev pub bytes : List (Vec ℕ Global) → List (List ℕ)
 bytes vs = map (λ (v : Vec ℕ Global). v.items) vs
+
+-- a chain of one text
+pub chain_of_one : (on : Node × Node) (text : List ℕ) → on_parents on text ∷ [] ≡ chain on (text ∷ [])
+unfolding chain
+chain_of_one on text = refl
 
 -- what `Changeset::new` tells
 pub new_ok : (o : Option ChangesetError) (c d : Contents) → MatchOption o

@@ -3,5 +3,6 @@ pub mod Reading
 pub mod Parts
 pub mod Refusals
 pub mod Answer
+pub mod Ids
 pub mod Memory
 pub mod Names

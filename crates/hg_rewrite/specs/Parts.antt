@@ -34,11 +34,14 @@ pub record NewChangeset : Type 0 where
 abbrev pub contents_of : NewChangeset → Contents
 contents_of n = changeset_of n.p n.q n.text
 
+-- that of this text on these parents
+abbrev pub on_parents : Node × Node → List ℕ → NewChangeset
+on_parents on text = record { p = on.0; q = on.1; text = text }
+
 -- the first on these parents, each further one with the one before as its sole parent
 unfoldable pub chain : Node × Node → List (List ℕ) → List NewChangeset
 chain on [] = []
-chain on (text ∷ texts) = record { p = on.0; q = on.1; text = text } ∷ chain
-    (node_of (changeset_of on.0 on.1 text), null_node) texts
+chain on (text ∷ texts) = on_parents on text ∷ chain (node_of (changeset_of on.0 on.1 text), null_node) texts
 
 -- the entry with a node noted among its extras, in place of an extra with the same key
 abbrev pub with_extra : List ℕ → Node → EntryValue → EntryValue

@@ -2,13 +2,14 @@
 //!
 //! All entries are written before the first changeset is made, since the refusals of entries come first. Each changeset
 //! after the first stands on the one before.
-ghost use Rattle.std.specs.Prelude.{◌≡◌, Contains, IfOk, map};
+ghost use Rattle.std.specs.Prelude.{◌≡◌, ◌∷◌, [], Contains, IfOk, map};
 ghost use Rattle.hg_changeset.specs.Contents.{Contents};
 ghost use Rattle.hg_changeset.specs.Changeset.{IsChangeset};
-ghost use Rattle.hg_rewrite.specs.Parts.{with_extra, parents_of_first, made, chain, contents_of, written};
+ghost use Rattle.hg_rewrite.specs.Parts.{with_extra, parents_of_first, made, chain, contents_of, on_parents, written};
 ghost use Rattle.hg_rewrite.specs.Refusals.{changeset_refused, unwritten, not_written};
 ghost use Rattle.hg_rewrite.specs.Answer.{Gives, TextsAnswer, entry_refusal};
 ghost use Rattle.hg_graph.specs.Graph.{nodes};
+ghost use Rattle.hg_rewrite.specs.Ids.{listed};
 
 use crate::op::Op;
 use crate::query::parents_in;
@@ -91,8 +92,40 @@ fn write(alloc: Global, parents: (Node, Node), entries: &[Entry]) -> Result<Vec<
         (map contents_of (written parents entries.now)) result }
     ensures each { IfOk result (λ made. (c : Contents) → Contains made.items c → IsChangeset c) }
 {
+    if let [entry] = entries {
+        return write_one(alloc, parents, entry);
+    }
     let texts = texts(alloc, entries)?;
     chain(alloc, parents, texts)
+}
+
+// The changeset of the entry, on these parents. No list of texts is made for it.
+fn write_one(alloc: Global, parents: (Node, Node), entry: &Entry) -> Result<Vec<Changeset>, Refusal>
+    ensures answer { Gives (unwritten (entry.now ∷ []) (written parents (entry.now ∷ [])))
+        (map contents_of (written parents (entry.now ∷ []))) result }
+    ensures each { IfOk result (λ made. (c : Contents) → Contains made.items c → IsChangeset c) }
+{
+    match entry_text(alloc, entry) {
+        Ok(text) => chain_one(alloc, parents, text),
+        Err(fault) => Err(entry_refusal(fault)),
+    }
+}
+
+// The changeset with this text.
+fn chain_one(alloc: Global, parents: (Node, Node), text: Vec<u8>) -> Result<Vec<Changeset>, Refusal>
+    ensures answer { Gives (changeset_refused (on_parents parents text.items) ∷ [])
+        (contents_of (on_parents parents text.items) ∷ []) result }
+    ensures each { IfOk result (λ made. (c : Contents) → Contains made.items c → IsChangeset c) }
+{
+    let (p, q) = parents;
+    match Changeset::new(p, q, text) {
+        Ok(changeset) => {
+            let mut changesets = Vec::with_capacity(alloc, 1)?;
+            changesets.push(changeset)?;
+            Ok(changesets)
+        }
+        Err(fault) => Err(Refusal::Fault(Cause::Changeset(fault))),
+    }
 }
 
 // The texts of the entries.
@@ -143,9 +176,37 @@ fn chain(
     Ok(changesets)
 }
 
-// The ids of the changesets.
-pub(crate) fn ids(alloc: Global, changesets: &[Changeset]) -> Result<Vec<Node>, AllocError>
-    ensures { IfOk result (λ ids. ids.items ≡ nodes changesets.now) }
+/// The ids of new changesets. Of one, as most operations make, no list is made.
+#[derive(Drop)]
+pub(crate) enum Ids {
+    One(Node),
+    Listed(Vec<Node>),
+}
+
+impl Ids {
+    /// The ids of the changesets.
+    pub(crate) fn of(alloc: Global, changesets: &[Changeset]) -> Result<Ids, AllocError>
+        ensures { IfOk result (λ ids. listed ids ≡ nodes changesets.now) }
+    {
+        match changesets {
+            [changeset] => Ok(Ids::One(changeset.node())),
+            _ => Ok(Ids::Listed(nodes_of(alloc, changesets)?)),
+        }
+    }
+
+    /// They, in order.
+    pub(crate) fn as_slice(&self) -> &[Node]
+        ensures { result.now ≡ listed self.now }
+    {
+        match self {
+            Ids::One(node) => slice::from_ref(node),
+            Ids::Listed(nodes) => nodes,
+        }
+    }
+}
+
+fn nodes_of(alloc: Global, changesets: &[Changeset]) -> Result<Vec<Node>, AllocError>
+    ensures { IfOk result (λ found. found.items ≡ nodes changesets.now) }
 {
     changesets
         .iter()

@@ -1,5 +1,5 @@
 //! The markers of an operation: one for each node that is rewritten, with what is noted of the operation.
-ghost use Rattle.std.specs.Prelude.{◌≡◌, IfOk, map};
+ghost use Rattle.std.specs.Prelude.{◌≡◌, ◌∷◌, [], IfOk, map};
 ghost use Rattle.hg_changeset.specs.EntryText.{date_text};
 ghost use Rattle.hg_rewrite.specs.Parts.{new_ids, noted, noted_of, noted_of_first, with_parents, metadata, marker};
 ghost use Rattle.hg_rewrite.specs.Parts.{markers};
@@ -28,7 +28,10 @@ pub(crate) fn markers(
         (markers replica.now.history op.now) result }
 {
     let metadata = metadata(alloc, replica, op)?;
-    mark(alloc, rewritten(op), ids, &metadata)
+    match rewritten(op) {
+        [node] => mark_one(alloc, *node, ids, metadata),
+        nodes => mark(alloc, nodes, ids, &metadata),
+    }
 }
 
 // What is noted of an operation.
@@ -130,4 +133,24 @@ fn mark(
         }
     }
     Ok(markers)
+}
+
+// A marker from the node to all the ids. What is noted is moved into it.
+fn mark_one(
+    alloc: Global,
+    node: Node,
+    ids: &[Node],
+    metadata: Metadata,
+) -> Result<Vec<Marker>, Refusal>
+    ensures { Gives (marker_refused (marker metadata ids.now node) ∷ []) (marker metadata ids.now node ∷ []) result }
+{
+    let successors = Vec::from_slice(alloc, ids)?;
+    match Marker::new(node, successors, 0, metadata) {
+        Ok(marker) => {
+            let mut markers = Vec::with_capacity(alloc, 1)?;
+            markers.push(marker)?;
+            Ok(markers)
+        }
+        Err(fault) => Err(Refusal::Fault(Cause::Marker(fault))),
+    }
 }

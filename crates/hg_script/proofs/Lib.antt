@@ -1,4 +1,5 @@
 pub mod EndingLemmas
+pub mod GatherLemmas
 pub mod InputLemmas
 pub mod LabelLemmas
 pub mod LineLemmas

@@ -8,6 +8,9 @@ ghost use Rattle.hg_script.specs.Limits.{line_limit};
 use crate::limits::LINE_LIMIT;
 use std::alloc::{AllocError, Global};
 
+// Most lines have no more words than this.
+const FEW_WORDS: usize = 8;
+
 /// The first line of the text, without its LF and without one CR before that, and what comes after it.
 pub fn cut_line(text: &[u8]) -> (&[u8], &[u8])
     requires { 0 < length text.now }
@@ -92,7 +95,7 @@ pub fn words_of<'a>(alloc: Global, line: &'a [u8]) -> Result<Vec<&'a [u8]>, Allo
 fn spaced<'a>(alloc: Global, line: &'a [u8]) -> Result<Vec<&'a [u8]>, AllocError>
     ensures { IfOk result (λ words. map (λ w. w.now) words.items ≡ spaced line.now) }
 {
-    line.split(|b| *b == b' ')
-        .filter(|word| !word.is_empty())
-        .collect(alloc)
+    let mut words = Vec::with_capacity(alloc, FEW_WORDS)?;
+    words.extend(line.split(|b| *b == b' ').filter(|word| !word.is_empty()))?;
+    Ok(words)
 }

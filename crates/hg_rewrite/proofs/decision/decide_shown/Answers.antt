@@ -93,8 +93,8 @@ returns-in_err-markers-clause-answer c = λ pins shown.
 pub returns-in_err-check_new-clause-answer : goal.returns-in_err-check_new-clause-answer
 returns-in_err-check_new-clause-answer c = λ pins shown.
     let p = err_from_is_err_and c.from_residual-in_err-check_new.result c.from_residual-in_err-check_new.ensures.1 in
-    let ids : c.deref-3.result.now ≡ new_ids c.args.replica.now.history c.args.op.now =
-    c.deref-3.ensures.value ∙ c.in_ok-ids.ensures ∙ ap nodes (c.deref.ensures.value
+    let ids : c.as_slice-ids.result.now ≡ new_ids c.args.replica.now.history c.args.op.now =
+    c.as_slice-ids.ensures ∙ c.in_ok-made.ensures ∙ ap nodes (c.deref.ensures.value
     ∙ c.in_ok-changesets.ensures.answer.1) in
     rw (p.1, p.2) (refused_existing c.args.replica.now pins c.args.op.now c.in_err-check_new.field-0.0
     c.requires.known shown c.in_ok-check_not_public.ensures
@@ -108,8 +108,8 @@ returns-in_err-check_new-clause-answer c = λ pins shown.
 
 pub returns-clause-answer : goal.returns-clause-answer
 returns-clause-answer c = λ pins shown.
-    let ids : c.deref-3.result.now ≡ new_ids c.args.replica.now.history c.args.op.now =
-    c.deref-3.ensures.value ∙ c.in_ok-ids.ensures ∙ ap nodes (c.deref.ensures.value
+    let ids : c.as_slice-ids.result.now ≡ new_ids c.args.replica.now.history c.args.op.now =
+    c.as_slice-ids.ensures ∙ c.in_ok-made.ensures ∙ ap nodes (c.deref.ensures.value
     ∙ c.in_ok-changesets.ensures.answer.1) in
     decided c.args.replica.now pins c.args.op.now c.requires.valid c.requires.known
     shown c.in_ok-check_not_public.ensures c.in_ok-check_not_obsolete.ensures
@@ -198,8 +198,8 @@ returns-in_err-changesets-clause-later c = λ pins shown e. wanting_later c.args
     c.in_ok-check_not_obsolete.ensures c.in_ok-check_linear.ensures.answer c.in_ok-check_count.ensures
     c.in_ok-check_raise.ensures c.in_ok-check_entries.ensures c.in_ok-check_pruner.ensures
 
-pub returns-in_err-ids-clause-later : goal.returns-in_err-ids-clause-later
-returns-in_err-ids-clause-later c = λ pins shown e. wanting_later c.args.replica.now pins c.args.op.now
+pub returns-in_err-made-clause-later : goal.returns-in_err-made-clause-later
+returns-in_err-made-clause-later c = λ pins shown e. wanting_later c.args.replica.now pins c.args.op.now
     c.requires.known shown c.in_ok-check_not_public.ensures
     c.in_ok-check_not_obsolete.ensures c.in_ok-check_linear.ensures.answer c.in_ok-check_count.ensures
     c.in_ok-check_raise.ensures c.in_ok-check_entries.ensures c.in_ok-check_pruner.ensures
