@@ -16,6 +16,7 @@ mod FirstLemmas
 pub mod ChangedLemmas
 pub mod NearLemmas
 pub mod TurnedLemmas
+pub mod UnmarkedLemmas
 pub mod WaitingLemmas
 pub mod SettlingLemmas
 pub mod SolutionLemmas

@@ -123,6 +123,12 @@ impl Instabilities {
             → AreInstabilities (content_of s) self.old → AreInstabilities (content_of replica.now) self.new) }
         ensures unchanged { OnErr result (self.new ≡ self.old) }
     {
+        // It says that the replica is in a valid state.
+        let _graph = replica.graph();
+        if replica.store().markers().is_empty() {
+            // Nothing is unstable, and nothing was.
+            return Ok(());
+        }
         let turns = self.turns(replica, change)?;
         self.apply(&turns)
     }

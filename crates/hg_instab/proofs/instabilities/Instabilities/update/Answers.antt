@@ -1,10 +1,18 @@
-use Rattle.std.proofs.Common.{OnOk, subst}
+use Rattle.std.proofs.Common.{rules, tests, ◌≡◌, [], OnOk, subst}
+use Rattle.std.proofs.lemmas.List.{nil_from_length}
 use Rattle.std.proofs.lemmas.Result.{on_ok_weaker}
 use Rattle.hg_replica.specs.Content.{content_of}
 use Rattle.hg_instab.specs.Instabilities.{InstabilitySets}
 use Rattle.hg_instab.specs.Turns.{AreThen}
 use Rattle.hg_instab.proofs.KeptLemmas.{kept-then}
+use Rattle.hg_instab.proofs.UnmarkedLemmas.{unmarked-kept}
 use Rattle.hg_instab.proofs.instabilities.Instabilities.update.Goals as goal
+
+pub returns-then-is_empty-clause-kept : goal.returns-then-is_empty-clause-kept
+returns-then-is_empty-clause-kept c =
+    let empty : c.args.replica.now.markers ≡ [] = nil_from_length _ (search (rules, tests)) in
+    λ s is are. unmarked-kept s c.args.replica.now c.args.change.now c.args.self.now c.graph-graph.ensures.valid empty
+    is are
 
 pub returns-clause-kept : goal.returns-clause-kept
 returns-clause-kept c =
