@@ -1,6 +1,5 @@
 -- What one content says, it says of each replica that has it.
 use Rattle.std.proofs.Common.{◌≡◌, ◌↔◌, subst}
-use Rattle.hg_changeset.specs.declared.node.Node.{Node}
 use Rattle.hg_replica.specs.Content.{Content, content_of}
 use Rattle.hg_view.specs.Kept.{KeptValue}
 use Rattle.hg_view.specs.Pins.{IsVisibleUnder, IsServedUnder, AreSamePins}

@@ -3,11 +3,7 @@ use Rattle.std.proofs.Common.{◌≡◌, ◌<◌, ℕ, List, [], ◌∷◌, leng
 use Rattle.std.proofs.lemmas.Option.{slice_get_within}
 use Rattle.std.specs.List.{AllByRecursion}
 use Rattle.std.proofs.lemmas.List.Elements.{All-contains, All-from_recursion}
-use Rattle.hg_changeset.specs.declared.node.Node.{Node}
 use Rattle.hg_join.specs.Order.{IsLeastCovering}
-use Rattle.hg_phases.specs.State.{Held}
-use Rattle.hg_marker.specs.Fields.{Fields}
-use Rattle.hg_history.specs.Content.{IsBelowAt}
 use Rattle.hg_history.proofs.ContentLemmas.{admits_from_content}
 use Rattle.hg_message.specs.declared.scope.Scope.{Scope}
 use Rattle.hg_message.specs.declared.scope.Scope.TheVariants.{Whole}
@@ -29,7 +25,7 @@ use Rattle.hg_world.specs.Laws.{NodesAreLeast, NodesStayValid, NodesStayAsMany, 
 use Rattle.hg_world.specs.Runs.{AllLeast, AllValid, joined}
 use Rattle.hg_world.proofs.Places.{one_at, some_at}
 use Rattle.hg_peer.specs.OfferLaws.{part_offered}
-use Rattle.hg_peer.specs.Sharing.{ExchangeWhole, OffersWhole, AreOne}
+use Rattle.hg_peer.specs.Sharing.{ExchangeWhole, AreOne}
 use Rattle.hg_peer.specs.Words.{PeerWorld, PeerTrace, PeersRan, accepted_by, peer_state, peer_words}
 use Rattle.hg_peer.proofs.AgreeLemmas.{one_agrees, same_seen}
 use Rattle.hg_peer.proofs.SmallestLemmas.{smallest}

@@ -80,9 +80,14 @@ pub(crate) fn is_hidden(
     Ok(!is_visible)
 }
 
-// Whether it is hidden under the pins that are kept, by what is kept: it takes no memory.
+// Whether it is hidden under the pins that are kept, by what is kept: it takes no memory. What is hidden is extinct, so
+// that is asked first.
 pub(crate) fn is_hidden_in(kept: &Kept, node: Node) -> bool
     ensures { IsTrue result ↔ IsHiddenUnder (content_of kept.now.replica) kept.now.pins node }
 {
-    holds(kept.replica(), node) && !kept.is_visible(node)
+    let replica = kept.replica();
+    if !kept.instabilities().extinct().contains(&node) {
+        return false;
+    }
+    holds(replica, node) && !kept.is_visible(node)
 }

@@ -10,7 +10,6 @@ ghost use Rattle.hg_script.specs.Printing.{answer_line};
 use crate::fault::RunFault;
 use crate::output::print_refused;
 use hg_history::Fault;
-use hg_join::NoMemory;
 use hg_peer::{Ask, Mark, Peer, PeerRefusal};
 use hg_replica::Change;
 use hg_rewrite::Op;
@@ -40,7 +39,7 @@ pub fn run_event<W: Write>(
     ensures fault { IfErr result (IsUnknownWhere number (IsNowhere world.old event)) }
     ensures unchanged { OnErr result (world.new ≡ world.old) }
 {
-    let answer = run_one(world, event)?;
+    let answer = world.run_one(&event)?;
     match &answer {
         Answer::Refused(refusal) => print_refused(alloc, writer, number, refusal)?,
         Answer::Accepted(_) => {}
@@ -48,14 +47,4 @@ pub fn run_event<W: Write>(
         Answer::Marked => {}
     }
     Ok(answer)
-}
-
-// One event, and its answer.
-fn run_one(world: &mut World<Peer>, event: PeerEvent) -> Result<PeerAnswer, NoMemory>
-    ensures happens { IfOk result (λ answer. (part : Option PartValue)
-        × Happens peer_state peer_words world.old event answer part world.new) }
-    ensures unchanged { OnErr result (world.new ≡ world.old) }
-{
-    let mut answers = world.run(&[event])?;
-    Ok(answers.pop().unwrap())
 }

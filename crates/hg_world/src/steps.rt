@@ -134,6 +134,23 @@ fn happen<S: Actor>(
     }
 }
 
+/// Does the event, once there is room for a message.
+pub fn run_event<S: Actor>(
+    alloc: Global,
+    nodes: &mut [S],
+    messages: &mut Vec<Vec<u8>>,
+    event: &Event<S::Op, S::Ask, S::Mark>,
+) -> Result<Answer<S::Change, S::Refusal, S::Fault>, NoMemory>
+    requires { AllValid S.JoinState (snapshot nodes.old messages.old.items) }
+    ensures happens { IfOk result (λ answer. (part : Option S.Part)
+        × Happens S.JoinState S.Actor.own (snapshot nodes.old messages.old.items)
+        event.now answer part (snapshot nodes.new messages.new.items)) }
+    ensures unchanged { OnErr result (snapshot nodes.new messages.new.items ≡ snapshot nodes.old messages.old.items) }
+{
+    messages.reserve(1)?;
+    Ok(happen(alloc, nodes, messages, event))
+}
+
 /// Does the events one after another, once there is room for every answer and every message.
 pub fn run_all<S: Actor>(
     alloc: Global,

@@ -1,10 +1,10 @@
 //! A world of nodes, with the pool of all that was offered.
-ghost use Rattle.std.specs.Prelude.{◌≡◌, ◌<◌, [], length, IfOk, OnErr, vec_len, slice_get};
+ghost use Rattle.std.specs.Prelude.{◌≡◌, ◌<◌, [], length, Option, IfOk, OnErr, vec_len, slice_get};
 ghost use Rattle.std.specs.Option.{option_copied};
-ghost use Rattle.hg_world.specs.Runs.{HasRun, AllEmpty, AllUnmarked, AllValid};
+ghost use Rattle.hg_world.specs.Runs.{HasRun, Happens, AllEmpty, AllUnmarked, AllValid};
 
 use crate::event::{Answer, Event};
-use crate::steps::run_all;
+use crate::steps::{run_all, run_event};
 use hg_join::{Actor, NoMemory};
 use std::alloc::Global;
 use std::marker::Model;
@@ -83,6 +83,24 @@ impl<S: Actor> World<S> {
             self.nodes.as_mut_slice(),
             &mut self.messages,
             events,
+        )
+    }
+
+    /// Does one event and gives its answer, as [`run`](World::run) does, without a list of either.
+    pub fn run_one(
+        &mut self,
+        event: &Event<S::Op, S::Ask, S::Mark>,
+    ) -> Result<Answer<S::Change, S::Refusal, S::Fault>, NoMemory>
+        ensures happens { IfOk result (λ answer. (part : Option S.Part)
+            × Happens S.JoinState S.Actor.own self.old event.now answer part self.new) }
+        ensures unchanged { OnErr result (self.new ≡ self.old) }
+        ensures valid { AllValid S.JoinState self.old }
+    {
+        run_event(
+            self.alloc,
+            self.nodes.as_mut_slice(),
+            &mut self.messages,
+            event,
         )
     }
 

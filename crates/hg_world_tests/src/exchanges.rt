@@ -55,6 +55,15 @@ fn price_at(world: &World<Prices>, at: usize) -> Option<u8> {
 }
 
 #[test]
+fn one_event_is_done_as_a_list_of_it_is(rt: HostRuntime) {
+    let mut world = World::<Prices>::new(rt.alloc(), 1).expect(&rt, "memory");
+    let event: PriceEvent = Event::Local { at: 0, op: (1, 9) };
+    let answer = world.run_one(&event).expect(&rt, "memory");
+    assert!(rt; answer == Answer::Accepted(()));
+    assert_eq!(rt; price_at(&world, 0), Some(9));
+}
+
+#[test]
 fn late_reordered_and_repeated_messages_leave_the_same(rt: HostRuntime) {
     let alloc = rt.alloc();
     let mut world = World::<Prices>::new(alloc, 2).expect(&rt, "memory");

@@ -1,4 +1,4 @@
-use Rattle.std.proofs.Common.{rules, tests, ◌≡◌, ◌==◌, ◌++◌, not, length, map, ap, ◌∙◌}
+use Rattle.std.proofs.Common.{rules, tests, ◌==◌, ◌++◌, not, length, map, ap, ◌∙◌}
 use Rattle.std.proofs.lemmas.Iterator.Consumers.{YieldsList-at, YieldsList-from_filter}
 use Rattle.std.proofs.lemmas.Iterator.Splits.{YieldsList-from_slice_split}
 use Rattle.hg_script.proofs.GatherLemmas.{from_extend}
