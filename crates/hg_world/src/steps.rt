@@ -1,7 +1,7 @@
 //! One event after another, over nodes and messages that have room.
 ghost use Rattle.std.specs.Prelude.{◌≡◌, ◌⊎◌, ◌+◌, ◌<◌, ◌≤◌, ℕ, Option, Some, List, [], length, IfOk, OnErr};
 ghost use Rattle.std.specs.Prelude.{MatchResult, vec_len, vec_capacity, slice_get, slice_set};
-ghost use Rattle.hg_world.specs.Runs.{snapshot, Absorbs, Happens, Runs, AllValid};
+ghost use Rattle.hg_world.specs.Runs.{snapshot, Absorbs, Happens, IsOffer, Runs, AllValid};
 ghost use Rattle.hg_world.specs.declared.event.Event.{Event};
 
 use crate::event::{Answer, Event, EventRefusal};
@@ -117,7 +117,7 @@ fn happen<S: Actor>(
     event: &Event<S::Op, S::Ask, S::Mark>,
 ) -> Answer<S::Change, S::Refusal, S::Fault>
     requires valid { AllValid S.JoinState (snapshot nodes.old messages.old.items) }
-    requires room { vec_len messages.old < vec_capacity messages.old }
+    requires room { IsOffer event.now → vec_len messages.old < vec_capacity messages.old }
     ensures happens { (part : Option S.Part) × Happens S.JoinState S.Actor.own (snapshot nodes.old messages.old.items)
         event.now result part (snapshot nodes.new messages.new.items) }
     ensures len { vec_len messages.new ≤ vec_len messages.old + 1 }
@@ -134,7 +134,7 @@ fn happen<S: Actor>(
     }
 }
 
-/// Does the event, once there is room for a message.
+/// Does the event. Before an offer there has to be room for its message.
 pub fn run_event<S: Actor>(
     alloc: Global,
     nodes: &mut [S],
@@ -146,8 +146,11 @@ pub fn run_event<S: Actor>(
         × Happens S.JoinState S.Actor.own (snapshot nodes.old messages.old.items)
         event.now answer part (snapshot nodes.new messages.new.items)) }
     ensures unchanged { OnErr result (snapshot nodes.new messages.new.items ≡ snapshot nodes.old messages.old.items) }
+    ensures memory { OnErr result (IsOffer event.now) }
 {
-    messages.reserve(1)?;
+    if event.is_offer() {
+        messages.reserve(1)?;
+    }
     Ok(happen(alloc, nodes, messages, event))
 }
 

@@ -1,7 +1,7 @@
 //! A world of nodes, with the pool of all that was offered.
 ghost use Rattle.std.specs.Prelude.{◌≡◌, ◌<◌, [], length, Option, IfOk, OnErr, vec_len, slice_get};
 ghost use Rattle.std.specs.Option.{option_copied};
-ghost use Rattle.hg_world.specs.Runs.{HasRun, Happens, AllEmpty, AllUnmarked, AllValid};
+ghost use Rattle.hg_world.specs.Runs.{HasRun, Happens, IsOffer, AllEmpty, AllUnmarked, AllValid};
 
 use crate::event::{Answer, Event};
 use crate::steps::{run_all, run_event};
@@ -87,6 +87,9 @@ impl<S: Actor> World<S> {
     }
 
     /// Does one event and gives its answer, as [`run`](World::run) does, without a list of either.
+    ///
+    /// Memory runs out here only before an offer, whose message wants a place in the pool; within an event it is that
+    /// event's refusal.
     pub fn run_one(
         &mut self,
         event: &Event<S::Op, S::Ask, S::Mark>,
@@ -94,6 +97,7 @@ impl<S: Actor> World<S> {
         ensures happens { IfOk result (λ answer. (part : Option S.Part)
             × Happens S.JoinState S.Actor.own self.old event.now answer part self.new) }
         ensures unchanged { OnErr result (self.new ≡ self.old) }
+        ensures memory { OnErr result (IsOffer event.now) }
         ensures valid { AllValid S.JoinState self.old }
     {
         run_event(
