@@ -1,12 +1,11 @@
 -- Bytes whose keys ascend, with nothing beside the pieces, are the written spelling.
-use Rattle.std.proofs.Common.{◌≡◌, ℕ, suc, ◌+◌, ◌≤◌, Bool, true, false, cond, not, eqb, List, [], ◌∷◌, ◌++◌, length}
-use Rattle.std.proofs.Common.{map, take, drop, get_or, Option, Some, None, refl, sym, ap, ◌∙◌, arith}
-use Rattle.std.specs.Prelude.{◌&&◌}
+use Rattle.std.proofs.Common.{◌≡◌, ℕ, suc, ◌+◌, ◌≤◌, true, false, cond, not, eqb, List, [], ◌∷◌, ◌++◌, length}
+use Rattle.std.proofs.Common.{map, reverse, take, drop, get_or, Some, None, refl, sym, ap, ◌∙◌, arith}
 use Rattle.std.specs.List.{list_all, slice_split, join_with_byte, position_or_len}
 use Rattle.std.specs.Ordering.{is_lt}
 use Rattle.std.specs.declared.cmp.Ordering.{Ordering}
 use Rattle.std.specs.declared.cmp.Ordering.TheVariants.{Less, Equal, Greater}
-use Rattle.std.specs.FinMap.{entries, is_sorted}
+use Rattle.std.specs.FinMap.{entries, from_entries, is_sorted}
 use Rattle.std.specs.FinMap.Entries.{below_all}
 use Rattle.std.proofs.lemmas.Bool.{and_parts, and_from, eqb-true}
 use Rattle.std.proofs.lemmas.Cmp.{nat_list_cmp_total}
@@ -16,19 +15,14 @@ use Rattle.std.proofs.Math.Seq.{drop-cons}
 use Rattle.std.proofs.lemmas.List.Splits.{join_with_byte-slice_split}
 use Rattle.hg_marker.specs.Texts.{bytes_cmp}
 use Rattle.hg_marker.specs.Metadata.{is_nul, is_colon, nonempty, has_colon, piece, pieces, entry, texts, written}
-use Rattle.hg_marker.specs.Making.{is_writable}
-use Rattle.hg_marker.specs.Written.{IsWritten, is_behind}
+use Rattle.hg_marker.specs.Making.{has_bad_key, has_bad_value, is_writable}
+use Rattle.hg_marker.specs.Written.{IsWritten, AreWrittenSo, ascends, with_pieces}
 use Rattle.hg_marker.proofs.ReadLemmas.{read_is_clean, weight, span, weight_entries, span-nonempty, span-slice_split}
 use Rattle.hg_marker.proofs.ReadLemmas.{past_colon}
 use Rattle.hg_marker.proofs.WrittenLemmas.{same_entries, any_order}
-use Rattle.hg_marker.proofs.FormLemmas.{clean_is_writable}
+use Rattle.hg_marker.proofs.FormLemmas.{clean_is_writable, pushed_joined, writable_from}
 
 -- ---- keys that ascend
-
--- each key stands behind the one before it
-abbrev pub ascends : Option (List ℕ) → List (List ℕ × List ℕ) → Bool
-ascends last [] = true
-ascends last (e ∷ es) = is_behind last e.0 && ascends (Some e.0) es
 
 less : (r : Ordering) → is_lt r ≡ true → r ≡ Less
 less Less h = refl
@@ -106,6 +100,26 @@ in_order bytes colons sorted joined =
     let listed : entries (texts (pieces bytes)) ≡ es = ap entries (any_order es sorted) ∙ same_entries es sorted in
     sym (ap (λ (xs : List (List ℕ × List ℕ)). join_with_byte 0 (map piece xs)) listed
     ∙ ap (join_with_byte 0) (pieces_again (pieces bytes) colons) ∙ joined)
+
+-- entries that ascend and can be written are the written spelling of their map, one behind the other
+pub laid : (es : List (List ℕ × List ℕ)) → AreWrittenSo es
+    → (with_pieces [] es ≡ written (from_entries {R = bytes_cmp} (reverse es)))
+    × (is_writable (from_entries {R = bytes_cmp} (reverse es)) ≡ true)
+unfolding written
+laid es h =
+    let m = from_entries {R = bytes_cmp} (reverse es) in
+    let sorted = sorted_all es h.ascent in
+    let listed : entries m ≡ es = ap entries (any_order es sorted) ∙ same_entries es sorted in (
+      pushed_joined [] es
+          ∙ ap (λ (xs : List (List ℕ × List ℕ)). join_with_byte 0 (map piece xs)) (sym listed),
+      writable_from m (ap has_bad_key listed ∙ h.keys) (ap has_bad_value listed ∙ h.values),
+    )
+
+-- pushed until nothing is left
+pub all_laid : (bytes : List ℕ) (es rest : List (List ℕ × List ℕ)) → AreWrittenSo es
+    → with_pieces bytes rest ≡ with_pieces [] es → rest ≡ []
+    → bytes ≡ written (from_entries {R = bytes_cmp} (reverse es))
+all_laid bytes es rest h pushed none = ap (with_pieces bytes) (sym none) ∙ pushed ∙ (laid es h).0
 
 -- what the walk over the pieces found
 pub ascending_is_written : (bytes : List ℕ) (len : ℕ) → list_all has_colon (pieces bytes) ≡ true

@@ -181,7 +181,7 @@ joined_last (e ∷ es) f =
     ∙ ap (λ (t : List ℕ). with_piece t f) (sym (joined-cons e es))
 
 -- pieces that are pushed one after the other are joined
-pushed_joined : (es fs : List (List ℕ × List ℕ))
+pub pushed_joined : (es fs : List (List ℕ × List ℕ))
     → with_pieces (join_with_byte 0 (map piece es)) fs ≡ join_with_byte 0 (map piece (es ++ fs))
 pushed_joined es [] = ap (λ (xs : List (List ℕ × List ℕ)). join_with_byte 0 (map piece xs)) (sym (append-nil es))
 pushed_joined es (f ∷ fs) =

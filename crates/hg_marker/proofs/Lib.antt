@@ -10,3 +10,4 @@ pub mod FaultLemmas
 pub mod NodesLemmas
 pub mod FormLemmas
 pub mod AscentLemmas
+pub mod ParentsLemmas

@@ -1,5 +1,6 @@
 -- The parents that a marker records of its predecessor, by its metadata.
-use Rattle.std.specs.Prelude.{List, [], ◌∷◌, Option, Some, None, ℕ, codes}
+use Rattle.std.specs.Prelude.{List, [], ◌∷◌, Option, Some, None, ℕ, Bool, ◌||◌, codes}
+use Rattle.std.specs.Str.{bytes_eq}
 use Rattle.std.specs.Option.{option_and_then}
 use Rattle.std.specs.FinMap.{get}
 use Rattle.hg_changeset.specs.declared.node.Node.{Node}
@@ -26,6 +27,10 @@ parents_by p0 p1 (Some p2) = two_parents (option_and_then id_value p1) (id_value
 parents_by p0 (Some p1) None = one_parent (id_value p1)
 parents_by (Some p0) None None = Empty
 parents_by None None None = Unrecorded
+
+-- a key that says something of parents
+abbrev pub is_parents_key : List ℕ → Bool
+is_parents_key key = bytes_eq key (codes "p0") || bytes_eq key (codes "p1") || bytes_eq key (codes "p2")
 
 -- the parents that the metadata records
 abbrev pub parents_of : Texts → Parents

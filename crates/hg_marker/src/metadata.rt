@@ -4,16 +4,17 @@
 //! them a marker can have is asked when the marker is made. What can be written is kept as it is written, in one piece;
 //! only what no marker can have is kept as a map.
 ghost use Rattle.std.specs.Prelude.{◌≡◌, ◌≤◌, ◌+◌, ◌++◌, ◌^◌, ◌-◌, OnOk, OnErr, IfOk, IsOk, option_copied, length, min};
-ghost use Rattle.std.specs.Prelude.{true, vec_len, vec_capacity};
+ghost use Rattle.std.specs.Prelude.{true, map, reverse, vec_len, vec_capacity};
 ghost use Rattle.std.specs.FinMap as finite;
 ghost use Rattle.hg_marker.specs.Metadata.{written, texts, pieces, has_colon};
+ghost use Rattle.hg_marker.specs.Texts.{entry_seen};
 ghost use Rattle.hg_marker.specs.Making.{has_bad_key, has_bad_value, is_writable};
 ghost use Rattle.std.specs.List.{list_all};
 
 use crate::entries::Entries;
 use crate::pieces::{is_written, read_texts};
 use crate::text_map::{TextMap, ends_key, has_nul};
-use crate::written::WrittenTexts;
+use crate::written::{WrittenTexts, are_written_so};
 use std::alloc::{AllocError, Global};
 use std::marker::Model;
 
@@ -79,6 +80,23 @@ impl Metadata {
         Metadata {
             form: Form::Written(WrittenTexts::new(alloc)),
         }
+    }
+
+    /// The values of these keys; of equal keys the later one counts.
+    ///
+    /// Entries that ascend by key are written one behind the other, where a marker can have them.
+    pub fn from_entries(alloc: Global, entries: &[(&[u8], &[u8])]) -> Result<Metadata, AllocError>
+        ensures { IfOk result (λ all. all ≡ finite.from_entries (reverse (map entry_seen entries.now))) }
+    {
+        if are_written_so(entries) {
+            let form = Form::Written(WrittenTexts::of_entries(alloc, entries)?);
+            return Ok(Metadata { form });
+        }
+        let mut all = Metadata::new(alloc);
+        for (key, value) in entries {
+            all.insert(alloc, *key, *value)?;
+        }
+        Ok(all)
     }
 
     /// The value of a key.

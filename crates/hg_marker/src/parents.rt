@@ -2,10 +2,11 @@
 //!
 //! They stand in the metadata as hexadecimal digits, at the keys `p1` and `p2`; the key `p0` says that there are none.
 ghost use Rattle.std.specs.Prelude.{◌≡◌};
+ghost use Rattle.std.specs.List.{list_any};
 ghost use Rattle.std.specs.Option.{option_and_then};
 ghost use Rattle.std.specs.FinMap as finite;
 ghost use Rattle.hg_changeset.specs.Node.{id_value};
-ghost use Rattle.hg_marker.specs.Parents.{parents_of, one_parent};
+ghost use Rattle.hg_marker.specs.Parents.{is_parents_key, parents_of, one_parent};
 
 use crate::metadata::Metadata;
 use hg_changeset::Node;
@@ -27,6 +28,9 @@ pub enum Parents {
 pub(crate) fn parents_of(metadata: &Metadata) -> Parents
     ensures { result ≡ parents_of metadata.now }
 {
+    if !names_parents(metadata) {
+        return Parents::Unrecorded;
+    }
     if let Some(second) = metadata.get(b"p2") {
         return match (id_at(metadata, b"p1"), id_value(second)) {
             (Some(first), Some(second)) => Parents::Two(first, second),
@@ -40,6 +44,24 @@ pub(crate) fn parents_of(metadata: &Metadata) -> Parents
         Some(_) => Parents::Empty,
         None => Parents::Unrecorded,
     }
+}
+
+// Whether one of the keys is one of these three. Few markers have one, and one walk tells.
+fn names_parents(metadata: &Metadata) -> bool
+    ensures { result ≡ list_any (λ e. is_parents_key e.0) (finite.entries metadata.now) }
+{
+    for (key, _) in metadata.iter() {
+        if is_parents_key(key) {
+            return true;
+        }
+    }
+    false
+}
+
+fn is_parents_key(key: &[u8]) -> bool
+    ensures { result ≡ is_parents_key key.now }
+{
+    key == b"p0".as_slice() || key == b"p1".as_slice() || key == b"p2".as_slice()
 }
 
 fn one_parent(text: &[u8]) -> Parents

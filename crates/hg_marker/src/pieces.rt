@@ -118,7 +118,7 @@ pub(crate) fn is_written(bytes: &[u8]) -> bool
 }
 
 // Whether the key stands behind the last one.
-fn is_behind(key: &[u8], last: Option<&[u8]>) -> bool
+pub(crate) fn is_behind(key: &[u8], last: Option<&[u8]>) -> bool
     ensures { result ≡ is_behind (option_copied last.entry) key.now }
 {
     match last {

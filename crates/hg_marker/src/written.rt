@@ -2,17 +2,17 @@
 //!
 //! Texts that can be written are kept as their one written spelling: pieces `key:value`, ascending by key, joined by
 //! NUL. So equal texts have equal bytes, and a value is found by a walk over the pieces.
-ghost use Rattle.std.specs.Prelude.{◌≡◌, ℕ, List, ◌∷◌, IfOk, OnOk, OnErr, option_copied, true, false};
+ghost use Rattle.std.specs.Prelude.{◌≡◌, ℕ, List, ◌∷◌, IfOk, OnOk, OnErr, IsTrue, option_copied, map, reverse, true, false};
 ghost use Rattle.std.specs.FinMap as finite;
 ghost use Rattle.std.specs.FinMap.{find, put};
 ghost use Rattle.hg_marker.specs.Texts.{bytes_cmp, entry_seen};
 ghost use Rattle.std.specs.List.{list_any, list_all};
 ghost use Rattle.hg_marker.specs.Metadata.{written, texts, pieces, is_nul};
 ghost use Rattle.hg_marker.specs.Making.{is_writable, ends_key};
-ghost use Rattle.hg_marker.specs.Written.{IsWritten, with_piece, with_pieces, to_come};
+ghost use Rattle.hg_marker.specs.Written.{AreWrittenSo, IsWritten, with_piece, with_pieces, to_come};
 
-use crate::pieces::{Pieces, read_texts};
-use crate::text_map::{TextMap, write_piece};
+use crate::pieces::{Pieces, is_behind, read_texts};
+use crate::text_map::{TextMap, ends_key, has_nul, write_piece};
 use std::alloc::{AllocError, Global};
 use std::cmp::Ordering;
 use std::marker::Model;
@@ -84,6 +84,22 @@ impl WrittenTexts {
         Ok(WrittenTexts { bytes })
     }
 
+    // The texts of these entries.
+    pub(crate) fn of_entries(
+        alloc: Global,
+        entries: &[(&[u8], &[u8])],
+    ) -> Result<WrittenTexts, AllocError>
+        requires { AreWrittenSo (map entry_seen entries.now) }
+        ensures texts { IfOk result (λ all. all ≡ finite.from_entries (reverse (map entry_seen entries.now))) }
+        ensures writable { IfOk result (λ all. is_writable all ≡ true) }
+    {
+        let mut bytes = Vec::with_capacity(alloc, written_len(entries))?;
+        for (key, value) in entries {
+            push_entry(&mut bytes, *key, *value)?;
+        }
+        Ok(WrittenTexts { bytes })
+    }
+
     // Where the memory comes from.
     pub(crate) fn allocator(&self) -> Global {
         *self.bytes.allocator()
@@ -142,6 +158,32 @@ impl WrittenTexts {
         let bytes = with_entry(out, self.entries(), key, value)?;
         Ok(WrittenTexts { bytes })
     }
+}
+
+// Whether the entries ascend by key and can be written.
+pub(crate) fn are_written_so(entries: &[(&[u8], &[u8])]) -> bool
+    ensures { IsTrue result → AreWrittenSo (map entry_seen entries.now) }
+{
+    let mut last: Option<&[u8]> = None;
+    for (key, value) in entries {
+        if !is_behind(*key, last) || ends_key(*key) || has_nul(*value) {
+            return false;
+        }
+        last = Some(*key);
+    }
+    true
+}
+
+// How many bytes the entries take, with one behind each.
+fn written_len(entries: &[(&[u8], &[u8])]) -> usize {
+    let mut len: usize = 0;
+    for (key, value) in entries {
+        len = len
+            .saturating_add(key.len())
+            .saturating_add(value.len())
+            .saturating_add(2);
+    }
+    len
 }
 
 // The value of a key among these entries.

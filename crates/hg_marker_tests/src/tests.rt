@@ -27,15 +27,6 @@ fn fault_of(read: Result<(Marker, usize), ReadError<MarkerFault>>) -> Option<Mar
     read.err()?.fault()
 }
 
-// Metadata with these values by these keys.
-fn metadata_of(alloc: Global, texts: &[(&[u8], &[u8])]) -> Result<Metadata, AllocError> {
-    let mut metadata = Metadata::new(alloc);
-    for (key, value) in texts {
-        metadata.insert(alloc, key, value)?;
-    }
-    Ok(metadata)
-}
-
 // The marker that is read, where one growth may be refused.
 fn read(rt: &impl Abort, alloc: Global, bytes: &[u8]) -> (Marker, usize) {
     match decode(alloc, bytes) {
@@ -210,7 +201,7 @@ fn prune_of(alloc: Global, pruned: Node) -> Option<Marker> {
         (b"operation", b"prune"),
         (b"date", b"0 0"),
     ];
-    let metadata = metadata_of(alloc, &texts).ok()?;
+    let metadata = Metadata::from_entries(alloc, &texts).ok()?;
     Marker::new(pruned, Vec::new(alloc), 0, metadata).ok()
 }
 
@@ -245,7 +236,7 @@ fn lists(metadata: &Metadata, wanted: &[(&[u8], &[u8])]) -> bool {
 #[test]
 fn lists_entries_by_key(rt: HostRuntime) {
     let texts: [(&[u8], &[u8]); 3] = [(b"user", b"bob"), (b"date", b"0 0"), (b"note", b"a:b")];
-    let metadata = metadata_of(rt.alloc(), &texts).expect(&rt, "memory");
+    let metadata = Metadata::from_entries(rt.alloc(), &texts).expect(&rt, "memory");
     assert!(rt;
         lists(
             &metadata,
@@ -261,9 +252,9 @@ fn lists_entries_by_key(rt: HostRuntime) {
 fn keeps_what_no_marker_can_have(rt: HostRuntime) {
     let alloc = rt.alloc();
     let texts: [(&[u8], &[u8]); 3] = [(b"k", b"x"), (b"b", b"\0"), (b"k", b"a:b")];
-    let mut metadata = metadata_of(alloc, &texts).expect(&rt, "memory");
+    let mut metadata = Metadata::from_entries(alloc, &texts).expect(&rt, "memory");
     assert!(rt; lists(&metadata, &[(b"b", b"\0"), (b"k", b"a:b")]));
-    let clean = metadata_of(alloc, &[(b"b", b""), (b"k", b"a:b")]).expect(&rt, "memory");
+    let clean = Metadata::from_entries(alloc, &[(b"b", b""), (b"k", b"a:b")]).expect(&rt, "memory");
     assert!(rt; metadata != clean);
     metadata.insert(alloc, b"b", b"").expect(&rt, "memory");
     assert!(rt; metadata == clean);
@@ -323,7 +314,7 @@ fn refusal_of(
     texts: &[(&[u8], &[u8])],
 ) -> Result<Option<MarkerError>, AllocError> {
     let successors = Vec::from_slice(alloc, successors)?;
-    match Marker::new(OLD, successors, 0, metadata_of(alloc, texts)?) {
+    match Marker::new(OLD, successors, 0, Metadata::from_entries(alloc, texts)?) {
         Ok(_) => Ok(None),
         Err(refusal) => Ok(Some(refusal)),
     }
@@ -408,6 +399,17 @@ fn want_of_memory_is_no_fault(rt: HostRuntime) {
     let error: ReadError<MarkerFault> = AllocError.into();
     assert_eq!(rt; error.fault(), None);
     assert_eq!(rt; text_of(&rt, rt.alloc(), &error).as_str(), "NoMemory");
+}
+
+#[test]
+fn refused_growth_makes_metadata(rt: HostRuntime) {
+    let alloc = rt.alloc();
+    let texts: [(&[u8], &[u8]); 2] = [(b"date", b"0 0"), (b"user", b"bob")];
+    let metadata = match Metadata::from_entries(alloc, &texts) {
+        Ok(metadata) => metadata,
+        Err(AllocError) => Metadata::from_entries(alloc, &texts).expect(&rt, "memory"),
+    };
+    assert!(rt; lists(&metadata, &texts));
 }
 
 // Where a growth is refused, the value is as it was, and the same call with memory answers as ever. The last value

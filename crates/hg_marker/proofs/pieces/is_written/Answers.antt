@@ -2,8 +2,9 @@ use Rattle.std.proofs.Common.{◌≡◌, map, ap, sym, ◌∙◌, arith, None, t
 use Rattle.std.proofs.lemmas.Bool.{eqb-true}
 use Rattle.std.proofs.lemmas.List.{nil_from_length}
 use Rattle.hg_marker.specs.Metadata.{pieces, entry}
+use Rattle.hg_marker.specs.Written.{ascends}
 use Rattle.hg_marker.proofs.ReadLemmas.{weight}
-use Rattle.hg_marker.proofs.AscentLemmas.{ascends, ascending_is_written, nothing_is_written, weighs_little}
+use Rattle.hg_marker.proofs.AscentLemmas.{ascending_is_written, nothing_is_written, weighs_little}
 use Rattle.hg_marker.proofs.pieces.is_written.Goals as goal
 
 pub overflow_add-len-in-loop-key : goal.overflow_add-len-in-loop-key

@@ -1,7 +1,7 @@
 use Rattle.std.proofs.Common.{◌≡◌, ◌+◌, ◌^◌, ◌<◌, length, map, option_copied, None}
 use Rattle.hg_marker.specs.Metadata.{pieces, entry}
 use Rattle.hg_marker.proofs.ReadLemmas.{weight}
-use Rattle.hg_marker.proofs.AscentLemmas.{ascends}
+use Rattle.hg_marker.specs.Written.{ascends}
 use Rattle.hg_marker.proofs.pieces.is_written.Given as goal
 
 abbrev pub invariant-loop-key : goal.invariant-loop-key
