@@ -1,9 +1,9 @@
 -- The lines of a description, as they are met byte by byte.
 use Rattle.std.proofs.Common.{◌≡◌, ℕ, ◌+◌, ◌-◌, ◌<◌, ◌≤◌, ◌&&◌, not, Bool, true, false, List, [], ◌∷◌, ◌++◌, length}
 use Rattle.std.proofs.Common.{map, take, drop, get_or, refl, sym, ap, ◌∙◌, arith, append_assoc, if◌then◌else◌}
-use Rattle.std.specs.List.{join_with_byte, slice_split, onto_first, suffix_len}
+use Rattle.std.specs.List.{join_with_byte, list_any, slice_split, onto_first, suffix_len}
 use Rattle.std.specs.Cmp.Lexicographic.{same_text}
-use Rattle.std.proofs.lemmas.Bool.{and_parts, not-true}
+use Rattle.std.proofs.lemmas.Bool.{and_parts, or_parts, not-true, false≢true}
 use Rattle.std.proofs.lemmas.List.{append-nil, length-append, length-map, take-append-le, drop_more, take_more}
 use Rattle.std.proofs.lemmas.List.{get_or-drop, length-drop, reverse-append}
 use Rattle.std.proofs.lemmas.List.Splits.{slice_split-cons_yes, slice_split-cons_no, length-slice_split}
@@ -165,3 +165,33 @@ module _ (s text all : List ℕ) (start i : ℕ)
       (ap (λ (l : List ℕ). is_one_of line_ends b && not (begins_with_cr_lf l)) (sym front) ∙ goes_on))
       ∙ ap (λ (l : List ℕ). rest_text x l) (sym front))
       ∙ rest
+
+-- ---- one line
+
+no_cr_lf : (b : ℕ) (s : List ℕ) → is_one_of line_ends b ≡ false → begins_with_cr_lf (b ∷ s) ≡ false
+no_cr_lf b s plain = elim (begins_with_cr_lf (b ∷ s)) as (λ c. begins_with_cr_lf (b ∷ s) ≡ c → c ≡ false) [
+  | true ↦ λ h. absurd (begins s h)
+  | false ↦ λ h. refl
+] refl
+  where
+    begins : (t : List ℕ) → begins_with_cr_lf (b ∷ t) ≡ true → ⊥
+    begins [] h = cc (same_text (13 ∷ 10 ∷ []) (take 2 (b ∷ [])) (sym h))
+    begins (c ∷ t) h =
+        let same : 13 ∷ 10 ∷ [] ≡ b ∷ c ∷ [] = same_text (13 ∷ 10 ∷ []) (take 2 (b ∷ c ∷ t)) (sym h) in
+        let is_cr : b ≡ 13 = cc in
+        false≢true (sym plain ∙ ap (is_one_of line_ends) is_cr)
+
+nothing_left_out : (s : List ℕ) → list_any (is_one_of line_ends) s ≡ false → with_lf_for_cr_lf s ≡ s
+nothing_left_out [] h = refl
+nothing_left_out (b ∷ s) h =
+    let p = or_parts _ _ h in kept b s (no_cr_lf b s p.0) ∙ ap (λ (t : List ℕ). b ∷ t) (nothing_left_out s p.1)
+
+undivided : (s : List ℕ) → list_any (is_one_of line_ends) s ≡ false → slice_split (is_one_of line_ends) s ≡ s ∷ []
+undivided [] h = refl
+undivided (b ∷ s) h =
+    let p = or_parts _ _ h in
+    slice_split-cons_no (is_one_of line_ends) b s p.0 ∙ ap (onto_first b) (undivided s p.1)
+
+-- what has no LF and no CR is one line
+pub one_line : (s : List ℕ) → list_any (is_one_of line_ends) s ≡ false → lines s ≡ s ∷ []
+one_line s h = ap (slice_split (is_one_of line_ends)) (nothing_left_out s h) ∙ undivided s h

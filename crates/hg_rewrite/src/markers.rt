@@ -89,11 +89,12 @@ fn noted(
 {
     let mut date = Vec::new(alloc);
     push_date(&mut date, secs, offset)?;
-    let mut texts = Metadata::new(alloc);
-    texts.insert(alloc, b"date", &date)?;
-    texts.insert(alloc, b"operation", operation)?;
-    texts.insert(alloc, b"user", trimmed_user(user))?;
-    Ok(texts)
+    let entries: [(&[u8], &[u8]); 3] = [
+        (b"date", &date),
+        (b"operation", operation),
+        (b"user", trimmed_user(user)),
+    ];
+    Metadata::from_entries(alloc, &entries)
 }
 
 // And the parents of what is pruned.
