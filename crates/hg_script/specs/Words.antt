@@ -24,6 +24,11 @@ first_word line = find (λ word. not (length word == 0)) (slice_split (λ b. b =
 abbrev pub has_node : List ℕ → Bool
 has_node line = option_map_or (λ word. bytes_eq word (codes "node")) (first_word line) false
 
+-- the line begins as one whose first word is `node` does: with its first letter, or with a space
+abbrev pub may_have_node : List ℕ → Bool
+may_have_node [] = false
+may_have_node (b ∷ rest) = b == 110 || b == 32
+
 -- letters, digits, low line, full stop and hyphen
 abbrev pub is_name_byte : ℕ → Bool
 is_name_byte b = is_ascii_alphanumeric b || b == 95 || b == 46 || b == 45

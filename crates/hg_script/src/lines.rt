@@ -2,14 +2,16 @@
 ghost use Rattle.std.specs.Prelude.{◌≡◌, ◌≤◌, ◌<◌, ◌↔◌, ◌==◌, ◌∷◌, IfOk, IsTrue, length, map, count_by, position};
 ghost use Rattle.std.specs.Option.{option_copied};
 ghost use Rattle.std.specs.Str.Lines.{lines, strip_carriage_return};
-ghost use Rattle.hg_script.specs.Words.{first_word, has_node, spaced, words_of};
+ghost use Rattle.hg_script.specs.Words.{first_word, has_node, may_have_node, spaced, words_of};
 ghost use Rattle.hg_script.specs.Limits.{line_limit};
 
 use crate::limits::LINE_LIMIT;
+use memchr::memchr;
+use smallvec::SmallVec;
 use std::alloc::{AllocError, Global};
 
-// Most lines have no more words than this.
-const FEW_WORDS: usize = 8;
+/// The words of a line. Most lines have no more than eight, which take no memory.
+pub type Words<'a> = SmallVec<&'a [u8], 8>;
 
 /// The first line of the text, without its LF and without one CR before that, and what comes after it.
 pub fn cut_line(text: &[u8]) -> (&[u8], &[u8])
@@ -27,7 +29,7 @@ pub fn cut_line(text: &[u8]) -> (&[u8], &[u8])
 fn end_of_line(text: &[u8]) -> Option<usize>
     ensures { result ≡ position (λ b. b == 10) text.now }
 {
-    text.iter().position(|b| *b == b'\n')
+    memchr(b'\n', text)
 }
 
 // The line without one CR at its end.
@@ -60,9 +62,22 @@ pub fn count_nodes(text: &[u8]) -> usize
 fn has_node(line: &[u8]) -> bool
     ensures { result ≡ has_node line.now }
 {
+    if !may_have_node(line) {
+        return false;
+    }
     match first_word(line) {
         Some(word) => word == b"node".as_slice(),
         None => false,
+    }
+}
+
+// Whether the line begins as one whose first word is `node` does.
+fn may_have_node(line: &[u8]) -> bool
+    ensures { result ≡ may_have_node line.now }
+{
+    match line {
+        [b'n', ..] | [b' ', ..] => true,
+        _ => false,
     }
 }
 
@@ -82,20 +97,20 @@ pub fn is_short(line: &[u8]) -> bool
 }
 
 /// The words of the line, divided by spaces; a comment has none.
-pub fn words_of<'a>(alloc: Global, line: &'a [u8]) -> Result<Vec<&'a [u8]>, AllocError>
+pub fn words_of<'a>(alloc: Global, line: &'a [u8]) -> Result<Words<'a>, AllocError>
     ensures { IfOk result (λ words. map (λ w. w.now) words.items ≡ words_of line.now) }
 {
     match line {
-        [] | [b'#', ..] => Ok(Vec::new(alloc)),
+        [] | [b'#', ..] => Ok(SmallVec::new(alloc)),
         _ => spaced(alloc, line),
     }
 }
 
 // What stands between spaces.
-fn spaced<'a>(alloc: Global, line: &'a [u8]) -> Result<Vec<&'a [u8]>, AllocError>
+fn spaced<'a>(alloc: Global, line: &'a [u8]) -> Result<Words<'a>, AllocError>
     ensures { IfOk result (λ words. map (λ w. w.now) words.items ≡ spaced line.now) }
 {
-    let mut words = Vec::with_capacity(alloc, FEW_WORDS)?;
+    let mut words = SmallVec::new(alloc);
     words.extend(line.split(|b| *b == b' ').filter(|word| !word.is_empty()))?;
     Ok(words)
 }

@@ -176,7 +176,7 @@ pub(crate) fn run_line<W: Write>(
         return Err(RunFault::Line(number, LineFault::TooLong));
     }
     let words = words_of(alloc, line)?;
-    let command = match read_command(&words) {
+    let command = match read_command(words.as_slice()) {
         Ok(Some(command)) => command,
         Ok(None) => return Ok(Told::Nothing),
         Err(fault) => return Err(RunFault::Line(number, fault)),

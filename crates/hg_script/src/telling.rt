@@ -194,11 +194,12 @@ fn tell_line<W: Write>(
     ensures stopped { IfErr result (λ told. (told.fault ≡ NoMemory) ⊎ EndsAt number fleet.old line.now told.fault) }
 {
     let words = words_of(alloc, line)?;
+    let words = words.as_slice();
     if words.is_empty() {
         run_line(alloc, fleet, number, line, writer)?;
         return Ok(());
     }
-    tell_words(alloc, fleet, number, line, &words, writer, notes)
+    tell_words(alloc, fleet, number, line, words, writer, notes)
 }
 
 // Does the line of these words, and writes what it prints with its notes.

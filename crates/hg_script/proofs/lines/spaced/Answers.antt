@@ -13,4 +13,4 @@ returns c =
     c.split.ensures.closure (λ x r q k. search (rules, tests))))
     c.filter.ensures.closure
     (λ x r q k. search (rules, tests)))
-    (λ xs e h. ap (map (λ w. w.now)) (h.0 ∙ ap (λ ws. ws ++ xs) c.in_ok-words.ensures.items) ∙ e)
+    (λ xs e h. ap (map (λ w. w.now)) (h ∙ ap (λ ws. ws ++ xs) c.new-words.ensures.items) ∙ e)

@@ -17,11 +17,11 @@ returns-in_err-words-clause-stopped g c =
 
 pub returns-in-Ok-None-clause-done : goal.returns-in-Ok-None-clause-done
 returns-in-Ok-None-clause-done g c =
-    let mapped = ap (map (λ (w : Word). w.now)) c.deref.ensures.value ∙ c.in_ok-words.ensures in
+    let mapped = ap (map (λ (w : Word). w.now)) c.as_slice.ensures ∙ c.in_ok-words.ensures in
     let none = rw c.in-Ok-None.field-0-is at c.in-Ok-None.ensures in (
       no_trace,
       [],
-      (c.is_short.ensures.0 c.if-not-is_short.false, (c.deref.result.now, mapped, inl (none, refl, refl))),
+      (c.is_short.ensures.0 c.if-not-is_short.false, (c.as_slice.result.now, mapped, inl (none, refl, refl))),
       inl (sym mapped ∙ ap (map (λ (w : Word). w.now)) none, refl),
       Appends-nil _,
     )
@@ -29,34 +29,34 @@ returns-in-Ok-None-clause-done g c =
 pub returns-clause-done : goal.returns-clause-done
 returns-clause-done g c =
     let short = c.is_short.ensures.0 c.if-not-is_short.false in
-    let mapped = ap (map (λ (w : Word). w.now)) c.deref.ensures.value ∙ c.in_ok-words.ensures in
+    let mapped = ap (map (λ (w : Word). w.now)) c.as_slice.ensures ∙ c.in_ok-words.ensures in
     let command = c.in-Ok-Some.command in
     let says = rw c.in-Ok-Some.field-0-is at c.in-Ok-Some.ensures in
     let d = c.in_ok-told.ensures.ok in (
       d.0,
       d.1,
-      (short, (c.deref.result.now, mapped, inr (command, says, d.2))),
-      inr (command, (c.deref.result.now, (short, mapped), says), d.3),
+      (short, (c.as_slice.result.now, mapped, inr (command, says, d.2))),
+      inr (command, (c.as_slice.result.now, (short, mapped), says), d.3),
       d.4,
     )
 
 pub returns-in-Err-clause-stopped : goal.returns-in-Err-clause-stopped
 returns-in-Err-clause-stopped g c =
-    let has : HasWords c.args.line.now c.deref.result.now = (
+    let has : HasWords c.args.line.now c.as_slice.result.now = (
       c.is_short.ensures.0 c.if-not-is_short.false,
-      ap (map (λ (w : Word). w.now)) c.deref.ensures.value
+      ap (map (λ (w : Word). w.now)) c.as_slice.ensures
           ∙ c.in_ok-words.ensures,
     ) in
-    (refl, words_fault _ _ c.deref.result.now _ has c.in-Err.ensures)
+    (refl, words_fault _ _ c.as_slice.result.now _ has c.in-Err.ensures)
 
 pub returns-in_err-told-clause-stopped : goal.returns-in_err-told-clause-stopped
 returns-in_err-told-clause-stopped g c =
     let p = err_from_is_err_and c.from_residual-in_err-told.result c.from_residual-in_err-told.ensures.1 in
-    let has : HasWords c.args.line.now c.deref.result.now = (
+    let has : HasWords c.args.line.now c.as_slice.result.now = (
       c.is_short.ensures.0 c.if-not-is_short.false,
-      ap (map (λ (w : Word). w.now)) c.deref.ensures.value
+      ap (map (λ (w : Word). w.now)) c.as_slice.ensures
           ∙ c.in_ok-words.ensures,
     ) in
     let says : Says c.args.line.now c.in-Ok-Some.command =
-    (c.deref.result.now, has, rw c.in-Ok-Some.field-0-is at c.in-Ok-Some.ensures) in
+    (c.as_slice.result.now, has, rw c.in-Ok-Some.field-0-is at c.in-Ok-Some.ensures) in
     rw (p.1, p.2) (command_ends _ _ _ c.in-Ok-Some.command _ says c.in_err-told.ensures.err.0)
