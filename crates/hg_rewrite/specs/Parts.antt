@@ -129,11 +129,14 @@ rewritten (Prune node user secs offset) = node ∷ []
 rewritten (Relocate node p q entry) = node ∷ []
 rewritten (Advance node phase) = []
 
+-- a date, an operation and a user
+abbrev pub noted_texts : List ℕ → List ℕ → List ℕ → Texts
+noted_texts date operation user =
+    insert (insert (insert empty (codes "date") date) (codes "operation") operation) (codes "user") user
+
 -- when, by which operation and by whom
 unfoldable pub noted : List ℕ → List ℕ → ℤ → ℤ → Texts
-noted operation user secs offset =
-    insert (insert (insert empty (codes "date") (date_text secs offset)) (codes "operation") operation) (codes "user")
-    (trimmed_user user)
+noted operation user secs offset = noted_texts (date_text secs offset) operation (trimmed_user user)
 
 abbrev pub noted_of : List ℕ → EntryValue → Texts
 noted_of operation e = noted operation e.user e.secs e.offset

@@ -1,8 +1,8 @@
 //! The markers of an operation: one for each node that is rewritten, with what is noted of the operation.
 ghost use Rattle.std.specs.Prelude.{◌≡◌, ◌∷◌, [], IfOk, map};
 ghost use Rattle.hg_changeset.specs.EntryText.{date_text};
-ghost use Rattle.hg_rewrite.specs.Parts.{new_ids, noted, noted_of, noted_of_first, with_parents, metadata, marker};
-ghost use Rattle.hg_rewrite.specs.Parts.{markers};
+ghost use Rattle.hg_rewrite.specs.Parts.{new_ids, noted, noted_of, noted_of_first, noted_texts, with_parents};
+ghost use Rattle.hg_rewrite.specs.Parts.{metadata, marker, markers};
 ghost use Rattle.hg_rewrite.specs.Refusals.{marker_refused};
 ghost use Rattle.hg_rewrite.specs.Answer.{Gives};
 
@@ -89,10 +89,22 @@ fn noted(
 {
     let mut date = Vec::new(alloc);
     push_date(&mut date, secs, offset)?;
-    let entries: [(&[u8], &[u8]); 3] = [
-        (b"date", &date),
+    noted_texts(alloc, &date, operation, trimmed_user(user))
+}
+
+// The same by their texts.
+fn noted_texts<'a>(
+    alloc: Global,
+    date: &'a [u8],
+    operation: &'a [u8],
+    user: &'a [u8],
+) -> Result<Metadata, AllocError>
+    ensures { IfOk result (λ texts. texts ≡ noted_texts date.now operation.now user.now) }
+{
+    let entries: [(&'a [u8], &'a [u8]); 3] = [
+        (b"date", date),
         (b"operation", operation),
-        (b"user", trimmed_user(user)),
+        (b"user", user),
     ];
     Metadata::from_entries(alloc, &entries)
 }
