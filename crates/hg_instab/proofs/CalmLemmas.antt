@@ -1,7 +1,7 @@
 -- Where all that a change touched is calm, only what it rewrote turns, and what it stranded.
-use Rattle.std.proofs.Common.{◌≡◌, ◌↔◌, ◌⊎◌, inl, inr, sym, subst, ◌∙◌, List, [], Contains}
+use Rattle.std.proofs.Common.{◌≡◌, ◌↔◌, ◌⊎◌, inl, inr, zero, arith, refl, sym, subst, ◌∙◌, List, [], ◌∷◌, Contains}
 use Rattle.hg_changeset.specs.declared.node.Node.{Node}
-use Rattle.hg_changeset.proofs.ListLemmas.{Contains-none}
+use Rattle.hg_changeset.proofs.ListLemmas.{Contains-none, Contains-one}
 use Rattle.hg_obsstore.proofs.IndexLemmas.{among_or_not}
 use Rattle.hg_graph.specs.Graph.{IsParent}
 use Rattle.hg_history.specs.Content.{IsHeld}
@@ -11,19 +11,66 @@ use Rattle.hg_replica.specs.Change.{ChangeValue}
 use Rattle.hg_replica.specs.Content.{Content, content_of}
 use Rattle.hg_replica.specs.Evolution.{IsObsolete, IsCurrent, IsOrphan, IsSuspended, IsExtinct}
 use Rattle.hg_replica.specs.Evolution.{IsPhaseDivergent}
-use Rattle.hg_instab.specs.Calm.{IsCalm, AreRetired, AreStranded, AreCalmTurns}
+use Rattle.hg_instab.specs.Calm.{IsCalm, AreRetired, AreStranded, AreCalmTurns, IsCalmTurning, IsGrown}
 use Rattle.hg_instab.specs.Changed.{Follows, IsSeed, IsNow}
 use Rattle.hg_instab.specs.declared.turns.Turns.{Turns}
+use Rattle.hg_instab.specs.declared.turns.Turning.{Turning}
+use Rattle.hg_instab.specs.declared.turns.Turning.TheVariants.{Nothing, Retired, All}
 use Rattle.hg_instab.specs.Instabilities.{IsContentDivergent, InstabilitySets, AreInstabilities}
 use Rattle.hg_instab.specs.Local.{IsParentOf, StandsUnstably, HoldsNothing}
 use Rattle.hg_instab.specs.Near.{IsAfterPublic, IsRegion}
-use Rattle.hg_instab.specs.Turns.{IsThen, AreTold}
+use Rattle.hg_instab.specs.Turns.{IsThen, AreTold, IsRetired, IsTold}
 use Rattle.hg_instab.proofs.ChangedLemmas.{obsolete-untouched, current-untouched}
 use Rattle.hg_instab.proofs.KeptLemmas.{suspended-told, now-or, near-same, flip}
 use Rattle.hg_instab.proofs.LocalLemmas.{obsolete-or_current, mutable-above, orphan-by_parents, extinct-by_children}
 use Rattle.hg_instab.proofs.NearLemmas.{near-after, outside-divergent}
 use Rattle.hg_instab.proofs.SetLemmas.{along}
 use Rattle.hg_instab.proofs.SolutionLemmas.{orphans-solved, extinct-solved}
+
+-- a set to which none of these nodes, of which there are none, comes
+none-come : (ns more : List Node) → more ≡ [] → (n : Node) → Contains ns n ↔ (Contains ns n ⊎ Contains more n)
+none-come ns more none n = (
+  inl,
+  λ h. elim h [ inl x ↦ x | inr new ↦ absurd (Contains-none n (subst (λ ms. Contains ms n) none new)) ],
+)
+
+nothing-grown : (sets : InstabilitySets) (retired stranded : List Node) → retired ≡ [] → stranded ≡ []
+    → IsGrown sets retired stranded sets
+nothing-grown sets retired stranded r s = record {
+  obsolete = none-come sets.obsolete retired r;
+  orphan = none-come sets.orphan stranded s;
+  extinct = none-come sets.extinct retired r;
+  suspended = refl;
+  phase_divergent = refl;
+  content_divergent = refl;
+  after_public = refl;
+  near_forks = refl;
+}
+
+-- a set to which one node comes
+one-comes : (before after more : List Node) (node : Node) → more ≡ node ∷ []
+    → ((n : Node) → Contains after n ↔ (Contains before n ⊎ (n ≡ node)))
+    → (n : Node) → Contains after n ↔ (Contains before n ⊎ Contains more n)
+one-comes before after more node one then n = (
+  λ h. elim ((then n).0 h)
+      [ inl old ↦ inl old | inr e ↦ inr (subst (λ ms. Contains ms n) (sym one) (zero, omega arith, sym e)) ],
+  λ h. (then n).1 (elim h
+      [ inl old ↦ inl old | inr new ↦ inr (sym (Contains-one node n (subst (λ ms. Contains ms n) one new))) ]),
+)
+
+one-grown : (sets after : InstabilitySets) (node : Node) (retired stranded : List Node) → retired ≡ node ∷ []
+    → stranded ≡ [] → IsRetired sets node after → IsGrown sets retired stranded after
+one-grown sets after node retired stranded r s is = record {
+  obsolete = one-comes sets.obsolete after.obsolete retired node r is.obsolete;
+  orphan = λ n. subst (λ ns. Contains ns n ↔ (Contains sets.orphan n ⊎ Contains stranded n)) (sym is.orphan)
+      (none-come sets.orphan stranded s n);
+  extinct = one-comes sets.extinct after.extinct retired node r is.extinct;
+  suspended = is.suspended;
+  phase_divergent = is.phase_divergent;
+  content_divergent = is.content_divergent;
+  after_public = is.after_public;
+  near_forks = is.near_forks;
+}
 
 -- neither of two that both need a third
 neither : {A B : Type 0} → ¬ A → ¬ B → A ↔ B
@@ -322,8 +369,8 @@ module _ (s t : ReplicaState) (change : ChangeValue) (v : IsValid s) (w : IsVali
             )
           ]
 
-      -- what turns is told
-      pub calm-told : (turns : Turns) → AreCalmTurns sets retired stranded turns → AreTold g sets turns
+      -- what turns of each set is told
+      calm-told : (turns : Turns) → AreCalmTurns sets retired stranded turns → AreTold g sets turns
       calm-told turns are = record {
         obsolete = λ n. along (are.obsolete n) (calm-obsolete n);
         orphan = λ n. along (are.orphan n) (calm-orphan n);
@@ -338,3 +385,28 @@ module _ (s t : ReplicaState) (change : ChangeValue) (v : IsValid s) (w : IsVali
             (inl, λ h. elim h [ inl x ↦ x | inr new ↦ absurd (Contains-none n new) ]))
             (near-after f g change t.markers sets.near_forks [] follows at.near_forks is);
       }
+
+      -- what has grown so is what it is to be
+      calm-kept : (after : InstabilitySets) → IsGrown sets retired stranded after → AreInstabilities g after
+      calm-kept after are = record {
+        obsolete = λ n. along (are.obsolete n) (calm-obsolete n);
+        orphan = λ n. along (are.orphan n) (calm-orphan n);
+        suspended = λ n. subst (λ ns. Contains ns n ↔ IsSuspended g n) (sym are.suspended) (calm-suspended n);
+        extinct = λ n. along (along (are.extinct n) (gone n)) (calm-extinct n);
+        phase_divergent = λ n. subst (λ ns. Contains ns n ↔ IsPhaseDivergent g n) (sym are.phase_divergent)
+            (calm-phase_divergent n);
+        content_divergent = λ n. subst (λ ns. Contains ns n ↔ IsContentDivergent g n) (sym are.content_divergent)
+            (calm-content_divergent n);
+        after_public = λ n. subst (λ ns. Contains ns n ↔ IsAfterPublic g n) (sym are.after_public) (calm-after n);
+        near_forks = near-same g (λ n. Contains sets.near_forks n ⊎ Contains [] n) (Contains after.near_forks)
+            (λ n. subst (λ ns. Contains ns n ↔ (Contains sets.near_forks n ⊎ Contains [] n)) (sym are.near_forks)
+            (inl, λ h. elim h [ inl x ↦ x | inr new ↦ absurd (Contains-none n new) ]))
+            (near-after f g change t.markers sets.near_forks [] follows at.near_forks is);
+      }
+
+      -- what turns is told
+      pub calm-turned : (turning : Turning) → IsCalmTurning sets retired stranded turning → IsTold g sets turning
+      calm-turned Nothing none = calm-kept sets (nothing-grown sets retired stranded none.0 none.1)
+      calm-turned (Retired node) one = λ after is. calm-kept after
+          (one-grown sets after node retired stranded one.0 one.1 is)
+      calm-turned (All turns) are = calm-told turns are

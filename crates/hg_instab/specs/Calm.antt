@@ -1,11 +1,13 @@
 -- What a change leaves alone, but for what it rewrote.
-use Rattle.std.specs.Prelude.{◌⊎◌, ◌↔◌, List, Contains}
+use Rattle.std.specs.Prelude.{◌≡◌, ◌⊎◌, ◌↔◌, List, [], ◌∷◌, Contains}
 use Rattle.hg_changeset.specs.declared.node.Node.{Node}
 use Rattle.hg_replica.specs.Content.{Content}
 use Rattle.hg_replica.specs.Evolution.{IsMutable, IsObsolete}
 use Rattle.hg_instab.specs.Changed.{IsNow}
 use Rattle.hg_instab.specs.declared.turn.Turn.{Turn}
 use Rattle.hg_instab.specs.declared.turns.Turns.{Turns}
+use Rattle.hg_instab.specs.declared.turns.Turning.{Turning}
+use Rattle.hg_instab.specs.declared.turns.Turning.TheVariants.{Nothing, Retired, All}
 use Rattle.hg_instab.specs.Instabilities.{InstabilitySets}
 use Rattle.hg_instab.specs.Local.{IsParentOf, HoldsNothing}
 use Rattle.hg_instab.specs.Turns.{IsThen}
@@ -67,3 +69,21 @@ pub record AreCalmTurns (sets : InstabilitySets) (retired stranded : List Node) 
   pub content_divergent : IsRest sets.content_divergent turns.content_divergent
   pub after_public : IsRest sets.after_public turns.after_public
   pub near_forks : IsRest sets.near_forks turns.near_forks
+
+-- the same where it is told without turns that nothing turns, or that one node is retired
+abbrev pub IsCalmTurning : InstabilitySets → List Node → List Node → Turning → Type 0
+IsCalmTurning sets retired stranded Nothing = (retired ≡ []) × (stranded ≡ [])
+IsCalmTurning sets retired stranded (Retired node) = (retired ≡ node ∷ []) × (stranded ≡ [])
+IsCalmTurning sets retired stranded (All turns) = AreCalmTurns sets retired stranded turns
+
+-- those that are retired have come to what is obsolete and to what is extinct, those that are stranded to the orphans,
+-- and nothing else has turned
+pub record IsGrown (sets : InstabilitySets) (retired stranded : List Node) (after : InstabilitySets) : Type 0 where
+  pub obsolete : (n : Node) → Contains after.obsolete n ↔ (Contains sets.obsolete n ⊎ Contains retired n)
+  pub orphan : (n : Node) → Contains after.orphan n ↔ (Contains sets.orphan n ⊎ Contains stranded n)
+  pub extinct : (n : Node) → Contains after.extinct n ↔ (Contains sets.extinct n ⊎ Contains retired n)
+  pub suspended : after.suspended ≡ sets.suspended
+  pub phase_divergent : after.phase_divergent ≡ sets.phase_divergent
+  pub content_divergent : after.content_divergent ≡ sets.content_divergent
+  pub after_public : after.after_public ≡ sets.after_public
+  pub near_forks : after.near_forks ≡ sets.near_forks

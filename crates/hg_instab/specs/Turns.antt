@@ -1,13 +1,15 @@
 -- What comes to kept sets and goes from them.
-use Rattle.std.specs.Prelude.{◌↔◌, ◌⊎◌, List, Contains}
+use Rattle.std.specs.Prelude.{◌≡◌, ◌↔◌, ◌⊎◌, List, Contains, Bool, true, false}
 use Rattle.std.specs.List.Sorted.{IsStrictlySortedBy}
 use Rattle.hg_changeset.specs.declared.node.Node.{Node}
 use Rattle.hg_changeset.specs.Node.{node_cmp}
 use Rattle.hg_instab.specs.declared.turn.Turn.{Turn}
 use Rattle.hg_instab.specs.declared.turns.Turns.{Turns}
+use Rattle.hg_instab.specs.declared.turns.Turning.{Turning}
+use Rattle.hg_instab.specs.declared.turns.Turning.TheVariants.{Nothing, Retired, All}
 use Rattle.hg_replica.specs.Content.{Content}
 use Rattle.hg_replica.specs.Evolution.{IsObsolete, IsOrphan, IsSuspended, IsExtinct, IsPhaseDivergent}
-use Rattle.hg_instab.specs.Instabilities.{InstabilitySets, IsContentDivergent}
+use Rattle.hg_instab.specs.Instabilities.{InstabilitySets, AreInstabilities, IsContentDivergent}
 use Rattle.hg_instab.specs.Near.{IsAfterPublic, AreNearForks}
 
 -- what comes wasn't in the set, and what goes was
@@ -28,6 +30,13 @@ pub record IsStage (come before now : List Node) : Type 0 where
 -- all of it has come
 abbrev pub HasCome : Turn → List Node → Type 0
 HasCome turn now = (n : Node) → Contains turn.come.items n → Contains now n
+
+-- the node was put into a list that was in order, and came to it or was there before
+pub record HasPut (node : Node) (came : Bool) (before now : List Node) : Type 0 where
+  pub ordered : IsStrictlySortedBy node_cmp before
+  pub then : (n : Node) → Contains now n ↔ (Contains before n ⊎ (n ≡ node))
+  pub new : came ≡ true → ¬ (Contains before node)
+  pub old : came ≡ false → now ≡ before
 
 -- ---- each set
 
@@ -93,3 +102,28 @@ pub record AreTold (g : Content) (sets : InstabilitySets) (turns : Turns) : Type
   pub content_divergent : (n : Node) → IsThen sets.content_divergent turns.content_divergent n ↔ IsContentDivergent g n
   pub after_public : (n : Node) → IsThen sets.after_public turns.after_public n ↔ IsAfterPublic g n
   pub near_forks : AreNearForks g (IsThen sets.near_forks turns.near_forks)
+
+-- ---- what a change turns
+
+-- the node has become obsolete and extinct, and nothing else has turned
+pub record IsRetired (before : InstabilitySets) (node : Node) (after : InstabilitySets) : Type 0 where
+  pub obsolete : (n : Node) → Contains after.obsolete n ↔ (Contains before.obsolete n ⊎ (n ≡ node))
+  pub extinct : (n : Node) → Contains after.extinct n ↔ (Contains before.extinct n ⊎ (n ≡ node))
+  pub orphan : after.orphan ≡ before.orphan
+  pub suspended : after.suspended ≡ before.suspended
+  pub phase_divergent : after.phase_divergent ≡ before.phase_divergent
+  pub content_divergent : after.content_divergent ≡ before.content_divergent
+  pub after_public : after.after_public ≡ before.after_public
+  pub near_forks : after.near_forks ≡ before.near_forks
+
+-- the turns of the sets that it tells are turns of these
+abbrev pub MayTurn : InstabilitySets → Turning → Type 0
+MayTurn sets Nothing = Unit {0}
+MayTurn sets (Retired node) = Unit {0}
+MayTurn sets (All turns) = AreTurns sets turns
+
+-- what it leaves of the sets is what those of g are to have
+abbrev pub IsTold : Content → InstabilitySets → Turning → Type 0
+IsTold g sets Nothing = AreInstabilities g sets
+IsTold g sets (Retired node) = (after : InstabilitySets) → IsRetired sets node after → AreInstabilities g after
+IsTold g sets (All turns) = AreTold g sets turns

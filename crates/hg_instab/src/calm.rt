@@ -5,7 +5,7 @@
 //! Most changes are so. One pass over what was touched finds what is retired, which takes no memory where nothing is,
 //! and one finds what is stranded; a few look-ups for each then tell whether it is calm, and where all is, no walk
 //! begins.
-ghost use Rattle.std.specs.Prelude.{◌≡◌, ◌↔◌, ℕ, Some, Contains, IfOk, IsTrue};
+ghost use Rattle.std.specs.Prelude.{◌≡◌, ◌↔◌, ◌∷◌, [], ℕ, Some, Contains, IfOk, IfSome, IsTrue};
 ghost use Rattle.hg_changeset.specs.declared.node.Node.{Node};
 ghost use Rattle.hg_graph.specs.Places.{IsAt};
 ghost use Rattle.hg_phases.specs.State.{changesets};
@@ -13,10 +13,10 @@ ghost use Rattle.hg_history.specs.Content.{IsHeld};
 ghost use Rattle.hg_replica.specs.Content.{content_of};
 ghost use Rattle.hg_replica.specs.Evolution.{IsMutable, IsObsolete};
 ghost use Rattle.hg_instab.specs.Calm.{IsApart, IsSettled, IsCalm, AreRetired};
-ghost use Rattle.hg_instab.specs.Calm.{IsStranded, AreStranded, AreCalmTurns};
+ghost use Rattle.hg_instab.specs.Calm.{IsStranded, AreStranded, AreCalmTurns, IsCalmTurning};
 ghost use Rattle.hg_instab.specs.Changed.{IsNow};
 ghost use Rattle.hg_instab.specs.Local.{IsParentOf};
-ghost use Rattle.hg_instab.specs.Turns.{AreTurns};
+ghost use Rattle.hg_instab.specs.Turns.{AreTurns, MayTurn};
 
 use crate::among::{has, is_missing, list_of};
 use crate::extinct_walk::is_extinct_now;
@@ -26,7 +26,7 @@ use crate::orphan_walk::stands_on_unstable;
 use crate::query::{has_phase_at, is_obsolete};
 use crate::turn::Turn;
 use crate::turned::has_now;
-use crate::turns::Turns;
+use crate::turns::{Turning, Turns};
 use hg_changeset::Node;
 use hg_phases::Phase;
 use hg_replica::Replica;
@@ -266,9 +266,42 @@ fn is_settled(
     !stands_on_unstable(replica, sets.orphan(), &none, place, node)
 }
 
-// What turns where each of the nodes that a change touched is calm: those that are retired come to the obsolete and to
+// What turns where each of the nodes that a change touched is calm. Mostly that is nothing, or one node is retired.
+pub(crate) fn calm_turning(
+    alloc: Global,
+    sets: &Instabilities,
+    retired: &BTreeSet<Node>,
+    stranded: &BTreeSet<Node>,
+) -> Result<Turning, AllocError>
+    ensures turns { IfOk result (λ turning.
+        ((n : Node) → Contains retired.now.keys n → ¬ (Contains sets.now.extinct n)) → MayTurn sets.now turning) }
+    ensures calm { IfOk result (IsCalmTurning sets.now retired.now.keys stranded.now.keys) }
+{
+    if stranded.is_empty() {
+        if retired.is_empty() {
+            return Ok(Turning::Nothing);
+        }
+        if let Some(node) = only(retired) {
+            return Ok(Turning::Retired(node));
+        }
+    }
+    let turns = calm_turns(alloc, sets, retired, stranded)?;
+    Ok(Turning::All(turns))
+}
+
+// The node of the set, where it is the only one.
+fn only(set: &BTreeSet<Node>) -> Option<Node>
+    ensures { IfSome result (λ node. set.now.keys ≡ node ∷ []) }
+{
+    if set.len() != 1 {
+        return None;
+    }
+    set.first().copied()
+}
+
+// The same as turns of each set: those that are retired come to the obsolete and to
 // the extinct changesets, and those that are stranded to the orphans.
-pub(crate) fn calm_turns(
+fn calm_turns(
     alloc: Global,
     sets: &Instabilities,
     retired: &BTreeSet<Node>,

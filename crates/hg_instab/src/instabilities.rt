@@ -4,14 +4,15 @@ ghost use Rattle.hg_replica.specs.State.{ReplicaState};
 ghost use Rattle.hg_replica.specs.Content.{content_of};
 ghost use Rattle.hg_instab.specs.Changed.{IsChangedTo};
 ghost use Rattle.hg_instab.specs.Instabilities.{AreInstabilities, InstabilitySets};
-ghost use Rattle.hg_instab.specs.Turns.{AreTurns, AreTold, AreStages, HaveCome, AreThen};
+ghost use Rattle.hg_instab.specs.Turns.{AreTurns, AreStages, HaveCome, AreThen, IsRetired, IsTold, MayTurn};
 
 use crate::among::{current_among, obsolete_nodes, outside, set_of};
 use crate::divergence::divergent_within;
 use crate::first::{after_public_ids, near_fork_ids};
 use crate::holders::Holders;
 use crate::orphans::{orphan_nodes, suspended_nodes};
-use crate::turns::Turns;
+use crate::turn::{put, take_back};
+use crate::turns::{Turning, Turns};
 use hg_changeset::Node;
 use hg_replica::{Change, Replica};
 use std::alloc::{AllocError, Global};
@@ -129,21 +130,39 @@ impl Instabilities {
             // Nothing is unstable, and nothing was.
             return Ok(());
         }
-        let turns = self.turns(replica, change)?;
-        self.apply(&turns)
+        match self.turning(replica, change)? {
+            Turning::Nothing => Ok(()),
+            Turning::Retired(node) => self.retire(node),
+            Turning::All(turns) => self.apply(&turns),
+        }
     }
 
     // What the change turns. The hints are noted at once: they are no part of the sets.
-    fn turns(&mut self, replica: &Replica, change: &Change) -> Result<Turns, AllocError>
-        ensures turns { IfOk result (AreTurns self.old) }
-        ensures told { IfOk result (λ turns. (s : ReplicaState) → IsChangedTo s change.now replica.now
-            → AreInstabilities (content_of s) self.old → AreTold (content_of replica.now) self.old turns) }
+    fn turning(&mut self, replica: &Replica, change: &Change) -> Result<Turning, AllocError>
+        ensures turns { IfOk result (MayTurn self.old) }
+        ensures told { IfOk result (λ turning. (s : ReplicaState) → IsChangedTo s change.now replica.now
+            → AreInstabilities (content_of s) self.old → IsTold (content_of replica.now) self.old turning) }
         ensures unchanged { self.new ≡ self.old }
     {
         let mut holders = mem::replace(&mut self.holders, Holders::new(self.alloc));
-        let turns = Turns::of(self.alloc, self, &mut holders, replica, change);
+        let turning = Turning::of(self.alloc, self, &mut holders, replica, change);
         self.holders = holders;
-        turns
+        turning
+    }
+
+    // Puts the node among the obsolete and the extinct ones, or leaves both sets as they are.
+    fn retire(&mut self, node: Node) -> Result<(), AllocError>
+        ensures retired { OnOk result (IsRetired self.old node self.new) }
+        ensures unchanged { OnErr result (self.new ≡ self.old) }
+    {
+        let came = put(&mut self.obsolete, node)?;
+        match put(&mut self.extinct, node) {
+            Ok(_) => Ok(()),
+            Err(refused) => {
+                take_back(&mut self.obsolete, node, came);
+                Err(refused)
+            }
+        }
     }
 
     // Has each set turn, or none.

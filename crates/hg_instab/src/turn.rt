@@ -2,13 +2,13 @@
 //!
 //! All that comes is put in first, which alone takes memory; where that is refused, what came is taken out again, and
 //! the set is as it was.
-ghost use Rattle.std.specs.Prelude.{◌≡◌, ◌↔◌, ◌⊎◌, List, Contains, IfOk, OnOk, IsTrue};
+ghost use Rattle.std.specs.Prelude.{◌≡◌, ◌↔◌, ◌⊎◌, List, Contains, IfOk, OnOk, OnErr, IsTrue};
 ghost use Rattle.std.specs.List.Sorted.{IsStrictlySortedBy};
 ghost use Rattle.hg_changeset.specs.declared.node.Node.{Node};
 ghost use Rattle.hg_changeset.specs.Node.{node_cmp};
 ghost use Rattle.hg_instab.specs.Calm.{IsGrowth, IsRest};
 ghost use Rattle.hg_instab.specs.Changed.{IsNow};
-ghost use Rattle.hg_instab.specs.Turns.{IsTurn, IsThen, IsStage, HasCome};
+ghost use Rattle.hg_instab.specs.Turns.{IsTurn, IsThen, IsStage, HasCome, HasPut};
 
 use crate::among::{among, has, inside, is_missing, outside, set_of};
 use hg_changeset::Node;
@@ -166,6 +166,26 @@ fn insert_all(set: &mut BTreeSet<Node>, nodes: &[Node]) -> Result<(), AllocError
         set.insert(*node)?;
     }
     Ok(())
+}
+
+// Puts the node into the set, and answers whether it came.
+pub(crate) fn put(set: &mut BTreeSet<Node>, node: Node) -> Result<bool, AllocError>
+    ensures ok { IfOk result (λ came. HasPut node came set.old.keys set.new.keys) }
+    ensures unchanged { OnErr result (set.new.keys ≡ set.old.keys) }
+{
+    // It says that the set is in order.
+    let _len = set.len();
+    let came = set.insert(node)?;
+    Ok(came)
+}
+
+// Takes the node out again, if it came.
+pub(crate) fn take_back(set: &mut BTreeSet<Node>, node: Node, came: bool)
+    ensures { (before : List Node) → HasPut node came before set.old.keys → set.new.keys ≡ before }
+{
+    if came {
+        set.remove(&node);
+    }
 }
 
 // Removes the nodes.

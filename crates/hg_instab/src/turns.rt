@@ -9,13 +9,13 @@ ghost use Rattle.hg_instab.specs.Changed.{Follows, IsChangedTo, IsSeed, IsNow};
 ghost use Rattle.hg_instab.specs.Instabilities.{AreInstabilities, IsContentDivergent};
 ghost use Rattle.hg_instab.specs.Near.{IsAfterPublic, IsClosed};
 ghost use Rattle.hg_instab.specs.Region.{AreStarts};
-ghost use Rattle.hg_instab.specs.Turns.{AreTurns, AreTold, IsTurn, IsThen};
+ghost use Rattle.hg_instab.specs.Turns.{AreTurns, AreTold, IsTurn, IsThen, IsTold, MayTurn};
 ghost use Rattle.hg_instab.specs.Turns.{AreDivergenceTurns, IsDivergenceTold};
 
 use crate::after_public::newly_after_public;
 use crate::amend::{amend_of, turns_by_amend};
 use crate::among::{among, has, list_of, obsolete_among, set_of};
-use crate::calm::{are_calm, calm_turns, retired_among, stranded_among};
+use crate::calm::{are_calm, calm_turning, retired_among, stranded_among};
 use crate::divergence::divergent_within;
 use crate::extinct_walk::turned_extinct;
 use crate::holders::Holders;
@@ -59,7 +59,17 @@ impl Drop for Turns {
     }
 }
 
-impl Turns {
+// What a change turns.
+pub(crate) enum Turning {
+    // Nothing.
+    Nothing,
+    // This node becomes obsolete and extinct, and nothing else turns.
+    Retired(Node),
+    // All that is told here.
+    All(Turns),
+}
+
+impl Turning {
     // What a change turns in the sets, which were those before it.
     pub(crate) fn of(
         alloc: Global,
@@ -67,10 +77,10 @@ impl Turns {
         holders: &mut Holders,
         replica: &Replica,
         change: &Change,
-    ) -> Result<Turns, AllocError>
-        ensures turns { IfOk result (AreTurns sets.now) }
-        ensures told { IfOk result (λ turns. (s : ReplicaState) → IsChangedTo s change.now replica.now
-            → AreInstabilities (content_of s) sets.now → AreTold (content_of replica.now) sets.now turns) }
+    ) -> Result<Turning, AllocError>
+        ensures turns { IfOk result (MayTurn sets.now) }
+        ensures told { IfOk result (λ turning. (s : ReplicaState) → IsChangedTo s change.now replica.now
+            → AreInstabilities (content_of s) sets.now → IsTold (content_of replica.now) sets.now turning) }
     {
         // It says that the replica is in a valid state.
         let _graph = replica.graph();
@@ -81,13 +91,16 @@ impl Turns {
             let retired = retired_among(alloc, replica, sets.extinct(), &seeds)?;
             let stranded = stranded_among(alloc, replica, sets, &retired, &seeds)?;
             if are_calm(alloc, replica, sets, holders, &retired, &stranded, &seeds) {
-                return calm_turns(alloc, sets, &retired, &stranded);
+                return calm_turning(alloc, sets, &retired, &stranded);
             }
         }
-        Turns::asked(alloc, sets, holders, replica, change, &seeds, &met, starts)
+        let turns = Turns::asked(alloc, sets, holders, replica, change, &seeds, &met, starts)?;
+        Ok(Turning::All(turns))
     }
+}
 
-    // The same by asking again whatever can have turned.
+impl Turns {
+    // What a change turns, by asking again whatever can have turned.
     fn asked(
         alloc: Global,
         sets: &Instabilities,
