@@ -48,9 +48,10 @@ fn a_line_and_its_end_are_one_write(rt: HostRuntime) {
 #[test]
 fn replicas_agree_where_their_states_are_equal(rt: HostRuntime) {
     let script =
-        b"node A\nnode B\ncommit A a draft\nagree A B\ncommit B a draft\nagree A B\nagree B B\ncommit A b secret\n\
-            commit B b draft\nagree B A\n";
-    let output = b"agree A B: no\nagree A B: yes\nagree B B: yes\nagree B A: no\n";
+        b"node A\nnode B\ncommit A a draft\nagree A B\nagree B A\ncommit B a draft\nagree A B\nagree B B\n\
+            commit A b secret\ncommit B b draft\nagree B A\n";
+    let output =
+        b"agree A B: no\nagree B A: no\nagree A B: yes\nagree B B: yes\nagree B A: no\n";
     expect(&rt, rt.alloc(), script, output, "");
 }
 
