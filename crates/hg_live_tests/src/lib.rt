@@ -1,4 +1,4 @@
-//! Tests of `hg_live`, as a caller from outside sees it.
+//! Tests of `hg_live` and `hg_race`, as a caller from outside sees them.
 #![tactic(auto)]
 
 #[cfg(test)]
@@ -13,6 +13,8 @@ mod looks;
 mod making;
 #[cfg(test)]
 mod passes;
+#[cfg(test)]
+mod races;
 #[cfg(test)]
 mod refusals;
 #[cfg(test)]

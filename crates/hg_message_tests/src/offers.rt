@@ -1,39 +1,14 @@
 //! Offers of a few changesets: what is in them, in which order, and why there is none.
 use crate::rows::{ROOT, SERVED, WHOLE, child_above_root};
+use crate::scene::{ascending, commit, empty};
 use hg_changeset::{Changeset, Node};
 use hg_marker::{Marker, Metadata};
 use hg_message::{Message, OfferRefusal, Outgoing, Scope, offer};
 use hg_phases::Phase;
-use hg_replica::{Part, Replica};
+use hg_replica::Replica;
 use hg_view::{Kept, Pins};
 use std::alloc::Global;
 use std::process::Abort;
-
-fn empty(alloc: Global) -> Part {
-    Part {
-        changesets: Vec::new(alloc),
-        bounds: Vec::new(alloc),
-        markers: Vec::new(alloc),
-    }
-}
-
-// Takes in a changeset of this parent and text, in this phase.
-fn commit(
-    alloc: Global,
-    replica: &mut Replica,
-    parent: Node,
-    text: &[u8],
-    phase: Phase,
-) -> Option<Node> {
-    let text = Vec::from_slice(alloc, text).ok()?;
-    let changeset = Changeset::new(parent, Node::NULL, text).ok()?;
-    let node = changeset.node();
-    let mut part = empty(alloc);
-    part.changesets.push(changeset).ok()?;
-    part.bounds.push((node, phase)).ok()?;
-    replica.absorb(&part).ok()?;
-    Some(node)
-}
 
 // Takes in the marker that a node was rewritten to others, or pruned; it records this parent.
 fn rewrite(
@@ -71,15 +46,6 @@ fn scene(alloc: Global, replica: &mut Replica) -> Option<Nodes> {
     rewrite(alloc, replica, Node([0x11; 20]), &[e], b)?;
     rewrite(alloc, replica, Node([0x22; 20]), &[a], Node::NULL)?;
     Some(Nodes { a, b, c })
-}
-
-// The two, the lesser first.
-fn ascending(one: Node, other: Node) -> [Node; 2] {
-    if one.0 < other.0 {
-        [one, other]
-    } else {
-        [other, one]
-    }
 }
 
 // Whether the changesets are these, in this order.

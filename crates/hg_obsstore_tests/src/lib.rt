@@ -1,5 +1,11 @@
-//! Tests of `hg_obsstore`, as a caller from outside sees it.
+//! Tests of `hg_marker`, `hg_obsstore` and `hg_relevant`, as a caller from outside sees them.
 #![tactic(auto)]
 
 #[cfg(test)]
-mod tests;
+mod markers;
+#[cfg(test)]
+mod nodes;
+#[cfg(test)]
+mod relevant;
+#[cfg(test)]
+mod stores;

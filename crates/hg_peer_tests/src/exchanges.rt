@@ -1,11 +1,11 @@
 //! Short lists of events over peers, and what each is answered; each growth refused in turn.
 use hg_changeset::{Entry, Node};
 use hg_history::Fault;
-use hg_instab_tests::are_same;
 use hg_join::{JoinState, NoMemory};
 use hg_peer::{Ask, Mark, Peer, PeerRefusal, Scope};
 use hg_phases::Phase;
 use hg_replica::Change;
+use hg_replica_tests::are_same;
 use hg_rewrite::Op;
 use hg_view::PinRefusal;
 use hg_world::{Answer, Event, EventRefusal, World};

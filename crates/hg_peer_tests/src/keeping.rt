@@ -3,11 +3,11 @@
 use crate::operations::{some_node, some_operation};
 use hg_changeset::Node;
 use hg_history::Fault;
-use hg_instab_tests::{are_same, is_up_to_date};
 use hg_join_tests::Dice;
 use hg_message::{Message, OfferRefusal, Outgoing, Scope};
 use hg_phases::Phase;
 use hg_replica::{Part, Replica};
+use hg_replica_tests::{are_same, is_up_to_date};
 use hg_rewrite::{Op, Refusal, decide};
 use hg_view::Kept;
 use std::alloc::Global;

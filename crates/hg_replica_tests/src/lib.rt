@@ -1,8 +1,11 @@
-//! Tests of `hg_replica`, as a caller from outside sees it.
+//! Tests of `hg_replica`, `hg_succ`, `hg_instab` and `hg_view`, as a caller from outside sees them, with what compares
+//! sets of instabilities.
 #![tactic(auto)]
 
 #[cfg(test)]
 mod absorbing;
+#[cfg(test)]
+mod instabilities;
 #[cfg(test)]
 mod joining;
 #[cfg(test)]
@@ -11,3 +14,8 @@ mod opening;
 mod parts;
 #[cfg(test)]
 mod rooting;
+mod same;
+#[cfg(test)]
+mod successors;
+
+pub use same::{are_same, has_exactly, is_up_to_date};

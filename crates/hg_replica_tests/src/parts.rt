@@ -1,8 +1,9 @@
 //! Parts to take in, and what a replica says. `None` where memory ran out.
 use hg_changeset::{Changeset, Node};
-use hg_marker::{Marker, Metadata};
+use hg_marker::{Marker, Metadata, decode};
 use hg_phases::Phase;
 use hg_replica::{Part, Replica};
+use hg_succ::{Sets, successors_sets};
 use std::alloc::Global;
 
 pub const ONES: Node = Node([0x11; 20]);
@@ -40,6 +41,19 @@ pub fn push_marker(alloc: Global, part: &mut Part, old: Node, new: Node) -> Opti
     let successors = Vec::from_slice(alloc, &[new]).ok()?;
     let marker = Marker::new(old, successors, 0, metadata).ok()?;
     part.markers.push(marker).ok()
+}
+
+/// The marker as it comes from elsewhere, by its bytes: one that is made may not be its own successor.
+pub fn received(alloc: Global, old: Node, new: &[Node], flags: u8) -> Option<Marker> {
+    let mut bytes = Vec::new(alloc);
+    bytes.push(u8::try_from(new.len()).ok()?).ok()?;
+    bytes.extend_from_slice(&[0, 0, 0, 0, flags]).ok()?;
+    bytes.extend_from_slice(&old.0).ok()?;
+    for node in new {
+        bytes.extend_from_slice(&node.0).ok()?;
+    }
+    let (marker, _) = decode(alloc, &bytes).ok()?;
+    Some(marker)
 }
 
 /// The part of the changeset under this parent, with a bound. And the changeset's id.
@@ -83,4 +97,12 @@ pub fn counts(replica: &Replica) -> (usize, usize) {
 /// Whether two replicas hold the same.
 pub fn are_equal(one: &Replica, other: &Replica) -> bool {
     one.is_below(other) && other.is_below(one) && counts(one) == counts(other)
+}
+
+/// Whether a changeset has more successors sets than are told.
+pub fn is_overfull(alloc: Global, replica: &Replica, node: Node) -> Option<bool> {
+    match successors_sets(alloc, replica, node).ok()? {
+        Sets::Family(_) => Some(false),
+        Sets::Overfull => Some(true),
+    }
 }

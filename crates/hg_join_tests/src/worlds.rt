@@ -1,0 +1,4 @@
+//! Worlds of prices.
+mod exchanges;
+mod schedules;
+mod words;

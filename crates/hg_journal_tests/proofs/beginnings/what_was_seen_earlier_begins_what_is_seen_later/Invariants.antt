@@ -1,4 +1,0 @@
-use Rattle.hg_journal_tests.proofs.beginnings.what_was_seen_earlier_begins_what_is_seen_later.Given as goal
-
-abbrev pub ghosts-grows : goal.ghosts-grows
-ghosts-grows g a = record { book = a.opened }

@@ -1,0 +1,3 @@
+//! What two replicas have in common.
+mod plain;
+mod rounds;

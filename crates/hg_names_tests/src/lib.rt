@@ -1,5 +1,0 @@
-//! Tests of `hg_names`, from outside.
-#![tactic(auto)]
-
-#[cfg(test)]
-mod tests;

@@ -1,0 +1,5 @@
+//! Drawings of histories.
+mod dot;
+mod log;
+mod memory;
+mod scene;

@@ -1,0 +1,7 @@
+//! Successors sets.
+mod growth;
+mod large;
+mod plain;
+mod scene;
+mod small;
+mod wide;
