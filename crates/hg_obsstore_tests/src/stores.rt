@@ -19,10 +19,14 @@ fn marker(alloc: Global, predecessor: Node, successors: &[Node]) -> Option<Marke
 
 // A prune of OLD that records NEW as both of its parents.
 fn prune(alloc: Global) -> Option<Marker> {
+    prune_between(alloc, b'2')
+}
+
+// A prune of OLD that records NEW as its first parent, and the id of this digit alone as its second.
+fn prune_between(alloc: Global, second: u8) -> Option<Marker> {
     let mut metadata = Metadata::new(alloc);
-    for key in [b"p1", b"p2"] {
-        metadata.insert(alloc, key, &[b'2'; 40]).ok()?;
-    }
+    metadata.insert(alloc, b"p1", &[b'2'; 40]).ok()?;
+    metadata.insert(alloc, b"p2", &[second; 40]).ok()?;
     Marker::new(OLD, Vec::new(alloc), 0, metadata).ok()
 }
 
@@ -160,6 +164,15 @@ fn holds_a_marker_once(rt: HostRuntime) {
     assert!(rt; store.with_child(OLD).is_empty());
     add(&rt, &mut store, marker(alloc, NEW, &[OLD, OLD]));
     assert!(rt; store.with_successor(OLD) == [1usize].as_slice());
+}
+
+#[test]
+fn lists_a_prune_at_each_of_its_parents(rt: HostRuntime) {
+    let alloc = rt.alloc();
+    let mut store = Store::new(alloc);
+    add(&rt, &mut store, prune_between(alloc, b'3'));
+    assert!(rt; store.with_child(NEW) == [0usize].as_slice());
+    assert!(rt; store.with_child(Node([0x33; 20])) == [0usize].as_slice());
 }
 
 #[test]
