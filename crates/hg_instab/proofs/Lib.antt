@@ -15,6 +15,7 @@ mod CalmLemmas
 mod FirstLemmas
 pub mod ChangedLemmas
 pub mod NearLemmas
+pub mod FewLemmas
 pub mod TurnedLemmas
 pub mod UnmarkedLemmas
 pub mod WaitingLemmas

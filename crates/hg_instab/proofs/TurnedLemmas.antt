@@ -1,19 +1,14 @@
 -- Sets of which some nodes are turned.
-use Rattle.std.proofs.Common.{◌≡◌, ◌≢◌, Bool, true, false, true≢false, not, IsTrue, cond, List, Contains, ◌↔◌, ◌⊎◌}
-use Rattle.std.proofs.Common.{inl, inr, refl, sym, ap, subst, ◌∙◌}
-use Rattle.std.specs.Cmp.{IsTotalOrder, Equal-is}
+use Rattle.std.proofs.Common.{◌≡◌, ◌≢◌, Bool, true, false, true≢false, not, IsTrue, List, Contains, ◌↔◌, ◌⊎◌}
+use Rattle.std.proofs.Common.{inl, inr, refl, sym, subst, ◌∙◌}
 use Rattle.std.specs.List.{list_any}
-use Rattle.std.specs.declared.cmp.Ordering.{Ordering}
-use Rattle.std.specs.BTreeMap.{is_at}
-use Rattle.std.specs.BTreeSet.{BTreeSet, Updates, contains}
 use Rattle.std.proofs.lemmas.Bool.{cases_Bool}
-use Rattle.std.proofs.lemmas.Map.Lookups.{CmpEqualImpliesEq}
-use Rattle.std.proofs.lemmas.Map.Views.{btree_set_contains_iff, Contains-from_any, list_any-from_Contains}
+use Rattle.std.proofs.lemmas.Map.Views.{Contains-from_any, list_any-from_Contains}
 use Rattle.hg_changeset.specs.declared.node.Node.{Node}
-use Rattle.hg_changeset.specs.Node.{node_cmp, node_eq}
-use Rattle.hg_changeset.proofs.NodeLemmas.{node_cmp_total, node_cmp_exact, same_node, node_eq_laws}
-use Rattle.hg_graph.proofs.WalkLemmas.{inserted}
+use Rattle.hg_changeset.specs.Node.{node_eq}
+use Rattle.hg_changeset.proofs.NodeLemmas.{same_node, node_eq_laws}
 use Rattle.hg_instab.specs.Changed.{IsNow}
+use Rattle.hg_instab.specs.Few.{Comes, IsWithout}
 use Rattle.hg_instab.specs.Settling.{IsTurned}
 
 pub contains-or : (ns : List Node) (n : Node) → Contains ns n ⊎ (¬ (Contains ns n))
@@ -61,57 +56,33 @@ not-now old set turned n b is told off now =
 
 -- ---- one node is turned
 
--- whether it was there, by whether it is new
-pub was-there : (fresh has : Bool) → fresh ≡ not has → fresh ≡ false → has ≡ true
-was-there fresh true e f = refl
-was-there fresh false e f = absurd (true≢false (sym e ∙ f))
-
-pub wasnt-there : (fresh has : Bool) → fresh ≡ not has → fresh ≡ true → has ≡ false
-wasnt-there fresh true e t = absurd (true≢false (sym t ∙ e))
-wasnt-there fresh false e t = refl
-
--- one key less
-removed : {K : Type 0} {R : K → K → Ordering} (o : IsTotalOrder R) (exact : CmpEqualImpliesEq R) (s t : BTreeSet K)
-    (k : K) → Updates R s t k false → (q : K) → Contains t.keys q ↔ (Contains s.keys q × (q ≢ k))
-removed {R = R} o exact s t k up q = (
-  λ h. (
-    elim (cases_Bool (is_at (R k) q)) [
-      | inl e ↦ absurd (true≢false
-          (sym ((btree_set_contains_iff o exact t q).1 h) ∙ up.0 q ∙ ap (λ b. cond b false (contains R s q)) e))
-      | inr ne ↦
-          (btree_set_contains_iff o exact s q).0 (sym (up.2 q ne) ∙ (btree_set_contains_iff o exact t q).1 h)
-    ],
-    λ same. true≢false (sym ((btree_set_contains_iff o exact t q).1 h) ∙ ap (contains R t) same ∙ up.1),
-  ),
-  λ h. elim (cases_Bool (is_at (R k) q)) [
-    | inl e ↦ absurd (h.1 (sym (exact k q ((Equal-is (R k q)).0 e))))
-    | inr ne ↦
-        (btree_set_contains_iff o exact t q).0 (up.2 q ne ∙ (btree_set_contains_iff o exact s q).1 h.0)
-  ],
-)
-
-pub turned-added : (s t : BTreeSet Node) (k : Node) → ¬ (Contains s.keys k) → Updates node_cmp s t k true
-    → IsTurned k s.keys t.keys
-turned-added s t k none up n =
-    let added = inserted node_cmp_total node_cmp_exact s t k up n in (
-      λ h. elim (added.0 h) [
-        | inl old ↦ inl (old, λ same. none (subst (Contains s.keys) same old))
-        | inr same ↦ inr ((λ old. none (subst (Contains s.keys) (sym same) old)), sym same)
+-- it came
+pub turned-added : (old new : List Node) (node : Node) (came : Bool) → Comes node came old new → came ≡ true
+    → IsTurned node old new
+turned-added old new node came comes is n =
+    let none = comes.fresh.0 is in (
+      λ h. elim ((comes.then n).0 h) [
+        | inl was ↦ inl (was, λ same. none (subst (Contains old) same was))
+        | inr same ↦ inr ((λ was. none (subst (Contains old) (sym same) was)), sym same)
       ],
-      λ h. added.1 (elim h [ inl old ↦ inl old.0 | inr new ↦ inr (sym new.1) ]),
+      λ h. (comes.then n).1 (elim h [ inl was ↦ inl was.0 | inr new ↦ inr (sym new.1) ]),
     )
 
--- the key that was there is out, though it was put in once more
-pub turned-removed : (s between t : BTreeSet Node) (k : Node) → Contains s.keys k → between.keys ≡ s.keys
-    → Updates node_cmp between t k false → IsTurned k s.keys t.keys
-turned-removed s between t k there same up n =
-    let less = removed node_cmp_total node_cmp_exact between t k up n in (
-      λ h. let x = less.0 h in inl (subst (λ ns. Contains ns n) same x.0, x.1),
-      λ h. less.1 (elim h [
-        | inl old ↦ (subst (λ ns. Contains ns n) (sym same) old.0, old.1)
-        | inr new ↦ absurd (new.0 (subst (Contains s.keys) (sym new.1) there))
-      ]),
-    )
+-- it didn't come, as it was there, and is taken out
+pub turned-removed : (old between new : List Node) (node : Node) (came : Bool) → Comes node came old between
+    → came ≡ false → IsWithout node between new → IsTurned node old new
+turned-removed old between new node came comes is less n = (
+  λ h.
+      let x = (less n).0 h in
+      inl (elim ((comes.then n).0 x.0) [ inl was ↦ was | inr same ↦ absurd (x.1 (sym same)) ], x.1),
+  λ h. (less n).1 (elim h [
+    | inl was ↦ ((comes.then n).1 (inl was.0), was.1)
+    | inr new ↦ absurd (elim (contains-or old node) [
+      | inl there ↦ new.0 (subst (Contains old) (sym new.1) there)
+      | inr none ↦ true≢false (sym (comes.fresh.1 none) ∙ is)
+    ])
+  ]),
+)
 
 pub others-alike : (node : Node) (old new : List Node) → IsTurned node old new → (n : Node) → n ≢ node
     → Contains new n ↔ Contains old n

@@ -2,6 +2,8 @@ pub mod AfterPublic
 pub mod Amend
 pub mod Calm
 pub mod Changed
+pub mod Few
+pub mod FewKeys
 pub mod Instabilities
 pub mod Local
 pub mod Near

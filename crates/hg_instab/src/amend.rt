@@ -14,7 +14,7 @@ ghost use Rattle.hg_instab.specs.Instabilities.{AreInstabilities};
 ghost use Rattle.hg_instab.specs.Turns.{IsThen, IsTurn, AreDivergenceTurns, IsDivergenceTold};
 ghost use Rattle.hg_instab.specs.Walk.{IsFork};
 
-use crate::among::has;
+use crate::among::{has, one};
 use crate::divergence::is_fork;
 use crate::instabilities::Instabilities;
 use crate::near::is_near;
@@ -206,15 +206,6 @@ fn has_heir(replica: &Replica, set: &BTreeSet<Node>, amend: Amend) -> bool
     ensures { IsTrue result ↔ (Contains set.now.keys amend.from × IsCurrent (content_of replica.now) amend.to) }
 {
     has(set, amend.from) && is_current(replica, amend.to)
-}
-
-// The node alone.
-fn one(alloc: Global, node: Node) -> Result<Vec<Node>, AllocError>
-    ensures { IfOk result (λ nodes. nodes.items ≡ node ∷ []) }
-{
-    let mut nodes = Vec::new(alloc);
-    nodes.push(node)?;
-    Ok(nodes)
 }
 
 // The ids near forks: the new one is among them.

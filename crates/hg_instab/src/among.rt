@@ -1,5 +1,5 @@
 //! Those of some changesets of which something holds.
-ghost use Rattle.std.specs.Prelude.{◌≡◌, ◌↔◌, ◌⊎◌, Contains, IfOk, IsTrue, true, false};
+ghost use Rattle.std.specs.Prelude.{◌≡◌, ◌↔◌, ◌⊎◌, ◌∷◌, [], Contains, IfOk, IsTrue, true, false};
 ghost use Rattle.hg_changeset.specs.declared.node.Node.{Node};
 ghost use Rattle.hg_replica.specs.Content.{content_of};
 ghost use Rattle.hg_replica.specs.Evolution.{IsObsolete, IsCurrent};
@@ -120,6 +120,15 @@ pub(crate) fn set_of(alloc: Global, nodes: Vec<Node>) -> Result<BTreeSet<Node>, 
     ensures { IfOk result (λ set. (n : Node) → Contains set.keys n ↔ Contains nodes.items n) }
 {
     nodes.into_iter().collect(alloc)
+}
+
+// The node alone.
+pub(crate) fn one(alloc: Global, node: Node) -> Result<Vec<Node>, AllocError>
+    ensures { IfOk result (λ nodes. nodes.items ≡ node ∷ []) }
+{
+    let mut nodes = Vec::new(alloc);
+    nodes.push(node)?;
+    Ok(nodes)
 }
 
 // The nodes of a set.

@@ -2,10 +2,10 @@
 //! something obsolete or on an orphan becomes an orphan: commits, publications, and amends, folds, rebases and prunes
 //! of what nothing else stands on, wherever nothing else near is unstable.
 //!
-//! Most changes are so. One pass over what was touched finds what is retired, which takes no memory where nothing is,
-//! and one finds what is stranded; a few look-ups for each then tell whether it is calm, and where all is, no walk
-//! begins.
-ghost use Rattle.std.specs.Prelude.{◌≡◌, ◌↔◌, ◌∷◌, [], ℕ, Some, Contains, IfOk, IfSome, IsTrue};
+//! Most changes are so. One pass over what was touched finds what is retired, and one what is stranded: mostly one
+//! changeset and none, which takes no memory. A few look-ups for each then tell whether it is calm, and where all is,
+//! no walk begins.
+ghost use Rattle.std.specs.Prelude.{◌≡◌, ◌↔◌, ℕ, Some, Contains, IfOk, IsTrue};
 ghost use Rattle.hg_changeset.specs.declared.node.Node.{Node};
 ghost use Rattle.hg_graph.specs.Places.{IsAt};
 ghost use Rattle.hg_phases.specs.State.{changesets};
@@ -18,8 +18,9 @@ ghost use Rattle.hg_instab.specs.Changed.{IsNow};
 ghost use Rattle.hg_instab.specs.Local.{IsParentOf};
 ghost use Rattle.hg_instab.specs.Turns.{AreTurns, MayTurn};
 
-use crate::among::{has, is_missing, list_of};
+use crate::among::is_missing;
 use crate::extinct_walk::is_extinct_now;
+use crate::few::Few;
 use crate::holders::Holders;
 use crate::instabilities::Instabilities;
 use crate::orphan_walk::stands_on_unstable;
@@ -39,14 +40,14 @@ pub(crate) fn retired_among(
     replica: &Replica,
     extinct: &BTreeSet<Node>,
     nodes: &[Node],
-) -> Result<BTreeSet<Node>, AllocError>
+) -> Result<Few, AllocError>
     ensures { IfOk result (λ retired.
         AreRetired (content_of replica.now) extinct.now.keys nodes.now retired.keys) }
 {
-    let mut retired = BTreeSet::new(alloc);
+    let mut retired = Few::new();
     for node in nodes {
         if is_retired(replica, extinct, *node) {
-            retired.insert(*node)?;
+            retired.insert(alloc, *node)?;
         }
     }
     Ok(retired)
@@ -64,45 +65,38 @@ pub(crate) fn stranded_among(
     alloc: Global,
     replica: &Replica,
     sets: &Instabilities,
-    retired: &BTreeSet<Node>,
+    retired: &Few,
     nodes: &[Node],
-) -> Result<BTreeSet<Node>, AllocError>
+) -> Result<Few, AllocError>
     ensures { IfOk result (λ stranded.
         AreStranded (content_of replica.now) sets.now retired.now.keys nodes.now stranded.keys) }
 {
-    let mut stranded = BTreeSet::new(alloc);
+    let mut stranded = Few::new();
     if sets.suspended().is_empty() {
         return Ok(stranded);
     }
     for node in nodes {
-        if is_stranded(alloc, replica, sets, retired, *node) {
-            stranded.insert(*node)?;
+        if is_stranded(replica, sets, retired, *node) {
+            stranded.insert(alloc, *node)?;
         }
     }
     Ok(stranded)
 }
 
-fn is_stranded(
-    alloc: Global,
-    replica: &Replica,
-    sets: &Instabilities,
-    retired: &BTreeSet<Node>,
-    node: Node,
-) -> bool
+fn is_stranded(replica: &Replica, sets: &Instabilities, retired: &Few, node: Node) -> bool
     ensures { IsTrue result → IsStranded (content_of replica.now) sets.now retired.now.keys node }
 {
     match replica.graph().place(node) {
-        Some(place) => is_stranded_at(alloc, replica, sets, retired, place, node),
+        Some(place) => is_stranded_at(replica, sets, retired, place, node),
         None => false,
     }
 }
 
 // Whether what stands at the place is stranded.
 fn is_stranded_at(
-    alloc: Global,
     replica: &Replica,
     sets: &Instabilities,
-    retired: &BTreeSet<Node>,
+    retired: &Few,
     place: usize,
     node: Node,
 ) -> bool
@@ -118,7 +112,7 @@ fn is_stranded_at(
     if has_now(sets.extinct(), retired, node) {
         return false;
     }
-    let none = BTreeSet::new(alloc);
+    let none = Few::new();
     stands_on_unstable(replica, sets.orphan(), &none, place, node)
 }
 
@@ -135,7 +129,7 @@ fn is_lone(replica: &Replica, place: usize, node: Node) -> bool
 fn stands_on_kept(
     replica: &Replica,
     extinct: &BTreeSet<Node>,
-    retired: &BTreeSet<Node>,
+    retired: &Few,
     place: usize,
     node: Node,
 ) -> bool
@@ -152,7 +146,7 @@ fn stands_on_kept(
 fn is_kept_at(
     replica: &Replica,
     extinct: &BTreeSet<Node>,
-    retired: &BTreeSet<Node>,
+    retired: &Few,
     place: Option<usize>,
 ) -> bool
     ensures { IsTrue result → (k : ℕ) (p : Node) → place ≡ Some k → IsAt (changesets replica.now.history) p k
@@ -169,19 +163,18 @@ fn is_kept_at(
 
 // Whether each of the nodes that is held is calm, where these are retired and these are stranded.
 pub(crate) fn are_calm(
-    alloc: Global,
     replica: &Replica,
     sets: &Instabilities,
     holders: &mut Holders,
-    retired: &BTreeSet<Node>,
-    stranded: &BTreeSet<Node>,
+    retired: &Few,
+    stranded: &Few,
     nodes: &[Node],
 ) -> bool
     ensures { IsTrue result → (n : Node) → Contains nodes.now n → IsHeld (content_of replica.now).0 n
         → IsCalm (content_of replica.now) sets.now retired.now.keys stranded.now.keys n }
 {
     for node in nodes {
-        if !is_calm(alloc, replica, sets, holders, retired, stranded, *node) {
+        if !is_calm(replica, sets, holders, retired, stranded, *node) {
             return false;
         }
     }
@@ -190,33 +183,29 @@ pub(crate) fn are_calm(
 
 // Whether the node is calm, or isn't held.
 fn is_calm(
-    alloc: Global,
     replica: &Replica,
     sets: &Instabilities,
     holders: &mut Holders,
-    retired: &BTreeSet<Node>,
-    stranded: &BTreeSet<Node>,
+    retired: &Few,
+    stranded: &Few,
     node: Node,
 ) -> bool
     ensures { IsTrue result → IsHeld (content_of replica.now).0 node
         → IsCalm (content_of replica.now) sets.now retired.now.keys stranded.now.keys node }
 {
     match replica.graph().place(node) {
-        Some(place) => is_calm_at(
-            alloc, replica, sets, holders, retired, stranded, place, node,
-        ),
+        Some(place) => is_calm_at(replica, sets, holders, retired, stranded, place, node),
         None => true,
     }
 }
 
 // Whether what stands at the place is calm.
 fn is_calm_at(
-    alloc: Global,
     replica: &Replica,
     sets: &Instabilities,
     holders: &mut Holders,
-    retired: &BTreeSet<Node>,
-    stranded: &BTreeSet<Node>,
+    retired: &Few,
+    stranded: &Few,
     place: usize,
     node: Node,
 ) -> bool
@@ -226,9 +215,7 @@ fn is_calm_at(
     if !is_apart(sets, node) {
         return false;
     }
-    is_settled(
-        alloc, replica, sets, holders, retired, stranded, place, node,
-    )
+    is_settled(replica, sets, holders, retired, stranded, place, node)
 }
 
 // Whether it is in none of the sets of what is unstable or suspended, nor after something public.
@@ -244,12 +231,11 @@ fn is_apart(sets: &Instabilities, node: Node) -> bool
 // Whether it is obsolete and all that stands on it was extinct or is retired too, or neither was it extinct nor is it
 // retired and it stands on nothing unstable or is stranded.
 fn is_settled(
-    alloc: Global,
     replica: &Replica,
     sets: &Instabilities,
     holders: &mut Holders,
-    retired: &BTreeSet<Node>,
-    stranded: &BTreeSet<Node>,
+    retired: &Few,
+    stranded: &Few,
     place: usize,
     node: Node,
 ) -> bool
@@ -259,10 +245,10 @@ fn is_settled(
     if has_now(sets.extinct(), retired, node) {
         return is_extinct_now(replica, sets.extinct(), holders, retired, place, node);
     }
-    if has(stranded, node) {
+    if stranded.contains(node) {
         return true;
     }
-    let none = BTreeSet::new(alloc);
+    let none = Few::new();
     !stands_on_unstable(replica, sets.orphan(), &none, place, node)
 }
 
@@ -270,8 +256,8 @@ fn is_settled(
 pub(crate) fn calm_turning(
     alloc: Global,
     sets: &Instabilities,
-    retired: &BTreeSet<Node>,
-    stranded: &BTreeSet<Node>,
+    retired: &Few,
+    stranded: &Few,
 ) -> Result<Turning, AllocError>
     ensures turns { IfOk result (λ turning.
         ((n : Node) → Contains retired.now.keys n → ¬ (Contains sets.now.extinct n)) → MayTurn sets.now turning) }
@@ -281,7 +267,7 @@ pub(crate) fn calm_turning(
         if retired.is_empty() {
             return Ok(Turning::Nothing);
         }
-        if let Some(node) = only(retired) {
+        if let Some(node) = retired.only() {
             return Ok(Turning::Retired(node));
         }
     }
@@ -289,31 +275,21 @@ pub(crate) fn calm_turning(
     Ok(Turning::All(turns))
 }
 
-// The node of the set, where it is the only one.
-fn only(set: &BTreeSet<Node>) -> Option<Node>
-    ensures { IfSome result (λ node. set.now.keys ≡ node ∷ []) }
-{
-    if set.len() != 1 {
-        return None;
-    }
-    set.first().copied()
-}
-
 // The same as turns of each set: those that are retired come to the obsolete and to
 // the extinct changesets, and those that are stranded to the orphans.
 fn calm_turns(
     alloc: Global,
     sets: &Instabilities,
-    retired: &BTreeSet<Node>,
-    stranded: &BTreeSet<Node>,
+    retired: &Few,
+    stranded: &Few,
 ) -> Result<Turns, AllocError>
     ensures turns { IfOk result (λ turns.
         ((n : Node) → Contains retired.now.keys n → ¬ (Contains sets.now.extinct n)) → AreTurns sets.now turns) }
     ensures calm { IfOk result (AreCalmTurns sets.now retired.now.keys stranded.now.keys) }
 {
-    let nodes = list_of(alloc, retired)?;
+    let nodes = retired.list(alloc)?;
     let obsolete = Turn::growing(alloc, sets.obsolete(), &nodes)?;
-    let strays = list_of(alloc, stranded)?;
+    let strays = stranded.list(alloc)?;
     let orphan = Turn::growing(alloc, sets.orphan(), &strays)?;
     Ok(Turns {
         obsolete,

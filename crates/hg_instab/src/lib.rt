@@ -28,6 +28,7 @@ mod among;
 mod calm;
 mod divergence;
 mod extinct_walk;
+mod few;
 mod first;
 mod holders;
 mod instabilities;

@@ -12,6 +12,7 @@ ghost use Rattle.hg_replica.specs.Evolution.{IsObsolete, IsOrphan};
 ghost use Rattle.hg_instab.specs.Changed.{Follows, IsSeed, IsNow};
 ghost use Rattle.hg_instab.specs.Local.{IsParentOf, StandsUnstably};
 
+use crate::few::Few;
 use crate::holders::Holders;
 use crate::query::{is_current, is_obsolete_at};
 use crate::settling::{Kind, settle_all};
@@ -30,7 +31,7 @@ pub(crate) fn turned_orphans(
     orphan: &BTreeSet<Node>,
     seeds: &[Node],
     turned_obsolete: &[Node],
-) -> Result<BTreeSet<Node>, AllocError>
+) -> Result<Few, AllocError>
     ensures { IfOk result (λ turned. (s : ReplicaState) (change : ChangeValue) → IsValid s
         → Follows (content_of s) (content_of replica.now) change replica.now.markers
         → ((n : Node) → IsSeed replica.now.markers change n → Contains seeds.now n)
@@ -57,7 +58,7 @@ pub(crate) fn turned_orphans(
 pub(crate) fn is_orphan_now(
     replica: &Replica,
     orphan: &BTreeSet<Node>,
-    turned: &BTreeSet<Node>,
+    turned: &Few,
     place: usize,
     node: Node,
 ) -> bool
@@ -72,7 +73,7 @@ pub(crate) fn is_orphan_now(
 pub(crate) fn stands_on_unstable(
     replica: &Replica,
     orphan: &BTreeSet<Node>,
-    turned: &BTreeSet<Node>,
+    turned: &Few,
     place: usize,
     node: Node,
 ) -> bool
@@ -89,7 +90,7 @@ pub(crate) fn stands_on_unstable(
 fn is_unstable_at(
     replica: &Replica,
     orphan: &BTreeSet<Node>,
-    turned: &BTreeSet<Node>,
+    turned: &Few,
     place: Option<usize>,
 ) -> bool
     ensures { IsTrue result

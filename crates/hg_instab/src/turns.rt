@@ -14,10 +14,11 @@ ghost use Rattle.hg_instab.specs.Turns.{AreDivergenceTurns, IsDivergenceTold};
 
 use crate::after_public::newly_after_public;
 use crate::amend::{amend_of, turns_by_amend};
-use crate::among::{among, has, list_of, obsolete_among, set_of};
+use crate::among::{among, has, obsolete_among, set_of};
 use crate::calm::{are_calm, calm_turning, retired_among, stranded_among};
 use crate::divergence::divergent_within;
 use crate::extinct_walk::turned_extinct;
+use crate::few::Few;
 use crate::holders::Holders;
 use crate::instabilities::Instabilities;
 use crate::near::{region_from, region_starts};
@@ -90,7 +91,7 @@ impl Turning {
         if met.len() == 0 && starts.len() == 0 {
             let retired = retired_among(alloc, replica, sets.extinct(), &seeds)?;
             let stranded = stranded_among(alloc, replica, sets, &retired, &seeds)?;
-            if are_calm(alloc, replica, sets, holders, &retired, &stranded, &seeds) {
+            if are_calm(replica, sets, holders, &retired, &stranded, &seeds) {
                 return calm_turning(alloc, sets, &retired, &stranded);
             }
         }
@@ -187,7 +188,7 @@ fn suspended_turn(
     replica: &Replica,
     sets: &Instabilities,
     seeds: &[Node],
-    turned: &BTreeSet<Node>,
+    turned: &Few,
 ) -> Result<Turn, AllocError>
     ensures turn { IfOk result (IsTurn sets.now.suspended) }
     ensures told { IfOk result (λ turn. (f : Content)
@@ -197,7 +198,7 @@ fn suspended_turn(
         → (n : Node) → IsThen sets.now.suspended turn n
         ↔ (IsObsolete (content_of replica.now) n × ¬ (IsNow sets.now.extinct turned.now.keys n))) }
 {
-    let mut nodes = list_of(alloc, turned)?;
+    let mut nodes = turned.list(alloc)?;
     nodes.extend_from_slice(seeds)?;
     let now = still_kept(alloc, replica, sets.extinct(), turned, &nodes)?;
     Turn::to(alloc, sets.suspended(), &nodes, now)
@@ -208,7 +209,7 @@ fn still_kept(
     alloc: Global,
     replica: &Replica,
     extinct: &BTreeSet<Node>,
-    turned: &BTreeSet<Node>,
+    turned: &Few,
     nodes: &[Node],
 ) -> Result<Vec<Node>, AllocError>
     ensures { IfOk result (λ found. (n : Node) → Contains found.items n ↔ (Contains nodes.now n
@@ -224,7 +225,7 @@ fn still_kept(
     )
 }
 
-fn is_kept(replica: &Replica, extinct: &BTreeSet<Node>, turned: &BTreeSet<Node>, node: Node) -> bool
+fn is_kept(replica: &Replica, extinct: &BTreeSet<Node>, turned: &Few, node: Node) -> bool
     ensures { IsTrue result ↔ (IsObsolete (content_of replica.now) node
         × ¬ (IsNow extinct.now.keys turned.now.keys node)) }
 {
@@ -402,16 +403,12 @@ fn is_divergent_now(
 }
 
 // The turn of those that a walk found to turn.
-fn turn_of_set(
-    alloc: Global,
-    set: &BTreeSet<Node>,
-    turned: &BTreeSet<Node>,
-) -> Result<Turn, AllocError>
+fn turn_of_set(alloc: Global, set: &BTreeSet<Node>, turned: &Few) -> Result<Turn, AllocError>
     ensures turn { IfOk result (IsTurn set.now.keys) }
     ensures told { IfOk result (λ turn. (n : Node) → IsThen set.now.keys turn n
         ↔ IsNow set.now.keys turned.now.keys n) }
 {
-    let turned = list_of(alloc, turned)?;
+    let turned = turned.list(alloc)?;
     Turn::of(alloc, set, &turned)
 }
 

@@ -13,11 +13,11 @@ returns-then-has_now c t = inl (subst
     (λ (xs : List Node). HoldsNothing (content_of c.args.replica.now) (IsNow xs c.args.retired.now.keys) c.args.node)
     c.extinct-then-has_now.ensures (c.is_extinct_now.ensures.0 t))
 
-pub returns-then-has : goal.returns-then-has
-returns-then-has c _ = inr (
+pub returns-then-contains : goal.returns-then-contains
+returns-then-contains c _ = inr (
   not-now c.extinct.result.now.keys c.args.sets.now.extinct c.args.retired.now.keys c.args.node c.has_now.result
       c.extinct.ensures c.has_now.ensures c.if-has_now.false,
-  inr (c.has.ensures.0 c.if-has.true),
+  inr (c.contains.ensures.0 c.if-contains.true),
 )
 
 pub returns : goal.returns
@@ -26,7 +26,7 @@ returns c t =
     let was : (p : Node) → Contains orphan p → Contains c.orphan.result.now.keys p =
     λ p h. subst (λ (xs : List Node). Contains xs p) (sym c.orphan.ensures) h in
     let empty : (p : Node) → ¬ (Contains c.new-none.result.keys p) =
-    λ p x. Contains-none p (subst (λ ns. Contains ns p) c.new-none.ensures.empty x) in
+    λ p x. Contains-none p (subst (λ ns. Contains ns p) c.new-none.ensures x) in
     inr (
       not-now c.extinct.result.now.keys c.args.sets.now.extinct c.args.retired.now.keys c.args.node c.has_now.result
           c.extinct.ensures c.has_now.ensures c.if-has_now.false,

@@ -13,7 +13,7 @@ returns c t =
     let lone = c.is_lone.ensures c.if-not-is_lone.false in
     let found = c.stands_on_unstable.ensures.0 t in
     let empty : (p : Node) → ¬ (Contains c.new-none.result.keys p) =
-    λ p x. Contains-none p (subst (λ ns. Contains ns p) c.new-none.ensures.empty x) in
+    λ p x. Contains-none p (subst (λ ns. Contains ns p) c.new-none.ensures x) in
     record {
       mutable = lone.0;
       kept = not-now c.extinct-2.result.now.keys sets.extinct retired node c.has_now.result c.extinct-2.ensures

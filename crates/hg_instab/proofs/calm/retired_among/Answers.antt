@@ -2,8 +2,6 @@ use Rattle.std.proofs.Common.{take, ◌≡◌, ◌↔◌, ◌⊎◌, ◌+◌, []
 use Rattle.std.proofs.lemmas.List.{take_all}
 use Rattle.hg_changeset.specs.declared.node.Node.{Node}
 use Rattle.hg_changeset.proofs.ListLemmas.{Contains-none}
-use Rattle.hg_changeset.proofs.NodeLemmas.{node_cmp_total, node_cmp_exact}
-use Rattle.hg_graph.proofs.WalkLemmas.{inserted}
 use Rattle.hg_replica.specs.Content.{content_of}
 use Rattle.hg_replica.specs.Evolution.{IsObsolete}
 use Rattle.hg_instab.proofs.AmongLemmas.{AreThose, those-none, those-found, those-other, also-taken}
@@ -13,7 +11,7 @@ use Rattle.hg_instab.proofs.calm.retired_among.Goals.{then-is_retired+in_ok-inse
 pub loop-node-init : goal.loop-node-init
 loop-node-init c = those-none (Contains [])
     (λ n. IsObsolete (content_of c.args.replica.now) n × ¬ (Contains c.args.extinct.now.keys n)) _
-    c.new-retired.ensures.empty Contains-none
+    c.new-retired.ensures Contains-none
 
 pub loop-node-preserved : goal.loop-node-preserved
 loop-node-preserved c =
@@ -31,9 +29,7 @@ loop-node-preserved c =
           those-found Seen More P c.loop-node.retired.keys node c.loop-node.invariant also
           (c.is_retired.ensures.0 w.if-is_retired.true) _
           (λ n. subst (λ s. Contains s.keys n ↔ (Contains c.loop-node.retired.keys n ⊎ (node ≡ n)))
-          (sym w.retired-is)
-          (inserted node_cmp_total node_cmp_exact c.loop-node.retired w.insert.new.self node
-          w.in_ok-insert.ensures.updates n))
+          (sym w.retired-is) (w.in_ok-insert.ensures.then n))
       | else-is_retired w ↦ subst (AreThose More P) (sym (ap (λ s. s.keys) w.retired-is))
           (those-other Seen More P c.loop-node.retired.keys node c.loop-node.invariant also
           (λ is. true≢false (sym (c.is_retired.ensures.1 is) ∙ w.if-is_retired.false)))

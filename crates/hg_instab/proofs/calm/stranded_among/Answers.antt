@@ -1,8 +1,6 @@
 use Rattle.std.proofs.Common.{◌+◌, inl, inr, [], take, get_or, Contains, subst}
 use Rattle.std.proofs.lemmas.List.{take_all}
 use Rattle.hg_changeset.specs.declared.node.Node.{Node}
-use Rattle.hg_changeset.proofs.NodeLemmas.{node_cmp_total, node_cmp_exact}
-use Rattle.hg_graph.proofs.WalkLemmas.{inserted}
 use Rattle.hg_replica.specs.Content.{content_of}
 use Rattle.hg_instab.specs.Calm.{AreStranded, IsStranded}
 use Rattle.hg_instab.proofs.AmongLemmas.{also-taken}
@@ -24,8 +22,7 @@ loop-node-preserved c =
     λ n h. let x = c.loop-node.invariant n h in ((also n).1 (inl x.0), x.1) in
     elim c.if-is_stranded.branch [
       | then-is_stranded+in_ok-insert w ↦ λ n h.
-          elim ((inserted node_cmp_total node_cmp_exact c.loop-node.stranded w.insert.new.self node
-          w.in_ok-insert.ensures.updates n).0 (subst (λ s. Contains s.keys n) w.stranded-is h)) [
+          elim ((w.in_ok-insert.ensures.then n).0 (subst (λ s. Contains s.keys n) w.stranded-is h)) [
             | inl old ↦ before n old
             | inr e ↦ (
               (also n).1 (inr e),

@@ -7,22 +7,17 @@ use Rattle.hg_instab.proofs.turned.has_now.Goals as goal
 pub returns-then-contains : goal.returns-then-contains
 returns-then-contains c =
     let set = c.args.set.now in
-    let turned = c.args.turned.now in
     let node = c.args.node in
     let has : IsTrue c.contains.result ↔ Contains set.keys node =
     rw c.contains.ensures (btree_set_contains_iff node_cmp_total node_cmp_exact set node) in
-    let told : IsTrue c.contains-then-contains.result ↔ Contains turned.keys node =
-    rw c.contains-then-contains.ensures (btree_set_contains_iff node_cmp_total node_cmp_exact turned node) in
-    now-in set.keys turned.keys node c.contains-then-contains.result (has.0 c.if-contains.true) told
+    now-in set.keys c.args.turned.now.keys node c.contains-then-contains.result (has.0 c.if-contains.true)
+    c.contains-then-contains.ensures
 
 pub returns-else-contains : goal.returns-else-contains
 returns-else-contains c =
     let set = c.args.set.now in
-    let turned = c.args.turned.now in
     let node = c.args.node in
     let has : IsTrue c.contains.result ↔ Contains set.keys node =
     rw c.contains.ensures (btree_set_contains_iff node_cmp_total node_cmp_exact set node) in
-    let told : IsTrue c.contains-else-contains.result ↔ Contains turned.keys node =
-    rw c.contains-else-contains.ensures (btree_set_contains_iff node_cmp_total node_cmp_exact turned node) in
-    now-out set.keys turned.keys node c.contains-else-contains.result
-    (λ h. true≢false (sym (has.1 h) ∙ c.if-contains.false)) told
+    now-out set.keys c.args.turned.now.keys node c.contains-else-contains.result
+    (λ h. true≢false (sym (has.1 h) ∙ c.if-contains.false)) c.contains-else-contains.ensures
