@@ -1,14 +1,17 @@
 -- Extras, as they are written one after another, and the order of their keys.
-use Rattle.std.proofs.Common.{◌≡◌, ℕ, List, [], ◌∷◌, ◌++◌, map, refl, ap, Vec, Global}
+use Rattle.std.proofs.Common.{◌≡◌, ◌<◌, ℕ, List, [], ◌∷◌, ◌++◌, map, refl, ap, Vec, Global, true, false, arith}
+use Rattle.std.specs.Prelude.{◌==◌}
+use Rattle.std.proofs.lemmas.Bool.Decides.{nat_tests}
+use Rattle.std.proofs.lemmas.Bool.{and_parts, ltb-true, not-true}
 use Rattle.std.proofs.lemmas.List.{append-nil}
-use Rattle.std.specs.List.{join_with_byte, AllByRecursion}
+use Rattle.std.specs.List.{join_with_byte, list_all, flat_map, AllByRecursion}
 use Rattle.std.specs.List.Sorted.{IsStrictlySortedBy}
 use Rattle.std.specs.Ordering.{nat_cmp}
 use Rattle.std.specs.Cmp.Lexicographic.{slice_cmp}
 use Rattle.std.specs.declared.cmp.Ordering.{Ordering}
 use Rattle.std.specs.declared.cmp.Ordering.TheVariants.{Less}
 use Rattle.hg_changeset.specs.EntryValue.{extra_bytes}
-use Rattle.hg_changeset.specs.Extras.{item, extras_text, AscendByKey}
+use Rattle.hg_changeset.specs.Extras.{escape, is_plain, item, extras_text, AscendByKey}
 
 -- each item with a byte before it: `before` at the first, NUL at the others
 abbrev pub led : ℕ → List (List ℕ × List ℕ) → List ℕ
@@ -39,3 +42,20 @@ pub ascend : (es : List (Vec ℕ Global × Vec ℕ Global)) → IsStrictlySorted
 unfolding IsStrictlySortedBy
 ascend [] h = h
 ascend (e ∷ es) h = (below_all e.0.items es h.0, ascend es h.1)
+
+-- ---- plain bytes are written as they are
+
+plain : (b : ℕ) → is_plain b ≡ true → escape b ≡ b ∷ []
+plain b h =
+    let p = and_parts _ _ h in
+    let above : 13 < b = ltb-true 13 b p.0 in
+    let lf : (b == 10) ≡ false = grind (arith, nat_tests) in
+    let cr : (b == 13) ≡ false = grind (arith, nat_tests) in
+    let nul : (b == 0) ≡ false = grind (arith, nat_tests) in
+    rw (not-true (b == 92) p.1, lf, cr, nul) refl
+
+pub all_plain : (bs : List ℕ) → list_all is_plain bs ≡ true → flat_map escape bs ≡ bs
+all_plain [] h = refl
+all_plain (b ∷ bs) h =
+    let p = and_parts (is_plain b) (list_all is_plain bs) h in
+    rw (plain b p.0, all_plain bs p.1) refl

@@ -1,5 +1,5 @@
 -- Extras, as they are written in the text of an entry.
-use Rattle.std.specs.Prelude.{ℕ, ◌==◌, List, [], ◌∷◌, ◌++◌, map, if◌then◌else◌, codes}
+use Rattle.std.specs.Prelude.{ℕ, ◌==◌, List, [], ◌∷◌, ◌++◌, map, if◌then◌else◌, codes, Bool, ◌&&◌, not, nat_lt}
 use Rattle.std.specs.Ordering.{nat_cmp}
 use Rattle.std.specs.Cmp.Lexicographic.{slice_cmp}
 use Rattle.std.specs.List.{join_with_byte, flat_map}
@@ -14,6 +14,10 @@ escape b =
     else if b == carriage_return then codes "\\r"
     else if b == nul then codes "\\0"
     else b ∷ []
+
+-- above NUL, LF and CR, and no backslash: such a byte is written as it is
+abbrev pub is_plain : ℕ → Bool
+is_plain b = nat_lt carriage_return b && not (b == backslash)
 
 -- an extra, written as `key:value` with both escaped
 abbrev pub item : List ℕ × List ℕ → List ℕ

@@ -3,9 +3,9 @@
 //! In the text of an entry they are items `key:value`, ascending by key and joined by NUL. A byte that would end an
 //! item or a line is written as two characters, and so is the backslash that begins such a pair.
 ghost use Rattle.std.specs.Prelude.{◌≡◌, ◌++◌, OnOk};
-ghost use Rattle.std.specs.List.{list_any, flat_map};
+ghost use Rattle.std.specs.List.{list_any, list_all, flat_map};
 ghost use Rattle.hg_changeset.specs.EntryValue.{extra_bytes};
-ghost use Rattle.hg_changeset.specs.Extras.{escape, extras_text, AscendByKey};
+ghost use Rattle.hg_changeset.specs.Extras.{escape, is_plain, extras_text, AscendByKey};
 ghost use Rattle.hg_changeset.specs.EntryAnswer.{is_bad_key};
 
 use std::alloc::AllocError;
@@ -45,13 +45,31 @@ pub fn push_extras(text: &mut Vec<u8>, extra: &BTreeMap<Vec<u8>, Vec<u8>>) -> Re
     Ok(())
 }
 
+// Plain bytes, as most are, go in at once.
 fn push_escaped(text: &mut Vec<u8>, bytes: &[u8]) -> Result<(), AllocError>
     ensures { OnOk result (text.new.items ≡ text.old.items ++ flat_map escape bytes.now) }
 {
+    if are_plain(bytes) {
+        text.extend_from_slice(bytes)?;
+        return Ok(());
+    }
     for b in bytes {
         push_escape(text, *b)?;
     }
     Ok(())
+}
+
+fn are_plain(bytes: &[u8]) -> bool
+    ensures { result ≡ list_all is_plain bytes.now }
+{
+    bytes.iter().all(|b| is_plain(*b))
+}
+
+// Whether the byte is above those that are written as two characters, and no backslash.
+fn is_plain(b: u8) -> bool
+    ensures { result ≡ is_plain b }
+{
+    b > b'\r' && b != b'\\'
 }
 
 fn push_escape(text: &mut Vec<u8>, b: u8) -> Result<(), AllocError>
