@@ -2,10 +2,11 @@
 //!
 //! In the text of an entry they are items `key:value`, ascending by key and joined by NUL. A byte that would end an
 //! item or a line is written as two characters, and so is the backslash that begins such a pair.
-ghost use Rattle.std.specs.Prelude.{◌≡◌, ◌++◌, OnOk};
+ghost use Rattle.std.specs.Prelude.{◌≡◌, ◌++◌, ◌∷◌, OnOk};
 ghost use Rattle.std.specs.List.{list_any, list_all, flat_map};
 ghost use Rattle.hg_changeset.specs.EntryValue.{extra_bytes};
-ghost use Rattle.hg_changeset.specs.Extras.{escape, is_plain, extras_text, AscendByKey};
+ghost use Rattle.hg_changeset.specs.Extras.{escape, is_plain, item, extras_text, AscendByKey};
+ghost use Rattle.hg_changeset.specs.Noted.{listed};
 ghost use Rattle.hg_changeset.specs.EntryAnswer.{is_bad_key};
 
 use std::alloc::AllocError;
@@ -24,25 +25,51 @@ pub fn has_bad_key(extra: &BTreeMap<Vec<u8>, Vec<u8>>) -> bool
     false
 }
 
-fn is_bad_key(key: &[u8]) -> bool
+/// Whether the key is empty, holds a colon or is `branch`.
+pub fn is_bad_key(key: &[u8]) -> bool
     ensures { result ≡ is_bad_key key.now }
 {
     key.is_empty() || key.contains(&b':') || key == b"branch".as_slice()
 }
 
-/// Appends a space and the extras; nothing where there are none.
-pub fn push_extras(text: &mut Vec<u8>, extra: &BTreeMap<Vec<u8>, Vec<u8>>) -> Result<(), AllocError>
+/// The extras that a text is to hold: those of an entry, or one alone.
+#[derive(Clone, Copy)]
+pub(crate) enum Extras<'a> {
+    All(&'a BTreeMap<Vec<u8>, Vec<u8>>),
+    One(&'a [u8], &'a [u8]),
+}
+
+impl Extras<'_> {
+    /// Appends a space and the extras; nothing where there are none.
+    pub(crate) fn push(self, text: &mut Vec<u8>) -> Result<(), AllocError>
+        ensures { OnOk result (text.new.items ≡ text.old.items ++ extras_text (listed self.entry)) }
+    {
+        match self {
+            Extras::All(extra) => push_extras(text, extra),
+            Extras::One(key, value) => push_extra(text, b' ', key, value),
+        }
+    }
+}
+
+fn push_extras(text: &mut Vec<u8>, extra: &BTreeMap<Vec<u8>, Vec<u8>>) -> Result<(), AllocError>
     ensures { OnOk result (text.new.items ≡ text.old.items ++ extras_text (extra_bytes extra.now.entries)) }
 {
     let mut before = b' ';
     for (key, value) in extra {
-        text.push(before)?;
-        push_escaped(text, key)?;
-        text.push(b':')?;
-        push_escaped(text, value)?;
+        push_extra(text, before, key, value)?;
         before = 0;
     }
     Ok(())
+}
+
+// Appends the byte and the extra.
+fn push_extra(text: &mut Vec<u8>, before: u8, key: &[u8], value: &[u8]) -> Result<(), AllocError>
+    ensures { OnOk result (text.new.items ≡ text.old.items ++ before ∷ item (key.now, value.now)) }
+{
+    text.push(before)?;
+    push_escaped(text, key)?;
+    text.push(b':')?;
+    push_escaped(text, value)
 }
 
 // Plain bytes, as most are, go in at once.

@@ -1,0 +1,18 @@
+-- An entry with other extras than its own.
+use Rattle.std.specs.Prelude.{ℕ, List, [], ◌∷◌}
+use Rattle.hg_changeset.specs.declared.extras.Extras.{Extras}
+use Rattle.hg_changeset.specs.declared.extras.Extras.TheVariants.{All, One}
+use Rattle.hg_changeset.specs.EntryValue.{EntryValue, extra_bytes}
+
+-- the extras that are to be written
+abbrev pub listed : Extras → List (List ℕ × List ℕ)
+listed (All extra) = extra_bytes extra.now.entries
+listed (One key value) = (key.now, value.now) ∷ []
+
+-- the entry with these extras in place of its own
+abbrev pub with_extras : List (List ℕ × List ℕ) → EntryValue → EntryValue
+with_extras extra e = record e { extra = extra }
+
+-- the entry with this extra alone
+abbrev pub noting : List ℕ → List ℕ → EntryValue → EntryValue
+noting key value e = with_extras ((key, value) ∷ []) e
