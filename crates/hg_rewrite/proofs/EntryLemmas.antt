@@ -1,7 +1,9 @@
 -- An entry with one extra more.
-use Rattle.std.proofs.Common.{◌≡◌, ℕ, ℤ, Bool, false, List, [], ◌∷◌, map, Option, Some, None, Result, refl, sym, ap}
-use Rattle.std.proofs.Common.{subst, ◌∙◌}
-use Rattle.std.specs.Prelude.{codes, ◌||◌, if◌then◌else◌}
+use Rattle.std.proofs.Common.{◌≡◌, ℕ, ℤ, Bool, true, false, List, [], ◌∷◌, length, map, Option, Some, None, Result}
+use Rattle.std.proofs.Common.{refl, sym, ap, subst, ◌∙◌, arith}
+use Rattle.std.specs.Prelude.{codes, ◌==◌, ◌||◌, if◌then◌else◌}
+use Rattle.std.proofs.lemmas.Bool.{false≢true}
+use Rattle.std.proofs.lemmas.Bool.Decides.{nat_tests}
 use Rattle.std.specs.List.{list_any}
 use Rattle.std.specs.Option.{option_or}
 use Rattle.std.specs.declared.cmp.Ordering.TheVariants.{Less, Equal, Greater}
@@ -17,6 +19,7 @@ use Rattle.hg_changeset.specs.EntryValue.{EntryValue, extra_bytes}
 use Rattle.hg_changeset.specs.declared.entry.EntryError.{EntryError}
 use Rattle.hg_changeset.specs.declared.entry.EntryError.TheVariants.{BadExtraKey}
 use Rattle.hg_changeset.specs.EntryText.{trimmed_user}
+use Rattle.hg_changeset.specs.Noted.{noting}
 use Rattle.hg_changeset.specs.EntryAnswer.{is_bad_key, user_fault, entry_fault}
 use Rattle.hg_marker.specs.Texts.{bytes_cmp}
 use Rattle.hg_marker.proofs.TextsLemmas.{vec_cmp}
@@ -55,6 +58,18 @@ pub noted_entry : (e : EntryValue) (key : List ℕ) (node : Node) (user : List �
     → record { user = user; secs = secs; offset = offset; extra = extra; desc = desc } ≡ with_extra key node e
 noted_entry e key node user secs offset extra desc a b c d f i =
     record { user = a i; secs = b i; offset = c i; extra = d i; desc = f i }
+
+-- without other extras the node is the sole one
+pub noted_alone : (key : List ℕ) (node : Node) (e : EntryValue) → e.extra ≡ []
+    → noting key (encode_lower node.0) e ≡ with_extra key node e
+noted_alone key node e none =
+    ap (λ (extra : List (List ℕ × List ℕ)). record e { extra = put bytes_cmp key (encode_lower node.0) extra }) (sym none)
+
+pub none_counted : (xs : List (List ℕ × List ℕ)) → (length xs == 0) ≡ true → xs ≡ []
+none_counted [] h = refl
+none_counted (x ∷ xs) h =
+    let some : (length (x ∷ xs) == 0) ≡ false = grind (arith, nat_tests) in
+    absurd (false≢true (sym some ∙ h))
 
 -- ---- a source that is noted among the extras changes nothing of the entry's fault
 

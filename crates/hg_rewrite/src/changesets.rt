@@ -2,9 +2,10 @@
 //!
 //! All entries are written before the first changeset is made, since the refusals of entries come first. Each changeset
 //! after the first stands on the one before.
-ghost use Rattle.std.specs.Prelude.{◌≡◌, ◌∷◌, [], Contains, IfOk, map};
+ghost use Rattle.std.specs.Prelude.{◌≡◌, ◌==◌, ◌∷◌, [], Contains, IfOk, length, map};
 ghost use Rattle.hg_changeset.specs.Contents.{Contents};
 ghost use Rattle.hg_changeset.specs.Changeset.{IsChangeset};
+ghost use Rattle.hg_changeset.specs.EntryAnswer.{EntryAnswer};
 ghost use Rattle.hg_rewrite.specs.Parts.{with_extra, parents_of_first, made, chain, contents_of, on_parents, written};
 ghost use Rattle.hg_rewrite.specs.Refusals.{changeset_refused, unwritten, not_written};
 ghost use Rattle.hg_rewrite.specs.Answer.{Gives, TextsAnswer, entry_refusal};
@@ -14,7 +15,7 @@ ghost use Rattle.hg_rewrite.specs.Ids.{listed};
 use crate::op::Op;
 use crate::query::parents_in;
 use crate::refusal::{Cause, Refusal};
-use hg_changeset::{Changeset, Entry, EntryError, Node, entry_text};
+use hg_changeset::{Changeset, Entry, EntryError, Node, entry_text, noted_text};
 use hg_replica::Replica;
 use std::alloc::{AllocError, Global};
 use std::slice;
@@ -31,8 +32,8 @@ pub(crate) fn new_changesets(
     match op {
         Op::Commit { p, q, entry, .. } => write(alloc, (*p, *q), slice::from_ref(entry)),
         Op::Amend { node, entry } => {
-            let entry = with_extra(alloc, b"amend_source", *node, entry)?;
-            write(alloc, parents_in(replica, *node), slice::from_ref(&entry))
+            let parents = parents_in(replica, *node);
+            write_noting(alloc, parents, b"amend_source", *node, entry)
         }
         Op::Split { node, entries } => write(alloc, parents_in(replica, *node), entries),
         Op::Fold { nodes, entry } => {
@@ -43,8 +44,7 @@ pub(crate) fn new_changesets(
             )
         }
         Op::Relocate { node, p, q, entry } => {
-            let entry = with_extra(alloc, b"rebase_source", *node, entry)?;
-            write(alloc, (*p, *q), slice::from_ref(&entry))
+            write_noting(alloc, (*p, *q), b"rebase_source", *node, entry)
         }
         Op::Prune { .. } => write(alloc, (Node::NULL, Node::NULL), &[]),
         Op::Advance { .. } => write(alloc, (Node::NULL, Node::NULL), &[]),
@@ -58,6 +58,58 @@ fn parents_of_first(replica: &Replica, nodes: &[Node]) -> (Node, Node)
         [] => (Node::NULL, Node::NULL),
         [first, ..] => parents_in(replica, *first),
     }
+}
+
+// The changeset of the entry with the node noted among its extras, on these parents. The entry is copied for it only
+// where it has others.
+fn write_noting(
+    alloc: Global,
+    parents: (Node, Node),
+    key: &[u8],
+    node: Node,
+    entry: &Entry,
+) -> Result<Vec<Changeset>, Refusal>
+    ensures answer { let e = with_extra key.now node entry.now in
+        Gives (unwritten (e ∷ []) (written parents (e ∷ []))) (map contents_of (written parents (e ∷ []))) result }
+    ensures each { IfOk result (λ made. (c : Contents) → Contains made.items c → IsChangeset c) }
+{
+    if has_no_extra(entry) {
+        return write_noted(alloc, parents, key, node, entry);
+    }
+    let noted = with_extra(alloc, key, node, entry)?;
+    write_one(alloc, parents, &noted)
+}
+
+fn has_no_extra(entry: &Entry) -> bool
+    ensures { result ≡ (length entry.now.extra == 0) }
+{
+    entry.extra.is_empty()
+}
+
+// The same of an entry without extras.
+fn write_noted(
+    alloc: Global,
+    parents: (Node, Node),
+    key: &[u8],
+    node: Node,
+    entry: &Entry,
+) -> Result<Vec<Changeset>, Refusal>
+    requires { entry.now.extra ≡ [] }
+    ensures answer { let e = with_extra key.now node entry.now in
+        Gives (unwritten (e ∷ []) (written parents (e ∷ []))) (map contents_of (written parents (e ∷ []))) result }
+    ensures each { IfOk result (λ made. (c : Contents) → Contains made.items c → IsChangeset c) }
+{
+    match text_noting(alloc, key, node, entry) {
+        Ok(text) => chain_one(alloc, parents, text),
+        Err(fault) => Err(entry_refusal(fault)),
+    }
+}
+
+fn text_noting(alloc: Global, key: &[u8], node: Node, entry: &Entry) -> Result<Vec<u8>, EntryError>
+    requires { entry.now.extra ≡ [] }
+    ensures { EntryAnswer (with_extra key.now node entry.now) result }
+{
+    noted_text(alloc, entry, key, &node.to_hex())
 }
 
 // A copy of the entry, with the node noted among its extras.

@@ -1,0 +1,17 @@
+use Rattle.std.proofs.Common.{List, ◌∷◌, [], map, ap, subst, ◌∙◌}
+use Rattle.hg_changeset.specs.EntryText.{entry_text}
+use Rattle.hg_rewrite.specs.Parts.{with_extra, NewChangeset, contents_of, on_parents, written}
+use Rattle.hg_rewrite.specs.Refusals.{entry_refused, changeset_refused}
+use Rattle.hg_rewrite.specs.Answer.{Gives}
+use Rattle.hg_rewrite.proofs.ChainLemmas.{chain_of_one, written_entry}
+use Rattle.hg_rewrite.proofs.RowLemmas.{gives_later}
+use Rattle.hg_rewrite.proofs.changesets.write_noted.Goals as goal
+
+pub returns-in-Ok-clause-answer : goal.returns-in-Ok-clause-answer
+returns-in-Ok-clause-answer c =
+    let e = with_extra c.args.key.now c.args.node c.args.entry.now in
+    let on = c.args.parents in
+    gives_later (entry_refused e ∷ []) (map changeset_refused (written on (e ∷ [])))
+    (map contents_of (written on (e ∷ []))) c.chain_one.result (written_entry e c.in-Ok.text c.in-Ok.ensures, tt)
+    (subst (λ (ns : List NewChangeset). Gives (map changeset_refused ns) (map contents_of ns) c.chain_one.result)
+    (ap (λ t. on_parents on t ∷ []) c.in-Ok.ensures.2 ∙ chain_of_one on (entry_text e)) c.chain_one.ensures.answer)
