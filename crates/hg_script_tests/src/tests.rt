@@ -50,8 +50,7 @@ fn replicas_agree_where_their_states_are_equal(rt: HostRuntime) {
     let script =
         b"node A\nnode B\ncommit A a draft\nagree A B\nagree B A\ncommit B a draft\nagree A B\nagree B B\n\
             commit A b secret\ncommit B b draft\nagree B A\n";
-    let output =
-        b"agree A B: no\nagree B A: no\nagree A B: yes\nagree B B: yes\nagree B A: no\n";
+    let output = b"agree A B: no\nagree B A: no\nagree A B: yes\nagree B B: yes\nagree B A: no\n";
     expect(&rt, rt.alloc(), script, output, "");
 }
 
