@@ -33,6 +33,10 @@ const H_ON_A: &[u8] = b"b628cfffb3d62cd819f8855d31f2d2bf4d8b9b84";
 const B_TEXT: &[u8] =
     b"0000000000000000000000000000000000000000\nfleet\n0 0 amend_source:f96ca39738e6588d0bf7020cd1d44a23774c1b77\n\nb";
 
+// The same with an extra of its own. Extras stand in the order of their keys, with NUL between them.
+const B_TEXT_WITH_TOPIC: &[u8] = b"0000000000000000000000000000000000000000\nfleet\n\
+    0 0 amend_source:f96ca39738e6588d0bf7020cd1d44a23774c1b77\0topic:t\n\nb";
+
 fn entry_by(alloc: Global, user: &[u8], desc: &[u8]) -> Result<Entry, AllocError> {
     Ok(Entry {
         user: Vec::from_slice(alloc, user)?,
@@ -204,6 +208,16 @@ fn amend_notes_what_it_amends(rt: HostRuntime) {
 }
 
 #[test]
+fn amend_keeps_the_extras_of_its_entry(rt: HostRuntime) {
+    let alloc = rt.alloc();
+    let replica = start(&rt, alloc);
+    let op = amend(id(&rt, A), with_an_extra(&rt, alloc, b"b", b"topic", b"t"));
+    let part = decided(&rt, alloc, &replica, &op);
+    let text = part.changesets.first().map(|changeset| changeset.text());
+    assert!(rt; text == Some(B_TEXT_WITH_TOPIC));
+}
+
+#[test]
 fn a_split_is_folded_and_moved(rt: HostRuntime) {
     let alloc = rt.alloc();
     let mut replica = start(&rt, alloc);
@@ -353,11 +367,16 @@ fn faults_of_entries(rt: HostRuntime) {
 }
 
 fn with_colon(rt: &impl Abort, alloc: Global) -> Entry {
-    let mut faulty = entry(rt, alloc, b"a");
-    let key = Vec::from_slice(alloc, b"a:b").expect(rt, "memory");
-    let old: Result<_, _> = faulty.extra.insert(key, Vec::new(alloc));
+    with_an_extra(rt, alloc, b"a", b"a:b", b"")
+}
+
+fn with_an_extra(rt: &impl Abort, alloc: Global, desc: &[u8], key: &[u8], value: &[u8]) -> Entry {
+    let mut noted = entry(rt, alloc, desc);
+    let key = Vec::from_slice(alloc, key).expect(rt, "memory");
+    let value = Vec::from_slice(alloc, value).expect(rt, "memory");
+    let old: Result<_, _> = noted.extra.insert(key, value);
     let _ = old.expect(rt, "memory");
-    faulty
+    noted
 }
 
 // Where one growth is refused, the answer tells it, and the next answer is right.
