@@ -1,6 +1,7 @@
 //! Node ids with numbers.
 
-ghost use Rattle.std.specs.Prelude.{◌≡◌, ◌++◌, ◌∷◌, ◌+◌, [], length, take, IfOk, OnOk, OnErr, not, false};
+ghost use Rattle.std.specs.Prelude.{◌≡◌, ◌++◌, ◌∷◌, ◌+◌, [], length, take, IfOk, IfSome, OnOk, OnErr, Some, not, false};
+ghost use Rattle.std.specs.Prelude.{slice_get};
 ghost use Rattle.std.specs.List.{list_any, IsDistinct};
 ghost use Rattle.hg_changeset.specs.Node.{node_eq};
 ghost use Rattle.hg_node_set.specs.Keys.{insert_key, number_of, number_after};
@@ -86,15 +87,30 @@ impl NodeSet {
         self.get_index_of(node).is_some()
     }
 
-    /// The number of an id.
+    /// The number of an id. What came last is found without a look at a slot.
     pub fn get_index_of(&self, node: Node) -> Option<usize>
         ensures index { result ≡ number_of self.now.keys node }
         ensures unique { IsDistinct node_eq self.now.keys }
     {
+        if let Some(number) = self.number_if_last(node) {
+            return Some(number);
+        }
         if self.slots.is_empty() {
             return self.nodes.iter().position(|held| node == *held);
         }
         self.slots.find(&self.nodes, node)
+    }
+
+    // The number of an id that came last. Mostly it is such a one that is asked of.
+    fn number_if_last(&self, node: Node) -> Option<usize>
+        ensures at { IfSome result (λ number. slice_get self.now.keys number ≡ Some node) }
+        ensures unique { IsDistinct node_eq self.now.keys }
+    {
+        let number = self.nodes.len().checked_sub(1)?;
+        match self.nodes.get(number) {
+            Some(last) if node == *last => Some(number),
+            _ => None,
+        }
     }
 
     /// Puts an id last, unless it is there. Tells whether it is new. Where memory is refused nothing changes.

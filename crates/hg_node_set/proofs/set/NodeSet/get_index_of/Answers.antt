@@ -1,8 +1,13 @@
-use Rattle.std.proofs.Common.{◌∙◌, ap, length}
+use Rattle.std.proofs.Common.{◌∙◌, ap, length, sym}
 use Rattle.hg_node_set.specs.Keys.{Keys, number_of}
 use Rattle.hg_node_set.specs.Slots.{first_at, found_from, slot_of}
+use Rattle.hg_node_set.proofs.KeyLemmas.{number_at}
 use Rattle.hg_node_set.proofs.SlotLemmas.{found_number}
 use Rattle.hg_node_set.proofs.set.NodeSet.get_index_of.Goals as goal
+
+pub returns-in-Some-clause-index : goal.returns-in-Some-clause-index
+returns-in-Some-clause-index c =
+    sym (number_at c.args.self.now.keys c.args.node c.in-Some.number c.in-Some.ensures.unique c.in-Some.ensures.at)
 
 pub returns-clause-index : goal.returns-clause-index
 returns-clause-index c = let slots = c.self.inside.slots in
