@@ -218,6 +218,18 @@ fn writes_a_prune(rt: HostRuntime) {
     assert!(rt; written.as_slice() == want.as_slice());
 }
 
+// A prune of OLD with these flags.
+fn flagged(alloc: Global, flags: u8) -> Option<Marker> {
+    Marker::new(OLD, Vec::new(alloc), flags, Metadata::new(alloc)).ok()
+}
+
+#[test]
+fn flags_tell_markers_apart(rt: HostRuntime) {
+    let plain = flagged(rt.alloc(), 0).expect(&rt, "a marker");
+    let fix = flagged(rt.alloc(), 1).expect(&rt, "a marker");
+    assert!(rt; plain != fix);
+}
+
 // Whether the entries of metadata are these, in this order.
 fn lists(metadata: &Metadata, wanted: &[(&[u8], &[u8])]) -> bool {
     let mut left = wanted;
