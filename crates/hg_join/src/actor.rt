@@ -1,6 +1,6 @@
 //! The trait of states that act: that decide operations, offer what they hold, and read what others offer. The
 //! crate's page says how to choose the members for a state of one's own.
-ghost use Rattle.std.specs.Prelude.{◌≡◌, ◌⊎◌, ℕ, List, IfOk, IfErr, OnOk, OnErr};
+ghost use Rattle.std.specs.Prelude.{◌≡◌, ◌⊎◌, ℕ, List, IfOk, IfErr, OnOk, OnErr, MatchResult};
 ghost use Rattle.hg_join.specs.Order.{IsLeastOfAll, SaySame, IsDue};
 
 use crate::memory::NoMemory;
@@ -108,6 +108,31 @@ pub trait Actor: JoinState {
         ensures due { IsDue (Spells bytes.now) (IsAgainstBytes bytes.now) }
     {
         Self::read(alloc, bytes)
+    }
+
+    /// Takes in the part that bytes spell, and tells what changed, or why the part was refused: what
+    /// [`read_at`](Actor::read_at) and then [`absorb_owned`](JoinState::absorb_owned) do and tell, which is the
+    /// default. A state that holds much of what the bytes say can leave that out of what it absorbs, where the answer
+    /// is the same. The bytes are refused for a reason, or where memory ran out, and the state is then unchanged.
+    fn take(
+        &mut self,
+        alloc: Global,
+        bytes: &[u8],
+    ) -> Result<Result<Self::Change, Self::Fault>, Self::Refusal>
+        ensures taken { IfOk result (λ answer. (part : Self.Part) × Spells bytes.now part × MatchResult answer
+            (λ change. Self.After (Self.content self.old) (Self.part_content part) (Self.content self.new)
+            × Self.Tells self.old change self.new)
+            (λ fault. (Self.IsFirstFault (Self.content self.old) (Self.part_content part) fault
+            ⊎ Self.IsWantOfMemory fault) × (self.new ≡ self.old))) }
+        ensures valid { IfOk result (λ answer. OnOk answer (Self.IsValid (Self.content self.old))) }
+        ensures err { IfErr result (λ refusal. IsAgainstBytes bytes.now refusal ⊎ IsRefusalOfMemory refusal) }
+        ensures unchanged { OnErr result (self.new ≡ self.old) }
+        ensures due { IsDue (Spells bytes.now) (IsAgainstBytes bytes.now) }
+    {
+        match self.read_at(alloc, bytes) {
+            Ok(part) => Ok(self.absorb_owned(part)),
+            Err(refusal) => Err(refusal),
+        }
     }
 
     /// States with one content, and equal in what is their own, decide one part.

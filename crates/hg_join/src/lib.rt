@@ -74,7 +74,8 @@
 //!    `IsAgainstQuote` holds of the quotes that lower nothing. Where several reasons apply, give the first.
 //! 3. **What bytes spell.** `Spells bytes p` is the format, as a relation: for `Prices`, `AreBytesOf`, each item with
 //!    its price after it. Bytes spell one part (`spelled_once`); a part may be spelled in several ways. Write `read_at`
-//!    where what a state holds already can spare it work as it reads; by default that is `read`.
+//!    where what a state holds already can spare it work as it reads; by default that is `read`. To `take` bytes in is
+//!    to read and absorb them. Write it where a state need not absorb what it holds already.
 //! 4. **What is offered.** `Offers s ask bytes` gives one message for each state and ask. States with one content may
 //!    spell it differently, as where it follows the order in which they keep things, but then it says the same
 //!    (`offered_alike`). It can be read, and says no more than the state says (`offered_is_covered`): nothing is

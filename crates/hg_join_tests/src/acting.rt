@@ -56,6 +56,14 @@ fn prices_that_are_asked_for_are_told_and_heard(rt: HostRuntime) {
 }
 
 #[test]
+fn bytes_are_taken_in_as_the_part_that_they_spell(rt: HostRuntime) {
+    let mut prices = told_of(rt.alloc(), &[(1, 5)]).expect(&rt, "memory");
+    let answer = prices.take(rt.alloc(), b"\x02\x04\x01\x09".as_slice());
+    assert!(rt; matches!(&answer, Ok(Ok(_))));
+    assert_eq!(rt; [prices.get(1), prices.get(2)], [Some(5), Some(4)]);
+}
+
+#[test]
 fn an_item_that_is_kept_back_is_not_told(rt: HostRuntime) {
     let alloc = rt.alloc();
     let mut prices = told_of(alloc, &[(1, 9), (2, 4)]).expect(&rt, "memory");

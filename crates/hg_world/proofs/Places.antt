@@ -6,6 +6,7 @@ use Rattle.std.proofs.lemmas.Bool.Decides.{eqb_tells}
 use Rattle.std.proofs.lemmas.List.{set-get_or, length-map, map-append}
 use Rattle.std.proofs.lemmas.Option.{slice_get_read, get_or_from_slice_get, slice_get-map}
 use Rattle.hg_join.specs.declared.state.JoinState.{Ghosts as StateWords}
+use Rattle.hg_join.specs.declared.actor.Actor.{Ghosts as ActorWords}
 use Rattle.std.specs.Option.{option_map}
 use Rattle.std.specs.declared.vec.Vec.{Vec}
 use Rattle.std.specs.declared.alloc.Global.{Global}
@@ -42,6 +43,39 @@ module _ {S P C F : Type 0} (J : StateWords S P C F) where
       (node, there, (next, record { after = after; tells = tells }, refl))
   absorbed_there nodes at node next part (Err e) there after tells fault same =
       (node, there, (fault, set_what_was nodes at node next there same))
+
+-- what an answer tells where it is a value, and where it is a fault
+pub told_ok : {A B : Type 0} (P : A → Type 0) (Q : B → Type 0) (r : Result A B) (x : A) → r ≡ Ok x →
+    MatchResult r P Q → P x
+told_ok P Q r x e h = subst (λ s. MatchResult s P Q) e h
+
+pub told_err : {A B : Type 0} (P : A → Type 0) (Q : B → Type 0) (r : Result A B) (x : B) → r ≡ Err x →
+    MatchResult r P Q → Q x
+told_err P Q r x e h = subst (λ s. MatchResult s P Q) e h
+
+module _ {S O A M R P C F : Type 0} (J : StateWords S P C F) (W : ActorWords S O A M R P C F) where
+  pub taken_there : (nodes : List S) (at : ℕ) (node next : S) (bytes : List ℕ) (r : Result (Result C F) R) →
+      slice_get nodes at ≡ Some node →
+      IfOk r (λ answer. (part : P) × W.Spells bytes part × MatchResult answer
+      (λ change. J.After (J.content node) (J.part_content part) (J.content next) × J.Tells node change next)
+      (λ fault. (J.IsFirstFault (J.content node) (J.part_content part) fault ⊎ J.IsWantOfMemory fault)
+      × (next ≡ node))) →
+      IfErr r (λ refusal. W.IsAgainstBytes bytes refusal ⊎ W.IsRefusalOfMemory refusal) →
+      OnErr r (next ≡ node) →
+      (x : S) × (slice_get nodes at ≡ Some x) × MatchResult r
+      (λ answer. (part : P) × W.Spells bytes part × MatchResult answer
+      (λ change. (y : S) × Absorbs J x part change y × (slice_set nodes at next ≡ slice_set nodes at y))
+      (λ fault. (J.IsFirstFault (J.content x) (J.part_content part) fault ⊎ J.IsWantOfMemory fault)
+      × (slice_set nodes at next ≡ nodes)))
+      (λ refusal. (W.IsAgainstBytes bytes refusal ⊎ W.IsRefusalOfMemory refusal) × (slice_set nodes at next ≡ nodes))
+  taken_there nodes at node next bytes (Ok (Ok change)) there taken err same =
+      let h = taken.2 in
+      (node, there, (taken.0, taken.1, (next, record { after = h.0; tells = h.1 }, refl)))
+  taken_there nodes at node next bytes (Ok (Err fault)) there taken err same =
+      let h = taken.2 in
+      (node, there, (taken.0, taken.1, (h.0, set_what_was nodes at node next there h.1)))
+  taken_there nodes at node next bytes (Err refusal) there taken err same =
+      (node, there, (err, set_what_was nodes at node next there same))
 
 -- a place within the list has an element
 pub some_at : {X : Type 0} (xs : List X) (i : ℕ) → i < length xs → (x : X) × (slice_get xs i ≡ Some x)

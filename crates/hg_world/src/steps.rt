@@ -42,6 +42,26 @@ fn decide_at<S: Actor>(
     }
 }
 
+/// The node at a place takes in the part that bytes spell, or the bytes spell none.
+fn take_bytes_at<S: Actor>(
+    alloc: Global,
+    nodes: &mut [S],
+    at: usize,
+    bytes: &[u8],
+) -> Result<Result<S::Change, S::Fault>, S::Refusal>
+    requires { at < length nodes.old }
+    ensures { (node : S) × (slice_get nodes.old at ≡ Some node) × MatchResult result
+        (λ answer. (part : S.Part) × S.Spells bytes.now part × MatchResult answer
+        (λ change. (next : S) × Absorbs S.JoinState node part change next
+        × (nodes.new ≡ slice_set nodes.old at next))
+        (λ fault. (S.IsFirstFault (S.content node) (S.part_content part) fault ⊎ S.IsWantOfMemory fault)
+        × (nodes.new ≡ nodes.old)))
+        (λ refusal. (S.IsAgainstBytes bytes.now refusal ⊎ S.IsRefusalOfMemory refusal)
+        × (nodes.new ≡ nodes.old)) }
+{
+    nodes[at].take(alloc, bytes)
+}
+
 /// The node at a place reads a message and absorbs its part.
 fn take_at<S: Actor>(
     alloc: Global,
@@ -58,8 +78,8 @@ fn take_at<S: Actor>(
         return Answer::Refused(EventRefusal::NoMessage);
     }
     let bytes = messages[message].as_slice();
-    match nodes[at].read_at(alloc, bytes) {
-        Ok(spelled) => match absorb_at(nodes, at, spelled) {
+    match take_bytes_at(alloc, nodes, at, bytes) {
+        Ok(answer) => match answer {
             Ok(change) => Answer::Accepted(change),
             Err(fault) => Answer::Refused(EventRefusal::ByState(fault)),
         },
