@@ -5,8 +5,8 @@ use Rattle.hg_changeset.specs.declared.node.Node.{Node}
 use Rattle.hg_changeset.specs.Node.{node_eq}
 use Rattle.hg_changeset.specs.Same.{node_eq_decides}
 use Rattle.hg_changeset.specs.Contents.{Contents}
-use Rattle.hg_changeset.specs.Changeset.{IsChangeset, node_of}
-use Rattle.hg_message.specs.Record.{RecordFields, IsItsRecord}
+use Rattle.hg_changeset.specs.Changeset.{IsChangeset, changeset_of, node_of}
+use Rattle.hg_message.specs.Record.{RecordFields, IsItsRecord, contents_of}
 use Rattle.hg_message.proofs.RecordLemmas.{its_record}
 use Rattle.hg_message.proofs.WritingLemmas.{normal_again, normal_differ}
 
@@ -22,3 +22,9 @@ held_record f c h id first second text =
     λ i. record { id = id i; p = first i; q = second i; text = text i } in
     subst IsItsRecord same (its_record c c.first c.second c.text (normal_again c h.normal) (normal_differ c h.normal)
     h.not_null)
+
+-- so the changeset is what they say
+pub held_contents : (f : RecordFields) (c : Contents) → IsChangeset c → c.first ≡ f.p → c.second ≡ f.q
+    → c.text ≡ f.text → c ≡ contents_of f
+held_contents f c h first second text =
+    normal_again c h.normal ∙ (λ i. changeset_of (first i) (second i) (text i))

@@ -10,6 +10,7 @@ pub mod FieldFaultLemmas
 pub mod FirstFaultLemmas
 pub mod WritingLemmas
 pub mod HeldLemmas
+pub mod PartLemmas
 pub mod SpellingLemmas
 pub mod ThoseLemmas
 pub mod TouchedLemmas
@@ -21,3 +22,4 @@ pub mod TakenLemmas
 pub mod ExistLemmas
 pub mod WritableLemmas
 pub mod SharedLemmas
+pub mod KnownLemmas

@@ -1,11 +1,15 @@
 -- A message whose parts still stand in bytes.
-use Rattle.std.specs.Prelude.{ℕ, ◌+◌, ◌<◌, ◌≤◌, ◌*◌, ◌^◌, ◌⊎◌, ◌==◌, List, length, Result, Ok, Err, if◌then◌else◌}
+use Rattle.std.specs.Prelude.{◌≡◌, ℕ, ◌+◌, ◌<◌, ◌≤◌, ◌*◌, ◌^◌, ◌⊎◌, ◌==◌, List, length, Option, Result, Ok, Err}
+use Rattle.std.specs.Prelude.{IsTrue, if◌then◌else◌}
 use Rattle.hg_changeset.specs.declared.node.Node.{Node}
 use Rattle.hg_changeset.specs.Contents.{Contents}
 use Rattle.hg_marker.specs.Fields.{Fields}
-use Rattle.hg_marker.specs.Reading.{IsRead}
+use Rattle.hg_marker.specs.declared.error.ReadError.{ReadError}
+use Rattle.hg_marker.specs.Reading.{IsRead, Fails}
 use Rattle.hg_phases.specs.declared.phase.Phase.{Phase}
 use Rattle.hg_obsstore.specs.Faults.{store_at}
+use Rattle.hg_replica.specs.State.{ReplicaState}
+use Rattle.hg_replica.specs.Least.{PartValue}
 use Rattle.hg_message.specs.declared.error.MessageFault.{MessageFault}
 use Rattle.hg_message.specs.declared.error.MessageFault.TheVariants.{Trailing}
 use Rattle.hg_message.specs.declared.layout.Layout.{Layout}
@@ -15,6 +19,8 @@ use Rattle.hg_message.specs.Record.{record_at}
 use Rattle.hg_message.specs.Bound.{bound_at}
 use Rattle.hg_message.specs.Message.{told_in}
 use Rattle.hg_message.specs.Value.{MessageValue, count_limit}
+use Rattle.hg_message.specs.Part.{part_of}
+use Rattle.hg_message.specs.Known.{AreKnownAt, rest_of}
 
 -- what the bytes of the records say, and those of the bounds
 abbrev pub records_in : Layout → Result (List Contents × List ℕ) MessageFault
@@ -63,3 +69,15 @@ least_len l = 17 + 64 * l.count + 24 * l.entries + length l.store.now
 -- there is a record, a bound, or a store with a marker, which takes 26 bytes at least behind the version
 abbrev pub HoldsSomething : Layout → Type 0
 HoldsSomething l = (0 < l.count) ⊎ (0 < l.entries) ⊎ (26 < length l.store.now)
+
+-- where the layout tells so, the changesets of all its records are known
+abbrev pub KnowsRecords : Option ReplicaState → Layout → Type 0
+KnowsRecords held l =
+    IsTrue l.are_known → (x : List Contents × List ℕ) → records_in l ≡ Ok x → AreKnownAt held x.0
+
+-- what reading a part gives: that of the message that the parts say, or what is left of it where all its changesets are
+-- known; or the first fault. Memory can be wanting only for what is read
+abbrev pub GivesPart : Layout → Result PartValue (ReadError MessageFault) → Type 0
+GivesPart l (Ok part) =
+    (m : MessageValue) × (said l ≡ Ok m) × ((part ≡ part_of m) ⊎ (IsTrue l.are_known × (part ≡ rest_of m)))
+GivesPart l (Err e) = Fails e (said l)

@@ -9,9 +9,10 @@ pub mod RecordView
 pub mod Bound
 pub mod Message
 pub mod FirstFault
+pub mod Part
+pub mod Known
 pub mod Layout
 pub mod Spelling
-pub mod Part
 pub mod Those
 pub mod Offer
 pub mod Outgoing

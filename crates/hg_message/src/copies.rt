@@ -1,5 +1,5 @@
 //! Copies of what a message holds.
-ghost use Rattle.std.specs.Prelude.{◌≡◌, ◌++◌, IfOk, OnOk};
+ghost use Rattle.std.specs.Prelude.{◌≡◌, ◌<◌, ◌++◌, IfOk, OnOk, OnErr, length};
 ghost use Rattle.hg_obsstore.specs.Places.{picked};
 ghost use Rattle.hg_message.specs.Part.{draft_bounds};
 
@@ -76,8 +76,12 @@ pub(crate) fn draft_bounds_onto(
     bounds: &mut Vec<(Node, Phase)>,
     changesets: &[Changeset],
 ) -> Result<(), AllocError>
-    ensures { OnOk result (bounds.new.items ≡ bounds.old.items ++ draft_bounds changesets.now) }
+    ensures drafts { OnOk result (bounds.new.items ≡ bounds.old.items ++ draft_bounds changesets.now) }
+    ensures memory { OnErr result (0 < length changesets.now) }
 {
+    if changesets.is_empty() {
+        return Ok(());
+    }
     bounds.reserve(changesets.len())?;
     for changeset in changesets {
         bounds.push((changeset.node(), Phase::Draft))?;

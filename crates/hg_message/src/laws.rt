@@ -1,9 +1,16 @@
-//! Laws of spellings, and of the first fault.
-ghost use Rattle.std.specs.Prelude.{◌≡◌, ◌++◌, ℕ, List, Ok, Err};
+//! Laws of spellings, of the first fault, and of parts that come without what is known.
+ghost use Rattle.std.specs.Prelude.{◌≡◌, ◌++◌, ℕ, List, Result, Ok, Err};
 ghost use Rattle.hex.specs.Hex.{IsBytes};
+ghost use Rattle.hg_history.specs.declared.fault.Fault.{Fault};
+ghost use Rattle.hg_replica.specs.State.{ReplicaState, IsValid};
+ghost use Rattle.hg_replica.specs.Least.{PartValue};
+ghost use Rattle.hg_replica.specs.Change.{ChangeValue};
+ghost use Rattle.hg_replica.specs.Answer.{AbsorbAnswer, IsGrowthBeforeFault};
 ghost use Rattle.hg_message.specs.declared.error.MessageFault.{MessageFault};
 ghost use Rattle.hg_message.specs.FirstFault.{IsMessageFault};
 ghost use Rattle.hg_message.specs.Value.{MessageValue};
+ghost use Rattle.hg_message.specs.Part.{part_of};
+ghost use Rattle.hg_message.specs.Known.{IsPartAt};
 ghost use Rattle.hg_message.specs.Message.{message_at};
 ghost use Rattle.hg_message.specs.Spelling.{IsMessageSpelling, IsWritable, message_spelling};
 
@@ -22,4 +29,14 @@ pub fn first_fault_laws()
         → IsMessageFault bytes fault }
     ensures met { (bytes : List ℕ) (fault : MessageFault) → IsBytes bytes → IsMessageFault bytes fault
         → message_at bytes ≡ Err fault }
+{}
+
+/// The law of parts that come without what is known: a replica in a valid state answers to such a part as it does to
+/// the whole one, and is the same afterwards; and where something grows before a fault of such a part is met,
+/// something does before one of the whole.
+pub fn what_is_left_is_absorbed_alike()
+    ensures answered { (s t : ReplicaState) (m : MessageValue) (part : PartValue) (result : Result ChangeValue Fault)
+        → IsValid s → IsPartAt s m part → AbsorbAnswer s part result t → AbsorbAnswer s (part_of m) result t }
+    ensures grown { (s : ReplicaState) (m : MessageValue) (part : PartValue) → IsValid s → IsPartAt s m part
+        → IsGrowthBeforeFault s part → IsGrowthBeforeFault s (part_of m) }
 {}

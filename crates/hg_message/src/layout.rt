@@ -2,12 +2,15 @@
 //!
 //! First the parts of the message are found in its bytes, and all faults before the store are told, without memory.
 //! Then the parts are copied. The store's fault, and bytes that follow it, are told before anything else is copied.
-ghost use Rattle.std.specs.Prelude.{◌≡◌, ◌<◌, ◌≤◌, ◌+◌, ◌^◌, IfOk, IsErrOf, MatchResult, length, Err};
+ghost use Rattle.std.specs.Prelude.{◌≡◌, ◌<◌, ◌≤◌, ◌+◌, ◌^◌, IfOk, IfErr, IsErrOf, MatchResult, IsTrue, length, Err};
+ghost use Rattle.std.specs.Option.{option_copied};
 ghost use Rattle.hg_marker.specs.Reading.{Gives};
 ghost use Rattle.hg_obsstore.specs.Spelling.{IsStoreSpelling};
-ghost use Rattle.hg_message.specs.Layout.{IsLayout, HoldsSomething, least_len, markers_in, said};
+ghost use Rattle.hg_message.specs.Layout.{IsLayout, HoldsSomething, KnowsRecords, GivesPart, least_len};
+ghost use Rattle.hg_message.specs.Layout.{markers_in, said};
 ghost use Rattle.hg_obsstore.specs.Faults.{IsStoreFault, store_at};
 ghost use Rattle.hg_message.specs.Message.{message_at, told_in};
+ghost use Rattle.hg_message.specs.Part.{part_of};
 
 use crate::bound::{read_bounds, skip_bounds};
 use crate::error::MessageFault;
@@ -15,9 +18,9 @@ use crate::message::Message;
 use crate::place::truncated;
 use crate::record::{read_records, skip_records};
 use crate::scope::{Scope, VERSION_WITHOUT_SCOPE, read_scope};
-use hg_graph::Graph;
 use hg_marker::{Marker, ReadError, read_byte, read_field, read_number};
 use hg_obsstore::{StoreFault, read_markers};
+use hg_replica::{Part, Replica};
 use std::alloc::Global;
 
 /// `HGFX`.
@@ -36,6 +39,8 @@ pub(crate) struct Layout<'a> {
     // How many records, and the bytes from the first on.
     count: u32,
     records: &'a [u8],
+    // Whether all their changesets are known.
+    are_known: bool,
     // How many bounds, and the bytes from the first on.
     entries: u32,
     bounds: &'a [u8],
@@ -49,13 +54,14 @@ pub(crate) struct Layout<'a> {
 /// memory.
 #[tactic(auto, using(crate::proofs::LayoutLemmas::ends_alike), unfolding(crate::specs::Message::parts_at, crate::specs::Message::store_in))]
 pub(crate) fn split_message<'a>(
-    held: Option<&Graph>,
+    held: Option<&Replica>,
     bytes: &'a [u8],
 ) -> Result<Layout<'a>, MessageFault>
     ensures exact { MatchResult result
         (λ layout. message_at bytes.now ≡ said layout)
         (λ fault. message_at bytes.now ≡ Err fault) }
     ensures layout { IfOk result IsLayout }
+    ensures known { IfOk result (KnowsRecords (option_copied held.entry)) }
     ensures long { IfOk result (λ layout. least_len layout ≤ length bytes.now) }
 {
     let total = bytes.len();
@@ -69,7 +75,7 @@ pub(crate) fn split_message<'a>(
     }
     let (scope, rest) = read_scope(total, version, rest)?;
     let (count, records) = read_number(rest, truncated(total, rest))?;
-    let rest = skip_records(held, total, count, records)?;
+    let (rest, are_known) = skip_records(held, total, count, records)?;
     let (entries, bounds) = read_number(rest, truncated(total, rest))?;
     let rest = skip_bounds(total, entries, bounds)?;
     let (len, rest) = read_number(rest, truncated(total, rest))?;
@@ -80,6 +86,7 @@ pub(crate) fn split_message<'a>(
         scope,
         count,
         records,
+        are_known,
         entries,
         bounds,
         start,
@@ -99,6 +106,38 @@ impl<'a> Layout<'a> {
         let changesets = read_records(alloc, self.total, self.count, self.records)?;
         let bounds = read_bounds(alloc, self.total, self.entries, self.bounds)?;
         Ok(Message::of_parts(self.scope, changesets, bounds, markers))
+    }
+
+    /// The part of the message, or what is left of it without the changesets where all of them are known. Faults are
+    /// told before want of memory.
+    pub(crate) fn part(&self, alloc: Global) -> Result<Part, ReadError<MessageFault>>
+        requires { IsLayout self.now }
+        ensures part { GivesPart self.now result }
+        ensures memory { IsErrOf result ReadError.NoMemory → HoldsSomething self.now }
+    {
+        if self.are_known {
+            return self.read_rest(alloc);
+        }
+        match self.read(alloc) {
+            Ok(message) => taken_apart(message),
+            Err(error) => Err(error),
+        }
+    }
+
+    // What is left of the part without the changesets.
+    fn read_rest(&self, alloc: Global) -> Result<Part, ReadError<MessageFault>>
+        requires layout { IsLayout self.now }
+        requires known { IsTrue self.now.are_known }
+        ensures part { GivesPart self.now result }
+        ensures memory { IsErrOf result ReadError.NoMemory → HoldsSomething self.now }
+    {
+        let markers = self.read_last(alloc)?;
+        let bounds = read_bounds(alloc, self.total, self.entries, self.bounds)?;
+        Ok(Part {
+            changesets: Vec::new(alloc),
+            bounds,
+            markers,
+        })
     }
 
     // The markers of the store, behind which nothing may follow. Where bytes follow, want of memory isn't told.
@@ -143,5 +182,16 @@ fn placed(start: usize, store: &[u8], cause: StoreFault) -> MessageFault
     match cause {
         StoreFault::BadVersion(_) => MessageFault::BadMarker(start, cause),
         StoreFault::Bad(place, _) => MessageFault::BadMarker(start + place, cause),
+    }
+}
+
+// The part of a message.
+fn taken_apart(message: Message) -> Result<Part, ReadError<MessageFault>>
+    ensures part { IfOk result (λ part. part ≡ part_of message) }
+    ensures memory { IfErr result (λ error. (error ≡ ReadError.NoMemory) × (0 < length message.changesets)) }
+{
+    match message.into_part() {
+        Ok(part) => Ok(part),
+        Err(_) => Err(ReadError::NoMemory),
     }
 }

@@ -21,12 +21,11 @@
 //!     found.to_bytes()
 //! }
 //!
-//! fn receive(alloc: Global, bytes: &[u8]) -> Result<Part, ReadError<MessageFault>> {
-//!     // Bytes that spell no message are refused with their first fault, never with want of memory in its place.
-//!     let message = Message::from_bytes(alloc, bytes)?;
-//!     // A replica that holds the common nodes of an offer refuses its part only for want of memory, or where one id
-//!     // stands for two changesets.
-//!     Ok(message.into_part()?)
+//! fn receive(alloc: Global, replica: &Replica, bytes: &[u8]) -> Result<Part, ReadError<MessageFault>> {
+//!     // Bytes that spell no message are refused with their first fault, never with want of memory in its place. The
+//!     // part comes without its changesets where the replica knows them all. A replica that holds the common nodes of
+//!     // an offer refuses its part only for want of memory, or where one id stands for two changesets.
+//!     Message::part_at(alloc, replica, bytes)
 //! }
 //! ```
 #![tactic(auto)]
@@ -54,7 +53,7 @@ pub use hg_marker::{Marker, MarkerFault, ReadError};
 pub use hg_obsstore::StoreFault;
 pub use hg_phases::Phase;
 pub use hg_replica::Part;
-pub use laws::{first_fault_laws, spelling_laws};
+pub use laws::{first_fault_laws, spelling_laws, what_is_left_is_absorbed_alike};
 pub use message::Message;
 pub use offer_laws::{
     an_offer_is_one, offers_above_what_is_held_are_taken, offers_are_admitted, offers_are_covered,

@@ -1,9 +1,10 @@
 //! Messages.
-ghost use Rattle.std.specs.Prelude.{◌≡◌, ◌<◌, [], IfOk, IsErrOf, Ok, length, not, nat_lt};
+ghost use Rattle.std.specs.Prelude.{◌≡◌, ◌<◌, [], IfOk, OnErr, IsErrOf, Ok, length, not, nat_lt};
 ghost use Rattle.hg_marker.specs.Reading.{Gives};
 ghost use Rattle.hg_obsstore.specs.Spelling.{store_spelling};
 ghost use Rattle.hg_message.specs.Value.{MessageValue, IsMessage, count_limit, message_of};
 ghost use Rattle.hg_message.specs.Part.{part_of};
+ghost use Rattle.hg_message.specs.Known.{PartAnswer};
 ghost use Rattle.hg_message.specs.Message.{message_at};
 ghost use Rattle.hg_message.specs.Spelling.{IsMessageSpelling, message_spelling};
 
@@ -13,11 +14,10 @@ use crate::layout::split_message;
 use crate::scope::Scope;
 use crate::writing::write_message;
 use hg_changeset::{Changeset, Node};
-use hg_graph::Graph;
 use hg_marker::{Marker, ReadError};
 use hg_obsstore::markers_len;
 use hg_phases::Phase;
-use hg_replica::Part;
+use hg_replica::{Part, Replica};
 use std::alloc::{AllocError, Global};
 use std::fmt;
 use std::marker::Model;
@@ -222,7 +222,8 @@ impl Message {
 
     /// The [`part`](Message::part) of a message that isn't needed any more. Nothing but the bounds is copied.
     pub fn into_part(self) -> Result<Part, AllocError>
-        ensures { IfOk result (λ part. part ≡ part_of self) }
+        ensures part { IfOk result (λ part. part ≡ part_of self) }
+        ensures memory { OnErr result (0 < length self.changesets) }
     {
         let Message {
             scope: _,
@@ -271,11 +272,11 @@ impl Message {
         Message::from_bytes_at(alloc, None, bytes)
     }
 
-    /// What [`from_bytes`](Message::from_bytes) gives, where some changesets are held. A record of one of them whose
-    /// parents stand in normal form, as they are written, is compared with it, and not hashed.
+    /// What [`from_bytes`](Message::from_bytes) gives, where a replica holds some changesets. A record of one of them
+    /// whose parents stand in normal form, as they are written, is compared with it, and not hashed.
     pub fn from_bytes_at(
         alloc: Global,
-        held: Option<&Graph>,
+        held: Option<&Replica>,
         bytes: &[u8],
     ) -> Result<Message, ReadError<MessageFault>>
         ensures only { (m : MessageValue) → IsMessageSpelling m bytes.now → Gives (λ message. message) result (Ok m) }
@@ -284,6 +285,26 @@ impl Message {
         ensures exact { Gives (λ message. message) result (message_at bytes.now) }
     {
         read_message(alloc, held, bytes)
+    }
+
+    /// The [`part`](Message::part) of the message that bytes spell, for this replica to take in. Where each changeset
+    /// of the message is held, none as a secret, and each record spelled as it is written, the part comes without them
+    /// and their draft bounds, and no record is copied or hashed. The replica answers to it as it does to the whole
+    /// part: see [`what_is_left_is_absorbed_alike`](crate::what_is_left_is_absorbed_alike).
+    ///
+    /// Refuses as [`from_bytes`](Message::from_bytes) does.
+    pub fn part_at(
+        alloc: Global,
+        replica: &Replica,
+        bytes: &[u8],
+    ) -> Result<Part, ReadError<MessageFault>>
+        ensures answer { PartAnswer replica.now bytes.now result }
+        ensures memory { IsErrOf result ReadError.NoMemory → 40 < length bytes.now }
+    {
+        match split_message(Some(replica), bytes) {
+            Ok(layout) => layout.part(alloc),
+            Err(cause) => Err(ReadError::Fault(cause)),
+        }
     }
 }
 
@@ -299,7 +320,7 @@ fn fit(markers: &[Marker]) -> bool
 
 fn read_message(
     alloc: Global,
-    held: Option<&Graph>,
+    held: Option<&Replica>,
     bytes: &[u8],
 ) -> Result<Message, ReadError<MessageFault>>
     ensures exact { Gives (λ message. message) result (message_at bytes.now) }

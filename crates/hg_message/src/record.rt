@@ -2,14 +2,20 @@
 //!
 //! A record is a node id, two parents, the length of a text, and the text. Records are checked before any memory is
 //! taken, and then copied without hashing them again. Each is checked against its hash, except one whose changeset is
-//! held where the message is read: the id of what is held is its hash.
-ghost use Rattle.std.specs.Prelude.{◌≡◌, ◌<◌, ◌≤◌, List, IsTrue, IfOk, OnErr, MatchResult, Ok, Err, length};
+//! held where the message is read: the id of what is held is its hash. Records mostly come in the order in which they
+//! are held, so each is looked for behind the one before it first.
+ghost use Rattle.std.specs.Prelude.{◌≡◌, ◌≢◌, ◌<◌, ◌≤◌, ℕ, List, IsTrue, IfOk, IfSome, OnErr, MatchResult, Ok, Err};
+ghost use Rattle.std.specs.Prelude.{Some, length, slice_get};
+ghost use Rattle.std.specs.Option.{option_copied};
 ghost use Rattle.hg_changeset.specs.Changeset.{text_limit};
 ghost use Rattle.hg_changeset.specs.Contents.{Contents};
 ghost use Rattle.hg_marker.specs.Faults.{left};
 ghost use Rattle.hg_marker.specs.Reading.{IsRead, IsReading};
+ghost use Rattle.hg_phases.specs.State.{Held};
+ghost use Rattle.hg_phases.specs.declared.phase.Phase.TheVariants.{Secret};
 ghost use Rattle.hg_message.specs.Counted.{counted, first_of};
-ghost use Rattle.hg_message.specs.Record.{IsItsRecord, fields_at, record_at};
+ghost use Rattle.hg_message.specs.Known.{IsKnown, IsKnownAt, AreKnownAt};
+ghost use Rattle.hg_message.specs.Record.{IsItsRecord, contents_of, fields_at, record_at};
 ghost use Rattle.hg_message.specs.RecordView.{fields_of};
 
 use crate::error::MessageFault;
@@ -17,6 +23,8 @@ use crate::place::truncated;
 use hg_changeset::{Changeset, ChangesetError, Node, TEXT_LIMIT};
 use hg_graph::Graph;
 use hg_marker::{read_field, read_node, read_number};
+use hg_phases::Phase;
+use hg_replica::Replica;
 use std::alloc::{AllocError, Global};
 
 /// The fields of a record where they stand in bytes. Nothing is copied yet.
@@ -49,22 +57,18 @@ fn split_record(
     Ok((RecordBytes { id, p, q, text }, rest))
 }
 
-// Whether the record is that of a changeset that is held, with its parents in normal form. Nothing is hashed for that.
-fn is_held(held: Option<&Graph>, fields: &RecordBytes<'_>) -> bool
-    ensures { IsTrue result → IsItsRecord (fields_of fields.now) }
-{
-    match held {
-        Some(graph) => match graph.changeset(fields.id) {
-            Some(changeset) => are_fields_of(fields, changeset),
-            None => false,
-        },
-        None => false,
-    }
+// What was seen of a record: whether its changeset is known, that is held and not secret, and the place at which the
+// changeset of the next record is likely to be held.
+#[derive(Clone, Copy)]
+struct Seen {
+    is_known: bool,
+    behind: usize,
 }
 
 // Whether these are the id, the parents and the text of the changeset. So its id is known to be their hash.
 fn are_fields_of(fields: &RecordBytes<'_>, changeset: &Changeset) -> bool
-    ensures { IsTrue result → IsItsRecord (fields_of fields.now) }
+    ensures record { IsTrue result → IsItsRecord (fields_of fields.now) }
+    ensures same { IsTrue result → changeset.now ≡ contents_of (fields_of fields.now) }
 {
     let (first, second) = changeset.parents();
     if changeset.node() != fields.id || first != fields.p || second != fields.q {
@@ -73,48 +77,126 @@ fn are_fields_of(fields: &RecordBytes<'_>, changeset: &Changeset) -> bool
     changeset.text() == fields.text
 }
 
-// The bytes after the record of this index. It takes no memory.
-#[tactic(auto, unfolding(crate::specs::Record::record_at))]
-fn skip_record<'a>(
-    held: Option<&Graph>,
-    total: usize,
-    index: u32,
-    bytes: &'a [u8],
-) -> Result<&'a [u8], MessageFault>
-    ensures { IsReading (λ rest. rest.now) result (left (record_at total index bytes.now)) }
+// Whether the changeset at a place is that of the record, with its parents in normal form.
+fn is_held_at(graph: &Graph, place: usize, fields: &RecordBytes<'_>) -> bool
+    ensures record { IsTrue result → IsItsRecord (fields_of fields.now) }
+    ensures held { IsTrue result → slice_get graph.now place ≡ Some (contents_of (fields_of fields.now)) }
 {
-    let (record, rest) = split_record(total, index, bytes)?;
-    if is_held(held, &record) {
-        return Ok(rest);
-    }
-    match Changeset::id_of(record.p, record.q, record.text) {
-        Ok(id) if id == record.id => Ok(rest),
-        Err(ChangesetError::SameParent) => Err(MessageFault::BadParents(index)),
-        _ => Err(MessageFault::HashMismatch(index)),
+    match graph.changeset_at(place) {
+        Some(changeset) => are_fields_of(fields, changeset),
+        None => false,
     }
 }
 
-/// The bytes after so many records, of which those of changesets that are held are spared their hash. It takes no
-/// memory.
+// Where the changeset of the record is held, with its parents in normal form: at the likely place, or where its id
+// stands. Nothing is hashed for that.
+fn held_place(graph: &Graph, likely: usize, fields: &RecordBytes<'_>) -> Option<usize>
+    ensures record { IfSome result (λ place. IsItsRecord (fields_of fields.now)) }
+    ensures held { IfSome result
+        (λ place. slice_get graph.now place ≡ Some (contents_of (fields_of fields.now))) }
+{
+    if is_held_at(graph, likely, fields) {
+        return Some(likely);
+    }
+    match graph.place(fields.id) {
+        Some(place) if is_held_at(graph, place, fields) => Some(place),
+        _ => None,
+    }
+}
+
+// Whether the changeset at a place isn't secret.
+fn is_shared_at(replica: &Replica, place: usize) -> bool
+    ensures { IsTrue result → (h : Held) × (slice_get replica.now.history.held place ≡ Some h) × (h.phase ≢ Secret) }
+{
+    match replica.phase_at(place) {
+        Some(phase) => phase != Phase::Secret,
+        None => false,
+    }
+}
+
+// What is seen of the record, where its changeset is held with its parents in normal form.
+fn see(replica: &Replica, likely: usize, fields: &RecordBytes<'_>) -> Option<Seen>
+    ensures record { IfSome result (λ seen. IsItsRecord (fields_of fields.now)) }
+    ensures known { IfSome result
+        (λ seen. IsTrue seen.is_known → IsKnown replica.now (contents_of (fields_of fields.now))) }
+{
+    match held_place(replica.graph(), likely, fields) {
+        Some(place) => Some(Seen {
+            is_known: is_shared_at(replica, place),
+            behind: place.saturating_add(1),
+        }),
+        None => None,
+    }
+}
+
+// The same, where there may be no replica.
+fn see_at(held: Option<&Replica>, likely: usize, fields: &RecordBytes<'_>) -> Option<Seen>
+    ensures record { IfSome result (λ seen. IsItsRecord (fields_of fields.now)) }
+    ensures known { IfSome result
+        (λ seen. IsTrue seen.is_known → IsKnownAt (option_copied held.entry) (contents_of (fields_of fields.now))) }
+{
+    match held {
+        Some(replica) => see(replica, likely, fields),
+        None => None,
+    }
+}
+
+// The bytes after the record of this index, and what was seen of it. It takes no memory.
+#[tactic(auto, unfolding(crate::specs::Record::record_at))]
+fn skip_record<'a>(
+    held: Option<&Replica>,
+    likely: usize,
+    total: usize,
+    index: u32,
+    bytes: &'a [u8],
+) -> Result<(&'a [u8], Seen), MessageFault>
+    ensures exact { IsReading (λ x. x.0.now) result (left (record_at total index bytes.now)) }
+    ensures known { IfOk result (λ x. IsTrue x.1.is_known → (c : Contents) (after : List ℕ)
+        → record_at total index bytes.now ≡ Ok (c, after) → IsKnownAt (option_copied held.entry) c) }
+{
+    let (record, rest) = split_record(total, index, bytes)?;
+    let unseen = Seen {
+        is_known: false,
+        behind: likely,
+    };
+    match see_at(held, likely, &record) {
+        Some(seen) => Ok((rest, seen)),
+        None => match Changeset::id_of(record.p, record.q, record.text) {
+            Ok(id) if id == record.id => Ok((rest, unseen)),
+            Err(ChangesetError::SameParent) => Err(MessageFault::BadParents(index)),
+            _ => Err(MessageFault::HashMismatch(index)),
+        },
+    }
+}
+
+/// The bytes after so many records, and whether all their changesets are known: held where the message is read, and not
+/// secret there. Those that are held are spared their hash. It takes no memory.
 pub(crate) fn skip_records<'a>(
-    held: Option<&Graph>,
+    held: Option<&Replica>,
     total: usize,
     count: u32,
     bytes: &'a [u8],
-) -> Result<&'a [u8], MessageFault>
+) -> Result<(&'a [u8], bool), MessageFault>
     ensures { MatchResult result
-        (λ rest. (changesets : List Contents)
-        × (counted (record_at total) 0 count bytes.now ≡ Ok (changesets, rest.now)))
+        (λ x. (changesets : List Contents)
+        × (counted (record_at total) 0 count bytes.now ≡ Ok (changesets, x.0.now))
+        × (IsTrue x.1 → AreKnownAt (option_copied held.entry) changesets))
         (λ fault. counted (record_at total) 0 count bytes.now ≡ Err fault) }
 {
     let mut rest = bytes;
+    let mut are_known = true;
+    let mut likely = 0;
     for index in 0..count {
-        match skip_record(held, total, index, rest) {
-            Ok(after) => rest = after,
+        match skip_record(held, likely, total, index, rest) {
+            Ok((after, seen)) => {
+                rest = after;
+                are_known &= seen.is_known;
+                likely = seen.behind;
+            }
             Err(fault) => return Err(fault),
         }
     }
-    Ok(rest)
+    Ok((rest, are_known))
 }
 
 // The changeset of a record that was checked, and the bytes after it.

@@ -1,8 +1,11 @@
 //! Bytes that are read, and the first fault of those that aren't.
-use crate::rows::{CHILD, FIRST, NOTHING, ROOT, SERVED, WHOLE, all_kinds, holder, one_changeset};
-use hg_message::{
-    MarkerFault, Message, MessageError, MessageFault, Node, ReadError, Scope, StoreFault,
+use crate::rows::{
+    CHILD, EMPTY, FIRST, NOTHING, ROOT, SERVED, WHOLE, all_kinds, holder, one_changeset,
 };
+use hg_message::{
+    MarkerFault, Message, MessageError, MessageFault, Node, Phase, ReadError, Scope, StoreFault,
+};
+use hg_replica::Replica;
 use std::alloc::Global;
 use std::process::Abort;
 use std::test::Fail;
@@ -194,7 +197,7 @@ fn all_kinds_with_a_byte_turned_where_they_are_held(rt: HostRuntime) {
     assert!(rt; bytes.len() == 309);
     for place in 0..309 {
         turn(&mut bytes, place);
-        let read = Message::from_bytes_at(alloc, Some(replica.graph()), &bytes);
+        let read = Message::from_bytes_at(alloc, Some(&replica), &bytes);
         assert!(rt;
             fault_in(&rt, read) == all_kinds_turned(place),
             "at {place}"
@@ -208,10 +211,36 @@ fn what_is_held_is_read_as_it_is_written(rt: HostRuntime) {
     let alloc = rt.alloc();
     let bytes = all_kinds(alloc, WHOLE, ROOT, Node::NULL).expect(&rt, "memory");
     let replica = holder(alloc, &bytes).expect(&rt, "a replica");
-    let read = Message::from_bytes_at(alloc, Some(replica.graph()), &bytes);
+    let read = Message::from_bytes_at(alloc, Some(&replica), &bytes);
     let message = read.expect(&rt, "a message");
     let written = message.to_bytes().expect(&rt, "memory");
     assert!(rt; written.as_slice() == bytes.as_slice());
+}
+
+// The bounds of the message with all kinds of records are one of the root, public, and one of the child, secret.
+#[test]
+fn what_a_replica_knows_is_left_out_of_what_it_takes(rt: HostRuntime) {
+    let alloc = rt.alloc();
+    let bytes = all_kinds(alloc, SERVED, ROOT, Node::NULL).expect(&rt, "memory");
+    let replica = holder(alloc, &bytes).expect(&rt, "a replica");
+    let part = Message::part_at(alloc, &replica, &bytes).expect(&rt, "a part");
+    assert_eq!(rt; [part.changesets.len(), part.markers.len()], [0, 2]);
+    assert!(rt; part.bounds[..] == [(ROOT, Phase::Public), (CHILD, Phase::Secret)]);
+}
+
+// What is passed on is no longer secret, so the whole part is taken where a changeset is held as a secret.
+#[test]
+fn what_a_replica_holds_as_secret_is_taken_as_a_draft(rt: HostRuntime) {
+    let alloc = rt.alloc();
+    let bytes = one_changeset(alloc, SERVED).expect(&rt, "memory");
+    let message = Message::from_bytes(alloc, &bytes).expect(&rt, "a message");
+    let mut secret = message.into_part().expect(&rt, "memory");
+    secret.bounds.clear();
+    let mut replica = Replica::new(alloc);
+    replica.absorb(&secret).expect(&rt, "a change");
+    let part = Message::part_at(alloc, &replica, &bytes).expect(&rt, "a part");
+    assert!(rt; part.changesets.len() == 1);
+    assert!(rt; part.bounds[..] == [(EMPTY, Phase::Draft), (EMPTY, Phase::Draft)]);
 }
 
 // Inverts the byte at this place.

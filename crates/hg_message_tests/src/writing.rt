@@ -3,7 +3,7 @@ use crate::rows::{
     CHILD, EMPTY, FIRST, NOTHING, ROOT, SERVED, WHOLE, all_kinds, holder, one_changeset,
 };
 use hg_message::{Changeset, Message, Node, Phase, ReadError, Scope};
-use hg_replica::Graph;
+use hg_replica::Replica;
 use std::alloc::{AllocError, Global};
 use std::process::Abort;
 
@@ -30,7 +30,7 @@ fn read(rt: &impl Abort, alloc: Global, bytes: &[u8]) -> Message {
 }
 
 // The same where some changesets are held.
-fn read_at(rt: &impl Abort, alloc: Global, held: Option<&Graph>, bytes: &[u8]) -> Message {
+fn read_at(rt: &impl Abort, alloc: Global, held: Option<&Replica>, bytes: &[u8]) -> Message {
     match Message::from_bytes_at(alloc, held, bytes) {
         Ok(message) => message,
         Err(ReadError::NoMemory) => {
@@ -142,8 +142,27 @@ fn refused_growth_reads_and_writes_nothing(rt: HostRuntime) {
         let Some(replica) = holder(alloc, &bytes) else {
             return;
         };
-        assert!(rt; read_at(&rt, alloc, Some(replica.graph()), &bytes) == message);
+        assert!(rt; read_at(&rt, alloc, Some(&replica), &bytes) == message);
     }
+}
+
+#[test]
+fn refused_growth_gives_no_part_of_what_is_known(rt: HostRuntime) {
+    let alloc = rt.alloc();
+    let Some(bytes) = all_kinds(alloc, SERVED, ROOT, Node::NULL) else {
+        return;
+    };
+    let Some(replica) = holder(alloc, &bytes) else {
+        return;
+    };
+    let part = match Message::part_at(alloc, &replica, &bytes) {
+        Ok(part) => part,
+        Err(_) => Message::part_at(alloc, &replica, &bytes).expect(&rt, "memory"),
+    };
+    assert_eq!(rt;
+        [part.changesets.len(), part.bounds.len(), part.markers.len()],
+        [0, 2, 2]
+    );
 }
 
 #[test]
