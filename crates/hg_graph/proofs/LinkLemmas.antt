@@ -1,8 +1,9 @@
 -- The places of children.
 use Rattle.std.proofs.Common.{◌≡◌, ◌≢◌, ℕ, ◌<◌, ◌≤◌, ◌+◌, ◌-◌, List, [], ◌∷◌, ◌++◌, length, take, get_or, set}
-use Rattle.std.proofs.Common.{slice_get, Option, Some, None, Contains, IfSome, Vec, Global, ◌↔◌, ◌⊎◌, inl, inr, refl}
+use Rattle.std.proofs.Common.{slice_get, Option, Some, None, Contains, IfSome, ◌↔◌, ◌⊎◌, inl, inr, refl}
 use Rattle.std.proofs.Common.{sym, ap, subst, ◌∙◌, arith}
 use Rattle.std.specs.List.Sorted.{IsStrictlyIncreasing}
+use Rattle.smallvec.specs.SmallVec.{SmallVec}
 use Rattle.std.proofs.Math.Seq.{take-append_seam, map-set_same}
 use Rattle.std.proofs.lemmas.Bool.{cases_eq, cases_lt}
 use Rattle.std.proofs.lemmas.List.{get_or_push, get_or-take, get_or-set_same, get_or-map, set-get_or, set-set, map-set}
@@ -190,7 +191,7 @@ dropped_again (Some k) n lists within =
     ∙ set-set lists k new old ∙ set-get_or lists k []
 
 -- one list is changed, in its vector
-pub lists_set : (vectors : List (Vec ℕ Global)) (o : Option ℕ) (k : ℕ) (v old : Vec ℕ Global) (f : List ℕ → List ℕ)
+pub lists_set : (vectors : List (SmallVec ℕ)) (o : Option ℕ) (k : ℕ) (v old : SmallVec ℕ) (f : List ℕ → List ℕ)
     → o ≡ Some k → k < length vectors → old ≡ get_or vectors k old → v.items ≡ f old.items
     → lists_of (set vectors k v) ≡ changed_at o f (lists_of vectors)
 lists_set vectors o k v old f o_is within read new =
@@ -199,7 +200,7 @@ lists_set vectors o k v old f o_is within read new =
     map-set (λ v. v.items) vectors k v ∙ ap (set (lists_of vectors) k) (new ∙ ap f (sym was))
     ∙ ap (λ o. changed_at o f (lists_of vectors)) (sym o_is)
 
-pub lists_kept : (vectors : List (Vec ℕ Global)) (k : ℕ) (v old : Vec ℕ Global) → old ≡ get_or vectors k old
+pub lists_kept : (vectors : List (SmallVec ℕ)) (k : ℕ) (v old : SmallVec ℕ) → old ≡ get_or vectors k old
     → v.items ≡ old.items → lists_of (set vectors k v) ≡ lists_of vectors
 lists_kept vectors k v old read same = map-set_same (λ v. v.items) vectors k v old (same ∙ ap (λ v. v.items) read)
 
@@ -218,7 +219,7 @@ module _ (p : ParentPlaces) (f : List ℕ → List ℕ) (lists : List (List ℕ)
   pub length-both : length both ≡ length lists
   length-both = length-changed_at p.second f (changed_at p.first f lists) ∙ length-changed_at p.first f lists
 
-  pub both_vectors : (vectors new : List (Vec ℕ Global))
+  pub both_vectors : (vectors new : List (SmallVec ℕ))
       → lists_of vectors ≡ lists → lists_of new ≡ both → length new ≡ length vectors
   both_vectors vectors new old_is new_is = sym (length-map new (λ v. v.items)) ∙ ap length new_is
       ∙ length-both ∙ ap length (sym old_is) ∙ length-map vectors (λ v. v.items)

@@ -2,8 +2,7 @@
 use Rattle.std.specs.Prelude.{◌≡◌, ◌≢◌, ℕ, ◌<◌, ◌-◌, List, [], ◌∷◌, ◌++◌, length, take, map, get_or, slice_get}
 use Rattle.std.specs.Prelude.{slice_set, ◌↔◌, ◌⊎◌, Option, None, Some, Contains}
 use Rattle.std.specs.List.Sorted.{IsStrictlyIncreasing}
-use Rattle.std.specs.declared.vec.Vec.{Vec}
-use Rattle.std.specs.declared.alloc.Global.{Global}
+use Rattle.smallvec.specs.SmallVec.{SmallVec}
 use Rattle.hg_graph.specs.declared.graph.ParentPlaces.{ParentPlaces}
 
 -- k is one of the two places
@@ -31,7 +30,7 @@ pub record AreChildren (parents : List ParentPlaces) (children : List (List ℕ)
   pub each : (k : ℕ) (places : List ℕ) → slice_get children k ≡ Some places → AreChildPlaces parents k places
 
 -- the lists of vectors
-abbrev pub lists_of : List (Vec ℕ Global) → List (List ℕ)
+abbrev pub lists_of : List (SmallVec ℕ) → List (List ℕ)
 lists_of vectors = map (λ v. v.items) vectors
 
 -- one more at the end

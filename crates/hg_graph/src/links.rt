@@ -10,15 +10,19 @@ ghost use Rattle.hg_graph.specs.Links.{IsChildPlace, IsLinkable, lists_of, put_l
 
 use crate::graph::ParentPlaces;
 use crate::packed::PackedPlaces;
+use smallvec::SmallVec;
 use std::alloc::{AllocError, Global};
 use std::marker::Model;
+
+// The places of one changeset's children. Nearly every changeset has two at most: these stand in the value itself.
+type Children = SmallVec<usize, 2>;
 
 /// The places of each changeset's parents, and of its children. Contracts see the parents'.
 #[derive(Drop)]
 pub struct Links {
     alloc: Global,
     parents: Vec<PackedPlaces>,
-    children: Vec<Vec<usize>>,
+    children: Vec<Children>,
 }
 
 impl Model for Links {
@@ -84,7 +88,7 @@ impl Links {
         self.children.reserve(1)?;
         add_child(&mut self.children, parents, place)?;
         self.parents.push(PackedPlaces::pack(parents))?;
-        self.children.push(Vec::new(self.alloc))?;
+        self.children.push(SmallVec::new(self.alloc))?;
         Ok(())
     }
 
@@ -96,7 +100,7 @@ impl Links {
             let parents = parents.unpack();
             forget_last(&mut self.children, parents.first);
             forget_last(&mut self.children, parents.second);
-            self.children.pop();
+            self.children.truncate(self.parents.len());
         }
     }
 
@@ -112,7 +116,7 @@ impl Links {
 
 // Puts a child last for its parents.
 fn add_child(
-    children: &mut Vec<Vec<usize>>,
+    children: &mut Vec<Children>,
     parents: ParentPlaces,
     child: usize,
 ) -> Result<(), AllocError>
@@ -135,7 +139,7 @@ fn add_child(
 
 // Puts a child last for one parent, where there is one.
 fn put_child(
-    children: &mut Vec<Vec<usize>>,
+    children: &mut Vec<Children>,
     parent: Option<usize>,
     child: usize,
 ) -> Result<(), AllocError>
@@ -155,7 +159,7 @@ fn put_child(
 }
 
 // Forgets the last child of a parent, where there is one.
-fn forget_last(children: &mut Vec<Vec<usize>>, parent: Option<usize>)
+fn forget_last(children: &mut Vec<Children>, parent: Option<usize>)
     requires { IfSome parent (λ k. k < length children.old.items) }
     ensures lists { lists_of children.new.items ≡ changed_at parent drop_last (lists_of children.old.items) }
     ensures capacity { vec_capacity children.new ≡ vec_capacity children.old }

@@ -10,7 +10,9 @@ ghost use Rattle.hg_phases.specs.Lowered.{ListsLowered};
 use crate::phase::Phase;
 use hg_changeset::Node;
 use hg_graph::Graph;
+use smallvec::SmallVec;
 use std::alloc::{AllocError, Global};
+use std::default::MadeWith;
 use std::marker::Model;
 
 /// A place whose phase went down, and the phase that it had.
@@ -20,16 +22,35 @@ pub struct LoweredPlace {
     pub had: Phase,
 }
 
+// What fills the room of a small list that isn't used.
+impl MadeWith<Global> for LoweredPlace {
+    fn made_with(_alloc: Global) -> LoweredPlace {
+        LoweredPlace {
+            place: 0,
+            had: Phase::Public,
+        }
+    }
+}
+
 /// What lowering did: the nodes of the changesets whose phase went down, each once, in no promised order.
 #[derive(Drop)]
 pub struct Lowered {
     pub nodes: Vec<Node>,
 }
 
+// The places that went down, in the order in which they did. One or two take no memory.
+pub(crate) type LoweredPlaces = SmallVec<LoweredPlace, 2>;
+
 /// What went down, in the order in which it did: it tells the changesets, and takes the lowering back.
-#[derive(Drop)]
 pub struct LoweringLog {
-    pub(crate) places: Vec<LoweredPlace>,
+    pub(crate) places: LoweredPlaces,
+}
+
+// Written out, so that what owns a log proves no more of its drop than this call.
+impl Drop for LoweringLog {
+    fn drop(self) {
+        let LoweringLog { places: _ } = self;
+    }
 }
 
 impl Model for LoweringLog {
@@ -47,7 +68,7 @@ impl LoweringLog {
         ensures { result ≡ [] }
     {
         LoweringLog {
-            places: Vec::new(alloc),
+            places: SmallVec::new(alloc),
         }
     }
 
@@ -60,7 +81,12 @@ impl LoweringLog {
             found.items) }
         ensures memory { OnErr result (HasLogged self.now before) }
     {
-        nodes_of(graph, &self.places, before, *self.places.allocator())
+        nodes_of(
+            graph,
+            self.places.as_slice(),
+            before,
+            *self.places.allocator(),
+        )
     }
 }
 

@@ -19,7 +19,7 @@ ghost use Rattle.hg_phases.specs.Lowered.{IsAbove, ListsLowered};
 ghost use Rattle.hg_phases.specs.Roots.{IsOpened};
 ghost use Rattle.hg_phases.specs.Log.{IsLog, restored, IsAboveAt, IsOneLowered, IsUnlowered};
 
-use crate::lowered::{Lowered, LoweredPlace, LoweringLog};
+use crate::lowered::{Lowered, LoweredPlace, LoweredPlaces, LoweringLog};
 use crate::open::phases_under;
 use crate::phase::Phase;
 use crate::roots::Roots;
@@ -220,7 +220,7 @@ impl PhaseMap {
     fn lower_at(
         &mut self,
         graph: &Graph,
-        log: &mut Vec<LoweredPlace>,
+        log: &mut LoweredPlaces,
         place: usize,
         phase: Phase,
     ) -> Result<(), AllocError>
@@ -249,7 +249,7 @@ impl PhaseMap {
 
     fn lower_found(
         &mut self,
-        log: &mut Vec<LoweredPlace>,
+        log: &mut LoweredPlaces,
         place: Option<usize>,
         phase: Phase,
     ) -> Result<(), AllocError>
@@ -266,7 +266,7 @@ impl PhaseMap {
 
     fn lower_one(
         &mut self,
-        log: &mut Vec<LoweredPlace>,
+        log: &mut LoweredPlaces,
         place: usize,
         phase: Phase,
     ) -> Result<(), AllocError>
@@ -283,7 +283,7 @@ impl PhaseMap {
         Ok(())
     }
 
-    fn restore(&mut self, log: &mut Vec<LoweredPlace>)
+    fn restore(&mut self, log: &mut LoweredPlaces)
         requires { All (λ e. e.place < length self.old) log.old.items }
         ensures restored { self.new ≡ restored self.old log.old.items }
         ensures emptied { log.new.items ≡ [] }

@@ -205,7 +205,13 @@ impl PhaseRoots {
         ensures unchanged { OnErr result (self.new.roots ≡ self.old.roots) }
         ensures memory { OnErr result (before < length graph.now) }
     {
-        update_roots(graph, &self.phases, &mut self.roots, &log.places, before)
+        update_roots(
+            graph,
+            &self.phases,
+            &mut self.roots,
+            log.places.as_slice(),
+            before,
+        )
     }
 
     /// Takes back what was logged, with the roots, and forgets the changesets from the place `before` on, which the

@@ -10,7 +10,7 @@ ghost use Rattle.hg_phases.specs.Log.{IsLog, restored};
 ghost use Rattle.hg_phases.specs.Roots.{AreRoots};
 ghost use Rattle.hg_phases.specs.RootPlaces.{HasParentIn, IsRootPlace, AreRootPlaces, IsFamily, IsTouched, AreSettled};
 
-use crate::lowered::LoweredPlace;
+use crate::lowered::{LoweredPlace, LoweredPlaces};
 use crate::phase::Phase;
 use crate::phase_map::PhaseMap;
 use crate::place_set::PlaceSet;
@@ -47,7 +47,7 @@ pub(crate) fn take_back_logged(
     graph: &Graph,
     phases: &mut PhaseMap,
     roots: &mut PlaceSet,
-    log: &mut Vec<LoweredPlace>,
+    log: &mut LoweredPlaces,
 )
     requires len { length phases.old ≡ length graph.now }
     requires logged { All (λ e. e.place < length graph.now) log.old.items }

@@ -9,7 +9,7 @@ use Rattle.hg_history.specs.Steps.{IsBegun}
 use Rattle.hg_history.proofs.AbsorbLemmas.{begun_front, begun_phases, front_restored, refusal_at_state, rooted_before}
 use Rattle.hg_history.proofs.UndoLemmas.{leads_back}
 use Rattle.hg_history.proofs.absorb.take_bounds_or_undo.Goals as goal
-use Rattle.hg_history.proofs.absorb.take_bounds_or_undo.Goals.{After-drop-log-inside}
+use Rattle.hg_history.proofs.absorb.take_bounds_or_undo.Goals.{After-drop-log}
 
 pub returns-in-Ok-clause-inside : goal.returns-in-Ok-clause-inside
 returns-in-Ok-clause-inside c held had part begun =
@@ -33,7 +33,7 @@ returns-in-Ok-clause-back c held had part begun =
     leads_back graph new back.len (record { before = c.args.before; log = log }) (state_of held had) begun.valid
     c.requires.within back.logged (sym (λ i. state_of (front i) (phases i)))
 
-module _ (c : After-drop-log-inside) (held : List Contents) (had : List Phase) (part : List Contents)
+module _ (c : After-drop-log) (held : List Contents) (had : List Phase) (part : List Contents)
     (begun : IsBegun held had part c.args.before c.args.added c.args.graph.now c.args.kept.now.phases) where
   graph_is : c.take_back.new.graph ≡ held
   graph_is = c.take_back.ensures.graph

@@ -1,4 +1,5 @@
-use Rattle.std.proofs.Common.{◌≡◌, ◌<◌, length, vec_len, All}
+use Rattle.std.proofs.Common.{◌≡◌, ◌<◌, length, All}
+use Rattle.smallvec.specs.SmallVec.{small_vec_len}
 use Rattle.hg_phases.specs.Log.{restored}
 use Rattle.hg_phases.specs.RootPlaces.{AreRootPlaces}
 use Rattle.hg_phases.proofs.root_places.take_back_logged.Given as goal
@@ -12,4 +13,4 @@ invariant-loop-place l = record {
 }
 
 abbrev pub decreases-loop-place : goal.decreases-loop-place
-decreases-loop-place l = vec_len l.log
+decreases-loop-place l = small_vec_len l.log

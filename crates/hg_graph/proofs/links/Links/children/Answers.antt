@@ -16,7 +16,7 @@ kept c =
     ∙ ap (λ v. Some v) (sym c.index.ensures) in
     let listed : slice_get (lists_of vectors) c.args.place ≡ Some v.items = slice_get-map (λ v. v.items) vectors
     c.args.place ∙ ap (option_map (λ v. v.items)) at in
-    subst (AreChildPlaces c.args.self.now c.args.place) (sym c.as_slice.ensures.value)
+    subst (AreChildPlaces c.args.self.now c.args.place) (sym c.as_slice.ensures)
     (children.each c.args.place v.items listed)
 
 pub returns-clause-exact : goal.returns-clause-exact

@@ -55,10 +55,13 @@ invariant_of-self c =
     c.self.invariant in
     let dropped : lists_of left.items ≡ both p drop_last old =
     c.forget_last-in-Some.ensures.lists ∙ ap (changed_at p.second drop_last) c.forget_last.ensures.lists in
-    let long : length left.items ≡ length old = sym (length-map left.items (λ v. v.items)) ∙ ap length dropped
-    ∙ length-changed_at p.second drop_last (changed_at p.first drop_last old)
-    ∙ length-changed_at p.first drop_last old in
-    let lists_are : lists_of c.pop-in-Some.new.self.items ≡ take (length old - 1) (both p drop_last old) =
-    ap lists_of c.pop-in-Some.ensures.rest ∙ map-take (λ v. v.items) _ left.items
-    ∙ (λ i. take ((left.ok.0 ∙ long) i - 1) (dropped i)) in
+    let short : c.len.result ≡ length old - 1 = omega (
+      arith,
+      c.len.ensures,
+      c.pop.new.self.ok.0,
+      linked.len,
+      length-append ps (p ∷ []),
+    ) in
+    let lists_are : lists_of c.truncate.new.self.items ≡ take (length old - 1) (both p drop_last old) =
+    ap lists_of c.truncate.ensures.items ∙ map-take (λ v. v.items) _ left.items ∙ (λ i. take (short i) (dropped i)) in
     subst (AreChildren ps) (sym lists_are) (AreChildren-pop ps p old linked)

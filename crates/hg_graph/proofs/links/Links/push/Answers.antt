@@ -2,13 +2,14 @@ use Rattle.std.proofs.Common.{◌≡◌, ◌≤◌, ◌<◌, ◌+◌, ℕ, Vec, 
 use Rattle.std.proofs.Common.{◌∙◌, vec_len}
 use Rattle.std.proofs.lemmas.List.{map-append}
 use Rattle.std.specs.Vec.{vec_capacity}
+use Rattle.smallvec.specs.SmallVec.{SmallVec}
 use Rattle.hg_graph.specs.declared.graph.ParentPlaces.{ParentPlaces}
 use Rattle.hg_graph.specs.Links.{lists_of, put_last, AreChildren, IsLinkable}
 use Rattle.hg_graph.proofs.LinkLemmas.{AreChildren-push, both, both_vectors}
 use Rattle.hg_graph.proofs.links.Links.push.Goals as goal
 
 -- there was room for the push
-room : (p : ParentPlaces) (place : ℕ) (old new : Vec (Vec ℕ Global) Global)
+room : (p : ParentPlaces) (place : ℕ) (old new : Vec (SmallVec ℕ) Global)
     → lists_of new.items ≡ both p (put_last place) (lists_of old.items) → vec_capacity new ≡ vec_capacity old
     → vec_len old + 1 ≤ vec_capacity old
     → vec_capacity new ≤ vec_len new → ⊥

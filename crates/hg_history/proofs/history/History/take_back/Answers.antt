@@ -4,7 +4,7 @@ use Rattle.hg_phases.specs.RootPlaces.{AreKept}
 use Rattle.hg_history.specs.Undo.{UndoValue, LeadsBack}
 use Rattle.hg_history.proofs.UndoLemmas.{led_within, led_logged, led_state}
 use Rattle.hg_history.proofs.history.History.take_back.Goals as goal
-use Rattle.hg_history.proofs.history.History.take_back.Goals.{After-drop-log-inside}
+use Rattle.hg_history.proofs.history.History.take_back.Goals.{After-drop-log}
 
 -- the undo leads back from what is kept
 inside : (t : State) (undo : UndoValue) (now : State) (given : UndoValue) → now ≡ t → given ≡ undo → (s : State)
@@ -28,7 +28,7 @@ take_back-requires-clause-logged c =
     led_logged cs ks c.self.invariant.0.len undo c.requires.0
     (inside c.args.self.now c.args.undo (state_of cs ks) undo c.self.view_is c.undo.view_is c.requires.0 c.requires.1)
 
-module _ (c : After-drop-log-inside) where
+module _ (c : After-drop-log) where
   state_is : (s : State) → LeadsBack c.args.self.now c.args.undo s
       → state_of c.truncate.new.self c.take_back.new.self.phases ≡ s
   state_is s back =

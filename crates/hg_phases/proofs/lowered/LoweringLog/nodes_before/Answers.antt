@@ -14,6 +14,6 @@ returns-clause-lowered c =
     IfOk-weaker c.nodes_of.result _ _
     (λ found told phase start now graph logged.
     subst (ListsLowered _ (state_of cs now))
-    (sym (told ∙ ap (flat_map (node_before (nodes cs) c.args.before)) (c.deref.ensures.value ∙ c.self.view_is)))
+    (sym (told ∙ ap (flat_map (node_before (nodes cs) c.args.before)) (c.as_slice.ensures ∙ c.self.view_is)))
     (lowered_are cs c.args.before phase start now c.args.self.now graph logged))
     c.nodes_of.ensures.nodes

@@ -4,6 +4,7 @@ use Rattle.hg_changeset.specs.Changeset.{node_of}
 use Rattle.hg_changeset.proofs.ListLemmas.{slice_get_some}
 use Rattle.hg_graph.proofs.MarkLemmas.{IsAt-from}
 use Rattle.hg_phases.specs.declared.phase.Phase.{Phase}
+use Rattle.hg_phases.specs.declared.phase.Phase.TheVariants.{Public}
 use Rattle.hg_phases.specs.declared.lowered.LoweredPlace.{LoweredPlace}
 use Rattle.hg_phases.specs.Log.{IsLog, restored, IsUnlowered}
 use Rattle.hg_phases.proofs.PlaceLemmas.{graph_of_state}
@@ -12,10 +13,15 @@ use Rattle.hg_phases.proofs.LowerLemmas.{second_within, halfway, lowered_are}
 use Rattle.hg_phases.proofs.LawLemmas.{least-lowered}
 use Rattle.hg_phases.proofs.phase_map.PhaseMap.lower_at.Goals as goal
 
+-- what is read where nothing is
+abbrev any : LoweredPlace
+any = record { place = 0; had = Public }
+
 -- what was read from the log
-read : (log : List LoweredPlace) (i n : ℕ) (e : LoweredPlace) → i < n → n ≡ length log → e ≡ get_or log i e
-    → slice_get log i ≡ Some e
-read log i n e l len is = slice_get-get_or log i e (omega arith) ∙ ap (λ x. Some x) (sym is)
+read : (log elements : List LoweredPlace) (i n : ℕ) → i < n → n ≡ length log → elements ≡ log
+    → slice_get log i ≡ Some (get_or elements i any)
+read log elements i n l len same =
+    slice_get-get_or log i any (omega arith) ∙ ap (λ es. Some (get_or es i any)) (sym same)
 
 pub loop-i-init : goal.loop-i-init
 loop-i-init c =
@@ -27,22 +33,22 @@ loop-i-init c =
     (IsAt-from cs place d.0 (node_of d.0) d.1 refl) c.lower_one.new.self c.lower_one.new.log.items
     c.in_ok-lower_one.ensures.lowered in
     subst (IsWalked cs place c.args.phase c.args.self.now c.args.log.now.items c.lower_one.new.self
-    c.lower_one.new.log.items) (sym (c.len-i.ensures ∙ c.args.log.now.ok.0)) start
+    c.lower_one.new.log.items) (sym c.len-i.ensures.value) start
 
 pub parent_places-parents-requires : goal.parent_places-parents-requires
 parent_places-parents-requires c =
-    let e = c.index.result.now in
-    let at = read c.loop-i.log.items c.loop-i.i c.len.result e c.loop-i-test.true (c.len.ensures ∙ c.loop-i.log.ok.0)
-    c.index.ensures in
+    let e = get_or c.deref.result.now c.loop-i.i any in
+    let at = read c.loop-i.log.items c.deref.result.now c.loop-i.i c.len.result c.loop-i-test.true c.len.ensures.value
+    c.deref.ensures in
     logged_within c.args.graph.now c.args.place c.args.phase c.args.self.now c.args.log.now.items c.loop-i.self
     c.loop-i.log.items c.loop-i.i c.loop-i.invariant e at c.requires.len
 
 pub lower_found-requires : goal.lower_found-requires
 lower_found-requires c =
     let graph = graph_of_state c.args.graph.now c.args.self.now c.requires.len c.requires.valid in
-    let e = c.index.result.now in
-    let at = read c.loop-i.log.items c.loop-i.i c.len.result e c.loop-i-test.true (c.len.ensures ∙ c.loop-i.log.ok.0)
-    c.index.ensures in
+    let e = get_or c.deref.result.now c.loop-i.i any in
+    let at = read c.loop-i.log.items c.deref.result.now c.loop-i.i c.len.result c.loop-i-test.true c.len.ensures.value
+    c.deref.ensures in
     first_within c.args.graph.now c.args.place c.args.phase c.args.self.now c.args.log.now.items graph c.loop-i.self
     c.loop-i.log.items c.loop-i.i c.loop-i.invariant e at
     c.parent_places-parents.result c.parent_places-parents.ensures.places c.requires.len
@@ -50,9 +56,9 @@ lower_found-requires c =
 pub lower_found-requires-in-loop-i : goal.lower_found-requires-in-loop-i
 lower_found-requires-in-loop-i c =
     let graph = graph_of_state c.args.graph.now c.args.self.now c.requires.len c.requires.valid in
-    let e = c.index.result.now in
-    let at = read c.loop-i.log.items c.loop-i.i c.len.result e c.loop-i-test.true (c.len.ensures ∙ c.loop-i.log.ok.0)
-    c.index.ensures in
+    let e = get_or c.deref.result.now c.loop-i.i any in
+    let at = read c.loop-i.log.items c.deref.result.now c.loop-i.i c.len.result c.loop-i-test.true c.len.ensures.value
+    c.deref.ensures in
     second_within c.args.graph.now c.args.place c.args.phase c.args.self.now c.args.log.now.items graph c.loop-i.self
     c.loop-i.log.items c.loop-i.i c.loop-i.invariant e at
     c.parent_places-parents.result c.parent_places-parents.ensures.places c.lower_found.new.self
@@ -67,9 +73,9 @@ pub returns-in_err-lower_found-2-clause-logged : goal.returns-in_err-lower_found
 returns-in_err-lower_found-2-clause-logged c start l =
     let s =
     let graph = graph_of_state c.args.graph.now c.args.self.now c.requires.len c.requires.valid in
-    let e = c.index.result.now in
-    let at = read c.loop-i.log.items c.loop-i.i c.len.result e c.loop-i-test.true (c.len.ensures ∙ c.loop-i.log.ok.0)
-    c.index.ensures in
+    let e = get_or c.deref.result.now c.loop-i.i any in
+    let at = read c.loop-i.log.items c.deref.result.now c.loop-i.i c.len.result c.loop-i-test.true c.len.ensures.value
+    c.deref.ensures in
     halfway c.args.graph.now c.args.place c.args.phase c.args.self.now c.args.log.now.items graph c.loop-i.self
     c.loop-i.log.items c.loop-i.i c.loop-i.invariant e at
     c.parent_places-parents.result c.parent_places-parents.ensures.places c.lower_found.new.self
@@ -80,9 +86,9 @@ pub returns-in_err-lower_found-2-clause-undoes : goal.returns-in_err-lower_found
 returns-in_err-lower_found-2-clause-undoes c =
     let s =
     let graph = graph_of_state c.args.graph.now c.args.self.now c.requires.len c.requires.valid in
-    let e = c.index.result.now in
-    let at = read c.loop-i.log.items c.loop-i.i c.len.result e c.loop-i-test.true (c.len.ensures ∙ c.loop-i.log.ok.0)
-    c.index.ensures in
+    let e = get_or c.deref.result.now c.loop-i.i any in
+    let at = read c.loop-i.log.items c.deref.result.now c.loop-i.i c.len.result c.loop-i-test.true c.len.ensures.value
+    c.deref.ensures in
     halfway c.args.graph.now c.args.place c.args.phase c.args.self.now c.args.log.now.items graph c.loop-i.self
     c.loop-i.log.items c.loop-i.i c.loop-i.invariant e at
     c.parent_places-parents.result c.parent_places-parents.ensures.places c.lower_found.new.self
@@ -93,9 +99,9 @@ returns-in_err-lower_found-2-clause-undoes c =
 pub loop-i-preserved : goal.loop-i-preserved
 loop-i-preserved c =
     let graph = graph_of_state c.args.graph.now c.args.self.now c.requires.len c.requires.valid in
-    let e = c.index.result.now in
-    let at = read c.loop-i.log.items c.loop-i.i c.len.result e c.loop-i-test.true (c.len.ensures ∙ c.loop-i.log.ok.0)
-    c.index.ensures in
+    let e = get_or c.deref.result.now c.loop-i.i any in
+    let at = read c.loop-i.log.items c.deref.result.now c.loop-i.i c.len.result c.loop-i-test.true c.len.ensures.value
+    c.deref.ensures in
     IsWalked-step c.args.graph.now c.args.place c.args.phase c.args.self.now c.args.log.now.items graph c.loop-i.self
     c.loop-i.log.items c.loop-i.i c.loop-i.invariant e at
     c.parent_places-parents.result c.parent_places-parents.ensures.places c.lower_found.new.self
@@ -105,9 +111,9 @@ loop-i-preserved c =
 pub loop-i-smaller : goal.loop-i-smaller
 loop-i-smaller c =
     let graph = graph_of_state c.args.graph.now c.args.self.now c.requires.len c.requires.valid in
-    let e = c.index.result.now in
-    let at = read c.loop-i.log.items c.loop-i.i c.len.result e c.loop-i-test.true (c.len.ensures ∙ c.loop-i.log.ok.0)
-    c.index.ensures in
+    let e = get_or c.deref.result.now c.loop-i.i any in
+    let at = read c.loop-i.log.items c.deref.result.now c.loop-i.i c.len.result c.loop-i-test.true c.len.ensures.value
+    c.deref.ensures in
     let w = IsWalked-step c.args.graph.now c.args.place c.args.phase c.args.self.now c.args.log.now.items graph
     c.loop-i.self c.loop-i.log.items c.loop-i.i c.loop-i.invariant e at
     c.parent_places-parents.result c.parent_places-parents.ensures.places c.lower_found.new.self
@@ -120,7 +126,7 @@ returns-clause-least c node at =
     let w = c.loop-i.invariant in
     let graph = graph_of_state c.args.graph.now c.args.self.now c.requires.len c.requires.valid in
     let ended : length c.loop-i.log.items ≡ c.loop-i.i =
-    omega (arith, c.loop-i-test.false, c.len.ensures, c.loop-i.log.ok.0, w.within) in
+    omega (arith, c.loop-i-test.false, c.len.ensures.value, w.within) in
     let low = lowered_are c.args.graph.now c.args.place c.args.phase c.args.self.now c.args.log.now.items c.loop-i.self
     c.loop-i.log.items graph c.requires.len c.requires.valid w.lowering w.given
     (λ m e q le lt. w.closed m e q le (omega (arith, ended))) in

@@ -1,4 +1,5 @@
-use Rattle.std.proofs.Common.{◌≡◌, ◌<◌, length, vec_len, All}
+use Rattle.std.proofs.Common.{◌≡◌, ◌<◌, length, All}
+use Rattle.smallvec.specs.SmallVec.{small_vec_len}
 use Rattle.hg_phases.specs.Log.{restored}
 use Rattle.hg_phases.proofs.phase_map.PhaseMap.restore.Given as goal
 
@@ -9,4 +10,4 @@ invariant-loop-place l = record {
 }
 
 abbrev pub decreases-loop-place : goal.decreases-loop-place
-decreases-loop-place l = vec_len l.log
+decreases-loop-place l = small_vec_len l.log
