@@ -113,6 +113,14 @@ refused_entry es i x f lt none is h = elim (told_fault x f h) [
       (f, sym (ap entry_fault is) ∙ fault.0, fault.1))
 ]
 
+-- memory is wanted only for an entry that has a text
+pub wanting_entry : (e : EntryValue) (f : EntryError) → EntryAnswer e (Err f) → entry_refusal f ≡ NoMemory
+    → ¬ (Applies (entry_refused e))
+wanting_entry e error.EmptyUser h w = absurd (cc)
+wanting_entry e error.NewlineInUser h w = absurd (cc)
+wanting_entry e error.BadExtraKey h w = absurd (cc)
+wanting_entry e error.NoMemory h w = λ r. none-some r.1.0 (sym h ∙ r.1.1)
+
 pub written_entry : (e : EntryValue) (text : Vec ℕ Global) → EntryAnswer e (Ok text) → ¬ (Applies (entry_refused e))
 written_entry e text h r = none-some r.1.0 (sym h.0 ∙ r.1.1)
 

@@ -13,7 +13,7 @@ use Rattle.hg_rewrite.specs.Refusals.{obsolete_nodes, not_linear, wrong_count, r
 use Rattle.hg_rewrite.specs.Refusals.{changeset_refused, marker_refused, not_written, not_marked, existing_ids}
 use Rattle.hg_rewrite.specs.Refusals.{refusals}
 use Rattle.hg_rewrite.specs.Answer.{IsRefusal, DecideAnswer}
-use Rattle.hg_rewrite.proofs.RowLemmas.{none_both, sooner, later}
+use Rattle.hg_rewrite.proofs.RowLemmas.{none_both, none_sooner, sooner, later}
 use Rattle.hg_rewrite.proofs.PartLemmas.{admitted}
 
 -- what names a user outside of an entry writes nothing
@@ -29,6 +29,10 @@ writes_nothing s (Relocate node p q entry) r h = absurd h
 writes_nothing s (Advance node phase) r h = absurd h
 
 module _ (s : ReplicaState) (op : Op) where
+  -- what is written has entries that have texts
+  pub entries_written : NoneApplies (not_written s op) → NoneApplies (bad_entries op)
+  entries_written written = none_sooner (bad_entries op) (map changeset_refused (new_changesets s.history op)) written
+
   -- the users are some, and so are the markers
   pub none_unmarked : NoneApplies (bad_users op) → NoneApplies (map marker_refused (markers s.history op))
       → NoneApplies (not_marked s op)
@@ -152,15 +156,6 @@ module _ (s : ReplicaState) (pins : List Node) (op : Op) where
       (later (raise s op) rows_from_unwritten r lowered
       (later (not_written s op) rows_from_unmarked r written
       (sooner (not_marked s op) rows_from_existing r h))))))))
-
-  -- an entry, which is tried before anything is written
-  pub refused_entry : (r : Refusal) → NoneApplies (unknown_nodes s op) → NoneApplies (hidden_parents s pins op)
-      → NoneApplies (public_nodes s op) → NoneApplies (obsolete_nodes s op) → NoneApplies (not_linear s op)
-      → NoneApplies (wrong_count op) → NoneApplies (raise s op) → IsFirstRefusal (bad_entries op) r
-      → IsRefusal (refusals s pins op) r
-  refused_entry r known visible unpublished current linear counted lowered h =
-      refused_unwritten r known visible unpublished current linear counted lowered
-      (sooner (bad_entries op) (map changeset_refused (new_changesets s.history op)) r (inr h))
 
   -- the user of a prune, which is tried before anything is written
   pub refused_user : (r : Refusal) → NoneApplies (unknown_nodes s op) → NoneApplies (hidden_parents s pins op)

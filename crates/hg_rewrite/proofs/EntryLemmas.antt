@@ -1,8 +1,9 @@
 -- An entry with one extra more.
-use Rattle.std.proofs.Common.{◌≡◌, ℕ, ℤ, Bool, true, false, List, [], ◌∷◌, length, map, Option, Some, None, Result}
+use Rattle.std.proofs.Common.{◌≡◌, ℕ, ℤ, Bool, true, false, List, [], ◌∷◌, length, map, Option, Some, None, inl, inr}
 use Rattle.std.proofs.Common.{refl, sym, ap, subst, ◌∙◌, arith}
-use Rattle.std.specs.Prelude.{codes, ◌==◌, ◌||◌, if◌then◌else◌}
-use Rattle.std.proofs.lemmas.Bool.{false≢true}
+use Rattle.std.specs.Prelude.{◌==◌, ◌||◌, if◌then◌else◌}
+use Rattle.std.proofs.lemmas.Bool.{false≢true, or_right}
+use Rattle.std.proofs.lemmas.Option.{none-some}
 use Rattle.std.proofs.lemmas.Bool.Decides.{nat_tests}
 use Rattle.std.specs.List.{list_any}
 use Rattle.std.specs.Option.{option_or}
@@ -23,14 +24,11 @@ use Rattle.hg_changeset.specs.Noted.{noting}
 use Rattle.hg_changeset.specs.EntryAnswer.{is_bad_key, user_fault, entry_fault}
 use Rattle.hg_marker.specs.Texts.{bytes_cmp}
 use Rattle.hg_marker.proofs.TextsLemmas.{vec_cmp}
-use Rattle.hg_rewrite.specs.declared.op.Op.{Op}
-use Rattle.hg_rewrite.specs.declared.op.Op.TheVariants.{Commit, Amend, Split, Fold, Prune, Relocate, Advance}
 use Rattle.hg_rewrite.specs.declared.refusal.Refusal.{Refusal}
 use Rattle.hg_rewrite.specs.declared.refusal.Refusal.TheVariants.{Fault}
 use Rattle.hg_rewrite.specs.declared.refusal.Cause.TheVariants.{Entry}
-use Rattle.hg_rewrite.specs.Parts.{with_extra, named_entries}
-use Rattle.hg_rewrite.specs.Refusals.{Row, entry_refused, bad_entries}
-use Rattle.hg_rewrite.specs.Answer.{Checked}
+use Rattle.hg_rewrite.specs.Parts.{with_extra}
+use Rattle.hg_rewrite.specs.Refusals.{Row, Applies, NoneApplies, IsFirstRefusal, entry_refused}
 
 put-extra : (es : List (Vec ℕ Global × Vec ℕ Global)) (k v : Vec ℕ Global)
     → extra_bytes (insert_entry vec_cmp es k v) ≡ put bytes_cmp k.items v.items (extra_bytes es)
@@ -71,10 +69,53 @@ none_counted (x ∷ xs) h =
     let some : (length (x ∷ xs) == 0) ≡ false = grind (arith, nat_tests) in
     absurd (false≢true (sym some ∙ h))
 
--- ---- a source that is noted among the extras changes nothing of the entry's fault
+-- ---- what is noted among the extras mends no fault of the entry
 
 abbrev bad : List ℕ × List ℕ → Bool
 bad x = is_bad_key x.0
+
+or_more : (b c d : Bool) → (c ≡ true → d ≡ true) → (b || c) ≡ true → (b || d) ≡ true
+or_more true c d more h = refl
+or_more false c d more h = more h
+
+bad_kept : (key value : List ℕ) (es : List (List ℕ × List ℕ)) → list_any bad es ≡ true
+    → list_any bad (put bytes_cmp key value es) ≡ true
+bad_kept key value [] h = absurd (false≢true h)
+bad_kept key value (e ∷ es) h =
+    elim (bytes_cmp key e.0) as
+    (λ r. list_any bad (by_order r ((key, value) ∷ e ∷ es) ((e.0, value) ∷ es) (e ∷ put bytes_cmp key value es))
+    ≡ true) [
+      | Less ↦ or_right (is_bad_key key) (list_any bad (e ∷ es)) h
+      | Equal ↦ h
+      | Greater ↦ or_more (is_bad_key e.0) (list_any bad es) (list_any bad (put bytes_cmp key value es))
+          (bad_kept key value es) h
+    ]
+
+fault_of_either : (user : Option EntryError) (b c : Bool) (f : EntryError) → (b ≡ true → c ≡ true)
+    → option_or user (if b then Some BadExtraKey else None) ≡ Some f
+    → option_or user (if c then Some BadExtraKey else None) ≡ Some f
+fault_of_either (Some u) b c f more h = h
+fault_of_either None true c f more h = ap (λ (t : Bool). if t then Some BadExtraKey else None) (more refl) ∙ h
+fault_of_either None false c f more h = absurd (none-some f h)
+
+fault_kept : (key : List ℕ) (node : Node) (e : EntryValue) (f : EntryError) → entry_fault e ≡ Some f
+    → entry_fault (with_extra key node e) ≡ Some f
+fault_kept key node e f h =
+    fault_of_either (user_fault (trimmed_user e.user)) (list_any bad e.extra)
+    (list_any bad (put bytes_cmp key (encode_lower node.0) e.extra)) f (bad_kept key (encode_lower node.0) e.extra) h
+
+-- an entry that is refused without what is noted is refused with it
+pub refused_noted : (key : List ℕ) (node : Node) (e : EntryValue) (r : Refusal)
+    → IsFirstRefusal (entry_refused e ∷ []) r → IsFirstRefusal (entry_refused (with_extra key node e) ∷ []) r
+refused_noted key node e r (inl h) = inl (h.0, fault_kept key node e h.0 h.1, h.2)
+refused_noted key node e r (inr h) = absurd h.1
+
+-- one that isn't refused with it isn't without
+pub fine_unnoted : (key : List ℕ) (node : Node) (e : EntryValue) → ¬ (Applies (entry_refused (with_extra key node e)))
+    → ¬ (Applies (entry_refused e))
+fine_unnoted key node e fine a = fine (a.0, (a.1.0, fault_kept key node e a.1.0 a.1.1, a.1.2))
+
+-- ---- a source that is noted among the extras makes no fault either
 
 bad_of_put : (key value : List ℕ) → is_bad_key key ≡ false → (es : List (List ℕ × List ℕ))
     → list_any bad (put bytes_cmp key value es) ≡ list_any bad es
@@ -98,17 +139,7 @@ fault_of_noted key good node e =
 abbrev row_of : Option EntryError → Row
 row_of fault r = (f : EntryError) × (fault ≡ Some f) × (r ≡ Fault (Entry f))
 
--- the entries that are named have the faults of those that are written
-pub named_as_written : (op : Op) (r : Result (Unit {0}) Refusal) → Checked (map entry_refused (named_entries op)) r
-    → Checked (bad_entries op) r
-named_as_written (Commit p q entry secret) r h = h
-named_as_written (Amend node entry) r h =
-    subst (λ (o : Option EntryError). Checked (row_of o ∷ []) r)
-    (sym (fault_of_noted (codes "amend_source") refl node entry)) h
-named_as_written (Split node es) r h = h
-named_as_written (Fold nodes entry) r h = h
-named_as_written (Prune node user secs offset) r h = h
-named_as_written (Relocate node p q entry) r h =
-    subst (λ (o : Option EntryError). Checked (row_of o ∷ []) r)
-    (sym (fault_of_noted (codes "rebase_source") refl node entry)) h
-named_as_written (Advance node phase) r h = h
+pub fine_noted : (key : List ℕ) → is_bad_key key ≡ false → (node : Node) (e : EntryValue)
+    → NoneApplies (entry_refused e ∷ []) → NoneApplies (entry_refused (with_extra key node e) ∷ [])
+fine_noted key good node e none =
+    subst (λ (o : Option EntryError). NoneApplies (row_of o ∷ [])) (sym (fault_of_noted key good node e)) none

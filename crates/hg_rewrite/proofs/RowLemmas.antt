@@ -26,6 +26,10 @@ pub none_both : (xs ys : List Row) → NoneApplies xs → NoneApplies ys → Non
 none_both [] ys none others = others
 none_both (x ∷ xs) ys none others = (none.0, none_both xs ys none.1 others)
 
+pub none_sooner : (xs ys : List Row) → NoneApplies (xs ++ ys) → NoneApplies xs
+none_sooner [] ys none = tt
+none_sooner (x ∷ xs) ys none = (none.0, none_sooner xs ys none.1)
+
 -- none of the first rows applies
 pub later : (xs ys : List Row) (r : Refusal) → NoneApplies xs → IsRefusal ys r → IsRefusal (xs ++ ys) r
 later xs ys r none (inl e) = inl e

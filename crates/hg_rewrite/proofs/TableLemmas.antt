@@ -2,6 +2,7 @@
 use Rattle.std.proofs.Common.{◌≡◌, inl, inr, List, [], ◌∷◌, ◌++◌, map, Option, Some, sym, ap, ◌∙◌}
 use Rattle.std.proofs.lemmas.Option.{same_Some}
 use Rattle.hg_changeset.specs.declared.node.Node.{Node}
+use Rattle.hg_changeset.specs.EntryValue.{EntryValue}
 use Rattle.hg_changeset.specs.EntryText.{trimmed_user}
 use Rattle.hg_changeset.specs.EntryAnswer.{entry_fault, user_fault}
 use Rattle.hg_changeset.specs.Changeset.{changeset_fault}
@@ -84,8 +85,8 @@ existing_tells : (s : State) (ns : List Node) → AreTelling (existing s ns)
 existing_tells s [] = tt
 existing_tells s (n ∷ ns) = (where_so_tells _ (Exists n) (λ e. cc), existing_tells s ns)
 
-pub entries_tell : (op : Op) → AreTelling (bad_entries op)
-entries_tell op = mapped entry_refused (λ e. fault_tells (entry_fault e) Entry) (entries op)
+pub entries_tell : (es : List EntryValue) → AreTelling (map entry_refused es)
+entries_tell es = mapped entry_refused (λ e. fault_tells (entry_fault e) Entry) es
 
 pub users_tell : (op : Op) → AreTelling (bad_users op)
 users_tell op = mapped user_refused (λ user. fault_tells (user_fault (trimmed_user user)) Entry) (users op)
@@ -118,7 +119,7 @@ module _ (s : ReplicaState) (op : Op) where
   unwritten_tells : AreTelling (not_written s op)
   unwritten_tells =
       both (bad_entries op) (map changeset_refused (new_changesets s.history op))
-      (entries_tell op)
+      (entries_tell (entries op))
       (mapped changeset_refused (λ n. fault_tells (changeset_fault n.p n.q n.text) Changeset)
       (new_changesets s.history op))
 

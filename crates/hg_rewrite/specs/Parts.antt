@@ -47,16 +47,6 @@ chain on (text ∷ texts) = on_parents on text ∷ chain (node_of (changeset_of 
 abbrev pub with_extra : List ℕ → Node → EntryValue → EntryValue
 with_extra key node e = record e { extra = put bytes_cmp key (encode_lower node.0) e.extra }
 
--- the entries that it names
-abbrev pub named_entries : Op → List EntryValue
-named_entries (Commit p q entry secret) = entry ∷ []
-named_entries (Amend node entry) = entry ∷ []
-named_entries (Split node es) = es.items
-named_entries (Fold nodes entry) = entry ∷ []
-named_entries (Prune node user secs offset) = []
-named_entries (Relocate node p q entry) = entry ∷ []
-named_entries (Advance node phase) = []
-
 -- the entries of the new changesets
 abbrev pub entries : Op → List EntryValue
 entries (Commit p q entry secret) = entry ∷ []

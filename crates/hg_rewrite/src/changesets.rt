@@ -1,17 +1,20 @@
 //! The new changesets of an operation.
 //!
-//! All entries are written before the first changeset is made, since the refusals of entries come first. Each changeset
-//! after the first stands on the one before.
-ghost use Rattle.std.specs.Prelude.{◌≡◌, ◌==◌, ◌∷◌, [], Contains, IfOk, length, map};
+//! Memory is taken only where each entry has a text: a sole entry is looked at as it is written, which comes first, and
+//! several are looked at before the first of them is. All are written before the first changeset is made, since the
+//! refusals of entries come first. Each changeset after the first stands on the one before.
+ghost use Rattle.std.specs.Prelude.{◌≡◌, ◌==◌, ◌∷◌, [], Contains, IfOk, IsErrOf, length, map};
 ghost use Rattle.hg_changeset.specs.Contents.{Contents};
 ghost use Rattle.hg_changeset.specs.Changeset.{IsChangeset};
 ghost use Rattle.hg_changeset.specs.EntryAnswer.{EntryAnswer};
 ghost use Rattle.hg_rewrite.specs.Parts.{with_extra, parents_of_first, made, chain, contents_of, on_parents, written};
-ghost use Rattle.hg_rewrite.specs.Refusals.{changeset_refused, unwritten, not_written};
+ghost use Rattle.hg_rewrite.specs.Refusals.{NoneApplies, bad_entries, entry_refused, changeset_refused, unwritten};
+ghost use Rattle.hg_rewrite.specs.Refusals.{not_written};
 ghost use Rattle.hg_rewrite.specs.Answer.{Gives, TextsAnswer, entry_refusal};
 ghost use Rattle.hg_graph.specs.Graph.{nodes};
 ghost use Rattle.hg_rewrite.specs.Ids.{listed};
 
+use crate::check::check_entries;
 use crate::op::Op;
 use crate::query::parents_in;
 use crate::refusal::{Cause, Refusal};
@@ -27,22 +30,17 @@ pub(crate) fn new_changesets(
     op: &Op,
 ) -> Result<Vec<Changeset>, Refusal>
     ensures answer { Gives (not_written replica.now op.now) (made replica.now.history op.now) result }
+    ensures memory { IsErrOf result Refusal.NoMemory → NoneApplies (bad_entries op.now) }
     ensures each { IfOk result (λ made. (c : Contents) → Contains made.items c → IsChangeset c) }
 {
     match op {
-        Op::Commit { p, q, entry, .. } => write(alloc, (*p, *q), slice::from_ref(entry)),
+        Op::Commit { p, q, entry, .. } => write_one(alloc, (*p, *q), entry),
         Op::Amend { node, entry } => {
             let parents = parents_in(replica, *node);
             write_noting(alloc, parents, b"amend_source", *node, entry)
         }
         Op::Split { node, entries } => write(alloc, parents_in(replica, *node), entries),
-        Op::Fold { nodes, entry } => {
-            write(
-                alloc,
-                parents_of_first(replica, nodes),
-                slice::from_ref(entry),
-            )
-        }
+        Op::Fold { nodes, entry } => write_one(alloc, parents_of_first(replica, nodes), entry),
         Op::Relocate { node, p, q, entry } => {
             write_noting(alloc, (*p, *q), b"rebase_source", *node, entry)
         }
@@ -61,7 +59,7 @@ fn parents_of_first(replica: &Replica, nodes: &[Node]) -> (Node, Node)
 }
 
 // The changeset of the entry with the node noted among its extras, on these parents. The entry is copied for it only
-// where it has others.
+// where it has others, and looked at before.
 fn write_noting(
     alloc: Global,
     parents: (Node, Node),
@@ -71,11 +69,13 @@ fn write_noting(
 ) -> Result<Vec<Changeset>, Refusal>
     ensures answer { let e = with_extra key.now node entry.now in
         Gives (unwritten (e ∷ []) (written parents (e ∷ []))) (map contents_of (written parents (e ∷ []))) result }
+    ensures memory { IsErrOf result Refusal.NoMemory → NoneApplies (entry_refused entry.now ∷ []) }
     ensures each { IfOk result (λ made. (c : Contents) → Contains made.items c → IsChangeset c) }
 {
     if has_no_extra(entry) {
         return write_noted(alloc, parents, key, node, entry);
     }
+    check_entries(slice::from_ref(entry))?;
     let noted = with_extra(alloc, key, node, entry)?;
     write_one(alloc, parents, &noted)
 }
@@ -97,6 +97,7 @@ fn write_noted(
     requires { entry.now.extra ≡ [] }
     ensures answer { let e = with_extra key.now node entry.now in
         Gives (unwritten (e ∷ []) (written parents (e ∷ []))) (map contents_of (written parents (e ∷ []))) result }
+    ensures memory { IsErrOf result Refusal.NoMemory → NoneApplies (entry_refused entry.now ∷ []) }
     ensures each { IfOk result (λ made. (c : Contents) → Contains made.items c → IsChangeset c) }
 {
     match text_noting(alloc, key, node, entry) {
@@ -142,11 +143,10 @@ pub(crate) fn date(entry: &Entry) -> (i64, i32)
 fn write(alloc: Global, parents: (Node, Node), entries: &[Entry]) -> Result<Vec<Changeset>, Refusal>
     ensures answer { Gives (unwritten entries.now (written parents entries.now))
         (map contents_of (written parents entries.now)) result }
+    ensures memory { IsErrOf result Refusal.NoMemory → NoneApplies (map entry_refused entries.now) }
     ensures each { IfOk result (λ made. (c : Contents) → Contains made.items c → IsChangeset c) }
 {
-    if let [entry] = entries {
-        return write_one(alloc, parents, entry);
-    }
+    check_entries(entries)?;
     let texts = texts(alloc, entries)?;
     chain(alloc, parents, texts)
 }
@@ -155,6 +155,7 @@ fn write(alloc: Global, parents: (Node, Node), entries: &[Entry]) -> Result<Vec<
 fn write_one(alloc: Global, parents: (Node, Node), entry: &Entry) -> Result<Vec<Changeset>, Refusal>
     ensures answer { Gives (unwritten (entry.now ∷ []) (written parents (entry.now ∷ [])))
         (map contents_of (written parents (entry.now ∷ []))) result }
+    ensures memory { IsErrOf result Refusal.NoMemory → NoneApplies (entry_refused entry.now ∷ []) }
     ensures each { IfOk result (λ made. (c : Contents) → Contains made.items c → IsChangeset c) }
 {
     match entry_text(alloc, entry) {

@@ -6,10 +6,10 @@ ghost use Rattle.hg_replica.specs.Evolution.{IsObsolete, IsOrphan};
 ghost use Rattle.hg_rewrite.specs.Reading.{parents_in};
 ghost use Rattle.hg_phases.specs.State.{Holds, Reaches};
 ghost use Rattle.hg_replica.specs.State.{IsValid};
-ghost use Rattle.hg_rewrite.specs.Parts.{named_entries, rewritten};
+ghost use Rattle.hg_rewrite.specs.Parts.{rewritten};
 ghost use Rattle.hg_rewrite.specs.Refusals.{NoneApplies, targets, new_parents, unknown, unknown_parent, unknown_nodes};
 ghost use Rattle.hg_rewrite.specs.Refusals.{hidden, hidden_parents, public_nodes, obsolete_nodes, not_linear, IsLinear};
-ghost use Rattle.hg_rewrite.specs.Refusals.{wrong_count, raise, bad_entries, entry_refused, bad_users, existing};
+ghost use Rattle.hg_rewrite.specs.Refusals.{wrong_count, raise, entry_refused, bad_users, existing};
 ghost use Rattle.hg_rewrite.specs.Answer.{Checked, CheckedInMemory};
 ghost use Rattle.hg_rewrite.specs.Memory.{WalksForHidden, WalksForDescendants, StandsBeforeParent};
 
@@ -303,29 +303,8 @@ pub(crate) fn check_raise(replica: &Replica, op: &Op) -> Result<(), Refusal>
     }
 }
 
-// The entries that an operation names.
-fn named_entries(op: &Op) -> &[Entry]
-    ensures { result.now ≡ named_entries op.now }
-{
-    match op {
-        Op::Commit { entry, .. } => slice::from_ref(entry),
-        Op::Amend { entry, .. } => slice::from_ref(entry),
-        Op::Split { entries, .. } => entries,
-        Op::Fold { entry, .. } => slice::from_ref(entry),
-        Op::Prune { .. } => &[],
-        Op::Relocate { entry, .. } => slice::from_ref(entry),
-        Op::Advance { .. } => &[],
-    }
-}
-
-// Refuses an entry that has no text. The node that is noted among its extras changes nothing of that.
-pub(crate) fn check_entries(op: &Op) -> Result<(), Refusal>
-    ensures { Checked (bad_entries op.now) result }
-{
-    check_each(named_entries(op))
-}
-
-fn check_each(entries: &[Entry]) -> Result<(), Refusal>
+// Refuses an entry that has no text.
+pub(crate) fn check_entries(entries: &[Entry]) -> Result<(), Refusal>
     ensures { Checked (map entry_refused entries.now) result }
 {
     for entry in entries {

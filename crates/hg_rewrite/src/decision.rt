@@ -11,8 +11,8 @@ ghost use Rattle.hg_rewrite.specs.Refusals.{NoneApplies, unknown_nodes, hidden_p
 use crate::bounds::bounds;
 use crate::changesets::{Ids, new_changesets};
 use crate::check::{
-    check_count, check_entries, check_known, check_linear, check_new, check_not_obsolete,
-    check_not_public, check_pruner, check_raise, check_shown, check_visible, is_apart,
+    check_count, check_known, check_linear, check_new, check_not_obsolete, check_not_public,
+    check_pruner, check_raise, check_shown, check_visible, is_apart,
 };
 use crate::markers::markers;
 use crate::op::Op;
@@ -78,7 +78,6 @@ fn decide_shown(alloc: Global, replica: &Replica, op: &Op, is_apart: bool) -> Re
     check_linear(replica, op, is_apart)?;
     check_count(op)?;
     check_raise(replica, op)?;
-    check_entries(op)?;
     check_pruner(op)?;
     let changesets = new_changesets(alloc, replica, op)?;
     let made = Ids::of(alloc, &changesets)?;

@@ -1,9 +1,11 @@
-use Rattle.std.proofs.Common.{List, ◌∷◌, [], map, ap, subst, ◌∙◌}
+use Rattle.std.proofs.Common.{List, ◌∷◌, [], map, refl, ap, subst, ◌∙◌}
 use Rattle.hg_changeset.specs.EntryText.{entry_text}
 use Rattle.hg_rewrite.specs.Parts.{with_extra, NewChangeset, contents_of, on_parents, written}
 use Rattle.hg_rewrite.specs.Refusals.{entry_refused, changeset_refused}
 use Rattle.hg_rewrite.specs.Answer.{Gives}
-use Rattle.hg_rewrite.proofs.ChainLemmas.{chain_of_one, written_entry}
+use Rattle.hg_rewrite.proofs.ChainLemmas.{chain_of_one, wanting_entry, written_entry}
+use Rattle.hg_rewrite.proofs.EntryLemmas.{fine_unnoted}
+use Rattle.hg_rewrite.proofs.MemoryLemmas.{told}
 use Rattle.hg_rewrite.proofs.RowLemmas.{gives_later}
 use Rattle.hg_rewrite.proofs.changesets.write_noted.Goals as goal
 
@@ -15,3 +17,20 @@ returns-in-Ok-clause-answer c =
     (map contents_of (written on (e ∷ []))) c.chain_one.result (written_entry e c.in-Ok.text c.in-Ok.ensures, tt)
     (subst (λ (ns : List NewChangeset). Gives (map changeset_refused ns) (map contents_of ns) c.chain_one.result)
     (ap (λ t. on_parents on t ∷ []) c.in-Ok.ensures.2 ∙ chain_of_one on (entry_text e)) c.chain_one.ensures.answer)
+
+pub returns-in-Ok-clause-memory : goal.returns-in-Ok-clause-memory
+returns-in-Ok-clause-memory c = λ e.
+    let key = c.args.key.now in
+    let node = c.args.node in
+    let entry = c.args.entry.now in
+    (fine_unnoted key node entry (written_entry (with_extra key node entry) c.in-Ok.text c.in-Ok.ensures), tt)
+
+pub returns-in-Err-clause-memory : goal.returns-in-Err-clause-memory
+returns-in-Err-clause-memory c = λ e.
+    let key = c.args.key.now in
+    let node = c.args.node in
+    let entry = c.args.entry.now in (
+      fine_unnoted key node entry (wanting_entry (with_extra key node entry) c.in-Err.fault c.in-Err.ensures
+          (told _ _ _ refl c.entry_refusal.ensures e)),
+      tt,
+    )

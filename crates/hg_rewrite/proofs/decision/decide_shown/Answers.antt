@@ -3,14 +3,14 @@ use Rattle.std.proofs.lemmas.Result.{err_from_is_err_and}
 use Rattle.hg_graph.specs.Graph.{nodes}
 use Rattle.hg_rewrite.specs.Parts.{new_ids}
 use Rattle.hg_rewrite.specs.Refusals.{NoneApplies, IsFirstRefusal, public_nodes, obsolete_nodes}
-use Rattle.hg_rewrite.specs.Refusals.{wrong_count, raise, bad_entries, bad_users, existing}
+use Rattle.hg_rewrite.specs.Refusals.{wrong_count, raise, bad_users, existing}
 use Rattle.hg_rewrite.proofs.PartLemmas.{part_is}
 use Rattle.hg_rewrite.proofs.DecideLemmas.{refused_public, refused_obsolete}
 use Rattle.hg_rewrite.proofs.DecideLemmas.{refused_not_linear, refused_count, refused_raise, refused_unwritten}
-use Rattle.hg_rewrite.proofs.DecideLemmas.{refused_unmarked, refused_entry, refused_user, refused_existing}
-use Rattle.hg_rewrite.proofs.DecideLemmas.{none_unmarked, marks_refused, decided}
+use Rattle.hg_rewrite.proofs.DecideLemmas.{refused_unmarked, refused_user, refused_existing}
+use Rattle.hg_rewrite.proofs.DecideLemmas.{entries_written, none_unmarked, marks_refused, decided}
 use Rattle.hg_rewrite.proofs.TableLemmas.{public_tells, obsolete_tells, count_tells, raise_tells}
-use Rattle.hg_rewrite.proofs.TableLemmas.{entries_tell, users_tell}
+use Rattle.hg_rewrite.proofs.TableLemmas.{users_tell}
 use Rattle.hg_rewrite.proofs.MemoryLemmas.{told, never, wanting_descendants, wanting_later}
 use Rattle.hg_rewrite.proofs.decision.decide_shown.Goals as goal
 
@@ -53,15 +53,6 @@ returns-in_err-check_raise-clause-answer c = λ pins shown.
     c.requires.known shown c.in_ok-check_not_public.ensures
     c.in_ok-check_not_obsolete.ensures c.in_ok-check_linear.ensures.answer c.in_ok-check_count.ensures
     (inr c.in_err-check_raise.ensures))
-
-pub returns-in_err-check_entries-clause-answer : goal.returns-in_err-check_entries-clause-answer
-returns-in_err-check_entries-clause-answer c = λ pins shown.
-    let p = err_from_is_err_and c.from_residual-in_err-check_entries.result
-    c.from_residual-in_err-check_entries.ensures.1 in
-    rw (p.1, p.2) (refused_entry c.args.replica.now pins c.args.op.now c.in_err-check_entries.field-0.0
-    c.requires.known shown c.in_ok-check_not_public.ensures
-    c.in_ok-check_not_obsolete.ensures c.in_ok-check_linear.ensures.answer c.in_ok-check_count.ensures
-    c.in_ok-check_raise.ensures c.in_err-check_entries.ensures)
 
 pub returns-in_err-check_pruner-clause-answer : goal.returns-in_err-check_pruner-clause-answer
 returns-in_err-check_pruner-clause-answer c = λ pins shown.
@@ -167,14 +158,6 @@ returns-in_err-check_raise-clause-later c = λ pins shown.
     λ e. never (raise s op) c.in_err-check_raise.field-0.0 (raise_tells s op) c.in_err-check_raise.ensures
     (told c.from_residual-in_err-check_raise.result _ c.in_err-check_raise.field-0.0 p.1 p.2 e)
 
-pub returns-in_err-check_entries-clause-later : goal.returns-in_err-check_entries-clause-later
-returns-in_err-check_entries-clause-later c = λ pins shown.
-    let op = c.args.op.now in
-    let p = err_from_is_err_and c.from_residual-in_err-check_entries.result
-    c.from_residual-in_err-check_entries.ensures.1 in
-    λ e. never (bad_entries op) c.in_err-check_entries.field-0.0 (entries_tell op) c.in_err-check_entries.ensures
-    (told c.from_residual-in_err-check_entries.result _ c.in_err-check_entries.field-0.0 p.1 p.2 e)
-
 pub returns-in_err-check_pruner-clause-later : goal.returns-in_err-check_pruner-clause-later
 returns-in_err-check_pruner-clause-later c = λ pins shown.
     let op = c.args.op.now in
@@ -193,31 +176,40 @@ returns-in_err-check_linear-clause-later c = λ pins shown.
     (told c.from_residual-in_err-check_linear.result _ c.in_err-check_linear.field-0.0 p.1 p.2 e)))
 
 pub returns-in_err-changesets-clause-later : goal.returns-in_err-changesets-clause-later
-returns-in_err-changesets-clause-later c = λ pins shown e. wanting_later c.args.replica.now pins c.args.op.now
+returns-in_err-changesets-clause-later c = λ pins shown.
+    let p = err_from_is_err_and c.from_residual-in_err-changesets.result c.from_residual-in_err-changesets.ensures.1 in
+    λ e. wanting_later c.args.replica.now pins c.args.op.now
     c.requires.known shown c.in_ok-check_not_public.ensures
     c.in_ok-check_not_obsolete.ensures c.in_ok-check_linear.ensures.answer c.in_ok-check_count.ensures
-    c.in_ok-check_raise.ensures c.in_ok-check_entries.ensures c.in_ok-check_pruner.ensures
+    c.in_ok-check_raise.ensures
+    (c.in_err-changesets.ensures.memory (ap (λ x. Err x)
+    (told c.from_residual-in_err-changesets.result _ c.in_err-changesets.field-0.0 p.1 p.2 e)))
+    c.in_ok-check_pruner.ensures
 
 pub returns-in_err-made-clause-later : goal.returns-in_err-made-clause-later
 returns-in_err-made-clause-later c = λ pins shown e. wanting_later c.args.replica.now pins c.args.op.now
     c.requires.known shown c.in_ok-check_not_public.ensures
     c.in_ok-check_not_obsolete.ensures c.in_ok-check_linear.ensures.answer c.in_ok-check_count.ensures
-    c.in_ok-check_raise.ensures c.in_ok-check_entries.ensures c.in_ok-check_pruner.ensures
+    c.in_ok-check_raise.ensures
+    (entries_written c.args.replica.now c.args.op.now c.in_ok-changesets.ensures.answer.0) c.in_ok-check_pruner.ensures
 
 pub returns-in_err-markers-clause-later : goal.returns-in_err-markers-clause-later
 returns-in_err-markers-clause-later c = λ pins shown e. wanting_later c.args.replica.now pins c.args.op.now
     c.requires.known shown c.in_ok-check_not_public.ensures
     c.in_ok-check_not_obsolete.ensures c.in_ok-check_linear.ensures.answer c.in_ok-check_count.ensures
-    c.in_ok-check_raise.ensures c.in_ok-check_entries.ensures c.in_ok-check_pruner.ensures
+    c.in_ok-check_raise.ensures
+    (entries_written c.args.replica.now c.args.op.now c.in_ok-changesets.ensures.answer.0) c.in_ok-check_pruner.ensures
 
 pub returns-in_err-check_new-clause-later : goal.returns-in_err-check_new-clause-later
 returns-in_err-check_new-clause-later c = λ pins shown e. wanting_later c.args.replica.now pins c.args.op.now
     c.requires.known shown c.in_ok-check_not_public.ensures
     c.in_ok-check_not_obsolete.ensures c.in_ok-check_linear.ensures.answer c.in_ok-check_count.ensures
-    c.in_ok-check_raise.ensures c.in_ok-check_entries.ensures c.in_ok-check_pruner.ensures
+    c.in_ok-check_raise.ensures
+    (entries_written c.args.replica.now c.args.op.now c.in_ok-changesets.ensures.answer.0) c.in_ok-check_pruner.ensures
 
 pub returns-in_err-bounds-clause-later : goal.returns-in_err-bounds-clause-later
 returns-in_err-bounds-clause-later c = λ pins shown e. wanting_later c.args.replica.now pins c.args.op.now
     c.requires.known shown c.in_ok-check_not_public.ensures
     c.in_ok-check_not_obsolete.ensures c.in_ok-check_linear.ensures.answer c.in_ok-check_count.ensures
-    c.in_ok-check_raise.ensures c.in_ok-check_entries.ensures c.in_ok-check_pruner.ensures
+    c.in_ok-check_raise.ensures
+    (entries_written c.args.replica.now c.args.op.now c.in_ok-changesets.ensures.answer.0) c.in_ok-check_pruner.ensures
