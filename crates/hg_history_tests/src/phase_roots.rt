@@ -1,10 +1,10 @@
-//! Values from outside: texts byte for byte, the first line at fault, and growths that are refused.
+//! Texts byte for byte, and growths that are refused. What is read of texts, and the first line at fault, is shown by
+//! cases of `examples/`.
 use hg_changeset::{Changeset, Node};
 use hg_phaseroots::{RootsError, read_roots, roots_text};
 use hg_phases::{Graph, Phase, PhaseRoots, Roots};
 use std::alloc::{AllocError, Global};
 use std::process::Abort;
-use std::test::Fail;
 
 // The id of the root changeset without text.
 const DIGITS: &[u8] = b"b80de5d138758541c5f05265ad144ab9fa86d1db";
@@ -15,18 +15,6 @@ const TWOS: Node = Node([0x22; 20]);
 
 fn listed(rt: &impl Abort, alloc: Global, roots: &[(Phase, Node)]) -> Roots {
     Roots::new(Vec::from_slice(alloc, roots).expect(rt, "memory"))
-}
-
-fn read(rt: &impl Abort, alloc: Global, text: &[u8]) -> Vec<(Phase, Node)> {
-    let roots = read_roots(alloc, text).expect(rt, "roots");
-    Vec::from_slice(alloc, roots.as_slice()).expect(rt, "memory")
-}
-
-fn expect_fault(rt: &impl Abort, alloc: Global, text: &[u8], fault: RootsError) {
-    match read_roots(alloc, text) {
-        Ok(_) => assert!(rt; false, "{text:?}"),
-        Err(error) => assert!(rt; error == fault, "{text:?}: {error}"),
-    }
 }
 
 #[test]
@@ -57,65 +45,6 @@ fn sorted_and_once(rt: HostRuntime) {
     assert!(rt; text.as_slice() == expected.as_slice());
     let none = roots_text(&listed(&rt, alloc, &[])).expect(&rt, "a text");
     assert!(rt; none.is_empty());
-}
-
-#[test]
-fn spellings(rt: HostRuntime) {
-    let alloc = rt.alloc();
-    let node = Node::from_hex(DIGITS).expect(&rt, "an id");
-    let text =
-        b"000000002 B80DE5D138758541C5F05265AD144AB9FA86D1DB\n0 b80de5d138758541c5f05265ad144ab9fa86d1db\n\
-        1 b80de5d138758541c5f05265ad144ab9fa86d1db";
-    let expected = [(Phase::Secret, node), (Phase::Draft, node)];
-    assert!(rt; read(&rt, alloc, text).as_slice() == expected.as_slice());
-    assert!(rt; read(&rt, alloc, b"").is_empty());
-}
-
-#[test]
-fn first_line_at_fault(rt: HostRuntime) {
-    let alloc = rt.alloc();
-    for (text, fault) in [
-        (
-            b"32 b80de5d138758541c5f05265ad144ab9fa86d1db\n".as_slice(),
-            RootsError::BadPhase(1),
-        ),
-        (
-            b"1  b80de5d138758541c5f05265ad144ab9fa86d1db\n",
-            RootsError::BadLine(1),
-        ),
-        (
-            b"1 b80de5d138758541c5f05265ad144ab9fa86d1db\r\n",
-            RootsError::BadLine(1),
-        ),
-        (
-            b"0000000001 b80de5d138758541c5f05265ad144ab9fa86d1db\n",
-            RootsError::BadLine(1),
-        ),
-        (
-            b"1 b80de5d138758541c5f05265ad144ab9fa86d1db\n\n3 b\n",
-            RootsError::BadLine(2),
-        ),
-        (
-            b"3 b80de5d138758541c5f05265ad144ab9fa86d1d\n",
-            RootsError::BadLine(1),
-        ),
-    ] {
-        expect_fault(&rt, alloc, text, fault);
-    }
-}
-
-#[test]
-fn numbers_and_texts(rt: HostRuntime) -> Result<(), Fail> {
-    let alloc = rt.alloc();
-    for (error, number, text) in [
-        (RootsError::BadLine(7), Some(1), "BadLine 7"),
-        (RootsError::BadPhase(12), Some(2), "BadPhase 12"),
-        (RootsError::NoMemory, None, "NoMemory"),
-    ] {
-        assert!(rt; error.number() == number);
-        assert_eq!(rt; error.to_string(alloc)?.as_str(), text);
-    }
-    Ok(())
 }
 
 // For each number of growths before one is refused.

@@ -82,16 +82,12 @@ fn an_inbox_for_no_message_is_refused(rt: HostRuntime) {
 
 #[test]
 fn refusals_have_numbers_and_names(rt: HostRuntime) {
-    for (refusal, number, name) in [
-        (InboxRefusal::ZeroCapacity, Some(1), "ZeroCapacity"),
-        (InboxRefusal::SeatsOut, Some(3), "SeatsOut"),
-        (InboxRefusal::NoSeat, Some(4), "NoSeat"),
-        (InboxRefusal::NoMemory, None, "NoMemory"),
-    ] {
-        assert_eq!(rt; refusal.number(), number);
-        let text = format!(in rt.alloc(); "{refusal}").expect(&rt, "memory");
-        assert_eq!(rt; text.as_str(), name);
-    }
+    let (zero, out) = (InboxRefusal::ZeroCapacity, InboxRefusal::SeatsOut);
+    let (seat, memory) = (InboxRefusal::NoSeat, InboxRefusal::NoMemory);
+    assert_eq!(rt; [zero.number(), out.number()], [Some(1), Some(3)]);
+    assert_eq!(rt; [seat.number(), memory.number()], [Some(4), None]);
+    let text = format!(in rt.alloc(); "{zero} {out} {seat} {memory}").expect(&rt, "memory");
+    assert_eq!(rt; text.as_str(), "ZeroCapacity SeatsOut NoSeat NoMemory");
 }
 
 #[test]

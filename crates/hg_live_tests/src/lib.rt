@@ -1,4 +1,4 @@
-//! Tests of `hg_live` and `hg_race`, as a caller from outside sees them.
+//! Tests of `hg_live`, `hg_race` and `hg_script`, as a caller from outside sees them.
 #![tactic(auto)]
 
 #[cfg(test)]
@@ -18,8 +18,12 @@ mod races;
 #[cfg(test)]
 mod refusals;
 #[cfg(test)]
+mod scripts;
+#[cfg(test)]
 mod shared;
 #[cfg(test)]
 mod starved;
+#[cfg(test)]
+mod streams;
 #[cfg(test)]
 mod threads;

@@ -9,20 +9,14 @@ use std::test::*;
 
 #[test]
 fn calls_are_refused_with_numbers_and_names(rt: HostRuntime) {
-    for (refusal, number, name) in [
-        (CallRefusal::JournalFull, Some(4), "JournalFull"),
-        (
-            CallRefusal::Refused(PeerRefusal::Rewrite(Refusal::Count)),
-            Some(6),
-            "Count",
-        ),
-        (CallRefusal::Fault(Fault::NullBound), Some(4), "NullBound"),
-        (CallRefusal::NoMemory, None, "NoMemory"),
-    ] {
-        assert_eq!(rt; refusal.number(), number);
-        let text = format!(in rt.alloc(); "{refusal}").expect(&rt, "memory");
-        assert_eq!(rt; text.as_str(), name);
-    }
+    let full = CallRefusal::JournalFull;
+    let refused = CallRefusal::Refused(PeerRefusal::Rewrite(Refusal::Count));
+    let fault = CallRefusal::Fault(Fault::NullBound);
+    let memory = CallRefusal::NoMemory;
+    assert_eq!(rt; [full.number(), refused.number()], [Some(4), Some(6)]);
+    assert_eq!(rt; [fault.number(), memory.number()], [Some(4), None]);
+    let text = format!(in rt.alloc(); "{full} {refused} {fault} {memory}").expect(&rt, "memory");
+    assert_eq!(rt; text.as_str(), "JournalFull Count NullBound NoMemory");
 }
 
 #[test]

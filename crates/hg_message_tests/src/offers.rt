@@ -84,23 +84,6 @@ fn offers_what_is_served(rt: HostRuntime) {
 }
 
 #[test]
-fn leaves_out_common_changesets_and_tells_their_phases(rt: HostRuntime) {
-    let alloc = rt.alloc();
-    let mut replica = Replica::new(alloc);
-    let nodes = scene(alloc, &mut replica).expect(&rt, "memory");
-    let message = offer(
-        alloc,
-        &replica,
-        &Pins::new(alloc),
-        &[nodes.b],
-        Scope::Served,
-    )
-    .expect(&rt, "an offer");
-    assert!(rt; are(&message, &[nodes.c]));
-    assert!(rt; message.bounds().len() == 3 && message.markers().len() == 2);
-}
-
-#[test]
 fn finds_what_goes_out_of_a_kept_replica(rt: HostRuntime) {
     let alloc = rt.alloc();
     let mut replica = Replica::new(alloc);
@@ -125,14 +108,6 @@ fn extinct(alloc: Global, replica: &mut Replica) -> Option<[Node; 3]> {
     Some([a, b, c])
 }
 
-// All of a scope that goes out of a kept replica.
-fn message_of(alloc: Global, kept: &Kept, scope: Scope) -> Option<Message> {
-    Outgoing::above_kept(alloc, kept, &[], scope)
-        .ok()?
-        .message()
-        .ok()
-}
-
 #[test]
 fn offers_what_is_pinned_with_its_ancestors(rt: HostRuntime) {
     let alloc = rt.alloc();
@@ -145,53 +120,6 @@ fn offers_what_is_pinned_with_its_ancestors(rt: HostRuntime) {
     let none = Pins::new(alloc);
     let found = Outgoing::above(alloc, &replica, &none, &[], Scope::Served).expect(&rt, "memory");
     assert!(rt; are(&found.message().expect(&rt, "memory"), &[nodes[0]]));
-}
-
-#[test]
-fn offers_what_is_pinned_of_a_kept_replica(rt: HostRuntime) {
-    let alloc = rt.alloc();
-    let mut replica = Replica::new(alloc);
-    let nodes = extinct(alloc, &mut replica).expect(&rt, "memory");
-    let mut kept = Kept::new(alloc, replica).expect(&rt, "memory");
-    let message = message_of(alloc, &kept, Scope::Served).expect(&rt, "memory");
-    assert!(rt; are(&message, &[nodes[0]]));
-    kept.pin(nodes[2]).expect(&rt, "a pin");
-    let message = message_of(alloc, &kept, Scope::Served).expect(&rt, "memory");
-    assert!(rt; are(&message, &nodes));
-}
-
-// What is hidden goes out of the whole, and what is secret doesn't; every marker does, also one that leads to nothing
-// but what is secret. A pin makes no difference.
-#[test]
-fn offers_the_whole_without_what_is_secret(rt: HostRuntime) {
-    let alloc = rt.alloc();
-    let mut replica = Replica::new(alloc);
-    let nodes = extinct(alloc, &mut replica).expect(&rt, "memory");
-    let secret = commit(alloc, &mut replica, nodes[0], b"d", Phase::Secret).expect(&rt, "memory");
-    rewrite(alloc, &mut replica, Node([0x11; 20]), &[secret], nodes[0]).expect(&rt, "memory");
-    let mut kept = Kept::new(alloc, replica).expect(&rt, "memory");
-    let message = message_of(alloc, &kept, Scope::Whole).expect(&rt, "memory");
-    assert!(rt; message.scope() == Scope::Whole && are(&message, &nodes));
-    assert!(rt;
-        message.bounds() == [(nodes[0], Phase::Public), (nodes[2], Phase::Draft)].as_slice()
-    );
-    assert!(rt; message.markers() == kept.replica().store().markers());
-    kept.pin(nodes[2]).expect(&rt, "a pin");
-    assert!(rt; message_of(alloc, &kept, Scope::Whole) == Some(message));
-}
-
-// Common changesets are left out, and their phases are told.
-#[test]
-fn offers_the_whole_above_common_nodes(rt: HostRuntime) {
-    let alloc = rt.alloc();
-    let mut replica = Replica::new(alloc);
-    let nodes = extinct(alloc, &mut replica).expect(&rt, "memory");
-    let pins = Pins::new(alloc);
-    let message = offer(alloc, &replica, &pins, &[nodes[1]], Scope::Whole).expect(&rt, "an offer");
-    assert!(rt; are(&message, &[nodes[2]]) && message.markers().len() == 2);
-    assert!(rt;
-        message.bounds() == [(nodes[0], Phase::Public), (nodes[2], Phase::Draft)].as_slice()
-    );
 }
 
 // A replica without changesets may hold markers, which go out of the whole.
@@ -242,21 +170,6 @@ fn refuses_the_first_common_node_that_is_not_held(rt: HostRuntime) {
         Scope::Whole,
     );
     assert!(rt; refused == Err(OfferRefusal::UnknownCommon(unknown)));
-}
-
-// A replica without changesets takes in all that another offers, and the marker that leads to nothing that it has.
-#[test]
-fn an_offer_is_taken_in_by_an_empty_replica(rt: HostRuntime) {
-    let alloc = rt.alloc();
-    let mut replica = Replica::new(alloc);
-    scene(alloc, &mut replica).expect(&rt, "memory");
-    let mut other = Replica::new(alloc);
-    let message = offer(alloc, &replica, &Pins::new(alloc), &[], Scope::Served).expect(
-        &rt, "an offer",
-    );
-    let part = message.into_part().expect(&rt, "memory");
-    let change = other.absorb(&part).expect(&rt, "a part that is admitted");
-    assert!(rt; change.added.len() == 3 && change.markers.len() == 2);
 }
 
 #[test]

@@ -18,12 +18,3 @@ fn a_bound_of_the_null_id_is_refused(rt: HostRuntime) {
     let mut replica = Replica::new(alloc);
     assert!(rt; replica.absorb(&part).err() == Some(Fault::NullBound));
 }
-
-#[test]
-fn a_bound_of_what_is_not_held_is_refused(rt: HostRuntime) {
-    let alloc = rt.alloc();
-    let ones = Node([0x11; 20]);
-    let part = one_bound(alloc, ones).expect(&rt, "a part");
-    let mut replica = Replica::new(alloc);
-    assert!(rt; replica.absorb(&part).err() == Some(Fault::UnknownBound(ones)));
-}

@@ -22,18 +22,11 @@ const S2_ON_S1: &[u8] = b"857612b51da28d0d36f7f2a4ad6c4199d1c3754f";
 
 const M_ON_BOTH: &[u8] = b"c244c05ab53acba29801c797b856c5655bf368ee";
 
-const S3_ON_S2: &[u8] = b"b1b9de87b803f6cae0961ebcca03ea0477b3a31a";
-
 const F: &[u8] = b"bfb2e47e53835cfaa68462f9ef32b1b28c1bd073";
-
-const G_FOR_F: &[u8] = b"93d0cacec425cc7e930eda2b087f625a5bb084c3";
 
 const H_ON_A: &[u8] = b"b628cfffb3d62cd819f8855d31f2d2bf4d8b9b84";
 
-const B_TEXT: &[u8] =
-    b"0000000000000000000000000000000000000000\nfleet\n0 0 amend_source:f96ca39738e6588d0bf7020cd1d44a23774c1b77\n\nb";
-
-// The same with an extra of its own. Extras stand in the order of their keys, with NUL between them.
+// The text of `b` for `a` with an extra of its own. Extras stand in the order of their keys, with NUL between them.
 const B_TEXT_WITH_TOPIC: &[u8] = b"0000000000000000000000000000000000000000\nfleet\n\
     0 0 amend_source:f96ca39738e6588d0bf7020cd1d44a23774c1b77\0topic:t\n\nb";
 
@@ -66,22 +59,6 @@ fn commit(q: Node, entry: Entry) -> Op {
 
 fn amend(node: Node, entry: Entry) -> Op {
     Op::Amend { node, entry }
-}
-
-fn split(rt: &impl Abort, alloc: Global, node: Node, descs: &[&[u8]]) -> Op {
-    let mut entries = Vec::new(alloc);
-    for desc in descs {
-        let pushed = entries.push(entry(rt, alloc, desc));
-        assert!(rt; pushed.is_ok());
-    }
-    Op::Split { node, entries }
-}
-
-fn fold(rt: &impl Abort, alloc: Global, nodes: &[Node]) -> Op {
-    Op::Fold {
-        nodes: Vec::from_slice(alloc, nodes).expect(rt, "memory"),
-        entry: entry(rt, alloc, b"f"),
-    }
 }
 
 fn prune(alloc: Global, node: Node, user: &[u8]) -> Result<Op, AllocError> {
@@ -128,25 +105,6 @@ fn expect_ids(rt: &impl Abort, part: &Part, ids: &[&[u8]], phase: Phase) {
     }
 }
 
-// The one marker of the part, written: N and M, no flags, the nodes, and the metadata.
-fn expect_marker(
-    rt: &impl Abort,
-    alloc: Global,
-    part: &Part,
-    counts: &[u8],
-    nodes: &[Node],
-    text: &[u8],
-) {
-    let mut expected = Vec::from_slice(alloc, counts).expect(rt, "memory");
-    for node in nodes {
-        expected.extend_from_slice(&node.0).expect(rt, "memory");
-    }
-    expected.extend_from_slice(text).expect(rt, "memory");
-    assert_eq!(rt; part.markers.len(), 1);
-    let written = encode(&part.markers[0]).expect(rt, "memory");
-    assert!(rt; written.as_slice() == expected.as_slice());
-}
-
 fn expect_refusal(rt: &impl Abort, alloc: Global, replica: &Replica, op: Op, refusal: Refusal) {
     let answer = decide(alloc, replica, &Pins::new(alloc), &op);
     assert_eq!(rt; answer.err(), Some(refusal));
@@ -171,6 +129,7 @@ fn empty_root(rt: &impl Abort, alloc: Global) -> Part {
     }
 }
 
+// The marker as it is written: N and M, no flags, the node, and the metadata, whose user is trimmed.
 #[test]
 fn prune_of_the_empty_root(rt: HostRuntime) {
     let alloc = rt.alloc();
@@ -180,31 +139,17 @@ fn prune_of_the_empty_root(rt: HostRuntime) {
     let op = prune(alloc, node, b" fleet\n").expect(&rt, "memory");
     let part = decided(&rt, alloc, &replica, &op);
     assert!(rt; part.changesets.is_empty() && part.bounds.is_empty());
+    let marker = part.markers.first().expect(&rt, "a marker");
+    assert_eq!(rt; marker.parents(), Parents::One(Node::NULL));
+    let written = encode(marker).expect(&rt, "memory");
+    assert_eq!(rt; (part.markers.len(), written.len()), (1, 105));
+    assert!(rt; written.starts_with(&[0, 0, 0, 0, 0x4f, 0]) && written[6..26] == node.0[..]);
     let text =
         b"date:0 0\0operation:prune\0p1:0000000000000000000000000000000000000000\0user:fleet";
-    assert_eq!(rt; 26 + text.len(), 105);
-    expect_marker(&rt, alloc, &part, &[0, 0, 0, 0, 0x4f, 0], &[node], text);
-    let parents = part.markers.first().map(|marker| marker.parents());
-    assert_eq!(rt; parents, Some(Parents::One(Node::NULL)));
-}
-
-#[test]
-fn amend_notes_what_it_amends(rt: HostRuntime) {
-    let alloc = rt.alloc();
-    let replica = start(&rt, alloc);
-    let op = amend(id(&rt, A), entry(&rt, alloc, b"b"));
-    let part = decided(&rt, alloc, &replica, &op);
-    expect_ids(&rt, &part, &[B_FOR_A], Phase::Draft);
-    let text = part.changesets.first().map(|changeset| changeset.text());
-    assert!(rt; text == Some(B_TEXT));
-    expect_marker(
-        &rt,
-        alloc,
-        &part,
-        &[1, 0, 0, 0, 0x23, 0],
-        &[id(&rt, A), id(&rt, B_FOR_A)],
-        b"date:0 0\0operation:amend\0user:fleet",
-    );
+    assert!(rt; written[26..] == text[..]);
+    let op = prune(alloc, node, b" \n").expect(&rt, "memory");
+    let refusal = Refusal::Fault(Cause::Entry(EntryError::EmptyUser));
+    expect_refusal(&rt, alloc, &replica, op, refusal);
 }
 
 #[test]
@@ -215,45 +160,6 @@ fn amend_keeps_the_extras_of_its_entry(rt: HostRuntime) {
     let part = decided(&rt, alloc, &replica, &op);
     let text = part.changesets.first().map(|changeset| changeset.text());
     assert!(rt; text == Some(B_TEXT_WITH_TOPIC));
-}
-
-#[test]
-fn a_split_is_folded_and_moved(rt: HostRuntime) {
-    let alloc = rt.alloc();
-    let mut replica = start(&rt, alloc);
-    let both: [&[u8]; 2] = [S1, S2_ON_S1];
-    let op = split(&rt, alloc, id(&rt, A), &[b"s1", b"s2"]);
-    run(&rt, alloc, &mut replica, op, &both, Phase::Draft);
-    let op = fold(&rt, alloc, &[id(&rt, S1), id(&rt, S2_ON_S1)]);
-    run(&rt, alloc, &mut replica, op, &[F], Phase::Draft);
-    let op = relocate(id(&rt, F), Node::NULL, entry(&rt, alloc, b"g"));
-    run(&rt, alloc, &mut replica, op, &[G_FOR_F], Phase::Draft);
-    assert_eq!(rt; replica.store().len(), 4);
-    let op = commit(id(&rt, F), entry(&rt, alloc, b"h"));
-    expect_refusal(&rt, alloc, &replica, op, Refusal::Hidden(id(&rt, F)));
-    let op = amend(id(&rt, F), entry(&rt, alloc, b"h"));
-    expect_refusal(
-        &rt,
-        alloc,
-        &replica,
-        op,
-        Refusal::AlreadyObsolete(id(&rt, F)),
-    );
-}
-
-#[test]
-fn a_kept_replica_lets_nothing_stand_on_what_is_hidden(rt: HostRuntime) {
-    let alloc = rt.alloc();
-    let replica = start(&rt, alloc);
-    let mut kept = Kept::new(alloc, replica).expect(&rt, "memory");
-    let op = amend(id(&rt, A), entry(&rt, alloc, b"b"));
-    let part = decide_kept(alloc, &kept, &op).expect(&rt, "a part");
-    expect_ids(&rt, &part, &[B_FOR_A], Phase::Draft);
-    let absorbed = kept.absorb(&part);
-    assert!(rt; absorbed.is_ok());
-    let op = commit(id(&rt, A), entry(&rt, alloc, b"h"));
-    let refusal = decide_kept(alloc, &kept, &op).err();
-    assert_eq!(rt; refusal, Some(Refusal::Hidden(id(&rt, A))));
 }
 
 #[test]
@@ -279,77 +185,6 @@ fn what_is_hidden_has_a_child_where_it_is_pinned(rt: HostRuntime) {
 }
 
 #[test]
-fn a_split_into_three_has_one_marker(rt: HostRuntime) {
-    let alloc = rt.alloc();
-    let replica = start(&rt, alloc);
-    let op = split(&rt, alloc, id(&rt, A), &[b"s1", b"s2", b"s3"]);
-    let part = decided(&rt, alloc, &replica, &op);
-    let ids: [&[u8]; 3] = [S1, S2_ON_S1, S3_ON_S2];
-    expect_ids(&rt, &part, &ids, Phase::Draft);
-    expect_marker(
-        &rt,
-        alloc,
-        &part,
-        &[3, 0, 0, 0, 0x23, 0],
-        &[
-            id(&rt, A),
-            id(&rt, S1),
-            id(&rt, S2_ON_S1),
-            id(&rt, S3_ON_S2),
-        ],
-        b"date:0 0\0operation:split\0user:fleet",
-    );
-}
-
-#[test]
-fn advance_goes_down(rt: HostRuntime) {
-    let alloc = rt.alloc();
-    let mut replica = start(&rt, alloc);
-    let node = id(&rt, A);
-    let phase = Phase::Secret;
-    expect_refusal(
-        &rt,
-        alloc,
-        &replica,
-        Op::Advance { node, phase },
-        Refusal::Raise,
-    );
-    let phase = Phase::Public;
-    run(
-        &rt,
-        alloc,
-        &mut replica,
-        Op::Advance { node, phase },
-        &[],
-        phase,
-    );
-    assert!(rt; matches!(replica.phase_of(node), Ok(Some(Phase::Public))));
-    let op = amend(node, entry(&rt, alloc, b"b"));
-    expect_refusal(&rt, alloc, &replica, op, Refusal::Public(node));
-}
-
-#[test]
-fn refusals_by_number(rt: HostRuntime) {
-    let alloc = rt.alloc();
-    let replica = start(&rt, alloc);
-    let node = id(&rt, A);
-    let op = prune(alloc, Node::NULL, b"fleet").expect(&rt, "memory");
-    expect_refusal(&rt, alloc, &replica, op, Refusal::Unknown(Node::NULL));
-    let op = prune(alloc, node, b" \n").expect(&rt, "memory");
-    let refusal = Refusal::Fault(Cause::Entry(EntryError::EmptyUser));
-    expect_refusal(&rt, alloc, &replica, op, refusal);
-    let op = relocate(node, node, entry(&rt, alloc, b"a"));
-    expect_refusal(&rt, alloc, &replica, op, Refusal::NotLinear);
-    let op = fold(&rt, alloc, &[node]);
-    expect_refusal(&rt, alloc, &replica, op, Refusal::Count);
-    let op = commit(Node::NULL, entry(&rt, alloc, b"a"));
-    expect_refusal(&rt, alloc, &replica, op, Refusal::Exists(node));
-    assert_eq!(rt; Refusal::Count.number(), Some(6));
-    let name = format!(in alloc; "{}", Refusal::Count).expect(&rt, "memory");
-    assert_eq!(rt; name.as_str(), "Count");
-}
-
-#[test]
 fn faults_of_entries(rt: HostRuntime) {
     let alloc = rt.alloc();
     let replica = Replica::new(alloc);
@@ -361,13 +196,9 @@ fn faults_of_entries(rt: HostRuntime) {
         let refusal = Refusal::Fault(Cause::Entry(fault));
         expect_refusal(&rt, alloc, &replica, commit(Node::NULL, faulty), refusal);
     }
-    let faulty = with_colon(&rt, alloc);
+    let faulty = with_an_extra(&rt, alloc, b"a", b"a:b", b"");
     let refusal = Refusal::Fault(Cause::Entry(EntryError::BadExtraKey));
     expect_refusal(&rt, alloc, &replica, commit(Node::NULL, faulty), refusal);
-}
-
-fn with_colon(rt: &impl Abort, alloc: Global) -> Entry {
-    with_an_extra(rt, alloc, b"a", b"a:b", b"")
 }
 
 fn with_an_extra(rt: &impl Abort, alloc: Global, desc: &[u8], key: &[u8], value: &[u8]) -> Entry {

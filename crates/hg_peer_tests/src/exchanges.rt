@@ -1,9 +1,9 @@
-//! Short lists of events over peers, and what each is answered; each growth refused in turn.
+//! Events over peers that no line of a script asks for, and each growth refused in turn. What other events are answered
+//! is shown by cases of `examples/`.
 use hg_changeset::{Entry, Node};
 use hg_history::Fault;
 use hg_join::{JoinState, NoMemory};
 use hg_peer::{Ask, Mark, Peer, PeerRefusal, Scope};
-use hg_phases::Phase;
 use hg_replica::Change;
 use hg_replica_tests::are_same;
 use hg_rewrite::Op;
@@ -92,14 +92,6 @@ fn take(at: usize, message: usize) -> PeerEvent {
     Event::Take { at, message }
 }
 
-fn publish(at: usize, node: Node) -> PeerEvent {
-    let op = Op::Advance {
-        node,
-        phase: Phase::Public,
-    };
-    Event::Local { at, op }
-}
-
 fn mark(at: usize, mark: Mark) -> PeerEvent {
     Event::Mark { at, mark }
 }
@@ -115,145 +107,6 @@ fn amend(alloc: Global, at: usize, node: Node) -> Option<PeerEvent> {
     };
     let op = Op::Amend { node, entry };
     Some(Event::Local { at, op })
-}
-
-fn is_visible_at(world: &World<Peer>, at: usize, node: Node) -> Option<bool> {
-    Some(world.state(at)?.kept().is_visible(node))
-}
-
-fn is_pinned_at(world: &World<Peer>, at: usize, node: Node) -> Option<bool> {
-    Some(world.state(at)?.kept().pins().is_pinned(node))
-}
-
-fn phase_at(world: &World<Peer>, at: usize, node: Node) -> Option<Phase> {
-    world.state(at)?.replica().phase_of(node).ok()?
-}
-
-#[test]
-fn late_reordered_and_repeated_messages_leave_the_same(rt: HostRuntime) {
-    let alloc = rt.alloc();
-    let a = Node::from_hex(A).expect(&rt, "an id");
-    let mut world = World::<Peer>::new(alloc, 2).expect(&rt, "memory");
-    let events = [
-        commit(alloc, 0, false).expect(&rt, "memory"),
-        offer(alloc, 0),
-        publish(0, a),
-        offer(alloc, 0),
-        take(1, 1),
-        take(1, 0),
-        take(1, 1),
-    ];
-    let answers = world.run(&events).expect(&rt, "memory");
-    let expected = [
-        Outcome::Changed(1, 0, 0),
-        Outcome::Offered(0),
-        Outcome::Changed(0, 1, 0),
-        Outcome::Offered(1),
-        Outcome::Changed(1, 0, 0),
-        Outcome::Changed(0, 0, 0),
-        Outcome::Changed(0, 0, 0),
-    ];
-    expect_answers(&rt, &answers, &expected);
-    assert_eq!(rt; phase_at(&world, 0, a), Some(Phase::Public));
-    assert_eq!(rt; phase_at(&world, 1, a), Some(Phase::Public));
-}
-
-// What is obsolete is hidden, and goes over with the marker; a repeated take changes nothing.
-#[test]
-fn a_whole_offer_brings_what_is_hidden(rt: HostRuntime) {
-    let alloc = rt.alloc();
-    let a = Node::from_hex(A).expect(&rt, "an id");
-    let mut world = World::<Peer>::new(alloc, 2).expect(&rt, "memory");
-    let events = [
-        commit(alloc, 0, false).expect(&rt, "memory"),
-        amend(alloc, 0, a).expect(&rt, "memory"),
-        offer(alloc, 0),
-        offer_of(alloc, 0, Scope::Whole),
-        take(1, 0),
-        take(1, 1),
-        take(1, 1),
-    ];
-    let answers = world.run(&events).expect(&rt, "memory");
-    let expected = [
-        Outcome::Changed(1, 0, 0),
-        Outcome::Changed(1, 0, 1),
-        Outcome::Offered(0),
-        Outcome::Offered(1),
-        Outcome::Changed(1, 0, 1),
-        Outcome::Changed(1, 0, 0),
-        Outcome::Changed(0, 0, 0),
-    ];
-    expect_answers(&rt, &answers, &expected);
-    assert_eq!(rt; is_visible_at(&world, 1, a), Some(false));
-    assert_eq!(rt; phase_at(&world, 1, a), Some(Phase::Draft));
-}
-
-#[test]
-fn what_is_secret_stays_with_its_maker(rt: HostRuntime) {
-    let alloc = rt.alloc();
-    let a = Node::from_hex(A).expect(&rt, "an id");
-    let mut world = World::<Peer>::new(alloc, 2).expect(&rt, "memory");
-    let events = [
-        commit(alloc, 0, true).expect(&rt, "memory"),
-        offer(alloc, 0),
-        take(1, 0),
-    ];
-    let answers = world.run(&events).expect(&rt, "memory");
-    let expected = [
-        Outcome::Changed(1, 0, 0),
-        Outcome::Offered(0),
-        Outcome::Changed(0, 0, 0),
-    ];
-    expect_answers(&rt, &answers, &expected);
-    assert_eq!(rt; phase_at(&world, 0, a), Some(Phase::Secret));
-    assert_eq!(rt; phase_at(&world, 1, a), None);
-}
-
-#[test]
-fn what_a_peer_pins_is_in_its_own_view_alone(rt: HostRuntime) {
-    let alloc = rt.alloc();
-    let a = Node::from_hex(A).expect(&rt, "an id");
-    let mut world = World::<Peer>::new(alloc, 2).expect(&rt, "memory");
-    let events = [
-        commit(alloc, 0, false).expect(&rt, "memory"),
-        mark(0, Mark::Pin(a)),
-        amend(alloc, 0, a).expect(&rt, "memory"),
-        offer(alloc, 0),
-        take(1, 0),
-    ];
-    let answers = world.run(&events).expect(&rt, "memory");
-    let expected = [
-        Outcome::Changed(1, 0, 0),
-        Outcome::Marked,
-        Outcome::Changed(1, 0, 1),
-        Outcome::Offered(0),
-        Outcome::Changed(2, 0, 1),
-    ];
-    expect_answers(&rt, &answers, &expected);
-    assert_eq!(rt; is_visible_at(&world, 0, a), Some(true));
-    assert_eq!(rt; is_visible_at(&world, 1, a), Some(false));
-    assert_eq!(rt; is_pinned_at(&world, 1, a), Some(false));
-}
-
-#[test]
-fn an_own_pin_stays_when_a_message_is_taken_and_goes_by_a_mark(rt: HostRuntime) {
-    let alloc = rt.alloc();
-    let a = Node::from_hex(A).expect(&rt, "an id");
-    let mut world = World::<Peer>::new(alloc, 2).expect(&rt, "memory");
-    let events = [
-        commit(alloc, 0, false).expect(&rt, "memory"),
-        commit(alloc, 1, false).expect(&rt, "memory"),
-        mark(1, Mark::Pin(a)),
-        amend(alloc, 0, a).expect(&rt, "memory"),
-        offer(alloc, 0),
-        take(1, 0),
-    ];
-    world.run(&events).expect(&rt, "memory");
-    assert_eq!(rt; is_visible_at(&world, 0, a), Some(false));
-    assert_eq!(rt; is_visible_at(&world, 1, a), Some(true));
-    let answers = world.run(&[mark(1, Mark::Unpin(a))]).expect(&rt, "memory");
-    expect_answers(&rt, &answers, &[Outcome::Marked]);
-    assert_eq!(rt; is_visible_at(&world, 1, a), Some(false));
 }
 
 #[test]

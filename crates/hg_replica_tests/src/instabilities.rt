@@ -2,7 +2,6 @@
 mod across;
 mod amends;
 mod chance;
-mod folds;
 mod keeping;
 mod kept;
 mod kinds;

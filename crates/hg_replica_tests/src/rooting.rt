@@ -1,5 +1,5 @@
-//! Roots while phases go down: a worked merge, and long histories beside phases that are found by the definition.
-use crate::parts::{ONES, bound, empty};
+//! Roots while phases go down: long histories beside phases that are found by the definition.
+use crate::parts::{ONES, empty};
 use hg_changeset::{Changeset, Node};
 use hg_graph::Graph;
 use hg_join_tests::Dice;
@@ -19,49 +19,6 @@ fn push(alloc: Global, part: &mut Part, p: Node, q: Node, number: usize) -> Opti
     let node = changeset.node();
     part.changesets.push(changeset).ok()?;
     Some(node)
-}
-
-// Two secret changesets, a merge of them, and a child of that.
-fn merge(alloc: Global) -> Option<(Part, [Node; 4])> {
-    let mut part = empty(alloc);
-    let p = push(alloc, &mut part, Node::NULL, Node::NULL, 1)?;
-    let q = push(alloc, &mut part, Node::NULL, Node::NULL, 2)?;
-    let m = push(alloc, &mut part, p, q, 3)?;
-    let d = push(alloc, &mut part, m, Node::NULL, 4)?;
-    Some((part, [p, q, m, d]))
-}
-
-// Takes in the bound, and tells which changesets went down.
-fn lower(alloc: Global, replica: &mut Replica, node: Node, phase: Phase) -> Option<Vec<Node>> {
-    let part = bound(alloc, node, phase)?;
-    let change = replica.absorb(&part).ok()?;
-    change.lowered.clone().ok()
-}
-
-// Whether these are the replica's roots; false where memory ran out.
-fn has_roots(replica: &Replica, expected: &[(Phase, Node)]) -> bool {
-    match replica.roots() {
-        Ok(roots) => roots.as_slice() == expected,
-        Err(_) => false,
-    }
-}
-
-#[test]
-fn roots_of_a_merge_move_as_phases_advance(rt: HostRuntime) {
-    let alloc = rt.alloc();
-    let mut replica = Replica::new(alloc);
-    let (part, [p, q, m, d]) = merge(alloc).expect(&rt, "memory");
-    replica.absorb(&part).expect(&rt, "memory");
-    let secret = (Phase::Secret, d);
-    assert!(rt; has_roots(&replica, &[(Phase::Secret, p), (Phase::Secret, q)]));
-    let lowered = lower(alloc, &mut replica, m, Phase::Draft).expect(&rt, "memory");
-    assert!(rt; lowered.len() == 3);
-    assert!(rt; lowered.contains(&p) && lowered.contains(&q) && lowered.contains(&m));
-    assert!(rt; has_roots(&replica, &[(Phase::Draft, p), (Phase::Draft, q), secret]));
-    lower(alloc, &mut replica, p, Phase::Public).expect(&rt, "memory");
-    assert!(rt; has_roots(&replica, &[(Phase::Draft, q), secret]));
-    lower(alloc, &mut replica, q, Phase::Public).expect(&rt, "memory");
-    assert!(rt; has_roots(&replica, &[(Phase::Draft, m), secret]));
 }
 
 // One of the last twelve changesets, or at times none.

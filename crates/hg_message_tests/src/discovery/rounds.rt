@@ -4,7 +4,6 @@ use hg_changeset::Node;
 use hg_discovery::{
     Discovery, DiscoveryError, heads_in_common, heads_in_common_kept, known, known_kept,
 };
-use hg_message::{Scope, offer};
 use hg_phases::Phase;
 use hg_replica::Replica;
 use hg_view::{Kept, Pins};
@@ -85,28 +84,6 @@ fn a_chain_asks_one_that_holds_all_but_its_head(rt: HostRuntime) {
     assert!(rt; discovery.answer(&answers) == Ok(()));
     assert!(rt; discovery.done() && discovery.sample().expect(&rt, "memory").is_empty());
     assert!(rt; discovery.common_heads().expect(&rt, "memory").as_slice() == [b].as_slice());
-}
-
-#[test]
-fn what_is_above_the_common_heads_is_offered(rt: HostRuntime) {
-    let alloc = rt.alloc();
-    let mut asker = Replica::new(alloc);
-    let [a, b, _] = chain(alloc, &mut asker, b"ab").expect(&rt, "memory");
-    let mut other = Replica::new(alloc);
-    let [_, _, c] = chain(alloc, &mut other, b"abc").expect(&rt, "memory");
-    let mut discovery = Discovery::start(alloc, &asker).expect(&rt, "memory");
-    let sample = discovery.sample().expect(&rt, "memory");
-    assert!(rt; sample.as_slice() == [b, a].as_slice());
-    let answers = known(alloc, &other, &Pins::new(alloc), &sample).expect(&rt, "memory");
-    assert!(rt; answers.as_slice() == [true, true].as_slice());
-    assert!(rt; discovery.answer(&answers) == Ok(()));
-    let heads = discovery.common_heads().expect(&rt, "memory");
-    assert!(rt; heads.as_slice() == [b].as_slice());
-    let message = offer(alloc, &other, &Pins::new(alloc), &heads, Scope::Served).expect(
-        &rt, "an offer",
-    );
-    assert!(rt; message.changesets().len() == 1 && message.markers().is_empty());
-    assert!(rt; message.bounds() == [(c, Phase::Draft)].as_slice());
 }
 
 #[test]

@@ -1,5 +1,5 @@
-//! Small histories as Graphviz reads them.
-use crate::drawings::scene::{ELSEWHERE, NOWHERE, amended, draft, empty, rewrite};
+//! A small history that no script leaves as Graphviz reads it.
+use crate::drawings::scene::{ELSEWHERE, NOWHERE, draft, empty, rewrite};
 use hg_changeset::Node;
 use hg_log::draw_graph;
 use hg_view::Kept;
@@ -11,24 +11,6 @@ fn expect(rt: &impl Abort, alloc: Global, kept: &Kept, shows_hidden: bool, graph
     let mut drawn = Vec::new(alloc);
     draw_graph(alloc, b"A", kept, shows_hidden, &mut drawn).expect(rt, "memory");
     assert_eq!(rt; drawn.as_slice(), graph);
-}
-
-#[test]
-fn changesets_are_boxes_with_edges_to_parents_and_successors(rt: HostRuntime) {
-    let alloc = rt.alloc();
-    let mut kept = empty(alloc).expect(&rt, "memory");
-    amended(alloc, &mut kept).expect(&rt, "memory");
-    let graph = b"digraph \"A\" {\n    node [shape=box];\n    \
-            \"efcbbf9489c6\" [label=\"efcbbf9489c6\\nb2\", color=blue];\n    \
-            \"efcbbf9489c6\" -> \"047b75c6d7a3\";\n    \
-            \"0876f885e672\" [label=\"0876f885e672\\nc\", color=blue];\n    \
-            \"0876f885e672\" -> \"544d83e6863f\";\n    \
-            \"544d83e6863f\" [label=\"544d83e6863f\\nb\", color=gray];\n    \
-            \"544d83e6863f\" -> \"047b75c6d7a3\";\n    \
-            \"047b75c6d7a3\" [label=\"047b75c6d7a3\\na\", color=black];\n    \
-            \"544d83e6863f\" -> \"efcbbf9489c6\" [style=dashed, constraint=false];\n\
-            }\n";
-    expect(&rt, alloc, &kept, false, graph);
 }
 
 // One whose label is hard to quote was pruned, and of another rewrite nothing is held.

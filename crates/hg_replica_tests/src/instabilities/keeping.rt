@@ -2,7 +2,7 @@
 use crate::instabilities::scene::{
     ELSEWHERE, Kinds, NOWHERE, commit, expect_sets, push_child, push_marker, root,
 };
-use crate::parts::{bound, empty};
+use crate::parts::empty;
 use crate::same::are_same;
 use hg_changeset::Node;
 use hg_instab::Instabilities;
@@ -59,57 +59,6 @@ pub fn step(rt: &impl Abort, alloc: Global, keeper: &mut Keeper, part: &Part) {
     assert!(rt; taken == Some(true));
     let right = keeper.is_right(alloc);
     assert!(rt; right == Some(true));
-}
-
-/// Takes in a draft changeset of this parent and text.
-pub fn add(rt: &impl Abort, alloc: Global, keeper: &mut Keeper, parent: Node, text: &[u8]) -> Node {
-    let mut part = empty(alloc);
-    let node = push_child(alloc, &mut part, parent, text, Phase::Draft).expect(rt, "memory");
-    step(rt, alloc, keeper, &part);
-    node
-}
-
-// The part of a draft changeset beside another, to which that was rewritten.
-fn amendment(alloc: Global, parent: Node, old: Node) -> Option<(Part, Node)> {
-    let mut part = empty(alloc);
-    let amended = push_child(alloc, &mut part, parent, b"amended", Phase::Draft)?;
-    push_marker(alloc, &mut part, old, &[amended], 0)?;
-    Some((part, amended))
-}
-
-#[test]
-fn an_orphan_is_none_once_what_was_amended_below_it_is_public(rt: HostRuntime) {
-    let alloc = rt.alloc();
-    let mut keeper = Keeper::new(alloc, Replica::new(alloc)).expect(&rt, "memory");
-    let a = add(&rt, alloc, &mut keeper, Node::NULL, b"a");
-    let b = add(&rt, alloc, &mut keeper, a, b"b");
-    let c = add(&rt, alloc, &mut keeper, b, b"c");
-    let (part, amended) = amendment(alloc, a, b).expect(&rt, "memory");
-    step(&rt, alloc, &mut keeper, &part);
-    let one_orphan = Kinds {
-        obsolete: &[b],
-        orphan: &[c],
-        suspended: &[b],
-        extinct: &[],
-        phase_divergent: &[],
-        content_divergent: &[],
-    };
-    expect_sets(&rt, &keeper.kept, &one_orphan);
-    let part = bound(alloc, b, Phase::Public).expect(&rt, "memory");
-    step(&rt, alloc, &mut keeper, &part);
-    expect_one_divergent(&rt, &keeper.kept, amended);
-}
-
-fn expect_one_divergent(rt: &impl Abort, kept: &Instabilities, node: Node) {
-    let kinds = Kinds {
-        obsolete: &[],
-        orphan: &[],
-        suspended: &[],
-        extinct: &[],
-        phase_divergent: &[node],
-        content_divergent: &[],
-    };
-    expect_sets(rt, kept, &kinds);
 }
 
 /// Eight changesets, none of which is unstable: draft roots but for `c`, which is a child of `b`, and `w`, which is

@@ -1,13 +1,10 @@
 //! Small histories, and the instabilities that each has.
-use crate::instabilities::scene::{
-    ELSEWHERE, Kinds, NOWHERE, commit, expect_kinds, lower, rewrite, root,
-};
+use crate::instabilities::scene::{ELSEWHERE, Kinds, commit, expect_kinds, lower, rewrite};
 use hg_changeset::Node;
 use hg_instab::{Instabilities, has_phase, is_obsolete};
 use hg_phases::Phase;
 use hg_replica::Replica;
 use std::alloc::Global;
-use std::process::Abort;
 
 // A draft chain of three, and a draft sibling of the middle one.
 fn chain(alloc: Global, replica: &mut Replica) -> Option<(Node, Node, Node, Node)> {
@@ -19,30 +16,11 @@ fn chain(alloc: Global, replica: &mut Replica) -> Option<(Node, Node, Node, Node
 }
 
 #[test]
-fn a_child_of_what_was_amended_is_an_orphan_until_it_is_pruned(rt: HostRuntime) {
+fn a_pruned_draft_is_obsolete(rt: HostRuntime) {
     let alloc = rt.alloc();
     let mut replica = Replica::new(alloc);
-    let (a, b, c, amended) = chain(alloc, &mut replica).expect(&rt, "memory");
-    rewrite(alloc, &mut replica, b, &[amended], 0).expect(&rt, "memory");
-    let one_orphan = Kinds {
-        obsolete: &[b],
-        orphan: &[c],
-        suspended: &[b],
-        extinct: &[],
-        phase_divergent: &[],
-        content_divergent: &[],
-    };
-    expect_kinds(&rt, alloc, &replica, &one_orphan);
+    let (a, _, c, _) = chain(alloc, &mut replica).expect(&rt, "memory");
     rewrite(alloc, &mut replica, c, &[], 0).expect(&rt, "memory");
-    let none_left = Kinds {
-        obsolete: &[b, c],
-        orphan: &[],
-        suspended: &[],
-        extinct: &[b, c],
-        phase_divergent: &[],
-        content_divergent: &[],
-    };
-    expect_kinds(&rt, alloc, &replica, &none_left);
     assert!(rt; is_obsolete(&replica, c) && !is_obsolete(&replica, a));
     assert!(rt; has_phase(&replica, c, Phase::Draft));
     assert!(rt; !has_phase(&replica, ELSEWHERE, Phase::Public));
@@ -103,94 +81,6 @@ fn steps_lead_over_what_is_not_held_and_only_from_public_changesets(rt: HostRunt
         content_divergent: &[],
     };
     expect_kinds(&rt, alloc, &replica, &public);
-}
-
-fn expect_extinct(rt: &impl Abort, alloc: Global, replica: &Replica, nodes: &[Node]) {
-    let kinds = Kinds {
-        obsolete: nodes,
-        orphan: &[],
-        suspended: &[],
-        extinct: nodes,
-        phase_divergent: &[],
-        content_divergent: &[],
-    };
-    expect_kinds(rt, alloc, replica, &kinds);
-}
-
-#[test]
-fn what_was_rewritten_to_itself_is_extinct(rt: HostRuntime) {
-    let alloc = rt.alloc();
-    let mut replica = Replica::new(alloc);
-    let x = commit(alloc, &mut replica, Node::NULL, b"x", Phase::Draft).expect(&rt, "memory");
-    rewrite(alloc, &mut replica, x, &[x], 0).expect(&rt, "memory");
-    expect_extinct(&rt, alloc, &replica, &[x]);
-}
-
-fn expect_divergent(
-    rt: &impl Abort,
-    alloc: Global,
-    replica: &Replica,
-    gone: &[Node],
-    left: &[Node],
-) {
-    let kinds = Kinds {
-        obsolete: gone,
-        orphan: &[],
-        suspended: &[],
-        extinct: gone,
-        phase_divergent: &[],
-        content_divergent: left,
-    };
-    expect_kinds(rt, alloc, replica, &kinds);
-}
-
-// A draft root that was rewritten to two others.
-fn rewritten_twice(alloc: Global, replica: &mut Replica) -> Option<(Node, Node, Node)> {
-    let old = root(alloc, replica, b"old")?;
-    let x = root(alloc, replica, b"x")?;
-    let y = root(alloc, replica, b"y")?;
-    rewrite(alloc, replica, old, &[x], 0)?;
-    rewrite(alloc, replica, old, &[y], 0)?;
-    Some((old, x, y))
-}
-
-#[test]
-fn two_rewritings_of_one_changeset_diverge_until_one_is_given_up(rt: HostRuntime) {
-    let alloc = rt.alloc();
-    let mut replica = Replica::new(alloc);
-    let (old, x, y) = rewritten_twice(alloc, &mut replica).expect(&rt, "memory");
-    expect_divergent(&rt, alloc, &replica, &[old], &[x, y]);
-    rewrite(alloc, &mut replica, x, &[], 0).expect(&rt, "memory");
-    expect_divergent(&rt, alloc, &replica, &[old, x], &[]);
-}
-
-#[test]
-fn what_a_divergent_changeset_was_rewritten_to_diverges_in_its_place(rt: HostRuntime) {
-    let alloc = rt.alloc();
-    let mut replica = Replica::new(alloc);
-    let (old, x, y) = rewritten_twice(alloc, &mut replica).expect(&rt, "memory");
-    let z = root(alloc, &mut replica, b"z").expect(&rt, "memory");
-    rewrite(alloc, &mut replica, y, &[z], 1).expect(&rt, "memory");
-    expect_divergent(&rt, alloc, &replica, &[old, y], &[x, z]);
-}
-
-// Two ids that aren't held: the one was split into the other and a draft root, and the other was rewritten to two more.
-fn split_and_rewritten_twice(alloc: Global, replica: &mut Replica) -> Option<[Node; 3]> {
-    let rest = root(alloc, replica, b"rest")?;
-    let x = root(alloc, replica, b"x")?;
-    let y = root(alloc, replica, b"y")?;
-    rewrite(alloc, replica, ELSEWHERE, &[NOWHERE, rest], 0)?;
-    rewrite(alloc, replica, NOWHERE, &[x], 0)?;
-    rewrite(alloc, replica, NOWHERE, &[y], 0)?;
-    Some([rest, x, y])
-}
-
-#[test]
-fn what_a_split_gave_diverges_with_what_the_other_half_became(rt: HostRuntime) {
-    let alloc = rt.alloc();
-    let mut replica = Replica::new(alloc);
-    let left = split_and_rewritten_twice(alloc, &mut replica).expect(&rt, "memory");
-    expect_divergent(&rt, alloc, &replica, &[], &left);
 }
 
 // Whether the instabilities are told where growth was refused before, at most once.

@@ -65,19 +65,6 @@ fn what_is_pinned_first_stays_in_view_once_it_is_pruned(rt: HostRuntime) {
 }
 
 #[test]
-fn a_pin_shows_what_was_hidden_and_an_unpin_hides_it(rt: HostRuntime) {
-    let alloc = rt.alloc();
-    let (mut kept, [root, trunk, tip]) = stack(alloc, true).expect(&rt, "memory");
-    assert!(rt; kept.pin(tip).is_ok() && kept.pin(trunk).is_ok());
-    let copy = kept.copy().expect(&rt, "memory");
-    assert!(rt; has_exactly(&copy.visible().expect(&rt, "memory"), &[root, trunk, tip]));
-    assert!(rt; kept.unpin(tip).is_ok());
-    assert!(rt; has_exactly(&kept.visible().expect(&rt, "memory"), &[root, trunk]));
-    assert!(rt; kept.unpin(trunk).is_ok());
-    assert!(rt; has_exactly(&kept.visible().expect(&rt, "memory"), &[root]));
-}
-
-#[test]
 fn an_unpin_leaves_what_another_pin_upholds(rt: HostRuntime) {
     let alloc = rt.alloc();
     let (mut kept, [root, trunk, left, right]) = fork(alloc).expect(&rt, "memory");

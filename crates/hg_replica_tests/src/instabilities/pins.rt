@@ -58,19 +58,6 @@ fn what_is_pinned_comes_into_view_with_its_ancestors_and_stays_extinct(rt: HostR
 }
 
 #[test]
-fn taking_one_of_two_pins_away_leaves_what_the_other_shows(rt: HostRuntime) {
-    let alloc = rt.alloc();
-    let mut replica = Replica::new(alloc);
-    let [root, trunk, left, right] = pruned_fork(alloc, &mut replica).expect(&rt, "memory");
-    let mut pins = Pins::new(alloc);
-    assert!(rt; pins.pin(&replica, left).is_ok() && pins.pin(&replica, right).is_ok());
-    expect_views(&rt, alloc, &replica, &pins, &[root, trunk, left, right]);
-    assert!(rt; pins.unpin(left).is_ok());
-    expect_views(&rt, alloc, &replica, &pins, &[root, trunk, right]);
-    expect_hidden(&rt, alloc, &replica, &pins, left);
-}
-
-#[test]
 fn pins_are_refused_where_nothing_is_held_or_pinned(rt: HostRuntime) {
     let alloc = rt.alloc();
     let mut replica = Replica::new(alloc);

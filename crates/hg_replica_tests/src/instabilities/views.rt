@@ -1,20 +1,11 @@
-//! Small histories, and what of them is in view.
-use crate::instabilities::scene::{ELSEWHERE, commit, rewrite};
-use crate::same::has_exactly;
+//! What is in view, where growth is refused.
+use crate::instabilities::scene::{commit, rewrite};
 use hg_changeset::Node;
 use hg_phases::Phase;
 use hg_replica::Replica;
 use hg_view::{Pins, is_visible, served, visible};
 use std::alloc::Global;
 use std::process::Abort;
-
-fn expect_views(rt: &impl Abort, alloc: Global, replica: &Replica, seen: &[Node], given: &[Node]) {
-    let pins = Pins::new(alloc);
-    let view = visible(alloc, replica, &pins).expect(rt, "memory");
-    assert!(rt; has_exactly(&view, seen));
-    let view = served(alloc, replica, &pins).expect(rt, "memory");
-    assert!(rt; has_exactly(&view, given));
-}
 
 fn expect_visible(rt: &impl Abort, alloc: Global, replica: &Replica, node: Node, expected: bool) {
     let answer = is_visible(alloc, replica, &Pins::new(alloc), node).expect(rt, "memory");
@@ -27,32 +18,6 @@ fn chain(alloc: Global, replica: &mut Replica) -> Option<(Node, Node, Node)> {
     let b = commit(alloc, replica, a, b"b", Phase::Draft)?;
     let c = commit(alloc, replica, b, b"c", Phase::Secret)?;
     Some((a, b, c))
-}
-
-#[test]
-fn an_obsolete_changeset_is_visible_as_long_as_something_stands_on_it(rt: HostRuntime) {
-    let alloc = rt.alloc();
-    let mut replica = Replica::new(alloc);
-    let (a, b, c) = chain(alloc, &mut replica).expect(&rt, "memory");
-    expect_views(&rt, alloc, &replica, &[a, b, c], &[a, b]);
-    rewrite(alloc, &mut replica, b, &[], 0).expect(&rt, "memory");
-    expect_views(&rt, alloc, &replica, &[a, b, c], &[a, b]);
-    expect_visible(&rt, alloc, &replica, b, true);
-    rewrite(alloc, &mut replica, c, &[], 0).expect(&rt, "memory");
-    expect_views(&rt, alloc, &replica, &[a], &[a]);
-    expect_visible(&rt, alloc, &replica, b, false);
-    expect_visible(&rt, alloc, &replica, ELSEWHERE, false);
-}
-
-#[test]
-fn what_was_rewritten_in_a_circle_is_hidden(rt: HostRuntime) {
-    let alloc = rt.alloc();
-    let mut replica = Replica::new(alloc);
-    let (a, b, c) = chain(alloc, &mut replica).expect(&rt, "memory");
-    rewrite(alloc, &mut replica, b, &[c], 0).expect(&rt, "memory");
-    rewrite(alloc, &mut replica, c, &[b], 0).expect(&rt, "memory");
-    rewrite(alloc, &mut replica, a, &[a], 0).expect(&rt, "memory");
-    expect_views(&rt, alloc, &replica, &[], &[]);
 }
 
 // Whether the views are told where growth was refused before, at most once.
