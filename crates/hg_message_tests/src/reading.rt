@@ -1,5 +1,5 @@
-//! Messages that are read where their changesets are held, and what is left of their parts there. What is told of bytes at fault is shown by cases of
-//! `examples/`.
+//! Messages that are read where their changesets are held, and what is left of their parts there. What is told of bytes
+//! at fault is shown by cases of `examples/`.
 use crate::rows::{CHILD, EMPTY, FIRST, ROOT, SERVED, WHOLE, all_kinds, holder, one_changeset};
 use hg_message::{Message, MessageError, MessageFault, Node, Phase, ReadError};
 use hg_replica::Replica;
