@@ -117,7 +117,7 @@ impl<T: Drop> From<AllocFailed<T>> for ArgumentFault {
 }
 
 // The version, and what it was proved with.
-const VERSION: &str = "0.1.0, proved with rattle-kit-13b logic dac8208d650f15bf";
+const VERSION: &str = "0.1.0, proved with rattle-kit-13f logic dac8208d650f15bf";
 
 // What a script looks like, and what comes of it.
 const SCRIPT_HELP: &str = "\
