@@ -1,6 +1,6 @@
 //! Worked operations, whose ids and bytes were computed outside; refusals; and each growth refused in turn.
 use hg_changeset::{Changeset, Entry, EntryError, Node};
-use hg_marker::{Parents, encode};
+use hg_marker::encode;
 use hg_phases::Phase;
 use hg_replica::{Part, Replica};
 use hg_rewrite::{Cause, Op, Refusal, decide, decide_kept};
@@ -10,6 +10,11 @@ use std::collections::BTreeMap;
 use std::process::Abort;
 
 const N1: &[u8] = b"b80de5d138758541c5f05265ad144ab9fa86d1db";
+
+// The marker of a prune of it by `fleet` at `0 0`: N and M, no flags, the node, and the metadata.
+const PRUNED: &[u8] =
+    b"\0\0\0\0\x4f\0\xb8\x0d\xe5\xd18u\x85A\xc5\xf0Re\xad\x14J\xb9\xfa\x86\xd1\xdb\
+    date:0 0\0operation:prune\0p1:0000000000000000000000000000000000000000\0user:fleet";
 
 // Draft roots by their descriptions, and what comes of them; all of user `fleet` at `0 0`.
 const A: &[u8] = b"f96ca39738e6588d0bf7020cd1d44a23774c1b77";
@@ -129,27 +134,29 @@ fn empty_root(rt: &impl Abort, alloc: Global) -> Part {
     }
 }
 
-// The marker as it is written: N and M, no flags, the node, and the metadata, whose user is trimmed.
+// What a prune of the root without a text by this user gives.
+fn pruned(rt: &impl Abort, alloc: Global, user: &[u8]) -> Result<Part, Refusal> {
+    let mut replica = Replica::new(alloc);
+    absorb(rt, &mut replica, &empty_root(rt, alloc));
+    let op = prune(alloc, id(rt, N1), user).expect(rt, "memory");
+    decide(alloc, &replica, &Pins::new(alloc), &op)
+}
+
 #[test]
 fn prune_of_the_empty_root(rt: HostRuntime) {
-    let alloc = rt.alloc();
-    let mut replica = Replica::new(alloc);
-    absorb(&rt, &mut replica, &empty_root(&rt, alloc));
-    let node = id(&rt, N1);
-    let op = prune(alloc, node, b" fleet\n").expect(&rt, "memory");
-    let part = decided(&rt, alloc, &replica, &op);
+    let part = pruned(&rt, rt.alloc(), b" fleet\n").expect(&rt, "a part");
     assert!(rt; part.changesets.is_empty() && part.bounds.is_empty());
-    let marker = part.markers.first().expect(&rt, "a marker");
-    assert_eq!(rt; marker.parents(), Parents::One(Node::NULL));
-    let written = encode(marker).expect(&rt, "memory");
-    assert_eq!(rt; (part.markers.len(), written.len()), (1, 105));
-    assert!(rt; written.starts_with(&[0, 0, 0, 0, 0x4f, 0]) && written[6..26] == node.0[..]);
-    let text =
-        b"date:0 0\0operation:prune\0p1:0000000000000000000000000000000000000000\0user:fleet";
-    assert!(rt; written[26..] == text[..]);
-    let op = prune(alloc, node, b" \n").expect(&rt, "memory");
-    let refusal = Refusal::Fault(Cause::Entry(EntryError::EmptyUser));
-    expect_refusal(&rt, alloc, &replica, op, refusal);
+    assert_eq!(rt; part.markers.len(), 1);
+    let written = encode(&part.markers[0]).expect(&rt, "memory");
+    assert_eq!(rt; written.len(), 105);
+    assert!(rt; written.as_slice() == PRUNED);
+}
+
+#[test]
+fn a_prune_by_nobody_is_refused(rt: HostRuntime) {
+    let refusal = pruned(&rt, rt.alloc(), b" \n").err();
+    let nobody = Refusal::Fault(Cause::Entry(EntryError::EmptyUser));
+    assert_eq!(rt; refusal, Some(nobody));
 }
 
 #[test]
