@@ -1,4 +1,5 @@
 pub mod PeerLemmas
+pub mod TakeLemmas
 pub mod AgreeLemmas
 pub mod SecretLemmas
 pub mod SmallestLemmas

@@ -1,8 +1,12 @@
 -- What a peer decides, offers and reads.
-use Rattle.std.specs.Prelude.{◌≡◌, ℕ, List, true, Ok, Err}
+use Rattle.std.specs.Prelude.{◌≡◌, ◌⊎◌, ℕ, List, true, Result, Ok, Err, IsErrOf}
+use Rattle.hg_history.specs.declared.fault.Fault.{Fault}
+use Rattle.hg_history.specs.declared.fault.Fault.TheVariants as fault
 use Rattle.hg_replica.specs.State.{IsValid}
 use Rattle.hg_replica.specs.Least.{PartValue}
 use Rattle.hg_replica.specs.Content.{content_of}
+use Rattle.hg_replica.specs.Change.{ChangeValue}
+use Rattle.hg_replica.specs.Answer.{AbsorbAnswer, IsGrowthBeforeFault}
 use Rattle.hg_view.specs.Kept.{KeptValue}
 use Rattle.hg_rewrite.specs.declared.op.Op.{Op}
 use Rattle.hg_rewrite.specs.Parts.{part_of as operation_part}
@@ -82,3 +86,13 @@ IsAgainstBytes bytes (Offer refusal) = ⊥
 IsAgainstBytes bytes (Message fault) = message_at bytes ≡ Err fault
 IsAgainstBytes bytes (View refusal) = ⊥
 IsAgainstBytes bytes NoMemory = ⊥
+
+-- what taking bytes in answers, and the peer after it: the replica's answer to the part of the message that they say,
+-- which is want of memory only where something grows before a fault is met; or the first fault of the bytes, or want
+-- of memory where they say a message. The pins stay, and a refusal leaves all
+abbrev pub TakesBytes : KeptValue → List ℕ → Result (Result ChangeValue Fault) PeerRefusal → KeptValue → Type 0
+TakesBytes s bytes (Ok answer) t =
+    (m : MessageValue) × (message_at bytes ≡ Ok m) × AbsorbAnswer s.replica (message_part m) answer t.replica
+    × (IsErrOf answer fault.NoMemory → IsGrowthBeforeFault s.replica (message_part m)) × (t.pins ≡ s.pins)
+TakesBytes s bytes (Err refusal) t =
+    (IsAgainstBytes bytes refusal ⊎ (IsMemory refusal × ((m : MessageValue) × (message_at bytes ≡ Ok m)))) × (t ≡ s)

@@ -1,5 +1,6 @@
 //! A replica that decides, offers and reads, with the pins of its node.
 ghost use Rattle.std.specs.Prelude.{◌≡◌, ◌↔◌, ◌⊎◌, Bool, false, Ok, IsTrue, IsOkAnd, IfOk, IfErr, OnOk, OnErr, IsErrOf};
+ghost use Rattle.std.specs.Prelude.{MatchResult};
 ghost use Rattle.hg_changeset.specs.declared.node.Node.{Node};
 ghost use Rattle.hg_join.specs.Order.{IsDue};
 ghost use Rattle.hg_replica.specs.Answer.{AbsorbAnswer, IsGrowthBeforeFault};
@@ -11,7 +12,8 @@ ghost use Rattle.hg_replica.specs.ContentLaws.{replicas_faultless, replicas_admi
 ghost use Rattle.hg_replica.specs.ContentLaws.{replicas_collide_for_good, replicas_memory_faultless};
 ghost use Rattle.hg_replica.specs.ContentLaws.{replicas_memory_apart, replicas_commute, replicas_associate};
 ghost use Rattle.hg_replica.specs.ContentLaws.{replicas_join_themselves, replicas_least, replicas_again, replicas_swap};
-ghost use Rattle.hg_replica.specs.Least.{part_of as part_of_replica};
+ghost use Rattle.hg_replica.specs.Least.{PartValue, part_of as part_of_replica};
+ghost use Rattle.hg_replica.specs.State.{IsValid};
 ghost use Rattle.hg_replica.specs.Words.{replica_words};
 ghost use Rattle.hg_rewrite.specs.Memory.{MayWantMemory};
 ghost use Rattle.hg_message.specs.Value.{MessageValue};
@@ -23,7 +25,7 @@ ghost use Rattle.hg_peer.specs.declared.mark.Mark.TheVariants.{Pin, Unpin};
 ghost use Rattle.hg_peer.specs.declared.refusal.PeerRefusal.TheVariants.{NoMemory as OutOfMemory};
 ghost use Rattle.hg_peer.specs.Peers.{Decides as DecidesPart, IsAgainstOperation, Offers as OffersBytes};
 ghost use Rattle.hg_peer.specs.Peers.{IsAgainstOffer, IsAgainstWriting, SpellsPart, IsAgainstBytes as AgainstBytes};
-ghost use Rattle.hg_peer.specs.Peers.{IsMemory, CanBeWritten};
+ghost use Rattle.hg_peer.specs.Peers.{IsMemory, CanBeWritten, TakesBytes};
 ghost use Rattle.hg_peer.specs.Marks.{own, Tells as TellsPeer, Marks as MarksPins, IsAgainstMark as AgainstMark};
 ghost use Rattle.hg_peer.specs.Marks.{ChangesPins};
 ghost use Rattle.hg_peer.specs.DecisionLaws.{decided_once, decided_not_refused, memory_not_against_operation};
@@ -37,7 +39,6 @@ use crate::ask::Ask;
 use crate::mark::Mark;
 use crate::refusal::PeerRefusal;
 use hg_changeset::Node;
-use hg_graph::Graph;
 use hg_history::Fault;
 use hg_join::{Actor, JoinState, NoMemory};
 use hg_message::{Message, Outgoing};
@@ -370,12 +371,30 @@ impl Actor for Peer {
         // Want of memory is told only of bytes without fault.
         ensures memory { IsErrOf result OutOfMemory → ((m : MessageValue) × (message_at bytes.now ≡ Ok m)) }
     {
-        read_part(alloc, Some(self.kept.replica().graph()), bytes)
+        read_part(alloc, Some(self.kept.replica()), bytes)
+    }
+
+    fn take(&mut self, alloc: Global, bytes: &[u8]) -> Result<Result<Change, Fault>, PeerRefusal>
+        ensures taken { IfOk result (λ answer. (part : PartValue) × SpellsPart bytes.now part × MatchResult answer
+            (λ change. ContentAfter (content_of self.old.replica) part (content_of self.new.replica)
+            × TellsPeer self.old change self.new)
+            (λ fault. (IsContentFault (content_of self.old.replica) part fault ⊎ (fault ≡ Fault.NoMemory))
+            × (self.new ≡ self.old))) }
+        ensures valid { IfOk result (λ answer. OnOk answer (IsValidContent (content_of self.old.replica))) }
+        ensures err { IfErr result (λ refusal. AgainstBytes bytes.now refusal ⊎ IsMemory refusal) }
+        ensures unchanged { OnErr result (self.new ≡ self.old) }
+        ensures due { IsDue (SpellsPart bytes.now) (AgainstBytes bytes.now) }
+
+        // In the order in which it takes in, too; and want of memory is told only where a fault of the bytes can't be,
+        // and where something grows before a fault of the part is met.
+        ensures answer { TakesBytes self.old bytes.now result self.new }
+    {
+        take_in(&mut self.kept, alloc, bytes)
     }
 }
 
 /// The part that bytes spell. What is held is compared with them, and not hashed.
-fn read_part(alloc: Global, held: Option<&Graph>, bytes: &[u8]) -> Result<Part, PeerRefusal>
+fn read_part(alloc: Global, held: Option<&Replica>, bytes: &[u8]) -> Result<Part, PeerRefusal>
     ensures ok { IfOk result (SpellsPart bytes.now) }
     ensures err { IfErr result (λ refusal. AgainstBytes bytes.now refusal ⊎ IsMemory refusal) }
     ensures due { IsDue (SpellsPart bytes.now) (AgainstBytes bytes.now) }
@@ -383,6 +402,21 @@ fn read_part(alloc: Global, held: Option<&Graph>, bytes: &[u8]) -> Result<Part, 
 {
     match Message::from_bytes_at(alloc, held, bytes) {
         Ok(message) => part_of(message),
+        Err(error) => Err(error.into()),
+    }
+}
+
+/// Takes in the part that bytes spell, without the changesets where it knows them all.
+fn take_in(
+    kept: &mut Kept,
+    alloc: Global,
+    bytes: &[u8],
+) -> Result<Result<Change, Fault>, PeerRefusal>
+    ensures answer { TakesBytes kept.old bytes.now result kept.new }
+    ensures valid { IfOk result (λ answer. IsValid kept.old.replica) }
+{
+    match Message::part_at(alloc, kept.replica(), bytes) {
+        Ok(part) => Ok(kept.absorb_owned(part)),
         Err(error) => Err(error.into()),
     }
 }

@@ -31,7 +31,7 @@ fn a_peer_of_nothing_offers_a_message_of_nothing(rt: HostRuntime) {
 fn what_cannot_be_offered_or_read_is_told(rt: HostRuntime) {
     let alloc = rt.alloc();
     let kept = Kept::new(alloc, Replica::new(alloc)).expect(&rt, "memory");
-    let peer = Peer::new(kept);
+    let mut peer = Peer::new(kept);
     assert!(rt; peer.kept().instabilities().obsolete().is_empty());
     let ask = Ask {
         common: [Node::NULL].to_vec(alloc).expect(&rt, "memory"),
@@ -42,6 +42,7 @@ fn what_cannot_be_offered_or_read_is_told(rt: HostRuntime) {
     let short = PeerRefusal::Message(MessageFault::Truncated(0));
     assert_eq!(rt; Peer::read(alloc, b"HGF").err(), Some(short));
     assert_eq!(rt; peer.read_at(alloc, b"HGF").err(), Some(short));
+    assert_eq!(rt; peer.take(alloc, b"HGF").err(), Some(short));
 }
 
 #[test]
