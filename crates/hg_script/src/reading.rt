@@ -6,7 +6,7 @@ ghost use Rattle.std.specs.Prelude.{◌≡◌, ◌↔◌, ◌∷◌, ◌++◌, [
 ghost use Rattle.std.specs.Prelude.{IfOk, MatchResult, codes};
 ghost use Rattle.std.specs.List.{list_all};
 ghost use Rattle.hg_script.specs.Words.{is_name, is_name_byte};
-ghost use Rattle.hg_script.specs.Commands.{AllNames, AreNamesBut, CommandAnswer, LineAnswer, OperationAnswer};
+ghost use Rattle.hg_script.specs.Commands.{AllNames, AreNamesBut, CommandAnswer, LineAnswer, IsNoOperation};
 ghost use Rattle.hg_script.specs.Commands.{FormAnswer, phase_word, asked_word, parent_words, texts, node_form};
 ghost use Rattle.hg_script.specs.Commands.{commit_form, amend_form, split_form, fold_form, prune_form, relocate_form};
 ghost use Rattle.hg_script.specs.Commands.{advance_form, offer_form, take_form, pull_form, report_form, agree_form};
@@ -34,8 +34,37 @@ pub fn read_command<'a>(words: &'a [&'a [u8]]) -> Result<Option<Command<'a>>, Li
     }
 }
 
-// The command of this name, of the words after it.
+// The command of this name, of the words after it. Most lines are operations, whose names are tried first.
 fn read_line<'a>(word: &[u8], words: &'a [&'a [u8]]) -> Result<Command<'a>, LineFault>
+    ensures { LineAnswer word.now words.now result }
+{
+    if word == b"commit".as_slice() {
+        return read_commit(words);
+    }
+    if word == b"amend".as_slice() {
+        return read_amend(words);
+    }
+    if word == b"split".as_slice() {
+        return read_split(words);
+    }
+    if word == b"fold".as_slice() {
+        return read_fold(words);
+    }
+    if word == b"prune".as_slice() {
+        return read_prune(words);
+    }
+    if word == b"relocate".as_slice() {
+        return read_relocate(words);
+    }
+    if word == b"phase".as_slice() {
+        return read_advance(words);
+    }
+    read_other(word, words)
+}
+
+// The command of this name that is no operation, of the words after it.
+fn read_other<'a>(word: &[u8], words: &'a [&'a [u8]]) -> Result<Command<'a>, LineFault>
+    requires { IsNoOperation word.now }
     ensures { LineAnswer word.now words.now result }
 {
     if word == b"node".as_slice() {
@@ -67,34 +96,6 @@ fn read_line<'a>(word: &[u8], words: &'a [&'a [u8]]) -> Result<Command<'a>, Line
     }
     if word == b"agree".as_slice() {
         return read_agree(words);
-    }
-    read_operation(word, words)
-}
-
-// The operation of this name, of the words after it.
-fn read_operation<'a>(word: &[u8], words: &'a [&'a [u8]]) -> Result<Command<'a>, LineFault>
-    ensures { OperationAnswer word.now words.now result }
-{
-    if word == b"commit".as_slice() {
-        return read_commit(words);
-    }
-    if word == b"amend".as_slice() {
-        return read_amend(words);
-    }
-    if word == b"split".as_slice() {
-        return read_split(words);
-    }
-    if word == b"fold".as_slice() {
-        return read_fold(words);
-    }
-    if word == b"prune".as_slice() {
-        return read_prune(words);
-    }
-    if word == b"relocate".as_slice() {
-        return read_relocate(words);
-    }
-    if word == b"phase".as_slice() {
-        return read_advance(words);
     }
     Err(LineFault::UnknownCommand)
 }

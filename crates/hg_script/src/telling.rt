@@ -196,10 +196,26 @@ fn tell_line<W: Write>(
     let words = words_of(alloc, line)?;
     let words = words.as_slice();
     if words.is_empty() {
-        run_line(alloc, fleet, number, line, writer)?;
+        run_wordless(alloc, fleet, number, line)?;
         return Ok(());
     }
     tell_words(alloc, fleet, number, line, words, writer, notes)
+}
+
+// Does the line, which has no words. It prints nothing, so it runs into a text of its own: so all lines with notes run
+// into texts, and what runs a line into the writer itself is called at one place, for scripts without notes.
+fn run_wordless(
+    alloc: Global,
+    fleet: &mut Fleet,
+    number: usize,
+    line: &[u8],
+) -> Result<(), RunFault>
+    ensures done { OnOk result ((t : Trace) × DoesLine fleet.old line.now t fleet.new) }
+    ensures stopped { IfErr result (EndsAt number fleet.old line.now) }
+{
+    let mut text = Vec::new(alloc);
+    run_line(alloc, fleet, number, line, &mut text)?;
+    Ok(())
 }
 
 // Does the line of these words, and writes what it prints with its notes.
