@@ -573,14 +573,7 @@ impl Fleet {
             return Err("bad name");
         }
         match words {
-            [b"node", name] => {
-                if self.nodes.contains_key(*name) {
-                    return Err("name is taken");
-                }
-                self.nodes.insert(name.to_vec(), self.replicas.len() as u32);
-                self.replicas.push(Replica::default());
-                Ok(None)
-            }
+            [b"node", name] => self.add_node(name),
             [b"commit", at, new, phase, parents @ ..] if parents.len() <= 2 => {
                 let phase = match *phase {
                     b"draft" => DRAFT,
@@ -590,25 +583,13 @@ impl Fleet {
                 self.commit(at, new, phase, parents)
             }
             [b"amend", at, old, new] => self.amend(at, old, new),
-            [b"offer", at, name, common @ ..] => {
-                let node = self.node(at)?;
-                let left_out = self.left_out(node, common)?;
-                self.offered.insert(name.to_vec(), self.messages.len() as u32);
-                self.messages.push(self.replicas[node].offer(&self.names, &left_out));
-                Ok(None)
-            }
+            [b"offer", at, name, common @ ..] => self.offer(at, name, common),
             [b"take", at, name] => {
                 let node = self.node(at)?;
                 let message = *self.offered.get(*name).ok_or("unknown name")?;
                 self.take(node, message as usize)
             }
-            [b"pull", to, from] => {
-                let (taker, giver) = (self.node(to)?, self.node(from)?);
-                let left_out = self.common(taker, giver);
-                let message = self.messages.len();
-                self.messages.push(self.replicas[giver].offer(&self.names, &left_out));
-                self.take(taker, message)
-            }
+            [b"pull", to, from] => self.pull(to, from),
             [b"report", at] => {
                 let node = self.node(at)?;
                 self.replicas[node].report(&self.names, at, out).map_err(|_| "write fault")?;
@@ -616,6 +597,36 @@ impl Fleet {
             }
             _ => Err("unknown command"),
         }
+    }
+
+    fn add_node(&mut self, name: &[u8]) -> Result<Option<&'static str>, &'static str> {
+        if self.nodes.contains_key(name) {
+            return Err("name is taken");
+        }
+        self.nodes.insert(name.to_vec(), self.replicas.len() as u32);
+        self.replicas.push(Replica::default());
+        Ok(None)
+    }
+
+    fn offer(
+        &mut self,
+        at: &[u8],
+        name: &[u8],
+        common: &[&[u8]],
+    ) -> Result<Option<&'static str>, &'static str> {
+        let node = self.node(at)?;
+        let left_out = self.left_out(node, common)?;
+        self.offered.insert(name.to_vec(), self.messages.len() as u32);
+        self.messages.push(self.replicas[node].offer(&self.names, &left_out));
+        Ok(None)
+    }
+
+    fn pull(&mut self, to: &[u8], from: &[u8]) -> Result<Option<&'static str>, &'static str> {
+        let (taker, giver) = (self.node(to)?, self.node(from)?);
+        let left_out = self.common(taker, giver);
+        let message = self.messages.len();
+        self.messages.push(self.replicas[giver].offer(&self.names, &left_out));
+        self.take(taker, message)
     }
 
     fn commit(
