@@ -228,6 +228,15 @@ fn both_halves_grow(rt: HostRuntime) {
 }
 
 #[test]
+fn a_pair_of_which_one_half_is_below_is_not_below(rt: HostRuntime) {
+    let alloc = rt.alloc();
+    let low = map_of(alloc, &[(1, 5)]).expect(&rt, "memory");
+    let other = map_of(alloc, &[(2, 5)]).expect(&rt, "memory");
+    let pair = Both::new(Constant { value: 1 }, low);
+    assert_eq!(rt; pair.below(&Both::new(Constant { value: 1 }, other)), Ok(false));
+}
+
+#[test]
 fn through_the_bound(rt: HostRuntime) {
     let alloc = rt.alloc();
     let map = map_of(alloc, &[(1, 5)]).expect(&rt, "memory");

@@ -1,4 +1,3 @@
 //! Worlds of prices.
 mod exchanges;
-mod schedules;
 mod words;

@@ -1,3 +1,2 @@
 //! What two replicas have in common.
-mod plain;
 mod rounds;

@@ -5,17 +5,15 @@ use hg_obsstore::Store;
 use hg_relevant::{relevant, relevant_near};
 use std::alloc::{AllocError, Global};
 
-mod plain;
-
 // The node with this number, which isn't the null id.
-pub fn node(number: u32) -> Node {
+fn node(number: u32) -> Node {
     let mut id = [0x40; 20];
     id[..4].copy_from_slice(&number.to_be_bytes());
     Node(id)
 }
 
 // Adds a marker that records this parent, if any.
-pub fn add(
+fn add(
     alloc: Global,
     store: &mut Store,
     predecessor: Node,

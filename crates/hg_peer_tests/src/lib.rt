@@ -11,14 +11,6 @@ mod exchanges;
 #[cfg(test)]
 mod full;
 #[cfg(test)]
-mod heard;
-#[cfg(test)]
-mod keeping;
-#[cfg(test)]
-mod operations;
-#[cfg(test)]
-mod schedules;
-#[cfg(test)]
 mod showing;
 #[cfg(test)]
 mod states;

@@ -1,13 +1,10 @@
 //! Instabilities, and views.
 mod across;
-mod amends;
-mod chance;
 mod keeping;
 mod kept;
 mod kinds;
 mod pinned;
 mod pins;
-mod plain;
 mod scene;
 mod shared;
 mod views;

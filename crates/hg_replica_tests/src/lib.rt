@@ -5,6 +5,8 @@
 #[cfg(test)]
 mod absorbing;
 #[cfg(test)]
+mod dice;
+#[cfg(test)]
 mod instabilities;
 #[cfg(test)]
 mod joining;

@@ -1,8 +1,8 @@
 //! Roots while phases go down: long histories beside phases that are found by the definition.
+use crate::dice::Dice;
 use crate::parts::{ONES, empty};
 use hg_changeset::{Changeset, Node};
 use hg_graph::Graph;
-use hg_join_tests::Dice;
 use hg_phases::Phase;
 use hg_replica::{Fault, Part, Replica};
 use std::alloc::Global;

@@ -249,6 +249,7 @@ impl Fleet {
 
     // Whether the labels may name what the operation is to make. Where they are new, whatever it makes; otherwise it is
     // decided first, and what is refused makes nothing.
+    #[inline(always)]
     fn check_labels(
         &self,
         number: usize,
@@ -562,6 +563,7 @@ fn may_name(names: &Labels, label: &[u8], node: Node) -> bool
 }
 
 // Binds each label to what the operation added at its place, if it was accepted.
+#[inline(always)]
 fn label(names: &mut Labels, labels: &[&[u8]], answer: &PeerAnswer) -> Result<(), RunFault>
     ensures ok { OnOk result (AreLabelled names.old (map (λ w. w.now) labels.now) (answer.now ∷ []) names.new) }
     ensures err { IfErr result (λ fault. fault ≡ RunFault.NoMemory) }

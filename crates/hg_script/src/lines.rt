@@ -97,6 +97,7 @@ pub fn is_short(line: &[u8]) -> bool
 }
 
 /// The words of the line, divided by spaces; a comment has none.
+#[inline(always)]
 pub fn words_of<'a>(alloc: Global, line: &'a [u8]) -> Result<Words<'a>, AllocError>
     ensures { IfOk result (λ words. map (λ w. w.now) words.items ≡ words_of line.now) }
 {
@@ -107,6 +108,7 @@ pub fn words_of<'a>(alloc: Global, line: &'a [u8]) -> Result<Words<'a>, AllocErr
 }
 
 // What stands between spaces.
+#[inline(always)]
 fn spaced<'a>(alloc: Global, line: &'a [u8]) -> Result<Words<'a>, AllocError>
     ensures { IfOk result (λ words. map (λ w. w.now) words.items ≡ spaced line.now) }
 {

@@ -75,6 +75,7 @@ impl<'a> Operation<'a> {
     }
 
     /// What the operation asks of a replica. All its labels but the new ones have to be bound.
+    #[inline(always)]
     pub fn resolve(self, names: &Names) -> Result<Op, RunFault>
         ensures ok { IfOk result (IsOperation (labelled names.now.labels.now) self.entry) }
         ensures err { IfErr result (IsUnresolved names.now (old_labels self.entry)) }
@@ -128,6 +129,7 @@ impl Names<'_> {
         }
     }
 
+    #[inline(always)]
     fn commit(&self, new: &[u8], secret: bool, parents: Parents<'_>) -> Result<Op, RunFault>
         ensures ok { IfOk result (IsOperation (labelled self.now.labels.now)
             (Operation.Commit new.entry secret parents.entry)) }
@@ -142,6 +144,7 @@ impl Names<'_> {
         })
     }
 
+    #[inline(always)]
     fn amend(&self, old: &[u8], new: &[u8]) -> Result<Op, RunFault>
         ensures ok { IfOk result (IsOperation (labelled self.now.labels.now) (Operation.Amend old.entry new.entry)) }
         ensures err { IfErr result (IsUnresolved self.now (old.now ∷ [])) }

@@ -22,6 +22,7 @@ use hg_peer::Scope;
 use hg_phases::Phase;
 
 /// The command of a line's words, none where there are no words, or the first fault that they show.
+#[inline(always)]
 pub fn read_command<'a>(words: &'a [&'a [u8]]) -> Result<Option<Command<'a>>, LineFault>
     ensures { CommandAnswer words.now result }
 {
@@ -35,6 +36,7 @@ pub fn read_command<'a>(words: &'a [&'a [u8]]) -> Result<Option<Command<'a>>, Li
 }
 
 // The command of this name, of the words after it. Most lines are operations, whose names are tried first.
+#[inline(always)]
 fn read_line<'a>(word: &[u8], words: &'a [&'a [u8]]) -> Result<Command<'a>, LineFault>
     ensures { LineAnswer word.now words.now result }
 {
@@ -112,6 +114,7 @@ fn read_node<'a>(words: &'a [&'a [u8]]) -> Result<Command<'a>, LineFault>
     }
 }
 
+#[inline(always)]
 fn read_commit<'a>(words: &'a [&'a [u8]]) -> Result<Command<'a>, LineFault>
     ensures { FormAnswer commit_form words.now result }
 {
@@ -130,6 +133,7 @@ fn read_commit<'a>(words: &'a [&'a [u8]]) -> Result<Command<'a>, LineFault>
     Ok(Command::Operation(at, commit))
 }
 
+#[inline(always)]
 fn read_amend<'a>(words: &'a [&'a [u8]]) -> Result<Command<'a>, LineFault>
     ensures { FormAnswer amend_form words.now result }
 {

@@ -1,10 +1,8 @@
 //! Kept replicas with pins: what they show is what is told from scratch, and what is refused changes nothing.
-use crate::instabilities::chance::{planned, some_node, some_part};
 use crate::instabilities::scene::{commit, push_marker, rewrite};
 use crate::parts::empty;
 use crate::same::has_exactly;
-use hg_changeset::{Changeset, Node};
-use hg_join_tests::Dice;
+use hg_changeset::Node;
 use hg_phases::Phase;
 use hg_replica::{Part, Replica};
 use hg_view::{Kept, PinRefusal, visible};
@@ -141,48 +139,4 @@ fn refused_growth_leaves_pins_that_are_copied(rt: HostRuntime) {
     if let Some(answer) = copies_or_stays(rt.alloc()) {
         assert!(rt; answer);
     }
-}
-
-// Pins or unpins some changeset, which may be refused.
-fn mark_some(kept: &mut Kept, plan: &[Changeset], dice: &mut Dice) {
-    let node = some_node(plan, dice);
-    let _ = match dice.roll(3) {
-        0 => kept.unpin(node),
-        _ => kept.pin(node),
-    };
-}
-
-// Whether the views are right throughout a history of forty parts with pins between them, and how often something
-// extinct was in view.
-fn run(alloc: Global, seed: u64) -> Option<(bool, usize)> {
-    let mut dice = Dice::new(seed);
-    let plan = planned(alloc, &mut dice)?;
-    let mut kept = Kept::new(alloc, Replica::new(alloc)).ok()?;
-    let mut shown: usize = 0;
-    for _ in 0..40 {
-        let _ = kept.absorb(&some_part(alloc, &plan, &mut dice, 5)?);
-        mark_some(&mut kept, &plan, &mut dice);
-        if !is_right(alloc, &kept)? {
-            return Some((false, shown));
-        }
-        let extinct = kept.instabilities().extinct();
-        shown = shown.saturating_add(
-            extinct
-                .iter()
-                .filter(|node| kept.is_visible(**node))
-                .count(),
-        );
-    }
-    Some((true, shown))
-}
-
-#[test]
-fn views_of_histories_by_chance_with_pins_are_those_from_scratch(rt: HostRuntime) {
-    let mut all: usize = 0;
-    for seed in 0..30 {
-        let (right, shown) = run(rt.alloc(), seed).expect(&rt, "memory");
-        assert!(rt; right);
-        all = all.saturating_add(shown);
-    }
-    assert!(rt; all > 100);
 }
