@@ -1,9 +1,11 @@
-//! Tests of `hg_peer`, `hg_log` and `hg_show`, as a caller from outside sees them: worlds of peers and single calls,
-//! drawings, and what bytes are shown as.
+//! Tests of `hg_message`, `hg_discovery`, `hg_rewrite`, `hg_peer`, `hg_log` and `hg_show`, as a caller from outside sees
+//! them: messages, what two replicas have in common, operations, worlds of peers, drawings, and what bytes are shown as.
 #![tactic(auto)]
 
 #[cfg(test)]
 mod calls;
+#[cfg(test)]
+mod discovery;
 #[cfg(test)]
 mod drawings;
 #[cfg(test)]
@@ -11,6 +13,20 @@ mod exchanges;
 #[cfg(test)]
 mod full;
 #[cfg(test)]
+mod offers;
+#[cfg(test)]
+mod reading;
+#[cfg(test)]
+mod received;
+#[cfg(test)]
+mod rewrites;
+#[cfg(test)]
+mod rows;
+#[cfg(test)]
+mod scene;
+#[cfg(test)]
 mod showing;
 #[cfg(test)]
 mod states;
+#[cfg(test)]
+mod writing;
