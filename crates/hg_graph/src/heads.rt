@@ -3,6 +3,7 @@
 //! Parents of what is marked get a second mark, and then all that reach them: what has both marks is an ancestor of
 //! another marked changeset, and no head.
 ghost use Rattle.std.specs.Prelude.{◌≡◌, ◌↔◌, ℕ, ◌+◌, ◌≤◌, min, max, length, Contains, MatchOption, IfOk, OnErr};
+ghost use Rattle.std.specs.Prelude.{IsTrue, true};
 ghost use Rattle.std.specs.List.Sorted.{IsStrictlySortedBy};
 ghost use Rattle.hg_changeset.specs.declared.node.Node.{Node};
 ghost use Rattle.hg_changeset.specs.Node.{node_cmp};
@@ -51,6 +52,9 @@ impl Graph {
     {
         // It says that this is a graph.
         let count = self.len();
+        if !has_mark(marks) {
+            return Ok(Vec::new(self.alloc()));
+        }
         self.heads_between(0, count, marks)
     }
 
@@ -130,6 +134,13 @@ impl Graph {
         }
         Ok(found)
     }
+}
+
+// Whether one of the marks is set.
+fn has_mark(marks: &[bool]) -> bool
+    ensures { IsTrue result ↔ Contains marks.now true }
+{
+    marks.contains(&true)
 }
 
 // The nodes of a set, ascending.

@@ -233,7 +233,10 @@ fn a_pair_of_which_one_half_is_below_is_not_below(rt: HostRuntime) {
     let low = map_of(alloc, &[(1, 5)]).expect(&rt, "memory");
     let other = map_of(alloc, &[(2, 5)]).expect(&rt, "memory");
     let pair = Both::new(Constant { value: 1 }, low);
-    assert_eq!(rt; pair.below(&Both::new(Constant { value: 1 }, other)), Ok(false));
+    assert_eq!(rt;
+        pair.below(&Both::new(Constant { value: 1 }, other)),
+        Ok(false)
+    );
 }
 
 #[test]
