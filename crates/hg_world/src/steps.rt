@@ -130,6 +130,7 @@ fn mark_at<S: Actor>(
 }
 
 /// Does one event.
+#[inline(always)]
 fn happen<S: Actor>(
     alloc: Global,
     nodes: &mut [S],
@@ -155,6 +156,7 @@ fn happen<S: Actor>(
 }
 
 /// Does the event. Before an offer there has to be room for its message.
+#[inline(always)]
 pub fn run_event<S: Actor>(
     alloc: Global,
     nodes: &mut [S],
