@@ -1,15 +1,15 @@
 -- Spots put in order one by one.
-use Rattle.std.proofs.Common.{◌≡◌, ◌↔◌, ◌⊎◌, ℕ, zero, suc, ◌<◌, ◌≤◌, inl, inr, List, [], ◌∷◌, ◌++◌, length, get_or}
-use Rattle.std.proofs.Common.{take, drop, Contains, refl, sym, ap, subst, ◌∙◌, arith}
+use Rattle.std.proofs.Common.{◌≡◌, ◌↔◌, ◌⊎◌, ℕ, zero, suc, inl, inr, List, [], ◌∷◌, ◌++◌, get_or}
+use Rattle.std.proofs.Common.{take, Contains, refl, sym, ap, subst, ◌∙◌, arith}
 use Rattle.std.specs.List.{AllByRecursion}
 use Rattle.std.specs.List.Sorted.{IsStrictlySortedBy}
 use Rattle.std.specs.Ordering.{nat_cmp, ordering_then, ordering_reverse}
 use Rattle.std.specs.Cmp.{IsTotalOrder}
 use Rattle.std.specs.declared.cmp.Ordering.{Ordering}
 use Rattle.std.specs.declared.cmp.Ordering.TheVariants.{Less, Equal, Greater}
-use Rattle.std.proofs.lemmas.Cmp.{nat_cmp_total, on_total, then_total, tied_itself}
+use Rattle.std.proofs.lemmas.Cmp.{nat_cmp_total, on_total, then_total}
 use Rattle.std.proofs.lemmas.List.{take-take}
-use Rattle.std.proofs.lemmas.List.Elements.{All-from_recursion, recursion_from_All, All-contains, All-take}
+use Rattle.std.proofs.lemmas.List.Elements.{All-from_recursion, recursion_from_All, All-contains}
 use Rattle.std.proofs.lemmas.List.Elements.{Contains-get_or}
 use Rattle.std.proofs.lemmas.Map.Lookups.{exact_unsigned}
 use Rattle.hg_changeset.specs.Node.{node_cmp}
@@ -131,7 +131,7 @@ put_beside_sorted Greater x y ys e above sorted rest =
       (above, sorted),
     )
 
-pub put_sorted : (x : Spot) (ys : List Spot) → IsStrictlySortedBy spot_cmp ys → IsStrictlySortedBy spot_cmp (put x ys)
+put_sorted : (x : Spot) (ys : List Spot) → IsStrictlySortedBy spot_cmp ys → IsStrictlySortedBy spot_cmp (put x ys)
 unfolding IsStrictlySortedBy
 put_sorted x [] h = (tt, tt)
 put_sorted x (y ∷ ys) h = put_beside_sorted (spot_cmp y x) x y ys refl h.0 h.1 (put_sorted x ys h.1)
@@ -140,22 +140,12 @@ put_all_sorted : (xs ys : List Spot) → IsStrictlySortedBy spot_cmp ys → IsSt
 put_all_sorted [] ys h = h
 put_all_sorted (x ∷ xs) ys h = put_all_sorted xs (put x ys) (put_sorted x ys h)
 
-pub nothing_sorted : IsStrictlySortedBy spot_cmp []
+nothing_sorted : IsStrictlySortedBy spot_cmp []
 unfolding IsStrictlySortedBy
 nothing_sorted = tt
 
 pub in_order_sorted : (xs : List Spot) → IsStrictlySortedBy spot_cmp (in_order xs)
 in_order_sorted xs = put_all_sorted xs [] nothing_sorted
-
-above_take : (n : ℕ) (y : Spot) (zs : List Spot) → Above y zs → Above y (take n zs)
-above_take n y zs h = recursion_from_All (λ z. spot_cmp y z ≡ Less) (take n zs)
-    (All-take (λ z. spot_cmp y z ≡ Less) n zs (All-from_recursion (λ z. spot_cmp y z ≡ Less) zs h))
-
-pub take_sorted : (n : ℕ) (ys : List Spot) → IsStrictlySortedBy spot_cmp ys → IsStrictlySortedBy spot_cmp (take n ys)
-unfolding IsStrictlySortedBy
-take_sorted zero ys h = tt
-take_sorted (suc n) [] h = tt
-take_sorted (suc n) (y ∷ ys) h = (above_take n y ys h.0, take_sorted n ys h.1)
 
 -- ---- one more
 
@@ -178,36 +168,6 @@ pub take_put : (n : ℕ) (x : Spot) (ys : List Spot) → take n (put x ys) ≡ t
 take_put zero x ys = refl
 take_put (suc n) x [] = refl
 take_put (suc n) x (y ∷ ys) = take_beside (spot_cmp y x) n x y ys (put x ys) (put x (take n ys)) (take_put n x ys)
-
--- ---- where it goes
-
--- the place is behind all that are less, and none before it is equal or greater
-pub record IsPlaceOf (x : Spot) (ys : List Spot) (i : ℕ) : Type 0 where
-  pub within : i ≤ length ys
-  pub less : (k : ℕ) (d : Spot) → k < i → spot_cmp (get_or ys k d) x ≡ Less
-  pub greater : (k : ℕ) (d : Spot) → i ≤ k → k < length ys → spot_cmp (get_or ys k d) x ≡ Greater
-
-pub put_at : (x : Spot) (ys : List Spot) (i : ℕ) → IsPlaceOf x ys i → put x ys ≡ take i ys ++ x ∷ drop i ys
-put_at x [] zero p = refl
-put_at x [] (suc i) p = absurd (omega (arith, p.within))
-put_at x (y ∷ ys) zero p = ap (λ o. put_beside o x y ys (put x ys)) (p.greater 0 x (omega arith) (omega arith))
-put_at x (y ∷ ys) (suc i) p =
-    let rest : put x ys ≡ take i ys ++ x ∷ drop i ys = put_at x ys i (record {
-      within = omega (arith, p.within);
-      less = λ k d l. p.less (suc k) d (omega (arith, l));
-      greater = λ k d l within. p.greater (suc k) d (omega (arith, l)) (omega (arith, within));
-    }) in
-    ap (λ o. put_beside o x y ys (put x ys)) (p.less 0 x (omega arith)) ∙ ap (λ zs. y ∷ zs) rest
-
--- what stands there already stays alone
-pub put_held : (x : Spot) (ys : List Spot) → IsStrictlySortedBy spot_cmp ys → Contains ys x → put x ys ≡ ys
-unfolding IsStrictlySortedBy
-put_held x [] sorted c = absurd (Contains-none x c)
-put_held x (y ∷ ys) sorted c = elim (Contains-cons_cases y ys x c) [
-  | inl e ↦ ap (λ o. put_beside o x y ys (put x ys)) (subst (λ z. spot_cmp y z ≡ Equal) e (tied_itself spot_total y))
-  | inr later ↦ ap (λ o. put_beside o x y ys (put x ys)) (above_each y ys sorted.0 x later)
-      ∙ ap (λ zs. y ∷ zs) (put_held x ys sorted.1 later)
-]
 
 -- behind the last of so many
 pub put_behind_all : (x : Spot) (ys : List Spot) → ((y : Spot) → Contains ys y → spot_cmp y x ≡ Less)

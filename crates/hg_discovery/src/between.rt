@@ -10,8 +10,10 @@ ghost use Rattle.hg_discovery.specs.Between.{AreHeadsInCommon};
 
 use crate::answers::known_by;
 use crate::discovery::Discovery;
+use crate::draw::covered;
 use crate::error::DiscoveryError;
 use crate::start::ground_of;
+use crate::status::Status;
 use crate::whole::heads_of_all;
 use hg_changeset::Node;
 use hg_replica::Replica;
@@ -64,10 +66,11 @@ fn ask_in_rounds(
     ensures memory { IfErr result (λ error. error ≡ NoMemory) }
 {
     let ground = ground_of(alloc, asker)?;
-    if let Some(heads) = heads_of_all(alloc, &ground, other, served)? {
+    let marks = covered(alloc, &ground.parents, &ground.decided, Status::Undecided)?;
+    if let Some(heads) = heads_of_all(alloc, &ground, &marks, other, served)? {
         return Ok(heads);
     }
-    let mut discovery = Discovery::upon(alloc, asker, ground)?;
+    let mut discovery = Discovery::upon(alloc, asker, ground, &marks)?;
     while !discovery.done() {
         let asked = discovery.sample()?;
         let answers = known_by(alloc, other, served, &asked)?;

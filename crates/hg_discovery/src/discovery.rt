@@ -1,5 +1,6 @@
 //! A discovery, from its start to its end.
 ghost use Rattle.std.specs.Prelude.{◌≡◌, ℕ, ◌↔◌, ◌≤◌, ◌-◌, IfOk, OnOk, OnErr, IsTrue, [], length};
+ghost use Rattle.hg_discovery.specs.declared.status.Status.TheVariants.{Undecided};
 ghost use Rattle.hg_discovery.specs.Search.{IsClosed, IsSearch, nodes_of};
 ghost use Rattle.hg_discovery.specs.Answers.{AnswerAnswer, AreTold};
 ghost use Rattle.hg_discovery.specs.Family.{IsFamily};
@@ -7,9 +8,10 @@ ghost use Rattle.hg_discovery.specs.Line.{IsLine, IsLineIfMade};
 ghost use Rattle.hg_discovery.specs.Cursor.{AreDecidedTo};
 ghost use Rattle.hg_discovery.specs.Log.{KeepsLog};
 ghost use Rattle.hg_discovery.specs.Rounds.{undecided};
+ghost use Rattle.hg_discovery.specs.Spread.{AreCovered};
 ghost use Rattle.hg_discovery.specs.Start.{IsStart, IsGround, AreCommonHeads};
 
-use crate::draw::{SAMPLE, common_heads, first_sample, first_undecided_spot, sample};
+use crate::draw::{SAMPLE, common_heads, covered, first_sample, first_undecided_spot, sample};
 use crate::error::DiscoveryError;
 use crate::family::{Family, family_of};
 use crate::line::{Line, line_up};
@@ -83,17 +85,20 @@ impl Discovery {
         ensures { IfOk result (IsStart replica.now.history) }
     {
         let ground = ground_of(alloc, replica)?;
-        let discovery = Discovery::upon(alloc, replica, ground)?;
+        let marks = covered(alloc, &ground.parents, &ground.decided, Status::Undecided)?;
+        let discovery = Discovery::upon(alloc, replica, ground, &marks)?;
         Ok(discovery)
     }
 
-    // Begins upon what was found of the replica.
+    // Begins upon what was found of the replica, where the changesets are marked that have an undecided child.
     pub(crate) fn upon(
         alloc: Global,
         replica: &Replica,
         ground: Ground,
+        marks: &[bool],
     ) -> Result<Discovery, AllocError>
-        requires { IsGround replica.now.history ground.parents.items ground.spots.items ground.decided.items }
+        requires ground { IsGround replica.now.history ground.parents.items ground.spots.items ground.decided.items }
+        requires marks { AreCovered ground.parents.items ground.decided.items Undecided marks.now }
         ensures { IfOk result (IsStart replica.now.history) }
     {
         let Ground {
@@ -101,8 +106,8 @@ impl Discovery {
             spots,
             decided,
         } = ground;
-        let mut family = family_of(alloc, replica.graph())?;
-        let asked = first_sample(alloc, &mut family, &spots, &decided)?;
+        let family = family_of(alloc, replica.graph())?;
+        let asked = first_sample(alloc, &spots, &decided, marks)?;
         let line = Line {
             spots: Vec::new(alloc),
             from: 0,

@@ -1,6 +1,6 @@
 //! Samples, and the heads of what is common.
-ghost use Rattle.std.specs.Prelude.{◌≡◌, ℕ, ◌≤◌, ◌<◌, ◌++◌, [], Bool, List, Some, length, slice_get, take, filter};
-ghost use Rattle.std.specs.Prelude.{vec_len, All, OnOk, IfOk, Contains};
+ghost use Rattle.std.specs.Prelude.{◌≡◌, ◌↔◌, ℕ, ◌≤◌, ◌<◌, ◌++◌, [], Bool, List, Some, length, slice_get, take};
+ghost use Rattle.std.specs.Prelude.{vec_len, filter, All, OnOk, IfOk, IsTrue, Contains};
 ghost use Rattle.std.specs.Vec.{vec_capacity};
 ghost use Rattle.hg_graph.specs.declared.graph.ParentPlaces.{ParentPlaces};
 ghost use Rattle.hg_discovery.specs.declared.status.Spot.{Spot};
@@ -15,10 +15,11 @@ ghost use Rattle.hg_discovery.specs.Line.{IsLine};
 ghost use Rattle.hg_discovery.specs.Order.{in_order};
 
 use crate::family::{Family, has_undecided_child, is_undecided};
-use crate::order::{ascending, take_in};
+use crate::order::{ascending, list_of, take_in};
 use crate::status::{Spot, Status};
 use hg_graph::ParentPlaces;
 use std::alloc::{AllocError, Global};
+use std::collections::BTreeSet;
 
 // How many changesets a round asks about.
 pub(crate) const SAMPLE: usize = 200;
@@ -50,59 +51,61 @@ pub(crate) fn sample(
     found
 }
 
-// The first sample, of spots in any order: the heads of what is undecided, and then the others.
+// The first sample, of spots in any order, where the changesets are marked that have an undecided child: the heads of
+// what is undecided, and then the others.
 pub(crate) fn first_sample(
     alloc: Global,
-    family: &mut Family,
     spots: &[Spot],
     decided: &[Status],
+    marks: &[bool],
 ) -> Result<Vec<Spot>, AllocError>
-    requires len { length decided.now ≡ length family.old.left.items }
-    requires fits { FitsChildren family.old.children.items family.old.left.items }
+    requires len { length marks.now ≡ length decided.now }
     requires spots { AreSpots decided.now spots.now }
-    ensures sample { IfOk result (λ found. (ps : List ParentPlaces) → IsInOrder ps → IsClosed ps decided.now
-        → IsFamily ps decided.now family.old.children.items family.old.left.items
+    ensures { IfOk result (λ found. (ps : List ParentPlaces) → IsInOrder ps → IsClosed ps decided.now
+        → length decided.now ≡ length ps → AreCovered ps decided.now Undecided marks.now
         → IsSample (record { parents = ps; spots = spots.now; decided = decided.now; asked = found.items })
         found.items) }
-    ensures family { KeepsFamily decided.now family.old.children.items family.old.left.items family.new.children.items
-        family.new.left.items }
 {
-    let mut found = least(alloc, spots, decided, family, false)?;
+    let mut found = least(alloc, spots, decided, marks, false)?;
     if found.len() >= SAMPLE {
         return Ok(found);
     }
-    let mut others = least(alloc, spots, decided, family, true)?;
+    let mut others = least(alloc, spots, decided, marks, true)?;
     found.append(&mut others)?;
     found.truncate(SAMPLE);
     Ok(found)
 }
 
-// The least 200 of the undecided ones of the spots that have an undecided child, or of those that have none, ascending.
+// The least 200 of the undecided ones of the spots that are marked, or of those that aren't, ascending.
 fn least(
     alloc: Global,
     spots: &[Spot],
     decided: &[Status],
-    family: &mut Family,
+    marks: &[bool],
     covered: bool,
 ) -> Result<Vec<Spot>, AllocError>
-    requires spots { (x : Spot) → Contains spots.now x → x.place < length family.old.left.items }
-    requires fits { FitsChildren family.old.children.items family.old.left.items }
-    ensures family { KeepsFamily decided.now family.old.children.items family.old.left.items family.new.children.items
-        family.new.left.items }
-    ensures len { length family.new.left.items ≡ length family.old.left.items }
-    ensures fits { FitsChildren family.new.children.items family.new.left.items }
-    ensures least { IfOk result (λ found. (ps : List ParentPlaces)
-        → IsFamily ps decided.now family.old.children.items family.old.left.items
-        → length decided.now ≡ length ps → (marks : List Bool) → AreCovered ps decided.now Undecided marks
-        → found.items ≡ take 200 (in_order (filter (is_picked decided.now marks Undecided covered) spots.now))) }
+    requires len { length marks.now ≡ length decided.now }
+    requires within { All (λ x. x.place < length decided.now) spots.now }
+    ensures { IfOk result (λ found. found.items
+        ≡ take 200 (in_order (filter (is_picked decided.now marks.now Undecided covered) spots.now))) }
 {
-    let mut found = Vec::with_capacity(alloc, SAMPLE + 1)?;
-    for i in 0..spots.len() {
-        if is_next(spots[i], decided, family, covered) {
-            take_in(&mut found, spots[i])?;
+    let mut found = BTreeSet::new(alloc);
+    for spot in spots {
+        if is_picked(*spot, decided, marks, Status::Undecided, covered) {
+            take_in(&mut found, *spot)?;
         }
     }
+    let found = list_of(alloc, &found)?;
     Ok(found)
+}
+
+// Whether the spot is decided so, and marked or not.
+fn is_picked(spot: Spot, decided: &[Status], marks: &[bool], so: Status, covered: bool) -> bool
+    requires len { length marks.now ≡ length decided.now }
+    requires within { spot.place < length decided.now }
+    ensures { IsTrue result ↔ IsTrue (is_picked decided.now marks.now so covered spot) }
+{
+    decided[spot.place] == so && marks[spot.place] == covered
 }
 
 // Adds the undecided ones of the spots from the index on that have an undecided child, or those that have none, until
@@ -262,7 +265,7 @@ pub(crate) fn pick(
         (is_picked decided.now marks.now so covered) spots.now)) }
 {
     for spot in spots {
-        if found.len() < limit && decided[spot.place] == so && marks[spot.place] == covered {
+        if found.len() < limit && is_picked(*spot, decided, marks, so, covered) {
             found.push(*spot)?;
         }
     }

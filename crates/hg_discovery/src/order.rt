@@ -1,5 +1,5 @@
 //! Spots in the order of their ids.
-ghost use Rattle.std.specs.Prelude.{◌≡◌, ◌↔◌, ◌≤◌, OnOk, Contains, IsTrue, length, take, get_or, vec_len};
+ghost use Rattle.std.specs.Prelude.{◌≡◌, ◌↔◌, ◌≤◌, ◌-◌, IfOk, OnOk, Contains, IsTrue, length, take, get_or};
 ghost use Rattle.std.specs.declared.cmp.Ordering.TheVariants.{Less};
 ghost use Rattle.std.specs.List.Sorted.{IsStrictlySortedBy};
 ghost use Rattle.hg_discovery.specs.declared.status.Spot.{Spot};
@@ -7,7 +7,8 @@ ghost use Rattle.hg_discovery.specs.Order.{spot_cmp, put};
 
 use crate::draw::SAMPLE;
 use crate::status::Spot;
-use std::alloc::AllocError;
+use std::alloc::{AllocError, Global};
+use std::collections::BTreeSet;
 
 // The spots ascending, each once.
 pub(crate) fn ascending(mut spots: Vec<Spot>) -> Vec<Spot>
@@ -20,28 +21,43 @@ pub(crate) fn ascending(mut spots: Vec<Spot>) -> Vec<Spot>
     spots
 }
 
-// Takes a spot in among the least 200 of those that came so far, ascending.
-pub(crate) fn take_in(least: &mut Vec<Spot>, spot: Spot) -> Result<(), AllocError>
-    requires sorted { IsStrictlySortedBy spot_cmp least.old.items }
-    requires few { vec_len least.old ≤ 200 }
-    ensures { OnOk result (least.new.items ≡ take 200 (put spot least.old.items)) }
+// Takes a spot in among the least 200 of those that came so far.
+pub(crate) fn take_in(least: &mut BTreeSet<Spot>, spot: Spot) -> Result<(), AllocError>
+    requires few { length least.old.keys ≤ 200 }
+    ensures { OnOk result (least.new.keys ≡ take 200 (put spot least.old.keys)) }
 {
     if is_beyond(least, spot) {
         return Ok(());
     }
-    match least.binary_search(&spot) {
-        Ok(_) => Ok(()),
-        Err(at) => {
-            least.insert(at, spot)?;
-            least.truncate(SAMPLE);
-            Ok(())
-        }
+    least.insert(spot)?;
+    if least.len() > SAMPLE {
+        least.pop_last();
     }
+    Ok(())
 }
 
 // Whether there are 200 that are less.
-fn is_beyond(least: &[Spot], spot: Spot) -> bool
-    ensures { IsTrue result → (200 ≤ length least.now) × ((d : Spot) → spot_cmp (get_or least.now 199 d) spot ≡ Less) }
+fn is_beyond(least: &BTreeSet<Spot>, spot: Spot) -> bool
+    ensures beyond { IsTrue result → (200 ≤ length least.now.keys) × ((d : Spot) → spot_cmp
+        (get_or least.now.keys (length least.now.keys - 1) d) spot ≡ Less) }
+    ensures sorted { IsStrictlySortedBy spot_cmp least.now.keys }
 {
-    least.len() >= SAMPLE && least[SAMPLE - 1].cmp(&spot).is_lt()
+    if least.len() < SAMPLE {
+        return false;
+    }
+    match least.last() {
+        Some(last) => last.cmp(&spot).is_lt(),
+        None => false,
+    }
+}
+
+// The spots of a set, ascending.
+pub(crate) fn list_of(alloc: Global, spots: &BTreeSet<Spot>) -> Result<Vec<Spot>, AllocError>
+    ensures { IfOk result (λ list. list.items ≡ spots.now.keys) }
+{
+    let mut list = Vec::with_capacity(alloc, spots.len())?;
+    for spot in spots {
+        list.push(*spot)?;
+    }
+    Ok(list)
 }

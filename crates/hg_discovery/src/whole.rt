@@ -7,12 +7,13 @@ ghost use Rattle.hg_replica.specs.State.{ReplicaState};
 ghost use Rattle.hg_replica.specs.Content.{content_of};
 ghost use Rattle.hg_view.specs.Pins.{IsServedUnder};
 ghost use Rattle.hg_discovery.specs.Between.{AreHeadsInCommon};
-ghost use Rattle.hg_discovery.specs.Search.{IsClosed, AreSpots};
+ghost use Rattle.hg_discovery.specs.declared.status.Status.TheVariants.{Undecided};
+ghost use Rattle.hg_discovery.specs.Search.{AreSpots};
+ghost use Rattle.hg_discovery.specs.Spread.{AreCovered};
 ghost use Rattle.hg_discovery.specs.Start.{IsGround};
-ghost use Rattle.hg_discovery.specs.Under.{IsInOrder};
 
 use crate::discovery::nodes;
-use crate::draw::{SAMPLE, covered, pick};
+use crate::draw::{SAMPLE, pick};
 use crate::order::ascending;
 use crate::start::Ground;
 use crate::status::Status;
@@ -21,20 +22,20 @@ use hg_graph::Graph;
 use hg_replica::Replica;
 use std::alloc::{AllocError, Global};
 
-// The heads of what is undecided at first, ascending, where there are at most 200 and the other replica serves each,
-// which marks tell. Then the first round asks about all of them, and makes all else common, whatever it is told of that.
-// So a discovery would end with these heads, and nothing more need be done for it. Otherwise it gives nothing.
+// The heads of what is undecided at first, ascending, where there are at most 200 and the other replica serves each.
+// Marks tell which changesets have an undecided child, and others which of them the other replica serves. Then the first
+// round asks about all heads, and makes all else common, whatever it is told of that. So a discovery would end with these
+// heads, and nothing more need be done for it. Otherwise it gives nothing.
 pub(crate) fn heads_of_all(
     alloc: Global,
     ground: &Ground,
+    marks: &[bool],
     other: &Replica,
     served: &[bool],
 ) -> Result<Option<Vec<Node>>, AllocError>
     requires len { length served.now ≡ length (changesets other.now.history) }
-    requires places { length ground.now.decided.items ≡ length ground.now.parents.items }
-    requires in_order { IsInOrder ground.now.parents.items }
-    requires closed { IsClosed ground.now.parents.items ground.now.decided.items }
     requires spots { AreSpots ground.now.decided.items ground.now.spots.items }
+    requires marks { AreCovered ground.now.parents.items ground.now.decided.items Undecided marks.now }
     ensures { IfOk result (λ found. IfSome found (λ heads. (ours : ReplicaState)
         → IsGround ours.history ground.now.parents.items ground.now.spots.items ground.now.decided.items
         → (pins : List Node)
@@ -42,12 +43,11 @@ pub(crate) fn heads_of_all(
         ↔ IsServedUnder (content_of other.now) pins n)
         → AreHeadsInCommon ours other.now pins heads.items)) }
 {
-    let covered = covered(alloc, &ground.parents, &ground.decided, Status::Undecided)?;
     let mut found = Vec::new(alloc);
     pick(
         &ground.spots,
         &ground.decided,
-        &covered,
+        marks,
         Status::Undecided,
         false,
         SAMPLE + 1,

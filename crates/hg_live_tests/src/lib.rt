@@ -8,6 +8,8 @@ mod at_random;
 #[cfg(test)]
 mod growth;
 #[cfg(test)]
+mod kept;
+#[cfg(test)]
 mod looks;
 #[cfg(test)]
 mod making;

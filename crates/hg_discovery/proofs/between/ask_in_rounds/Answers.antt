@@ -7,14 +7,17 @@ use Rattle.hg_discovery.specs.Rounds.{AreAnswers}
 use Rattle.hg_discovery.proofs.BetweenLemmas.{IsAskedSoFar-round, IsAskedSoFar-done}
 use Rattle.hg_discovery.proofs.between.ask_in_rounds.Goals as goal
 
+pub covered-requires-clause-in_order : goal.covered-requires-clause-in_order
+covered-requires-clause-in_order c = rw c.deref.ensures.value c.in_ok-ground.ensures.in_order
+
 pub loop-alloc-preserved : goal.loop-alloc-preserved
 loop-alloc-preserved c =
     let P = IsMarkedNode (changesets c.args.other.now.history) c.args.served.now in
     let answers = c.in_ok-answers.answers.items in
     let round = subst (λ (said : List Bool). IsRound c.loop-alloc.discovery said c.answer.new.self)
-    c.deref-in-loop-alloc.ensures.value c.in_ok-answer.ensures.answer.1 in
+    c.deref-in-loop-alloc-2.ensures.value c.in_ok-answer.ensures.answer.1 in
     let known = subst (λ (ns : List Node). AreAnswers P ns answers)
-    (c.deref.ensures.value ∙ c.in_ok-asked.ensures.sample) c.in_ok-answers.ensures in
+    (c.deref-in-loop-alloc.ensures.value ∙ c.in_ok-asked.ensures.sample) c.in_ok-answers.ensures in
     IsAskedSoFar-round P c.args.asker.now c.loop-alloc.discovery c.answer.new.self answers c.loop-alloc.invariant
     round known
 
