@@ -2,7 +2,7 @@
 //!
 //! A changeset has at most two parents and a text, and is named by the SHA-1 of these. Its parents are an unordered
 //! pair, which is kept in normal form: an absent parent, the null id, stands last, otherwise the lesser stands first.
-ghost use Rattle.std.specs.Prelude.{◌≡◌, ◌↔◌, ◌≤◌, length, Some, None, IsTrue, MatchOption, IfOk, Ok, Err};
+ghost use Rattle.std.specs.Prelude.{◌≡◌, ◌++◌, ◌↔◌, ◌≤◌, length, Some, None, IsTrue, MatchOption, IfOk, Ok, Err};
 ghost use Rattle.hex.specs.Hex.{IsBytes};
 ghost use Rattle.hg_changeset.specs.Contents.{contents};
 ghost use Rattle.hg_changeset.specs.Node.{IsNode};
@@ -228,10 +228,19 @@ fn id_of(p: Node, q: Node, text: &[u8]) -> Node
     ensures bytes { IsBytes text.now }
 {
     let mut hasher = Sha1::new();
-    hasher.update(&lesser(p, q).0);
-    hasher.update(&greater(p, q).0);
+    hasher.update(&parent_bytes(p, q));
     hasher.update(text);
     Node(hasher.finalize())
+}
+
+// The bytes of two parents, of the lesser first.
+fn parent_bytes(p: Node, q: Node) -> [u8; 40]
+    ensures { result ≡ (lesser p q).0 ++ (greater p q).0 }
+{
+    let mut bytes = [0; 40];
+    bytes[..20].copy_from_slice(&lesser(p, q).0);
+    bytes[20..].copy_from_slice(&greater(p, q).0);
+    bytes
 }
 
 fn lesser(p: Node, q: Node) -> Node

@@ -197,7 +197,6 @@ impl Graph {
     }
 
     // Where the parents of a new changeset stand; nothing for a known one.
-    #[inline(always)]
     fn look_up(&self, changeset: &Changeset) -> Result<Option<ParentPlaces>, GraphError>
         ensures { LookUpAnswer self.now changeset.now result }
     {
@@ -238,7 +237,6 @@ impl Graph {
     }
 
     // Puts a new changeset last.
-    #[inline(always)]
     fn push(&mut self, changeset: Changeset, parents: ParentPlaces) -> Result<(), AllocError>
         requires new { IsNew self.old changeset }
         requires places { ArePlacesOf self.old changeset parents }

@@ -91,7 +91,6 @@ pub(crate) fn absorb_owned_or_undo(
 
 // Takes the bounds in, where all changesets were added, and gives out what takes it all back; or takes it back at once.
 // Before them there were `before` changesets, whose roots are kept.
-#[inline(always)]
 fn take_bounds_or_undo(
     graph: &mut Graph,
     kept: &mut PhaseRoots,

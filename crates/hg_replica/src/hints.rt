@@ -6,7 +6,6 @@ use hg_obsstore::{Hint, Store};
 
 /// Notes the hints that may have changed: of the changesets that the markers from a place on name, and of those that
 /// are new.
-#[inline(always)]
 pub(crate) fn note_hints(hints: &mut Vec<Hint>, graph: &Graph, store: &Store, before: usize) {
     if !hints.is_empty() {
         note_named(hints, graph, store, before);

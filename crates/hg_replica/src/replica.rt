@@ -208,7 +208,6 @@ impl Replica {
     }
 
     /// Takes in a part as [`absorb_owned`](Replica::absorb_owned) does, and gives out what takes that back.
-    #[inline(always)]
     pub fn absorb_owned_with_undo(&mut self, part: Part) -> Result<Absorbed, Fault>
         ensures answer { AbsorbAnswer self.old part (without_undo result) self.new }
         ensures back { IfOk result (λ absorbed. LeadsBack self.new absorbed.undo self.old) }

@@ -70,7 +70,6 @@ fn new_parents(op: &Op) -> Option<(Node, Node)>
 }
 
 // Refuses a named node that isn't held. Its second clause tells `decide`, which sees no field, that the state is valid.
-#[inline(always)]
 pub(crate) fn check_known(replica: &Replica, op: &Op) -> Result<(), Refusal>
     ensures answer { Checked (unknown_nodes replica.now op.now) result }
     ensures valid { IsValid replica.now }

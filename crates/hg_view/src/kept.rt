@@ -274,7 +274,6 @@ impl Kept {
 
 // Brings the instabilities up to date with what the replica absorbed, if that is anything. Where memory is refused for
 // that, the replica takes it back.
-#[inline(always)]
 fn keep_up(
     replica: &mut Replica,
     instabilities: &mut Instabilities,

@@ -130,7 +130,6 @@ fn mark_at<S: Actor>(
 }
 
 /// Does one event.
-#[inline(always)]
 fn happen<S: Actor>(
     alloc: Global,
     nodes: &mut [S],
@@ -156,7 +155,6 @@ fn happen<S: Actor>(
 }
 
 /// Does the event. Before an offer there has to be room for its message.
-#[inline(always)]
 pub fn run_event<S: Actor>(
     alloc: Global,
     nodes: &mut [S],
