@@ -26,11 +26,11 @@ use Rattle.hg_discovery.proofs.UnderLemmas.{not_both_um, three, above_missing, u
 use Rattle.hg_discovery.proofs.ToldLemmas.{all_common, all_missing, told_length}
 use Rattle.hg_discovery.proofs.DrawLemmas.{sample_member}
 
-node_at : (xs : List Spot) (i : ℕ) (x : Spot) → slice_get xs i ≡ Some x → slice_get (nodes_of xs) i ≡ Some x.node
+pub node_at : (xs : List Spot) (i : ℕ) (x : Spot) → slice_get xs i ≡ Some x → slice_get (nodes_of xs) i ≡ Some x.node
 node_at xs i x at = slice_get-map (λ (y : Spot). y.node) xs i ∙ ap (option_map (λ (y : Spot). y.node)) at
 
 -- who is asked about is a spot
-asked_spot : (s : Search) → IsSearch s → (i : ℕ) (x : Spot) → slice_get s.asked i ≡ Some x → Contains s.spots x
+pub asked_spot : (s : Search) → IsSearch s → (i : ℕ) (x : Spot) → slice_get s.asked i ≡ Some x → Contains s.spots x
 asked_spot s known i x at = (sample_member s s.asked known.sample x (Contains-from_place s.asked i x at)).0
 
 -- what the places of a shape say of the graph

@@ -1,19 +1,22 @@
--- Where the other side serves all heads of what is undecided, one round makes all of it common.
-use Rattle.std.proofs.Common.{◌≡◌, ◌↔◌, ◌⊎◌, ℕ, zero, suc, ◌<◌, ◌≤◌, ◌+◌, ◌-◌, inl, inr, Bool, true, false, List, []}
-use Rattle.std.proofs.Common.{◌∷◌, ◌++◌, length, map, filter, take, set, slice_get, Option, Some, None}
-use Rattle.std.proofs.Common.{Contains, IsTrue, refl, sym, ap, subst, ◌∙◌, arith, true≢false}
-use Rattle.std.proofs.lemmas.Bool.{cases_eq, cases_order}
-use Rattle.std.proofs.lemmas.List.{length-map, length-set}
+-- Rounds that are all answered from one state, where what is served is closed under ancestors.
+use Rattle.std.proofs.Common.{◌≡◌, ◌≢◌, ◌↔◌, ◌⊎◌, ℕ, zero, suc, ◌<◌, ◌≤◌, ◌+◌, ◌-◌, inl, inr, Bool, true, false, List, []}
+use Rattle.std.proofs.Common.{◌∷◌, ◌++◌, length, filter, take, set, get_or, replicate, slice_get, Option, Some, None}
+use Rattle.std.proofs.Common.{MatchOption, IfSome, Contains, IsTrue, refl, sym, ap, subst, ◌∙◌, arith, true≢false}
+use Rattle.std.proofs.lemmas.Bool.{cases_eq, cases_lt, cases_order}
+use Rattle.std.proofs.lemmas.List.{length-map, length-set, take_more}
+use Rattle.std.proofs.lemmas.List.Elements.{Contains-append_left, Contains-get_or, Contains-push, Contains-push_cases}
+use Rattle.hg_discovery.proofs.DrawLemmas.{Contains-take}
 use Rattle.std.proofs.lemmas.Option.{none-some, same_Some, slice_get_within}
 use Rattle.hg_changeset.specs.declared.node.Node.{Node}
 use Rattle.hg_changeset.specs.Contents.{Contents}
-use Rattle.hg_changeset.proofs.ListLemmas.{Contains-cons_cases, Contains-first, Contains-later, Contains-none}
-use Rattle.hg_changeset.proofs.ListLemmas.{slice_get_some}
+use Rattle.hg_changeset.proofs.ListLemmas.{Contains-none, slice_get_some}
 use Rattle.hg_changeset.proofs.NodeLemmas.{node_cases}
 use Rattle.hg_graph.specs.declared.graph.ParentPlaces.{ParentPlaces}
-use Rattle.hg_graph.specs.Graph.{nodes}
+use Rattle.hg_graph.specs.Graph.{nodes, Holds}
 use Rattle.hg_graph.specs.Marks.{IsMarked as IsMarkedPlace, IsMarkedNode}
-use Rattle.hg_graph.specs.Places.{IsAt}
+use Rattle.hg_graph.specs.Places.{IsAt, IsOnlyAt}
+use Rattle.hg_graph.proofs.GraphLemmas.{Contains-from_place}
+use Rattle.hg_graph.proofs.PlaceLemmas.{placed_within}
 use Rattle.hg_graph.proofs.MarkLemmas.{get-set_same, get-set_other}
 use Rattle.hg_phases.specs.State.{changesets}
 use Rattle.hg_replica.specs.State.{ReplicaState}
@@ -23,23 +26,24 @@ use Rattle.hg_discovery.specs.declared.status.Status.{Status}
 use Rattle.hg_discovery.specs.declared.status.Status.TheVariants.{Undecided, Common, Missing}
 use Rattle.hg_discovery.specs.declared.status.Spot.{Spot}
 use Rattle.hg_discovery.specs.Under.{IsOneOf, IsParentAt, IsUnder, IsInOrder, itself, below}
-use Rattle.hg_discovery.specs.Search.{Search, Is, IsSo, IsHead, Lists, IsSearch, IsClosed, AreSpots, nodes_of}
+use Rattle.hg_discovery.specs.Search.{Search, Is, IsHead, Lists, IsSearch, IsClosed, AreSpots, nodes_of}
 use Rattle.hg_discovery.specs.Spread.{AreCovered}
 use Rattle.hg_discovery.specs.Picking.{is_picked}
 use Rattle.hg_discovery.specs.Order.{in_order}
-use Rattle.hg_discovery.specs.Answers.{IsDecided, IsTold, AreTold, IsRound}
-use Rattle.hg_discovery.specs.Rounds.{AreAnswers}
+use Rattle.hg_discovery.specs.Answers.{IsDecided, AreTold, IsRound}
+use Rattle.hg_discovery.specs.Rounds.{AreAnswers, undecided}
 use Rattle.hg_discovery.specs.Start.{IsGround, IsStart}
 use Rattle.hg_discovery.specs.Between.{AreHeadsInCommon}
-use Rattle.hg_discovery.proofs.UnderLemmas.{not_both_uc, not_both_um, not_both_cm, three, under_then, parent_under}
-use Rattle.hg_discovery.proofs.UnderLemmas.{under_common, between}
-use Rattle.hg_discovery.proofs.ToldLemmas.{told_len, told_closed, told_length, all_missing_kept, all_common_kept}
-use Rattle.hg_discovery.proofs.ToldLemmas.{all_closed, spots_after, undecided_before}
-use Rattle.hg_discovery.proofs.CountLemmas.{none_undecided}
-use Rattle.hg_discovery.proofs.DrawLemmas.{kept, picked, others_among}
-use Rattle.hg_discovery.proofs.SortLemmas.{in_order_lists}
+use Rattle.hg_discovery.specs.Whole.{AreToldApart}
+use Rattle.hg_discovery.proofs.UnderLemmas.{not_both_uc, not_both_um, not_both_cm, three, under_common, above_missing}
+use Rattle.hg_discovery.proofs.ToldLemmas.{told_length, all_closed, spots_after, all_common, all_missing}
+use Rattle.hg_discovery.proofs.CountLemmas.{some_undecided, round_count}
 use Rattle.hg_discovery.proofs.KnownLemmas.{known_none}
-use Rattle.hg_discovery.proofs.BetweenLemmas.{IsAskedSoFar-start, IsAskedSoFar-round, IsAskedSoFar-done}
+use Rattle.hg_discovery.proofs.RoundLemmas.{node_at, asked_spot}
+use Rattle.hg_discovery.proofs.SampleLemmas.{marks_exist}
+use Rattle.hg_discovery.proofs.StartLemmas.{AreUndecidedTo-start}
+use Rattle.hg_discovery.proofs.LeastLemmas.{least_sample}
+use Rattle.hg_discovery.proofs.BetweenLemmas.{IsAskedSoFar, IsAskedSoFar-start, IsAskedSoFar-round, IsAskedSoFar-done}
 
 -- ---- whether one is an ancestor can be told
 
@@ -98,230 +102,157 @@ module _ (ps : List ParentPlaces) (order : IsInOrder ps) (k : ℕ) where
   under_or_not : (j : ℕ) → CanTell j
   under_or_not j = tell_to (suc j) j (omega arith)
 
--- ---- what a yes makes common
+-- ---- what an answer decides
 
-module _ (ps : List ParentPlaces) (order : IsInOrder ps) (k : ℕ) (old : List Status) where
+undecided_or_not : (ds : List Status) (k : ℕ) → Is ds Undecided k ⊎ (Is ds Undecided k → ⊥)
+undecided_or_not ds k = elim (cases_lt k (length ds)) [
+  | inl l ↦ elim (three ds k l) [
+    | inl u ↦ inl u
+    | inr other ↦ inr (λ u. elim other [ inl c ↦ not_both_uc ds k u c | inr m ↦ not_both_um ds k u m ])
+  ]
+  | inr ge ↦ inr (λ u. omega (arith, ge, slice_get_within ds k Undecided u))
+]
+
+-- undecided ones of which R holds are decided so
+module _ (old : List Status) (R : ℕ → Type 0) (can : (j : ℕ) → R j ⊎ (R j → ⊥)) (d : Status) (so : d ≢ Undecided) where
   -- of the places before i
-  record IsYesTo (i : ℕ) (new : List Status) : Type 0 where
+  record IsSetTo (i : ℕ) (new : List Status) : Type 0 where
     pub len : length new ≡ length old
-    pub common : (j : ℕ) → Is new Common j ↔ (Is old Common j ⊎ ((j < i) × Is old Undecided j × IsUnder ps j k))
-    pub missing : (j : ℕ) → Is new Missing j ↔ Is old Missing j
+    pub each : (j : ℕ) (e : Status) → e ≢ Undecided
+        → Is new e j ↔ (Is old e j ⊎ ((j < i) × Is old Undecided j × R j × (e ≡ d)))
 
-  yes_start : IsYesTo 0 old
-  yes_start = record {
+  set_start : IsSetTo 0 old
+  set_start = record {
     len = refl;
-    common = λ j. (λ h. inl h, λ h. elim h [ inl c ↦ c | inr r ↦ absurd (omega (arith, r.0)) ]);
-    missing = λ j. (λ h. h, λ h. h);
+    each = λ j e ne. (λ h. inl h, λ h. elim h [ inl o ↦ o | inr r ↦ absurd (omega (arith, r.0)) ]);
   }
 
-  yes_skip : (i : ℕ) (new : List Status) → IsYesTo i new → (Is old Undecided i → IsUnder ps i k → ⊥)
-      → IsYesTo (i + 1) new
-  yes_skip i new so_far never = record {
+  set_skip : (i : ℕ) (new : List Status) → IsSetTo i new → (Is old Undecided i → R i → ⊥) → IsSetTo (i + 1) new
+  set_skip i new so_far never = record {
     len = so_far.len;
-    common = λ j. (
-      λ h. elim ((so_far.common j).0 h) [ inl c ↦ inl c | inr r ↦ inr (omega (arith, r.0), r.1, r.2) ],
+    each = λ j e ne. (
+      λ h. elim ((so_far.each j e ne).0 h) [ inl o ↦ inl o | inr r ↦ inr (omega (arith, r.0), r.1, r.2, r.3) ],
       λ h. elim h [
-        | inl c ↦ (so_far.common j).1 (inl c)
+        | inl o ↦ (so_far.each j e ne).1 (inl o)
         | inr r ↦ elim (cases_eq j i) [
-          | inl e ↦ absurd (never (subst (Is old Undecided) e r.1) (subst (λ m. IsUnder ps m k) e r.2))
-          | inr ne ↦ (so_far.common j).1 (inr (omega (arith, r.0, ne), r.1, r.2))
+          | inl same ↦ absurd (never (subst (Is old Undecided) same r.1) (subst R same r.2))
+          | inr other ↦ (so_far.each j e ne).1 (inr (omega (arith, r.0, other), r.1, r.2, r.3))
         ]
       ],
     );
-    missing = so_far.missing;
   }
 
-  yes_set : (i : ℕ) (new : List Status) → IsYesTo i new → Is old Undecided i → IsUnder ps i k
-      → IsYesTo (i + 1) (set new i Common)
-  yes_set i new so_far u under =
-      let here : Is (set new i Common) Common i = get-set_same new i Common (omega
+  set_one : (i : ℕ) (new : List Status) → IsSetTo i new → Is old Undecided i → R i → IsSetTo (i + 1) (set new i d)
+  set_one i new so_far u r =
+      let here : Is (set new i d) d i = get-set_same new i d (omega
       (arith, so_far.len, slice_get_within old i Undecided u)) in
       record {
-        len = length-set new i Common ∙ so_far.len;
-        common = λ j. elim (cases_eq j i) [
-          | inl e ↦ (
-            λ h. inr (omega (arith, e), subst (Is old Undecided) (sym e) u, subst (λ m. IsUnder ps m k) (sym e) under),
-            λ h. subst (Is (set new i Common) Common) (sym e) here,
+        len = length-set new i d ∙ so_far.len;
+        each = λ j e ne. elim (cases_eq j i) [
+          | inl same ↦ (
+            λ h. inr (
+              omega (arith, same),
+              subst (Is old Undecided) (sym same) u,
+              subst R (sym same) r,
+              sym (same_Some d e (sym here ∙ subst (Is (set new i d) e) same h)),
+            ),
+            λ h. elim h [
+              | inl o ↦ absurd (ne (same_Some e Undecided (sym o ∙ subst (Is old Undecided) (sym same) u)))
+              | inr q ↦ subst (Is (set new i d) e) (sym same) (subst (λ f. Is (set new i d) f i) (sym q.3) here)
+            ],
           )
-          | inr ne ↦ (
-            λ h. elim ((so_far.common j).0 (sym (get-set_other new i j Common ne) ∙ h))
-                [ inl c ↦ inl c | inr r ↦ inr (omega (arith, r.0), r.1, r.2) ],
-            λ h. get-set_other new i j Common ne ∙ (so_far.common j).1
-                (elim h [ inl c ↦ inl c | inr r ↦ inr (omega (arith, r.0, ne), r.1, r.2) ]),
-          )
-        ];
-        missing = λ j. elim (cases_eq j i) [
-          | inl e ↦ (
-            λ h. absurd (not_both_cm (set new i Common) j (subst (Is (set new i Common) Common) (sym e) here) h),
-            λ h. absurd (not_both_um old j (subst (Is old Undecided) (sym e) u) h),
-          )
-          | inr ne ↦ (
-            λ h. (so_far.missing j).0 (sym (get-set_other new i j Common ne) ∙ h),
-            λ h. get-set_other new i j Common ne ∙ (so_far.missing j).1 h,
+          | inr other ↦ (
+            λ h. elim ((so_far.each j e ne).0 (sym (get-set_other new i j d other) ∙ h))
+                [ inl o ↦ inl o | inr q ↦ inr (omega (arith, q.0), q.1, q.2, q.3) ],
+            λ h. get-set_other new i j d other ∙ (so_far.each j e ne).1
+                (elim h [ inl o ↦ inl o | inr q ↦ inr (omega (arith, q.0, other), q.1, q.2, q.3) ]),
           )
         ];
       }
 
-  undecided_or_not : (i : ℕ) → Is old Undecided i ⊎ (Is old Undecided i → ⊥)
-  undecided_or_not i = elim (cases_order i (length old)) [
-    | inl e ↦ inr (λ u. omega (arith, e, slice_get_within old i Undecided u))
-    | inr o ↦ elim o [
-      | inl l ↦ elim (three old i l) [
-        | inl u ↦ inl u
-        | inr other ↦ inr (λ u. elim other [ inl c ↦ not_both_uc old i u c | inr m ↦ not_both_um old i u m ])
-      ]
-      | inr l ↦ inr (λ u. omega (arith, l, slice_get_within old i Undecided u))
-    ]
-  ]
-
-  yes_to : (i : ℕ) → (new : List Status) × IsYesTo i new
-  yes_to zero = (old, yes_start)
-  yes_to (suc i) =
-      let before = yes_to i in
+  set_to : (i : ℕ) → (new : List Status) × IsSetTo i new
+  set_to zero = (old, set_start)
+  set_to (suc i) =
+      let before = set_to i in
       let next : i + 1 ≡ suc i = omega arith in
-      let skipped : (Is old Undecided i → IsUnder ps i k → ⊥) → (new : List Status) × IsYesTo (suc i) new = λ never. (
+      let skipped : (Is old Undecided i → R i → ⊥) → (new : List Status) × IsSetTo (suc i) new = λ never. (
         before.0,
-        subst (λ n. IsYesTo n before.0) next (yes_skip i before.0 before.1 never),
+        subst (λ n. IsSetTo n before.0) next (set_skip i before.0 before.1 never),
       ) in
-      elim (undecided_or_not i) [
-        | inl u ↦ elim (under_or_not ps order i k) [
-          | inl under ↦ (
-            set before.0 i Common,
-            subst (λ n. IsYesTo n (set before.0 i Common)) next (yes_set i before.0 before.1 u under),
+      elim (undecided_or_not old i) [
+        | inl u ↦ elim (can i) [
+          | inl r ↦ (
+            set before.0 i d,
+            subst (λ n. IsSetTo n (set before.0 i d)) next (set_one i before.0 before.1 u r),
           )
-          | inr out ↦ skipped (λ h under. out under)
+          | inr out ↦ skipped (λ u r. out r)
         ]
-        | inr out ↦ skipped (λ u under. out u)
+        | inr out ↦ skipped (λ u r. out u)
       ]
 
-  yes_exists : (new : List Status) × IsDecided ps k true old new
-  yes_exists =
-      let all = yes_to (length old) in (
+common_said : Common ≢ Undecided
+common_said e = let c : Common ≡ Undecided = e in cc
+
+missing_said : Missing ≢ Undecided
+missing_said e = let c : Missing ≡ Undecided = e in cc
+
+module _ (ps : List ParentPlaces) (order : IsInOrder ps) where
+  decided_exists : (k : ℕ) (old : List Status) (said : Bool) → (new : List Status) × IsDecided ps k said old new
+  decided_exists k old true =
+      let all = set_to old (λ j. IsUnder ps j k) (λ j. under_or_not ps order j k) Common common_said (length old) in (
         all.0,
         record {
           len = all.1.len;
           common = λ j. (
-            λ h. elim ((all.1.common j).0 h) [ inl c ↦ inl c | inr r ↦ inr (refl, r.1, r.2) ],
-            λ h. (all.1.common j).1 (elim h [
+            λ h. elim ((all.1.each j Common common_said).0 h) [ inl c ↦ inl c | inr r ↦ inr (refl, r.1, r.2) ],
+            λ h. (all.1.each j Common common_said).1 (elim h [
               | inl c ↦ inl c
-              | inr r ↦ inr (slice_get_within old j Undecided r.1, r.1, r.2)
+              | inr r ↦ inr (slice_get_within old j Undecided r.1, r.1, r.2, refl)
             ]),
           );
           missing = λ j. (
-            λ h. inl ((all.1.missing j).0 h),
-            λ h. elim h [ inl m ↦ (all.1.missing j).1 m | inr r ↦ absurd (true≢false r.0) ],
+            λ h. elim ((all.1.each j Missing missing_said).0 h)
+                [ inl m ↦ inl m | inr r ↦ let c : Missing ≡ Common = r.3 in cc ],
+            λ h. (all.1.each j Missing missing_said).1
+                (elim h [ inl m ↦ inl m | inr r ↦ absurd (true≢false r.0) ]),
+          );
+        },
+      )
+  decided_exists k old false =
+      let all = set_to old (λ j. IsUnder ps k j) (λ j. under_or_not ps order k j) Missing missing_said (length old) in (
+        all.0,
+        record {
+          len = all.1.len;
+          common = λ j. (
+            λ h. elim ((all.1.each j Common common_said).0 h)
+                [ inl c ↦ inl c | inr r ↦ let c : Common ≡ Missing = r.3 in cc ],
+            λ h. (all.1.each j Common common_said).1
+                (elim h [ inl c ↦ inl c | inr r ↦ absurd (true≢false (sym r.0)) ]),
+          );
+          missing = λ j. (
+            λ h. elim ((all.1.each j Missing missing_said).0 h) [ inl m ↦ inl m | inr r ↦ inr (refl, r.1, r.2) ],
+            λ h. (all.1.each j Missing missing_said).1 (elim h [
+              | inl m ↦ inl m
+              | inr r ↦ inr (slice_get_within old j Undecided r.1, r.1, r.2, refl)
+            ]),
           );
         },
       )
 
--- ---- yes to each of some heads, and then any answers
-
-abbrev yeses : List Spot → List Bool
-yeses xs = map (λ x. true) xs
-
-all_yes : (ps : List ParentPlaces) → IsInOrder ps → (xs : List Spot) (old : List Status)
-    → (new : List Status) × AreTold ps xs (yeses xs) old new
-all_yes ps order [] old = (old, refl)
-all_yes ps order (x ∷ xs) old = elim (undecided_or_not ps order x.place old x.place) [
-  | inl u ↦
-      let one = yes_exists ps order x.place old in
-      let rest = all_yes ps order xs one.0 in
-      (rest.0, (one.0, inl (u, one.1), rest.1))
-  | inr out ↦ let rest = all_yes ps order xs old in (rest.0, (old, inr (out, refl), rest.1))
-]
-
-told_then : (ps : List ParentPlaces) (xs ys : List Spot) (firsts bs : List Bool) (old mid new : List Status)
-    → AreTold ps xs firsts old mid → AreTold ps ys bs mid new → AreTold ps (xs ++ ys) (firsts ++ bs) old new
-told_then ps [] ys [] bs old mid new so next = subst (λ ds. AreTold ps ys bs ds new) so next
-told_then ps (x ∷ xs) ys (a ∷ firsts) bs old mid new so next =
-    (so.0, so.1, told_then ps xs ys firsts bs so.0 mid new so.2 next)
-told_then ps [] ys (a ∷ firsts) bs old mid new so next = absurd so
-told_then ps (x ∷ xs) ys [] bs old mid new so next = absurd so
-
--- where nothing is undecided any more
-told_nothing : (ps : List ParentPlaces) (xs : List Spot) (answers : List Bool) (ds : List Status)
-    → length answers ≡ length xs → ((k : ℕ) → Is ds Undecided k → ⊥) → AreTold ps xs answers ds ds
-told_nothing ps [] [] ds len none = refl
-told_nothing ps (x ∷ xs) (b ∷ answers) ds len none =
-    (ds, inr (none x.place, refl), told_nothing ps xs answers ds (omega (arith, len)) none)
-told_nothing ps [] (b ∷ answers) ds len none = absurd (omega (arith, len))
-told_nothing ps (x ∷ xs) [] ds len none = absurd (omega (arith, len))
-
--- a yes makes nothing missing
-yes_spares : (ps : List ParentPlaces) (k : ℕ) (old new : List Status) → IsTold ps k true old new → (j : ℕ)
-    → Is new Missing j → Is old Missing j
-yes_spares ps k old new (inl d) j h = elim ((d.1.missing j).0 h) [ inl m ↦ m | inr r ↦ absurd (true≢false r.0) ]
-yes_spares ps k old new (inr e) j h = subst (λ ds. Is ds Missing j) e.1 h
-
--- who was asked about and isn't missing is common then
-yes_makes : (ps : List ParentPlaces) (x : Spot) (old new : List Status) → x.place < length old
-    → (Is old Missing x.place → ⊥) → IsTold ps x.place true old new → Is new Common x.place
-yes_makes ps x old new l never (inl d) = (d.1.common x.place).1 (inr (refl, d.0, itself))
-yes_makes ps x old new l never (inr e) = elim (three old x.place l) [
-  | inl u ↦ absurd (e.0 u)
-  | inr other ↦ elim other [
-    | inl c ↦ subst (λ ds. Is ds Common x.place) (sym e.1) c
-    | inr m ↦ absurd (never m)
+  told_exists : (xs : List Spot) (answers : List Bool) (old : List Status) → length answers ≡ length xs
+      → (new : List Status) × AreTold ps xs answers old new
+  told_exists [] [] old len = (old, refl)
+  told_exists (x ∷ xs) (b ∷ answers) old len = elim (undecided_or_not old x.place) [
+    | inl u ↦
+        let one = decided_exists x.place old b in
+        let rest = told_exists xs answers one.0 (omega (arith, len)) in
+        (rest.0, (one.0, inl (u, one.1), rest.1))
+    | inr out ↦
+        let rest = told_exists xs answers old (omega (arith, len)) in
+        (rest.0, (old, inr (out, refl), rest.1))
   ]
-]
-
-module _ (ps : List ParentPlaces) (order : IsInOrder ps) where
-  -- all ancestors of those are common
-  all_under : (xs : List Spot) (old new : List Status) → length old ≡ length ps → IsClosed ps old
-      → ((x : Spot) → Contains xs x → (x.place < length old) × (Is old Missing x.place → ⊥))
-      → AreTold ps xs (yeses xs) old new → (x : Spot) → Contains xs x → (k : ℕ) → IsUnder ps k x.place
-      → Is new Common k
-  all_under [] old new len closed free told x h k under = absurd (Contains-none x h)
-  all_under (y ∷ xs) old new len closed free told x h k under =
-      let mid = told.0 in
-      let mid_len : length mid ≡ length old = told_len ps y.place true old mid told.1 in
-      let mid_closed = told_closed ps y.place true old mid len order closed told.1 in
-      elim (Contains-cons_cases y xs x h) [
-        | inl is ↦
-            let first = free y (Contains-first y xs) in
-            let there : Is mid Common y.place = yes_makes ps y old mid first.0 first.1 told.1 in
-            all_common_kept ps xs (yeses xs) mid new told.2 k (under_common ps mid mid_closed k y.place
-            (subst (λ (z : Spot). IsUnder ps k z.place) (sym is) under) there)
-        | inr later ↦ all_under xs mid new (mid_len ∙ len) mid_closed
-            (λ z in_xs.
-            let was = free z (Contains-later y xs z in_xs) in
-            (omega (arith, mid_len, was.0), λ m. was.1 (yes_spares ps y.place old mid told.1 z.place m)))
-            told.2 x later k under
-      ]
-
--- ---- each undecided one is below a head
-
-module _ (ps : List ParentPlaces) (order : IsInOrder ps) (ds : List Status) (marks : List Bool)
-    (covered : AreCovered ps ds Undecided marks) (xs : List Spot) (spots : AreSpots ds xs) where
-  abbrev some_heads : List Spot
-  some_heads = filter (is_picked ds marks Undecided false) xs
-
-  abbrev IsBelowHead : ℕ → Type 0
-  IsBelowHead k = (x : Spot) × Contains some_heads x × IsUnder ps k x.place
-
-  by_mark : (k : ℕ) → Is ds Undecided k → ((j : ℕ) → IsParentAt ps j k → Is ds Undecided j → IsBelowHead j)
-      → (b : Bool) → slice_get marks k ≡ Some b → IsBelowHead k
-  by_mark k u above true e =
-      let child = (covered.each k (slice_get_within ds k Undecided u)).0 e in
-      let x = above child.0 child.1 child.2 in
-      (x.0, x.1, under_then ps k child.0 x.0.place (parent_under ps child.0 k child.1) x.2)
-  by_mark k u above false e =
-      let x = spots.found k (inl u) in (
-        x.0,
-        kept (is_picked ds marks Undecided false) xs x.0 x.1 (picked ds marks Undecided false x.0
-            (subst (Is ds Undecided) (sym x.2) u) (subst (λ m. slice_get marks m ≡ Some false) (sym x.2) e)),
-        subst (IsUnder ps k) (sym x.2) itself,
-      )
-
-  under_head_to : (n k : ℕ) → length ds ≤ k + n → Is ds Undecided k → IsBelowHead k
-  under_head_to zero k le u = absurd (omega (arith, le, slice_get_within ds k Undecided u))
-  under_head_to (suc n) k le u =
-      let within = slice_get_within ds k Undecided u in
-      let mark = slice_get_some marks k (omega (arith, covered.len, within)) in
-      by_mark k u (λ j child at. under_head_to n j (omega (arith, le, order j k child)) at) mark.0 mark.1
-
-  under_head : (k : ℕ) → Is ds Undecided k → IsBelowHead k
-  under_head k u = under_head_to (length ds) k (omega arith) u
+  told_exists [] (b ∷ answers) old len = absurd (omega (arith, len))
+  told_exists (x ∷ xs) [] old len = absurd (omega (arith, len))
 
 -- ---- answers
 
@@ -388,56 +319,191 @@ module _ (P : Node → Type 0) where
         )
       ]
 
-  answers_behind : (xs ys : List Spot) (answers : List Bool) → ((x : Spot) → Contains xs x → P x.node)
-      → AreAnswers P (nodes_of ys) answers → AreAnswers P (nodes_of (xs ++ ys)) (yeses xs ++ answers)
-  answers_behind [] ys answers all rest = rest
-  answers_behind (x ∷ xs) ys answers all rest =
-      answers_cons x.node (nodes_of (xs ++ ys)) true (yeses xs ++ answers) (λ t. all x (Contains-first x xs), λ p. refl)
-      (answers_behind xs ys answers (λ z h. all z (Contains-later x xs z h)) rest)
+-- ---- rounds
 
--- ---- the round
+-- the first 200 of the heads and then of the others
+abbrev drawn : List Status → List Bool → List Spot → List Spot
+drawn ds marks xs = take 200 (in_order (filter (is_picked ds marks Undecided false) xs)
+    ++ in_order (filter (is_picked ds marks Undecided true) xs))
 
-take_behind : (n : ℕ) (xs ys : List Spot) → length xs ≤ n → take n (xs ++ ys) ≡ xs ++ take (n - length xs) ys
-take_behind n [] ys le = ap (λ m. take m ys) same
-  where
-    same : n ≡ n - 0
-    same = omega arith
-take_behind zero (x ∷ xs) ys le = absurd (omega (arith, le))
-take_behind (suc n) (x ∷ xs) ys le =
-    let same : n - length xs ≡ suc n - length (x ∷ xs) = omega arith in
-    ap (λ zs. x ∷ zs) (take_behind n xs ys (omega (arith, le)) ∙ ap (λ m. xs ++ take m ys) same)
+module _ (P : Node → Type 0) (tell : (n : Node) → P n ⊎ (P n → ⊥)) where
+  record HasRound (s : Search) : Type 0 where
+    pub answers : List Bool
+    pub next : Search
+    pub round : IsRound s answers next
+    pub are : AreAnswers P (nodes_of s.asked) answers
 
-module _ (ours theirs : ReplicaState) (pins : List Node) (ps : List ParentPlaces) (xs : List Spot) (ds : List Status)
-    (ground : IsGround ours.history ps xs ds) (marks : List Bool) (covered : AreCovered ps ds Undecided marks)
-    (heads : List Spot) (few : length heads ≤ 200)
-    (heads_are : Lists (IsHead (record { parents = ps; spots = xs; decided = ds; asked = [] }) Undecided) heads)
-    (among : (x : Spot) → Contains (filter (is_picked ds marks Undecided false) xs) x → Contains heads x)
-    (served : List Bool)
-    (served_heads : (x : Spot) → Contains heads x → IsMarkedNode (changesets theirs.history) served x.node) where
+  round_exists : (s : Search) → IsSearch s → HasRound s
+  round_exists s known =
+      let said = answers_exist P tell (nodes_of s.asked) in
+      let told = told_exists s.parents known.in_order s.asked said.0 s.decided
+      (said.1.0 ∙ length-map s.asked (λ x. x.node)) in
+      let new : List Status = told.0 in
+      let len : length new ≡ length s.parents = told_length s.parents s.asked said.0 s.decided new told.1 ∙ known.len in
+      let spots = spots_after s.parents s.asked said.0 s.decided new s.spots told.1 known.spots in
+      let closed = all_closed s.parents s.asked said.0 s.decided new known.len known.in_order known.closed told.1 in
+      let marks = marks_exist s.parents new len in
+      let asked = drawn new marks.0 s.spots in
+      record {
+        answers = said.0;
+        next = record { parents = s.parents; spots = s.spots; decided = new; asked = asked };
+        round = record {
+          parents = refl;
+          spots = refl;
+          told = told.1;
+          search = record {
+            len = len;
+            in_order = known.in_order;
+            spots = spots;
+            closed = closed;
+            sample = least_sample s.parents new s.spots asked spots len known.in_order closed marks.0 marks.1 refl;
+          };
+        };
+        are = said.1;
+      }
+
+  -- what is decided on the way is decided so at the end
+  module _ (ps : List ParentPlaces) (xs : List Spot) (last : List Status) (closed : IsClosed ps last)
+      (told : (x : Spot) → Contains xs x → (P x.node → Is last Common x.place)
+      × ((P x.node → ⊥) → Is last Missing x.place)) where
+    record IsOnWay (s : Search) : Type 0 where
+      pub search : IsSearch s
+      pub parents : s.parents ≡ ps
+      pub spots : s.spots ≡ xs
+      pub common : (k : ℕ) → Is s.decided Common k → Is last Common k
+      pub missing : (k : ℕ) → Is s.decided Missing k → Is last Missing k
+
+    next_on_way : (s : Search) → IsOnWay s → (r : HasRound s) → IsOnWay r.next
+    next_on_way s way r =
+        let so = subst (λ qs. AreTold qs s.asked r.answers s.decided r.next.decided) way.parents r.round.told in
+        let spot : (i : ℕ) (x : Spot) → slice_get s.asked i ≡ Some x → Contains xs x =
+        λ i x at. subst (λ ys. Contains ys x) way.spots (asked_spot s way.search i x at) in
+        let said = λ (i : ℕ) (x : Spot) (b : Bool) (at : slice_get s.asked i ≡ Some x)
+        (e : slice_get r.answers i ≡ Some b). r.are.1 i x.node b (node_at s.asked i x at) e in
+        record {
+          search = r.round.search;
+          parents = r.round.parents ∙ way.parents;
+          spots = r.round.spots ∙ way.spots;
+          common = all_common ps (Is last Common) (under_common ps last closed) s.asked r.answers s.decided
+              r.next.decided so
+              (λ i x at yes. (told x (spot i x at)).0 ((said i x true at yes).0 refl))
+              way.common;
+          missing = all_missing ps (Is last Missing) (above_missing ps last closed) s.asked r.answers s.decided
+              r.next.decided so
+              (λ i x at no. (told x (spot i x at)).1
+              (λ p. true≢false (sym ((said i x false at no).1 p))))
+              way.missing;
+        }
+
+    end_of : (n : ℕ) (ours : ReplicaState) (s : Search) → undecided s.decided ≤ n → IsAskedSoFar P ours s → IsOnWay s
+        → (t : Search) × IsAskedSoFar P ours t × IsOnWay t × (undecided t.decided ≡ 0)
+    end_of zero ours s le so_far way = (s, so_far, way, omega (arith, le))
+    end_of (suc n) ours s le so_far way = elim (cases_eq (undecided s.decided) 0) [
+      | inl e ↦ (s, so_far, way, e)
+      | inr ne ↦
+          let r = round_exists s way.search in
+          let fewer = round_count s r.next r.answers way.search r.round in
+          end_of n ours r.next (omega (arith, le, ne, fewer))
+          (IsAskedSoFar-round P ours s r.next r.answers so_far r.round r.are) (next_on_way s way r)
+    ]
+
+    -- at the end exactly that is common
+    end_common : (t : Search) → IsOnWay t → undecided t.decided ≡ 0 → length last ≡ length ps → (k : ℕ)
+        → Is t.decided Common k ↔ Is last Common k
+    end_common t way done len k = (
+      way.common k,
+      λ c.
+          let within : k < length t.decided = omega (
+            arith,
+            slice_get_within last k Common c,
+            len,
+            ap length way.parents,
+            way.search.len,
+          ) in
+          elim (three t.decided k within) [
+            | inl u ↦ absurd (some_undecided t.decided done k u)
+            | inr other ↦ elim other [
+              | inl so ↦ so
+              | inr m ↦ absurd (not_both_cm last k c (way.missing k m))
+            ]
+          ],
+    )
+
+-- ---- all at once
+
+module _ (theirs : List Contents) (served : List Bool) (xs : List Spot) (ds last : List Status)
+    (spots : AreSpots ds xs) (apart : AreToldApart theirs served xs last) (len : length last ≡ length ds) where
+  -- each spot is told by whether it is served
+  pub spot_told : (x : Spot) → Contains xs x → (IsMarkedNode theirs served x.node → Is last Common x.place)
+      × ((IsMarkedNode theirs served x.node → ⊥) → Is last Missing x.place)
+  spot_told x h = (
+    λ m. (apart.common x.place).1 (x, h, refl, m),
+    λ out. elim (three last x.place (omega (arith, spots.within x h, len))) [
+      | inl u ↦ absurd (apart.none_undecided x.place u)
+      | inr other ↦ elim other [
+        | inl c ↦
+            let y = (apart.common x.place).0 c in
+            let same : y.0 ≡ x = spots.apart y.0 x y.1 h y.2 in
+            absurd (out (subst (λ (z : Spot). IsMarkedNode theirs served z.node) same y.3))
+        | inr m ↦ m
+      ]
+    ],
+  )
+
+  -- the spots are those of what is told
+  pub spots_told : AreSpots last xs
+  spots_told = record {
+    distinct = spots.distinct;
+    apart = spots.apart;
+    within = λ x h. omega (arith, spots.within x h, len);
+    found = λ k h. elim h [
+      | inl u ↦ absurd (apart.none_undecided k u)
+      | inr c ↦ let y = (apart.common k).0 c in (y.0, y.1, y.2)
+    ];
+  }
+
+  -- where parents of what is common are common, children of what is missing are missing
+  pub closed_told : (ps : List ParentPlaces) → length last ≡ length ps
+      → ((j k : ℕ) → IsParentAt ps j k → Is last Common j → Is last Common k) → IsClosed ps last
+  closed_told ps all common = record {
+    common = common;
+    missing = λ j k parent m.
+        elim (three last j (omega (arith, slice_get_within ps j parent.0 parent.1, all))) [
+          | inl u ↦ absurd (apart.none_undecided j u)
+          | inr other ↦ elim other [
+            | inl c ↦ absurd (not_both_cm last k (common j k parent c) m)
+            | inr m' ↦ m'
+          ]
+        ];
+  }
+
+module _ (ours theirs : ReplicaState) (pins : List Node) (ps : List ParentPlaces) (xs : List Spot)
+    (ds last : List Status) (ground : IsGround ours.history ps xs ds) (served : List Bool)
+    (apart : AreToldApart (changesets theirs.history) served xs last) (len : length last ≡ length ds)
+    (closed : IsClosed ps last) (heads : List Spot)
+    (heads_are : Lists (IsHead (record { parents = ps; spots = xs; decided = last; asked = heads }) Common) heads) where
   abbrev P : Node → Type 0
   P = IsMarkedNode (changesets theirs.history) served
 
-  abbrev bare : Search
-  bare = record { parents = ps; spots = xs; decided = ds; asked = [] }
+  told_apart : (x : Spot) → Contains xs x → (P x.node → Is last Common x.place)
+      × ((P x.node → ⊥) → Is last Missing x.place)
+  told_apart = spot_told (changesets theirs.history) served xs ds last ground.spots apart len
 
-  abbrev others : List Spot
-  others = in_order (filter (is_picked ds marks Undecided true) xs)
+  first_marks : (marks : List Bool) × AreCovered ps ds Undecided marks
+  first_marks = marks_exist ps ds ground.len
 
   abbrev start : Search
-  start = record { parents = ps; spots = xs; decided = ds; asked = take 200 (heads ++ others) }
+  start = record { parents = ps; spots = xs; decided = ds; asked = drawn ds first_marks.0 xs }
 
-  abbrev rest : List Spot
-  rest = take (200 - length heads) others
-
-  asked_is : take 200 (heads ++ others) ≡ heads ++ rest
-  asked_is = take_behind 200 heads others few
-
-  others_are : Lists (λ x. IsSo bare Undecided x × ¬ (IsHead bare Undecided x)) others
-  others_are =
-      let so_among = others_among bare Undecided marks ground.in_order ground.spots covered
-      (λ (k m j : ℕ). between ps ds ground.closed ground.len ground.in_order k m j) xs (λ x h. h) (λ x h u. h) in
-      in_order_lists xs (λ x. IsSo bare Undecided x × ¬ (IsHead bare Undecided x)) ground.spots.distinct
-      (filter (is_picked ds marks Undecided true) xs) (λ x h. h.0.0) so_among
+  start_search : IsSearch start
+  start_search = record {
+    len = ground.len;
+    in_order = ground.in_order;
+    spots = ground.spots;
+    closed = ground.closed;
+    sample = least_sample ps ds xs (drawn ds first_marks.0 xs) ground.spots ground.len ground.in_order ground.closed first_marks.0
+        first_marks.1 refl;
+  }
 
   starts : IsStart ours.history start
   starts = record {
@@ -445,121 +511,161 @@ module _ (ours theirs : ReplicaState) (pins : List Node) (ps : List ParentPlaces
     spots = ground.shared;
     undecided = ground.undecided;
     nothing_common = ground.nothing_common;
-    search = record {
-      len = ground.len;
-      in_order = ground.in_order;
-      spots = ground.spots;
-      closed = ground.closed;
-      sample = record {
-        heads = heads;
-        others = others;
-        heads_are = heads_are;
-        others_are = others_are;
-        first = refl;
-      };
-    };
+    search = start_search;
   }
 
-  told_heads : (new : List Status) × AreTold ps heads (yeses heads) ds new
-  told_heads = all_yes ps ground.in_order heads ds
+  -- what is missing at first is no spot
+  missing_first : (k : ℕ) → Is ds Missing k → Is last Missing k
+  missing_first k m = elim (three last k (omega (arith, slice_get_within ds k Missing m, len))) [
+    | inl u ↦ absurd (apart.none_undecided k u)
+    | inr other ↦ elim other [
+      | inl c ↦
+          let x = (apart.common k).0 c in
+          absurd (not_both_um ds k ((ground.undecided k).1 (x.0, x.1, x.2)) m)
+      | inr m' ↦ m'
+    ]
+  ]
 
-  abbrev new : List Status
-  new = told_heads.0
+  pub told_in_common : ((n : Node) → P n ↔ IsServedUnder (content_of theirs) pins n)
+      → AreHeadsInCommon ours theirs pins (nodes_of heads)
+  told_in_common exact =
+      let tell : (n : Node) → P n ⊎ (P n → ⊥) = λ n. marked_or_not (changesets theirs.history) served n in
+      let all = end_of P tell ps xs last closed told_apart (undecided ds) ours start (omega arith)
+      (IsAskedSoFar-start P ours start starts)
+      (record {
+        search = start_search;
+        parents = refl;
+        spots = refl;
+        common = λ k c. absurd (ground.nothing_common k c);
+        missing = missing_first;
+      }) in
+      let t = all.0 in
+      let same = end_common P tell ps xs last closed told_apart t all.2 all.3 (len ∙ ground.len) in (
+        t,
+        IsAskedSoFar-done P ours theirs pins t all.1 all.3 exact,
+        (
+          heads,
+          (
+            heads_are.0,
+            λ x. (
+              λ h.
+                  let head = (heads_are.1 x).0 h in (
+                    (
+                      subst (λ ys. Contains ys x) (sym all.2.spots) head.0.0,
+                      (same x.place).1 head.0.1,
+                    ),
+                    λ j c under. head.1 j ((same j).0 c)
+                        (subst (λ qs. IsUnder qs x.place j) all.2.parents under),
+                  ),
+              λ head. (heads_are.1 x).1 (
+                (
+                  subst (λ ys. Contains ys x) all.2.spots head.0.0,
+                  (same x.place).0 head.0.1,
+                ),
+                λ j c under. head.1 j ((same j).1 c)
+                    (subst (λ qs. IsUnder qs x.place j) (sym all.2.parents) under),
+              ),
+            ),
+          ),
+          refl,
+        ),
+      )
 
-  free : (x : Spot) → Contains heads x → (x.place < length ds) × (Is ds Missing x.place → ⊥)
-  free x h =
-      let so = ((heads_are.1 x).0 h).0 in
-      (slice_get_within ds x.place Undecided so.1, λ m. not_both_um ds x.place so.1 m)
+-- ---- the way through the spots
 
-  made_common : (k : ℕ) → Is ds Undecided k → Is new Common k
-  made_common k u =
-      let above = under_head ps ground.in_order ds marks covered xs ground.spots k u in
-      all_under ps ground.in_order heads ds new ground.len ground.closed free told_heads.1 above.0
-      (among above.0 above.1) k above.2
+-- as far as these spots
+pub record AreToldTo (theirs : List Contents) (served : List Bool) (len : ℕ) (xs : List Spot) (ds : List Status) : Type 0
+  where
+    pub length_is : length ds ≡ len
+    pub apart : AreToldApart theirs served xs ds
 
-  none_left : (k : ℕ) → Is new Undecided k → ⊥
-  none_left k u =
-      not_both_uc new k u (made_common k (undecided_before ps heads (yeses heads) ds new told_heads.1 k u))
+module _ (theirs : List Contents) (served : List Bool) where
+  pub AreToldTo-start : (n : ℕ) → AreToldTo theirs served n [] (replicate n Missing)
+  AreToldTo-start n =
+      let first = AreUndecidedTo-start n in
+      record {
+        length_is = first.length_is;
+        apart = record {
+          none_undecided = λ k u. let x = (first.undecided k).0 u in Contains-none x.0 x.1;
+          common = λ k. (λ c. absurd (first.nothing_common k c), λ h. absurd (Contains-none h.0 h.1));
+        };
+      }
 
-  was_undecided : (k : ℕ) → Is new Common k → Is ds Undecided k
-  was_undecided k c =
-      let l : k < length ds = omega (
-        arith,
-        slice_get_within new k Common c,
-        told_length ps heads (yeses heads) ds new told_heads.1,
-      ) in
-      elim (three ds k l) [
-        | inl u ↦ u
-        | inr other ↦ elim other [
-          | inl was ↦ absurd (ground.nothing_common k was)
-          | inr m ↦ absurd (not_both_cm new k c (all_missing_kept ps heads (yeses heads) ds new told_heads.1 k m))
-        ]
+  -- one spot more, which nothing before it stands with
+  pub AreToldTo-more : (n i : ℕ) (all : List Spot) (d : Spot) (ds : List Status) (one : Status) → i < length all
+      → (get_or all i d).place < n → (one ≡ Common) ⊎ (one ≡ Missing)
+      → (one ≡ Common) ↔ IsMarkedNode theirs served (get_or all i d).node
+      → ((x y : Spot) → Contains all x → Contains all y → x.place ≡ y.place → x ≡ y)
+      → AreToldTo theirs served n (take i all) ds
+      → AreToldTo theirs served n (take (i + 1) all) (set ds (get_or all i d).place one)
+  AreToldTo-more n i all d ds one lt within said iff apart before =
+      subst (λ ys. AreToldTo theirs served n ys (set ds x.place one)) (sym (take_more all i d lt)) (record {
+        length_is = length-set ds x.place one ∙ before.length_is;
+        apart = record {
+          none_undecided = λ k u. elim (cases_eq k x.place) [
+            | inl e ↦
+                let is : one ≡ Undecided = same_Some one Undecided
+                (sym here ∙ subst (Is (set ds x.place one) Undecided) e u) in
+                elim said [
+                  | inl c ↦ common_said (sym c ∙ is)
+                  | inr m ↦ missing_said (sym m ∙ is)
+                ]
+            | inr ne ↦ before.apart.none_undecided k (sym (get-set_other ds x.place k one ne) ∙ u)
+          ];
+          common = λ k. elim (cases_eq k x.place) [
+            | inl e ↦ (
+              λ c. (
+                x,
+                Contains-push (take i all) x,
+                sym e,
+                iff.0 (same_Some one Common (sym here ∙ subst (Is (set ds x.place one) Common) e c)),
+              ),
+              λ h.
+                  let is : h.0 ≡ x = apart h.0 x (in_all h.0 h.1) (Contains-get_or all i d lt) (h.2 ∙ e) in
+                  let so : one ≡ Common = iff.1
+                  (subst (λ (z : Spot). IsMarkedNode theirs served z.node) is h.3) in
+                  subst (Is (set ds x.place one) Common) (sym e) (here ∙ ap (λ c. Some c) so),
+            )
+            | inr ne ↦ (
+              λ c.
+                  let y = (before.apart.common k).0 (sym (get-set_other ds x.place k one ne) ∙ c) in
+                  (y.0, Contains-append_left (take i all) (x ∷ []) y.0 y.1, y.2, y.3),
+              λ h. get-set_other ds x.place k one ne ∙ elim (Contains-push_cases (take i all) x h.0 h.1) [
+                | inl old ↦ (before.apart.common k).1 (h.0, old, h.2, h.3)
+                | inr e ↦ absurd (ne (sym h.2 ∙ ap (λ (y : Spot). y.place) (sym e)))
+              ],
+            )
+          ];
+        };
+      })
+    where
+      x : Spot
+      x = get_or all i d
+
+      here : Is (set ds x.place one) one x.place
+      here = get-set_same ds x.place one (omega (arith, before.length_is, within))
+
+      in_all : (z : Spot) → Contains (take i all ++ x ∷ []) z → Contains all z
+      in_all z h = elim (Contains-push_cases (take i all) x z h) [
+        | inl old ↦ Contains-take i all z old
+        | inr e ↦ subst (Contains all) e (Contains-get_or all i d lt)
       ]
 
-  abbrev end : Search
-  end = record { parents = ps; spots = xs; decided = new; asked = [] }
+-- a place that is found says whether the node is marked
+pub found_marked : (cs : List Contents) (marks : List Bool) (n : Node) (place : Option ℕ)
+    → MatchOption place (¬ (Holds cs n)) (IsOnlyAt cs n)
+    → ((p : ℕ) × (place ≡ Some p) × IsMarkedPlace 0 marks p) ↔ IsMarkedNode cs marks n
+found_marked cs marks n None found = (
+  λ h. absurd (none-some h.0 h.1),
+  λ m. absurd (found (Contains-from_place (nodes cs) m.0 n m.1)),
+)
+found_marked cs marks n (Some p) found = (
+  λ h. (p, (found p).1 refl, subst (IsMarkedPlace 0 marks) (sym (same_Some p h.0 h.1)) h.2),
+  λ m. (p, refl, subst (IsMarkedPlace 0 marks) ((found m.0).0 m.1) m.2),
+)
 
-  end_is : IsSearch end
-  end_is = record {
-    len = told_length ps heads (yeses heads) ds new told_heads.1 ∙ ground.len;
-    in_order = ground.in_order;
-    spots = spots_after ps heads (yeses heads) ds new xs told_heads.1 ground.spots;
-    closed = all_closed ps heads (yeses heads) ds new ground.len ground.in_order ground.closed told_heads.1;
-    sample = record {
-      heads = [];
-      others = [];
-      heads_are = (
-        λ i j d lt within. absurd (omega (arith, within)),
-        λ x. (λ h. absurd (Contains-none x h), λ h. absurd (none_left x.place h.0.1)),
-      );
-      others_are = (
-        λ i j d lt within. absurd (omega (arith, within)),
-        λ x. (λ h. absurd (Contains-none x h), λ h. absurd (none_left x.place h.0.1)),
-      );
-      first = refl;
-    };
-  }
-
-  rest_answers : (answers : List Bool) × AreAnswers P (nodes_of rest) answers
-  rest_answers = answers_exist P (λ n. marked_or_not (changesets theirs.history) served n) (nodes_of rest)
-
-  abbrev said : List Bool
-  said = yeses heads ++ rest_answers.0
-
-  round : IsRound start said end
-  round = record {
-    parents = refl;
-    spots = refl;
-    told = subst (λ zs. AreTold ps zs said ds new) (sym asked_is)
-        (told_then ps heads rest (yeses heads) rest_answers.0 ds new new told_heads.1
-        (told_nothing ps rest rest_answers.0 new (rest_answers.1.0 ∙ length-map rest (λ x. x.node)) none_left));
-    search = end_is;
-  }
-
-  answered : AreAnswers P (nodes_of start.asked) said
-  answered = subst (λ zs. AreAnswers P (nodes_of zs) said) (sym asked_is)
-      (answers_behind P heads rest rest_answers.0 served_heads rest_answers.1)
-
-  end_heads : Lists (IsHead end Common) heads
-  end_heads = (
-    heads_are.0,
-    λ x. (
-      λ h.
-          let head = (heads_are.1 x).0 h in (
-            (head.0.0, made_common x.place head.0.1),
-            λ j c under. head.1 j (was_undecided j c) under,
-          ),
-      λ head. (heads_are.1 x).1
-          ((head.0.0, was_undecided x.place head.0.1), λ j u under. head.1 j (made_common j u) under),
-    ),
-  )
-
-  pub all_in_common : ((n : Node) → P n ↔ IsServedUnder (content_of theirs) pins n)
-      → AreHeadsInCommon ours theirs pins (nodes_of heads)
-  all_in_common exact = (
-    end,
-    IsAskedSoFar-done P ours theirs pins end
-        (IsAskedSoFar-round P ours start end said (IsAskedSoFar-start P ours start starts) round answered)
-        (none_undecided new none_left) exact,
-    (heads, end_heads, refl),
-  )
+-- a place that is found is that of a mark
+pub found_within : (cs : List Contents) (marks : List Bool) (n : Node) (place : Option ℕ) → length marks ≡ length cs
+    → MatchOption place (¬ (Holds cs n)) (IsOnlyAt cs n) → IfSome place (λ p. p < length marks)
+found_within cs marks n None len found = tt
+found_within cs marks n (Some p) len found = omega (arith, len, placed_within cs n p ((found p).1 refl))

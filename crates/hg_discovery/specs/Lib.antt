@@ -12,3 +12,4 @@ pub mod Between
 pub mod Refusals
 pub mod Order
 pub mod Line
+pub mod Whole

@@ -14,7 +14,7 @@ use crate::draw::covered;
 use crate::error::DiscoveryError;
 use crate::start::ground_of;
 use crate::status::Status;
-use crate::whole::heads_of_all;
+use crate::whole::heads_at_once;
 use hg_changeset::Node;
 use hg_replica::Replica;
 use hg_view::{Kept, Pins, served_marks};
@@ -66,10 +66,10 @@ fn ask_in_rounds(
     ensures memory { IfErr result (λ error. error ≡ NoMemory) }
 {
     let ground = ground_of(alloc, asker)?;
-    let marks = covered(alloc, &ground.parents, &ground.decided, Status::Undecided)?;
-    if let Some(heads) = heads_of_all(alloc, &ground, &marks, other, served)? {
+    if let Some(heads) = heads_at_once(alloc, &ground, other, served)? {
         return Ok(heads);
     }
+    let marks = covered(alloc, &ground.parents, &ground.decided, Status::Undecided)?;
     let mut discovery = Discovery::upon(alloc, asker, ground, &marks)?;
     while !discovery.done() {
         let asked = discovery.sample()?;

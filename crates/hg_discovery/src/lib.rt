@@ -12,8 +12,8 @@
 //! where it is full.
 //!
 //! The asker calls [`Discovery`], and the other side answers by [`known`], under its pins. Both may go on in the
-//! meantime. Where both stand in one process, [`heads_in_common`] does all of it; where the asker has at most 200 heads
-//! there, and the other side serves each, it needs no round to tell that all is in common.
+//! meantime. Where both stand in one process, [`heads_in_common`] does all of it: it looks each of the asker's
+//! changesets up at the other side, and tells without rounds where they would end.
 //!
 //! # Example
 //!
