@@ -3,7 +3,7 @@
 //! Parents of what is marked get a second mark, and then all that reach them: what has both marks is an ancestor of
 //! another marked changeset, and no head.
 ghost use Rattle.std.specs.Prelude.{◌≡◌, ◌↔◌, ℕ, ◌+◌, ◌≤◌, min, max, length, Contains, MatchOption, IfOk, OnErr};
-ghost use Rattle.std.specs.Prelude.{IsTrue, true};
+ghost use Rattle.std.specs.Prelude.{position};
 ghost use Rattle.std.specs.List.Sorted.{IsStrictlySortedBy};
 ghost use Rattle.hg_changeset.specs.declared.node.Node.{Node};
 ghost use Rattle.hg_changeset.specs.Node.{node_cmp};
@@ -43,7 +43,7 @@ impl Graph {
     }
 
     /// The marked changesets that have no other marked one as a descendant, ascending by id. There is a mark for each
-    /// place.
+    /// place. It costs a look at each mark before the first one that is set, and what stands from there on.
     pub fn marked_heads(&self, marks: &[bool]) -> Result<Vec<Node>, AllocError>
         requires { length marks.now ≡ length self.now }
         ensures exact { IfOk result
@@ -52,10 +52,10 @@ impl Graph {
     {
         // It says that this is a graph.
         let count = self.len();
-        if !has_mark(marks) {
-            return Ok(Vec::new(self.alloc()));
+        match first_mark(marks) {
+            Some(first) => self.heads_between(first, count, &marks[first..]),
+            None => Ok(Vec::new(self.alloc())),
         }
-        self.heads_between(0, count, marks)
     }
 
     // The first and the last of the places at which one of the nodes stands.
@@ -136,11 +136,11 @@ impl Graph {
     }
 }
 
-// Whether one of the marks is set.
-fn has_mark(marks: &[bool]) -> bool
-    ensures { IsTrue result ↔ Contains marks.now true }
+// The place of the first mark that is set.
+fn first_mark(marks: &[bool]) -> Option<usize>
+    ensures { result ≡ position (λ mark. mark) marks.now }
 {
-    marks.contains(&true)
+    marks.iter().position(|mark| *mark)
 }
 
 // The nodes of a set, ascending.
