@@ -4,12 +4,13 @@ ghost use Rattle.std.specs.Prelude.{◌≤◌};
 use crate::failure::Failure;
 use hg_log::{draw_graph, draw_log};
 use hg_race::run_race;
-use hg_script::{Fleet, Notes, RunFault, run_counted, run_counted_named, run_counted_told};
+use hg_script::{Fleet, Notes, RunFault, run_counted_named, run_counted_told};
 use hg_show::{Form, write_roots, write_store};
 use hg_view::Kept;
 use std::alloc::{AllocError, Global};
 use std::io;
 use std::io::{BufWriter, Write, sink};
+use std::mem;
 use std::sync::Wait;
 use std::thread::Threads;
 
@@ -19,9 +20,12 @@ pub fn run(rt: &(impl Print + Input + AllocGlobal)) -> Result<(), Failure<'stati
         Ok(writer) => writer,
         Err(_) => return Err(Failure::Run(RunFault::NoMemory)),
     };
-    let done = run_counted(rt.alloc(), rt.reader(), &mut writer);
+    let done = run_counted_named(rt.alloc(), rt.reader(), &mut writer);
     let flushed = writer.flush().map_err(|_| RunFault::Write);
-    done.and(flushed)?;
+    let fleet = done?;
+    flushed?;
+    // The process ends, and its memory with it: to give the fleet back one by one would be work for nothing.
+    mem::forget(fleet);
     Ok(())
 }
 
