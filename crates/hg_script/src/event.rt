@@ -28,18 +28,18 @@ pub fn run_event<W: Write>(
     alloc: Global,
     number: usize,
     world: &mut World<Peer>,
-    event: PeerEvent,
+    event: &PeerEvent,
     writer: &mut W,
 ) -> Result<PeerAnswer, RunFault>
     ensures told { IfOk result IsTold }
     ensures happens { IfOk result (λ answer. (part : Option PartValue)
-        × Happens peer_state peer_words world.old event answer part world.new) }
+        × Happens peer_state peer_words world.old event.now answer part world.new) }
     ensures printed { IfOk result (λ answer.
         Printed (W.contents writer.old) (answer_line number answer) (W.contents writer.new)) }
-    ensures fault { IfErr result (IsUnknownWhere number (IsNowhere world.old event)) }
+    ensures fault { IfErr result (IsUnknownWhere number (IsNowhere world.old event.now)) }
     ensures unchanged { OnErr result (world.new ≡ world.old) }
 {
-    let answer = world.run_one(&event)?;
+    let answer = world.run_one(event)?;
     match &answer {
         Answer::Refused(refusal) => print_refused(alloc, writer, number, refusal)?,
         Answer::Accepted(_) => {}

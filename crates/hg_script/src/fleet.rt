@@ -242,7 +242,7 @@ impl Fleet {
         let kept = self.kept(number, place)?;
         self.check_labels(number, kept, &op, labels)?;
         let event = Event::Local { at: place, op };
-        let answer = run_event(self.alloc, number, &mut self.world, event, writer)?;
+        let answer = run_event(self.alloc, number, &mut self.world, &event, writer)?;
         label(&mut self.labels, labels, &answer)?;
         Ok(Told::Event { at: place, answer })
     }
@@ -297,7 +297,7 @@ impl Fleet {
         let mark = marking.resolve(&names)?;
         let place = self.place(number, at)?;
         let event = Event::Mark { at: place, mark };
-        let answer = run_event(self.alloc, number, &mut self.world, event, writer)?;
+        let answer = run_event(self.alloc, number, &mut self.world, &event, writer)?;
         Ok(Told::Event { at: place, answer })
     }
 
@@ -332,7 +332,7 @@ impl Fleet {
             at: place,
             ask: Ask { common, scope },
         };
-        let answer = run_event(self.alloc, number, &mut self.world, event, writer)?;
+        let answer = run_event(self.alloc, number, &mut self.world, &event, writer)?;
         keep(self.alloc, &mut self.messages, message, &answer)?;
         Ok(Told::Event { at: place, answer })
     }
@@ -355,7 +355,7 @@ impl Fleet {
             None => return Err(RunFault::Line(number, LineFault::UnknownName)),
         };
         let event = Event::Take { at, message };
-        let answer = run_event(self.alloc, number, &mut self.world, event, writer)?;
+        let answer = run_event(self.alloc, number, &mut self.world, &event, writer)?;
         Ok(Told::Taken {
             at,
             message,
@@ -385,7 +385,7 @@ impl Fleet {
             at: giver,
             ask: Ask { common, scope },
         };
-        let answer = run_event(self.alloc, number, &mut self.world, offer, writer)?;
+        let answer = run_event(self.alloc, number, &mut self.world, &offer, writer)?;
         let taken = take_offered(self.alloc, number, &mut self.world, taker, &answer, writer)?;
         Ok(Told::Pulled {
             at: taker,
@@ -630,7 +630,7 @@ fn take_offered<W: Write>(
                 at,
                 message: *message,
             };
-            let taken = run_event(alloc, number, world, take, writer)?;
+            let taken = run_event(alloc, number, world, &take, writer)?;
             Ok(Some(taken))
         }
         Answer::Accepted(_) => Ok(None),

@@ -11,7 +11,7 @@ returns-in_err-print_refused-in-Refused-clause-fault g c =
     let p = err_from_is_err_and c.from_residual-in_err-print_refused-in-Refused.result
     c.from_residual-in_err-print_refused-in-Refused.ensures.1 in
     rw (p.1, p.2)
-    (unknown_where _ _ _ _ (nowhere _ c.args.event _ _ _ c.in-Refused.is c.in_ok-answer.ensures.happens)
+    (unknown_where _ _ _ _ (nowhere _ c.args.event.now _ _ _ c.in-Refused.is c.in_ok-answer.ensures.happens)
     c.in_err-print_refused-in-Refused.ensures.err)
 
 pub returns-in_err-print_refused-in-Refused-clause-unchanged
@@ -19,7 +19,7 @@ pub returns-in_err-print_refused-in-Refused-clause-unchanged
 returns-in_err-print_refused-in-Refused-clause-unchanged g c =
     let p = err_from_is_err_and c.from_residual-in_err-print_refused-in-Refused.result
     c.from_residual-in_err-print_refused-in-Refused.ensures.1 in
-    rw p.1 (refused_stays _ c.args.event _ _ _ c.in-Refused.is c.in_ok-answer.ensures.happens)
+    rw p.1 (refused_stays _ c.args.event.now _ _ _ c.in-Refused.is c.in_ok-answer.ensures.happens)
 
 pub returns-clause-printed : goal.returns-clause-printed
 returns-clause-printed g c =
