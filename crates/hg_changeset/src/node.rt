@@ -130,6 +130,7 @@ impl Node {
     }
 
     /// The 40 hexadecimal digits, in lower case.
+    #[inline(always)]
     pub fn to_hex(self) -> [u8; 40]
         ensures digits { result ≡ encode_lower self.0 }
         ensures reads_back { id_value result ≡ Some self }

@@ -365,7 +365,7 @@ fn nodes_from(graph: &Graph, from: usize, alloc: Global) -> Result<Vec<Node>, Al
     ensures nodes { IfOk result (λ found. found.items ≡ drop from (nodes graph.now)) }
     ensures memory { OnErr result (from < length graph.now) }
 {
-    let mut found = Vec::new(alloc);
+    let mut found = Vec::with_capacity(alloc, graph.len() - from)?;
     for place in from..graph.len() {
         match graph.node_at(place) {
             Some(node) => found.push(node)?,
@@ -402,6 +402,7 @@ fn check_bound(graph: &Graph, node: Node) -> Result<(), Fault>
 }
 
 // Lowers the ancestors of each bound of this phase.
+#[inline(always)]
 fn lower_to(
     graph: &Graph,
     phases: &mut PhaseMap,

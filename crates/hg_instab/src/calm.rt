@@ -253,6 +253,7 @@ fn is_settled(
 }
 
 // What turns where each of the nodes that a change touched is calm. Mostly that is nothing, or one node is retired.
+#[inline(always)]
 pub(crate) fn calm_turning(
     alloc: Global,
     sets: &Instabilities,

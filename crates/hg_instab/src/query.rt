@@ -52,6 +52,7 @@ fn is_same(its: Phase, phase: Phase) -> bool
 
 /// Whether the changeset at a place of the graph is obsolete. It takes no look-up by a hash, unless it isn't public and
 /// no marker names it.
+#[inline(always)]
 pub fn is_obsolete_at(replica: &Replica, place: usize) -> bool
     ensures { (n : Node) → IsAt (changesets replica.now.history) n place
         → (IsTrue result ↔ IsObsolete (content_of replica.now) n) }

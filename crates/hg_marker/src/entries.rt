@@ -57,6 +57,7 @@ impl<'a> Iterator for Entries<'a> {
 
     ghost remaining = { item_count (λ rest. rest) };
 
+    #[inline(always)]
     fn next(&mut self) -> Option<(&'a [u8], &'a [u8])> {
         match &mut self.left {
             Left::Written(pieces) => pieces.next(),

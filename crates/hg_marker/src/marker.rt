@@ -96,6 +96,7 @@ impl Marker {
     /// The marker of these fields.
     ///
     /// Refuses with the first [`MarkerError`] that applies, in the order in which they are numbered.
+    #[inline(always)]
     pub fn new(
         predecessor: Node,
         successors: Vec<Node>,

@@ -43,6 +43,7 @@ impl Labels {
     }
 
     /// What the label stands for, if it is bound.
+    #[inline(always)]
     pub fn get(&self, label: &[u8]) -> Option<Node>
         ensures { result ≡ labelled self.now label.now }
     {

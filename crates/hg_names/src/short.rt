@@ -158,6 +158,7 @@ impl ShortLabels {
     }
 
     // Binds a number to a node, where there are slots. It takes memory where others came to its slots before.
+    #[inline(always)]
     fn put(&mut self, key: u64, node: Node) -> Result<(), AllocError>
         requires { self.old.first ≢ [] }
         ensures some { OnOk result (self.new.first ≢ []) }

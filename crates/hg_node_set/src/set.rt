@@ -127,6 +127,7 @@ impl NodeSet {
 
     /// Puts an id last, unless it is there. Tells its number, and whether it is new. Where memory is refused nothing
     /// changes.
+    #[inline(always)]
     pub fn insert_full(&mut self, node: Node) -> Result<(usize, bool), AllocError>
         ensures keys { OnOk result (self.new.keys ≡ insert_key self.old.keys node) }
         ensures index { IfOk result (λ r. r.0 ≡ number_after self.old.keys node) }

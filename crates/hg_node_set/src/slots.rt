@@ -95,6 +95,7 @@ impl Slots {
     }
 
     /// Gives an id its number, where there are slots. It takes memory where another id came to its slot before.
+    #[inline(always)]
     pub(crate) fn add(&mut self, node: Node, number: usize) -> Result<(), AllocError>
         requires { self.old.first.items ≢ [] }
         ensures ok { OnOk result (AddsNumber number node self.old.first.items self.new.first.items

@@ -41,11 +41,10 @@ pub(crate) fn bounds(
 fn on_last(alloc: Global, ids: &[Node], phase: Phase) -> Result<Vec<(Node, Phase)>, AllocError>
     ensures { IfOk result (λ found. found.items ≡ on_last ids.now phase) }
 {
-    let mut found = Vec::new(alloc);
-    if let Some(id) = ids.last() {
-        found.push((*id, phase))?;
+    match ids.last() {
+        Some(id) => Vec::from_slice(alloc, &[(*id, phase)]),
+        None => Ok(Vec::new(alloc)),
     }
-    Ok(found)
 }
 
 // The last of the nodes, or the null id.

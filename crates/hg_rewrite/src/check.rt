@@ -330,6 +330,7 @@ pub(crate) fn check_pruner(op: &Op) -> Result<(), Refusal>
 }
 
 // Refuses an id that is held, or that comes again.
+#[inline(always)]
 pub(crate) fn check_new(replica: &Replica, ids: &[Node]) -> Result<(), Refusal>
     ensures { Checked (existing replica.now.history ids.now) result }
 {

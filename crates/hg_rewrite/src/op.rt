@@ -49,6 +49,7 @@ pub enum Op {
 
 // Whoever owns one calls this once, and is proved without a look at each collection in it.
 impl Drop for Op {
+    #[inline(always)]
     fn drop(self) {
         match self {
             Op::Commit {

@@ -118,6 +118,7 @@ impl Names<'_> {
     }
 
     // The ids that the labels of parents name, and the null id for each that is absent.
+    #[inline(always)]
     fn parents(&self, labels: Parents<'_>) -> Result<(Node, Node), RunFault>
         ensures ok { IfOk result (λ ps. AreParentIds (labelled self.now.labels.now) labels.entry ps.0 ps.1) }
         ensures err { IfErr result (IsUnresolved self.now (parent_words labels.entry)) }

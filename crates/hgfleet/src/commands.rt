@@ -8,11 +8,10 @@ use hg_script::{Fleet, Notes, RunFault, run_counted_named, run_counted_told};
 use hg_show::{Form, write_roots, write_store};
 use hg_view::Kept;
 use std::alloc::{AllocError, Global};
-use std::io;
 use std::io::{BufWriter, Write, sink};
-use std::mem;
 use std::sync::Wait;
 use std::thread::Threads;
+use std::{io, mem};
 
 /// Runs the script of standard input. What was printed before a fault stays.
 pub fn run(rt: &(impl Print + Input + AllocGlobal)) -> Result<(), Failure<'static>> {
