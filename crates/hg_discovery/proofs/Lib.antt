@@ -13,6 +13,7 @@ pub mod LineLemmas
 pub mod CountLemmas
 pub mod WalkLemmas
 pub mod WholeLemmas
+pub mod HeadsLemmas
 pub mod LogLemmas
 pub mod FamilyLemmas
 pub mod SampleLemmas

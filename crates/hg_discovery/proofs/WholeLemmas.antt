@@ -18,7 +18,7 @@ use Rattle.hg_graph.specs.Places.{IsAt, IsOnlyAt}
 use Rattle.hg_graph.proofs.GraphLemmas.{Contains-from_place}
 use Rattle.hg_graph.proofs.PlaceLemmas.{placed_within}
 use Rattle.hg_graph.proofs.MarkLemmas.{get-set_same, get-set_other}
-use Rattle.hg_phases.specs.State.{changesets}
+use Rattle.hg_phases.specs.State.{State, changesets}
 use Rattle.hg_replica.specs.State.{ReplicaState}
 use Rattle.hg_replica.specs.Content.{content_of}
 use Rattle.hg_view.specs.Pins.{IsServedUnder}
@@ -26,7 +26,7 @@ use Rattle.hg_discovery.specs.declared.status.Status.{Status}
 use Rattle.hg_discovery.specs.declared.status.Status.TheVariants.{Undecided, Common, Missing}
 use Rattle.hg_discovery.specs.declared.status.Spot.{Spot}
 use Rattle.hg_discovery.specs.Under.{IsOneOf, IsParentAt, IsUnder, IsInOrder, itself, below}
-use Rattle.hg_discovery.specs.Search.{Search, Is, IsHead, Lists, IsSearch, IsClosed, AreSpots, nodes_of}
+use Rattle.hg_discovery.specs.Search.{Search, Is, IsHead, IsSample, Lists, IsSearch, IsClosed, AreSpots, nodes_of}
 use Rattle.hg_discovery.specs.Spread.{AreCovered}
 use Rattle.hg_discovery.specs.Picking.{is_picked}
 use Rattle.hg_discovery.specs.Order.{in_order}
@@ -104,7 +104,7 @@ module _ (ps : List ParentPlaces) (order : IsInOrder ps) (k : ℕ) where
 
 -- ---- what an answer decides
 
-undecided_or_not : (ds : List Status) (k : ℕ) → Is ds Undecided k ⊎ (Is ds Undecided k → ⊥)
+pub undecided_or_not : (ds : List Status) (k : ℕ) → Is ds Undecided k ⊎ (Is ds Undecided k → ⊥)
 undecided_or_not ds k = elim (cases_lt k (length ds)) [
   | inl l ↦ elim (three ds k l) [
     | inl u ↦ inl u
@@ -197,7 +197,7 @@ missing_said : Missing ≢ Undecided
 missing_said e = let c : Missing ≡ Undecided = e in cc
 
 module _ (ps : List ParentPlaces) (order : IsInOrder ps) where
-  decided_exists : (k : ℕ) (old : List Status) (said : Bool) → (new : List Status) × IsDecided ps k said old new
+  pub decided_exists : (k : ℕ) (old : List Status) (said : Bool) → (new : List Status) × IsDecided ps k said old new
   decided_exists k old true =
       let all = set_to old (λ j. IsUnder ps j k) (λ j. under_or_not ps order j k) Common common_said (length old) in (
         all.0,
@@ -290,14 +290,14 @@ module _ (cs : List Contents) (marks : List Bool) (n : Node) where
     ]
   ]
 
-  marked_or_not : IsMarkedNode cs marks n ⊎ (IsMarkedNode cs marks n → ⊥)
+  pub marked_or_not : IsMarkedNode cs marks n ⊎ (IsMarkedNode cs marks n → ⊥)
   marked_or_not = elim (marked_before (length (nodes cs))) [
     | inl found ↦ inl found
     | inr none ↦ inr (λ h. none h.0 (slice_get_within (nodes cs) h.0 n h.1) (h.1, h.2))
   ]
 
 module _ (P : Node → Type 0) where
-  answers_cons : (n : Node) (ns : List Node) (b : Bool) (answers : List Bool) → (IsTrue b ↔ P n)
+  pub answers_cons : (n : Node) (ns : List Node) (b : Bool) (answers : List Bool) → (IsTrue b ↔ P n)
       → AreAnswers P ns answers → AreAnswers P (n ∷ ns) (b ∷ answers)
   answers_cons n ns b answers first rest = (ap suc rest.0, each)
     where
@@ -307,7 +307,7 @@ module _ (P : Node → Type 0) where
           (subst (λ x. IsTrue x ↔ P n) (same_Some b a at_a) first)
       each (suc i) m a at_m at_a = rest.1 i m a at_m at_a
 
-  answers_exist : ((n : Node) → P n ⊎ (P n → ⊥)) → (ns : List Node) → (answers : List Bool) × AreAnswers P ns answers
+  pub answers_exist : ((n : Node) → P n ⊎ (P n → ⊥)) → (ns : List Node) → (answers : List Bool) × AreAnswers P ns answers
   answers_exist tell [] = ([], known_none P)
   answers_exist tell (n ∷ ns) =
       let rest = answers_exist tell ns in
@@ -477,6 +477,24 @@ module _ (theirs : List Contents) (served : List Bool) (xs : List Spot) (ds last
         ];
   }
 
+-- where a discovery begins upon the ground
+pub started : (s : State) (ps : List ParentPlaces) (xs : List Spot) (ds : List Status) → IsGround s ps xs ds
+    → (asked : List Spot) → IsSample (record { parents = ps; spots = xs; decided = ds; asked = asked }) asked
+    → IsStart s (record { parents = ps; spots = xs; decided = ds; asked = asked })
+started s ps xs ds ground asked sample = record {
+  shape = ground.shape;
+  spots = ground.shared;
+  undecided = ground.undecided;
+  nothing_common = ground.nothing_common;
+  search = record {
+    len = ground.len;
+    in_order = ground.in_order;
+    spots = ground.spots;
+    closed = ground.closed;
+    sample = sample;
+  };
+}
+
 module _ (ours theirs : ReplicaState) (pins : List Node) (ps : List ParentPlaces) (xs : List Spot)
     (ds last : List Status) (ground : IsGround ours.history ps xs ds) (served : List Bool)
     (apart : AreToldApart (changesets theirs.history) served xs last) (len : length last ≡ length ds)
@@ -495,24 +513,9 @@ module _ (ours theirs : ReplicaState) (pins : List Node) (ps : List ParentPlaces
   abbrev start : Search
   start = record { parents = ps; spots = xs; decided = ds; asked = drawn ds first_marks.0 xs }
 
-  start_search : IsSearch start
-  start_search = record {
-    len = ground.len;
-    in_order = ground.in_order;
-    spots = ground.spots;
-    closed = ground.closed;
-    sample = least_sample ps ds xs (drawn ds first_marks.0 xs) ground.spots ground.len ground.in_order ground.closed first_marks.0
-        first_marks.1 refl;
-  }
-
   starts : IsStart ours.history start
-  starts = record {
-    shape = ground.shape;
-    spots = ground.shared;
-    undecided = ground.undecided;
-    nothing_common = ground.nothing_common;
-    search = start_search;
-  }
+  starts = started ours.history ps xs ds ground (drawn ds first_marks.0 xs) (least_sample ps ds xs
+      (drawn ds first_marks.0 xs) ground.spots ground.len ground.in_order ground.closed first_marks.0 first_marks.1 refl)
 
   -- what is missing at first is no spot
   missing_first : (k : ℕ) → Is ds Missing k → Is last Missing k
@@ -533,7 +536,7 @@ module _ (ours theirs : ReplicaState) (pins : List Node) (ps : List ParentPlaces
       let all = end_of P tell ps xs last closed told_apart (undecided ds) ours start (omega arith)
       (IsAskedSoFar-start P ours start starts)
       (record {
-        search = start_search;
+        search = starts.search;
         parents = refl;
         spots = refl;
         common = λ k c. absurd (ground.nothing_common k c);

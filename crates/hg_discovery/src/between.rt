@@ -12,6 +12,7 @@ use crate::answers::known_by;
 use crate::discovery::Discovery;
 use crate::draw::covered;
 use crate::error::DiscoveryError;
+use crate::heads::heads_of_all;
 use crate::start::ground_of;
 use crate::status::Status;
 use crate::whole::heads_at_once;
@@ -20,8 +21,9 @@ use hg_replica::Replica;
 use hg_view::{Kept, Pins, served_marks};
 use std::alloc::Global;
 
-/// The heads of what the asker has in common with the other replica, ascending: it asks in rounds, and the other tells
-/// which of the asked changesets it serves under its pins. It is refused for want of memory alone.
+/// The heads of what the asker has in common with the other replica, ascending: those with which rounds end in which it
+/// asks, and the other tells which of the asked changesets it serves under its pins. It is refused for want of memory
+/// alone.
 pub fn heads_in_common(
     alloc: Global,
     asker: &Replica,
@@ -66,10 +68,13 @@ fn ask_in_rounds(
     ensures memory { IfErr result (λ error. error ≡ NoMemory) }
 {
     let ground = ground_of(alloc, asker)?;
+    let marks = covered(alloc, &ground.parents, &ground.decided, Status::Undecided)?;
+    if let Some(heads) = heads_of_all(alloc, &ground, &marks, other, served)? {
+        return Ok(heads);
+    }
     if let Some(heads) = heads_at_once(alloc, &ground, other, served)? {
         return Ok(heads);
     }
-    let marks = covered(alloc, &ground.parents, &ground.decided, Status::Undecided)?;
     let mut discovery = Discovery::upon(alloc, asker, ground, &marks)?;
     while !discovery.done() {
         let asked = discovery.sample()?;

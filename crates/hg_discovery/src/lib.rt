@@ -12,8 +12,9 @@
 //! where it is full.
 //!
 //! The asker calls [`Discovery`], and the other side answers by [`known`], under its pins. Both may go on in the
-//! meantime. Where both stand in one process, [`heads_in_common`] does all of it: it looks each of the asker's
-//! changesets up at the other side, and tells without rounds where they would end.
+//! meantime. Where both stand in one process, [`heads_in_common`] does all of it. Where the asker has at most 200 heads,
+//! and the other side serves each, all is in common; otherwise each of the asker's changesets is looked up there, and
+//! that tells without rounds where they would end.
 //!
 //! # Example
 //!
@@ -43,6 +44,7 @@ mod discovery;
 mod draw;
 mod error;
 mod family;
+mod heads;
 mod laws;
 mod line;
 mod order;

@@ -27,5 +27,5 @@ returns-clause-heads c pins exact =
       c.loop-alloc.discovery,
       IsAskedSoFar-done P c.args.asker.now c.args.other.now pins c.loop-alloc.discovery c.loop-alloc.invariant
           (c.done.ensures.0 c.loop-alloc-test.false) exact,
-      c.in_ok-heads-2.ensures.heads,
+      c.in_ok-heads-3.ensures.heads,
     )
