@@ -14,6 +14,8 @@ pub mod CountLemmas
 pub mod WalkLemmas
 pub mod WholeLemmas
 pub mod HeadsLemmas
+pub mod GroundLemmas
+pub mod SharedLemmas
 pub mod LogLemmas
 pub mod FamilyLemmas
 pub mod SampleLemmas

@@ -28,62 +28,62 @@ use Rattle.hg_discovery.specs.Search.{Is, IsClosed, AreSpots}
 use Rattle.hg_discovery.specs.Start.{IsShared}
 use Rattle.hg_discovery.proofs.UnderLemmas.{not_both_um, three}
 
--- ---- the changesets that aren't secret
+-- ---- spots from the first place on
 
--- those before the place i
-abbrev pub AreSharedTo : State → ℕ → List Spot → Type 0
-AreSharedTo s i xs = (x : Spot) → Contains xs x ↔ (IsShared s x × (x.place < i))
+-- those of which P holds before the place i
+abbrev pub AreThoseTo : (Spot → Type 0) → ℕ → List Spot → Type 0
+AreThoseTo P i xs = (x : Spot) → Contains xs x ↔ (P x × (x.place < i))
 
-pub none_shared : (s : State) → AreSharedTo s 0 []
-none_shared s x = ((λ h. let far : h.0 < 0 = h.1 in absurd (omega arith)), (λ h. absurd (omega (arith, h.1))))
+pub none_of_those : (P : Spot → Type 0) → AreThoseTo P 0 []
+none_of_those P x = ((λ h. let far : h.0 < 0 = h.1 in absurd (omega arith)), (λ h. absurd (omega (arith, h.1))))
 
 pub one_spot : (x y : Spot) → x.node ≡ y.node → x.place ≡ y.place → x ≡ y
 one_spot x y n p i = record { node = n i; place = p i }
 
-module _ (s : State) (i : ℕ) (n : Node) (xs : List Spot) (at : IsAt (changesets s) n i)
-    (before : AreSharedTo s i xs) where
-  abbrev here : Spot
-  here = record { node = n; place = i }
+module _ (cs : List Contents) (P : Spot → Type 0) (placed : (x : Spot) → P x → IsAt cs x.node x.place) (i : ℕ)
+    (xs : List Spot) (before : AreThoseTo P i xs) where
+  module _ (n : Node) (at : IsAt cs n i) where
+    abbrev here : Spot
+    here = record { node = n; place = i }
 
-  at_here : (x : Spot) → IsAt (changesets s) x.node x.place → x.place ≡ i → x.node ≡ n
-  at_here x at_x e = same_Some x.node n (sym (subst (IsAt (changesets s) x.node) e at_x) ∙ at)
+    is_here : (x : Spot) → P x → x.place ≡ i → here ≡ x
+    is_here x h e = one_spot here x
+        (sym (same_Some x.node n (sym (subst (IsAt cs x.node) e (placed x h)) ∙ at))) (sym e)
 
-  pub shared_push : (IsPhaseOf s n Secret → ⊥) → AreSharedTo s (i + 1) (xs ++ here ∷ [])
-  shared_push open_one x = (
-    λ h. elim (Contains-push_cases xs here x h) [
-      | inl old ↦ let b = (before x).0 old in (b.0, omega (arith, b.1))
-      | inr e ↦ subst (λ (y : Spot). IsShared s y × (y.place < i + 1)) e ((at, open_one), omega arith)
-    ],
-    λ h. elim (cases_eq x.place i) [
-      | inl e ↦ subst (Contains (xs ++ here ∷ [])) (one_spot here x (sym (at_here x h.0.0 e)) (sym e))
-          (Contains-push xs here)
-      | inr ne ↦ Contains-append_left xs (here ∷ []) x ((before x).1 (h.0, omega (arith, h.1)))
-    ],
-  )
+    pub those_push : P here → AreThoseTo P (i + 1) (xs ++ here ∷ [])
+    those_push is x = (
+      λ h. elim (Contains-push_cases xs here x h) [
+        | inl old ↦ let b = (before x).0 old in (b.0, omega (arith, b.1))
+        | inr e ↦ subst (λ (y : Spot). P y × (y.place < i + 1)) e (is, omega arith)
+      ],
+      λ h. elim (cases_eq x.place i) [
+        | inl e ↦ subst (Contains (xs ++ here ∷ [])) (is_here x h.0 e) (Contains-push xs here)
+        | inr ne ↦ Contains-append_left xs (here ∷ []) x ((before x).1 (h.0, omega (arith, h.1)))
+      ],
+    )
 
-  pub shared_skip : IsPhaseOf s n Secret → AreSharedTo s (i + 1) xs
-  shared_skip secret x = (
-    λ h. let b = (before x).0 h in (b.0, omega (arith, b.1)),
-    λ h. elim (cases_eq x.place i) [
-      | inl e ↦ absurd (h.0.1 (subst (λ m. IsPhaseOf s m Secret) (sym (at_here x h.0.0 e)) secret))
-      | inr ne ↦ (before x).1 (h.0, omega (arith, h.1))
-    ],
-  )
+    pub those_skip : (P here → ⊥) → AreThoseTo P (i + 1) xs
+    those_skip out x = (
+      λ h. let b = (before x).0 h in (b.0, omega (arith, b.1)),
+      λ h. elim (cases_eq x.place i) [
+        | inl e ↦ absurd (out (subst P (sym (is_here x h.0 e)) h.0))
+        | inr ne ↦ (before x).1 (h.0, omega (arith, h.1))
+      ],
+    )
 
-pub shared_all : (s : State) (i : ℕ) (xs : List Spot) → length (changesets s) ≤ i → AreSharedTo s i xs → (x : Spot)
-    → Contains xs x ↔ IsShared s x
-shared_all s i xs le all x = (
-  λ h. ((all x).0 h).0,
-  λ h. (all x).1 (
-    h,
-    omega (
-      arith,
-      le,
-      slice_get_within (nodes (changesets s)) x.place x.node h.0,
-      length-map (changesets s) node_of,
+  pub all_those : length cs ≤ i → (x : Spot) → Contains xs x ↔ P x
+  all_those le x = (
+    λ h. ((before x).0 h).0,
+    λ h. (before x).1 (
+      h,
+      omega (
+        arith,
+        le,
+        slice_get_within (nodes cs) x.place x.node (placed x h),
+        length-map cs node_of,
+      ),
     ),
-  ),
-)
+  )
 
 -- the phase by the content
 pub phase_in_content : (s : State) → IsGraph (changesets s) → (n : Node) (k : Phase)

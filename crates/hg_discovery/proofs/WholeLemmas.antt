@@ -1,15 +1,13 @@
 -- Rounds that are all answered from one state, where what is served is closed under ancestors.
 use Rattle.std.proofs.Common.{◌≡◌, ◌≢◌, ◌↔◌, ◌⊎◌, ℕ, zero, suc, ◌<◌, ◌≤◌, ◌+◌, ◌-◌, inl, inr, Bool, true, false, List, []}
-use Rattle.std.proofs.Common.{◌∷◌, ◌++◌, length, filter, take, set, get_or, replicate, slice_get, Option, Some, None}
+use Rattle.std.proofs.Common.{◌∷◌, ◌++◌, length, filter, take, set, slice_get, Option, Some, None}
 use Rattle.std.proofs.Common.{MatchOption, IfSome, Contains, IsTrue, refl, sym, ap, subst, ◌∙◌, arith, true≢false}
 use Rattle.std.proofs.lemmas.Bool.{cases_eq, cases_lt, cases_order}
-use Rattle.std.proofs.lemmas.List.{length-map, length-set, take_more}
-use Rattle.std.proofs.lemmas.List.Elements.{Contains-append_left, Contains-get_or, Contains-push, Contains-push_cases}
-use Rattle.hg_discovery.proofs.DrawLemmas.{Contains-take}
+use Rattle.std.proofs.lemmas.List.{length-map, length-set}
 use Rattle.std.proofs.lemmas.Option.{none-some, same_Some, slice_get_within}
 use Rattle.hg_changeset.specs.declared.node.Node.{Node}
 use Rattle.hg_changeset.specs.Contents.{Contents}
-use Rattle.hg_changeset.proofs.ListLemmas.{Contains-none, slice_get_some}
+use Rattle.hg_changeset.proofs.ListLemmas.{slice_get_some}
 use Rattle.hg_changeset.proofs.NodeLemmas.{node_cases}
 use Rattle.hg_graph.specs.declared.graph.ParentPlaces.{ParentPlaces}
 use Rattle.hg_graph.specs.Graph.{nodes, Holds}
@@ -27,13 +25,14 @@ use Rattle.hg_discovery.specs.declared.status.Status.TheVariants.{Undecided, Com
 use Rattle.hg_discovery.specs.declared.status.Spot.{Spot}
 use Rattle.hg_discovery.specs.Under.{IsOneOf, IsParentAt, IsUnder, IsInOrder, itself, below}
 use Rattle.hg_discovery.specs.Search.{Search, Is, IsHead, IsSample, Lists, IsSearch, IsClosed, AreSpots, nodes_of}
-use Rattle.hg_discovery.specs.Spread.{AreCovered}
+use Rattle.hg_discovery.specs.Spread.{AreCovered, IsMarked}
 use Rattle.hg_discovery.specs.Picking.{is_picked}
 use Rattle.hg_discovery.specs.Order.{in_order}
 use Rattle.hg_discovery.specs.Answers.{IsDecided, AreTold, IsRound}
 use Rattle.hg_discovery.specs.Rounds.{AreAnswers, undecided}
 use Rattle.hg_discovery.specs.Start.{IsGround, IsStart}
 use Rattle.hg_discovery.specs.Between.{AreHeadsInCommon}
+use Rattle.hg_discovery.specs.Heads.{IsMarkedOnBoth}
 use Rattle.hg_discovery.specs.Whole.{AreToldApart}
 use Rattle.hg_discovery.proofs.UnderLemmas.{not_both_uc, not_both_um, not_both_cm, three, under_common, above_missing}
 use Rattle.hg_discovery.proofs.ToldLemmas.{told_length, all_closed, spots_after, all_common, all_missing}
@@ -41,7 +40,6 @@ use Rattle.hg_discovery.proofs.CountLemmas.{some_undecided, round_count}
 use Rattle.hg_discovery.proofs.KnownLemmas.{known_none}
 use Rattle.hg_discovery.proofs.RoundLemmas.{node_at, asked_spot}
 use Rattle.hg_discovery.proofs.SampleLemmas.{marks_exist}
-use Rattle.hg_discovery.proofs.StartLemmas.{AreUndecidedTo-start}
 use Rattle.hg_discovery.proofs.LeastLemmas.{least_sample}
 use Rattle.hg_discovery.proofs.BetweenLemmas.{IsAskedSoFar, IsAskedSoFar-start, IsAskedSoFar-round, IsAskedSoFar-done}
 
@@ -450,18 +448,6 @@ module _ (theirs : List Contents) (served : List Bool) (xs : List Spot) (ds last
     ],
   )
 
-  -- the spots are those of what is told
-  pub spots_told : AreSpots last xs
-  spots_told = record {
-    distinct = spots.distinct;
-    apart = spots.apart;
-    within = λ x h. omega (arith, spots.within x h, len);
-    found = λ k h. elim h [
-      | inl u ↦ absurd (apart.none_undecided k u)
-      | inr c ↦ let y = (apart.common k).0 c in (y.0, y.1, y.2)
-    ];
-  }
-
   -- where parents of what is common are common, children of what is missing are missing
   pub closed_told : (ps : List ParentPlaces) → length last ≡ length ps
       → ((j k : ℕ) → IsParentAt ps j k → Is last Common j → Is last Common k) → IsClosed ps last
@@ -574,101 +560,31 @@ module _ (ours theirs : ReplicaState) (pins : List Node) (ps : List ParentPlaces
         ),
       )
 
--- ---- the way through the spots
+-- ---- places
 
--- as far as these spots
-pub record AreToldTo (theirs : List Contents) (served : List Bool) (len : ℕ) (xs : List Spot) (ds : List Status) : Type 0
-  where
-    pub length_is : length ds ≡ len
-    pub apart : AreToldApart theirs served xs ds
+-- where the other side holds what is marked here
+module _ (ours : List Contents) (shared : List Bool) (theirs : List Contents) (served : List Bool) (n : Node) where
+  abbrev IsThere : Option ℕ → Type 0
+  IsThere place = MatchOption place (IsMarkedNode ours shared n → ¬ (Holds theirs n))
+      (λ p. IsMarkedNode ours shared n × IsOnlyAt theirs n p)
 
-module _ (theirs : List Contents) (served : List Bool) where
-  pub AreToldTo-start : (n : ℕ) → AreToldTo theirs served n [] (replicate n Missing)
-  AreToldTo-start n =
-      let first = AreUndecidedTo-start n in
-      record {
-        length_is = first.length_is;
-        apart = record {
-          none_undecided = λ k u. let x = (first.undecided k).0 u in Contains-none x.0 x.1;
-          common = λ k. (λ c. absurd (first.nothing_common k c), λ h. absurd (Contains-none h.0 h.1));
-        };
-      }
+  pub there_within : (place : Option ℕ) → length served ≡ length theirs → IsThere place
+      → IfSome place (λ p. p < length served)
+  there_within None len found = tt
+  there_within (Some p) len found = omega (arith, len, placed_within theirs n p ((found.1 p).1 refl))
 
-  -- one spot more, which nothing before it stands with
-  pub AreToldTo-more : (n i : ℕ) (all : List Spot) (d : Spot) (ds : List Status) (one : Status) → i < length all
-      → (get_or all i d).place < n → (one ≡ Common) ⊎ (one ≡ Missing)
-      → (one ≡ Common) ↔ IsMarkedNode theirs served (get_or all i d).node
-      → ((x y : Spot) → Contains all x → Contains all y → x.place ≡ y.place → x ≡ y)
-      → AreToldTo theirs served n (take i all) ds
-      → AreToldTo theirs served n (take (i + 1) all) (set ds (get_or all i d).place one)
-  AreToldTo-more n i all d ds one lt within said iff apart before =
-      subst (λ ys. AreToldTo theirs served n ys (set ds x.place one)) (sym (take_more all i d lt)) (record {
-        length_is = length-set ds x.place one ∙ before.length_is;
-        apart = record {
-          none_undecided = λ k u. elim (cases_eq k x.place) [
-            | inl e ↦
-                let is : one ≡ Undecided = same_Some one Undecided
-                (sym here ∙ subst (Is (set ds x.place one) Undecided) e u) in
-                elim said [
-                  | inl c ↦ common_said (sym c ∙ is)
-                  | inr m ↦ missing_said (sym m ∙ is)
-                ]
-            | inr ne ↦ before.apart.none_undecided k (sym (get-set_other ds x.place k one ne) ∙ u)
-          ];
-          common = λ k. elim (cases_eq k x.place) [
-            | inl e ↦ (
-              λ c. (
-                x,
-                Contains-push (take i all) x,
-                sym e,
-                iff.0 (same_Some one Common (sym here ∙ subst (Is (set ds x.place one) Common) e c)),
-              ),
-              λ h.
-                  let is : h.0 ≡ x = apart h.0 x (in_all h.0 h.1) (Contains-get_or all i d lt) (h.2 ∙ e) in
-                  let so : one ≡ Common = iff.1
-                  (subst (λ (z : Spot). IsMarkedNode theirs served z.node) is h.3) in
-                  subst (Is (set ds x.place one) Common) (sym e) (here ∙ ap (λ c. Some c) so),
-            )
-            | inr ne ↦ (
-              λ c.
-                  let y = (before.apart.common k).0 (sym (get-set_other ds x.place k one ne) ∙ c) in
-                  (y.0, Contains-append_left (take i all) (x ∷ []) y.0 y.1, y.2, y.3),
-              λ h. get-set_other ds x.place k one ne ∙ elim (Contains-push_cases (take i all) x h.0 h.1) [
-                | inl old ↦ (before.apart.common k).1 (h.0, old, h.2, h.3)
-                | inr e ↦ absurd (ne (sym h.2 ∙ ap (λ (y : Spot). y.place) (sym e)))
-              ],
-            )
-          ];
-        };
-      })
-    where
-      x : Spot
-      x = get_or all i d
-
-      here : Is (set ds x.place one) one x.place
-      here = get-set_same ds x.place one (omega (arith, before.length_is, within))
-
-      in_all : (z : Spot) → Contains (take i all ++ x ∷ []) z → Contains all z
-      in_all z h = elim (Contains-push_cases (take i all) x z h) [
-        | inl old ↦ Contains-take i all z old
-        | inr e ↦ subst (Contains all) e (Contains-get_or all i d lt)
-      ]
-
--- a place that is found says whether the node is marked
-pub found_marked : (cs : List Contents) (marks : List Bool) (n : Node) (place : Option ℕ)
-    → MatchOption place (¬ (Holds cs n)) (IsOnlyAt cs n)
-    → ((p : ℕ) × (place ≡ Some p) × IsMarkedPlace 0 marks p) ↔ IsMarkedNode cs marks n
-found_marked cs marks n None found = (
-  λ h. absurd (none-some h.0 h.1),
-  λ m. absurd (found (Contains-from_place (nodes cs) m.0 n m.1)),
-)
-found_marked cs marks n (Some p) found = (
-  λ h. (p, (found p).1 refl, subst (IsMarkedPlace 0 marks) (sym (same_Some p h.0 h.1)) h.2),
-  λ m. (p, refl, subst (IsMarkedPlace 0 marks) ((found m.0).0 m.1) m.2),
-)
-
--- a place that is found is that of a mark
-pub found_within : (cs : List Contents) (marks : List Bool) (n : Node) (place : Option ℕ) → length marks ≡ length cs
-    → MatchOption place (¬ (Holds cs n)) (IsOnlyAt cs n) → IfSome place (λ p. p < length marks)
-found_within cs marks n None len found = tt
-found_within cs marks n (Some p) len found = omega (arith, len, placed_within cs n p ((found p).1 refl))
+  -- it says whether it is marked on both sides
+  pub there_marked : (place : Option ℕ) → IsThere place
+      → ((p : ℕ) × (place ≡ Some p) × IsMarked served p) ↔ IsMarkedOnBoth ours shared theirs served n
+  there_marked None found = (
+    λ h. absurd (none-some h.0 h.1),
+    λ h. absurd (found h.0 (Contains-from_place (nodes theirs) h.1.0 n h.1.1)),
+  )
+  there_marked (Some p) found = (
+    λ h.
+        let e : h.0 ≡ p - 0 = let same = same_Some p h.0 h.1 in omega (arith, same) in
+        (found.0, (p, (found.1 p).1 refl, (omega arith, subst (IsMarked served) e h.2))),
+    λ h.
+        let e : h.1.0 - 0 ≡ p = let same = (found.1 h.1.0).0 h.1.1 in omega (arith, same) in
+        (p, refl, subst (IsMarked served) e h.1.2.1),
+  )

@@ -12,4 +12,5 @@ pub mod Between
 pub mod Refusals
 pub mod Order
 pub mod Line
+pub mod Heads
 pub mod Whole

@@ -10,15 +10,12 @@ ghost use Rattle.hg_discovery.specs.Between.{AreHeadsInCommon};
 
 use crate::answers::known_by;
 use crate::discovery::Discovery;
-use crate::draw::covered;
 use crate::error::DiscoveryError;
 use crate::heads::heads_of_all;
-use crate::start::ground_of;
-use crate::status::Status;
 use crate::whole::heads_at_once;
 use hg_changeset::Node;
 use hg_replica::Replica;
-use hg_view::{Kept, Pins, served_marks};
+use hg_view::{Kept, Pins, served_marks, shared_marks};
 use std::alloc::Global;
 
 /// The heads of what the asker has in common with the other replica, ascending: those with which rounds end in which it
@@ -67,15 +64,14 @@ fn ask_in_rounds(
         → AreHeadsInCommon asker.now other.now pins heads.items) }
     ensures memory { IfErr result (λ error. error ≡ NoMemory) }
 {
-    let ground = ground_of(alloc, asker)?;
-    let marks = covered(alloc, &ground.parents, &ground.decided, Status::Undecided)?;
-    if let Some(heads) = heads_of_all(alloc, &ground, &marks, other, served)? {
+    let shared = shared_marks(alloc, asker)?;
+    if let Some(heads) = heads_of_all(alloc, asker, &shared, other, served)? {
         return Ok(heads);
     }
-    if let Some(heads) = heads_at_once(alloc, &ground, other, served)? {
+    if let Some(heads) = heads_at_once(alloc, asker, &shared, other, served)? {
         return Ok(heads);
     }
-    let mut discovery = Discovery::upon(alloc, asker, ground, &marks)?;
+    let mut discovery = Discovery::start(alloc, asker)?;
     while !discovery.done() {
         let asked = discovery.sample()?;
         let answers = known_by(alloc, other, served, &asked)?;

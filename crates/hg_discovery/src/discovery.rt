@@ -91,7 +91,7 @@ impl Discovery {
     }
 
     // Begins upon what was found of the replica, where the changesets are marked that have an undecided child.
-    pub(crate) fn upon(
+    fn upon(
         alloc: Global,
         replica: &Replica,
         ground: Ground,

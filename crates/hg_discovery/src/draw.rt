@@ -248,7 +248,7 @@ fn mark(place: Option<usize>, marks: &mut [bool])
 }
 
 // Adds the spots that are decided so and covered or not, up to a limit.
-pub(crate) fn pick(
+fn pick(
     spots: &[Spot],
     decided: &[Status],
     marks: &[bool],

@@ -1,58 +1,47 @@
-//! Where the other side serves all heads of what is undecided, so that one round makes all of it common.
-ghost use Rattle.std.specs.Prelude.{◌≡◌, ◌↔◌, List, length, Contains, IsTrue, IfOk, IfSome};
+//! Heads by marks, and where the other side serves all heads of what isn't secret, so that one round makes all of it
+//! common.
+ghost use Rattle.std.specs.Prelude.{◌≡◌, ◌↔◌, ℕ, ◌<◌, List, length, Contains, IsTrue, IfOk, IfSome};
 ghost use Rattle.hg_changeset.specs.declared.node.Node.{Node};
 ghost use Rattle.hg_graph.specs.Marks.{IsMarkedNode};
 ghost use Rattle.hg_phases.specs.State.{changesets};
-ghost use Rattle.hg_replica.specs.State.{ReplicaState};
 ghost use Rattle.hg_replica.specs.Content.{content_of};
 ghost use Rattle.hg_view.specs.Pins.{IsServedUnder};
+ghost use Rattle.hg_view.specs.Share.{IsShared};
 ghost use Rattle.hg_discovery.specs.Between.{AreHeadsInCommon};
-ghost use Rattle.hg_discovery.specs.declared.status.Status.TheVariants.{Undecided};
-ghost use Rattle.hg_discovery.specs.Search.{AreSpots};
-ghost use Rattle.hg_discovery.specs.Spread.{AreCovered};
-ghost use Rattle.hg_discovery.specs.Start.{IsGround};
+ghost use Rattle.hg_discovery.specs.declared.status.Spot.{Spot};
+ghost use Rattle.hg_discovery.specs.Heads.{IsMarkedHead};
+ghost use Rattle.hg_discovery.specs.Spread.{IsMarked};
 
 use crate::discovery::nodes;
-use crate::draw::{SAMPLE, pick};
+use crate::draw::SAMPLE;
 use crate::order::ascending;
-use crate::start::Ground;
-use crate::status::Status;
+use crate::status::Spot;
 use hg_changeset::Node;
 use hg_graph::Graph;
 use hg_replica::Replica;
 use std::alloc::{AllocError, Global};
 
-// The heads of what is undecided at first, ascending, where there are at most 200 and the other replica serves each.
-// Marks tell which changesets have an undecided child, and others which of them the other replica serves. Then the first
-// round asks about all heads, and makes all else common, whatever it is told of that. So a discovery would end with these
-// heads, and nothing more need be done for it. Otherwise it gives nothing.
+// The heads of the asker's changesets that aren't secret, ascending, where there are at most 200 and the other replica
+// serves each. Marks tell which of the asker's aren't secret, and which the other serves. Then the first round asks
+// about all heads, and makes all else common, whatever it is told of that. So a discovery would end with these heads,
+// and nothing need be copied or put in order for it. Otherwise it gives nothing.
 pub(crate) fn heads_of_all(
     alloc: Global,
-    ground: &Ground,
-    marks: &[bool],
+    asker: &Replica,
+    shared: &[bool],
     other: &Replica,
     served: &[bool],
 ) -> Result<Option<Vec<Node>>, AllocError>
-    requires len { length served.now ≡ length (changesets other.now.history) }
-    requires spots { AreSpots ground.now.decided.items ground.now.spots.items }
-    requires marks { AreCovered ground.now.parents.items ground.now.decided.items Undecided marks.now }
-    ensures { IfOk result (λ found. IfSome found (λ heads. (ours : ReplicaState)
-        → IsGround ours.history ground.now.parents.items ground.now.spots.items ground.now.decided.items
-        → (pins : List Node)
+    requires shared_len { length shared.now ≡ length (changesets asker.now.history) }
+    requires shared { (n : Node) → IsMarkedNode (changesets asker.now.history) shared.now n
+        ↔ IsShared (content_of asker.now) n }
+    requires served_len { length served.now ≡ length (changesets other.now.history) }
+    ensures { IfOk result (λ found. IfSome found (λ heads. (pins : List Node)
         → ((n : Node) → IsMarkedNode (changesets other.now.history) served.now n
         ↔ IsServedUnder (content_of other.now) pins n)
-        → AreHeadsInCommon ours other.now pins heads.items)) }
+        → AreHeadsInCommon asker.now other.now pins heads.items)) }
 {
-    let mut found = Vec::new(alloc);
-    pick(
-        &ground.spots,
-        &ground.decided,
-        marks,
-        Status::Undecided,
-        false,
-        SAMPLE + 1,
-        &mut found,
-    )?;
+    let found = heads_at(alloc, asker.graph(), shared)?;
     if found.len() > SAMPLE {
         return Ok(None);
     }
@@ -62,6 +51,39 @@ pub(crate) fn heads_of_all(
     } else {
         Ok(None)
     }
+}
+
+// The marked changesets of which no child is marked, in the graph's order. It takes no look-up.
+pub(crate) fn heads_at(
+    alloc: Global,
+    graph: &Graph,
+    marks: &[bool],
+) -> Result<Vec<Spot>, AllocError>
+    requires { length marks.now ≡ length graph.now }
+    ensures { IfOk result (λ xs. (x : Spot) → Contains xs.items x ↔ IsMarkedHead graph.now marks.now x) }
+{
+    let mut found = Vec::new(alloc);
+    for place in 0..graph.len() {
+        if marks[place] && !has_marked(marks, graph.children(place)) {
+            if let Some(node) = graph.node_at(place) {
+                found.push(Spot { node, place })?;
+            }
+        }
+    }
+    Ok(found)
+}
+
+// Whether one of the places is marked.
+fn has_marked(marks: &[bool], places: &[usize]) -> bool
+    requires { (k : ℕ) → Contains places.now k → k < length marks.now }
+    ensures { IsTrue result ↔ ((k : ℕ) × Contains places.now k × IsMarked marks.now k) }
+{
+    for place in places {
+        if marks[*place] {
+            return true;
+        }
+    }
+    false
 }
 
 // Whether each of the nodes is held, and marked.

@@ -4,110 +4,102 @@
 //! as long as it serves the parents of what it serves: then no answer that is spread differs from the one that would be
 //! given. So it is enough to look each changeset up. What the other side serves has its ancestors served, so only where
 //! one id stands for two changesets, of which each side holds another one, the rounds may tell something else.
-ghost use Rattle.std.specs.Prelude.{◌≡◌, ◌↔◌, ◌⊎◌, ℕ, ◌<◌, Some, List, length, Contains, IsTrue, IfOk, IfSome};
+ghost use Rattle.std.specs.Prelude.{◌≡◌, ◌↔◌, ℕ, ◌<◌, Some, List, length, Contains, IsTrue, IfOk, IfSome};
 ghost use Rattle.std.specs.Prelude.{MatchOption};
 ghost use Rattle.hg_changeset.specs.declared.node.Node.{Node};
 ghost use Rattle.hg_graph.specs.Graph.{Holds};
-ghost use Rattle.hg_graph.specs.Marks.{IsMarked, IsMarkedNode};
-ghost use Rattle.hg_graph.specs.Places.{IsOnlyAt};
+ghost use Rattle.hg_graph.specs.Marks.{IsMarkedNode};
+ghost use Rattle.hg_graph.specs.Places.{IsAt, IsOnlyAt, IsParentPlace};
 ghost use Rattle.hg_phases.specs.State.{changesets};
-ghost use Rattle.hg_replica.specs.State.{ReplicaState};
 ghost use Rattle.hg_replica.specs.Content.{content_of};
 ghost use Rattle.hg_view.specs.Pins.{IsServedUnder};
+ghost use Rattle.hg_view.specs.Share.{IsShared};
 ghost use Rattle.hg_discovery.specs.Between.{AreHeadsInCommon};
-ghost use Rattle.hg_discovery.specs.declared.status.Status.TheVariants.{Common, Missing};
-ghost use Rattle.hg_discovery.specs.Under.{IsInOrder, IsOneOf, IsParentAt};
-ghost use Rattle.hg_discovery.specs.Search.{AreSpots, Is};
-ghost use Rattle.hg_discovery.specs.Start.{IsGround};
-ghost use Rattle.hg_discovery.specs.Whole.{AreToldApart, IsToldAtOnce};
+ghost use Rattle.hg_discovery.specs.Heads.{IsMarkedOnBoth};
+ghost use Rattle.hg_discovery.specs.Spread.{IsMarked};
+ghost use Rattle.hg_discovery.specs.Under.{IsOneOf};
 
 use crate::discovery::nodes;
-use crate::draw::common_heads;
-use crate::start::Ground;
-use crate::status::{Spot, Status};
+use crate::heads::heads_at;
+use crate::order::ascending;
 use hg_changeset::Node;
 use hg_graph::{Graph, ParentPlaces};
 use hg_replica::Replica;
 use std::alloc::{AllocError, Global};
 
 // The heads of what the other replica serves of the asker's changesets that aren't secret, ascending; nothing where one
-// of these has a parent that it doesn't serve. Marks tell what it serves.
+// of these has a parent that it doesn't serve. Marks tell what isn't secret, and what the other serves.
 pub(crate) fn heads_at_once(
     alloc: Global,
-    ground: &Ground,
+    asker: &Replica,
+    shared: &[bool],
     other: &Replica,
     served: &[bool],
 ) -> Result<Option<Vec<Node>>, AllocError>
-    requires marks { length served.now ≡ length (changesets other.now.history) }
-    requires len { length ground.now.decided.items ≡ length ground.now.parents.items }
-    requires in_order { IsInOrder ground.now.parents.items }
-    requires spots { AreSpots ground.now.decided.items ground.now.spots.items }
-    ensures { IfOk result (λ found. IfSome found (λ heads. (ours : ReplicaState)
-        → IsGround ours.history ground.now.parents.items ground.now.spots.items ground.now.decided.items
-        → (pins : List Node)
+    requires shared_len { length shared.now ≡ length (changesets asker.now.history) }
+    requires shared { (n : Node) → IsMarkedNode (changesets asker.now.history) shared.now n
+        ↔ IsShared (content_of asker.now) n }
+    requires served_len { length served.now ≡ length (changesets other.now.history) }
+    ensures { IfOk result (λ found. IfSome found (λ heads. (pins : List Node)
         → ((n : Node) → IsMarkedNode (changesets other.now.history) served.now n
         ↔ IsServedUnder (content_of other.now) pins n)
-        → AreHeadsInCommon ours other.now pins heads.items)) }
+        → AreHeadsInCommon asker.now other.now pins heads.items)) }
 {
-    let decided = match told_at_once(alloc, ground, other, served)? {
-        Some(decided) => decided,
-        None => return Ok(None),
-    };
-    let heads = common_heads(alloc, &ground.parents, &ground.spots, &decided)?;
+    let graph = asker.graph();
+    let common = common_marks(alloc, graph, shared, other.graph(), served)?;
+    if !are_closed(graph, &common) {
+        return Ok(None);
+    }
+    let heads = ascending(heads_at(alloc, graph, &common)?);
     let heads = nodes(alloc, &heads)?;
     Ok(Some(heads))
 }
 
-// What the rounds would decide, unless something is served whose parent isn't.
-fn told_at_once(
+// A mark for each place: whether what stands there is marked, and held and marked on the other side. Both sides mostly
+// hold what they share in the same order, so each is looked for behind the one before.
+fn common_marks(
     alloc: Global,
-    ground: &Ground,
-    other: &Replica,
-    served: &[bool],
-) -> Result<Option<Vec<Status>>, AllocError>
-    requires marks { length served.now ≡ length (changesets other.now.history) }
-    requires len { length ground.now.decided.items ≡ length ground.now.parents.items }
-    requires spots { AreSpots ground.now.decided.items ground.now.spots.items }
-    ensures { IfOk result (λ found. IfSome found (λ ds. IsToldAtOnce (changesets other.now.history) served.now
-        ground.now.parents.items ground.now.spots.items ground.now.decided.items ds.items)) }
-{
-    let decided = told_apart(
-        alloc,
-        &ground.spots,
-        ground.decided.len(),
-        other.graph(),
-        served,
-    )?;
-    if are_closed(&ground.parents, &decided) {
-        Ok(Some(decided))
-    } else {
-        Ok(None)
-    }
-}
-
-// The spots that are held and marked on the other side are common, and all else is missing. Both sides mostly hold what
-// they share in the same order, so each is looked for behind the one before.
-fn told_apart(
-    alloc: Global,
-    spots: &[Spot],
-    len: usize,
+    graph: &Graph,
+    shared: &[bool],
     other: &Graph,
     served: &[bool],
-) -> Result<Vec<Status>, AllocError>
-    requires marks { length served.now ≡ length other.now }
-    requires within { (x : Spot) → Contains spots.now x → x.place < len }
-    requires places { (x y : Spot) → Contains spots.now x → Contains spots.now y → x.place ≡ y.place → x ≡ y }
-    ensures len { IfOk result (λ ds. length ds.items ≡ len) }
-    ensures apart { IfOk result (λ ds. AreToldApart other.now served.now spots.now ds.items) }
+) -> Result<Vec<bool>, AllocError>
+    requires shared { length shared.now ≡ length graph.now }
+    requires served { length served.now ≡ length other.now }
+    ensures len { IfOk result (λ marks. length marks.items ≡ length graph.now) }
+    ensures exact { IfOk result (λ marks. (n : Node) → IsMarkedNode graph.now marks.items n
+        ↔ IsMarkedOnBoth graph.now shared.now other.now served.now n) }
 {
-    let mut decided = vec![in alloc; Status::Missing; len]?;
+    let mut marks = Vec::with_capacity(alloc, graph.len())?;
     let mut near = 0;
-    for spot in spots {
-        let place = place_near(other, spot.node, near);
-        decided[spot.place] = status_at(place, served);
-        near = behind(place, near);
+    for place in 0..graph.len() {
+        let theirs = place_there(graph, shared, place, other, near);
+        marks.push(is_marked_at(theirs, served))?;
+        near = behind(theirs, near);
     }
-    Ok(decided)
+    Ok(marks)
+}
+
+// Where the other side holds what stands at the place, if that is marked; which may be near.
+fn place_there(
+    graph: &Graph,
+    marks: &[bool],
+    place: usize,
+    other: &Graph,
+    near: usize,
+) -> Option<usize>
+    requires len { length marks.now ≡ length graph.now }
+    requires place { place < length graph.now }
+    ensures { (n : Node) → IsAt graph.now n place → MatchOption result
+        (IsMarkedNode graph.now marks.now n → ¬ (Holds other.now n))
+        (λ p. IsMarkedNode graph.now marks.now n × IsOnlyAt other.now n p) }
+{
+    // It says that this is a graph.
+    let _count = graph.len();
+    match graph.node_at(place) {
+        Some(node) if marks[place] => place_near(other, node, near),
+        _ => None,
+    }
 }
 
 // Where the changeset with this id stands, which may be near.
@@ -130,45 +122,43 @@ fn behind(place: Option<usize>, near: usize) -> usize {
     }
 }
 
-// What is held and marked is common.
-fn status_at(place: Option<usize>, served: &[bool]) -> Status
-    requires { IfSome place (λ p. p < length served.now) }
-    ensures decided { (result ≡ Common) ⊎ (result ≡ Missing) }
-    ensures common { (result ≡ Common) ↔ ((p : ℕ) × (place ≡ Some p) × IsMarked 0 served.now p) }
+// Whether there is a place, and it is marked.
+fn is_marked_at(place: Option<usize>, marks: &[bool]) -> bool
+    requires { IfSome place (λ p. p < length marks.now) }
+    ensures { IsTrue result ↔ ((p : ℕ) × (place ≡ Some p) × IsMarked marks.now p) }
 {
     match place {
-        Some(place) if served[place] => Status::Common,
-        _ => Status::Missing,
+        Some(place) => marks[place],
+        None => false,
     }
 }
 
-// Whether the parents of what is common are common.
-fn are_closed(parents: &[ParentPlaces], decided: &[Status]) -> bool
-    requires { length decided.now ≡ length parents.now }
-    ensures { IsTrue result → (j k : ℕ) → IsParentAt parents.now j k → Is decided.now Common j
-        → Is decided.now Common k }
+// Whether the parents of what is marked are marked.
+fn are_closed(graph: &Graph, marks: &[bool]) -> bool
+    requires { length marks.now ≡ length graph.now }
+    ensures { IsTrue result → (j k : ℕ) → IsParentPlace graph.now j k → IsMarked marks.now j → IsMarked marks.now k }
 {
-    for place in 0..parents.len() {
-        if decided[place] == Status::Common && !are_common(parents[place], decided) {
+    for place in 0..marks.len() {
+        if marks[place] && !are_marked(graph.parent_places(place), marks) {
             return false;
         }
     }
     true
 }
 
-// Whether both parents are common, where they are there.
-fn are_common(parents: ParentPlaces, decided: &[Status]) -> bool
-    ensures { IsTrue result → (k : ℕ) → IsOneOf parents k → Is decided.now Common k }
+// Whether both parents are marked, where they are there.
+fn are_marked(parents: ParentPlaces, marks: &[bool]) -> bool
+    ensures { IsTrue result → (k : ℕ) → IsOneOf parents k → IsMarked marks.now k }
 {
-    is_common(parents.first, decided) && is_common(parents.second, decided)
+    is_marked_or_absent(parents.first, marks) && is_marked_or_absent(parents.second, marks)
 }
 
-// Whether what stands at the place is common, if it is one.
-fn is_common(place: Option<usize>, decided: &[Status]) -> bool
-    ensures { IsTrue result → (k : ℕ) → place ≡ Some k → Is decided.now Common k }
+// Whether the place is marked, if there is one.
+fn is_marked_or_absent(place: Option<usize>, marks: &[bool]) -> bool
+    ensures { IsTrue result → (k : ℕ) → place ≡ Some k → IsMarked marks.now k }
 {
     match place {
-        Some(place) => place < decided.len() && decided[place] == Status::Common,
+        Some(place) => place < marks.len() && marks[place],
         None => true,
     }
 }

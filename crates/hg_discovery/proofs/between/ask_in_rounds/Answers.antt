@@ -7,8 +7,11 @@ use Rattle.hg_discovery.specs.Rounds.{AreAnswers}
 use Rattle.hg_discovery.proofs.BetweenLemmas.{IsAskedSoFar-round, IsAskedSoFar-done}
 use Rattle.hg_discovery.proofs.between.ask_in_rounds.Goals as goal
 
-pub covered-requires-clause-in_order : goal.covered-requires-clause-in_order
-covered-requires-clause-in_order c = rw c.deref.ensures.value c.in_ok-ground.ensures.in_order
+pub heads_of_all-requires-clause-shared : goal.heads_of_all-requires-clause-shared
+heads_of_all-requires-clause-shared c = rw c.deref.ensures.value c.in_ok-shared.ensures.exact
+
+pub heads_at_once-requires-clause-shared : goal.heads_at_once-requires-clause-shared
+heads_at_once-requires-clause-shared c = rw c.deref-2.ensures.value c.in_ok-shared.ensures.exact
 
 pub loop-alloc-preserved : goal.loop-alloc-preserved
 loop-alloc-preserved c =

@@ -4,7 +4,8 @@ use Rattle.hg_discovery.specs.declared.status.Status.TheVariants.{Undecided}
 use Rattle.hg_discovery.specs.declared.status.Spot.{Spot}
 use Rattle.hg_discovery.specs.Under.{IsShapeOf}
 use Rattle.hg_discovery.specs.Search.{Is}
-use Rattle.hg_discovery.proofs.StartLemmas.{in_order, shared_within, closed_start, spots_start}
+use Rattle.hg_discovery.proofs.StartLemmas.{shared_within}
+use Rattle.hg_discovery.proofs.GroundLemmas.{ground_from}
 use Rattle.hg_discovery.proofs.start.ground_of.Goals as goal
 
 pub undecided-requires : goal.undecided-requires
@@ -23,7 +24,6 @@ returns c =
     let ps = c.in_ok-parents.parents.items in
     let xs = c.in_ok-spots.spots.items in
     let ds = c.in_ok-decided.decided.items in
-    let valid = c.graph.ensures.valid in
     let shape : IsShapeOf (changesets s) ps = subst (λ cs. IsShapeOf cs ps) c.graph.ensures.graph
     c.in_ok-parents.ensures in
     let len : length ds ≡ length ps = omega (
@@ -35,14 +35,5 @@ returns c =
     let undecided : (k : ℕ) → Is ds Undecided k ↔ ((x : Spot) × Contains xs x × (x.place ≡ k)) =
     subst (λ ys. (k : ℕ) → Is ds Undecided k ↔ ((x : Spot) × Contains ys x × (x.place ≡ k))) c.deref.ensures.value
     c.in_ok-decided.ensures.undecided in
-    let nothing = c.in_ok-decided.ensures.nothing_common in
-    record {
-      shape = shape;
-      shared = c.in_ok-spots.ensures;
-      undecided = undecided;
-      nothing_common = nothing;
-      len = len;
-      in_order = in_order s valid ps shape xs c.in_ok-spots.ensures;
-      closed = closed_start s valid ps shape xs c.in_ok-spots.ensures ds len undecided nothing;
-      spots = spots_start s valid ps shape xs c.in_ok-spots.ensures ds len undecided nothing;
-    }
+    ground_from s c.graph.ensures.valid ps shape xs c.in_ok-spots.ensures ds len undecided
+    c.in_ok-decided.ensures.nothing_common
