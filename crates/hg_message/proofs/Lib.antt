@@ -15,6 +15,7 @@ pub mod SpellingLemmas
 pub mod ThoseLemmas
 pub mod TouchedLemmas
 pub mod NamedLemmas
+pub mod CoveredLemmas
 pub mod OfferLemmas
 pub mod OfferLawLemmas
 pub mod AdmittedLemmas

@@ -10,11 +10,10 @@ use Rattle.std.proofs.lemmas.Option.{same_Some, slice_get_within}
 use Rattle.std.proofs.lemmas.List.Elements.{Contains-append_left, Contains-append_right, Contains-append_cases}
 use Rattle.std.proofs.lemmas.List.Elements.{Contains-get_or}
 use Rattle.hg_changeset.specs.declared.node.Node.{Node}
-use Rattle.hg_changeset.specs.Node.{node_cmp}
 use Rattle.hg_changeset.specs.Contents.{Contents}
 use Rattle.hg_changeset.specs.Changeset.{node_of}
 use Rattle.hg_changeset.proofs.ListLemmas.{Contains-map, Contains-map_from, Contains-none}
-use Rattle.hg_graph.specs.Graph.{IsAncestorOfOne, IsHeadAmong, nodes}
+use Rattle.hg_graph.specs.Graph.{IsAncestorOfOne, nodes}
 use Rattle.hg_graph.specs.Marks.{IsMarkedNode}
 use Rattle.hg_graph.proofs.GraphLemmas.{Contains-from_place}
 use Rattle.hg_graph.proofs.MarkLemmas.{IsAt-from, mark_at}
@@ -312,29 +311,6 @@ module _ (s : ReplicaState) (valid : IsValid s) (pins : List Node) where
             (no-markers scope nothing),
         refl,
       )
-
--- ---- heads
-
--- heads among what is so at places, Q, which is what P says of ids
-pub heads-are : (s : ReplicaState) → IsValid s → (P Q : Node → Type 0)
-    → ((n : Node) → P n → IsHeld (content_of s).0 n) → (heads : List Node) → ((n : Node) → Q n ↔ P n)
-    → ((n : Node) → Contains heads n ↔ IsHeadAmong (changesets s.history) Q n) → IsStrictlySortedBy node_cmp heads
-    → AreHeads (content_of s) P heads
-heads-are s valid P Q held heads are exact ascending = record {
-  exact = λ n. (
-    λ h. let x = (exact n).0 h in (
-      (are n).0 x.0,
-      λ d p leads. x.2 d ((are d).1 p) (reach_from_leads s.history valid.graph n d
-          (node_in_content s.history valid.graph d (held d p)) leads),
-    ),
-    λ h. (exact n).1 (
-      (are n).1 h.0,
-      node_in_content s.history valid.graph n (held n h.0),
-      λ d at reach. h.1 d ((are d).0 at) (leads_from_reach s.history valid.graph n d reach),
-    ),
-  );
-  ascending = ascending;
-}
 
 -- ---- what is common
 

@@ -16,6 +16,7 @@ pub mod Spelling
 pub mod Those
 pub mod Offer
 pub mod Outgoing
+pub mod Covered
 pub mod OfferRefusals
 pub mod Taken
 pub mod Shared

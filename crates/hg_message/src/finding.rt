@@ -1,15 +1,13 @@
-//! How an offer is found: which changesets and markers are offered, as places, and which bounds. Marks tell what its
-//! scope names.
-ghost use Rattle.std.specs.Prelude.{◌≡◌, ◌↔◌, ◌++◌, List, Contains, IfOk, MatchOption, OnOk, length};
+//! How an offer is found: the first common node that isn't held, and which changesets and markers are offered, as
+//! places. Marks tell what its scope names.
+ghost use Rattle.std.specs.Prelude.{◌≡◌, List, IfOk, MatchOption, length};
 ghost use Rattle.hg_changeset.specs.declared.node.Node.{Node};
-ghost use Rattle.hg_graph.specs.Marks.{IsMarkedNode};
 ghost use Rattle.hg_obsstore.specs.Markers.{ArePlaces};
 ghost use Rattle.hg_phases.specs.State.{changesets};
 ghost use Rattle.hg_replica.specs.State.{IsValid};
 ghost use Rattle.hg_replica.specs.Content.{content_of};
-ghost use Rattle.hg_replica.specs.Evolution.{HasPhase, IsMarker};
-ghost use Rattle.hg_message.specs.Offer.{AreHeads, AreHeld, AreOfferedBounds, IsFirstUnknown, IsNamed, IsNamedMarker};
-ghost use Rattle.hg_message.specs.Offer.{IsOneWith, IsOutgoing, bounds_in};
+ghost use Rattle.hg_replica.specs.Evolution.{IsMarker};
+ghost use Rattle.hg_message.specs.Offer.{AreHeld, IsFirstUnknown, IsNamed, IsNamedMarker, IsOutgoing};
 ghost use Rattle.hg_message.specs.Outgoing.{ArePlacesOf, AreMarksOf};
 ghost use Rattle.hg_message.specs.declared.scope.Scope.{Scope};
 ghost use Rattle.hg_message.specs.declared.scope.Scope.TheVariants.{Served as served_scope};
@@ -17,8 +15,6 @@ ghost use Rattle.hg_message.specs.declared.scope.Scope.TheVariants.{Served as se
 use crate::scope::Scope;
 use crate::touched::{name_little, touched};
 use hg_changeset::Node;
-use hg_instab::has_phase_at;
-use hg_phases::Phase;
 use hg_relevant::{relevant, relevant_near};
 use hg_replica::{Hint, Replica};
 use std::alloc::{AllocError, Global};
@@ -138,74 +134,4 @@ fn marker_places(alloc: Global, replica: &Replica) -> Result<Vec<usize>, AllocEr
         found.push(place)?;
     }
     Ok(found)
-}
-
-/// Public bounds for the heads of what is marked and public, and then draft ones.
-pub(crate) fn head_bounds(
-    alloc: Global,
-    replica: &Replica,
-    named: &[bool],
-) -> Result<Vec<(Node, Phase)>, AllocError>
-    requires { length named.now ≡ length (changesets replica.now.history) }
-    ensures { IfOk result (λ bounds. (pins : List Node) (scope : Scope)
-        → AreMarksOf replica.now (IsNamed (content_of replica.now) pins scope) named.now
-        → AreOfferedBounds (content_of replica.now) (IsNamed (content_of replica.now) pins scope) bounds.items) }
-{
-    let public = heads_in(alloc, replica, named, Phase::Public)?;
-    let draft = heads_in(alloc, replica, named, Phase::Draft)?;
-    let mut bounds = Vec::with_capacity(alloc, public.len().saturating_add(draft.len()))?;
-    add_bounds(&mut bounds, &public, Phase::Public)?;
-    add_bounds(&mut bounds, &draft, Phase::Draft)?;
-    Ok(bounds)
-}
-
-// The heads of what is marked with this phase.
-fn heads_in(
-    alloc: Global,
-    replica: &Replica,
-    named: &[bool],
-    phase: Phase,
-) -> Result<Vec<Node>, AllocError>
-    requires { length named.now ≡ length (changesets replica.now.history) }
-    ensures { IfOk result (λ heads. (pins : List Node) (scope : Scope)
-        → AreMarksOf replica.now (IsNamed (content_of replica.now) pins scope) named.now
-        → AreHeads (content_of replica.now)
-        (IsOneWith (content_of replica.now) (IsNamed (content_of replica.now) pins scope) phase) heads.items) }
-{
-    let marks = marks_in(alloc, replica, named, phase)?;
-    replica.graph().marked_heads(&marks)
-}
-
-// The marks of those of the marked changesets that have this phase.
-fn marks_in(
-    alloc: Global,
-    replica: &Replica,
-    marks: &[bool],
-    phase: Phase,
-) -> Result<Vec<bool>, AllocError>
-    requires { length marks.now ≡ length (changesets replica.now.history) }
-    ensures len { IfOk result (λ found. length found.items ≡ length (changesets replica.now.history)) }
-    ensures exact { IfOk result (λ found. (n : Node) → IsMarkedNode (changesets replica.now.history) found.items n
-        ↔ (IsMarkedNode (changesets replica.now.history) marks.now n × HasPhase (content_of replica.now) n phase)) }
-{
-    let graph = replica.graph();
-    let mut found = Vec::with_capacity(alloc, graph.len())?;
-    for place in 0..marks.len() {
-        found.push(marks[place] && has_phase_at(replica, place, phase))?;
-    }
-    Ok(found)
-}
-
-// Appends a bound in this phase on each of the nodes.
-fn add_bounds(
-    bounds: &mut Vec<(Node, Phase)>,
-    nodes: &[Node],
-    phase: Phase,
-) -> Result<(), AllocError>
-    ensures { OnOk result (bounds.new.items ≡ bounds.old.items ++ bounds_in phase nodes.now) }
-{
-    for node in nodes {
-        bounds.push((*node, phase))?;
-    }
-    Ok(())
 }

@@ -34,6 +34,7 @@ mod bound;
 mod copies;
 mod error;
 mod finding;
+mod heads;
 mod laws;
 mod layout;
 mod message;

@@ -14,7 +14,8 @@ ghost use Rattle.hg_message.specs.Outgoing.{AreMarksOf, CopyAnswer, FindAnswer, 
 ghost use Rattle.hg_message.specs.Spelling.{IsMessageSpelling, message_spelling};
 
 use crate::copies::{copy_changesets_at, copy_markers_at};
-use crate::finding::{first_unknown, head_bounds, named_marker_places, outgoing_places};
+use crate::finding::{first_unknown, named_marker_places, outgoing_places};
+use crate::heads::head_bounds;
 use crate::message::{COUNT_LIMIT, Message};
 use crate::refusal::OfferRefusal;
 use crate::scope::Scope;
