@@ -98,7 +98,7 @@ fn refused_growth_keeps_two_successors(rt: HostRuntime) {
     assert!(rt; again.successors() == [NEW, Node([0x33; 20])].as_slice());
 }
 
-// However it came to its one successor.
+// However it came to its one successor; and its bytes are skipped.
 #[test]
 fn one_successor_made_or_read(rt: HostRuntime) {
     let alloc = rt.alloc();
@@ -108,12 +108,7 @@ fn one_successor_made_or_read(rt: HostRuntime) {
     assert!(rt; written(&rt, &marker).as_slice() == bytes.as_slice());
     assert!(rt; read(&rt, alloc, &bytes).0 == marker);
     assert!(rt; copied(&rt, &marker).successors() == [NEW].as_slice());
-}
-
-// Whether these bytes are a marker of equal fields.
-fn is_spelling(rt: &impl Abort, alloc: Global, marker: &Marker, bytes: &[u8]) -> bool {
-    let (read, used) = read(rt, alloc, bytes);
-    used == bytes.len() && read == *marker
+    assert!(rt; skip_marker(&bytes).expect(&rt, "a marker").is_empty());
 }
 
 #[test]
@@ -129,7 +124,8 @@ fn reads_further_spellings(rt: HostRuntime) {
         (b"user:bob:", false),
     ] {
         let bytes = bytes_with(alloc, NEW, text).expect(&rt, "memory");
-        assert!(rt; is_spelling(&rt, alloc, &marker, &bytes) == is_same);
+        let (other, used) = read(&rt, alloc, &bytes);
+        assert!(rt; used == bytes.len() && (other == marker) == is_same);
     }
 }
 
@@ -158,76 +154,29 @@ fn refuses_bytes(rt: HostRuntime) {
     }
 }
 
+// A marker of the null id without successors, with NULs alone as metadata; and a byte more than the limit takes.
 #[test]
-fn skips_a_marker(rt: HostRuntime) {
-    let mut bytes = bytes_with(rt.alloc(), NEW, b"user:bob").expect(&rt, "memory");
-    bytes.push(7).expect(&rt, "memory");
-    assert_eq!(rt; skip_marker(&bytes).expect(&rt, "memory"), [7].as_slice());
-}
-
-// A marker of the null id without successors, with NULs alone as metadata, of this length; and a byte more than the
-// limit takes.
-fn nuls(rt: &impl Abort, alloc: Global, len: &[u8; 4]) -> Vec<u8> {
-    let mut bytes = vec![in alloc; 0u8; 26 + 1_048_577].expect(rt, "memory");
-    bytes[1..5].copy_from_slice(len);
-    bytes
-}
-
-#[test]
-fn refuses_metadata_beyond_the_limit(rt: HostRuntime) {
-    let bytes = nuls(&rt, rt.alloc(), &[0, 0x10, 0, 1]);
-    let fault = fault_of(decode(rt.alloc(), &bytes));
-    assert_eq!(rt; fault, Some(MarkerFault::BadMetadata));
-}
-
-#[test]
-fn reads_metadata_of_the_limit(rt: HostRuntime) {
-    let bytes = nuls(&rt, rt.alloc(), &[0, 0x10, 0, 0]);
-    let (marker, used) = decode(rt.alloc(), &bytes).expect(&rt, "memory");
-    assert_eq!(rt; used, 26 + 1_048_576);
-    assert!(rt; marker.predecessor() == Node::NULL);
+fn metadata_is_read_up_to_the_limit(rt: HostRuntime) {
+    let alloc = rt.alloc();
+    let mut bytes = vec![in alloc; 0u8; 26 + 1_048_577].expect(&rt, "memory");
+    bytes[1..5].copy_from_slice(&[0, 0x10, 0, 1]);
+    assert_eq!(rt;
+        fault_of(decode(alloc, &bytes)),
+        Some(MarkerFault::BadMetadata)
+    );
+    bytes[4] = 0;
+    let (marker, used) = decode(alloc, &bytes).expect(&rt, "a marker");
+    assert!(rt; used == 26 + 1_048_576 && marker.predecessor() == Node::NULL);
     let written = encode(&marker).expect(&rt, "memory");
     assert!(rt; written.as_slice() == [0u8; 26].as_slice());
 }
 
-// A prune of a changeset without parents.
-fn prune_of(alloc: Global, pruned: Node) -> Option<Marker> {
-    let texts: [(&[u8], &[u8]); 4] = [
-        (b"user", b"fleet"),
-        (b"p1", b"0000000000000000000000000000000000000000"),
-        (b"operation", b"prune"),
-        (b"date", b"0 0"),
-    ];
-    let metadata = Metadata::from_entries(alloc, &texts).ok()?;
-    Marker::new(pruned, Vec::new(alloc), 0, metadata).ok()
-}
-
-#[test]
-fn writes_a_prune(rt: HostRuntime) {
-    let alloc = rt.alloc();
-    let pruned = Node::from_hex(b"b80de5d138758541c5f05265ad144ab9fa86d1db").expect(&rt, "memory");
-    let marker = prune_of(alloc, pruned).expect(&rt, "memory");
-    assert_eq!(rt; marker.parents(), Parents::One(Node::NULL));
-    let mut want = Vec::from_slice(alloc, &[0, 0, 0, 0, 0x4f, 0]).expect(&rt, "memory");
-    want.extend_from_slice(&pruned.0).expect(&rt, "memory");
-    want.extend_from_slice(
-        b"date:0 0\0operation:prune\0p1:0000000000000000000000000000000000000000\0user:fleet",
-    ).expect(&rt, "memory");
-    assert_eq!(rt; want.len(), 105);
-    let written = encode(&marker).expect(&rt, "memory");
-    assert!(rt; written.as_slice() == want.as_slice());
-}
-
-// A prune of OLD with these flags.
-fn flagged(alloc: Global, flags: u8) -> Option<Marker> {
-    Marker::new(OLD, Vec::new(alloc), flags, Metadata::new(alloc)).ok()
-}
-
 #[test]
 fn flags_tell_markers_apart(rt: HostRuntime) {
-    let plain = flagged(rt.alloc(), 0).expect(&rt, "a marker");
-    let fix = flagged(rt.alloc(), 1).expect(&rt, "a marker");
-    assert!(rt; plain != fix);
+    let alloc = rt.alloc();
+    let plain = Marker::new(OLD, Vec::new(alloc), 0, Metadata::new(alloc));
+    let fix = Marker::new(OLD, Vec::new(alloc), 1, Metadata::new(alloc));
+    assert!(rt; plain.expect(&rt, "a marker") != fix.expect(&rt, "a marker"));
 }
 
 // Whether the entries of metadata are these, in this order.
@@ -240,20 +189,6 @@ fn lists(metadata: &Metadata, wanted: &[(&[u8], &[u8])]) -> bool {
         }
     }
     left.is_empty()
-}
-
-#[test]
-fn lists_entries_by_key(rt: HostRuntime) {
-    let texts: [(&[u8], &[u8]); 3] = [(b"user", b"bob"), (b"date", b"0 0"), (b"note", b"a:b")];
-    let metadata = Metadata::from_entries(rt.alloc(), &texts).expect(&rt, "memory");
-    assert!(rt;
-        lists(
-            &metadata,
-            &[(b"date", b"0 0"), (b"note", b"a:b"), (b"user", b"bob")],
-        )
-    );
-    assert!(rt; metadata.get(b"note") == Some(b"a:b".as_slice()));
-    assert!(rt; metadata.get(b"not").is_none());
 }
 
 // A key with a colon and a value with a NUL, which no marker can have, are kept all the same, until they are set anew.
@@ -269,15 +204,9 @@ fn keeps_what_no_marker_can_have(rt: HostRuntime) {
     assert!(rt; metadata == clean);
 }
 
-// The parents that a marker with this metadata records.
-fn recorded(alloc: Global, text: &[u8]) -> Option<Parents> {
-    let bytes = bytes_with(alloc, NEW, text).ok()?;
-    let (marker, _) = decode(alloc, &bytes).ok()?;
-    Some(marker.parents())
-}
-
 #[test]
 fn records_parents(rt: HostRuntime) {
+    let alloc = rt.alloc();
     let other = Node::from_hex(OTHER).expect(&rt, "memory");
     for (text, parents) in [
         (
@@ -313,7 +242,9 @@ fn records_parents(rt: HostRuntime) {
             Parents::Unrecorded,
         ),
     ] {
-        assert_eq!(rt; recorded(rt.alloc(), text), Some(parents));
+        let bytes = bytes_with(alloc, NEW, text).expect(&rt, "memory");
+        let (marker, _) = decode(alloc, &bytes).expect(&rt, "a marker");
+        assert_eq!(rt; marker.parents(), parents);
     }
 }
 
@@ -401,13 +332,9 @@ fn numbers_and_names_of_faults(rt: HostRuntime) {
         assert_eq!(rt; error.fault(), Some(fault));
         assert_eq!(rt; text_of(&rt, rt.alloc(), &error).as_str(), name);
     }
-}
-
-#[test]
-fn want_of_memory_is_no_fault(rt: HostRuntime) {
-    let error: ReadError<MarkerFault> = AllocError.into();
-    assert_eq!(rt; error.fault(), None);
-    assert_eq!(rt; text_of(&rt, rt.alloc(), &error).as_str(), "NoMemory");
+    let memory: ReadError<MarkerFault> = AllocError.into();
+    assert_eq!(rt; memory.fault(), None);
+    assert_eq!(rt; text_of(&rt, rt.alloc(), &memory).as_str(), "NoMemory");
 }
 
 #[test]

@@ -1,6 +1,6 @@
 //! Labels, each public call once, and each growth refused.
 use hg_changeset::Node;
-use hg_names::{Labels, are_distinct};
+use hg_names::Labels;
 
 #[test]
 fn labels_of_any_length_stand_for_what_they_were_bound_to_last(rt: HostRuntime) {
@@ -77,42 +77,6 @@ fn labels_that_share_their_slots_are_found(rt: HostRuntime) {
         assert_eq!(rt; labels.get(&SHARED[number]), Some(Node([node; 20])));
     }
     assert_eq!(rt; labels.get(b"ynano"), None);
-}
-
-#[test]
-fn many_labels_are_found_behind_those_that_share_slots(rt: HostRuntime) {
-    let mut labels = Labels::new(rt.alloc());
-    for label in &SHARED {
-        labels.bind(label, Node([255; 20])).expect(&rt, "memory");
-    }
-    for number in 0..500 {
-        let text = text_of(number);
-        let node = (number % 100) as u8;
-        assert_eq!(rt; labels.get(&text[..4]), None);
-        labels
-            .bind(&text[..4], Node([node; 20]))
-            .expect(&rt, "memory");
-        assert_eq!(rt; labels.get(&text), None);
-        labels
-            .bind(&text, Node([node + 100; 20]))
-            .expect(&rt, "memory");
-    }
-    for number in 0..500 {
-        let text = text_of(number);
-        let node = (number % 100) as u8;
-        assert_eq!(rt; labels.get(&text[..4]), Some(Node([node; 20])));
-        assert_eq!(rt; labels.get(&text), Some(Node([node + 100; 20])));
-    }
-    for label in &SHARED {
-        assert_eq!(rt; labels.get(label), Some(Node([255; 20])));
-    }
-}
-
-#[test]
-fn names_that_come_twice(rt: HostRuntime) {
-    let alloc = rt.alloc();
-    assert!(rt; are_distinct(alloc, &[b"a", b"b", b"ab"]) == Ok(true));
-    assert!(rt; are_distinct(alloc, &[b"a", b"b", b"a"]) == Ok(false));
 }
 
 #[test]

@@ -4,29 +4,10 @@ use hg_changeset::{Changeset, Node};
 use hg_phaseroots::{RootsError, read_roots, roots_text};
 use hg_phases::{Graph, Phase, PhaseRoots, Roots};
 use std::alloc::{AllocError, Global};
-use std::process::Abort;
-
-// The id of the root changeset without text.
-const DIGITS: &[u8] = b"b80de5d138758541c5f05265ad144ab9fa86d1db";
 
 const ONES: Node = Node([0x11; 20]);
 
 const TWOS: Node = Node([0x22; 20]);
-
-fn listed(rt: &impl Abort, alloc: Global, roots: &[(Phase, Node)]) -> Roots {
-    Roots::new(Vec::from_slice(alloc, roots).expect(rt, "memory"))
-}
-
-#[test]
-fn one_line(rt: HostRuntime) {
-    let alloc = rt.alloc();
-    let node = Node::from_hex(DIGITS).expect(&rt, "an id");
-    let roots = listed(&rt, alloc, &[(Phase::Draft, node)]);
-    let text = roots_text(&roots).expect(&rt, "a text");
-    assert!(rt; text.as_slice() == b"1 b80de5d138758541c5f05265ad144ab9fa86d1db\n".as_slice());
-    assert!(rt; text.len() == 43);
-    assert!(rt; read_roots(alloc, &text).expect(&rt, "roots") == roots);
-}
 
 #[test]
 fn sorted_and_once(rt: HostRuntime) {
@@ -38,12 +19,13 @@ fn sorted_and_once(rt: HostRuntime) {
         (Phase::Draft, ONES),
         (Phase::Draft, TWOS),
     ];
-    let text = roots_text(&listed(&rt, alloc, &roots)).expect(&rt, "a text");
+    let roots = Roots::new(Vec::from_slice(alloc, &roots).expect(&rt, "memory"));
+    let text = roots_text(&roots).expect(&rt, "a text");
     let expected =
         b"1 1111111111111111111111111111111111111111\n1 2222222222222222222222222222222222222222\n\
         2 1111111111111111111111111111111111111111\n";
     assert!(rt; text.as_slice() == expected.as_slice());
-    let none = roots_text(&listed(&rt, alloc, &[])).expect(&rt, "a text");
+    let none = roots_text(&Roots::new(Vec::new(alloc))).expect(&rt, "a text");
     assert!(rt; none.is_empty());
 }
 

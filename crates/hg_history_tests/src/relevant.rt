@@ -61,16 +61,6 @@ fn tells_the_line_that_led_to_a_node_and_what_was_pruned_from_it(rt: HostRuntime
     }
 }
 
-#[test]
-fn tells_what_is_relevant_to_any_of_several_nodes(rt: HostRuntime) {
-    let alloc = rt.alloc();
-    let store = rewrites(alloc).expect(&rt, "memory");
-    let told = relevant(alloc, &store, &[node(7), node(2), node(7)]).expect(&rt, "memory");
-    assert!(rt; told[..] == [0usize, 4, 5]);
-    let told = relevant(alloc, &store, &[]).expect(&rt, "memory");
-    assert!(rt; told.is_empty());
-}
-
 // A received marker may have the null id as its predecessor, and the prune of a root records the null id as a parent.
 #[test]
 fn takes_the_null_id_for_an_id(rt: HostRuntime) {
@@ -83,18 +73,13 @@ fn takes_the_null_id_for_an_id(rt: HostRuntime) {
 }
 
 // Each of the nodes 1 to 2,999 was pruned from the one before.
-fn line_of_prunes(alloc: Global) -> Option<Store> {
-    let mut store = Store::new(alloc);
-    for number in 1..3000u32 {
-        add(alloc, &mut store, node(number), &[], Some(node(number - 1)))?;
-    }
-    Some(store)
-}
-
 #[test]
 fn follows_a_long_line_of_prunes(rt: HostRuntime) {
     let alloc = rt.alloc();
-    let store = line_of_prunes(alloc).expect(&rt, "memory");
+    let mut store = Store::new(alloc);
+    for number in 1..3000u32 {
+        add(alloc, &mut store, node(number), &[], Some(node(number - 1))).expect(&rt, "memory");
+    }
     let told = relevant(alloc, &store, &[node(0)]).expect(&rt, "memory");
     assert!(rt; told.len() == 2999);
     assert!(rt; told.first() == Some(&0) && told.last() == Some(&2998));

@@ -4,12 +4,11 @@ use hg_changeset::Node;
 use hg_join::{JoinState, NoMemory};
 use hg_marker::{Marker, MarkerFault, Metadata, ReadError};
 use hg_obsstore::{
-    Added, Hint, Store, StoreFault, check_markers, markers_bytes, markers_len, markers_len_at,
-    read_markers, read_store, store_bytes, write_markers, write_markers_at,
+    Added, Store, StoreFault, check_markers, markers_bytes, markers_len_at, read_markers,
+    read_store, store_bytes,
 };
 use std::alloc::{AllocError, Global};
 use std::process::Abort;
-use std::test::Fail;
 
 // A marker without metadata.
 fn marker(alloc: Global, predecessor: Node, successors: &[Node]) -> Option<Marker> {
@@ -53,126 +52,19 @@ fn rewritten(rt: &impl Abort, alloc: Global, bytes: &[u8]) -> Vec<u8> {
     store_bytes(&store).expect(rt, "memory")
 }
 
-// The same with repeats.
-fn relisted(rt: &impl Abort, alloc: Global, bytes: &[u8]) -> Vec<u8> {
-    let markers = read_markers(alloc, bytes).expect(rt, "markers");
-    markers_bytes(alloc, &markers).expect(rt, "memory")
-}
-
 #[test]
 fn reads_and_writes(rt: HostRuntime) {
     let alloc = rt.alloc();
     let once = bytes_of(alloc, &[b"user:bob"]).expect(&rt, "memory");
     let twice = bytes_of(alloc, &[b"user:bob", b"user:bob"]).expect(&rt, "memory");
     assert!(rt; twice.len() == 109);
+    assert!(rt; check_markers(&twice) == Ok(()));
+    assert!(rt; check_markers(&[1]) == Err(StoreFault::BadVersion(1)));
     assert!(rt; rewritten(&rt, alloc, &twice) == once);
-    assert!(rt; relisted(&rt, alloc, &twice) == twice);
+    let listed = read_markers(alloc, &twice).expect(&rt, "markers");
+    assert!(rt; markers_bytes(alloc, &listed).expect(&rt, "memory") == twice);
     assert!(rt; rewritten(&rt, alloc, &[])[..] == [0u8]);
     assert!(rt; rewritten(&rt, alloc, &[0])[..] == [0u8]);
-}
-
-// Two equal markers take 1 + 2 * 54 bytes, behind whatever stands there.
-#[test]
-fn appends_markers_and_tells_their_length(rt: HostRuntime) {
-    let alloc = rt.alloc();
-    let bytes = bytes_of(alloc, &[b"user:bob", b"user:bob"]).expect(&rt, "memory");
-    assert!(rt; check_markers(&bytes) == Ok(()));
-    let markers = read_markers(alloc, &bytes).expect(&rt, "markers");
-    assert!(rt; markers_len(&markers) == Some(109));
-    let mut out = Vec::from_slice(alloc, &[7]).expect(&rt, "memory");
-    write_markers(&mut out, &markers).expect(&rt, "memory");
-    assert!(rt; out.len() == 110 && out.first() == Some(&7) && out.ends_with(&bytes));
-}
-
-// Of two markers the second alone, behind whatever stands there: a version byte and 26 + 20 bytes.
-#[test]
-fn appends_the_markers_at_places(rt: HostRuntime) {
-    let alloc = rt.alloc();
-    let mut store = Store::new(alloc);
-    add(&rt, &mut store, marker(alloc, OLD, &[NEW]));
-    add(&rt, &mut store, marker(alloc, NEW, &[OLD]));
-    let mut out = Vec::from_slice(alloc, &[7]).expect(&rt, "memory");
-    write_markers_at(&mut out, &store, &[1]).expect(&rt, "memory");
-    let mut bytes = Vec::from_slice(alloc, &[7, 0, 1, 0, 0, 0, 0, 0]).expect(&rt, "memory");
-    bytes.extend_from_slice(&NEW.0).expect(&rt, "memory");
-    bytes.extend_from_slice(&OLD.0).expect(&rt, "memory");
-    assert!(rt; out == bytes);
-}
-
-fn fault_of(alloc: Global, bytes: &[u8]) -> Option<StoreFault> {
-    match read_store(alloc, bytes) {
-        Err(ReadError::Fault(fault)) => Some(fault),
-        _ => None,
-    }
-}
-
-#[test]
-fn refuses_bytes(rt: HostRuntime) {
-    let alloc = rt.alloc();
-    let bytes = bytes_of(alloc, &[b"user:bob", b"user=bob"]).expect(&rt, "memory");
-    for len in 2..55 {
-        let fault = fault_of(alloc, &bytes[..len.min(bytes.len())]);
-        assert!(rt;
-            fault == Some(StoreFault::Bad(1, MarkerFault::Truncated)),
-            "at {len}"
-        );
-    }
-    assert!(rt; fault_of(alloc, &[1]) == Some(StoreFault::BadVersion(1)));
-    assert!(rt; check_markers(&[1]) == Err(StoreFault::BadVersion(1)));
-}
-
-// The second marker stands at place 55, its successor from place 81 on, and its metadata has no colon.
-#[test]
-fn refuses_the_second_marker(rt: HostRuntime) {
-    let alloc = rt.alloc();
-    let mut bytes = bytes_of(alloc, &[b"user:bob", b"user=bob"]).expect(&rt, "memory");
-    let bad = StoreFault::Bad(55, MarkerFault::BadMetadata);
-    assert!(rt; fault_of(alloc, &bytes) == Some(bad));
-    assert!(rt; bytes.len() == 109);
-    bytes[81..101].copy_from_slice(&Node::NULL.0);
-    let null = StoreFault::Bad(55, MarkerFault::NullSuccessor);
-    assert!(rt; fault_of(alloc, &bytes) == Some(null));
-    let truncated = StoreFault::Bad(55, MarkerFault::Truncated);
-    assert!(rt; fault_of(alloc, &bytes[..bytes.len().min(108)]) == Some(truncated));
-}
-
-#[test]
-fn numbers_and_texts(rt: HostRuntime) -> Result<(), Fail> {
-    let alloc = rt.alloc();
-    for (fault, number, text) in [
-        (StoreFault::BadVersion(1), 1, "BadVersion 1"),
-        (
-            StoreFault::Bad(55, MarkerFault::BadMetadata),
-            2,
-            "Bad at 55: BadMetadata",
-        ),
-    ] {
-        assert_eq!(rt; fault.number(), number);
-        assert_eq!(rt; format!(in alloc; "{fault}")?.as_str(), text);
-    }
-    Ok(())
-}
-
-#[test]
-fn holds_a_marker_once(rt: HostRuntime) {
-    let alloc = rt.alloc();
-    let mut store = Store::new(alloc);
-    assert!(rt; add(&rt, &mut store, marker(alloc, OLD, &[NEW])) == Added::New);
-    assert!(rt; add(&rt, &mut store, marker(alloc, OLD, &[NEW])) == Added::Known);
-    assert!(rt; store.with_predecessor(OLD) == [0usize].as_slice());
-    assert!(rt; store.with_successor(NEW) == [0usize].as_slice());
-    assert!(rt; store.with_child(OLD).is_empty());
-    add(&rt, &mut store, marker(alloc, NEW, &[OLD, OLD]));
-    assert!(rt; store.with_successor(OLD) == [1usize].as_slice());
-}
-
-#[test]
-fn lists_a_prune_at_each_of_its_parents(rt: HostRuntime) {
-    let alloc = rt.alloc();
-    let mut store = Store::new(alloc);
-    add(&rt, &mut store, prune_between(alloc, b'3'));
-    assert!(rt; store.with_child(NEW) == [0usize].as_slice());
-    assert!(rt; store.with_child(Node([0x33; 20])) == [0usize].as_slice());
 }
 
 #[test]
@@ -226,30 +118,6 @@ fn prunes(alloc: Global) -> Option<Vec<Marker>> {
     Some(part)
 }
 
-#[test]
-fn tells_the_places_of_what_is_new(rt: HostRuntime) {
-    let alloc = rt.alloc();
-    let part = prunes(alloc).expect(&rt, "memory");
-    let mut store = Store::new(alloc);
-    add(&rt, &mut store, prune(alloc));
-    let places = store.absorb(&part).expect(&rt, "memory");
-    assert!(rt; places[..] == [1usize, 2]);
-    assert!(rt; store.markers().get(1) == part.get(0));
-    let places = store.absorb(&part).expect(&rt, "memory");
-    assert!(rt; places.is_empty() && store.len() == 3);
-}
-
-#[test]
-fn moves_in_what_is_new(rt: HostRuntime) {
-    let alloc = rt.alloc();
-    let part = prunes(alloc).expect(&rt, "memory");
-    let mut store = Store::new(alloc);
-    add(&rt, &mut store, marker(alloc, NEW, &[]));
-    let places = store.absorb_owned(part).expect(&rt, "memory");
-    assert!(rt; places[..] == [1usize]);
-    assert!(rt; store.len() == 2 && store.with_predecessor(OLD) == [1usize].as_slice());
-}
-
 // A copy of the state that has absorbed the part and joined the other, where it is above the other.
 fn grown<S: JoinState>(one: &S, part: &S::Part, other: &S) -> Option<S> {
     let mut copy = one.copy().ok()?;
@@ -275,19 +143,22 @@ fn joins(rt: HostRuntime) {
 }
 
 #[test]
-fn tells_each_mention_of_a_node(rt: HostRuntime) {
+fn holds_a_marker_once_and_tells_each_mention_of_a_node(rt: HostRuntime) {
     let alloc = rt.alloc();
     let mut store = Store::new(alloc);
-    add(&rt, &mut store, marker(alloc, OLD, &[NEW]));
-    add(&rt, &mut store, marker(alloc, NEW, &[]));
-    add(&rt, &mut store, prune(alloc));
+    assert!(rt; add(&rt, &mut store, marker(alloc, OLD, &[NEW])) == Added::New);
+    assert!(rt; add(&rt, &mut store, marker(alloc, OLD, &[NEW])) == Added::Known);
+    add(&rt, &mut store, marker(alloc, NEW, &[OLD, OLD]));
+    add(&rt, &mut store, prune_between(alloc, b'3'));
     let mentions = store.mentions(NEW);
     assert!(rt; mentions.as_predecessor() == [1usize].as_slice());
     assert!(rt; mentions.as_successor() == [0usize].as_slice());
     assert!(rt; mentions.as_parent() == [2usize].as_slice());
+    assert!(rt; store.with_child(Node([0x33; 20])) == [2usize].as_slice());
     let mentions = store.mentions(OLD);
     assert!(rt; mentions.as_predecessor() == [0usize, 2].as_slice());
-    assert!(rt; mentions.as_successor().is_empty() && mentions.as_parent().is_empty());
+    assert!(rt; mentions.as_successor() == [1usize].as_slice());
+    assert!(rt; mentions.as_parent().is_empty());
 }
 
 // One allocation is refused, wherever it falls: nothing changed, and the same call with memory answers as ever.
@@ -431,18 +302,8 @@ fn refused_growth_reads_and_writes_nothing(rt: HostRuntime) {
     // Metadata of the second marker that claims as many bytes as it can takes no memory.
     bytes[56..60].copy_from_slice(&[0xff; 4]);
     let truncated = StoreFault::Bad(55, MarkerFault::Truncated);
-    assert!(rt; fault_of(alloc, &bytes) == Some(truncated));
-}
-
-#[test]
-fn a_hint_decides_nothing(rt: HostRuntime) {
-    let alloc = rt.alloc();
-    let mut store = Store::new(alloc);
-    add(&rt, &mut store, marker(alloc, OLD, &[NEW]));
-    let hint_of_new = store.mentions(NEW).hint();
-    for hint in [hint_of_new, store.predecessor_hint(0), Hint::NOWHERE] {
-        let mentions = store.mentions_near(NEW, hint);
-        assert!(rt; mentions.as_successor() == [0usize].as_slice());
-        assert!(rt; mentions.as_predecessor().is_empty() && mentions.as_parent().is_empty());
+    match read_store(alloc, &bytes) {
+        Err(ReadError::Fault(fault)) => assert!(rt; fault == truncated),
+        _ => assert!(rt; false, "it is truncated"),
     }
 }

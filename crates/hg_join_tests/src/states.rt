@@ -212,22 +212,6 @@ fn a_part_is_handed_over(rt: HostRuntime) {
 }
 
 #[test]
-fn both_halves_grow(rt: HostRuntime) {
-    let alloc = rt.alloc();
-    let mut pair = Both::new(
-        map_of(alloc, &[(1, 5)]).expect(&rt, "memory"),
-        map_of(alloc, &[(1, 6)]).expect(&rt, "memory"),
-    );
-    pair.absorb(&(
-        [(1, 4)].to_vec(alloc).expect(&rt, "memory"),
-        [(2, 3)].to_vec(alloc).expect(&rt, "memory"),
-    ))
-    .expect(&rt, "memory");
-    assert_eq!(rt; numbers(pair.first()), [Some(4), None, None]);
-    assert_eq!(rt; numbers(pair.second()), [Some(6), Some(3), None]);
-}
-
-#[test]
 fn a_pair_of_which_one_half_is_below_is_not_below(rt: HostRuntime) {
     let alloc = rt.alloc();
     let low = map_of(alloc, &[(1, 5)]).expect(&rt, "memory");

@@ -13,18 +13,15 @@ fn are_up_to_date(alloc: Global, fleet: &Fleet) -> Option<bool> {
     Some(true)
 }
 
-// Whether it is so after these lines.
-fn is_so_after(alloc: Global, lines: &[u8]) -> Option<bool> {
-    let mut writer = Vec::new(alloc);
-    let fleet = run_counted_named(alloc, lines, &mut writer).ok()?;
-    are_up_to_date(alloc, &fleet)
-}
-
 // Whether it is so after each line of the script.
 fn is_so_throughout(alloc: Global, script: &[u8]) -> Option<bool> {
     for end in 0..script.len() {
-        if script[end] == b'\n' && !is_so_after(alloc, &script[..=end])? {
-            return Some(false);
+        if script[end] == b'\n' {
+            let mut writer = Vec::new(alloc);
+            let fleet = run_counted_named(alloc, &script[..=end], &mut writer).ok()?;
+            if !are_up_to_date(alloc, &fleet)? {
+                return Some(false);
+            }
         }
     }
     Some(true)

@@ -1,17 +1,18 @@
 //! Single calls of a peer: the bytes that it offers and reads, and how its refusals read.
+use crate::rows::NOTHING;
 use hg_changeset::Node;
+use hg_discovery::DiscoveryError;
 use hg_history::Fault;
 use hg_join::Actor;
-use hg_message::{MessageFault, OfferRefusal};
+use hg_message::{MessageError, MessageFault, OfferRefusal};
 use hg_peer::{Ask, Numbered, Peer, PeerRefusal, Scope};
 use hg_replica::Replica;
 use hg_rewrite::Refusal;
 use hg_view::{Kept, PinRefusal};
 use hg_world::EventRefusal;
 
-/// A message of nothing: the magic, version 2, the served scope, no records, no bounds, and a store of 1 byte, which is
-/// its version 0.
-const NOTHING: &[u8] = b"HGFX\x02\0\0\0\0\0\0\0\0\0\0\0\0\x01\0";
+// An id that nobody holds.
+const ONES: Node = Node([0x11; 20]);
 
 #[test]
 fn a_peer_of_nothing_offers_a_message_of_nothing(rt: HostRuntime) {
@@ -34,10 +35,10 @@ fn what_cannot_be_offered_or_read_is_told(rt: HostRuntime) {
     let mut peer = Peer::new(kept);
     assert!(rt; peer.kept().instabilities().obsolete().is_empty());
     let ask = Ask {
-        common: [Node::NULL].to_vec(alloc).expect(&rt, "memory"),
+        common: [ONES, Node::NULL].to_vec(alloc).expect(&rt, "memory"),
         scope: Scope::Whole,
     };
-    let unknown = PeerRefusal::Offer(OfferRefusal::UnknownCommon(Node::NULL));
+    let unknown = PeerRefusal::Offer(OfferRefusal::UnknownCommon(ONES));
     assert_eq!(rt; peer.offer(alloc, &ask).err(), Some(unknown));
     let short = PeerRefusal::Message(MessageFault::Truncated(0));
     assert_eq!(rt; Peer::read(alloc, b"HGF").err(), Some(short));
@@ -61,6 +62,16 @@ fn refusals_show_their_numbers_and_names(rt: HostRuntime) {
         &rt, "memory",
     );
     assert_eq!(rt; text.as_str(), "Count TooLarge Trailing NotPinned NoMemory");
+}
+
+#[test]
+fn refusals_of_discoveries_and_messages_show_their_numbers_and_names(rt: HostRuntime) {
+    let (count, memory) = (DiscoveryError::WrongCount, DiscoveryError::NoMemory);
+    let large = MessageError::TooLarge;
+    assert_eq!(rt; [count.number(), memory.number()], [Some(1), None]);
+    assert_eq!(rt; large.number(), 1);
+    let text = format!(in rt.alloc(); "{count} {large}").expect(&rt, "memory");
+    assert_eq!(rt; text.as_str(), "WrongCount TooLarge");
 }
 
 #[test]

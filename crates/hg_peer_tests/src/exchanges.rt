@@ -1,5 +1,5 @@
-//! Events over peers that no line of a script asks for, and each growth refused in turn. What other events are answered
-//! is shown by cases of `examples/`.
+//! Events over peers, each growth of which is refused in turn. What events are answered is shown by cases of
+//! `examples/`.
 use hg_changeset::{Entry, Node};
 use hg_history::Fault;
 use hg_join::{JoinState, NoMemory};
@@ -7,7 +7,6 @@ use hg_peer::{Ask, Mark, Peer, PeerRefusal, Scope};
 use hg_replica::Change;
 use hg_replica_tests::are_same;
 use hg_rewrite::Op;
-use hg_view::PinRefusal;
 use hg_world::{Answer, Event, EventRefusal, World};
 use std::alloc::Global;
 use std::collections::BTreeMap;
@@ -51,83 +50,22 @@ fn outcome_of(answer: &PeerAnswer) -> Outcome {
     }
 }
 
-fn expect_answers(rt: &impl Abort, answers: &[PeerAnswer], expected: &[Outcome]) {
-    assert_eq!(rt; answers.len(), expected.len());
-    for (answer, expected) in answers.iter().zip(expected) {
-        assert_eq!(rt; outcome_of(answer), *expected);
-    }
-}
-
-/// A root with the description `a`.
-fn commit(alloc: Global, at: usize, secret: bool) -> Option<PeerEvent> {
-    let entry = Entry {
+/// An entry of user `fleet` at `0 0`.
+fn entry(alloc: Global, description: &[u8]) -> Option<Entry> {
+    Some(Entry {
         user: Vec::from_slice(alloc, b"fleet").ok()?,
         secs: 0,
         offset: 0,
         extra: BTreeMap::new(alloc),
-        desc: Vec::from_slice(alloc, b"a").ok()?,
-    };
-    let op = Op::Commit {
-        p: Node::NULL,
-        q: Node::NULL,
-        entry,
-        secret,
-    };
-    Some(Event::Local { at, op })
+        desc: Vec::from_slice(alloc, description).ok()?,
+    })
 }
 
 /// An offer of a scope to one that has nothing.
-fn offer_of(alloc: Global, at: usize, scope: Scope) -> PeerEvent {
+fn offer_of(alloc: Global, scope: Scope) -> PeerEvent {
     let common = Vec::new(alloc);
     let ask = Ask { common, scope };
-    Event::Offer { at, ask }
-}
-
-/// An offer of what is served to one that has nothing.
-fn offer(alloc: Global, at: usize) -> PeerEvent {
-    offer_of(alloc, at, Scope::Served)
-}
-
-fn take(at: usize, message: usize) -> PeerEvent {
-    Event::Take { at, message }
-}
-
-fn mark(at: usize, mark: Mark) -> PeerEvent {
-    Event::Mark { at, mark }
-}
-
-/// An amend of a changeset, with the description `b`.
-fn amend(alloc: Global, at: usize, node: Node) -> Option<PeerEvent> {
-    let entry = Entry {
-        user: Vec::from_slice(alloc, b"fleet").ok()?,
-        secs: 0,
-        offset: 0,
-        extra: BTreeMap::new(alloc),
-        desc: Vec::from_slice(alloc, b"b").ok()?,
-    };
-    let op = Op::Amend { node, entry };
-    Some(Event::Local { at, op })
-}
-
-#[test]
-fn what_cannot_be_marked_is_told(rt: HostRuntime) {
-    let alloc = rt.alloc();
-    let a = Node::from_hex(A).expect(&rt, "an id");
-    let mut world = World::<Peer>::new(alloc, 1).expect(&rt, "memory");
-    let events = [
-        mark(0, Mark::Pin(a)),
-        mark(0, Mark::Pin(Node::NULL)),
-        mark(0, Mark::Unpin(a)),
-        mark(1, Mark::Unpin(a)),
-    ];
-    let answers = world.run(&events).expect(&rt, "memory");
-    let expected = [
-        Outcome::ByPeer(PeerRefusal::View(PinRefusal::Unknown(a))),
-        Outcome::ByPeer(PeerRefusal::View(PinRefusal::Unknown(Node::NULL))),
-        Outcome::ByPeer(PeerRefusal::View(PinRefusal::NotPinned(a))),
-        Outcome::NoNode,
-    ];
-    expect_answers(&rt, &answers, &expected);
+    Event::Offer { at: 0, ask }
 }
 
 // What all peers hold and pin, and the first two messages.
@@ -211,15 +149,40 @@ fn run_at_last(
 // Each kind of event, with its outcome: a pin keeps `a` in view, until it is taken away and `a` is in no message of
 // what is served, but in that of the whole.
 fn each_kind(alloc: Global, a: Node) -> Option<[(PeerEvent, Outcome); 8]> {
+    let commit = Op::Commit {
+        p: Node::NULL,
+        q: Node::NULL,
+        entry: entry(alloc, b"a")?,
+        secret: false,
+    };
+    let amend = Op::Amend {
+        node: a,
+        entry: entry(alloc, b"b")?,
+    };
     Some([
-        (commit(alloc, 0, false)?, Outcome::Changed(1, 0, 0)),
-        (mark(0, Mark::Pin(a)), Outcome::Marked),
-        (amend(alloc, 0, a)?, Outcome::Changed(1, 0, 1)),
-        (mark(0, Mark::Unpin(a)), Outcome::Marked),
-        (offer(alloc, 0), Outcome::Offered(0)),
-        (offer_of(alloc, 0, Scope::Whole), Outcome::Offered(1)),
-        (take(1, 0), Outcome::Changed(1, 0, 1)),
-        (take(1, 1), Outcome::Changed(1, 0, 0)),
+        (
+            Event::Local { at: 0, op: commit },
+            Outcome::Changed(1, 0, 0),
+        ),
+        (
+            Event::Mark {
+                at: 0,
+                mark: Mark::Pin(a),
+            },
+            Outcome::Marked,
+        ),
+        (Event::Local { at: 0, op: amend }, Outcome::Changed(1, 0, 1)),
+        (
+            Event::Mark {
+                at: 0,
+                mark: Mark::Unpin(a),
+            },
+            Outcome::Marked,
+        ),
+        (offer_of(alloc, Scope::Served), Outcome::Offered(0)),
+        (offer_of(alloc, Scope::Whole), Outcome::Offered(1)),
+        (Event::Take { at: 1, message: 0 }, Outcome::Changed(1, 0, 1)),
+        (Event::Take { at: 1, message: 1 }, Outcome::Changed(1, 0, 0)),
     ])
 }
 

@@ -11,13 +11,9 @@ mod drawings;
 #[cfg(test)]
 mod exchanges;
 #[cfg(test)]
-mod full;
-#[cfg(test)]
 mod offers;
 #[cfg(test)]
 mod reading;
-#[cfg(test)]
-mod received;
 #[cfg(test)]
 mod rewrites;
 #[cfg(test)]

@@ -1,7 +1,7 @@
-//! Offers of a few changesets: what is in them, in which order, and why there is none.
+//! Offers of a few changesets: what is in them, and in which order; each growth refused in turn.
 use crate::rows::{ROOT, SERVED, WHOLE, child_above_root};
-use crate::scene::{ascending, commit, empty};
-use hg_changeset::{Changeset, Node};
+use crate::scene::{ascending, commit, empty, many_roots};
+use hg_changeset::Node;
 use hg_marker::{Marker, Metadata};
 use hg_message::{Message, OfferRefusal, Outgoing, Scope, offer};
 use hg_phases::Phase;
@@ -61,43 +61,6 @@ fn are(message: &Message, nodes: &[Node]) -> bool {
     true
 }
 
-#[test]
-fn offers_what_is_served(rt: HostRuntime) {
-    let alloc = rt.alloc();
-    let mut replica = Replica::new(alloc);
-    let nodes = scene(alloc, &mut replica).expect(&rt, "memory");
-    let message = offer(alloc, &replica, &Pins::new(alloc), &[], Scope::Served).expect(
-        &rt, "an offer",
-    );
-    assert!(rt; are(&message, &[nodes.a, nodes.b, nodes.c]));
-    let [first, second] = ascending(nodes.b, nodes.c);
-    let bounds = [
-        (nodes.a, Phase::Public),
-        (first, Phase::Draft),
-        (second, Phase::Draft),
-    ];
-    assert!(rt; message.bounds() == bounds.as_slice());
-    let markers = replica.store().markers();
-    assert!(rt; message.markers().len() == 2);
-    assert!(rt; message.markers().first() == markers.first());
-    assert!(rt; message.markers().last() == markers.last());
-}
-
-#[test]
-fn finds_what_goes_out_of_a_kept_replica(rt: HostRuntime) {
-    let alloc = rt.alloc();
-    let mut replica = Replica::new(alloc);
-    let nodes = scene(alloc, &mut replica).expect(&rt, "memory");
-    let kept = Kept::new(alloc, replica).expect(&rt, "memory");
-    let found = Outgoing::above_kept(alloc, &kept, &[nodes.b], Scope::Served).expect(&rt, "memory");
-    assert!(rt; !found.is_too_large());
-    let message = found.message().expect(&rt, "memory");
-    assert!(rt; are(&message, &[nodes.c]) && message.markers().len() == 2);
-    let unknown = Node([0x33; 20]);
-    let refusal = Outgoing::above_kept(alloc, &kept, &[nodes.a, unknown], Scope::Served).err();
-    assert!(rt; refusal == Some(OfferRefusal::UnknownCommon(unknown)));
-}
-
 // A public a, a draft b on it, and a draft c on b; b and c were pruned.
 fn extinct(alloc: Global, replica: &mut Replica) -> Option<[Node; 3]> {
     let a = commit(alloc, replica, Node::NULL, b"a", Phase::Public)?;
@@ -115,14 +78,18 @@ fn offers_what_is_pinned_with_its_ancestors(rt: HostRuntime) {
     let nodes = extinct(alloc, &mut replica).expect(&rt, "memory");
     let mut pins = Pins::new(alloc);
     pins.pin(&replica, nodes[2]).expect(&rt, "a pin");
-    let found = Outgoing::above(alloc, &replica, &pins, &[], Scope::Served).expect(&rt, "memory");
-    assert!(rt; are(&found.message().expect(&rt, "memory"), &nodes));
+    let common = [nodes[0]];
+    let found = Outgoing::above(alloc, &replica, &pins, &common, Scope::Served);
+    let found = found.expect(&rt, "memory");
+    assert!(rt; !found.is_too_large());
+    assert!(rt; are(&found.message().expect(&rt, "memory"), &nodes[1..]));
     let none = Pins::new(alloc);
     let found = Outgoing::above(alloc, &replica, &none, &[], Scope::Served).expect(&rt, "memory");
     assert!(rt; are(&found.message().expect(&rt, "memory"), &[nodes[0]]));
 }
 
-// A replica without changesets may hold markers, which go out of the whole.
+// A replica without changesets may hold markers, which go out of the whole. Of what is said to be common, it doesn't
+// hold the first.
 #[test]
 fn offers_markers_alone(rt: HostRuntime) {
     let alloc = rt.alloc();
@@ -133,6 +100,9 @@ fn offers_markers_alone(rt: HostRuntime) {
     assert!(rt; served.changesets().is_empty() && served.markers().is_empty());
     let whole = offer(alloc, &replica, &pins, &[], Scope::Whole).expect(&rt, "an offer");
     assert!(rt; whole.changesets().is_empty() && whole.markers().len() == 1);
+    let unknown = Node([0x33; 20]);
+    let refused = offer(alloc, &replica, &pins, &[unknown, Node::NULL], Scope::Whole);
+    assert!(rt; refused == Err(OfferRefusal::UnknownCommon(unknown)));
 }
 
 // A replica of ROOT, and of what the bytes bring it.
@@ -144,62 +114,10 @@ fn with_child(alloc: Global, bytes: &[u8]) -> Option<Replica> {
     Some(replica)
 }
 
-// What a replica took in goes out of it in the same bytes.
-#[test]
-fn writes_what_goes_out(rt: HostRuntime) {
-    let alloc = rt.alloc();
-    let bytes = child_above_root(alloc, SERVED).expect(&rt, "memory");
-    let replica = with_child(alloc, &bytes).expect(&rt, "a message");
-    let found = Outgoing::above(alloc, &replica, &Pins::new(alloc), &[ROOT], Scope::Served).expect(
-        &rt, "memory",
-    );
-    assert!(rt; found.to_bytes().expect(&rt, "memory") == bytes);
-}
-
-#[test]
-fn refuses_the_first_common_node_that_is_not_held(rt: HostRuntime) {
-    let alloc = rt.alloc();
-    let mut replica = Replica::new(alloc);
-    let nodes = scene(alloc, &mut replica).expect(&rt, "memory");
-    let unknown = Node([0x33; 20]);
-    let refused = offer(
-        alloc,
-        &replica,
-        &Pins::new(alloc),
-        &[nodes.a, unknown, Node::NULL],
-        Scope::Whole,
-    );
-    assert!(rt; refused == Err(OfferRefusal::UnknownCommon(unknown)));
-}
-
-#[test]
-fn numbers_and_names_of_refusals(rt: HostRuntime) {
-    let alloc = rt.alloc();
-    let unknown = OfferRefusal::UnknownCommon(Node::NULL);
-    assert!(rt; unknown.number() == Some(1) && OfferRefusal::TooLarge.number() == Some(2));
-    assert!(rt; OfferRefusal::NoMemory.number().is_none());
-    let name = format!(in alloc; "{unknown}").expect(&rt, "memory");
-    assert!(rt; name.as_str() == "UnknownCommon");
-}
-
-// So many draft roots, taken in at once.
-fn roots(alloc: Global, replica: &mut Replica, count: u8) -> Option<()> {
-    let mut part = empty(alloc);
-    for number in 0..count {
-        let text = Vec::from_slice(alloc, &[number]).ok()?;
-        let root = Changeset::new(Node::NULL, Node::NULL, text).ok()?;
-        part.bounds.push((root.node(), Phase::Draft)).ok()?;
-        part.changesets.push(root).ok()?;
-    }
-    replica.absorb(&part).ok()?;
-    Some(())
-}
-
 // Many roots. The first came in place of something, two children of the second were pruned, and one marker tells of
 // none of them.
 fn many_roots_and_few_markers(alloc: Global) -> Option<Replica> {
-    let mut replica = Replica::new(alloc);
-    roots(alloc, &mut replica, 64)?;
+    let mut replica = many_roots(alloc, 64)?;
     let first = replica.graph().node_at(0)?;
     let second = replica.graph().node_at(1)?;
     let elsewhere = Node([0x55; 20]);
@@ -234,9 +152,9 @@ fn refused_growth_offers_nothing_where_markers_are_few(rt: HostRuntime) {
 fn refused_growth_offers_nothing(rt: HostRuntime) {
     let alloc = rt.alloc();
     let mut replica = Replica::new(alloc);
-    if scene(alloc, &mut replica).is_none() {
+    let Some(Nodes { a, b, c }) = scene(alloc, &mut replica) else {
         return;
-    }
+    };
     let message = match offer(alloc, &replica, &Pins::new(alloc), &[], Scope::Served) {
         Ok(message) => message,
         Err(refusal) => {
@@ -244,7 +162,14 @@ fn refused_growth_offers_nothing(rt: HostRuntime) {
             offer(alloc, &replica, &Pins::new(alloc), &[], Scope::Served).expect(&rt, "memory")
         }
     };
-    assert!(rt; message.changesets().len() == 3 && message.markers().len() == 2);
+    assert!(rt; are(&message, &[a, b, c]) && message.markers().len() == 2);
+    let [first, second] = ascending(b, c);
+    let bounds = [
+        (a, Phase::Public),
+        (first, Phase::Draft),
+        (second, Phase::Draft),
+    ];
+    assert!(rt; message.bounds() == bounds.as_slice());
 }
 
 #[test]

@@ -110,11 +110,6 @@ fn expect_ids(rt: &impl Abort, part: &Part, ids: &[&[u8]], phase: Phase) {
     }
 }
 
-fn expect_refusal(rt: &impl Abort, alloc: Global, replica: &Replica, op: Op, refusal: Refusal) {
-    let answer = decide(alloc, replica, &Pins::new(alloc), &op);
-    assert_eq!(rt; answer.err(), Some(refusal));
-}
-
 // A replica that holds the draft root `a`.
 fn start(rt: &impl Abort, alloc: Global) -> Replica {
     let mut replica = Replica::new(alloc);
@@ -143,17 +138,13 @@ fn pruned(rt: &impl Abort, alloc: Global, user: &[u8]) -> Result<Part, Refusal> 
 }
 
 #[test]
-fn prune_of_the_empty_root(rt: HostRuntime) {
+fn prunes_of_the_empty_root_by_somebody_and_nobody(rt: HostRuntime) {
     let part = pruned(&rt, rt.alloc(), b" fleet\n").expect(&rt, "a part");
     assert!(rt; part.changesets.is_empty() && part.bounds.is_empty());
     assert_eq!(rt; part.markers.len(), 1);
     let written = encode(&part.markers[0]).expect(&rt, "memory");
     assert_eq!(rt; written.len(), 105);
     assert!(rt; written.as_slice() == PRUNED);
-}
-
-#[test]
-fn a_prune_by_nobody_is_refused(rt: HostRuntime) {
     let refusal = pruned(&rt, rt.alloc(), b" \n").err();
     let nobody = Refusal::Fault(Cause::Entry(EntryError::EmptyUser));
     assert_eq!(rt; refusal, Some(nobody));
@@ -183,29 +174,16 @@ fn what_is_hidden_has_a_child_where_it_is_pinned(rt: HostRuntime) {
     pins.pin(&replica, node).expect(&rt, "a pin");
     let part = decide(alloc, &replica, &pins, &op).expect(&rt, "a part");
     expect_ids(&rt, &part, &[H_ON_A], Phase::Draft);
-    let mut kept = Kept::new(alloc, replica).expect(&rt, "memory");
-    let refusal = decide_kept(alloc, &kept, &op).err();
-    assert_eq!(rt; refusal, Some(Refusal::Hidden(node)));
-    kept.pin(node).expect(&rt, "a pin");
-    let part = decide_kept(alloc, &kept, &op).expect(&rt, "a part");
-    expect_ids(&rt, &part, &[H_ON_A], Phase::Draft);
 }
 
 #[test]
-fn faults_of_entries(rt: HostRuntime) {
+fn an_entry_at_fault_is_refused(rt: HostRuntime) {
     let alloc = rt.alloc();
-    let replica = Replica::new(alloc);
-    for (user, fault) in [
-        (b" \t".as_slice(), EntryError::EmptyUser),
-        (b"a\nb", EntryError::NewlineInUser),
-    ] {
-        let faulty = entry_by(alloc, user, b"a").expect(&rt, "memory");
-        let refusal = Refusal::Fault(Cause::Entry(fault));
-        expect_refusal(&rt, alloc, &replica, commit(Node::NULL, faulty), refusal);
-    }
     let faulty = with_an_extra(&rt, alloc, b"a", b"a:b", b"");
-    let refusal = Refusal::Fault(Cause::Entry(EntryError::BadExtraKey));
-    expect_refusal(&rt, alloc, &replica, commit(Node::NULL, faulty), refusal);
+    let op = commit(Node::NULL, faulty);
+    let refusal = decide(alloc, &Replica::new(alloc), &Pins::new(alloc), &op).err();
+    let bad = Refusal::Fault(Cause::Entry(EntryError::BadExtraKey));
+    assert_eq!(rt; refusal, Some(bad));
 }
 
 fn with_an_extra(rt: &impl Abort, alloc: Global, desc: &[u8], key: &[u8], value: &[u8]) -> Entry {
@@ -320,16 +298,6 @@ fn grow(alloc: Global, replica: &mut Replica, op: &Op) -> Option<()> {
     Some(())
 }
 
-// The draft merge `m` of `s1` and its child `s2`.
-fn merge(rt: &impl Abort, alloc: Global) -> Option<Op> {
-    Some(Op::Commit {
-        p: id(rt, S1),
-        q: id(rt, S2_ON_S1),
-        entry: entry_by(alloc, b"fleet", b"m").ok()?,
-        secret: false,
-    })
-}
-
 // Beside `a` and its child `h`, which gets a child of its own, there is a root `f`, which is pruned and hidden. `a` is
 // split into `s1` and `s2`, which `m` merges, and shown all the same, since `h` stands on it.
 fn prune_split_and_merge(rt: &impl Abort, alloc: Global, replica: &mut Replica) -> Option<()> {
@@ -339,7 +307,13 @@ fn prune_split_and_merge(rt: &impl Abort, alloc: Global, replica: &mut Replica) 
     grow(alloc, replica, &prune(alloc, id(rt, F), b"fleet").ok()?)?;
     grow(alloc, replica, &child)?;
     grow(alloc, replica, &split_in_two(alloc, id(rt, A)).ok()?)?;
-    grow(alloc, replica, &merge(rt, alloc)?)
+    let merge = Op::Commit {
+        p: id(rt, S1),
+        q: id(rt, S2_ON_S1),
+        entry: entry_by(alloc, b"fleet", b"m").ok()?,
+        secret: false,
+    };
+    grow(alloc, replica, &merge)
 }
 
 // How many changesets and markers a part has, or why there is none.

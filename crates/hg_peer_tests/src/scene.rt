@@ -14,9 +14,9 @@ pub fn empty(alloc: Global) -> Part {
     }
 }
 
-/// The changeset of these parents and this text.
-pub fn changeset(alloc: Global, first: Node, second: Node, text: &[u8]) -> Option<Changeset> {
-    Changeset::new(first, second, Vec::from_slice(alloc, text).ok()?).ok()
+// The changeset of this parent and text.
+fn changeset(alloc: Global, parent: Node, text: &[u8]) -> Option<Changeset> {
+    Changeset::new(parent, Node::NULL, Vec::from_slice(alloc, text).ok()?).ok()
 }
 
 /// Takes in a changeset of this parent and text, in this phase.
@@ -27,7 +27,7 @@ pub fn commit(
     text: &[u8],
     phase: Phase,
 ) -> Option<Node> {
-    let changeset = changeset(alloc, parent, Node::NULL, text)?;
+    let changeset = changeset(alloc, parent, text)?;
     let node = changeset.node();
     let mut part = empty(alloc);
     part.changesets.push(changeset).ok()?;
@@ -36,17 +36,26 @@ pub fn commit(
     Some(node)
 }
 
-/// The marker that a node was pruned.
-pub fn pruned(alloc: Global, node: Node) -> Option<Marker> {
-    Marker::new(node, Vec::new(alloc), 0, Metadata::new(alloc)).ok()
-}
-
 /// Takes in the marker that a node was pruned.
 pub fn prune(alloc: Global, replica: &mut Replica, node: Node) -> Option<()> {
     let mut part = empty(alloc);
-    part.markers.push(pruned(alloc, node)?).ok()?;
+    let pruned = Marker::new(node, Vec::new(alloc), 0, Metadata::new(alloc)).ok()?;
+    part.markers.push(pruned).ok()?;
     replica.absorb(&part).ok()?;
     Some(())
+}
+
+/// A replica that holds so many draft roots, which it took in at once.
+pub fn many_roots(alloc: Global, count: u32) -> Option<Replica> {
+    let mut part = empty(alloc);
+    for number in 0..count {
+        let root = changeset(alloc, Node::NULL, &number.to_be_bytes())?;
+        part.bounds.push((root.node(), Phase::Draft)).ok()?;
+        part.changesets.push(root).ok()?;
+    }
+    let mut replica = Replica::new(alloc);
+    replica.absorb_owned(part).ok()?;
+    Some(replica)
 }
 
 /// A draft chain of at most three changesets, each with one of the bytes as its text, and their ids.

@@ -8,9 +8,6 @@ use hg_replica::Part;
 use std::alloc::Global;
 use std::process::Abort;
 
-/// An id that no changeset here has.
-const ONES: Node = Node([0x11; 20]);
-
 /// The part of one draft changeset under this parent. `None` where memory ran out.
 fn child_of(alloc: Global, parent: Node) -> Option<Part> {
     let text = Vec::from_slice(alloc, b"text").ok()?;
@@ -60,16 +57,6 @@ fn a_copy_has_the_pins_and_what_grows_keeps_its_own(rt: HostRuntime) {
     copy.absorb_owned(more).expect(&rt, "no change");
     let second = copy.copy().expect(&rt, "memory");
     assert!(rt; second.kept().pins().is_pinned(node));
-}
-
-#[test]
-fn an_unknown_parent_is_told_and_changes_nothing(rt: HostRuntime) {
-    let alloc = rt.alloc();
-    let mut peer = Peer::empty(alloc).expect(&rt, "memory");
-    let part = child_of(alloc, ONES).expect(&rt, "memory");
-    assert!(rt; peer.absorb(&part).err() == Some(Fault::UnknownParent(ONES)));
-    assert!(rt; peer.absorb_owned(part).err() == Some(Fault::UnknownParent(ONES)));
-    assert_eq!(rt; count(&peer), 0);
 }
 
 // The ways in which a peer takes something in.

@@ -1,7 +1,5 @@
 //! Messages that are written, copied and taken apart, and growths that are refused.
-use crate::rows::{
-    CHILD, EMPTY, FIRST, NOTHING, ROOT, SERVED, WHOLE, all_kinds, holder, one_changeset,
-};
+use crate::rows::{CHILD, EMPTY, FIRST, ROOT, SERVED, WHOLE, all_kinds, holder, one_changeset};
 use hg_message::{Changeset, Message, Node, Phase, ReadError, Scope};
 use hg_replica::Replica;
 use std::alloc::{AllocError, Global};
@@ -41,20 +39,6 @@ fn read_at(rt: &impl Abort, alloc: Global, held: Option<&Replica>, bytes: &[u8])
 }
 
 #[test]
-fn nothing_is_written_in_19_bytes(rt: HostRuntime) {
-    let alloc = rt.alloc();
-    let nothing = Message::new(
-        Scope::Served,
-        Vec::new(alloc),
-        Vec::new(alloc),
-        Vec::new(alloc),
-    );
-    let nothing = nothing.expect(&rt, "a message");
-    let bytes = written(&rt, &nothing);
-    assert!(rt; bytes.len() == 19 && bytes.as_slice() == NOTHING);
-}
-
-#[test]
 fn one_changeset_is_written_and_read(rt: HostRuntime) {
     let alloc = rt.alloc();
     for (scope, head) in [(Scope::Served, SERVED), (Scope::Whole, WHOLE)] {
@@ -67,25 +51,17 @@ fn one_changeset_is_written_and_read(rt: HostRuntime) {
     }
 }
 
-// Messages that differ in their scope alone differ.
-#[test]
-fn a_scope_is_part_of_a_message(rt: HostRuntime) {
-    let alloc = rt.alloc();
-    let served = message_of_one(alloc, Scope::Served).expect(&rt, "memory");
-    let whole = message_of_one(alloc, Scope::Whole).expect(&rt, "memory");
-    assert!(rt; served != whole);
-    assert!(rt; written(&rt, &served) != written(&rt, &whole));
-}
-
 #[test]
 fn version_1_is_served_and_written_as_version_2(rt: HostRuntime) {
     let alloc = rt.alloc();
     let first = all_kinds(alloc, FIRST, ROOT, Node::NULL).expect(&rt, "memory");
     let second = all_kinds(alloc, SERVED, ROOT, Node::NULL).expect(&rt, "memory");
+    let whole = all_kinds(alloc, WHOLE, ROOT, Node::NULL).expect(&rt, "memory");
     assert!(rt; first.len() == 309 && second.len() == 310);
     let message = read(&rt, alloc, &first);
     assert!(rt; message.scope() == Scope::Served);
     assert!(rt; message == read(&rt, alloc, &second));
+    assert!(rt; message != read(&rt, alloc, &whole));
     assert!(rt; written(&rt, &message) == second);
 }
 
@@ -112,21 +88,6 @@ fn repeated_records_are_kept(rt: HostRuntime) {
     bytes.extend_from_slice(&one[10..]).expect(&rt, "memory");
     let message = read(&rt, alloc, &bytes);
     assert!(rt; message.changesets().len() == 2 && written(&rt, &message) == bytes);
-}
-
-#[test]
-fn the_part_bounds_what_it_adds(rt: HostRuntime) {
-    let alloc = rt.alloc();
-    let bytes = all_kinds(alloc, SERVED, ROOT, Node::NULL).expect(&rt, "memory");
-    let part = read(&rt, alloc, &bytes).part().expect(&rt, "memory");
-    let bounds = [
-        (ROOT, Phase::Public),
-        (CHILD, Phase::Secret),
-        (ROOT, Phase::Draft),
-        (CHILD, Phase::Draft),
-    ];
-    assert!(rt; part.bounds.as_slice() == bounds.as_slice());
-    assert!(rt; part.changesets.len() == 2 && part.markers.len() == 2);
 }
 
 // One allocation is refused, wherever it falls: the same call with memory answers as ever, whatever is held.
@@ -159,10 +120,8 @@ fn refused_growth_gives_no_part_of_what_is_known(rt: HostRuntime) {
         Ok(part) => part,
         Err(_) => Message::part_at(alloc, &replica, &bytes).expect(&rt, "memory"),
     };
-    assert_eq!(rt;
-        [part.changesets.len(), part.bounds.len(), part.markers.len()],
-        [0, 2, 2]
-    );
+    assert_eq!(rt; [part.changesets.len(), part.markers.len()], [0, 2]);
+    assert!(rt; part.bounds[..] == [(ROOT, Phase::Public), (CHILD, Phase::Secret)]);
 }
 
 #[test]

@@ -1,26 +1,11 @@
 //! Worked parts: what they change, again or refused, and each growth refused in turn.
-use crate::parts::{
-    ONES, TWOS, are_equal, bound, changeset, child, commit, counts, marker, phase, push_marker,
-};
+use crate::parts::{ONES, are_equal, bound, changeset, child, commit, counts, phase, push_marker};
 use hg_changeset::Node;
 use hg_phases::Phase;
 use hg_replica::{Fault, Part, Replica};
 use std::alloc::Global;
 use std::process::Abort;
 use std::test::Fail;
-
-#[test]
-fn a_changeset_is_added_once(rt: HostRuntime) {
-    let alloc = rt.alloc();
-    let mut replica = Replica::new(alloc);
-    let (part, node) = child(alloc, Node::NULL, Phase::Draft).expect(&rt, "memory");
-    let change = replica.absorb(&part).expect(&rt, "a change");
-    assert!(rt; change.added.as_slice() == [node].as_slice());
-    assert!(rt; change.lowered.is_empty() && change.markers.is_empty());
-    let again = replica.absorb(&part).expect(&rt, "a change");
-    assert!(rt; again.added.is_empty() && again.lowered.is_empty());
-    assert!(rt; counts(&replica) == (1, 0));
-}
 
 #[test]
 fn what_is_moved_in_is_told_once(rt: HostRuntime) {
@@ -37,87 +22,6 @@ fn what_is_moved_in_is_told_once(rt: HostRuntime) {
     assert!(rt; again.added.is_empty() && again.lowered.is_empty() && again.markers.is_empty());
     assert!(rt; counts(&replica) == (2, 1));
     assert!(rt; phase(&replica, node) == Some(Phase::Public));
-}
-
-#[test]
-fn a_bound_covers_ancestors_and_no_descendants(rt: HostRuntime) {
-    let alloc = rt.alloc();
-    let mut replica = Replica::new(alloc);
-    let root = commit(alloc, &mut replica, Node::NULL, Phase::Secret).expect(&rt, "memory");
-    let middle = commit(alloc, &mut replica, root, Phase::Secret).expect(&rt, "memory");
-    let tip = commit(alloc, &mut replica, middle, Phase::Secret).expect(&rt, "memory");
-    let publish = bound(alloc, middle, Phase::Public).expect(&rt, "memory");
-    let change = replica.absorb(&publish).expect(&rt, "a change");
-    assert!(rt; change.added.is_empty() && change.lowered.len() == 2);
-    assert!(rt; change.lowered.contains(&root) && change.lowered.contains(&middle));
-    let again = replica.absorb(&publish).expect(&rt, "a change");
-    assert!(rt; again.lowered.is_empty());
-    assert!(rt; phase(&replica, root) == Some(Phase::Public));
-    assert!(rt; phase(&replica, middle) == Some(Phase::Public));
-    assert!(rt; phase(&replica, tip) == Some(Phase::Secret));
-    assert!(rt; phase(&replica, Node::NULL).is_none());
-}
-
-#[test]
-fn a_marker_is_new_once(rt: HostRuntime) {
-    let alloc = rt.alloc();
-    let mut replica = Replica::new(alloc);
-    let part = marker(alloc, ONES, TWOS).expect(&rt, "memory");
-    let change = replica.absorb(&part).expect(&rt, "a change");
-    assert!(rt; change.markers.as_slice() == [0usize].as_slice());
-    let again = replica.absorb(&part).expect(&rt, "a change");
-    assert!(rt; again.markers.is_empty());
-    let store = replica.store();
-    assert!(rt; store.len() == 1 && store.get(0) == part.markers.first());
-    assert!(rt; store.with_predecessor(ONES) == [0usize].as_slice());
-    assert!(rt; store.with_successor(TWOS) == [0usize].as_slice());
-}
-
-#[test]
-fn a_hint_leads_to_what_names_a_changeset(rt: HostRuntime) {
-    let alloc = rt.alloc();
-    let mut replica = Replica::new(alloc);
-    let root = commit(alloc, &mut replica, Node::NULL, Phase::Draft).expect(&rt, "memory");
-    let part = marker(alloc, root, TWOS).expect(&rt, "memory");
-    assert!(rt; replica.absorb(&part).is_ok());
-    let mentions = replica.store().mentions_near(root, replica.hint_at(0));
-    assert!(rt; mentions.as_predecessor() == [0usize].as_slice());
-}
-
-// The part publishes the root, which is secret, and adds a child and a marker.
-#[test]
-fn what_is_taken_back_leaves_nothing(rt: HostRuntime) {
-    let alloc = rt.alloc();
-    let mut replica = Replica::new(alloc);
-    let root = commit(alloc, &mut replica, Node::NULL, Phase::Secret).expect(&rt, "memory");
-    let before = replica.copy().expect(&rt, "memory");
-    let (part, node) = published_child(alloc, root).expect(&rt, "memory");
-    let absorbed = replica.absorb_with_undo(&part).expect(&rt, "a change");
-    assert!(rt; absorbed.change.added.as_slice() == [node].as_slice());
-    assert!(rt; absorbed.change.lowered.as_slice() == [root].as_slice());
-    assert!(rt; absorbed.change.markers.as_slice() == [0usize].as_slice());
-    assert!(rt; counts(&replica) == (2, 1));
-    replica.take_back(absorbed.undo);
-    assert!(rt; counts(&replica) == (1, 0) && are_equal(&replica, &before));
-    assert!(rt; phase(&replica, root) == Some(Phase::Secret));
-    assert!(rt; phase(&replica, node).is_none());
-}
-
-#[test]
-fn what_was_moved_in_is_taken_back(rt: HostRuntime) {
-    let alloc = rt.alloc();
-    let mut replica = Replica::new(alloc);
-    let root = commit(alloc, &mut replica, Node::NULL, Phase::Secret).expect(&rt, "memory");
-    let before = replica.copy().expect(&rt, "memory");
-    let (part, _) = published_child(alloc, root).expect(&rt, "memory");
-    let (same, _) = published_child(alloc, root).expect(&rt, "memory");
-    let absorbed = replica.absorb_owned_with_undo(part).expect(&rt, "a change");
-    assert!(rt; counts(&replica) == (2, 1));
-    replica.take_back(absorbed.undo);
-    assert!(rt; are_equal(&replica, &before));
-    let again = replica.absorb_owned(same).expect(&rt, "a change");
-    assert!(rt; again.added.len() == 1 && again.lowered.as_slice() == [root].as_slice());
-    assert!(rt; counts(&replica) == (2, 1));
 }
 
 // The part has a child of the root and a marker on it, and then a changeset of an unknown parent; and it publishes the

@@ -1,6 +1,6 @@
 //! Replicas that join, by themselves and through the trait, and each growth refused in turn.
 use crate::parts::{
-    ONES, TWOS, are_equal, child, commit, counts, marker, phase, push_child, push_marker,
+    ONES, TWOS, are_equal, child, commit, counts, empty, phase, push_child, push_marker,
 };
 use hg_changeset::Node;
 use hg_join::JoinState;
@@ -24,27 +24,12 @@ fn grown<S: JoinState>(one: &S, part: &S::Part, other: &S) -> Option<S> {
 }
 
 #[test]
-fn an_empty_replica_joins_a_draft_and_then_a_public_one(rt: HostRuntime) {
-    let alloc = rt.alloc();
-    let mut replica = Replica::new(alloc);
-    for phase_there in [Phase::Draft, Phase::Public] {
-        let mut other = Replica::new(alloc);
-        let root = commit(alloc, &mut other, Node::NULL, phase_there).expect(&rt, "memory");
-        assert!(rt; !other.is_below(&replica));
-        assert!(rt; replica.join(&other).is_ok());
-        assert!(rt; are_equal(&replica, &other));
-        assert!(rt; replica.join(&other).is_ok());
-        assert!(rt; are_equal(&replica, &other));
-        assert!(rt; phase(&replica, root) == Some(phase_there));
-    }
-}
-
-#[test]
 fn orders_do_not_matter(rt: HostRuntime) {
     let alloc = rt.alloc();
     let mut root = Replica::new(alloc);
     commit(alloc, &mut root, Node::NULL, Phase::Draft).expect(&rt, "memory");
-    let part = marker(alloc, ONES, TWOS).expect(&rt, "memory");
+    let mut part = empty(alloc);
+    push_marker(alloc, &mut part, ONES, TWOS).expect(&rt, "memory");
     let mut noted = Replica::new(alloc);
     assert!(rt; noted.absorb(&part).is_ok());
     assert!(rt; agree(&root, &noted) == Some(false));
@@ -53,24 +38,6 @@ fn orders_do_not_matter(rt: HostRuntime) {
     assert!(rt; agree(&one, &other) == Some(true));
     assert!(rt; counts(&one) == (1, 1) && counts(&other) == (1, 1));
     assert!(rt; agree(&root, &one) == Some(false));
-}
-
-// The other replica has the root as public, a child of it, and a marker.
-#[test]
-fn a_join_is_taken_back(rt: HostRuntime) {
-    let alloc = rt.alloc();
-    let mut replica = Replica::new(alloc);
-    let root = commit(alloc, &mut replica, Node::NULL, Phase::Secret).expect(&rt, "memory");
-    let before = replica.copy().expect(&rt, "memory");
-    let mut other = replica.copy().expect(&rt, "memory");
-    let node = commit(alloc, &mut other, root, Phase::Public).expect(&rt, "memory");
-    let part = marker(alloc, node, ONES).expect(&rt, "memory");
-    assert!(rt; other.absorb(&part).is_ok());
-    let undo = replica.join_with_undo(&other).expect(&rt, "memory");
-    assert!(rt; are_equal(&replica, &other) && counts(&replica) == (2, 1));
-    replica.take_back(undo);
-    assert!(rt; are_equal(&replica, &before) && counts(&replica) == (1, 0));
-    assert!(rt; phase(&replica, root) == Some(Phase::Secret));
 }
 
 // Joins the other, after which there are two changesets and a marker, and takes that back.

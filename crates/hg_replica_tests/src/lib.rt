@@ -5,8 +5,6 @@
 #[cfg(test)]
 mod absorbing;
 #[cfg(test)]
-mod dice;
-#[cfg(test)]
 mod instabilities;
 #[cfg(test)]
 mod joining;

@@ -1,10 +1,10 @@
 //! Worked roots of phases: what they say, what they are, and that their text opens an equal replica.
-use crate::parts::{ONES, are_equal, child, commit, counts, empty, phase, push_child, push_marker};
-use hg_changeset::{Changeset, Node};
+use crate::parts::{ONES, are_equal, child, counts, empty, phase, push_child, push_marker};
+use hg_changeset::Node;
 use hg_obsstore::Store;
 use hg_phaseroots::{read_roots, roots_text};
 use hg_phases::{Phase, Roots};
-use hg_replica::{Fault, Replica};
+use hg_replica::{Fault, Part, Replica};
 use std::alloc::Global;
 
 // Each changeset has the highest listed phase of its own and its ancestors', in either order, and is public without
@@ -37,46 +37,24 @@ fn the_highest_listed_phase_counts(rt: HostRuntime) {
     }
 }
 
-// Takes in a draft root, a secret child of it, and a marker.
-fn fill(alloc: Global, replica: &mut Replica) -> Option<(Node, Node)> {
+// A draft root, a secret child of it, and a marker.
+fn filling(alloc: Global) -> Option<(Part, Node, Node)> {
     let (mut part, root) = child(alloc, Node::NULL, Phase::Draft)?;
     let node = push_child(alloc, &mut part, root, Phase::Secret)?;
     push_marker(alloc, &mut part, node, ONES)?;
-    replica.absorb(&part).ok()?;
-    Some((root, node))
-}
-
-#[test]
-fn roots_are_where_a_phase_begins(rt: HostRuntime) {
-    let alloc = rt.alloc();
-    let mut replica = Replica::new(alloc);
-    let (root, node) = fill(alloc, &mut replica).expect(&rt, "memory");
-    commit(alloc, &mut replica, node, Phase::Secret).expect(&rt, "memory");
-    let roots = replica.roots().expect(&rt, "memory");
-    let expected = [(Phase::Draft, root), (Phase::Secret, node)];
-    assert!(rt; roots.as_slice() == expected.as_slice());
-}
-
-// Copies of a replica's own changesets, in their order.
-fn changesets_of(alloc: Global, replica: &Replica) -> Option<Vec<Changeset>> {
-    let mut changesets = Vec::new(alloc);
-    for place in 0..replica.graph().len() {
-        let copy = replica.graph().changeset_at(place)?.copy().ok()?;
-        changesets.push(copy).ok()?;
-    }
-    Some(changesets)
+    Some((part, root, node))
 }
 
 #[test]
 fn the_text_of_its_roots_opens_an_equal_replica(rt: HostRuntime) {
     let alloc = rt.alloc();
     let mut replica = Replica::new(alloc);
-    fill(alloc, &mut replica).expect(&rt, "memory");
+    let (part, _, _) = filling(alloc).expect(&rt, "memory");
+    assert!(rt; replica.absorb(&part).is_ok());
     let text = roots_text(&replica.roots().expect(&rt, "memory")).expect(&rt, "memory");
     let roots = read_roots(alloc, &text).expect(&rt, "roots");
-    let changesets = changesets_of(alloc, &replica).expect(&rt, "memory");
     let store = replica.store().copy().expect(&rt, "memory");
-    let again = Replica::open(&changesets, &roots, store).expect(&rt, "a replica");
+    let again = Replica::open(&part.changesets, &roots, store).expect(&rt, "a replica");
     assert!(rt; are_equal(&again, &replica) && counts(&again) == (2, 1));
 }
 
@@ -119,9 +97,12 @@ fn refused_growth_in_opening_changes_nothing(rt: HostRuntime) {
 fn refused_growth_in_roots_changes_nothing(rt: HostRuntime) {
     let alloc = rt.alloc();
     let mut replica = Replica::new(alloc);
-    let Some((root, node)) = fill(alloc, &mut replica) else {
+    let Some((part, root, node)) = filling(alloc) else {
         return;
     };
+    if replica.absorb(&part).is_err() {
+        return;
+    }
     let roots = match replica.roots() {
         Ok(roots) => roots,
         Err(_) => replica.roots().expect(&rt, "memory"),

@@ -70,13 +70,6 @@ pub fn bound(alloc: Global, node: Node, phase: Phase) -> Option<Part> {
     Some(part)
 }
 
-/// The part of the marker that one node was rewritten to another.
-pub fn marker(alloc: Global, old: Node, new: Node) -> Option<Part> {
-    let mut part = empty(alloc);
-    push_marker(alloc, &mut part, old, new)?;
-    Some(part)
-}
-
 /// Takes in the changeset under this parent, with a bound.
 pub fn commit(alloc: Global, replica: &mut Replica, parent: Node, phase: Phase) -> Option<Node> {
     let (part, node) = child(alloc, parent, phase)?;

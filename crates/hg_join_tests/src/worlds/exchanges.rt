@@ -12,6 +12,7 @@ fn what_is_missing_is_told_and_an_own_message_changes_nothing(rt: HostRuntime) {
     let mut world = World::<Prices>::new(alloc, 1).expect(&rt, "memory");
     let events = [
         Event::Take { at: 0, message: 0 },
+        Event::Take { at: 1, message: 0 },
         Event::Offer {
             at: 1,
             ask: Vec::new(alloc),
@@ -23,24 +24,14 @@ fn what_is_missing_is_told_and_an_own_message_changes_nothing(rt: HostRuntime) {
         Event::Take { at: 0, message: 0 },
     ];
     let answers = world.run(&events).expect(&rt, "memory");
-    let expected: [PriceAnswer; 4] = [
+    let expected: [PriceAnswer; 5] = [
         Answer::Refused(EventRefusal::NoMessage),
+        Answer::Refused(EventRefusal::NoNode),
         Answer::Refused(EventRefusal::NoNode),
         Answer::Offered(0),
         Answer::Accepted(()),
     ];
     assert!(rt; answers.as_slice() == expected.as_slice());
-}
-
-#[test]
-fn a_missing_node_is_told_before_a_missing_message(rt: HostRuntime) {
-    let mut world = World::<Prices>::new(rt.alloc(), 2).expect(&rt, "memory");
-    let event: PriceEvent = Event::Take { at: 2, message: 7 };
-    assert_eq!(rt; event.place(), 2);
-    let answers = world.run(&[event]).expect(&rt, "memory");
-    let expected: [PriceAnswer; 1] = [Answer::Refused(EventRefusal::NoNode)];
-    assert!(rt; answers.as_slice() == expected.as_slice());
-    assert!(rt; world.state(1).is_some() && world.state(2).is_none());
 }
 
 /// An offer of the price of item 1.
@@ -52,15 +43,6 @@ fn offer_at(alloc: Global, at: usize) -> Option<PriceEvent> {
 /// The price of item 1 at a node.
 fn price_at(world: &World<Prices>, at: usize) -> Option<u8> {
     world.state(at)?.get(1)
-}
-
-#[test]
-fn one_event_is_done_as_a_list_of_it_is(rt: HostRuntime) {
-    let mut world = World::<Prices>::new(rt.alloc(), 1).expect(&rt, "memory");
-    let event: PriceEvent = Event::Local { at: 0, op: (1, 9) };
-    let answer = world.run_one(&event).expect(&rt, "memory");
-    assert!(rt; answer == Answer::Accepted(()));
-    assert_eq!(rt; price_at(&world, 0), Some(9));
 }
 
 #[test]

@@ -1,5 +1,5 @@
 //! Rounds that are worked out by hand.
-use crate::scene::{ascending, chain, changeset, commit, empty, prune};
+use crate::scene::{ascending, chain, commit, many_roots, prune};
 use hg_changeset::Node;
 use hg_discovery::{
     Discovery, DiscoveryError, heads_in_common, heads_in_common_kept, known, known_kept,
@@ -9,34 +9,10 @@ use hg_replica::Replica;
 use hg_view::{Kept, Pins};
 use std::alloc::Global;
 
-// A draft chain of different texts, and its tip.
-fn long_chain(alloc: Global, replica: &mut Replica, count: u32) -> Option<Node> {
-    let mut tip = Node::NULL;
-    for number in 0..count {
-        tip = commit(alloc, replica, tip, &number.to_be_bytes(), Phase::Draft)?;
-    }
-    Some(tip)
-}
-
-// Draft roots of different texts.
-fn roots(alloc: Global, replica: &mut Replica, count: u32) -> Option<()> {
-    for number in 0..count {
-        commit(
-            alloc,
-            replica,
-            Node::NULL,
-            &number.to_be_bytes(),
-            Phase::Draft,
-        )?;
-    }
-    Some(())
-}
-
 #[test]
 fn roots_are_asked_200_at_a_time(rt: HostRuntime) {
     let alloc = rt.alloc();
-    let mut asker = Replica::new(alloc);
-    roots(alloc, &mut asker, 450).expect(&rt, "memory");
+    let asker = many_roots(alloc, 450).expect(&rt, "memory");
     let other = Replica::new(alloc);
     let mut discovery = Discovery::start(alloc, &asker).expect(&rt, "memory");
     for count in [200usize, 200, 50] {
@@ -55,7 +31,11 @@ fn roots_are_asked_200_at_a_time(rt: HostRuntime) {
 fn a_long_chain_is_asked_about_by_its_tip_and_then_by_the_least_others(rt: HostRuntime) {
     let alloc = rt.alloc();
     let mut asker = Replica::new(alloc);
-    let tip = long_chain(alloc, &mut asker, 300).expect(&rt, "memory");
+    let mut tip = Node::NULL;
+    for number in 0..300u32 {
+        let text = number.to_be_bytes();
+        tip = commit(alloc, &mut asker, tip, &text, Phase::Draft).expect(&rt, "memory");
+    }
     let discovery = Discovery::start(alloc, &asker).expect(&rt, "memory");
     let sample = discovery.sample().expect(&rt, "memory");
     let mut expected = asker.graph().ancestors(&[tip]).expect(&rt, "memory");
@@ -97,7 +77,8 @@ fn an_earlier_answer_of_a_round_counts(rt: HostRuntime) {
     assert!(rt; discovery.common_heads().expect(&rt, "memory").as_slice() == [c].as_slice());
 }
 
-// The other side holds a secret changeset, one that was pruned, and a pruned one that something stands on.
+// The other side holds a secret changeset, one that was pruned, and a pruned one that something stands on. The hidden
+// one is known where it is pinned. What keeps its sets tells the same.
 #[test]
 fn what_is_hidden_or_secret_is_not_known(rt: HostRuntime) {
     let alloc = rt.alloc();
@@ -108,38 +89,14 @@ fn what_is_hidden_or_secret_is_not_known(rt: HostRuntime) {
     prune(alloc, &mut other, hidden).expect(&rt, "memory");
     prune(alloc, &mut other, a).expect(&rt, "memory");
     let asked = [secret, a, hidden, Node([0x11; 20]), b];
-    let answers = known(alloc, &other, &Pins::new(alloc), &asked).expect(&rt, "memory");
-    assert!(rt; answers.as_slice() == [false, true, false, false, true].as_slice());
-}
-
-// Secret, hidden, and visible below what isn't obsolete.
-#[test]
-fn a_kept_replica_knows_what_it_serves(rt: HostRuntime) {
-    let alloc = rt.alloc();
-    let mut other = Replica::new(alloc);
-    let [a, b, c] = chain(alloc, &mut other, b"abc").expect(&rt, "memory");
-    let secret = commit(alloc, &mut other, a, b"secret", Phase::Secret).expect(&rt, "memory");
-    prune(alloc, &mut other, a).expect(&rt, "memory");
-    prune(alloc, &mut other, c).expect(&rt, "memory");
-    let other = Kept::new(alloc, other).expect(&rt, "memory");
-    let asked = [secret, a, c, Node([0x11; 20]), b];
-    let answers = known_kept(alloc, &other, &asked).expect(&rt, "memory");
-    assert!(rt; answers.as_slice() == [false, true, false, false, true].as_slice());
-}
-
-// A pruned head is extinct: it is known where it is pinned, and not without the pin.
-#[test]
-fn what_is_pinned_is_known(rt: HostRuntime) {
-    let alloc = rt.alloc();
-    let mut other = Replica::new(alloc);
-    let [_, b, _] = chain(alloc, &mut other, b"ab").expect(&rt, "memory");
-    prune(alloc, &mut other, b).expect(&rt, "memory");
     let mut pins = Pins::new(alloc);
-    let unpinned = known(alloc, &other, &pins, &[b]).expect(&rt, "memory");
-    assert!(rt; unpinned.as_slice() == [false].as_slice());
-    assert!(rt; pins.pin(&other, b) == Ok(()));
-    let pinned = known(alloc, &other, &pins, &[b]).expect(&rt, "memory");
+    let answers = known(alloc, &other, &pins, &asked).expect(&rt, "memory");
+    assert!(rt; answers.as_slice() == [false, true, false, false, true].as_slice());
+    assert!(rt; pins.pin(&other, hidden) == Ok(()));
+    let pinned = known(alloc, &other, &pins, &[hidden]).expect(&rt, "memory");
     assert!(rt; pinned.as_slice() == [true].as_slice());
+    let kept = Kept::new(alloc, other).expect(&rt, "memory");
+    assert!(rt; known_kept(alloc, &kept, &asked).expect(&rt, "memory") == answers);
 }
 
 // What the asker hides is common, where the other side serves it.
@@ -180,15 +137,6 @@ fn what_is_pruned_after_a_yes_stays_common(rt: HostRuntime) {
     assert!(rt; discovery.done());
     assert!(rt; discovery.common_heads().expect(&rt, "memory").as_slice() == [b].as_slice());
     assert!(rt; asker.graph().contains(b) && other.graph().contains(b));
-}
-
-#[test]
-fn the_number_and_the_name_of_a_refusal(rt: HostRuntime) {
-    let alloc = rt.alloc();
-    assert!(rt; DiscoveryError::WrongCount.number() == Some(1));
-    assert!(rt; DiscoveryError::NoMemory.number().is_none());
-    let name = format!(in alloc; "{}", DiscoveryError::WrongCount).expect(&rt, "memory");
-    assert!(rt; name.as_str() == "WrongCount");
 }
 
 #[test]
@@ -240,24 +188,11 @@ fn refused_growth_leaves_a_discovery_as_it_was(rt: HostRuntime) {
     assert!(rt; discovery.done() && heads.as_slice() == [a].as_slice());
 }
 
-// One that holds 201 draft roots, which it took in at once.
-fn many_roots(alloc: Global) -> Option<Replica> {
-    let mut part = empty(alloc);
-    for number in 0..201u32 {
-        let root = changeset(alloc, Node::NULL, Node::NULL, &number.to_be_bytes())?;
-        part.bounds.push((root.node(), Phase::Draft)).ok()?;
-        part.changesets.push(root).ok()?;
-    }
-    let mut replica = Replica::new(alloc);
-    replica.absorb_owned(part).ok()?;
-    Some(replica)
-}
-
 // The first round leaves one changeset undecided.
 #[test]
 fn refused_growth_leaves_a_discovery_between_two_rounds_as_it_was(rt: HostRuntime) {
     let alloc = rt.alloc();
-    let Some(replica) = many_roots(alloc) else {
+    let Some(replica) = many_roots(alloc, 201) else {
         return;
     };
     let mut discovery = match Discovery::start(alloc, &replica) {
@@ -288,7 +223,7 @@ fn two_chains(alloc: Global) -> Option<(Replica, Replica, Node)> {
 #[test]
 fn more_heads_than_a_round_asks_about_are_in_common(rt: HostRuntime) {
     let alloc = rt.alloc();
-    let replica = many_roots(alloc).expect(&rt, "memory");
+    let replica = many_roots(alloc, 201).expect(&rt, "memory");
     let heads = heads_in_common(alloc, &replica, &replica, &Pins::new(alloc)).expect(&rt, "memory");
     assert!(rt; heads.len() == 201);
 }

@@ -4,14 +4,6 @@ use hg_changeset::Node;
 use hg_log::draw_graph;
 use hg_view::Kept;
 use std::alloc::Global;
-use std::process::Abort;
-
-// The history is drawn so under the name A.
-fn expect(rt: &impl Abort, alloc: Global, kept: &Kept, shows_hidden: bool, graph: &[u8]) {
-    let mut drawn = Vec::new(alloc);
-    draw_graph(alloc, b"A", kept, shows_hidden, &mut drawn).expect(rt, "memory");
-    assert_eq!(rt; drawn.as_slice(), graph);
-}
 
 // One whose label is hard to quote was pruned, and of another rewrite nothing is held.
 fn pruned(alloc: Global, kept: &mut Kept) -> Option<()> {
@@ -32,5 +24,7 @@ fn what_isnt_held_is_dotted_and_labels_are_quoted(rt: HostRuntime) {
             \"222222222222\" [label=\"222222222222\", style=dotted];\n    \
             \"111111111111\" -> \"222222222222\" [style=dashed, constraint=false];\n\
             }\n";
-    expect(&rt, alloc, &kept, true, graph);
+    let mut drawn = Vec::new(alloc);
+    draw_graph(alloc, b"A", &kept, true, &mut drawn).expect(&rt, "memory");
+    assert_eq!(rt; drawn.as_slice(), graph.as_slice());
 }

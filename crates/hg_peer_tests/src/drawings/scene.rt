@@ -1,8 +1,9 @@
 //! Small histories to draw. `None` where memory ran out.
+use crate::scene;
 use hg_changeset::{Changeset, Node};
 use hg_marker::{Marker, Metadata};
 use hg_phases::Phase;
-use hg_replica::{Part, Replica};
+use hg_replica::Replica;
 use hg_view::Kept;
 use std::alloc::Global;
 
@@ -16,8 +17,8 @@ pub fn empty(alloc: Global) -> Option<Kept> {
     Kept::new(alloc, Replica::new(alloc)).ok()
 }
 
-/// Takes in a changeset of these parents, whose text is its label.
-pub fn commit(
+// Takes in a changeset of these parents, whose text is its label.
+fn commit(
     alloc: Global,
     kept: &mut Kept,
     parents: (Node, Node),
@@ -27,7 +28,7 @@ pub fn commit(
     let text = Vec::from_slice(alloc, label).ok()?;
     let changeset = Changeset::new(parents.0, parents.1, text).ok()?;
     let node = changeset.node();
-    let mut part = nothing(alloc);
+    let mut part = scene::empty(alloc);
     part.changesets.push(changeset).ok()?;
     part.bounds.push((node, phase)).ok()?;
     kept.absorb_owned(part).ok()?;
@@ -51,26 +52,17 @@ pub fn rewrite(
     metadata.insert(alloc, b"operation", operation).ok()?;
     let new = Vec::from_slice(alloc, new).ok()?;
     let marker = Marker::new(old, new, 0, metadata).ok()?;
-    let mut part = nothing(alloc);
+    let mut part = scene::empty(alloc);
     part.markers.push(marker).ok()?;
     kept.absorb_owned(part).ok()?;
     Some(())
 }
 
-/// One that has a child was amended: gives the orphan and what it was amended to.
-pub fn amended(alloc: Global, kept: &mut Kept) -> Option<(Node, Node)> {
+/// One that has a child was amended.
+pub fn amended(alloc: Global, kept: &mut Kept) -> Option<()> {
     let a = commit(alloc, kept, (Node::NULL, Node::NULL), b"a", Phase::Public)?;
     let b = draft(alloc, kept, a, b"b")?;
-    let c = draft(alloc, kept, b, b"c")?;
+    draft(alloc, kept, b, b"c")?;
     let b2 = draft(alloc, kept, a, b"b2")?;
-    rewrite(alloc, kept, b"amend", b, &[b2])?;
-    Some((c, b2))
-}
-
-fn nothing(alloc: Global) -> Part {
-    Part {
-        changesets: Vec::new(alloc),
-        bounds: Vec::new(alloc),
-        markers: Vec::new(alloc),
-    }
+    rewrite(alloc, kept, b"amend", b, &[b2])
 }

@@ -47,15 +47,6 @@ fn changesets_on_a_cycle_that_a_join_closed_are_extinct_and_hidden(rt: HostRunti
     assert!(rt; is_gone(alloc, &one, y) == Some(true));
 }
 
-// Rewritten to the one of two draft roots, and to the other.
-fn rewrite_twice(alloc: Global, replica: &mut Replica, node: Node, number: u8) -> Option<()> {
-    for half in [b'x', b'y'] {
-        let root = root(alloc, replica, &[half, number])?;
-        rewrite(alloc, replica, node, &[root], 0)?;
-    }
-    Some(())
-}
-
 // An id that isn't held was rewritten to a draft root and to thirteen others, each of which was rewritten twice: so
 // that two to the power of thirteen ways lead from it.
 fn rewritten_in_too_many_ways(alloc: Global, replica: &mut Replica) -> Option<Node> {
@@ -63,7 +54,10 @@ fn rewritten_in_too_many_ways(alloc: Global, replica: &mut Replica) -> Option<No
     let mut successors = Vec::new(alloc);
     for number in 100..113u8 {
         let part = Node([number; 20]);
-        rewrite_twice(alloc, replica, part, number)?;
+        for half in [b'x', b'y'] {
+            let root = root(alloc, replica, &[half, number])?;
+            rewrite(alloc, replica, part, &[root], 0)?;
+        }
         successors.push(part).ok()?;
     }
     successors.push(kept).ok()?;

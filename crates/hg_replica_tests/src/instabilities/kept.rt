@@ -109,9 +109,9 @@ fn stays_or_takes_in(kept: &mut Kept, first: Way<'_>, again: Way<'_>) -> Option<
 fn takes_in_each_way(alloc: Global) -> Option<bool> {
     let mut replica = Replica::new(alloc);
     let nodes = upset(alloc, &mut replica)?;
-    let part = turning(alloc, &nodes)?.0;
-    let first = turning(alloc, &nodes)?.0;
-    let again = turning(alloc, &nodes)?.0;
+    let part = turning(alloc, &nodes)?;
+    let first = turning(alloc, &nodes)?;
+    let again = turning(alloc, &nodes)?;
     let mut one = Kept::new(alloc, replica).ok()?;
     let mut plain = one.copy().ok()?;
     plain.absorb(&part).ok()?;

@@ -1,7 +1,7 @@
 //! Small histories, and the instabilities that each has.
 use crate::instabilities::scene::{ELSEWHERE, Kinds, commit, expect_kinds, lower, rewrite};
 use hg_changeset::Node;
-use hg_instab::{Instabilities, has_phase, is_obsolete};
+use hg_instab::Instabilities;
 use hg_phases::Phase;
 use hg_replica::Replica;
 use std::alloc::Global;
@@ -13,17 +13,6 @@ fn chain(alloc: Global, replica: &mut Replica) -> Option<(Node, Node, Node, Node
     let c = commit(alloc, replica, b, b"c", Phase::Draft)?;
     let amended = commit(alloc, replica, a, b"amended", Phase::Draft)?;
     Some((a, b, c, amended))
-}
-
-#[test]
-fn a_pruned_draft_is_obsolete(rt: HostRuntime) {
-    let alloc = rt.alloc();
-    let mut replica = Replica::new(alloc);
-    let (a, _, c, _) = chain(alloc, &mut replica).expect(&rt, "memory");
-    rewrite(alloc, &mut replica, c, &[], 0).expect(&rt, "memory");
-    assert!(rt; is_obsolete(&replica, c) && !is_obsolete(&replica, a));
-    assert!(rt; has_phase(&replica, c, Phase::Draft));
-    assert!(rt; !has_phase(&replica, ELSEWHERE, Phase::Public));
 }
 
 // A public changeset was rewritten to a draft one. Says whether the latter is phase-divergent.

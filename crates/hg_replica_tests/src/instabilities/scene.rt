@@ -97,16 +97,11 @@ pub fn expect_kinds(rt: &impl Abort, alloc: Global, replica: &Replica, kinds: &K
     let told = Instabilities::from_scratch(alloc, replica).expect(rt, "memory");
     let copy = told.copy().expect(rt, "memory");
     for sets in [told, copy] {
-        expect_sets(rt, &sets, kinds);
+        assert!(rt; has_exactly(sets.obsolete(), kinds.obsolete));
+        assert!(rt; has_exactly(sets.orphan(), kinds.orphan));
+        assert!(rt; has_exactly(sets.suspended(), kinds.suspended));
+        assert!(rt; has_exactly(sets.extinct(), kinds.extinct));
+        assert!(rt; has_exactly(sets.phase_divergent(), kinds.phase_divergent));
+        assert!(rt; has_exactly(sets.content_divergent(), kinds.content_divergent));
     }
-}
-
-/// The sets have exactly the nodes of these kinds.
-pub fn expect_sets(rt: &impl Abort, told: &Instabilities, kinds: &Kinds) {
-    assert!(rt; has_exactly(told.obsolete(), kinds.obsolete));
-    assert!(rt; has_exactly(told.orphan(), kinds.orphan));
-    assert!(rt; has_exactly(told.suspended(), kinds.suspended));
-    assert!(rt; has_exactly(told.extinct(), kinds.extinct));
-    assert!(rt; has_exactly(told.phase_divergent(), kinds.phase_divergent));
-    assert!(rt; has_exactly(told.content_divergent(), kinds.content_divergent));
 }

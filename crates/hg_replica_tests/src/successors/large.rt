@@ -92,15 +92,6 @@ fn chain(alloc: Global) -> Option<Replica> {
     replica_of(alloc, &part)
 }
 
-// The nodes of the chain.
-fn links(alloc: Global) -> Option<Vec<Node>> {
-    let mut links = Vec::new(alloc);
-    for number in 0..LENGTH {
-        links.push(link(number)).ok()?;
-    }
-    Some(links)
-}
-
 fn is_alone(sets: &Sets, node: Node) -> bool {
     match sets {
         Sets::Family(family) => family.len() == 1
@@ -120,7 +111,10 @@ fn each_node_of_a_long_chain_became_its_end(rt: HostRuntime) {
             .expect(&rt, "memory");
         assert!(rt; is_alone(&sets, end));
     }
-    let links = links(alloc).expect(&rt, "memory");
+    let mut links = Vec::new(alloc);
+    for number in 0..LENGTH {
+        links.push(link(number)).expect(&rt, "memory");
+    }
     let several = several_among(alloc, &replica, &links).expect(&rt, "memory");
     assert!(rt; several.len() == 0);
 }

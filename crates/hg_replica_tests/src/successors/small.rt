@@ -1,4 +1,4 @@
-//! Small histories of more markers than are told both ways, and the successors sets of their nodes.
+//! Small histories, and the successors sets of their nodes.
 use crate::successors::scene::{rewritten, tells};
 
 // The split node is held or not, which says nothing of its sets.
@@ -31,6 +31,21 @@ fn a_set_within_a_larger_one_is_dropped(rt: HostRuntime) {
     let markers: [(u8, &[u8]); 4] = [(b'x', b"y"), (b'y', b"x"), (b'n', b"xw"), (b'n', b"wv")];
     let replica = rewritten(alloc, b"wv", &markers).expect(&rt, "memory");
     assert!(rt; tells(alloc, &replica, b'n', &[b"vw"]) == Some(true));
+}
+
+// A marker that comes from elsewhere may name its predecessor among its successors, alone or beside another, or name
+// one successor twice. What leads to such a predecessor goes on without it.
+#[test]
+fn what_was_rewritten_to_itself_has_no_sets(rt: HostRuntime) {
+    let alloc = rt.alloc();
+    let markers: [(u8, &[u8]); 4] = [(b'a', b"a"), (b'b', b"bw"), (b'c', b"aw"), (b'd', b"ww")];
+    let replica = rewritten(alloc, b"abw", &markers).expect(&rt, "memory");
+    for name in b"ab" {
+        assert!(rt; tells(alloc, &replica, *name, &[]) == Some(true));
+    }
+    for name in b"cdw" {
+        assert!(rt; tells(alloc, &replica, *name, &[b"w"]) == Some(true));
+    }
 }
 
 // a and b are on a cycle that leads to m, and m leads to the cycle of c and d.
