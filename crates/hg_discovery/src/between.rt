@@ -1,12 +1,8 @@
 //! A whole discovery between two replicas of one process.
 ghost use Rattle.std.specs.Prelude.{◌≡◌, ◌↔◌, List, IfOk, IfErr, length};
-ghost use Rattle.hg_changeset.specs.declared.node.Node.{Node};
-ghost use Rattle.hg_graph.specs.Marks.{IsMarkedNode};
 ghost use Rattle.hg_phases.specs.State.{changesets};
-ghost use Rattle.hg_replica.specs.Content.{content_of};
-ghost use Rattle.hg_view.specs.Pins.{IsServedUnder};
 ghost use Rattle.hg_discovery.specs.declared.error.DiscoveryError.TheVariants.{NoMemory};
-ghost use Rattle.hg_discovery.specs.Between.{AreHeadsInCommon};
+ghost use Rattle.hg_discovery.specs.Between.{AreHeadsInCommon, AreHeadsOfServed};
 
 use crate::answers::known_by;
 use crate::discovery::Discovery;
@@ -58,10 +54,7 @@ fn ask_in_rounds(
     served: &[bool],
 ) -> Result<Vec<Node>, DiscoveryError>
     requires len { length served.now ≡ length (changesets other.now.history) }
-    ensures heads { IfOk result (λ heads. (pins : List Node)
-        → ((n : Node) → IsMarkedNode (changesets other.now.history) served.now n
-        ↔ IsServedUnder (content_of other.now) pins n)
-        → AreHeadsInCommon asker.now other.now pins heads.items) }
+    ensures heads { IfOk result (λ heads. AreHeadsOfServed asker.now other.now served.now heads.items) }
     ensures memory { IfErr result (λ error. error ≡ NoMemory) }
 {
     let shared = shared_marks(alloc, asker)?;

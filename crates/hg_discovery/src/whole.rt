@@ -11,10 +11,7 @@ ghost use Rattle.hg_graph.specs.Graph.{Holds};
 ghost use Rattle.hg_graph.specs.Marks.{IsMarkedNode};
 ghost use Rattle.hg_graph.specs.Places.{IsAt, IsOnlyAt, IsParentPlace};
 ghost use Rattle.hg_phases.specs.State.{changesets};
-ghost use Rattle.hg_replica.specs.Content.{content_of};
-ghost use Rattle.hg_view.specs.Pins.{IsServedUnder};
-ghost use Rattle.hg_view.specs.Share.{IsShared};
-ghost use Rattle.hg_discovery.specs.Between.{AreHeadsInCommon};
+ghost use Rattle.hg_discovery.specs.Between.{AreHeadsOfServed, AreSharedMarks};
 ghost use Rattle.hg_discovery.specs.Heads.{IsMarkedOnBoth};
 ghost use Rattle.hg_discovery.specs.Spread.{IsMarked};
 ghost use Rattle.hg_discovery.specs.Under.{IsOneOf};
@@ -37,13 +34,10 @@ pub(crate) fn heads_at_once(
     served: &[bool],
 ) -> Result<Option<Vec<Node>>, AllocError>
     requires shared_len { length shared.now ≡ length (changesets asker.now.history) }
-    requires shared { (n : Node) → IsMarkedNode (changesets asker.now.history) shared.now n
-        ↔ IsShared (content_of asker.now) n }
+    requires shared { AreSharedMarks asker.now shared.now }
     requires served_len { length served.now ≡ length (changesets other.now.history) }
-    ensures { IfOk result (λ found. IfSome found (λ heads. (pins : List Node)
-        → ((n : Node) → IsMarkedNode (changesets other.now.history) served.now n
-        ↔ IsServedUnder (content_of other.now) pins n)
-        → AreHeadsInCommon asker.now other.now pins heads.items)) }
+    ensures { IfOk result
+        (λ found. IfSome found (λ heads. AreHeadsOfServed asker.now other.now served.now heads.items)) }
 {
     let graph = asker.graph();
     let common = common_marks(alloc, graph, shared, other.graph(), served)?;
