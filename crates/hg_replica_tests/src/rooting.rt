@@ -43,9 +43,11 @@ fn roots_of(rt: &impl Abort, replica: &Replica) -> Roots {
 fn refused_growth_moves_neither_phases_nor_roots(rt: HostRuntime) {
     let alloc = rt.alloc();
     let mut replica = Replica::new(alloc);
-    let Some(([root, left, right, merge], part)) = fork(alloc, &mut replica) else {
+    let Some(forked) = fork(alloc, &mut replica) else {
         return;
     };
+    let (nodes, part) = forked;
+    let [root, left, right, merge] = nodes;
     if let Err(fault) = replica.absorb(&part) {
         assert!(rt; fault == Fault::NoMemory && phase(&replica, left) == Some(Phase::Secret));
         assert!(rt; roots_of(&rt, &replica).as_slice() == [(Phase::Secret, root)].as_slice());

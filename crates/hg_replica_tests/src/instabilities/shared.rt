@@ -19,9 +19,10 @@ fn hidden(alloc: Global, replica: &mut Replica) -> Option<[Node; 2]> {
 fn refused_growth_shares_nothing(rt: HostRuntime) {
     let alloc = rt.alloc();
     let mut replica = Replica::new(alloc);
-    let Some([root, pruned]) = hidden(alloc, &mut replica) else {
+    let Some(nodes) = hidden(alloc, &mut replica) else {
         return;
     };
+    let [root, pruned] = nodes;
     let shared = match share(alloc, &replica) {
         Ok(shared) => shared,
         Err(_) => share(alloc, &replica).expect(&rt, "memory"),
