@@ -135,7 +135,7 @@ impl PhaseMap {
     }
 
     // Lowers, and tells from the log what went down. After a refusal the log takes back what was done.
-    fn lower_and_tell(
+    pub(crate) fn lower_and_tell(
         &mut self,
         graph: &Graph,
         log: &mut LoweringLog,

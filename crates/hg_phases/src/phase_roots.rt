@@ -181,10 +181,9 @@ impl PhaseRoots {
         ensures roots { OnErr result (self.new.roots ≡ self.old.roots) }
         ensures memory { OnErr result (IsAbove (kept_state graph.now self.old.phases) node phase) }
     {
-        self.phases.lower_logged(graph, log, node, phase)?;
-        let nodes = log.nodes_before(graph, graph.len())?;
+        let lowered = self.phases.lower_and_tell(graph, log, node, phase)?;
         self.update(graph, log, graph.len())?;
-        Ok(Lowered { nodes })
+        Ok(lowered)
     }
 
     /// Moves the roots of the changesets before a place to where they are since the others were added and what was

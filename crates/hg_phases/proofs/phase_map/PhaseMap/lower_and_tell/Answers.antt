@@ -17,3 +17,13 @@ returns-clause-lowered c =
     subst (λ ds. ListsLowered (state_of ds old) (state_of cs new) c.in_ok-nodes.nodes.items) same_graph
     (subst (λ ks. ListsLowered (state_of (take c.len.result cs) ks) (state_of cs new) c.in_ok-nodes.nodes.items)
     same_phases told)
+
+pub returns-clause-least : goal.returns-clause-least
+returns-clause-least c = c.in_ok-lower_logged.ensures.least
+
+pub returns-clause-valid : goal.returns-clause-valid
+returns-clause-valid c = c.in_ok-lower_logged.ensures.valid
+
+pub returns-clause-logged : goal.returns-clause-logged
+returns-clause-logged c =
+    c.lower_logged.ensures.logged c.args.self.now (fresh_log c.args.phase c.args.self.now c.args.log.now c.requires.fresh)
