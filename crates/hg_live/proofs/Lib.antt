@@ -1,9 +1,5 @@
 pub mod AfterLemmas
 pub mod CallLemmas
 pub mod LookLemmas
-pub mod MoveLemmas
-pub mod OnceLemmas
 pub mod PassLemmas
-pub mod RestLemmas
 pub mod StatusLemmas
-pub mod ThreadLemmas

@@ -1,6 +1,4 @@
-//! What threads share: nodes, each a replica with a lock of its own, and inboxes between them.
-//!
-//! # Nodes
+//! Nodes that threads share, each a replica with a lock of its own.
 //!
 //! A [`Node`] is opened from a [`Blank`], which a replica was handed to, under a name that the call picks for it. A
 //! thread uses it by a [`Pass`] of its own, of which 16 may be out at a time:
@@ -39,63 +37,32 @@
 //! The state that entries lead to is the least one, part after part, above what the node opened with
 //! ([`states_are_least`]).
 //!
-//! # The inbox
-//!
-//! Any number of threads put messages into an [`Inbox`] and take messages out of it, each by a [`Seat`] of its own. No
-//! thread locks another out, and no message is copied.
-//!
-//! The accepted puts of an inbox are numbered from 0, with no number left out, and so are the takes that give a
-//! message.
-//! A take gives the message of the put with its number. So messages come out in the order in which they were put in,
-//! each once, whichever threads put and take them.
-//!
-//! A seat knows its own puts and takes, each under its number; the numbers ascend in the order of its calls. No thread
-//! sees more than that while others put and take. [`Inbox::close`], which all seats come back for, sees everything: the
-//! puts of all seats, by their numbers, are one list; their takes are the front of it; and what is given back is the
-//! rest of it, in order.
-//!
-//! [`Inbox::put`] refuses only where the inbox held as many messages as it may at one moment of the call, and hands the
-//! message back. [`Inbox::take`] gives none only where the inbox was empty at one moment of the call.
-//!
-//! All of it holds for up to 2^62 puts. The calls past them wait for ever.
-//!
 //! # What is not promised
 //!
 //! The calls of a node that take its lock wait for whoever has it, and publishing waits for readers of what is no
 //! longer published, so no contract says that they return. Nothing is said of the order of two calls of passes that
 //! told each other nothing. That [`Accepted::Later`] comes only where memory was wanting, and a pass is refused only
 //! where there are 16, is for tests.
-//!
-//! [`Inbox::put`], [`Inbox::take`] and [`Inbox::close`] may wait for a thread that was stopped in the midst of its own
-//! call, so no contract says that they return. Nor can a contract tell a refusal that had to be from one that had not:
-//! what was so at one moment of a call leaves no trace. That `put` succeeds where there is room, that `take` gives a
-//! message where there is one, and that `close` succeeds where there is memory, is for tests.
 #![tactic(auto)]
 
 mod answer;
 mod desk;
 mod entry;
 mod gate;
-mod inbox;
 mod laws;
 mod name;
 mod node;
 mod pass;
-mod refusal;
-mod rule;
 mod status;
-mod steps;
 mod store;
 
 pub use answer::{Accepted, CallRefusal, CloseRefusal, LookRefusal, NoPass, NotOffered};
 pub use desk::Desk;
 pub use entry::Entry;
 pub use gate::{Gate, OpenGate};
-pub use inbox::{Inbox, Seat, Unclosed};
 pub use laws::states_are_least;
 pub use name::NodeName;
 pub use node::{Blank, Node, Unclosed as UnclosedNode};
 pub use pass::Pass;
-pub use refusal::{Full, InboxRefusal};
 pub use status::Status;
 pub use store::{Published, Step, Writer};

@@ -1,7 +1,7 @@
 //! An inbox in one thread, and its refusals.
 ghost use Rattle.std.specs.Prelude.{◌≡◌};
 
-use hg_live::{Full, Inbox, InboxRefusal, Seat};
+use hg_inbox::{Full, Inbox, InboxRefusal, Seat};
 use std::alloc::Global;
 use std::process::Abort;
 use std::sync::Wait;

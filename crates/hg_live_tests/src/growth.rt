@@ -2,7 +2,8 @@
 ghost use Rattle.std.specs.Prelude.{◌≡◌};
 
 use crate::making::{Open, root};
-use hg_live::{Blank, Inbox, InboxRefusal, NoPass, Node, NodeName, OpenGate};
+use hg_inbox::{Inbox, InboxRefusal};
+use hg_live::{Blank, NoPass, Node, NodeName, OpenGate};
 use hg_replica::Replica;
 use hg_rewrite::decide;
 use hg_view::Pins;

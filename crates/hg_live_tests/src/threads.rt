@@ -1,7 +1,7 @@
 //! Threads that put messages into one inbox and take messages out of it, side by side.
 ghost use Rattle.std.specs.Prelude.{◌≡◌};
 
-use hg_live::{Inbox, Seat};
+use hg_inbox::{Inbox, Seat};
 use std::alloc::Global;
 use std::process::Abort;
 use std::sync::Wait;

@@ -5,8 +5,8 @@ use Rattle.std.proofs.Crossing.{crosses, frees}
 use Rattle.atomic_table.proofs.shared.Seat.TheSendSync.{the_send as pass_send}
 use Rattle.atomic_table.proofs.shared.Shared.TheSendSync.{the_send as table_send}
 use Rattle.atomic_table.proofs.send_lease.SendLease.TheSendSync.{the_send as lease_send}
-use Rattle.hg_live.specs.contracts.inbox.Inbox as inbox
-use Rattle.hg_live.proofs.ThreadLemmas.{inbox_sync, seat_send}
+use Rattle.hg_inbox.specs.contracts.inbox.Inbox as inbox
+use Rattle.hg_inbox.proofs.ThreadLemmas.{inbox_sync, seat_send}
 use Rattle.hg_race.specs.contracts.racer.Lane as lane
 use Rattle.hg_race.specs.contracts.racer.Racer as racer
 use Rattle.hg_race.specs.contracts.station.Station as station

@@ -2,8 +2,8 @@
 ghost use Rattle.std.specs.Prelude.{◌≡◌, IfOk};
 ghost use Rattle.std.specs.Arc.{arc_value};
 
+use hg_inbox::{Inbox, Seat};
 use hg_join::NoMemory;
-use hg_live::{Inbox, Seat};
 use std::alloc::Global;
 use std::sync::{Arc, Wait};
 

@@ -1,0 +1,4 @@
+pub mod MoveLemmas
+pub mod OnceLemmas
+pub mod RestLemmas
+pub mod ThreadLemmas

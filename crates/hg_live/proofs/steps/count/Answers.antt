@@ -1,5 +1,0 @@
-use Rattle.hg_live.proofs.MoveLemmas.{wholes}
-use Rattle.hg_live.proofs.steps.count.Goals as goal
-
-pub len_as-requires-clause-rule : goal.len_as-requires-clause-rule
-len_as-requires-clause-rule g c = wholes _ _ c.requires.1

@@ -1,5 +1,0 @@
-use Rattle.hg_live.proofs.MoveLemmas.{parts_most}
-use Rattle.hg_live.proofs.steps.count_parts.Goals as goal
-
-pub learn_as-requires-clause-rule : goal.learn_as-requires-clause-rule
-learn_as-requires-clause-rule c = parts_most _ _

@@ -1,5 +1,0 @@
-use Rattle.hg_live.proofs.MoveLemmas.{merges}
-use Rattle.hg_live.proofs.steps.give_back.Goals as goal
-
-pub absorb-requires-clause-rule : goal.absorb-requires-clause-rule
-absorb-requires-clause-rule c = merges _ _ _ _

@@ -1,5 +1,0 @@
-use Rattle.hg_live.proofs.MoveLemmas.{wholes}
-use Rattle.hg_live.proofs.steps.learn.Goals as goal
-
-pub learn_as-requires-clause-rule : goal.learn_as-requires-clause-rule
-learn_as-requires-clause-rule c = wholes _ _ c.requires.1

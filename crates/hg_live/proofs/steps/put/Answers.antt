@@ -1,5 +1,0 @@
-use Rattle.hg_live.proofs.MoveLemmas.{puts, agrees}
-use Rattle.hg_live.proofs.steps.put.Goals as goal
-
-pub push_as-requires-clause-rule : goal.push_as-requires-clause-rule
-push_as-requires-clause-rule g c = (puts _ _ _ _ c.requires.1, agrees _ _)
