@@ -10,70 +10,39 @@ in two ways. The others are of ids that meet, so that tables of ids find them by
 like hashes. An id of a marker is whatever its sender writes. That of a changeset is its SHA-1: to let it begin with k
 given bits takes about 2^k tries.
 
-`hgfleet show` reads these bytes. No script takes any; the cases of hg_bench from `sets-wide` to `sets-tangled`, and
-those whose names hold `meeting`, absorb markers of the same shapes, and ask about them.
+`hgfleet show` reads these bytes, and hg_bench takes messages in. No script takes any.
 """
-import hashlib
 import struct
 import sys
+from functools import partial
+
+import messages
+from cases import MEETING_SIZES, WIDE_SIZES
+from messages import bound, held, meeting, node_of, record, scattered, unheld
 
 PARTS = 12
 SUCCESSORS = 255
-DRAFT = 1
-NULL = bytes(20)
-SERVED = 0
 
 
 # ---- the format
 
 
-def node_of(text):
-    """The id of a changeset without parents."""
-    return hashlib.sha1(NULL + NULL + text).digest()
-
-
-def record(text):
-    """A changeset without parents."""
-    return node_of(text) + NULL + NULL + struct.pack(">I", len(text)) + text
-
-
-def bound(node):
-    """That a changeset is a draft."""
-    return struct.pack(">I", DRAFT) + node
-
-
-def marker(old, new):
-    """That an id was rewritten to these, all together."""
-    return struct.pack(">BIB", len(new), 0, 0) + old + b"".join(new)
-
-
 def store(markers):
     """The store of these markers."""
-    return b"\0" + b"".join(marker(old, new) for old, new in markers)
+    return messages.store(told(markers))
+
+
+def told(markers):
+    """These markers, each in its form."""
+    return [messages.marker(old, new) for old, new in markers]
 
 
 def message(texts, markers):
-    """The message of drafts with these texts, and of these markers."""
-    told = store(markers)
-    return b"".join((
-        b"HGFX", struct.pack(">BB", 2, SERVED),
-        struct.pack(">I", len(texts)), *(record(text) for text in texts),
-        struct.pack(">I", len(texts)), *(bound(node_of(text)) for text in texts),
-        struct.pack(">I", len(told)), told,
-    ))
+    """The message of drafts with these texts and no parents, and of these markers."""
+    return messages.message([*map(record, texts)], [bound(node_of(text)) for text in texts], told(markers))
 
 
 # ---- what is in the messages
-
-
-def held(number):
-    """The text of a draft, as long as that of a short entry."""
-    return b"%058d" % number
-
-
-def unheld(name):
-    """An id that no changeset has."""
-    return hashlib.sha1(name.encode()).digest()
 
 
 def wide(members):
@@ -139,16 +108,6 @@ def between(size):
     return texts, markers[:2] + met + markers[2:]
 
 
-def meeting(number):
-    """An id that begins as all of these do, and ends so that they come in no order."""
-    return b"\1" * 16 + struct.pack(">I", number * 0x9E37_79B1 % 2**32)
-
-
-def scattered(number):
-    """An id that looks like a hash."""
-    return unheld(f"scattered {number}")
-
-
 def predecessors(size, id_of):
     """The shortest markers, which tell of nothing but their predecessors: so many prunes."""
     return [], [(id_of(number), []) for number in range(size)]
@@ -176,6 +135,34 @@ CASES = {
 
 # Those of ids that meet, and what stands beside each.
 BESIDE = {f"meeting-{role}": f"scattered-{role}" for role in ("predecessors", "successors")}
+
+# Those that hg_bench takes in, with what they are and their sizes.
+TAKEN = {
+    "wide": ("4,096 successors sets, of 12 times so many members each", (60, 120, 240)),
+    "split": ("so many ids, each split into one with 4,096 successors sets and one of its own", WIDE_SIZES),
+    "between": ("the same, where each one more is met between the parts of the one with 4,096", WIDE_SIZES),
+    "chain": ("the same in a chain, each split into the one before and one of its own", (50, 100, 200)),
+    "tangled": ("the same, where the one more is in half of the 4,096 sets", MEETING_SIZES),
+    "meeting-predecessors": ("so many prunes of ids that meet", (10_000, 20_000, 40_000)),
+    "scattered-predecessors": ("so many prunes of ids that look like hashes", (10_000, 20_000, 40_000)),
+    "meeting-successors": ("so many splits into 255 ids that meet", (50, 100, 200)),
+    "scattered-successors": ("so many splits into 255 ids that look like hashes", (50, 100, 200)),
+}
+
+
+def bytes_of(case, size):
+    """The message of a case."""
+    return message(*CASES[case][0](size))
+
+
+# Of each row of hg_bench the name, its case, the message of a size, and the sizes: what it costs to ask which ids have
+# several sets, and what it costs a replica that keeps its sets of instabilities to take all of it in.
+MEASURED = {
+    f"{done}-{case}": (f"{name}{how}", done, partial(bytes_of, case), sizes)
+    for done, how in (("sets", ""), ("keep", ", taken in"))
+    for case, (name, sizes) in TAKEN.items()
+    if done == "keep" or "-" not in case
+}
 
 
 def main():
