@@ -190,6 +190,40 @@ def commits_on_an_obsolete_parent(size):
         yield f"commit A {label(number)} draft {label(0)}"
 
 
+def amends_above_a_fork(size):
+    """A root that is amended at two nodes, and amends of what the one made of it, where both are known."""
+    yield from ("node A", "node B", "commit A f draft", "pull B A")
+    yield from ("amend B f g", f"amend A f {label(0)}", "pull A B")
+    for number in range(size):
+        yield f"amend A {label(number)} {label(number + 1)}"
+
+
+def prunes_of_children(size, numbers):
+    """An amended changeset with so many children, which are pruned in this order."""
+    yield from ("node A", "commit A h draft")
+    yield from (f"commit A {label(number)} draft h" for number in range(size))
+    yield "amend A h i"
+    yield from (f"prune A {label(number)}" for number in numbers)
+
+
+# ---- pins
+
+
+def pins_of_a_hidden_stack(size, number):
+    """A stack that is pruned from its tip on, one changeset of which is pinned and unpinned, ten times."""
+    yield from prunes(size)
+    for _ in range(10):
+        yield f"pin A {label(number)}"
+        yield f"unpin A {label(number)}"
+
+
+def pinned_roots(size):
+    """One node and commits without parents, all of which are pinned and then unpinned, one by one."""
+    yield from roots(size)
+    yield from (f"pin A {label(number)}" for number in range(size))
+    yield from (f"unpin A {label(number)}" for number in range(size))
+
+
 # ---- reports
 
 
@@ -331,6 +365,17 @@ def agreements(size):
     yield from pull_into_an_empty_node(size)
     for _ in range(10):
         yield "agree A B"
+
+
+def divergent(size):
+    """Roots, each of which is amended at two nodes, a pull and a report."""
+    yield "node B"
+    yield from roots(size)
+    yield "pull B A"
+    for number in range(size):
+        yield f"amend A {label(number)} {label(size + number)}"
+        yield f"amend B {label(number)} {label(2 * size + number)}"
+    yield from ("pull B A", "report B")
 
 
 class Line:
@@ -520,6 +565,14 @@ CASES = [
     ("alternating phases published one by one", alternating_published, SMALL, lambda size: 0),
     ("roots published one by one, scattered", roots_published, SMALL, lambda size: 0),
     ("commits on an obsolete parent", commits_on_an_obsolete_parent, SIZES, lambda size: 0),
+    ("amends above a changeset that was amended at two nodes", amends_above_a_fork, SMALL, lambda size: 0),
+    ("prunes of the children of an amended changeset, from the first on",
+        lambda size: prunes_of_children(size, range(size)), SMALL, lambda size: 0),
+    ("the same, from the last on", lambda size: prunes_of_children(size, reversed(range(size))), SMALL, lambda size: 0),
+    ("the top of a hidden stack pinned and unpinned 10 times",
+        lambda size: pins_of_a_hidden_stack(size, size - 1), SMALL, lambda size: 0),
+    ("its bottom pinned and unpinned 10 times", lambda size: pins_of_a_hidden_stack(size, 0), SMALL, lambda size: 0),
+    ("roots pinned and unpinned one by one", pinned_roots, SMALL, lambda size: 0),
     ("commits in a chain, and a report", chain_with_report, SIZES, lambda size: size + 2),
     ("commits in a chain, and 1,000 reports of an empty node", chain_with_empty_reports, SIZES, lambda size: 2_000),
     ("a stack on an amended changeset, and a report", orphans_with_report, SIZES, lambda size: size + 3),
@@ -542,6 +595,7 @@ CASES += [
     ("a line of merges, pulled, published and pulled", line_of_merges, SIZES, lambda size: 1),
     ("a changeset with so many children, amended, published and pulled", many_children, SIZES, lambda size: 1),
     ("pulls between nodes of so many heads each", pulls_between_many_heads, SMALL, lambda size: 1),
+    ("roots amended at two nodes each, a pull and a report", divergent, SMALL, lambda size: 3 * size + 2),
     ("a mixed script with 20 pulls", mixed, (12_000, 24_000, 48_000), lambda size: 3),
 ]
 

@@ -1,4 +1,4 @@
-"""A Mercurial extension with one command, which does a case of hg_bench in process and tells what it took.
+"""A Mercurial extension with one command, which does what a case of hg_bench does, in process, and tells what it took.
 
     hg --config extensions.evolve= --config extensions.fleet=bench/mercurial.py \\
         --config extensions.fleetcases=bench/mercurial_cases.py fleetcase CASE SIZE
@@ -9,7 +9,7 @@ prints the seconds of processor time of what is measured, without the building o
 import time
 from functools import partial
 
-from mercurial import discovery, extensions, obsolete, obsutil, registrar, repoview, setdiscovery
+from mercurial import discovery, extensions, obsolete, obsutil, registrar, repoview
 
 cmdtable = {}
 command = registrar.command(cmdtable)
@@ -127,18 +127,7 @@ def take_offer(fleet, repo):
     fleet.do_take(b"B", b"offer")
 
 
-def discover(fleet, size):
-    """What is in common with a repository of this size, which lacks 100 changesets."""
-    chain(fleet, size)
-    fleet.do_node(b"B")
-    fleet.do_pull(b"B", b"A")
-    for number in range(size, size + 100):
-        fleet.do_commit(b"A", b"%d" % number, b"draft", b"%d" % (number - 1))
-    fleet.close()
-    return partial(setdiscovery.findcommonheads, fleet.ui, fleet.nodes[b"A"], fleet.nodes[b"B"].peer())
-
-
-CASES = {"instabilities": partial(of_amended_stack, tell_instabilities_and_views), "discover": discover}
+CASES = {"instabilities": partial(of_amended_stack, tell_instabilities_and_views)}
 for _name, _work in (("write", write_markers), ("list", list_markers), ("read", read_markers)):
     CASES[_name] = partial(of_markers, _work, 0)
     CASES[_name + "-in-format-1"] = partial(of_markers, _work, 1)
