@@ -2,7 +2,7 @@
 //!
 //! `hg_bench CASE < MESSAGE` does the case with the message, and prints the nanoseconds that it took: of processor time,
 //! but where threads work beside each other, of time on the clock. What the case needs is made before, and isn't in it.
-//! With other arguments it prints nothing.
+//! Without a case it prints nothing.
 #![tactic(auto)]
 
 mod looking;
@@ -15,7 +15,7 @@ use looking::look_beside_writer;
 use parts::{keep, part_of, read, replica_of, take};
 use replicas::{ask_below, copy_of, find, join, send, tell, tell_roots, tell_sets, view};
 use std::alloc::Global;
-use std::io::Read;
+use std::io::{ErrorKind, Read};
 use std::sync::Wait;
 use std::thread::Threads;
 use std::time::{Clock, CpuClock, Duration};
@@ -90,6 +90,6 @@ fn spent_on_looks(
         "find-offer" => find(rt, alloc, replica),
         "send-offer" => send(rt, alloc, replica, Scope::Served),
         "send-whole" => send(rt, alloc, replica, Scope::Whole),
-        _ => Ok(Duration::ZERO),
+        _ => Err(ErrorKind::InvalidInput.into()),
     }
 }
