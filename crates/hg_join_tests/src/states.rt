@@ -1,5 +1,5 @@
 //! A pair of two maps, each public call once; and each growth refused.
-use hg_join::{Both, JoinState, LowMap};
+use hg_join::{Both, JoinState, LowMap, NoMemory};
 use std::alloc::Global;
 
 /// Two maps, side by side.
@@ -17,13 +17,6 @@ fn numbers(alloc: Global, from: u8, to: u8, number: u8) -> Option<Numbers> {
     Some(numbers)
 }
 
-/// A pair that has absorbed the two parts.
-fn pair_of(alloc: Global, first: Numbers, second: Numbers) -> Option<Pair> {
-    let mut pair = Both::new(LowMap::new(alloc), LowMap::new(alloc));
-    pair.absorb(&(first, second)).ok()?;
-    Some(pair)
-}
-
 /// What a map has for the keys below 16, and 0 where it has nothing.
 fn listed(map: &LowMap<u8>) -> [u8; 16] {
     let mut listed = [0; 16];
@@ -31,24 +24,6 @@ fn listed(map: &LowMap<u8>) -> [u8; 16] {
         listed[key as usize] = map.get(key).unwrap_or(0);
     }
     listed
-}
-
-#[test]
-fn a_pair_of_maps_keeps_the_lowest_of_each(rt: HostRuntime) {
-    let alloc = rt.alloc();
-    let first = [(1, 5), (2, 3), (1, 7)].to_vec(alloc).expect(&rt, "memory");
-    let before = pair_of(alloc, first, Vec::new(alloc)).expect(&rt, "memory");
-    let first = [(1, 6), (2, 1)].to_vec(alloc).expect(&rt, "memory");
-    let second = [(3, 9)].to_vec(alloc).expect(&rt, "memory");
-    let other = pair_of(alloc, first, second).expect(&rt, "memory");
-    let mut pair = before.copy().expect(&rt, "memory");
-    assert!(rt; pair.join(&other).is_ok());
-    assert!(rt; before.below(&pair) == Ok(true) && pair.below(&before) == Ok(false));
-    let (one, two) = (pair.first().get(1), pair.first().get(2));
-    assert_eq!(rt;
-        [one, two, pair.second().get(3)],
-        [Some(5), Some(1), Some(9)]
-    );
 }
 
 // The second half of a pair changes last, and in many steps.
@@ -62,19 +37,20 @@ fn refused_growth_in_a_half_changes_neither_and_passes_again(rt: HostRuntime) {
     ) else {
         return;
     };
-    let Some(mut pair) = pair_of(alloc, Vec::new(alloc), twenties) else {
-        return;
-    };
-    let Ok(mut copy) = pair.copy() else {
-        return;
+    let (few, part) = ((Vec::new(alloc), twenties), (one, fives));
+    let mut pair: Pair = Both::new(LowMap::new(alloc), LowMap::new(alloc));
+    assert!(rt; pair.absorb(&few).is_ok() || pair.absorb(&few).is_ok());
+    let mut copy = match pair.copy() {
+        Ok(copy) => copy,
+        Err(NoMemory) => pair.copy().expect(&rt, "memory"),
     };
     let before = listed(pair.second());
-    let part = (one, fives);
     if pair.absorb(&part).is_err() {
         assert!(rt; pair.first().get(3).is_none() && listed(pair.second()) == before);
         assert!(rt; pair.absorb(&part).is_ok());
     }
     assert!(rt; pair.first().get(3) == Some(1) && listed(pair.second()) == [5; 16]);
+    assert!(rt; copy.below(&pair) == Ok(true) && pair.below(&copy) == Ok(false));
     if copy.join(&pair).is_err() {
         assert!(rt; copy.first().get(3).is_none() && listed(copy.second()) == before);
         assert!(rt; copy.join(&pair).is_ok());

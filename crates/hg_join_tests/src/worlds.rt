@@ -1,4 +1,4 @@
-//! Worlds of prices: what events are answered, and each growth refused.
+//! A world of prices: what events are answered, and each growth refused. What is kept back is not told.
 use crate::prices::{PriceRefusal, Prices};
 use hg_join::NoMemory;
 use hg_world::{Answer, Event, EventRefusal, World};
@@ -21,44 +21,6 @@ fn price_at(world: &World<Prices>, at: usize) -> Option<u8> {
     world.state(at)?.get(1)
 }
 
-#[test]
-fn a_repeated_message_changes_nothing_and_what_is_kept_back_is_not_told(rt: HostRuntime) {
-    let alloc = rt.alloc();
-    let mut world = World::<Prices>::new(alloc, 2).expect(&rt, "memory");
-    let events = [
-        Event::Take { at: 0, message: 0 },
-        Event::Mark { at: 2, mark: 1 },
-        Event::Local { at: 0, op: (1, 9) },
-        offer_of(alloc).expect(&rt, "memory"),
-        Event::Local { at: 0, op: (1, 7) },
-        Event::Mark { at: 0, mark: 1 },
-        offer_of(alloc).expect(&rt, "memory"),
-        Event::Local { at: 0, op: (1, 8) },
-        Event::Take { at: 1, message: 0 },
-        Event::Take { at: 1, message: 0 },
-    ];
-    let answers = world.run(&events).expect(&rt, "memory");
-    let expected: [PriceAnswer; 10] = [
-        Answer::Refused(EventRefusal::NoMessage),
-        Answer::Refused(EventRefusal::NoNode),
-        Answer::Accepted(()),
-        Answer::Offered(0),
-        Answer::Accepted(()),
-        Answer::Marked,
-        Answer::Offered(1),
-        Answer::Refused(EventRefusal::ByActor(PriceRefusal::NotLower)),
-        Answer::Accepted(()),
-        Answer::Accepted(()),
-    ];
-    assert!(rt; answers.as_slice() == expected.as_slice());
-    assert_eq!(rt;
-        [price_at(&world, 0), price_at(&world, 1)],
-        [Some(7), Some(9)]
-    );
-    assert!(rt; world.message(0) == Some([1, 9].as_slice()));
-    assert!(rt; world.message(1) == Some([].as_slice()));
-}
-
 /// Whether the events are given one answer, which is this.
 fn is_answered(world: &mut World<Prices>, events: &[PriceEvent], answer: &PriceAnswer) -> bool {
     match world.run(events) {
@@ -67,25 +29,46 @@ fn is_answered(world: &mut World<Prices>, events: &[PriceEvent], answer: &PriceA
     }
 }
 
+// Each event is done by a second call where a growth is refused.
 #[test]
-fn refused_growth_of_an_event_changes_nothing_and_passes_again(rt: HostRuntime) {
+fn refused_growth_changes_nothing_and_each_event_is_answered_as_ever(rt: HostRuntime) {
     let alloc = rt.alloc();
-    let Ok(mut world) = World::<Prices>::new(alloc, 2) else {
-        return;
+    let mut world = match World::<Prices>::new(alloc, 2) {
+        Ok(world) => world,
+        Err(NoMemory) => World::<Prices>::new(alloc, 2).expect(&rt, "memory"),
     };
     let (Some(first), Some(second)) = (offer_of(alloc), offer_of(alloc)) else {
         return;
     };
     for (event, answer) in [
+        (
+            Event::Take { at: 0, message: 0 },
+            Answer::Refused(EventRefusal::NoMessage),
+        ),
+        (
+            Event::Mark { at: 2, mark: 1 },
+            Answer::Refused(EventRefusal::NoNode),
+        ),
         (Event::Local { at: 0, op: (1, 9) }, Answer::Accepted(())),
         (first, Answer::Offered(0)),
-        (Event::Take { at: 1, message: 0 }, Answer::Accepted(())),
+        (Event::Local { at: 0, op: (1, 7) }, Answer::Accepted(())),
+        (
+            Event::Local { at: 0, op: (1, 8) },
+            Answer::Refused(EventRefusal::ByActor(PriceRefusal::NotLower)),
+        ),
         (Event::Mark { at: 0, mark: 1 }, Answer::Marked),
         (second, Answer::Offered(1)),
+        (Event::Take { at: 1, message: 0 }, Answer::Accepted(())),
+        (Event::Take { at: 1, message: 0 }, Answer::Accepted(())),
     ] {
         let events = [event];
         let is_told = is_answered(&mut world, &events, &answer);
         assert!(rt; is_told || is_answered(&mut world, &events, &answer));
     }
-    assert_eq!(rt; price_at(&world, 1), Some(9));
+    assert_eq!(rt;
+        [price_at(&world, 0), price_at(&world, 1)],
+        [Some(7), Some(9)]
+    );
+    assert!(rt; world.message(0) == Some([1, 9].as_slice()));
+    assert!(rt; world.message(1) == Some([].as_slice()));
 }
