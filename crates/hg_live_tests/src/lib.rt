@@ -1,24 +1,14 @@
-//! Tests of `hg_live`, `hg_race` and `hg_script`, as a caller from outside sees them.
+//! Tests of `hg_live`, `hg_inbox` and `hg_script`, as a caller from outside sees them. A race is a case of `examples/`.
 #![tactic(auto)]
 
 #[cfg(test)]
-mod alone;
-#[cfg(test)]
-mod at_random;
-#[cfg(test)]
-mod growth;
+mod inboxes;
 #[cfg(test)]
 mod kept;
-#[cfg(test)]
-mod looks;
 #[cfg(test)]
 mod making;
 #[cfg(test)]
 mod passes;
-#[cfg(test)]
-mod races;
-#[cfg(test)]
-mod refusals;
 #[cfg(test)]
 mod scripts;
 #[cfg(test)]
@@ -27,5 +17,3 @@ mod shared;
 mod starved;
 #[cfg(test)]
 mod streams;
-#[cfg(test)]
-mod threads;

@@ -1,7 +1,6 @@
 //! What the tests of nodes make.
 use hg_changeset::{Entry, Node as Id};
-use hg_live::{Accepted, CallRefusal, Node, OpenGate, Writer};
-use hg_replica::Replica;
+use hg_live::{Node, OpenGate, Writer};
 use hg_rewrite::Op;
 use std::alloc::Global;
 use std::collections::BTreeMap;
@@ -15,9 +14,6 @@ pub const A: &[u8] = b"f96ca39738e6588d0bf7020cd1d44a23774c1b77";
 
 /// What comes of an amend of it to the description `b`.
 pub const B_FOR_A: &[u8] = b"760183dd5b1d32a969c6efe5a9df5f980b024a45";
-
-/// The changeset `c` of the same user and time, on no parent.
-pub const C: &[u8] = b"3832bee9b93a66601f64da077a203102fba6d406";
 
 /// The draft root without a text.
 pub const N1: &[u8] = b"b80de5d138758541c5f05265ad144ab9fa86d1db";
@@ -33,8 +29,8 @@ pub fn id(rt: &impl Abort, digits: &[u8]) -> Id {
     Id::from_hex(digits).expect(rt, "an id")
 }
 
-/// An entry of user `fleet` at `0 0`.
-pub fn entry(alloc: Global, description: &[u8]) -> Option<Entry> {
+// An entry of user `fleet` at `0 0`.
+fn entry(alloc: Global, description: &[u8]) -> Option<Entry> {
     Some(Entry {
         user: Vec::from_slice(alloc, b"fleet").ok()?,
         secs: 0,
@@ -46,13 +42,8 @@ pub fn entry(alloc: Global, description: &[u8]) -> Option<Entry> {
 
 /// To commit a draft root.
 pub fn root(alloc: Global, description: &[u8]) -> Option<Op> {
-    commit(alloc, Id::NULL, description)
-}
-
-/// To commit a draft changeset on this parent.
-pub fn commit(alloc: Global, parent: Id, description: &[u8]) -> Option<Op> {
     Some(Op::Commit {
-        p: parent,
+        p: Id::NULL,
         q: Id::NULL,
         entry: entry(alloc, description)?,
         secret: false,
@@ -65,21 +56,4 @@ pub fn amend(alloc: Global, node: Id, description: &[u8]) -> Option<Op> {
         node,
         entry: entry(alloc, description)?,
     })
-}
-
-/// How many changesets and markers it holds.
-pub fn counts(replica: &Replica) -> (usize, usize) {
-    (replica.graph().len(), replica.store().len())
-}
-
-/// What a call answers, told in a word.
-pub fn answer(answered: Result<Accepted, CallRefusal>) -> &'static str {
-    match answered {
-        Ok(Accepted::Shown) => "shown",
-        Ok(Accepted::Later) => "later",
-        Err(CallRefusal::JournalFull) => "full",
-        Err(CallRefusal::Refused(_)) => "refused",
-        Err(CallRefusal::Fault(_)) => "fault",
-        Err(CallRefusal::NoMemory) => "no memory",
-    }
 }

@@ -1,9 +1,13 @@
-//! Want of memory at a node: a call that is refused changes nothing, and what is published later is not seen before.
+//! Want of memory at a node: what is refused changes nothing that is seen, and passes when it is tried again.
 ghost use Rattle.std.specs.Prelude.{◌≡◌};
 
-use crate::making::{A, B_FOR_A, C, MESSAGE, N1, Open, amend, id, root};
+use crate::making::{A, B_FOR_A, MESSAGE, N1, Open, amend, id, root};
 use hg_changeset::Node as Id;
-use hg_live::{Accepted, Blank, CallRefusal, Node, NodeName, OpenGate, Pass, Status};
+use hg_live::{
+    Accepted, Blank, CallRefusal, CloseRefusal, LookRefusal, NoPass, NodeName, NotOffered,
+    OpenGate, Pass, Status,
+};
+use hg_peer::{Ask, Scope};
 use hg_replica::Replica;
 use hg_rewrite::Op;
 use std::alloc::Global;
@@ -12,144 +16,120 @@ use std::process::Abort;
 use std::sync::Wait;
 use std::test::*;
 
-// What is done at a node that has committed `a`.
+// What is done at a node.
 #[derive(Drop)]
 enum Call<'a> {
     Local(&'a Op),
     Take(&'a [u8]),
-    /// Of what was amended to `b`.
     Pin(Id),
-    /// Of what was amended to `b`, and pinned.
     Unpin(Id),
 }
 
-// How a changeset is seen.
-#[derive(Clone, Copy, Debug, PartialEq, Eq)]
-enum Seen {
-    Absent,
-    Hidden,
-    InView,
-}
-
-// The changesets that a call is about, the old one and the new one, and how they are seen before the call and after it.
-#[derive(Drop)]
-struct Sight {
-    about: [Id; 2],
-    before: [Seen; 2],
-    shown: [Seen; 2],
-}
-
-fn make_call<K: NodeName, R: Wait, W: Wait + Drop>(
+fn make<K: NodeName, R: Wait, W: Wait + Drop>(
     rt: &R,
     node: &Open<K, W>,
     pass: &mut Pass<K>,
-    asked: &Call<'_>,
+    call: &Call<'_>,
 ) -> Result<Accepted, CallRefusal> {
-    match asked {
+    match call {
         Call::Local(op) => node.local(rt, pass, op),
         Call::Take(bytes) => node.take(rt, pass, bytes),
-        Call::Pin(node_id) => node.pin(rt, pass, *node_id),
-        Call::Unpin(node_id) => node.unpin(rt, pass, *node_id),
+        Call::Pin(changeset) => node.pin(rt, pass, *changeset),
+        Call::Unpin(changeset) => node.unpin(rt, pass, *changeset),
     }
 }
 
-// Commits `a`, and for a pin amends it; what is to be unpinned is pinned. `None` where memory was refused.
-fn prepare<K: NodeName, R: Wait, W: Wait + Drop>(
+// Looks at `a`, at what it is amended to and at what the message has. It takes no memory.
+fn look<K: NodeName, W: Wait + Drop>(rt: &impl Abort, pass: &mut Pass<K>) -> [Status; 3] {
+    [
+        Open::<K, W>::read(pass, id(rt, A)).expect(rt, "a look"),
+        Open::<K, W>::read(pass, id(rt, B_FOR_A)).expect(rt, "a look"),
+        Open::<K, W>::read(pass, id(rt, N1)).expect(rt, "a look"),
+    ]
+}
+
+// Makes the call, and once more where it is refused. What is refused, or comes later, leaves what is seen as it was.
+fn make_or_wait<K: NodeName, R: Wait + Abort, W: Wait + Drop>(
     rt: &R,
-    alloc: Global,
     node: &Open<K, W>,
     pass: &mut Pass<K>,
-    asked: &Call<'_>,
-) -> Option<()> {
-    let first = root(alloc, b"a")?;
-    let Ok(Accepted::Shown) = node.local(rt, pass, &first) else {
-        return None;
-    };
-    let (Call::Pin(rewritten) | Call::Unpin(rewritten)) = asked else {
-        return Some(());
-    };
-    let second = amend(alloc, *rewritten, b"b")?;
-    let Ok(Accepted::Shown) = node.local(rt, pass, &second) else {
-        return None;
-    };
-    let Call::Unpin(pinned) = asked else {
-        return Some(());
-    };
-    let Ok(Accepted::Shown) = node.pin(rt, pass, *pinned) else {
-        return None;
-    };
-    Some(())
+    call: &Call<'_>,
+) {
+    let before = look::<K, W>(rt, pass);
+    let answer = make(rt, node, pass, call);
+    if answer == Ok(Accepted::Shown) {
+        return;
+    }
+    assert!(rt; look::<K, W>(rt, pass) == before);
+    if answer != Ok(Accepted::Later) {
+        assert!(rt; answer == Err(CallRefusal::NoMemory));
+        assert!(rt; make(rt, node, pass, call) == Ok(Accepted::Shown));
+    }
 }
 
 #[test]
-fn refused_growth_in_an_amend_changes_nothing_that_is_seen(rt: HostRuntime) {
+fn refused_growth_in_calls_changes_nothing_that_is_seen(rt: HostRuntime) {
     let alloc = rt.alloc();
-    let Some(op) = amend(alloc, id(&rt, A), b"b") else {
+    let (Some(commit), Some(rewrite)) = (root(alloc, b"a"), amend(alloc, id(&rt, A), b"b")) else {
         return;
     };
     let Ok(blank) = Blank::new(alloc, Replica::new(alloc)) else {
         return;
     };
-    let sight = Sight {
-        about: [id(&rt, A), id(&rt, B_FOR_A)],
-        before: [Seen::InView, Seen::Absent],
-        shown: [Seen::Hidden, Seen::InView],
-    };
-    starve::<Brand, _, _>(&rt, alloc, blank, &rt, &Call::Local(&op), &sight);
+    starve::<Brand, _, _>(&rt, alloc, blank, &rt, &commit, &rewrite);
 }
 
-#[test]
-fn refused_growth_in_a_message_changes_nothing_that_is_seen(rt: HostRuntime) {
-    let alloc = rt.alloc();
-    let Ok(blank) = Blank::new(alloc, Replica::new(alloc)) else {
-        return;
-    };
-    let sight = Sight {
-        about: [id(&rt, A), id(&rt, N1)],
-        before: [Seen::InView, Seen::Absent],
-        shown: [Seen::InView, Seen::InView],
-    };
-    starve::<Brand, _, _>(&rt, alloc, blank, &rt, &Call::Take(MESSAGE), &sight);
-}
-
-#[test]
-fn refused_growth_in_a_pin_changes_nothing_that_is_seen(rt: HostRuntime) {
-    let alloc = rt.alloc();
-    let Ok(blank) = Blank::new(alloc, Replica::new(alloc)) else {
-        return;
-    };
-    let a = id(&rt, A);
-    let sight = Sight {
-        about: [a, id(&rt, B_FOR_A)],
-        before: [Seen::Hidden, Seen::InView],
-        shown: [Seen::InView, Seen::InView],
-    };
-    starve::<Brand, _, _>(&rt, alloc, blank, &rt, &Call::Pin(a), &sight);
-}
-
-#[test]
-fn refused_growth_in_an_unpin_changes_nothing_that_is_seen(rt: HostRuntime) {
-    let alloc = rt.alloc();
-    let Ok(blank) = Blank::new(alloc, Replica::new(alloc)) else {
-        return;
-    };
-    let a = id(&rt, A);
-    let sight = Sight {
-        about: [a, id(&rt, B_FOR_A)],
-        before: [Seen::InView, Seen::InView],
-        shown: [Seen::Hidden, Seen::InView],
-    };
-    starve::<Brand, _, _>(&rt, alloc, blank, &rt, &Call::Unpin(a), &sight);
-}
-
-// Calls a node that holds `a`, where a commit of `c` can follow.
+// After the calls `a` is hidden. What comes later, if it is the unpin, is shown by the call after it.
 fn starve<K: NodeName, R: Wait + Abort, W: Wait + Drop>(
     rt: &R,
     alloc: Global,
     blank: Blank,
     keep: W,
-    asked: &Call<'_>,
-    sight: &Sight,
+    commit: &Op,
+    rewrite: &Op,
+)
+    requires opening { K.opening ≡ blank.opening }
+    requires book { blank.opened ≡ K.book }
+    requires name { blank.tokens.name ≡ K.name }
+    requires parts { blank.tokens.parts ≡ K.parts }
+{
+    let Ok(node) = Open::<K, W>::new(keep, alloc, blank, OpenGate) else {
+        return;
+    };
+    let mut pass = match node.pass(rt) {
+        Ok(pass) => pass,
+        Err(NoPass) => node.pass(rt).expect(rt, "there is memory again"),
+    };
+    let a = id(rt, A);
+    for call in [
+        Call::Local(commit),
+        Call::Local(rewrite),
+        Call::Pin(a),
+        Call::Unpin(a),
+        Call::Take(MESSAGE),
+        Call::Take(MESSAGE),
+    ] {
+        make_or_wait(rt, &node, &mut pass, &call);
+    }
+    let [old, new, taken] = look::<K, W>(rt, &mut pass);
+    assert!(rt; old.extinct && !old.visible && new.visible && taken.visible);
+}
+
+#[test]
+fn refused_growth_in_looks_and_in_a_close_is_told_and_passes(rt: HostRuntime) {
+    let alloc = rt.alloc();
+    let Ok(blank) = Blank::new(alloc, Replica::new(alloc)) else {
+        return;
+    };
+    look_and_close::<Brand, _, _>(&rt, alloc, blank, &rt);
+}
+
+// A node that took the message.
+fn look_and_close<K: NodeName, R: Wait + Abort, W: Wait + Drop>(
+    rt: &R,
+    alloc: Global,
+    blank: Blank,
+    keep: W,
 )
     requires opening { K.opening ≡ blank.opening }
     requires book { blank.opened ≡ K.book }
@@ -162,77 +142,56 @@ fn starve<K: NodeName, R: Wait + Abort, W: Wait + Drop>(
     let Ok(mut pass) = node.pass(rt) else {
         return;
     };
-    let Some(last) = root(alloc, b"c") else {
+    let Ok(Accepted::Shown) = node.take(rt, &mut pass, MESSAGE) else {
         return;
     };
-    if prepare(rt, alloc, &node, &mut pass, asked).is_none() {
+    assert!(rt; is_known::<K, W>(rt, &mut pass) || is_known::<K, W>(rt, &mut pass));
+    assert!(rt;
+        is_offered::<K, W>(rt, alloc, &mut pass) || is_offered::<K, W>(rt, alloc, &mut pass)
+    );
+    let Ok(passes) = vec![in alloc; pass] else {
         return;
-    }
-    call_and_look(rt, &node, &mut pass, asked, &last, sight);
-    assert_eq!(rt; pass.seen().len(), pass.calls());
+    };
+    let replica = match node.close(passes) {
+        Ok(replica) => replica,
+        Err(unclosed) => {
+            assert!(rt; unclosed.why == CloseRefusal::NoMemory);
+            let Ok(replica) = unclosed.node.close(unclosed.passes) else {
+                assert!(rt; false, "there is memory again");
+                return;
+            };
+            replica
+        }
+    };
+    assert_eq!(rt; replica.graph().len(), 1);
 }
 
-// What is refused is as before, and shown when it is tried again. What comes later is as before, and shown with `c`.
-fn call_and_look<K: NodeName, R: Wait + Abort, W: Wait + Drop>(
-    rt: &R,
-    node: &Open<K, W>,
-    pass: &mut Pass<K>,
-    asked: &Call<'_>,
-    last: &Op,
-    sight: &Sight,
-) {
-    let before = look::<K, W>(rt, pass, sight);
-    let answer = make_call(rt, node, pass, asked);
-    let after = look::<K, W>(rt, pass, sight);
-    let mut third = Seen::Absent;
-    assert_eq!(rt; sights_of(&before), with(sight.before, third));
-    match answer {
-        Ok(Accepted::Shown) => {}
-        Ok(Accepted::Later) => {
-            assert!(rt; after == before);
-            assert!(rt; node.local(rt, pass, last) == Ok(Accepted::Shown));
-            third = Seen::InView;
-        }
+// Whether it is told what the node serves: what the message has, and not `a`.
+fn is_known<K: NodeName, W: Wait + Drop>(rt: &impl Abort, pass: &mut Pass<K>) -> bool {
+    match Open::<K, W>::known(pass, &[id(rt, N1), id(rt, A)]) {
+        Ok(answers) => answers.as_slice() == [true, false].as_slice(),
         Err(refusal) => {
-            assert!(rt; refusal == CallRefusal::NoMemory && after == before);
-            assert!(rt; make_call(rt, node, pass, asked) == Ok(Accepted::Shown));
+            assert!(rt; refusal == LookRefusal::NoMemory);
+            false
         }
     }
-    let shown = look::<K, W>(rt, pass, sight);
-    assert_eq!(rt; sights_of(&shown), with(sight.shown, third));
 }
 
-// Looks at both changesets and at `c`. It takes no memory.
-fn look<K: NodeName, W: Wait + Drop>(
+// Whether something is offered.
+fn is_offered<K: NodeName, W: Wait + Drop>(
     rt: &impl Abort,
+    alloc: Global,
     pass: &mut Pass<K>,
-    sight: &Sight,
-) -> [Status; 3] {
-    let [old, new] = sight.about;
-    [
-        Open::<K, W>::read(pass, old).expect(rt, "a look"),
-        Open::<K, W>::read(pass, new).expect(rt, "a look"),
-        Open::<K, W>::read(pass, id(rt, C)).expect(rt, "a look"),
-    ]
-}
-
-fn with(sights: [Seen; 2], third: Seen) -> [Seen; 3] {
-    [sights[0], sights[1], third]
-}
-
-// How each changeset is seen.
-fn sights_of(looks: &[Status; 3]) -> [Seen; 3] {
-    let [old, new, third] = *looks;
-    [sight_of(old), sight_of(new), sight_of(third)]
-}
-
-fn sight_of(status: Status) -> Seen {
-    if status.phase.is_none() {
-        return Seen::Absent;
-    }
-    if status.visible {
-        Seen::InView
-    } else {
-        Seen::Hidden
+) -> bool {
+    let ask = Ask {
+        common: Vec::new(alloc),
+        scope: Scope::Served,
+    };
+    match Open::<K, W>::offer(pass, &ask) {
+        Ok(_) => true,
+        Err(refusal) => {
+            assert!(rt; refusal == NotOffered::NoMemory);
+            false
+        }
     }
 }

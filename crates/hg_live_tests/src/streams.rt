@@ -1,6 +1,6 @@
-//! Readers and writers that give little, take little, fail or count.
+//! A reader that gives little, and a writer that counts.
 use std::io;
-use std::io::{Error, ErrorKind, Read, Write};
+use std::io::{Read, Write};
 
 /// Gives one byte a read.
 #[derive(Drop)]
@@ -16,64 +16,6 @@ impl Read for OneByte<'_> {
             }
             _ => Ok(0),
         }
-    }
-}
-
-/// Gives a number sign a number of times, one a read, and then fails.
-#[derive(Drop)]
-pub struct Failing(pub usize);
-
-impl Read for Failing {
-    fn read(&mut self, buf: &mut [u8]) -> io::Result<usize> {
-        if self.0 == 0 {
-            return Err(Error::from(ErrorKind::Interrupted));
-        }
-        match buf.first_mut() {
-            Some(place) => {
-                *place = b'#';
-                self.0 -= 1;
-                Ok(1)
-            }
-            None => Ok(0),
-        }
-    }
-}
-
-/// Takes a number of writes, and then fails.
-#[derive(Drop)]
-pub struct Full(pub usize);
-
-impl Write for Full {
-    fn write(&mut self, buf: &[u8]) -> io::Result<usize> {
-        if self.0 == 0 {
-            return Err(Error::from(ErrorKind::WriteZero));
-        }
-        self.0 -= 1;
-        Ok(buf.len())
-    }
-
-    fn flush(&mut self) -> io::Result<()> {
-        Ok(())
-    }
-}
-
-/// Takes one byte a write.
-#[derive(Drop)]
-pub struct Slow(pub Vec<u8>);
-
-impl Write for Slow {
-    fn write(&mut self, buf: &[u8]) -> io::Result<usize> {
-        match buf.first() {
-            Some(first) => match self.0.push(*first) {
-                Ok(()) => Ok(1),
-                Err(_) => Err(Error::from(ErrorKind::OutOfMemory)),
-            },
-            None => Ok(0),
-        }
-    }
-
-    fn flush(&mut self) -> io::Result<()> {
-        Ok(())
     }
 }
 

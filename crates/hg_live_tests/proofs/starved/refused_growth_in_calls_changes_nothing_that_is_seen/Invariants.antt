@@ -1,4 +1,4 @@
-use Rattle.hg_live_tests.proofs.starved.refused_growth_in_an_amend_changes_nothing_that_is_seen.Given as goal
+use Rattle.hg_live_tests.proofs.starved.refused_growth_in_calls_changes_nothing_that_is_seen.Given as goal
 
 abbrev pub ghosts-starve-K-NodeName : goal.ghosts-starve-K-NodeName
 ghosts-starve-K-NodeName g a = record { opening = a.blank.opening }
