@@ -3,17 +3,11 @@
 #![tactic(auto)]
 
 #[cfg(test)]
-mod absorbing;
-#[cfg(test)]
 mod instabilities;
-#[cfg(test)]
-mod joining;
-#[cfg(test)]
-mod opening;
 #[cfg(test)]
 mod parts;
 #[cfg(test)]
-mod rooting;
+mod replicas;
 mod same;
 #[cfg(test)]
 mod successors;

@@ -1,0 +1,118 @@
+//! What a replica takes in, where growth is refused. That a refusal changes nothing is proved.
+use crate::parts::{ELSEWHERE, NOWHERE, changeset, empty, mark, push, replica_of};
+use hg_changeset::Node;
+use hg_join::JoinState;
+use hg_obsstore::Store;
+use hg_phases::{Phase, Roots};
+use hg_replica::{Part, Replica};
+use std::alloc::Global;
+
+// The part of a root and two children of it, all secret.
+fn fork(alloc: Global) -> Option<(Part, [Node; 3])> {
+    let mut part = empty(alloc);
+    let root = push(alloc, &mut part, Node::NULL, b'a', Phase::Secret)?;
+    let left = push(alloc, &mut part, root, b'b', Phase::Secret)?;
+    let right = push(alloc, &mut part, root, b'c', Phase::Secret)?;
+    Some((part, [root, left, right]))
+}
+
+// The part of the children's merge, of a marker on that and of two bounds, by which the one child is public and the
+// other a draft. And the merge.
+fn merge(alloc: Global, nodes: &[Node; 3]) -> Option<(Part, Node)> {
+    let [_, left, right] = *nodes;
+    let mut part = empty(alloc);
+    let merge = changeset(alloc, left, right, b'd')?;
+    let node = merge.node();
+    part.changesets.push(merge).ok()?;
+    mark(alloc, &mut part, node, &[ELSEWHERE], 0)?;
+    part.bounds.push((left, Phase::Public)).ok()?;
+    part.bounds.push((right, Phase::Draft)).ok()?;
+    Some((part, node))
+}
+
+#[test]
+fn refused_growth_moves_neither_phases_nor_roots(rt: HostRuntime) {
+    let alloc = rt.alloc();
+    let Some(forked) = fork(alloc) else {
+        return;
+    };
+    let (held, nodes) = forked;
+    let Some((part, merge)) = merge(alloc, &nodes) else {
+        return;
+    };
+    let Some(mut replica) = replica_of(alloc, &held) else {
+        return;
+    };
+    let absorbed = match replica.absorb_with_undo(&part) {
+        Ok(absorbed) => absorbed,
+        Err(_) => replica.absorb_with_undo(&part).expect(&rt, "memory"),
+    };
+    replica.take_back(absorbed.undo);
+    assert!(rt; replica.store().len() == 0);
+    assert!(rt; replica.absorb(&part).is_ok() || replica.absorb(&part).is_ok());
+    let roots = match replica.roots() {
+        Ok(roots) => roots,
+        Err(_) => replica.roots().expect(&rt, "memory"),
+    };
+    let expected = [(Phase::Draft, nodes[2]), (Phase::Secret, merge)];
+    assert!(rt; roots.as_slice() == expected.as_slice());
+}
+
+#[test]
+fn refused_growth_in_moving_in_joining_and_copying_passes(rt: HostRuntime) {
+    let alloc = rt.alloc();
+    let Some(forked) = fork(alloc) else {
+        return;
+    };
+    let (held, nodes) = forked;
+    let (Some((part, merge)), Some((same, _))) = (merge(alloc, &nodes), merge(alloc, &nodes)) else {
+        return;
+    };
+    let (Some(mut replica), Some(mut other)) = (replica_of(alloc, &held), replica_of(alloc, &held))
+    else {
+        return;
+    };
+    assert!(rt; other.absorb_owned(part).is_ok() || other.absorb_owned(same).is_ok());
+    let undo = match replica.join_with_undo(&other) {
+        Ok(undo) => undo,
+        Err(_) => replica.join_with_undo(&other).expect(&rt, "memory"),
+    };
+    replica.take_back(undo);
+    assert!(rt; !replica.graph().contains(merge));
+    assert!(rt; replica.join(&other).is_ok() || replica.join(&other).is_ok());
+    let copy = match replica.copy() {
+        Ok(copy) => copy,
+        Err(_) => replica.copy().expect(&rt, "memory"),
+    };
+    assert!(rt; copy.graph().contains(merge) && other.below(&copy) == Ok(true));
+}
+
+// The highest listed phase of a changeset's own and its ancestors' counts. A root that isn't held is dropped.
+#[test]
+fn refused_growth_in_opening_changes_nothing(rt: HostRuntime) {
+    let alloc = rt.alloc();
+    let Some(forked) = fork(alloc) else {
+        return;
+    };
+    let (part, nodes) = forked;
+    let [root, left, _] = nodes;
+    let Ok(listed) = vec![in alloc;
+        (Phase::Draft, root),
+        (Phase::Secret, left),
+        (Phase::Draft, left),
+        (Phase::Secret, NOWHERE),
+    ] else {
+        return;
+    };
+    let listed = Roots::new(listed);
+    let replica = match Replica::open(&part.changesets, &listed, Store::new(alloc)) {
+        Ok(replica) => replica,
+        Err(_) => Replica::open(&part.changesets, &listed, Store::new(alloc)).expect(&rt, "memory"),
+    };
+    let phases = [
+        replica.phase_at(0),
+        replica.phase_at(1),
+        replica.phase_at(2),
+    ];
+    assert!(rt; phases == [Some(Phase::Draft), Some(Phase::Secret), Some(Phase::Draft)]);
+}
