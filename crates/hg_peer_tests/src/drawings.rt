@@ -1,5 +1,130 @@
-//! Drawings of histories.
-mod dot;
-mod log;
-mod memory;
-mod scene;
+//! Pictures of small histories that no script leaves, drawn by hand by Mercurial's rules, and one of them as Graphviz
+//! reads it. Those of scripts are drawn by cases of `examples/`. The ids are the SHA-1 of parents and labels.
+use crate::scene::{commit, rewrite};
+use hg_changeset::Node;
+use hg_log::{draw_graph, draw_log};
+use hg_phases::Phase;
+use hg_replica::Replica;
+use hg_view::Kept;
+use std::alloc::Global;
+use std::process::Abort;
+
+// Ids under which nothing is held.
+const ELSEWHERE: Node = Node([0x11; 20]);
+
+const NOWHERE: Node = Node([0x22; 20]);
+
+// Takes in a draft on another changeset.
+fn draft(alloc: Global, replica: &mut Replica, parent: Node, label: &[u8]) -> Option<Node> {
+    commit(alloc, replica, parent, label, Phase::Draft)
+}
+
+// Takes in the marker that an operation rewrote a node to others.
+fn mark(alloc: Global, replica: &mut Replica, by: &[u8], old: Node, new: &[Node]) -> Option<()> {
+    rewrite(alloc, replica, old, new, (b"operation", by))
+}
+
+// The history is drawn so.
+fn expect(rt: &impl Abort, alloc: Global, replica: Replica, shows_hidden: bool, picture: &[u8]) {
+    let kept = Kept::new(alloc, replica).expect(rt, "memory");
+    let mut drawn = Vec::new(alloc);
+    draw_log(alloc, &kept, shows_hidden, &mut drawn).expect(rt, "memory");
+    assert!(rt; drawn.as_slice() == picture);
+}
+
+// One that has a child was pruned, and amended too; its parent stands far to the right.
+fn rewritten_twice(alloc: Global, replica: &mut Replica) -> Option<()> {
+    let q = draft(alloc, replica, Node::NULL, b"q")?;
+    let p = draft(alloc, replica, Node::NULL, b"p")?;
+    let n = draft(alloc, replica, q, b"n")?;
+    draft(alloc, replica, q, b"h2")?;
+    draft(alloc, replica, p, b"h1")?;
+    draft(alloc, replica, n, b"h0")?;
+    mark(alloc, replica, b"prune", n, &[])?;
+    mark(alloc, replica, b"amend", n, &[ELSEWHERE])
+}
+
+#[test]
+fn what_became_of_one_changeset_takes_a_line_for_each_marker(rt: HostRuntime) {
+    let alloc = rt.alloc();
+    let mut replica = Replica::new(alloc);
+    rewritten_twice(alloc, &mut replica).expect(&rt, "memory");
+    let picture = b"*  eb1b27e51f83 h0 draft orphan\n\
+            |\n\
+            | o  e05ae60bee7a h1 draft\n\
+            | |\n\
+            | | o  6c8a085eeb5c h2 draft\n\
+            | | |\n\
+            x---+  b45e3757fab8 n draft\n  \
+            | |  pruned\n \
+            / /   amended as 111111111111\n\
+            o /  58bc77893abd p draft\n \
+            /\n\
+            o  9432a39b05bc q draft\n\
+            \n";
+    expect(&rt, alloc, replica, false, picture);
+}
+
+// One that was amended twice, and rewritten by something else.
+fn divergent(alloc: Global, replica: &mut Replica) -> Option<()> {
+    let a = draft(alloc, replica, Node::NULL, b"a")?;
+    let b = draft(alloc, replica, a, b"b")?;
+    let x = draft(alloc, replica, a, b"x")?;
+    let y = draft(alloc, replica, a, b"y")?;
+    mark(alloc, replica, b"amend", b, &[x])?;
+    mark(alloc, replica, b"amend", b, &[y])?;
+    mark(alloc, replica, b"else", b, &[ELSEWHERE])
+}
+
+#[test]
+fn columns_go_on_beside_a_tall_text(rt: HostRuntime) {
+    let alloc = rt.alloc();
+    let mut replica = Replica::new(alloc);
+    divergent(alloc, &mut replica).expect(&rt, "memory");
+    let picture = b"*  5a152ad92850 y draft content-divergent\n\
+            |\n\
+            | *  9cfa07613306 x draft content-divergent\n\
+            |/\n\
+            | %  544d83e6863f b draft\n\
+            |/   amended as x\n\
+            |    amended as y\n\
+            |    rewritten as 111111111111\n\
+            o  047b75c6d7a3 a draft\n\
+            \n";
+    expect(&rt, alloc, replica, true, picture);
+}
+
+#[test]
+fn what_isnt_printed_of_a_label_is_escaped(rt: HostRuntime) {
+    let alloc = rt.alloc();
+    let mut replica = Replica::new(alloc);
+    draft(alloc, &mut replica, Node::NULL, b"first\n\"\\\t\xff").expect(&rt, "memory");
+    let picture = b"o  e92259e19409 \\\"\\\\\\t\\xff draft\n\
+            \n";
+    expect(&rt, alloc, replica, false, picture);
+}
+
+// One whose label is hard to quote was pruned, and of another rewrite nothing is held.
+fn pruned(alloc: Global) -> Option<Kept> {
+    let mut replica = Replica::new(alloc);
+    let old = draft(alloc, &mut replica, Node::NULL, b"first\n\"\\\t\xff")?;
+    mark(alloc, &mut replica, b"prune", old, &[])?;
+    mark(alloc, &mut replica, b"amend", ELSEWHERE, &[NOWHERE])?;
+    Kept::new(alloc, replica).ok()
+}
+
+#[test]
+fn what_isnt_held_is_dotted_and_labels_are_quoted(rt: HostRuntime) {
+    let alloc = rt.alloc();
+    let kept = pruned(alloc).expect(&rt, "memory");
+    let graph = b"digraph \"A\" {\n    node [shape=box];\n    \
+            \"e92259e19409\" [label=\"e92259e19409\\n\\\\\\\"\\\\\\\\\\\\t\\\\xff\", \
+            color=gray, style=diagonals];\n    \
+            \"111111111111\" [label=\"111111111111\", style=dotted];\n    \
+            \"222222222222\" [label=\"222222222222\", style=dotted];\n    \
+            \"111111111111\" -> \"222222222222\" [style=dashed, constraint=false];\n\
+            }\n";
+    let mut drawn = Vec::new(alloc);
+    draw_graph(alloc, b"A", &kept, true, &mut drawn).expect(&rt, "memory");
+    assert!(rt; drawn.as_slice() == graph.as_slice());
+}

@@ -13,8 +13,6 @@ mod exchanges;
 #[cfg(test)]
 mod offers;
 #[cfg(test)]
-mod reading;
-#[cfg(test)]
 mod rewrites;
 #[cfg(test)]
 mod rows;

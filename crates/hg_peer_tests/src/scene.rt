@@ -1,12 +1,26 @@
 //! Changesets and markers for a replica to take in. `None` where memory ran out.
-use hg_changeset::{Changeset, Node};
+use hg_changeset::{Changeset, Entry, Node};
 use hg_marker::{Marker, Metadata};
 use hg_phases::Phase;
 use hg_replica::{Part, Replica};
 use std::alloc::Global;
+use std::collections::BTreeMap;
 
-/// A part that says nothing.
-pub fn empty(alloc: Global) -> Part {
+/// An entry of user `fleet` at `0 0`.
+pub fn entry(alloc: Global, description: &[u8]) -> Option<Entry> {
+    let user = Vec::from_slice(alloc, b"fleet").ok()?;
+    let desc = Vec::from_slice(alloc, description).ok()?;
+    Some(Entry {
+        user,
+        secs: 0,
+        offset: 0,
+        extra: BTreeMap::new(alloc),
+        desc,
+    })
+}
+
+// A part that says nothing.
+fn empty(alloc: Global) -> Part {
     Part {
         changesets: Vec::new(alloc),
         bounds: Vec::new(alloc),
@@ -32,17 +46,31 @@ pub fn commit(
     let mut part = empty(alloc);
     part.changesets.push(changeset).ok()?;
     part.bounds.push((node, phase)).ok()?;
-    replica.absorb(&part).ok()?;
+    replica.absorb_owned(part).ok()?;
     Some(node)
 }
 
-/// Takes in the marker that a node was pruned.
-pub fn prune(alloc: Global, replica: &mut Replica, node: Node) -> Option<()> {
+/// Takes in the marker that a node was rewritten to others, or pruned, with a pair of its metadata.
+pub fn rewrite(
+    alloc: Global,
+    replica: &mut Replica,
+    old: Node,
+    new: &[Node],
+    pair: (&[u8], &[u8]),
+) -> Option<()> {
+    let mut metadata = Metadata::new(alloc);
+    metadata.insert(alloc, pair.0, pair.1).ok()?;
+    let new = Vec::from_slice(alloc, new).ok()?;
+    let marker = Marker::new(old, new, 0, metadata).ok()?;
     let mut part = empty(alloc);
-    let pruned = Marker::new(node, Vec::new(alloc), 0, Metadata::new(alloc)).ok()?;
-    part.markers.push(pruned).ok()?;
-    replica.absorb(&part).ok()?;
+    part.markers.push(marker).ok()?;
+    replica.absorb_owned(part).ok()?;
     Some(())
+}
+
+/// Takes in the marker that a node was pruned, which stood on this parent.
+pub fn prune(alloc: Global, replica: &mut Replica, node: Node, parent: Node) -> Option<()> {
+    rewrite(alloc, replica, node, &[], (b"p1", &parent.to_hex()))
 }
 
 /// A replica that holds so many draft roots, which it took in at once.
@@ -58,17 +86,12 @@ pub fn many_roots(alloc: Global, count: u32) -> Option<Replica> {
     Some(replica)
 }
 
-/// A draft chain of at most three changesets, each with one of the bytes as its text, and their ids.
-pub fn chain(alloc: Global, replica: &mut Replica, texts: &[u8]) -> Option<[Node; 3]> {
-    let mut nodes = [Node::NULL; 3];
-    let mut last = Node::NULL;
-    for place in 0..3usize {
-        if place < texts.len() {
-            last = commit(alloc, replica, last, &[texts[place]], Phase::Draft)?;
-            nodes[place] = last;
-        }
-    }
-    Some(nodes)
+/// Takes in a draft chain of three, with these texts, and tells their ids.
+pub fn chain(alloc: Global, replica: &mut Replica) -> Option<[Node; 3]> {
+    let a = commit(alloc, replica, Node::NULL, b"a", Phase::Draft)?;
+    let b = commit(alloc, replica, a, b"b", Phase::Draft)?;
+    let c = commit(alloc, replica, b, b"c", Phase::Draft)?;
+    Some([a, b, c])
 }
 
 /// The two, the lesser first.
