@@ -1,5 +1,6 @@
 mod AnswerLemmas
 mod ArgumentLemmas
+mod BuilderLemmas
 mod NumberLemmas
 mod OptionLemmas
 mod PlaceLemmas

@@ -451,7 +451,6 @@ fn program_alone<'a>(alloc: Global) -> Command<'a>
         .version(VERSION)
         .after_help(SCRIPT_HELP)
         .subcommand_required(true)
-        .arg_required_else_help(false)
 }
 
 fn run<'a>(alloc: Global) -> Result<Command<'a>, AllocError>

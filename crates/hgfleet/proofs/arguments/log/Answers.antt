@@ -1,21 +1,29 @@
-use Rattle.std.proofs.Common.{rules, ap₂, codes, ◌≡◌, ◌∙◌}
+use Rattle.std.proofs.Common.{ap, ap₂, codes, ◌≡◌, ◌∙◌}
 use Rattle.std.proofs.lemmas.Result.{IfOk-weaker}
+use Rattle.clap.specs.Simple.{app_of_fields}
 use Rattle.clap.specs.Words.{app_of, new_app, with_rule}
 use Rattle.hgfleet.specs.Arguments.{flag_rule}
+use Rattle.hgfleet.proofs.BuilderLemmas.{either, has_globals}
 use Rattle.hgfleet.proofs.arguments.log.Goals as goal
 
 pub returns : goal.returns
 returns c =
-    let bare_is : app_of c.after_help.result ≡ new_app (codes "log") = search rules in
+    let bare : app_of c.after_help.result ≡ new_app (codes "log") =
+    ap app_of_fields c.after_help.ensures ∙ ap app_of_fields c.about.ensures ∙ c.new.ensures.app in
+    let local = ap has_globals c.after_help.ensures ∙ ap has_globals c.about.ensures ∙ c.new.ensures.local in
+    let hidden = c.flag.ensures in
+    let dot = c.flag-2.ensures in
+    let nodes = c.nodes_argument.ensures in
     let with_hidden : app_of c.in_ok-arg.field-0 ≡ with_rule (new_app (codes "log")) (flag_rule (codes "hidden")) =
-    c.in_ok-arg.ensures.shape c.flag.ensures.1 ∙ ap₂ with_rule bare_is c.flag.ensures.0 in
+    c.in_ok-arg.ensures.shape hidden.1 ∙ ap₂ with_rule bare hidden.0 in
+    let hidden_local = c.in_ok-arg.ensures.globals ∙ ap₂ either local hidden.1 in
     let with_dot : app_of c.in_ok-arg-2.field-0
     ≡ with_rule (with_rule (new_app (codes "log")) (flag_rule (codes "hidden"))) (flag_rule (codes "dot")) =
-    c.in_ok-arg-2.ensures.shape c.flag-2.ensures.1 ∙ ap₂ with_rule with_hidden c.flag-2.ensures.0 in
+    c.in_ok-arg-2.ensures.shape dot.1 ∙ ap₂ with_rule with_hidden dot.0 in
+    let dot_local = c.in_ok-arg-2.ensures.globals ∙ ap₂ either hidden_local dot.1 in
     IfOk-weaker c.arg-3.result _ _
     (λ command h. (
-      h.shape c.nodes_argument.ensures.1
-          ∙ ap₂ with_rule with_dot c.nodes_argument.ensures.0,
-      search rules,
+      h.shape nodes.1 ∙ ap₂ with_rule with_dot nodes.0,
+      h.globals ∙ ap₂ either dot_local nodes.1,
     ))
     c.arg-3.ensures
