@@ -1,4 +1,4 @@
-//! Rounds that are worked out by hand, each growth of which is refused in turn.
+//! Rounds that are worked out by hand, most with each growth refused in turn.
 use crate::scene::{ascending, chain, commit, many_roots, prune};
 use hg_changeset::Node;
 use hg_discovery::{
@@ -119,4 +119,41 @@ fn refused_growth_of_a_whole_discovery_is_told(rt: HostRuntime) {
         Err(_) => heads_in_common_kept(alloc, &asker, &other).expect(&rt, "memory"),
     };
     assert!(rt; heads.as_slice() == [b].as_slice());
+}
+
+#[test]
+fn roots_are_asked_200_at_a_time(rt: HostRuntime) {
+    let alloc = rt.alloc();
+    let asker = many_roots(alloc, 450).expect(&rt, "memory");
+    let other = Replica::new(alloc);
+    let pins = Pins::new(alloc);
+    let mut discovery = Discovery::start(alloc, &asker).expect(&rt, "memory");
+    for count in [200usize, 200, 50] {
+        let sample = discovery.sample().expect(&rt, "memory");
+        assert!(rt; sample.len() == count && !discovery.done());
+        let answers = known(alloc, &other, &pins, &sample).expect(&rt, "memory");
+        assert!(rt; discovery.answer(&answers) == Ok(()));
+    }
+    let heads = discovery.common_heads().expect(&rt, "memory");
+    assert!(rt; discovery.done() && heads.is_empty());
+}
+
+// The yes was true when it was given: then the other side prunes what it was for.
+#[test]
+fn what_is_pruned_after_a_yes_stays_common(rt: HostRuntime) {
+    let alloc = rt.alloc();
+    let pins = Pins::new(alloc);
+    let (mut asker, mut other) = (Replica::new(alloc), Replica::new(alloc));
+    let [a, b, c] = chain(alloc, &mut asker).expect(&rt, "memory");
+    chain(alloc, &mut other).expect(&rt, "memory");
+    let mut discovery = Discovery::start(alloc, &asker).expect(&rt, "memory");
+    let sample = discovery.sample().expect(&rt, "memory");
+    let answers = known(alloc, &other, &pins, &sample).expect(&rt, "memory");
+    prune(alloc, &mut other, c, b).expect(&rt, "memory");
+    prune(alloc, &mut other, b, a).expect(&rt, "memory");
+    let now = known(alloc, &other, &pins, &sample).expect(&rt, "memory");
+    assert!(rt; now != answers && discovery.answer(&answers) == Ok(()));
+    let heads = discovery.common_heads().expect(&rt, "memory");
+    assert!(rt; discovery.done() && heads.as_slice() == [c].as_slice());
+    assert!(rt; asker.graph().contains(c) && other.graph().contains(c));
 }

@@ -1,4 +1,4 @@
-//! What a replica takes in, where growth is refused. That a refusal changes nothing is proved.
+//! What a replica takes in, where growth is refused. A refusal leaves it as another one that was made alike.
 use crate::parts::{ELSEWHERE, NOWHERE, changeset, empty, mark, push, replica_of};
 use hg_changeset::Node;
 use hg_join::JoinState;
@@ -30,6 +30,11 @@ fn merge(alloc: Global, nodes: &[Node; 3]) -> Option<(Part, Node)> {
     Some((part, node))
 }
 
+// Whether the two hold the same.
+fn are_equal(one: &Replica, other: &Replica) -> bool {
+    one.below(other) == Ok(true) && other.below(one) == Ok(true)
+}
+
 // Whether the part was absorbed and taken back.
 fn is_taken_back(replica: &mut Replica, part: &Part) -> bool {
     match replica.absorb_with_undo(part) {
@@ -54,8 +59,12 @@ fn refused_growth_moves_neither_phases_nor_roots(rt: HostRuntime) {
     let Some(mut replica) = replica_of(alloc, &held) else {
         return;
     };
-    assert!(rt; is_taken_back(&mut replica, &part) || is_taken_back(&mut replica, &part));
-    assert!(rt; replica.store().len() == 0);
+    let Some(before) = replica_of(alloc, &held) else {
+        return;
+    };
+    let was_taken_back = is_taken_back(&mut replica, &part);
+    assert!(rt; are_equal(&replica, &before));
+    assert!(rt; was_taken_back || is_taken_back(&mut replica, &part));
     assert!(rt; replica.absorb(&part).is_ok() || replica.absorb(&part).is_ok());
     let roots = match replica.roots() {
         Ok(roots) => roots,
@@ -91,14 +100,15 @@ fn refused_growth_in_moving_in_joining_and_copying_passes(rt: HostRuntime) {
         return;
     };
     assert!(rt; other.absorb_owned(part).is_ok() || other.absorb_owned(same).is_ok());
-    assert!(rt; is_unjoined(&mut replica, &other) || is_unjoined(&mut replica, &other));
-    assert!(rt; !replica.graph().contains(merge));
+    let was_unjoined = is_unjoined(&mut replica, &other);
+    assert!(rt; !replica.graph().contains(merge) && replica.store().len() == 0);
+    assert!(rt; was_unjoined || is_unjoined(&mut replica, &other));
     assert!(rt; replica.join(&other).is_ok() || replica.join(&other).is_ok());
     let copy = match replica.copy() {
         Ok(copy) => copy,
         Err(_) => replica.copy().expect(&rt, "memory"),
     };
-    assert!(rt; copy.graph().contains(merge) && other.below(&copy) == Ok(true));
+    assert!(rt; are_equal(&copy, &replica) && are_equal(&copy, &other));
 }
 
 // The highest listed phase of a changeset's own and its ancestors' counts. A root that isn't held is dropped.
