@@ -1,6 +1,6 @@
-//! Scripts over a reader that gives little and a writer that counts. What a script prints, leaves and is told with, and
-//! how it ends, also where a read or a write fails, is shown by cases of `examples/`.
-use crate::streams::{Noting, OneByte};
+//! Scripts over readers and writers that give little, fail or count. What a script prints, leaves and is told with, and
+//! how it ends, is shown by cases of `examples/`.
+use crate::streams::{Failing, Full, Noting, OneByte};
 use hg_script::run_counted;
 
 #[test]
@@ -14,4 +14,30 @@ fn a_script_is_read_byte_by_byte_and_each_line_and_its_end_is_one_write(rt: Host
     let done = run_counted(alloc, OneByte(script), &mut writer);
     assert!(rt; done.is_ok());
     assert_eq!(rt; (writer.writes, writer.lines), (5, 5));
+}
+
+#[test]
+fn a_read_that_fails_ends_a_script(rt: HostRuntime) {
+    let alloc = rt.alloc();
+    let mut writer = Vec::new(alloc);
+    let done = run_counted(alloc, Failing(10), &mut writer);
+    assert!(rt; writer.is_empty());
+    let fault = done.err().expect(&rt, "a fault");
+    assert_eq!(rt; fault.status(), 1);
+    let told = format!(in alloc; "{fault}").expect(&rt, "memory");
+    assert_eq!(rt; told.as_str(), "read fault");
+}
+
+#[test]
+fn a_write_that_fails_ends_a_script(rt: HostRuntime) {
+    let alloc = rt.alloc();
+    let done = run_counted(
+        alloc,
+        b"node A\nreport A\nreport A\n".as_slice(),
+        &mut Full(1),
+    );
+    let fault = done.err().expect(&rt, "a fault");
+    assert_eq!(rt; fault.status(), 1);
+    let told = format!(in alloc; "{fault}").expect(&rt, "memory");
+    assert_eq!(rt; told.as_str(), "write fault");
 }

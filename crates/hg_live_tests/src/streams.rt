@@ -1,6 +1,6 @@
-//! A reader that gives little, and a writer that counts.
+//! Readers and writers that give little, fail or count.
 use std::io;
-use std::io::{Read, Write};
+use std::io::{Error, ErrorKind, Read, Write};
 
 /// Gives one byte a read.
 #[derive(Drop)]
@@ -16,6 +16,44 @@ impl Read for OneByte<'_> {
             }
             _ => Ok(0),
         }
+    }
+}
+
+/// Gives a number sign a number of times, one a read, and then fails.
+#[derive(Drop)]
+pub struct Failing(pub usize);
+
+impl Read for Failing {
+    fn read(&mut self, buf: &mut [u8]) -> io::Result<usize> {
+        if self.0 == 0 {
+            return Err(Error::from(ErrorKind::Interrupted));
+        }
+        match buf.first_mut() {
+            Some(place) => {
+                *place = b'#';
+                self.0 -= 1;
+                Ok(1)
+            }
+            None => Ok(0),
+        }
+    }
+}
+
+/// Takes a number of writes, and then fails.
+#[derive(Drop)]
+pub struct Full(pub usize);
+
+impl Write for Full {
+    fn write(&mut self, buf: &[u8]) -> io::Result<usize> {
+        if self.0 == 0 {
+            return Err(Error::from(ErrorKind::WriteZero));
+        }
+        self.0 -= 1;
+        Ok(buf.len())
+    }
+
+    fn flush(&mut self) -> io::Result<()> {
+        Ok(())
     }
 }
 

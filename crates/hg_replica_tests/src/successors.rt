@@ -160,3 +160,34 @@ fn twice_as_many_ways_are_too_many_and_what_came_of_them_is_content_divergent(rt
     let sets = Instabilities::from_scratch(alloc, &replica).expect(&rt, "memory");
     assert!(rt; sets.content_divergent().contains(&alone));
 }
+
+// The node of a chain with this number.
+fn link(number: u16) -> Node {
+    let [high, low] = number.to_be_bytes();
+    let mut bytes = [0x11; 20];
+    bytes[0] = high;
+    bytes[1] = low;
+    Node(bytes)
+}
+
+// A chain of 3,000 markers to a root that is held.
+fn chain(alloc: Global) -> Option<Replica> {
+    let mut part = empty(alloc);
+    let end = push(alloc, &mut part, Node::NULL, 250, Phase::Draft)?;
+    for number in 1..3000u16 {
+        mark(alloc, &mut part, link(number - 1), &[link(number)], 0)?;
+    }
+    mark(alloc, &mut part, link(2999), &[end], 0)?;
+    replica_of(alloc, &part)
+}
+
+#[test]
+fn a_long_chain_of_markers_leads_to_its_end(rt: HostRuntime) {
+    let alloc = rt.alloc();
+    let replica = chain(alloc).expect(&rt, "memory");
+    for number in [0u16, 1, 2999] {
+        assert!(rt; count(alloc, &replica, link(number)) == Some(Some(1)));
+    }
+    let sets = Instabilities::from_scratch(alloc, &replica).expect(&rt, "memory");
+    assert!(rt; sets.content_divergent().is_empty());
+}
