@@ -24,7 +24,7 @@ fn refused_growth_inserts_nothing_and_passes_again(rt: HostRuntime) {
             Ok(full) => full,
             Err(_) => set.insert_full(own).expect(&rt, "memory"),
         };
-        assert!(rt; full == (held + 1, true) && set.get_index_of(shared) == Some(held));
+        assert!(rt; full == (held.wrapping_add(1), true) && set.get_index_of(shared) == Some(held));
     }
     set.truncate(50);
     assert!(rt; set.len() == 50 && set.insert(id(7, 24)) == Ok(false));
