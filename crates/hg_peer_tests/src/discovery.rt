@@ -25,9 +25,11 @@ fn refused_growth_knows_nothing(rt: HostRuntime) {
     let alloc = rt.alloc();
     let pins = Pins::new(alloc);
     let mut replica = Replica::new(alloc);
-    let Some(([a, b, c], secret)) = partly_served(alloc, &mut replica) else {
+    let Some(made) = partly_served(alloc, &mut replica) else {
         return;
     };
+    let (nodes, secret) = made;
+    let [a, b, c] = nodes;
     let asked = [secret, a, c, Node([0x11; 20]), b];
     let answers = match known(alloc, &replica, &pins, &asked) {
         Ok(answers) => answers,
@@ -49,9 +51,10 @@ fn refused_growth_knows_nothing(rt: HostRuntime) {
 fn refused_growth_leaves_a_discovery_as_it_was(rt: HostRuntime) {
     let alloc = rt.alloc();
     let mut replica = Replica::new(alloc);
-    let Some([a, b, c]) = chain(alloc, &mut replica) else {
+    let Some(nodes) = chain(alloc, &mut replica) else {
         return;
     };
+    let [a, b, c] = nodes;
     let mut discovery = match Discovery::start(alloc, &replica) {
         Ok(discovery) => discovery,
         Err(_) => Discovery::start(alloc, &replica).expect(&rt, "memory"),
@@ -100,9 +103,11 @@ fn refused_growth_of_a_whole_discovery_is_told(rt: HostRuntime) {
     let alloc = rt.alloc();
     let pins = Pins::new(alloc);
     let (mut asker, mut other) = (Replica::new(alloc), Replica::new(alloc));
-    let Some(([_, b, _], _)) = partly_served(alloc, &mut other) else {
+    let Some(made) = partly_served(alloc, &mut other) else {
         return;
     };
+    let (nodes, _) = made;
+    let [_, b, _] = nodes;
     if chain(alloc, &mut asker).is_none() {
         return;
     }

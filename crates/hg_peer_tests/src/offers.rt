@@ -51,9 +51,10 @@ fn are(message: &Message, nodes: &[Node]) -> bool {
 fn refused_growth_offers_nothing(rt: HostRuntime) {
     let alloc = rt.alloc();
     let mut replica = Replica::new(alloc);
-    let Some([a, b, c, d]) = scene(alloc, &mut replica) else {
+    let Some(nodes) = scene(alloc, &mut replica) else {
         return;
     };
+    let [a, b, c, d] = nodes;
     let served = offered(&rt, alloc, &replica, Scope::Served);
     assert!(rt; are(&served, &[a, b, c]) && served.markers().len() == 2);
     let [first, second] = ascending(b, c);

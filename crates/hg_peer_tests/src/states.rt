@@ -51,7 +51,7 @@ fn refused_growth_of_a_peer_changes_nothing_and_passes_again(rt: HostRuntime) {
 fn a_copy_has_the_pins_and_what_grows_keeps_its_own(rt: HostRuntime) {
     let alloc = rt.alloc();
     let part = draft_root(alloc).expect(&rt, "memory");
-    let node = part.bounds[0].0;
+    let (node, _) = *part.bounds.first().expect(&rt, "a bound");
     let mut peer = Peer::empty(alloc).expect(&rt, "memory");
     peer.absorb_owned(part).expect(&rt, "a change");
     let mut pinned = peer.copy().expect(&rt, "memory");
