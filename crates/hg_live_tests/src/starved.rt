@@ -80,13 +80,13 @@ fn refused_growth_in_calls_changes_nothing_that_is_seen(rt: HostRuntime) {
 }
 
 // After the calls `a` is hidden. What comes later, if it is the unpin, is shown by the call after it.
-fn starve<K: NodeName, R: Wait + Abort, W: Wait + Drop>(
+fn starve<'a, K: NodeName, R: Wait + Abort, W: Wait + Drop>(
     rt: &R,
     alloc: Global,
     blank: Blank,
     keep: W,
-    commit: &Op,
-    rewrite: &Op,
+    commit: &'a Op,
+    rewrite: &'a Op,
 )
     requires opening { K.opening ≡ blank.opening }
     requires book { blank.opened ≡ K.book }
