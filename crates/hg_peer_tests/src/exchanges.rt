@@ -90,7 +90,7 @@ fn counts(world: &World<Peer>, at: usize) -> Option<[usize; 3]> {
 }
 
 #[test]
-fn refused_growth_of_an_event_is_told_and_it_passes_again(rt: HostRuntime) {
+fn refused_growth_of_an_event_leaves_all_as_it_was_and_passes_again(rt: HostRuntime) {
     let alloc = rt.alloc();
     let Ok(mut world) = World::<Peer>::new(alloc, 2) else {
         return;
@@ -100,7 +100,9 @@ fn refused_growth_of_an_event_is_told_and_it_passes_again(rt: HostRuntime) {
             return;
         };
         let events = [event];
+        let before = [counts(&world, 0), counts(&world, 1)];
         if !is_accepted(&rt, world.run(&events)) {
+            assert!(rt; [counts(&world, 0), counts(&world, 1)] == before);
             assert!(rt; is_accepted(&rt, world.run(&events)));
         }
     }
