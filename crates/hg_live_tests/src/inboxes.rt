@@ -1,7 +1,7 @@
 //! An inbox in one thread and in two, and each growth refused in turn.
 ghost use Rattle.std.specs.Prelude.{◌≡◌};
 
-use hg_inbox::{Inbox, InboxRefusal, Seat};
+use hg_inbox::{Full, Inbox, InboxRefusal, Seat};
 use std::alloc::Global;
 use std::process::Abort;
 use std::sync::Wait;
@@ -12,21 +12,73 @@ fn message(rt: &impl Abort, alloc: Global, text: &[u8]) -> Vec<u8> {
     Vec::from_slice(alloc, text).expect(rt, "memory")
 }
 
+// Whether the put was refused as full, and handed these bytes back.
+fn hands_back(put: Result<(), Full>, text: &[u8]) -> bool {
+    match put {
+        Ok(()) => false,
+        Err(full) => full.message.as_slice() == text,
+    }
+}
+
+// Whether the take gave these bytes.
+fn gives(taken: Option<Vec<u8>>, text: &[u8]) -> bool {
+    match taken {
+        Some(message) => message.as_slice() == text,
+        None => false,
+    }
+}
+
+// What is left where the inbox is closed with one seat, which is refused, and then with both.
+fn left<R: Wait + Abort>(
+    rt: &R,
+    alloc: Global,
+    inbox: Inbox,
+    one: Seat,
+    other: Seat,
+) -> Vec<Vec<u8>>
+    requires one { one.inbox ≡ inbox.name }
+    requires other { other.inbox ≡ inbox.name }
+{
+    let seats = vec![in alloc; one].expect(rt, "memory");
+    let Err(mut unclosed) = inbox.close(rt, seats) else {
+        assert!(rt; false, "a seat is out");
+        return Vec::new(alloc);
+    };
+    assert!(rt; unclosed.refusal == InboxRefusal::SeatsOut);
+    unclosed.seats.push(other).expect(rt, "memory");
+    let Ok(rest) = unclosed.inbox.close(rt, unclosed.seats) else {
+        assert!(rt; false, "all seats are back");
+        return Vec::new(alloc);
+    };
+    rest
+}
+
 #[test]
-fn a_put_finds_room_and_a_take_finds_the_message_where_there_is_one(rt: HostRuntime) {
+fn messages_come_out_in_order_at_any_seat_and_the_last_at_the_close(rt: HostRuntime) {
     let alloc = rt.alloc();
-    let mut inbox = Inbox::new(alloc, 1).expect(&rt, "an inbox");
-    let mut seat = inbox.seat().expect(&rt, "a seat");
-    assert!(rt; inbox.put(&rt, &mut seat, message(&rt, alloc, b"x")).is_ok());
-    assert!(rt;
-        inbox
-            .put(&rt, &mut seat, message(&rt, alloc, b"y"))
-            .is_err()
-    );
-    let taken = inbox.take(&rt, &mut seat).expect(&rt, "a message");
-    assert_eq!(rt; taken.as_slice(), b"x".as_slice());
-    assert!(rt; inbox.take(&rt, &mut seat).is_none());
-    assert!(rt; inbox.put(&rt, &mut seat, message(&rt, alloc, b"y")).is_ok());
+    let mut inbox = Inbox::new(alloc, 2).expect(&rt, "an inbox");
+    let mut s = inbox.seat().expect(&rt, "a seat");
+    let mut t = inbox.seat().expect(&rt, "a seat");
+
+    assert!(rt; inbox.put(&rt, &mut s, message(&rt, alloc, b"x")).is_ok());
+    assert!(rt; inbox.put(&rt, &mut s, message(&rt, alloc, b"y")).is_ok());
+    assert!(rt; hands_back(inbox.put(&rt, &mut s, message(&rt, alloc, b"z")), b"z"));
+    assert!(rt; gives(inbox.take(&rt, &mut t), b"x"));
+    assert!(rt; gives(inbox.take(&rt, &mut s), b"y"));
+    assert!(rt; inbox.take(&rt, &mut t).is_none());
+    assert!(rt; inbox.put(&rt, &mut s, message(&rt, alloc, b"z")).is_ok());
+
+    let rest = left(&rt, alloc, inbox, s, t);
+    assert_eq!(rt; rest.len(), 1);
+    assert_eq!(rt; rest[0].as_slice(), b"z".as_slice());
+}
+
+#[test]
+fn an_inbox_for_no_message_is_refused(rt: HostRuntime) {
+    match Inbox::new(rt.alloc(), 0) {
+        Ok(_) => assert!(rt; false, "it holds nothing"),
+        Err(refusal) => assert!(rt; refusal == InboxRefusal::ZeroCapacity),
+    }
 }
 
 #[test]

@@ -65,6 +65,7 @@ fn refused_growth_leaves_a_discovery_as_it_was(rt: HostRuntime) {
     };
     let [first, second] = ascending(a, b);
     assert!(rt; sample.as_slice() == [c, first, second].as_slice());
+    assert!(rt; discovery.answer(&[false, true]) == Err(DiscoveryError::WrongCount));
     let answers = [false, true, true];
     if let Err(refusal) = discovery.answer(&answers) {
         assert!(rt; refusal == DiscoveryError::NoMemory && !discovery.done());

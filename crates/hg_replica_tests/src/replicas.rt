@@ -4,7 +4,7 @@ use hg_changeset::Node;
 use hg_join::JoinState;
 use hg_obsstore::Store;
 use hg_phases::{Phase, Roots};
-use hg_replica::{Part, Replica};
+use hg_replica::{Fault, Part, Replica};
 use std::alloc::Global;
 
 // The part of a root and two children of it, all secret.
@@ -139,4 +139,19 @@ fn refused_growth_in_opening_changes_nothing(rt: HostRuntime) {
         replica.phase_at(2),
     ];
     assert!(rt; phases == [Some(Phase::Draft), Some(Phase::Secret), Some(Phase::Draft)]);
+}
+
+#[test]
+fn a_bound_of_what_is_not_held_is_refused(rt: HostRuntime) {
+    let alloc = rt.alloc();
+    let mut replica = Replica::new(alloc);
+    for (node, fault) in [
+        (Node::NULL, Fault::NullBound),
+        (ELSEWHERE, Fault::UnknownBound(ELSEWHERE)),
+    ] {
+        let mut part = empty(alloc);
+        part.bounds.push((node, Phase::Draft)).expect(&rt, "memory");
+        assert!(rt; replica.absorb(&part).err() == Some(fault));
+    }
+    assert!(rt; replica.graph().is_empty());
 }

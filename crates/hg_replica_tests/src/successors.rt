@@ -170,23 +170,33 @@ fn link(number: u16) -> Node {
     Node(bytes)
 }
 
-// A chain of 3,000 markers to a root that is held.
-fn chain(alloc: Global) -> Option<Replica> {
+// A chain of 3,000 markers to a root that is held, and that root.
+fn chain(alloc: Global) -> Option<(Replica, Node)> {
     let mut part = empty(alloc);
     let end = push(alloc, &mut part, Node::NULL, 250, Phase::Draft)?;
     for number in 1..3000u16 {
         mark(alloc, &mut part, link(number - 1), &[link(number)], 0)?;
     }
     mark(alloc, &mut part, link(2999), &[end], 0)?;
-    replica_of(alloc, &part)
+    Some((replica_of(alloc, &part)?, end))
+}
+
+// Whether the sole successors set of the node has the one alone.
+fn became(alloc: Global, replica: &Replica, node: Node, end: Node) -> Option<bool> {
+    match successors_sets(alloc, replica, node).ok()? {
+        Sets::Family(sets) => Some(
+            sets.len() == 1 && sets.iter().all(|set| set.as_slice() == [end].as_slice()),
+        ),
+        Sets::Overfull => Some(false),
+    }
 }
 
 #[test]
 fn a_long_chain_of_markers_leads_to_its_end(rt: HostRuntime) {
     let alloc = rt.alloc();
-    let replica = chain(alloc).expect(&rt, "memory");
+    let (replica, end) = chain(alloc).expect(&rt, "memory");
     for number in [0u16, 1, 2999] {
-        assert!(rt; count(alloc, &replica, link(number)) == Some(Some(1)));
+        assert!(rt; became(alloc, &replica, link(number), end) == Some(true));
     }
     let sets = Instabilities::from_scratch(alloc, &replica).expect(&rt, "memory");
     assert!(rt; sets.content_divergent().is_empty());
