@@ -1,15 +1,15 @@
 -- Where the other side serves all heads of what is undecided, one round makes all of it common.
-use Rattle.std.proofs.Common.{◌≡◌, ◌↔◌, ℕ, zero, suc, ◌<◌, ◌≤◌, ◌+◌, ◌-◌, inl, inr, Bool, true, false, List, []}
+use Rattle.std.proofs.Common.{◌≡◌, ◌↔◌, ◌⊎◌, ℕ, zero, suc, ◌<◌, ◌≤◌, ◌+◌, ◌-◌, inl, inr, Bool, true, false, List, []}
 use Rattle.std.proofs.Common.{◌∷◌, ◌++◌, length, map, filter, take, slice_get, Some}
 use Rattle.std.proofs.Common.{Contains, refl, sym, ap, subst, ◌∙◌, arith, true≢false}
+use Rattle.std.specs.List.Sorted.{IsStrictlySortedBy}
 use Rattle.std.proofs.lemmas.List.{length-map}
 use Rattle.std.proofs.lemmas.Option.{slice_get_within}
 use Rattle.hg_changeset.specs.declared.node.Node.{Node}
 use Rattle.hg_changeset.proofs.ListLemmas.{Contains-cons_cases, Contains-first, Contains-later, Contains-none}
 use Rattle.hg_changeset.proofs.ListLemmas.{slice_get_some}
 use Rattle.hg_graph.specs.declared.graph.ParentPlaces.{ParentPlaces}
-use Rattle.hg_graph.specs.Marks.{IsMarkedNode}
-use Rattle.hg_phases.specs.State.{changesets}
+use Rattle.hg_phases.specs.State.{changesets, IsValid}
 use Rattle.hg_replica.specs.State.{ReplicaState}
 use Rattle.hg_replica.specs.Content.{content_of}
 use Rattle.hg_view.specs.Pins.{IsServedUnder}
@@ -20,20 +20,24 @@ use Rattle.hg_discovery.specs.Under.{IsParentAt, IsUnder, IsInOrder, itself}
 use Rattle.hg_discovery.specs.Search.{Search, Is, IsSo, IsHead, Lists, IsSearch, IsClosed, AreSpots, nodes_of}
 use Rattle.hg_discovery.specs.Spread.{AreCovered}
 use Rattle.hg_discovery.specs.Picking.{is_picked}
-use Rattle.hg_discovery.specs.Order.{in_order}
+use Rattle.hg_discovery.specs.Order.{in_order, spot_cmp}
 use Rattle.hg_discovery.specs.Answers.{IsTold, AreTold, IsRound}
 use Rattle.hg_discovery.specs.Rounds.{AreAnswers}
 use Rattle.hg_discovery.specs.Start.{IsGround, IsStart}
-use Rattle.hg_discovery.specs.Between.{AreHeadsInCommon}
+use Rattle.hg_discovery.specs.Between.{AreHeadsInCommon, AreSharedMarks}
+use Rattle.hg_discovery.specs.Heads.{IsMarkedHead}
 use Rattle.hg_discovery.proofs.UnderLemmas.{not_both_uc, not_both_um, not_both_cm, three, under_then, parent_under}
 use Rattle.hg_discovery.proofs.UnderLemmas.{under_common, between}
 use Rattle.hg_discovery.proofs.ToldLemmas.{told_len, told_closed, told_length, all_missing_kept, all_common_kept}
 use Rattle.hg_discovery.proofs.ToldLemmas.{all_closed, spots_after, undecided_before}
 use Rattle.hg_discovery.proofs.CountLemmas.{none_undecided}
-use Rattle.hg_discovery.proofs.DrawLemmas.{kept, picked, others_among}
-use Rattle.hg_discovery.proofs.SortLemmas.{in_order_lists}
+use Rattle.hg_discovery.proofs.DrawLemmas.{kept, picked, others_among, heads_among}
+use Rattle.hg_discovery.proofs.SortLemmas.{in_order_lists, sorted_lists}
+use Rattle.hg_discovery.proofs.SampleLemmas.{marks_exist}
+use Rattle.hg_discovery.proofs.GroundLemmas.{ground_exists}
+use Rattle.hg_discovery.proofs.SharedLemmas.{undecided_heads}
 use Rattle.hg_discovery.proofs.BetweenLemmas.{IsAskedSoFar-start, IsAskedSoFar-round, IsAskedSoFar-done}
-use Rattle.hg_discovery.proofs.WholeLemmas.{undecided_or_not, decided_exists, answers_cons, answers_exist, marked_or_not, started}
+use Rattle.hg_discovery.proofs.WholeLemmas.{undecided_or_not, decided_exists, answers_cons, answers_exist, started}
 
 -- ---- yes to each of some heads, and then any answers
 
@@ -171,11 +175,7 @@ module _ (ours theirs : ReplicaState) (pins : List Node) (ps : List ParentPlaces
     (heads : List Spot) (few : length heads ≤ 200)
     (heads_are : Lists (IsHead (record { parents = ps; spots = xs; decided = ds; asked = [] }) Undecided) heads)
     (among : (x : Spot) → Contains (filter (is_picked ds marks Undecided false) xs) x → Contains heads x)
-    (served : List Bool)
-    (served_heads : (x : Spot) → Contains heads x → IsMarkedNode (changesets theirs.history) served x.node) where
-  abbrev P : Node → Type 0
-  P = IsMarkedNode (changesets theirs.history) served
-
+    (P : Node → Type 0) (can : (n : Node) → P n ⊎ (P n → ⊥)) (served_heads : (x : Spot) → Contains heads x → P x.node) where
   abbrev bare : Search
   bare = record { parents = ps; spots = xs; decided = ds; asked = [] }
 
@@ -268,7 +268,7 @@ module _ (ours theirs : ReplicaState) (pins : List Node) (ps : List ParentPlaces
   }
 
   rest_answers : (answers : List Bool) × AreAnswers P (nodes_of rest) answers
-  rest_answers = answers_exist P (λ n. marked_or_not (changesets theirs.history) served n) (nodes_of rest)
+  rest_answers = answers_exist P can (nodes_of rest)
 
   abbrev said : List Bool
   said = yeses heads ++ rest_answers.0
@@ -310,3 +310,30 @@ module _ (ours theirs : ReplicaState) (pins : List Node) (ps : List ParentPlaces
         (none_undecided new none_left) exact,
     (heads, end_heads, refl),
   )
+
+-- ---- whatever tells the heads, and what the other side serves
+
+module _ (ours theirs : ReplicaState) (pins : List Node) (valid : IsValid ours.history) (shared : List Bool)
+    (shared_len : length shared ≡ length (changesets ours.history)) (exact : AreSharedMarks ours shared)
+    (new : List Spot) (few : length new ≤ 200) (sorted : IsStrictlySortedBy spot_cmp new)
+    (heads : (x : Spot) → Contains new x ↔ IsMarkedHead (changesets ours.history) shared x)
+    (P : Node → Type 0) (can : (n : Node) → P n ⊎ (P n → ⊥)) (served : (x : Spot) → Contains new x → P x.node)
+    (is : (n : Node) → P n ↔ IsServedUnder (content_of theirs) pins n) where
+  pub heads_in_common : AreHeadsInCommon ours theirs pins (nodes_of new)
+  heads_in_common =
+      let all = ground_exists ours.history valid in
+      let ps = all.0 in
+      let xs = all.1 in
+      let ds = all.2 in
+      let ground = all.3 in
+      let marks = marks_exist ps ds ground.len in
+      let bare : Search = record { parents = ps; spots = xs; decided = ds; asked = [] } in
+      let told : (x : Spot) → IsMarkedHead (changesets ours.history) shared x ↔ IsHead bare Undecided x =
+      undecided_heads ours valid shared shared_len exact ps xs ds ground [] in
+      let among = heads_among bare Undecided marks.0 ground.in_order ground.spots marks.1
+      (between ps ds ground.closed ground.len ground.in_order) xs (λ x h. h) (λ x h u. h) in
+      let lists : Lists (IsHead bare Undecided) new = sorted_lists xs (IsHead bare Undecided) ground.spots.distinct new
+      sorted (λ x h. h.0.0)
+      (λ x. (λ h. (told x).0 ((heads x).0 h), λ h. (heads x).1 ((told x).1 h))) in
+      all_in_common ours theirs pins ps xs ds ground marks.0 marks.1 new few lists
+      (λ x h. (lists.1 x).1 ((among x).0 h)) P can served is

@@ -21,3 +21,4 @@ pub mod FamilyLemmas
 pub mod SampleLemmas
 pub mod KnownLemmas
 pub mod ServedLemmas
+pub mod KeptLemmas

@@ -2,12 +2,12 @@
 ghost use Rattle.std.specs.Prelude.{◌≡◌, ◌↔◌, List, IfOk, IfErr, length};
 ghost use Rattle.hg_phases.specs.State.{changesets};
 ghost use Rattle.hg_discovery.specs.declared.error.DiscoveryError.TheVariants.{NoMemory};
-ghost use Rattle.hg_discovery.specs.Between.{AreHeadsInCommon, AreHeadsOfServed};
+ghost use Rattle.hg_discovery.specs.Between.{AreHeadsInCommon, AreHeadsOfServed, AreSharedMarks};
 
 use crate::answers::known_by;
 use crate::discovery::Discovery;
 use crate::error::DiscoveryError;
-use crate::heads::heads_of_all;
+use crate::heads::{heads_of_all, heads_of_all_kept};
 use crate::whole::heads_at_once;
 use hg_changeset::Node;
 use hg_replica::Replica;
@@ -27,12 +27,16 @@ pub fn heads_in_common(
     ensures memory { IfErr result (λ error. error ≡ NoMemory) }
 {
     let served = served_marks(alloc, other, pins)?;
-    ask_in_rounds(alloc, asker, other, &served)
+    let shared = shared_marks(alloc, asker)?;
+    if let Some(heads) = heads_of_all(alloc, asker, &shared, other, &served)? {
+        return Ok(heads);
+    }
+    ask_each(alloc, asker, &shared, other, &served)
 }
 
-/// The heads of what two have in common, as [`heads_in_common`] finds them, by what is kept: what the other serves,
-/// under the pins that it holds, is told by look-ups, without a walk to what is visible. It is refused for want of
-/// memory alone.
+/// The heads of what two have in common, as [`heads_in_common`] finds them, by what is kept. Where the other serves each
+/// head of what the asker doesn't keep secret, and there are at most 200, it costs these heads; otherwise what both hold.
+/// It is refused for want of memory alone.
 pub fn heads_in_common_kept(
     alloc: Global,
     asker: &Kept,
@@ -42,26 +46,32 @@ pub fn heads_in_common_kept(
         (λ heads. AreHeadsInCommon asker.now.replica other.now.replica other.now.pins heads.items) }
     ensures memory { IfErr result (λ error. error ≡ NoMemory) }
 {
+    if let Some(heads) = heads_of_all_kept(alloc, asker, other)? {
+        return Ok(heads);
+    }
     let served = other.served_marks()?;
-    ask_in_rounds(alloc, asker.replica(), other.replica(), &served)
+    let ours = asker.replica();
+    let theirs = other.replica();
+    let shared = shared_marks(alloc, ours)?;
+    ask_each(alloc, ours, &shared, theirs, &served)
 }
 
-// The heads of what the asker has in common with the other replica, under pins with which it serves what is marked.
-fn ask_in_rounds(
+// The heads of what the asker has in common with the other replica, under pins with which it serves what is marked: each
+// changeset is looked up, or the asker asks in rounds. Marks tell which of the asker's aren't secret.
+fn ask_each(
     alloc: Global,
     asker: &Replica,
+    shared: &[bool],
     other: &Replica,
     served: &[bool],
 ) -> Result<Vec<Node>, DiscoveryError>
+    requires shared_len { length shared.now ≡ length (changesets asker.now.history) }
+    requires shared { AreSharedMarks asker.now shared.now }
     requires len { length served.now ≡ length (changesets other.now.history) }
     ensures heads { IfOk result (λ heads. AreHeadsOfServed asker.now other.now served.now heads.items) }
     ensures memory { IfErr result (λ error. error ≡ NoMemory) }
 {
-    let shared = shared_marks(alloc, asker)?;
-    if let Some(heads) = heads_of_all(alloc, asker, &shared, other, served)? {
-        return Ok(heads);
-    }
-    if let Some(heads) = heads_at_once(alloc, asker, &shared, other, served)? {
+    if let Some(heads) = heads_at_once(alloc, asker, shared, other, served)? {
         return Ok(heads);
     }
     let mut discovery = Discovery::start(alloc, asker)?;

@@ -1,10 +1,13 @@
 //! Heads by marks, and where the other side serves all heads of what isn't secret, so that one round makes all of it
 //! common.
-ghost use Rattle.std.specs.Prelude.{◌≡◌, ◌↔◌, ℕ, ◌<◌, List, length, Contains, IsTrue, IfOk, IfSome};
+ghost use Rattle.std.specs.Prelude.{◌≡◌, ◌↔◌, ℕ, ◌<◌, ◌≤◌, List, length, Contains, IsTrue, IfOk, IfSome};
 ghost use Rattle.hg_changeset.specs.declared.node.Node.{Node};
 ghost use Rattle.hg_graph.specs.Marks.{IsMarkedNode};
 ghost use Rattle.hg_phases.specs.State.{changesets};
-ghost use Rattle.hg_discovery.specs.Between.{AreHeadsOfServed, AreSharedMarks};
+ghost use Rattle.hg_graph.specs.Places.{IsAt};
+ghost use Rattle.hg_replica.specs.Content.{content_of};
+ghost use Rattle.hg_view.specs.Pins.{IsServedUnder};
+ghost use Rattle.hg_discovery.specs.Between.{AreHeadsInCommon, AreHeadsOfServed, AreSharedMarks};
 ghost use Rattle.hg_discovery.specs.declared.status.Spot.{Spot};
 ghost use Rattle.hg_discovery.specs.Heads.{IsMarkedHead};
 ghost use Rattle.hg_discovery.specs.Spread.{IsMarked};
@@ -16,6 +19,7 @@ use crate::status::Spot;
 use hg_changeset::Node;
 use hg_graph::Graph;
 use hg_replica::Replica;
+use hg_view::Kept;
 use std::alloc::{AllocError, Global};
 
 // The heads of the asker's changesets that aren't secret, ascending, where there are at most 200 and the other replica
@@ -45,6 +49,63 @@ pub(crate) fn heads_of_all(
     } else {
         Ok(None)
     }
+}
+
+// The heads of the asker's changesets that aren't secret, as `heads_of_all` gives them, by what is kept. It costs these
+// heads, and nothing else of what both hold.
+pub(crate) fn heads_of_all_kept(
+    alloc: Global,
+    asker: &Kept,
+    other: &Kept,
+) -> Result<Option<Vec<Node>>, AllocError>
+    ensures { IfOk result (λ found. IfSome found
+        (λ heads. AreHeadsInCommon asker.now.replica other.now.replica other.now.pins heads.items)) }
+{
+    let places = asker.shared_heads()?;
+    if places.len() > SAMPLE {
+        return Ok(None);
+    }
+
+    // So the answers to other questions of the round can be told too, whatever they are.
+    other.tells_what_is_served();
+    let found = spots_at(alloc, asker.replica().graph(), &places)?;
+    let heads = nodes(alloc, &ascending(found))?;
+    if are_served(other, &heads) {
+        Ok(Some(heads))
+    } else {
+        Ok(None)
+    }
+}
+
+// What stands at the places, with its place.
+fn spots_at(alloc: Global, graph: &Graph, places: &[usize]) -> Result<Vec<Spot>, AllocError>
+    ensures exact { IfOk result (λ xs. (x : Spot) → Contains xs.items x
+        ↔ (Contains places.now x.place × IsAt graph.now x.node x.place)) }
+    ensures fewer { IfOk result (λ xs. length xs.items ≤ length places.now) }
+{
+    let mut found = Vec::with_capacity(alloc, places.len())?;
+    for place in places {
+        if let Some(node) = graph.node_at(*place) {
+            found.push(Spot {
+                node,
+                place: *place,
+            })?;
+        }
+    }
+    Ok(found)
+}
+
+// Whether each of the nodes is served.
+fn are_served(kept: &Kept, nodes: &[Node]) -> bool
+    ensures { IsTrue result → (n : Node) → Contains nodes.now n
+        → IsServedUnder (content_of kept.now.replica) kept.now.pins n }
+{
+    for node in nodes {
+        if !kept.is_served(*node) {
+            return false;
+        }
+    }
+    true
 }
 
 // The marked changesets of which no child is marked, in the graph's order. It takes no look-up.

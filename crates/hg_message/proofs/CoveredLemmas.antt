@@ -13,10 +13,10 @@ use Rattle.hg_changeset.specs.Contents.{Contents}
 use Rattle.hg_changeset.specs.Changeset.{node_of}
 use Rattle.hg_changeset.proofs.ListLemmas.{slice_get_some}
 use Rattle.hg_graph.specs.Graph.{nodes, IsGraph, IsParent}
-use Rattle.hg_graph.specs.Places.{IsAt}
+use Rattle.hg_graph.specs.Places.{IsAt, IsParentPlace}
 use Rattle.hg_graph.specs.Marks.{IsMarked, IsMarkedNode, MarksAlso}
 use Rattle.hg_graph.proofs.GraphLemmas.{Contains-from_place}
-use Rattle.hg_graph.proofs.PlaceLemmas.{same_place, IsAt-from, parent_first, placed_within}
+use Rattle.hg_graph.proofs.PlaceLemmas.{same_place, IsAt-from, parent_first, place_from_Holds, placed_within}
 use Rattle.hg_graph.proofs.MarkLemmas.{MarksAlso-then, MarksAlso-same, IsMarked-within, unmarked}
 use Rattle.hg_graph.proofs.HeadLemmas.{AreUnmarked, unmarked_same, unmarked_push}
 use Rattle.hg_phases.specs.declared.phase.Phase.{Phase}
@@ -27,7 +27,7 @@ use Rattle.hg_phases.proofs.ContentLemmas.{content-held}
 use Rattle.hg_history.specs.Content.{Leads}
 use Rattle.hg_history.specs.Content.Leads.{itself, below}
 use Rattle.hg_history.specs.ContentLaws.{leads-low}
-use Rattle.hg_history.proofs.ContentLemmas.{content-changeset, content-valid}
+use Rattle.hg_history.proofs.ContentLemmas.{content-changeset, content-valid, node_in_content}
 use Rattle.hg_replica.specs.State.{ReplicaState, IsValid as IsValidReplica}
 use Rattle.hg_replica.specs.Content.{content_of as replica_content}
 use Rattle.hg_message.specs.declared.scope.Scope.{Scope}
@@ -125,14 +125,14 @@ child_on_way s n d (below {p = p} {h = h} r at up) = elim (child_on_way s n p r)
   | inr c ↦ inr (c.0, c.1, c.2, c.3, below c.4 at up)
 ]
 
-changeset_at : (s : State) (k : ℕ) (h : Held) → slice_get s.held k ≡ Some h
+pub changeset_at : (s : State) (k : ℕ) (h : Held) → slice_get s.held k ≡ Some h
     → slice_get (changesets s) k ≡ Some h.changeset
 changeset_at s k h e =
     slice_get-map (λ (x : Held). x.changeset) s.held k ∙ ap (option_map (λ (x : Held). x.changeset)) e
 
 module _ (s : State) (graph : IsGraph (changesets s)) where
   -- what stands at a node's place is what is held under it
-  held_at : (k : ℕ) (n : Node) → IsAt (changesets s) n k → (h : Held) × (slice_get s.held k ≡ Some h)
+  pub held_at : (k : ℕ) (n : Node) → IsAt (changesets s) n k → (h : Held) × (slice_get s.held k ≡ Some h)
       × (content_of s n ≡ Some h)
   held_at k n at =
       let there = slice_get_some s.held k
@@ -147,82 +147,111 @@ module _ (s : State) (graph : IsGraph (changesets s)) where
   stands_at k n h at e = let x = held_at k n at in x.1 ∙ ap Some (same_Some x.0 h (sym x.2 ∙ e))
 
 module _ (s : State) (valid : IsValid s) (P : Node → Type 0)
-    (closed : (a n : Node) → P n → Leads (content_of s) a n → P a)
-    (marks covered : List Bool) (are : (n : Node) → IsMarkedNode (changesets s) marks n ↔ P n)
-    (told : AreCovered s marks covered) (phase : Phase) where
+    (closed : (a n : Node) → P n → Leads (content_of s) a n → P a) (phase : Phase) where
   -- one of these, held with this phase
   abbrev pub IsOne : Node → Type 0
   IsOne n = P n × ((h : Held) × (content_of s n ≡ Some h) × (h.phase ≡ phase))
 
-  -- what stands at a marked place with this phase is one of these
-  one_at : (k : ℕ) (n : Node) → IsAt (changesets s) n k → IsMarked 0 marks k → HasPhaseAt s phase k → IsOne n
-  one_at k n at marked so =
-      let x = held_at s valid.graph k n at in
-      ((are n).0 (k, at, marked), (x.0, x.2, ap (λ (h : Held). h.phase) (same_Some x.0 so.0 (sym x.1 ∙ so.1)) ∙ so.2))
+  -- one of these, with this phase, stands at the place
+  abbrev pub IsOneAt : ℕ → Type 0
+  IsOneAt k = (n : Node) × IsAt (changesets s) n k × IsOne n
 
-  -- and where one of these stands is a marked place with this phase
-  place_of : (n : Node) → IsOne n → (k : ℕ) × IsAt (changesets s) n k × IsMarked 0 marks k × HasPhaseAt s phase k
-  place_of n one =
-      let m = (are n).1 one.0 in
-      let h = one.1.0 in
-      (m.0, m.1, m.2, (h, stands_at s valid.graph m.0 n h m.1 one.1.1, one.1.2))
+  child-place : (c : Node) (h : Held) (n : Node) (k : ℕ) → content_of s c ≡ Some h → IsParent h.changeset n
+      → IsAt (changesets s) n k → (j : ℕ) × IsAt (changesets s) c j × IsParentPlace (changesets s) j k
+  child-place c h n k e up at =
+      let there = place_from_Holds (changesets s) c (node_in_content s valid.graph c (h, e)) in
+      let stands = changeset_at s there.0 h (stands_at s valid.graph there.0 c h there.1 e) in
+      (there.0, there.1, (h.changeset, n, stands, up, at))
 
-  -- what has one of these as a child has a second mark
-  covered_by : (n c : Node) (h : Held) (k : ℕ) → IsAt (changesets s) n k → HasPhaseAt s phase k → IsOne c
-      → content_of s c ≡ Some h → IsParent h.changeset n → IsMarked 0 covered k
-  covered_by n c h k at so one e up =
-      let x = place_of c one in
-      let stands = changeset_at s x.0 h (stands_at s valid.graph x.0 c h x.1 e) in
-      (told.exact k).1 (x.0, x.2, ((h.changeset, n, stands, up, at), (phase, x.3, so)))
-
-  -- and what has such a mark is no head
-  no_head : (n : Node) (k : ℕ) → IsAt (changesets s) n k → HasPhaseAt s phase k
-      → ((d : Node) → IsOne d → Leads (content_of s) n d → d ≡ n) → ¬ (IsMarked 0 covered k)
-  no_head n k at so head marked =
-      let cover = (told.exact k).0 marked in
-      let j = cover.0 in
-      let parent = cover.2.0 in
-      let alike = cover.2.1 in
-      let c = parent.0 in
-      let d = node_of c in
-      let at_d : IsAt (changesets s) d j = IsAt-from (changesets s) j c d parent.2 refl in
-      let same : alike.0 ≡ phase =
-      sym alike.2.2 ∙ ap (λ (h : Held). h.phase) (same_Some alike.2.0 so.0 (sym alike.2.1 ∙ so.1)) ∙ so.2 in
-      let one = one_at j d at_d cover.1 (subst (λ p. HasPhaseAt s p j) same alike.1) in
-      let x = content-changeset s valid.graph d c (Contains-from_place (changesets s) j c parent.2) refl in
-      let named : parent.1 ≡ n = same_Some parent.1 n (sym parent.4 ∙ at) in
-      let up : IsParent x.0.changeset n =
-      subst (λ (y : Contents). IsParent y n) (sym x.2) (subst (IsParent c) named parent.3) in
-      let e : d ≡ n = head d one (below itself x.1 up) in
-      let before : k < j = parent_first (changesets s) valid.graph j k parent in
-      let same_one : j ≡ k = same_place (nodes (changesets s)) n k j valid.graph.distinct at
-      (subst (λ y. IsAt (changesets s) y j) e at_d) in
-      omega (arith, before, same_one)
-
-  pub heads_uncovered : (n : Node) → IsUncovered s marks covered phase n
+  -- it has none of these as a child exactly where it has none as another descendant
+  pub heads-by-children : (n : Node) (k : ℕ) → IsAt (changesets s) n k
+      → (IsOne n × ((j : ℕ) → IsParentPlace (changesets s) j k → ¬ (IsOneAt j)))
       ↔ (IsOne n × ((d : Node) → IsOne d → Leads (content_of s) n d → d ≡ n))
-  heads_uncovered n = (
-    λ u.
-        let one = one_at u.0 n u.1 u.2.0 u.2.1 in (
-          one,
-          λ d other leads. elim (child_on_way s n d leads) [
-            | inl e ↦ e
-            | inr c ↦
-                let v = content-valid s valid in
-                let low = leads-low (content_of s) v n c.0 (below itself c.2 c.3) one.1.0 c.1 one.1.1 c.2 in
-                let high = leads-low (content_of s) v c.0 d c.4 c.1 other.1.0 c.2 other.1.1 in
-                let bottom = ap rank one.1.2 in
-                let top = ap rank other.1.2 in
-                let same : c.1.phase ≡ phase =
-                rank-apart c.1.phase phase (omega (arith, low, high, bottom, top)) in
-                let between : IsOne c.0 = (closed c.0 d other.0 c.4, (c.1, c.2, same)) in
-                absurd (u.3 (covered_by n c.0 c.1 u.0 u.1 u.2.1 between c.2 c.3))
-          ],
-        ),
-    λ h.
-        let x = place_of n h.0 in
-        (x.0, x.1, (x.2, x.3), no_head n x.0 x.1 x.3 h.1),
+  heads-by-children n k at = (
+    λ h. (
+      h.0,
+      λ d other leads. elim (child_on_way s n d leads) [
+        | inl e ↦ e
+        | inr c ↦
+            let v = content-valid s valid in
+            let low = leads-low (content_of s) v n c.0 (below itself c.2 c.3) h.0.1.0 c.1 h.0.1.1 c.2 in
+            let high = leads-low (content_of s) v c.0 d c.4 c.1 other.1.0 c.2 other.1.1 in
+            let bottom = ap rank h.0.1.2 in
+            let top = ap rank other.1.2 in
+            let same : c.1.phase ≡ phase = rank-apart c.1.phase phase (omega (arith, low, high, bottom, top)) in
+            let place = child-place c.0 c.1 n k c.2 c.3 at in
+            absurd (h.1 place.0 place.2 (c.0, place.1, (closed c.0 d other.0 c.4, (c.1, c.2, same))))
+      ],
+    ),
+    λ h. (
+      h.0,
+      λ j parent one.
+          let c = parent.0 in
+          let d = node_of c in
+          let at_d : IsAt (changesets s) d j = IsAt-from (changesets s) j c d parent.2 refl in
+          let is_d : one.0 ≡ d = same_Some one.0 d (sym one.1 ∙ at_d) in
+          let x = content-changeset s valid.graph d c (Contains-from_place (changesets s) j c parent.2) refl in
+          let named : parent.1 ≡ n = same_Some parent.1 n (sym parent.4 ∙ at) in
+          let up : IsParent x.0.changeset n =
+          subst (λ (y : Contents). IsParent y n) (sym x.2) (subst (IsParent c) named parent.3) in
+          let e : d ≡ n = h.1 d (subst IsOne is_d one.2) (below itself x.1 up) in
+          let before : k < j = parent_first (changesets s) valid.graph j k parent in
+          let same_one : j ≡ k = same_place (nodes (changesets s)) n k j valid.graph.distinct at
+          (subst (λ y. IsAt (changesets s) y j) e at_d) in
+          omega (arith, before, same_one),
+    ),
   )
+
+  -- what stands at a place is one of these where it has this phase and P holds of it
+  pub one_at : (k : ℕ) (n : Node) → IsAt (changesets s) n k → P n → HasPhaseAt s phase k → IsOne n
+  one_at k n at p so =
+      let x = held_at s valid.graph k n at in
+      (p, (x.0, x.2, ap (λ (h : Held). h.phase) (same_Some x.0 so.0 (sym x.1 ∙ so.1)) ∙ so.2))
+
+  -- and where one of these stands is this phase
+  pub phase_at : (k : ℕ) (n : Node) → IsAt (changesets s) n k → IsOne n → HasPhaseAt s phase k
+  phase_at k n at one = (one.1.0, stands_at s valid.graph k n one.1.0 at one.1.1, one.1.2)
+
+  module _ (marks covered : List Bool) (are : (n : Node) → IsMarkedNode (changesets s) marks n ↔ P n)
+      (told : AreCovered s marks covered) where
+    -- where one of these stands is marked
+    marked_at : (k : ℕ) (n : Node) → IsAt (changesets s) n k → P n → IsMarked 0 marks k
+    marked_at k n at p =
+        let m = (are n).1 p in
+        subst (IsMarked 0 marks) (same_place (nodes (changesets s)) n k m.0 valid.graph.distinct at m.1) m.2
+
+    pub heads_uncovered : (n : Node) → IsUncovered s marks covered phase n
+        ↔ (IsOne n × ((d : Node) → IsOne d → Leads (content_of s) n d → d ≡ n))
+    heads_uncovered n = (
+      λ u. (heads-by-children n u.0 u.1).0 (
+        one_at u.0 n u.1 ((are n).0 (u.0, u.1, u.2.0)) u.2.1,
+        λ j parent one. u.3 ((told.exact u.0).1 (
+          j,
+          marked_at j one.0 one.1 one.2.0,
+          (parent, (phase, phase_at j one.0 one.1 one.2, u.2.1)),
+        )),
+      ),
+      λ h.
+          let m = (are n).1 h.0.0 in
+          let so = phase_at m.0 n m.1 h.0 in
+          let top = (heads-by-children n m.0 m.1).1 h in (
+            m.0,
+            m.1,
+            (m.2, so),
+            λ marked.
+                let cover = (told.exact m.0).0 marked in
+                let j = cover.0 in
+                let parent = cover.2.0 in
+                let alike = cover.2.1 in
+                let at : IsAt (changesets s) (node_of parent.0) j =
+                IsAt-from (changesets s) j parent.0 (node_of parent.0) parent.2 refl in
+                let same : alike.0 ≡ phase =
+                sym alike.2.2 ∙ ap (λ (h : Held). h.phase) (same_Some alike.2.0 so.0 (sym alike.2.1 ∙ so.1)) ∙ so.2 in
+                let one = one_at j (node_of parent.0) at ((are (node_of parent.0)).0 (j, at, cover.1))
+                (subst (λ p. HasPhaseAt s p j) same alike.1) in
+                top.1 j parent (node_of parent.0, at, one),
+          ),
+    )
 
 -- of what a scope names
 pub heads-named : (s : ReplicaState) → IsValidReplica s → (pins : List Node) (scope : Scope) (marks covered : List Bool)
@@ -235,7 +264,7 @@ heads-named s valid pins scope marks covered are told phase heads exact ascendin
   exact = λ n.
       let same = heads_uncovered s.history valid (IsNamed (replica_content s) pins scope)
       (λ a m named leads. named-above (replica_content s) pins scope a m (content-valid s.history valid) named leads)
-      marks covered are.exact told phase n in
+      phase marks covered are.exact told n in
       (λ h. same.0 ((exact n).0 h), λ h. (exact n).1 (same.1 h));
   ascending = ascending;
 }

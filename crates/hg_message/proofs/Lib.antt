@@ -17,6 +17,8 @@ pub mod TouchedLemmas
 pub mod NamedLemmas
 pub mod CoveredLemmas
 pub mod OfferLemmas
+pub mod ServedLemmas
+mod PlacedLemmas
 pub mod OfferLawLemmas
 pub mod AdmittedLemmas
 pub mod TakenLemmas

@@ -1,43 +1,15 @@
 -- Changesets of which a marker tells, marker by marker.
-use Rattle.std.proofs.Common.{◌≡◌, ◌↔◌, ◌⊎◌, ℕ, ◌<◌, ◌+◌, inl, inr, List, [], ◌∷◌, length, get_or, take, Contains}
+use Rattle.std.proofs.Common.{◌≡◌, ◌↔◌, ◌⊎◌, ℕ, ◌<◌, ◌+◌, inl, inr, List, [], ◌∷◌, ◌++◌, length, get_or, take, Contains}
 use Rattle.std.proofs.Common.{true, false, true≢false, eqb-true, refl, sym, ap, subst, arith}
 use Rattle.std.specs.Bool.{◌==◌}
+use Rattle.std.proofs.lemmas.List.Elements.{Contains-append_left, Contains-push, Contains-push_cases}
 use Rattle.hg_changeset.specs.declared.node.Node.{Node}
 use Rattle.hg_changeset.proofs.ListLemmas.{Contains-cons_cases, Contains-first, Contains-later, Contains-none}
 use Rattle.hg_changeset.proofs.ListLemmas.{Contains-one, Contains-taken}
 use Rattle.hg_marker.specs.Fields.{Fields}
 use Rattle.hg_marker.specs.Parents.{recorded_parents}
-use Rattle.hg_node_set.specs.Keys.{insert_key}
 use Rattle.hg_relevant.specs.Relevant.{Touches}
-use Rattle.hg_instab.specs.Walk.{Adds}
-use Rattle.hg_instab.proofs.WalkLemmas.{adds-nothing, adds-then, adds-same, adds-one}
 use Rattle.hg_message.specs.Touched.{IsTouchedByOne}
-
--- ---- of the nodes of which M holds
-
-module _ (M : Node → Type 0) where
-  abbrev pub AddsOf : (Node → Type 0) → List Node → List Node → Type 0
-  AddsOf P old new = Adds (λ n. M n × P n) old new
-
-  pub adds-of-none : (P : Node → Type 0) (old : List Node) → ((n : Node) → M n → ¬ (P n)) → AddsOf P old old
-  adds-of-none P old never = adds-nothing (λ n. M n × P n) old (λ n both. absurd (never n both.0 both.1))
-
-  pub adds-of-one : (x : Node) (old new : List Node) → M x → new ≡ insert_key old x → AddsOf (λ n. x ≡ n) old new
-  adds-of-one x old new is_one is = adds-same (λ n. x ≡ n) (λ n. M n × (x ≡ n)) old new
-      (λ n. (λ both. both.1, λ e. (subst M e is_one, e))) (adds-one old new x is)
-
-  pub adds-of-same : (P Q : Node → Type 0) (old new : List Node) → ((n : Node) → Q n ↔ P n) → AddsOf P old new
-      → AddsOf Q old new
-  adds-of-same P Q old new same adds = adds-same (λ n. M n × P n) (λ n. M n × Q n) old new
-      (λ n. (λ h. (h.0, (same n).0 h.1), λ h. (h.0, (same n).1 h.1))) adds
-
-  pub adds-of-then : (P Q R : Node → Type 0) (old mid new : List Node) → ((n : Node) → R n ↔ (P n ⊎ Q n))
-      → AddsOf P old mid → AddsOf Q mid new → AddsOf R old new
-  adds-of-then P Q R old mid new joins = adds-then (λ n. M n × P n) (λ n. M n × Q n) (λ n. M n × R n) old mid new
-      (λ n. (
-        λ h. elim ((joins n).0 h.1) [ inl p ↦ inl (h.0, p) | inr q ↦ inr (h.0, q) ],
-        λ h. elim h [ inl p ↦ (p.0, (joins n).1 (inl p.1)) | inr q ↦ (q.0, (joins n).1 (inr q.1)) ],
-      ))
 
 -- ---- what touches
 
@@ -92,3 +64,34 @@ touched-more ms i m l is n = (
     | inr one ↦ (m, (Contains-taken ms i m m l is).1 (inr refl), one)
   ],
 )
+
+-- ---- those of some nodes that are so
+
+abbrev pub AreSome : (Node → Type 0) → List Node → List Node → Type 0
+AreSome P ns found = (n : Node) → Contains found n ↔ (Contains ns n × P n)
+
+module _ (P : Node → Type 0) (ns : List Node) (i : ℕ) (x : Node) (l : i < length ns) (at : get_or ns i x ≡ x)
+    (found : List Node) (before : AreSome P (take i ns) found) where
+  pub some-push : P x → AreSome P (take (i + 1) ns) (found ++ x ∷ [])
+  some-push is n = (
+    λ h. elim (Contains-push_cases found x n h) [
+      | inl old ↦ let b = (before n).0 old in ((Contains-taken ns i x n l at).1 (inl b.0), b.1)
+      | inr e ↦ ((Contains-taken ns i x n l at).1 (inr e), subst P e is)
+    ],
+    λ h. elim ((Contains-taken ns i x n l at).0 h.0) [
+      | inl old ↦ Contains-append_left found (x ∷ []) n ((before n).1 (old, h.1))
+      | inr e ↦ subst (Contains (found ++ x ∷ [])) e (Contains-push found x)
+    ],
+  )
+
+  pub some-skip : ¬ (P x) → AreSome P (take (i + 1) ns) found
+  some-skip not n = (
+    λ h. let b = (before n).0 h in ((Contains-taken ns i x n l at).1 (inl b.0), b.1),
+    λ h. elim ((Contains-taken ns i x n l at).0 h.0) [
+      | inl old ↦ (before n).1 (old, h.1)
+      | inr e ↦ absurd (not (subst P (sym e) h.1))
+    ],
+  )
+
+pub some-none : (P : Node → Type 0) → AreSome P [] []
+some-none P n = (λ h. absurd (Contains-none n h), λ h. absurd (Contains-none n h.0))

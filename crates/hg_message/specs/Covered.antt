@@ -1,5 +1,5 @@
 -- Which of some changesets have a child among them with the same phase.
-use Rattle.std.specs.Prelude.{◌≡◌, ◌↔◌, ℕ, Bool, List, length, slice_get, Some}
+use Rattle.std.specs.Prelude.{◌≡◌, ◌↔◌, ℕ, Bool, List, length, slice_get, Some, Contains}
 use Rattle.hg_changeset.specs.declared.node.Node.{Node}
 use Rattle.hg_graph.specs.Places.{IsAt, IsParentPlace}
 use Rattle.hg_graph.specs.Marks.{IsMarked}
@@ -31,3 +31,7 @@ pub record AreCovered (s : State) (marks covered : List Bool) : Type 0 where
 abbrev pub IsUncovered : State → List Bool → List Bool → Phase → Node → Type 0
 IsUncovered s marks covered phase n = (k : ℕ) × IsAt (changesets s) n k × (IsMarked 0 marks k × HasPhaseAt s phase k)
     × ¬ (IsMarked 0 covered k)
+
+-- the node stands at one of the places, with this phase
+abbrev pub IsAtOneIn : State → List ℕ → Phase → Node → Type 0
+IsAtOneIn s places phase n = (k : ℕ) × Contains places k × IsAt (changesets s) n k × HasPhaseAt s phase k

@@ -1,11 +1,14 @@
 -- What goes out, found by place and not copied yet, and the answers to the calls that find, copy and write it.
-use Rattle.std.specs.Prelude.{◌≡◌, ◌↔◌, ℕ, true, false, List, Bool, length, slice_get, Some, Result, Ok, Err}
+use Rattle.std.specs.Prelude.{◌≡◌, ◌↔◌, ℕ, true, false, List, Bool, length, slice_get, Some, Contains, Result, Ok, Err}
 use Rattle.hg_changeset.specs.declared.node.Node.{Node}
 use Rattle.hg_graph.specs.Marks.{IsMarkedNode}
+use Rattle.hg_graph.specs.Places.{IsAncestorPlace}
 use Rattle.hg_phases.specs.State.{changesets}
 use Rattle.hg_obsstore.specs.Places.{ListsAll}
 use Rattle.hg_replica.specs.State.{ReplicaState}
 use Rattle.hg_replica.specs.Content.{content_of}
+use Rattle.hg_view.specs.Kept.{KeptValue}
+use Rattle.hg_view.specs.Tops.{IsTop, IsServedAt}
 use Rattle.hg_message.specs.declared.scope.Scope.{Scope}
 use Rattle.hg_message.specs.declared.refusal.OfferRefusal.{OfferRefusal}
 use Rattle.hg_message.specs.declared.refusal.OfferRefusal.TheVariants.{UnknownCommon, TooLarge, NoMemory}
@@ -21,6 +24,13 @@ pub record AreMarksOf (s : ReplicaState) (P : Node → Type 0) (marks : List Boo
 -- exactly the places of those that are so, each once, ascending
 abbrev pub ArePlacesOf : {X : Type 0} → (X → Type 0) → List X → List ℕ → Type 0
 ArePlacesOf {X = X} P xs places = ListsAll (λ i. (x : X) × (slice_get xs i ≡ Some x) × P x) places
+
+-- exactly the heads of what is served stand at the places: each is served and has no served child, and what is served is
+-- one of them or an ancestor of one
+pub record AreServedHeads (k : KeptValue) (places : List ℕ) : Type 0 where
+  pub exact : (i : ℕ) → Contains places i ↔ IsTop (changesets k.replica.history) (IsServedAt k.replica k.pins) i
+  pub covers : (i : ℕ) → IsServedAt k.replica k.pins i
+      → (h : ℕ) × Contains places h × IsAncestorPlace (changesets k.replica.history) i h
 
 -- the answer to `Outgoing::above`; memory can be wanting only where each common node is held, and a changeset or, of the
 -- whole, a marker

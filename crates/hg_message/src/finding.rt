@@ -1,22 +1,26 @@
 //! How an offer is found: the first common node that isn't held, and which changesets and markers are offered, as
 //! places. Marks tell what its scope names.
-ghost use Rattle.std.specs.Prelude.{◌≡◌, List, IfOk, MatchOption, length};
+ghost use Rattle.std.specs.Prelude.{◌≡◌, ◌↔◌, ℕ, List, Contains, IfOk, MatchOption, length};
 ghost use Rattle.hg_changeset.specs.declared.node.Node.{Node};
+ghost use Rattle.hg_graph.specs.Places.{IsPlaceOfOne};
 ghost use Rattle.hg_obsstore.specs.Markers.{ArePlaces};
 ghost use Rattle.hg_phases.specs.State.{changesets};
 ghost use Rattle.hg_replica.specs.State.{IsValid};
 ghost use Rattle.hg_replica.specs.Content.{content_of};
 ghost use Rattle.hg_replica.specs.Evolution.{IsMarker};
 ghost use Rattle.hg_message.specs.Offer.{AreHeld, IsFirstUnknown, IsNamed, IsNamedMarker, IsOutgoing};
-ghost use Rattle.hg_message.specs.Outgoing.{ArePlacesOf, AreMarksOf};
+ghost use Rattle.hg_view.specs.Pins.{IsServedUnder};
+ghost use Rattle.hg_message.specs.Outgoing.{ArePlacesOf, AreMarksOf, AreServedHeads};
 ghost use Rattle.hg_message.specs.declared.scope.Scope.{Scope};
 ghost use Rattle.hg_message.specs.declared.scope.Scope.TheVariants.{Served as served_scope};
 
 use crate::scope::Scope;
-use crate::touched::{name_little, touched};
+use crate::touched::{marked_among, name_little, served_among, touched};
 use hg_changeset::Node;
+use hg_graph::Graph;
 use hg_relevant::{relevant, relevant_near};
 use hg_replica::{Hint, Replica};
+use hg_view::{Kept, places_above};
 use std::alloc::{AllocError, Global};
 
 /// The first of the nodes that isn't held.
@@ -108,8 +112,66 @@ fn relevant_to_touched(
         → AreMarksOf replica.now (IsNamed (content_of replica.now) pins served_scope) served.now
         → ArePlaces (IsNamedMarker (content_of replica.now) pins served_scope) replica.now.markers found.items) }
 {
-    let nodes = touched(alloc, replica, served)?;
-    relevant(alloc, replica.store(), nodes.as_slice())
+    let nodes = touched(alloc, replica.store().markers())?;
+    let nodes = marked_among(alloc, replica.graph(), served, nodes.as_slice())?;
+    relevant(alloc, replica.store(), &nodes)
+}
+
+/// The places of the markers that are relevant to what is served, ascending, where that is told by what is kept. Where
+/// markers name little it costs what they name, and otherwise a look near its hint for each changeset.
+pub(crate) fn served_marker_places(alloc: Global, kept: &Kept) -> Result<Vec<usize>, AllocError>
+    ensures { IfOk result (λ found. ArePlaces
+        (IsNamedMarker (content_of kept.now.replica) kept.now.pins served_scope) kept.now.replica.markers found.items) }
+{
+    let replica = kept.replica();
+    if name_little(replica.store().markers(), replica.graph().len()) {
+        return relevant_to_served(alloc, kept);
+    }
+    let served = kept.served_marks()?;
+    relevant_places(alloc, replica, &served)
+}
+
+// The same, by those of the served changesets of which a marker tells.
+fn relevant_to_served(alloc: Global, kept: &Kept) -> Result<Vec<usize>, AllocError>
+    ensures { IfOk result (λ found. ArePlaces
+        (IsNamedMarker (content_of kept.now.replica) kept.now.pins served_scope) kept.now.replica.markers found.items) }
+{
+    let store = kept.replica().store();
+    let nodes = touched(alloc, store.markers())?;
+    let nodes = served_among(alloc, kept, nodes.as_slice())?;
+    relevant(alloc, store, &nodes)
+}
+
+/// The places of what is served and isn't common, ascending, where the heads of what is served stand at these places. It
+/// costs what is found, the heads and the common nodes, and what is common between them.
+pub(crate) fn served_outgoing(
+    alloc: Global,
+    kept: &Kept,
+    heads: &[usize],
+    common: &[Node],
+) -> Result<Vec<usize>, AllocError>
+    requires heads { AreServedHeads kept.now heads.now }
+    requires common { AreHeld (content_of kept.now.replica) common.now }
+    ensures { IfOk result (λ found. ArePlacesOf (IsOutgoing (content_of kept.now.replica)
+        (IsServedUnder (content_of kept.now.replica) kept.now.pins) common.now)
+        (changesets kept.now.replica.history) found.items) }
+{
+    let graph = kept.replica().graph();
+    let known = places_of(alloc, graph, common)?;
+    places_above(alloc, graph, heads, &known)
+}
+
+// The places at which the nodes stand that are held.
+fn places_of(alloc: Global, graph: &Graph, nodes: &[Node]) -> Result<Vec<usize>, AllocError>
+    ensures { IfOk result (λ found. (k : ℕ) → Contains found.items k ↔ IsPlaceOfOne graph.now nodes.now k) }
+{
+    let mut found = Vec::with_capacity(alloc, nodes.len())?;
+    for node in nodes {
+        if let Some(place) = graph.place(*node) {
+            found.push(place)?;
+        }
+    }
+    Ok(found)
 }
 
 // The hints that are of the changesets at the marked places, in their order.

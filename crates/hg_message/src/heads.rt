@@ -1,4 +1,4 @@
-//! The heads that bounds tell of, by one sweep over the places.
+//! The heads that bounds tell of, by one sweep over the places, or by the heads that are kept.
 //!
 //! What a scope names is named with all its ancestors, and no parent has a higher phase than its child. So what stands
 //! on the way between two named changesets of one phase is named and has that phase, and a named changeset is a head of
@@ -8,17 +8,21 @@ ghost use Rattle.std.specs.List.Sorted.{IsStrictlySortedBy};
 ghost use Rattle.hg_changeset.specs.declared.node.Node.{Node};
 ghost use Rattle.hg_changeset.specs.Node.{node_cmp};
 ghost use Rattle.hg_graph.specs.Marks.{IsMarked, MarksAlso};
+ghost use Rattle.hg_phases.specs.declared.phase.Phase.TheVariants as phase;
 ghost use Rattle.hg_phases.specs.State.{changesets};
 ghost use Rattle.hg_replica.specs.State.{IsValid};
 ghost use Rattle.hg_replica.specs.Content.{content_of};
+ghost use Rattle.hg_view.specs.Pins.{IsServedUnder};
 ghost use Rattle.hg_message.specs.Covered.{HasPhaseAt, AreAlike, IsParentAlike, IsCovered, AreCovered, IsUncovered};
+ghost use Rattle.hg_message.specs.Covered.{IsAtOneIn};
 ghost use Rattle.hg_message.specs.Offer.{AreOfferedBounds, IsNamed, bounds_in};
-ghost use Rattle.hg_message.specs.Outgoing.{AreMarksOf};
+ghost use Rattle.hg_message.specs.Outgoing.{AreMarksOf, AreServedHeads};
 ghost use Rattle.hg_message.specs.declared.scope.Scope.{Scope};
 
 use hg_changeset::Node;
 use hg_phases::Phase;
 use hg_replica::Replica;
+use hg_view::Kept;
 use std::alloc::{AllocError, Global};
 use std::collections::BTreeSet;
 
@@ -36,10 +40,76 @@ pub(crate) fn head_bounds(
     let covered = covered(alloc, replica, named)?;
     let public = heads_in(alloc, replica, named, &covered, Phase::Public)?;
     let draft = heads_in(alloc, replica, named, &covered, Phase::Draft)?;
+    bounds_on(alloc, &public, &draft)
+}
+
+/// Public bounds for the heads of what is public, and then draft ones for those of what is served and draft, where the
+/// heads of what is served stand at these places. It costs the heads.
+pub(crate) fn served_bounds(
+    alloc: Global,
+    kept: &Kept,
+    heads: &[usize],
+) -> Result<Vec<(Node, Phase)>, AllocError>
+    requires { AreServedHeads kept.now heads.now }
+    ensures { IfOk result (λ bounds. AreOfferedBounds (content_of kept.now.replica)
+        (IsServedUnder (content_of kept.now.replica) kept.now.pins) bounds.items) }
+{
+    let replica = kept.replica();
+    let public = nodes_in(alloc, replica, kept.public_heads(), Phase::Public)?;
+    let draft = nodes_in(alloc, replica, heads, Phase::Draft)?;
+    bounds_on(alloc, &public, &draft)
+}
+
+// Public bounds on the one nodes, and then draft ones on the others.
+fn bounds_on(
+    alloc: Global,
+    public: &[Node],
+    draft: &[Node],
+) -> Result<Vec<(Node, Phase)>, AllocError>
+    ensures { IfOk result
+        (λ bounds. bounds.items ≡ bounds_in phase.Public public.now ++ bounds_in phase.Draft draft.now) }
+{
     let mut bounds = Vec::with_capacity(alloc, public.len().saturating_add(draft.len()))?;
-    add_bounds(&mut bounds, &public, Phase::Public)?;
-    add_bounds(&mut bounds, &draft, Phase::Draft)?;
+    add_bounds(&mut bounds, public, Phase::Public)?;
+    add_bounds(&mut bounds, draft, Phase::Draft)?;
     Ok(bounds)
+}
+
+// The changesets at these places that have this phase, ascending.
+fn nodes_in(
+    alloc: Global,
+    replica: &Replica,
+    places: &[usize],
+    phase: Phase,
+) -> Result<Vec<Node>, AllocError>
+    ensures exact { IfOk result
+        (λ nodes. (n : Node) → Contains nodes.items n ↔ IsAtOneIn replica.now.history places.now phase n) }
+    ensures ascending { IfOk result (λ nodes. IsStrictlySortedBy node_cmp nodes.items) }
+{
+    let nodes = set_in(alloc, replica, places, phase)?;
+    listed(alloc, nodes)
+}
+
+// The same, as a set.
+fn set_in(
+    alloc: Global,
+    replica: &Replica,
+    places: &[usize],
+    phase: Phase,
+) -> Result<BTreeSet<Node>, AllocError>
+    ensures { IfOk result
+        (λ nodes. (n : Node) → Contains nodes.keys n ↔ IsAtOneIn replica.now.history places.now phase n) }
+{
+    let graph = replica.graph();
+    let mut found = BTreeSet::new(alloc);
+    for place in places {
+        if is_in(replica, *place, phase) {
+            if let Some(node) = graph.node_at(*place) {
+                found.insert(node)?;
+            }
+        }
+    }
+    Ok(found)
 }
 
 // A mark for each place: whether a named child of the changeset there has the same phase.

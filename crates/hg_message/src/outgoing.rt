@@ -8,14 +8,17 @@ ghost use Rattle.hg_obsstore.specs.Places.{picked};
 ghost use Rattle.hg_obsstore.specs.Spelling.{IsStoreSpelling, store_spelling};
 ghost use Rattle.hg_replica.specs.State.{IsValid};
 ghost use Rattle.hg_replica.specs.Content.{content_of};
+ghost use Rattle.hg_message.specs.declared.scope.Scope.TheVariants.{Served as served_scope};
 ghost use Rattle.hg_message.specs.Value.{count_limit, is_too_large};
 ghost use Rattle.hg_message.specs.Offer.{AreHeld, HasNothing, IsNamed, IsOfferOf};
 ghost use Rattle.hg_message.specs.Outgoing.{AreMarksOf, CopyAnswer, FindAnswer, WriteAnswer};
 ghost use Rattle.hg_message.specs.Spelling.{IsMessageSpelling, message_spelling};
 
 use crate::copies::{copy_changesets_at, copy_markers_at};
-use crate::finding::{first_unknown, named_marker_places, outgoing_places};
-use crate::heads::head_bounds;
+use crate::finding::{
+    first_unknown, named_marker_places, outgoing_places, served_marker_places, served_outgoing,
+};
+use crate::heads::{head_bounds, served_bounds};
 use crate::message::{COUNT_LIMIT, Message};
 use crate::refusal::OfferRefusal;
 use crate::scope::Scope;
@@ -100,7 +103,8 @@ impl<'a> Outgoing<'a> {
     }
 
     /// What goes out above the common nodes, as [`above`](Outgoing::above) finds it, of a replica whose instabilities
-    /// are kept up to date, under its pins: what is served is told by look-ups, without a walk to what is visible.
+    /// are kept up to date, under its pins. What is served goes out at the cost of what is found, the heads of what is
+    /// served, the common nodes and what stands between them, and what markers name: not of all that is held.
     ///
     /// Refuses [`OfferRefusal::UnknownCommon`] alone, for the first that isn't held.
     pub fn above_kept(
@@ -239,17 +243,6 @@ fn named_marks(
     }
 }
 
-// The same of a replica that is kept.
-fn kept_marks(alloc: Global, kept: &Kept, scope: Scope) -> Result<Vec<bool>, AllocError>
-    ensures { IfOk result (λ marks. AreMarksOf kept.now.replica
-        (IsNamed (content_of kept.now.replica) kept.now.pins scope) marks.items) }
-{
-    match scope {
-        Scope::Served => kept.served_marks(),
-        Scope::Whole => shared_marks(alloc, kept.replica()),
-    }
-}
-
 // What goes out above the common nodes of a replica that is kept.
 fn above_by<'a>(
     alloc: Global,
@@ -264,11 +257,56 @@ fn above_by<'a>(
     match first_unknown(replica, common) {
         Some(node) => Err(OfferRefusal::UnknownCommon(node)),
         None if has_nothing(replica, scope) => Ok(nothing(alloc, replica, scope)),
-        None => {
-            let named = kept_marks(alloc, kept, scope)?;
-            Ok(find(alloc, replica, &named, common, scope)?)
+        None => Ok(find_by(alloc, kept, replica, common, scope)?),
+    }
+}
+
+// What goes out of a replica that is kept, where each common node is held.
+fn find_by<'a>(
+    alloc: Global,
+    kept: &Kept,
+    replica: &'a Replica,
+    common: &[Node],
+    scope: Scope,
+) -> Result<Outgoing<'a>, AllocError>
+    requires replica { replica.now ≡ kept.now.replica }
+    requires common { AreHeld (content_of replica.now) common.now }
+    ensures { IfOk result (IsOfferOf replica.now kept.now.pins common.now scope) }
+{
+    match scope {
+        Scope::Served => find_served(alloc, kept, replica, common),
+        Scope::Whole => {
+            let shared = shared_marks(alloc, replica)?;
+            find(alloc, replica, &shared, common, scope)
         }
     }
+}
+
+// What goes out of what is served, by the heads of that: no place is looked at but those of heads and of what is found,
+// and of what is common between them.
+fn find_served<'a>(
+    alloc: Global,
+    kept: &Kept,
+    replica: &'a Replica,
+    common: &[Node],
+) -> Result<Outgoing<'a>, AllocError>
+    requires replica { replica.now ≡ kept.now.replica }
+    requires common { AreHeld (content_of replica.now) common.now }
+    ensures { IfOk result (IsOfferOf replica.now kept.now.pins common.now served_scope) }
+{
+    // It says that the replica is valid.
+    let _graph = replica.graph();
+    let heads = kept.served_heads()?;
+    let changesets = served_outgoing(alloc, kept, &heads, common)?;
+    let bounds = served_bounds(alloc, kept, &heads)?;
+    let markers = served_marker_places(alloc, kept)?;
+    Ok(Outgoing {
+        replica,
+        scope: Scope::Served,
+        changesets,
+        bounds,
+        markers,
+    })
 }
 
 // What goes out, where each common node is held, and the marks tell what the scope names.

@@ -2,17 +2,18 @@
 ghost use Rattle.std.specs.Prelude.{◌≡◌, ◌↔◌, Contains, IfOk, OnOk, length};
 ghost use Rattle.hg_changeset.specs.declared.node.Node.{Node};
 ghost use Rattle.hg_graph.specs.Marks.{IsMarkedNode};
-ghost use Rattle.hg_phases.specs.State.{changesets};
 ghost use Rattle.hg_marker.specs.Parents.{listed};
 ghost use Rattle.hg_relevant.specs.Relevant.{Touches};
 ghost use Rattle.hg_instab.specs.Walk.{Adds};
+ghost use Rattle.hg_replica.specs.Content.{content_of};
+ghost use Rattle.hg_view.specs.Pins.{IsServedUnder};
 ghost use Rattle.hg_message.specs.Touched.{IsTouchedByOne};
 
 use hg_changeset::Node;
 use hg_graph::Graph;
 use hg_marker::{Marker, Parents};
 use hg_node_set::NodeSet;
-use hg_replica::Replica;
+use hg_view::Kept;
 use std::alloc::{AllocError, Global};
 
 // To look up what a marker names costs as much as looking at so many changesets.
@@ -30,64 +31,43 @@ pub(crate) fn name_little(markers: &[Marker], changesets: usize) -> bool {
     names < changesets / CHANGESETS_PER_NAME
 }
 
-/// Those of the marked changesets that a marker touches, each once: its successors, or of a prune its predecessor and
-/// the parents that it records. It costs what the markers name.
-pub(crate) fn touched(
-    alloc: Global,
-    replica: &Replica,
-    marks: &[bool],
-) -> Result<NodeSet, AllocError>
-    requires { length marks.now ≡ length (changesets replica.now.history) }
-    ensures { IfOk result (λ found. (n : Node) → Contains found.keys n
-        ↔ (IsMarkedNode (changesets replica.now.history) marks.now n × IsTouchedByOne replica.now.markers n)) }
+/// The changesets that a marker touches, each once: its successors, or of a prune its predecessor and the parents that it
+/// records. It costs what the markers name.
+pub(crate) fn touched(alloc: Global, markers: &[Marker]) -> Result<NodeSet, AllocError>
+    ensures { IfOk result (λ found. (n : Node) → Contains found.keys n ↔ IsTouchedByOne markers.now n) }
 {
-    let graph = replica.graph();
     let mut found = NodeSet::new(alloc);
-    for marker in replica.store().markers() {
-        add_touched(graph, marks, marker, &mut found)?;
+    for marker in markers {
+        add_touched(marker, &mut found)?;
     }
     Ok(found)
 }
 
 // Adds those that this marker touches.
-fn add_touched(
-    graph: &Graph,
-    marks: &[bool],
-    marker: &Marker,
-    found: &mut NodeSet,
-) -> Result<(), AllocError>
-    requires { length marks.now ≡ length graph.now }
-    ensures { OnOk result
-        (Adds (λ n. IsMarkedNode graph.now marks.now n × Touches n marker.now) found.old.keys found.new.keys) }
+fn add_touched(marker: &Marker, found: &mut NodeSet) -> Result<(), AllocError>
+    ensures { OnOk result (Adds (λ n. Touches n marker.now) found.old.keys found.new.keys) }
 {
     if !marker.successors().is_empty() {
-        add_marked(graph, marks, marker.successors(), found)?;
+        add_all(marker.successors(), found)?;
         return Ok(());
     }
-    add_if_marked(graph, marks, marker.predecessor(), found)?;
-    add_parents(graph, marks, marker.parents(), found)?;
+    found.insert(marker.predecessor())?;
+    add_parents(marker.parents(), found)?;
     Ok(())
 }
 
-// Adds those of the parents that are marked.
-fn add_parents(
-    graph: &Graph,
-    marks: &[bool],
-    parents: Parents,
-    found: &mut NodeSet,
-) -> Result<(), AllocError>
-    requires { length marks.now ≡ length graph.now }
-    ensures { OnOk result
-        (Adds (λ n. IsMarkedNode graph.now marks.now n × Contains (listed parents) n) found.old.keys found.new.keys) }
+// Adds the parents.
+fn add_parents(parents: Parents, found: &mut NodeSet) -> Result<(), AllocError>
+    ensures { OnOk result (Adds (Contains (listed parents)) found.old.keys found.new.keys) }
 {
     match parents {
         Parents::One(one) => {
-            add_if_marked(graph, marks, one, found)?;
+            found.insert(one)?;
             Ok(())
         }
         Parents::Two(one, other) => {
-            add_if_marked(graph, marks, one, found)?;
-            add_if_marked(graph, marks, other, found)?;
+            found.insert(one)?;
+            found.insert(other)?;
             Ok(())
         }
         Parents::Unrecorded => Ok(()),
@@ -95,36 +75,50 @@ fn add_parents(
     }
 }
 
-// Adds those of the nodes that are marked.
-fn add_marked(
-    graph: &Graph,
-    marks: &[bool],
-    nodes: &[Node],
-    found: &mut NodeSet,
-) -> Result<(), AllocError>
-    requires { length marks.now ≡ length graph.now }
-    ensures { OnOk result
-        (Adds (λ n. IsMarkedNode graph.now marks.now n × Contains nodes.now n) found.old.keys found.new.keys) }
+// Adds the nodes.
+fn add_all(nodes: &[Node], found: &mut NodeSet) -> Result<(), AllocError>
+    ensures { OnOk result (Adds (Contains nodes.now) found.old.keys found.new.keys) }
 {
     for node in nodes {
-        add_if_marked(graph, marks, *node, found)?;
+        found.insert(*node)?;
     }
     Ok(())
 }
 
-// Adds the node, where it is marked.
-fn add_if_marked(
+/// Those of the nodes whose changeset is held and marked.
+pub(crate) fn marked_among(
+    alloc: Global,
     graph: &Graph,
     marks: &[bool],
-    node: Node,
-    found: &mut NodeSet,
-) -> Result<(), AllocError>
+    nodes: &[Node],
+) -> Result<Vec<Node>, AllocError>
     requires { length marks.now ≡ length graph.now }
-    ensures { OnOk result
-        (Adds (λ n. IsMarkedNode graph.now marks.now n × (node ≡ n)) found.old.keys found.new.keys) }
+    ensures { IfOk result (λ found. (n : Node) → Contains found.items n
+        ↔ (Contains nodes.now n × IsMarkedNode graph.now marks.now n)) }
 {
-    if graph.is_marked(marks, node) {
-        found.insert(node)?;
+    let mut found = Vec::new(alloc);
+    for node in nodes {
+        if graph.is_marked(marks, *node) {
+            found.push(*node)?;
+        }
     }
-    Ok(())
+    Ok(found)
+}
+
+/// Those of the nodes whose changeset is served.
+pub(crate) fn served_among(
+    alloc: Global,
+    kept: &Kept,
+    nodes: &[Node],
+) -> Result<Vec<Node>, AllocError>
+    ensures { IfOk result (λ found. (n : Node) → Contains found.items n
+        ↔ (Contains nodes.now n × IsServedUnder (content_of kept.now.replica) kept.now.pins n)) }
+{
+    let mut found = Vec::new(alloc);
+    for node in nodes {
+        if kept.is_served(*node) {
+            found.push(*node)?;
+        }
+    }
+    Ok(found)
 }

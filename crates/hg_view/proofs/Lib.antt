@@ -8,3 +8,9 @@ mod KeptLemmas
 mod UpheldLemmas
 mod UnmarkLemmas
 mod ReleasedLemmas
+mod FlagLemmas
+mod ChangeLemmas
+mod DescentLemmas
+mod HeadLemmas
+mod ViewHeadLemmas
+mod AboveLemmas

@@ -1,5 +1,5 @@
 -- What is shared is shared with its ancestors, and how it is told place by place.
-use Rattle.std.proofs.Common.{◌≡◌, ◌<◌, ◌≤◌, ◌+◌, ◌↔◌, ℕ, true, true≢false, Some, inl}
+use Rattle.std.proofs.Common.{◌≡◌, ◌<◌, ◌≤◌, ◌+◌, ◌↔◌, ◌⊎◌, ℕ, true, true≢false, Some, inl}
 use Rattle.std.proofs.Common.{inr, length, refl, sym, ap, subst, ◌∙◌, arith}
 use Rattle.std.specs.BTreeMap.{BTreeMap, get, is_at, Updates}
 use Rattle.std.specs.Ordering.{is_eq}
@@ -12,12 +12,12 @@ use Rattle.hg_changeset.specs.Node.{node_cmp}
 use Rattle.hg_changeset.proofs.NodeLemmas.{node_cmp_exact, same_not_less, greater_is_less}
 use Rattle.hg_graph.specs.Places.{IsAt}
 use Rattle.hg_graph.proofs.PlaceLemmas.{place_from_Holds, placed_within}
-use Rattle.hg_history.specs.Content.{Leads}
+use Rattle.hg_history.specs.Content.{IsHeld, Leads}
 use Rattle.hg_history.specs.Content.Leads.{itself}
 use Rattle.hg_history.proofs.ContentLemmas.{node_in_content}
 use Rattle.hg_phases.specs.declared.phase.Phase.{Phase}
-use Rattle.hg_phases.specs.declared.phase.Phase.TheVariants.{Secret}
-use Rattle.hg_phases.specs.State.{changesets}
+use Rattle.hg_phases.specs.declared.phase.Phase.TheVariants.{Public, Draft, Secret}
+use Rattle.hg_phases.specs.State.{Held, rank, changesets}
 use Rattle.hg_replica.specs.State.{ReplicaState, IsValid}
 use Rattle.hg_replica.specs.Content.{Content, content_of, IsValidContent}
 use Rattle.hg_instab.proofs.QueryLemmas.{one_phase}
@@ -27,6 +27,22 @@ use Rattle.hg_view.proofs.LawLemmas.{leads-held, not_secret-above}
 pub shared-above : (f : Content) (a n : Node) → IsValidContent f → IsShared f n → Leads f.0 a n → IsShared f a
 shared-above f a n valid so up =
     (leads-held f.0 valid a n up so.0, not_secret-above f a n n valid so.0 itself so.1 up)
+
+secret-or : (k : Phase) → (k ≡ Secret) ⊎ (¬ (k ≡ Secret))
+secret-or Public = inr (λ e. let r : 0 ≡ 2 = ap rank e in omega (arith, r))
+secret-or Draft = inr (λ e. let r : 1 ≡ 2 = ap rank e in omega (arith, r))
+secret-or Secret = inl refl
+
+-- of what is held it can be told whether it is shared
+pub shared-or : (f : Content) (n : Node) → IsHeld f.0 n → IsShared f n ⊎ (¬ (IsShared f n))
+shared-or f n held = elim (secret-or held.0.phase) [
+  | inl secret ↦ inr (λ so. so.1 (held.0, held.1, secret))
+  | inr other ↦ inl (
+    held,
+    λ secret. other
+        (ap (λ (h : Held). h.phase) (same_Some held.0 secret.0 (sym held.1 ∙ secret.1)) ∙ secret.2),
+  )
+]
 
 pub shared_with : (f : Content) (n : Node) (k : Phase) → IsSharedWith f n k → IsShared f n
 shared_with f n k so = ((so.0.0, so.0.1), λ secret. so.1 (one_phase f n k Secret so.0 secret))

@@ -10,6 +10,8 @@ use Rattle.hg_replica.specs.Undo.{LeadsBack, UndoValue}
 use Rattle.hg_replica.specs.declared.undo.Absorbed.{Absorbed}
 use Rattle.hg_instab.specs.Changed.{IsChangedTo}
 use Rattle.hg_instab.specs.Instabilities.{AreInstabilities, InstabilitySets}
+use Rattle.hg_view.specs.declared.tops.Tops.{Tops}
+use Rattle.hg_view.specs.Tops.{AreTops}
 use Rattle.hg_view.specs.declared.refusal.PinRefusal.{PinRefusal}
 use Rattle.hg_view.specs.declared.refusal.PinRefusal.TheVariants.{Unknown, NotPinned}
 use Rattle.hg_view.specs.declared.refusal.PinRefusal.TheVariants as pin
@@ -49,3 +51,17 @@ FindsAgain (Ok undo) t sets (Ok done) after sets_after = (after ≡ t) × AreIns
 FindsAgain (Ok undo) t sets (Err fault) after sets_after =
     (fault ≡ NoMemory) × (sets_after ≡ sets) × ((s : ReplicaState) → LeadsBack t undo s → after ≡ s)
 FindsAgain (Err fault) t sets result after sets_after = (result ≡ Err fault) × (after ≡ t) × (sets_after ≡ sets)
+
+-- where the replica, now t, answered so, the heads that were kept beside it: they follow the change that it told, or stay
+-- where that is nothing, or where it or they were refused
+abbrev pub KeepsTops : Result Absorbed Fault → ReplicaState → Tops → Result ChangeValue Fault → Tops → Type 0
+KeepsTops (Ok absorbed) t tops (Ok change) after =
+    (IsNothing change × (after ≡ tops)) ⊎ AreTops t.history after
+KeepsTops (Ok absorbed) t tops (Err fault) after = after ≡ tops
+KeepsTops (Err fault) t tops result after = after ≡ tops
+
+-- where the replica, now t, joined another and answered so: the heads are its, or stay where it or they were refused
+abbrev pub FindsTopsAgain : Result UndoValue Fault → ReplicaState → Tops → Result (Unit {0}) Fault → Tops → Type 0
+FindsTopsAgain (Ok undo) t tops (Ok done) after = AreTops t.history after
+FindsTopsAgain (Ok undo) t tops (Err fault) after = after ≡ tops
+FindsTopsAgain (Err fault) t tops result after = after ≡ tops

@@ -5,3 +5,7 @@ pub mod Released
 pub mod Share
 pub mod Shown
 pub mod Upheld
+pub mod Flags
+pub mod Tops
+pub mod Descent
+pub mod Above

@@ -1,5 +1,5 @@
 //! A replica whose instabilities are kept up to date, with the pins of its node.
-ghost use Rattle.std.specs.Prelude.{◌≡◌, ◌↔◌, ◌⊎◌, [], Contains, IfOk, IsErrOf, IsTrue, length};
+ghost use Rattle.std.specs.Prelude.{◌≡◌, ◌↔◌, ◌⊎◌, ℕ, [], Contains, IfOk, OnOk, OnErr, IsErrOf, IsTrue, length};
 ghost use Rattle.hg_changeset.specs.declared.node.Node.{Node};
 ghost use Rattle.hg_graph.specs.Marks.{IsMarkedNode};
 ghost use Rattle.hg_phases.specs.State.{changesets};
@@ -9,15 +9,20 @@ ghost use Rattle.hg_replica.specs.Least.{part_of};
 ghost use Rattle.hg_replica.specs.Answer.{AbsorbAnswer, JoinAnswer, IsGrowthBeforeFault};
 ghost use Rattle.hg_replica.specs.Content.{content_of};
 ghost use Rattle.hg_replica.specs.Undo.{LeadsBack};
+ghost use Rattle.hg_instab.specs.Changed.{IsChangedTo};
 ghost use Rattle.hg_instab.specs.Instabilities.{AreInstabilities};
-ghost use Rattle.hg_view.specs.Kept.{FindsAgain, KeepsUp, KeptUnpinAnswer};
+ghost use Rattle.hg_view.specs.Kept.{FindsAgain, FindsTopsAgain, KeepsTops, KeepsUp, KeptUnpinAnswer};
+ghost use Rattle.hg_view.specs.Descent.{IsCovered};
 ghost use Rattle.hg_view.specs.Pins.{IsServedUnder, IsVisibleUnder, PinAnswer};
+ghost use Rattle.hg_view.specs.Tops.{AreTops, IsPublicAt, IsServedAt, IsSharedAt, IsTop};
 
+use crate::heads::{View, heads_in, is_shown};
 use crate::hidden::unmark_hidden;
 use crate::pins::Pins;
 use crate::refusal::PinRefusal;
 use crate::released::{released, take_out};
 use crate::shared::shared_marks;
+use crate::tops::Tops;
 use crate::upheld::{put_in, upheld_besides};
 use crate::view::set_at;
 use hg_changeset::Node;
@@ -29,8 +34,8 @@ use std::alloc::{AllocError, Global};
 use std::collections::BTreeSet;
 use std::marker::Model;
 
-/// A replica with its instabilities, which are kept up to date with each part that it absorbs, and with what its node
-/// pins. Contracts see it as its replica and its pins.
+/// A replica with its instabilities and its heads, which are kept up to date with each part that it absorbs, and with
+/// what its node pins. Contracts see it as its replica and its pins.
 pub struct Kept {
     alloc: Global,
     replica: Replica,
@@ -39,6 +44,9 @@ pub struct Kept {
 
     // What the pins uphold.
     upheld: BTreeSet<Node>,
+
+    // Where what has no child stands, and what is public and has no public child.
+    tops: Tops,
 }
 
 // Whoever owns one calls this once, and is proved without a look at what it holds.
@@ -50,6 +58,7 @@ impl Drop for Kept {
             instabilities: _,
             pins: _,
             upheld: _,
+            tops: _,
         } = self;
     }
 }
@@ -61,6 +70,7 @@ impl Model for Kept {
     ghost use Rattle.hg_replica.specs.Content.{content_of};
     ghost use Rattle.hg_instab.specs.Instabilities.{AreInstabilities};
     ghost use Rattle.hg_view.specs.Kept.{KeptValue};
+    ghost use Rattle.hg_view.specs.Tops.{AreTops};
     ghost use Rattle.hg_view.specs.Upheld.{AreUpheld};
 
     ghost Value = { KeptValue };
@@ -70,7 +80,7 @@ impl Model for Kept {
     ghost view = { λ kept. record { replica = kept.replica; pins = kept.pins } };
 
     ghost invariant = { λ kept. AreInstabilities (content_of kept.replica) kept.instabilities × IsValid kept.replica
-        × AreUpheld (content_of kept.replica) kept.pins kept.upheld.keys };
+        × AreUpheld (content_of kept.replica) kept.pins kept.upheld.keys × AreTops kept.replica.history kept.tops };
 }
 
 impl Kept {
@@ -80,6 +90,7 @@ impl Kept {
         ensures pins { IfOk result (λ kept. kept.pins ≡ []) }
     {
         let instabilities = Instabilities::from_scratch(alloc, &replica)?;
+        let tops = Tops::of(alloc, &replica)?;
 
         // The call tells that the replica is valid.
         let _ = replica.graph();
@@ -89,6 +100,7 @@ impl Kept {
             instabilities,
             pins: Pins::new(alloc),
             upheld: BTreeSet::new(alloc),
+            tops,
         })
     }
 
@@ -100,12 +112,14 @@ impl Kept {
         let replica = self.replica.copy()?;
         let pins = self.pins.copy()?;
         let upheld = self.upheld.clone()?;
+        let tops = self.tops.copy()?;
         Ok(Kept {
             alloc: self.alloc,
             replica,
             instabilities,
             pins,
             upheld,
+            tops,
         })
     }
 
@@ -178,8 +192,8 @@ impl Kept {
         }
     }
 
-    /// Takes in a part as [`Replica::absorb`] does, and brings the instabilities up to date, at the cost of what the
-    /// part changes. The pins stay. Where memory is refused for the instabilities, the replica takes the part back. So
+    /// Takes in a part as [`Replica::absorb`] does, and brings instabilities and heads up to date, at the cost of what
+    /// the part changes. The pins stay. Where memory is refused for these, the replica takes the part back. So
     /// want of memory is told only where something grew before a fault was met, and a part that is covered is absorbed
     /// without memory.
     pub fn absorb(&mut self, part: &Part) -> Result<Change, Fault>
@@ -190,7 +204,12 @@ impl Kept {
         ensures still_valid { IsValid self.new.replica }
     {
         let answer = self.replica.absorb_with_undo(part);
-        keep_up(&mut self.replica, &mut self.instabilities, answer)
+        keep_up(
+            &mut self.replica,
+            &mut self.instabilities,
+            &mut self.tops,
+            answer,
+        )
     }
 
     /// Takes in a part as [`absorb`](Kept::absorb) does, but moves what isn't held in place of copying it, as
@@ -203,7 +222,12 @@ impl Kept {
         ensures still_valid { IsValid self.new.replica }
     {
         let answer = self.replica.absorb_owned_with_undo(part);
-        keep_up(&mut self.replica, &mut self.instabilities, answer)
+        keep_up(
+            &mut self.replica,
+            &mut self.instabilities,
+            &mut self.tops,
+            answer,
+        )
     }
 
     /// Takes in all that another replica holds, as [`Replica::join`] does, and finds the instabilities from scratch.
@@ -226,6 +250,7 @@ impl Kept {
             self.alloc,
             &mut self.replica,
             &mut self.instabilities,
+            &mut self.tops,
             answer,
         )
     }
@@ -270,17 +295,66 @@ impl Kept {
         unmark_hidden(graph, &self.instabilities, &self.upheld, &mut marks);
         Ok(marks)
     }
+
+    /// The places of the heads of what is [served](Kept::is_served), from the last to the first: what is served without a
+    /// served child. What else is served is an ancestor of one of them. It costs what is secret or hidden, and the
+    /// children of the heads, whatever else is held.
+    pub fn served_heads(&self) -> Result<Vec<usize>, AllocError>
+        ensures exact { IfOk result (λ heads. (k : ℕ) → Contains heads.items k
+            ↔ IsTop (changesets self.now.replica.history) (IsServedAt self.now.replica self.now.pins) k) }
+        ensures covers { IfOk result (λ heads. (k : ℕ) → IsServedAt self.now.replica self.now.pins k
+            → IsCovered (changesets self.now.replica.history) heads.items k) }
+    {
+        let view = View::Served(&self.instabilities, &self.upheld);
+        heads_in(self.alloc, &self.replica, view, self.tops.childless())
+    }
+
+    /// The places of the heads of what isn't secret, from the last to the first: what isn't, without a child that isn't.
+    /// It costs what is secret, and the children of the heads, whatever else is held.
+    pub fn shared_heads(&self) -> Result<Vec<usize>, AllocError>
+        ensures { IfOk result (λ heads. (k : ℕ) → Contains heads.items k
+            ↔ IsTop (changesets self.now.replica.history) (IsSharedAt self.now.replica) k) }
+    {
+        heads_in(
+            self.alloc,
+            &self.replica,
+            View::Shared,
+            self.tops.childless(),
+        )
+    }
+
+    /// The places of the heads of what is public, in no promised order: what is, without a public child. It takes no
+    /// memory.
+    pub fn public_heads(&self) -> &[usize]
+        ensures { (k : ℕ) → Contains result.now k
+            ↔ IsTop (changesets self.now.replica.history) (IsPublicAt self.now.replica.history) k }
+    {
+        self.tops.public()
+    }
+
+    /// It can be told of each id whether it is served. Says so to proofs, and does nothing.
+    pub fn tells_what_is_served(&self)
+        ensures { (n : Node) → IsServedUnder (content_of self.now.replica) self.now.pins n
+            ⊎ ¬ (IsServedUnder (content_of self.now.replica) self.now.pins n) }
+    {
+        // It says that the replica is valid.
+        let _ = self.replica.graph();
+    }
 }
 
-// Brings the instabilities up to date with what the replica absorbed, if that is anything. Where memory is refused for
-// that, the replica takes it back.
+// Brings instabilities and heads up to date with what the replica absorbed, if that is anything. Where memory is refused
+// for that, the replica takes it back.
 fn keep_up(
     replica: &mut Replica,
     instabilities: &mut Instabilities,
+    tops: &mut Tops,
     answer: Result<Absorbed, Fault>,
 ) -> Result<Change, Fault>
-    requires { IfOk answer (λ absorbed. (s : ReplicaState) × LeadsBack replica.old absorbed.undo s) }
-    ensures { KeepsUp answer replica.old instabilities.old result replica.new instabilities.new }
+    requires back { IfOk answer (λ absorbed. (s : ReplicaState) × LeadsBack replica.old absorbed.undo s) }
+    requires tops { IfOk answer (λ absorbed. (s : ReplicaState) × IsChangedTo s absorbed.change replica.old
+        × AreTops s.history tops.old) }
+    ensures kept { KeepsUp answer replica.old instabilities.old result replica.new instabilities.new }
+    ensures tops { KeepsTops answer replica.old tops.old result tops.new }
 {
     match answer {
         Ok(absorbed) => {
@@ -288,7 +362,7 @@ fn keep_up(
             if change.is_empty() {
                 return Ok(change);
             }
-            match instabilities.update(replica, &change) {
+            match follow(replica, instabilities, tops, &change) {
                 Ok(()) => Ok(change),
                 Err(AllocError) => {
                     replica.take_back(undo);
@@ -300,21 +374,52 @@ fn keep_up(
     }
 }
 
-// Finds the instabilities of what the replica joined from scratch. Where memory is refused for that, the replica takes
-// it back.
+// Brings instabilities and heads up to date with a change. Where memory is refused both are as they were.
+fn follow(
+    replica: &Replica,
+    instabilities: &mut Instabilities,
+    tops: &mut Tops,
+    change: &Change,
+) -> Result<(), AllocError>
+    requires { (s : ReplicaState) × IsChangedTo s change.now replica.now × AreTops s.history tops.old }
+    ensures kept { OnOk result ((s : ReplicaState) → IsChangedTo s change.now replica.now
+        → AreInstabilities (content_of s) instabilities.old
+        → AreInstabilities (content_of replica.now) instabilities.new) }
+    ensures tops { OnOk result (AreTops replica.now.history tops.new) }
+    ensures unchanged { OnErr result ((instabilities.new ≡ instabilities.old) × (tops.new ≡ tops.old)) }
+{
+    let before = tops.len();
+    tops.grow(replica.graph().len())?;
+    match instabilities.update(replica, change) {
+        Ok(()) => {
+            tops.follow(replica, change);
+            Ok(())
+        }
+        Err(refused) => {
+            tops.truncate(before);
+            Err(refused)
+        }
+    }
+}
+
+// Finds instabilities and heads of what the replica joined from scratch. Where memory is refused for that, the replica
+// takes it back.
 fn find_again(
     alloc: Global,
     replica: &mut Replica,
     instabilities: &mut Instabilities,
+    tops: &mut Tops,
     answer: Result<Undo, Fault>,
 ) -> Result<(), Fault>
     requires { IfOk answer (λ undo. (s : ReplicaState) × LeadsBack replica.old undo s) }
-    ensures { FindsAgain answer replica.old instabilities.old result replica.new instabilities.new }
+    ensures found { FindsAgain answer replica.old instabilities.old result replica.new instabilities.new }
+    ensures tops { FindsTopsAgain answer replica.old tops.old result tops.new }
 {
     match answer {
-        Ok(undo) => match Instabilities::from_scratch(alloc, replica) {
-            Ok(found) => {
+        Ok(undo) => match from_scratch(alloc, replica) {
+            Ok((found, found_tops)) => {
                 *instabilities = found;
+                *tops = found_tops;
                 Ok(())
             }
             Err(AllocError) => {
@@ -326,12 +431,12 @@ fn find_again(
     }
 }
 
-// Whether a changeset that is held isn't extinct or is upheld.
-fn is_shown(instabilities: &Instabilities, upheld: &BTreeSet<Node>, node: Node) -> bool
-    ensures { IsTrue result ↔ (¬ (Contains instabilities.now.extinct node) ⊎ Contains upheld.now.keys node) }
+// The instabilities and the heads of a replica.
+fn from_scratch(alloc: Global, replica: &Replica) -> Result<(Instabilities, Tops), AllocError>
+    ensures sets { IfOk result (λ found. AreInstabilities (content_of replica.now) found.0) }
+    ensures tops { IfOk result (λ found. AreTops replica.now.history found.1) }
 {
-    if instabilities.extinct().contains(&node) {
-        return upheld.contains(&node);
-    }
-    true
+    let instabilities = Instabilities::from_scratch(alloc, replica)?;
+    let tops = Tops::of(alloc, replica)?;
+    Ok((instabilities, tops))
 }

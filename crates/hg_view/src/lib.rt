@@ -23,6 +23,8 @@
 //! ```
 #![tactic(auto)]
 
+mod above;
+mod heads;
 mod hidden;
 mod kept;
 mod laws;
@@ -31,9 +33,13 @@ mod refusal;
 mod released;
 mod shared;
 mod shown;
+mod top_places;
+mod tops;
 mod upheld;
 mod view;
+mod waiting;
 
+pub use above::places_above;
 pub use kept::Kept;
 pub use laws::{
     hidden_is_extinct, no_pins_change_no_view, pins_only_add_to_what_is_visible,

@@ -4,7 +4,7 @@ use Rattle.hg_replica.specs.State.{Below}
 use Rattle.hg_replica.specs.Least.{part_of}
 use Rattle.hg_replica.specs.Answer.{JoinAnswer, IsGrowthBeforeFault}
 use Rattle.hg_view.specs.Kept.{KeptValue}
-use Rattle.hg_view.proofs.KeptLemmas.{joined-answer, joined-memory, joined-sets, within-joined}
+use Rattle.hg_view.proofs.KeptLemmas.{joined-answer, joined-memory, joined-sets, joined-tops, within-joined}
 use Rattle.hg_view.proofs.UpheldLemmas.{upheld-joined}
 use Rattle.hg_view.proofs.kept.Kept.join.Goals as goal
 
@@ -21,13 +21,16 @@ invariant_of-self c =
     let o = c.other.inside.replica in
     let sets = joined-sets s o told.new.self found.new.replica c.self.inside.instabilities found.new.instabilities
     told.ensures.valid c.self.invariant.0 told.result found.result told.ensures.answer told.ensures.back
-    found.ensures in
+    found.ensures.found in
     let answer = joined-answer s o told.new.self found.new.replica c.self.inside.instabilities
-    found.new.instabilities told.result found.result told.ensures.answer told.ensures.back found.ensures in (
+    found.new.instabilities told.result found.result told.ensures.answer told.ensures.back found.ensures.found in (
       sets.0,
       sets.1,
       upheld-joined s found.new.replica told.ensures.valid c.self.inside.pins c.self.inside.upheld.keys
           c.self.invariant.2 o found.result answer,
+      joined-tops s o told.new.self found.new.replica c.self.inside.instabilities found.new.instabilities
+          c.self.inside.tops found.new.tops c.self.invariant.3 told.result found.result told.ensures.answer
+          told.ensures.back found.ensures.found found.ensures.tops,
     )
 
 pub returns-then-is_below-clause-answer : goal.returns-then-is_below-clause-answer
@@ -48,7 +51,7 @@ returns-clause-answer c =
     c.self.view_is
     (subst (λ (k : KeptValue). JoinAnswer s k.replica found.result found.new.replica) c.other.view_is
     (joined-answer s o told.new.self found.new.replica c.self.inside.instabilities found.new.instabilities told.result
-    found.result told.ensures.answer told.ensures.back found.ensures))
+    found.result told.ensures.answer told.ensures.back found.ensures.found))
 
 pub returns-clause-memory : goal.returns-clause-memory
 returns-clause-memory c is =
@@ -61,4 +64,4 @@ returns-clause-memory c is =
     subst (λ (k : KeptValue). IsGrowthBeforeFault k.replica (part_of c.args.other.now.replica)) c.self.view_is
     (subst (λ (k : KeptValue). IsGrowthBeforeFault s (part_of k.replica)) c.other.view_is
     (joined-memory s o told.new.self found.new.replica c.self.inside.instabilities found.new.instabilities told.result
-    found.result more told.ensures.answer told.ensures.memory told.ensures.growth found.ensures is))
+    found.result more told.ensures.answer told.ensures.memory told.ensures.growth found.ensures.found is))

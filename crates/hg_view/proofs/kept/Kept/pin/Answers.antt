@@ -58,6 +58,7 @@ invariant_of-self c = (
   c.self.invariant.1,
   upheld-same (content_of c.self.inside.replica) c.self.inside.pins c.self.inside.upheld.keys c.put_in.new.upheld.keys
       c.in_err-put_in.ensures.err c.self.invariant.2,
+  c.self.invariant.3,
 )
 
 pub returns-in_err-put_in-clause-answer : goal.returns-in_err-put_in-clause-answer
@@ -85,6 +86,7 @@ invariant_of-self-in-Ok c =
       upheld-same f more (old ++ c.in_ok-found.found.keys) c.put_in.new.upheld.keys c.in_ok-put_in.ensures.ok
           (c.in_ok-found.ensures.upheld pins more c.self.invariant.2 (pinned-more f pins more c.args.node answer)
           answer.0),
+      c.self.invariant.3,
     )
 
 pub returns-in-Ok-clause-answer : goal.returns-in-Ok-clause-answer
@@ -105,4 +107,5 @@ invariant_of-self-in-Err c =
           (taken-back c.self.inside.upheld.keys c.in_ok-found.found.keys c.put_in.new.upheld.keys
           c.take_out.new.upheld.keys c.in_ok-found.ensures.apart c.in_ok-put_in.ensures.ok c.take_out.ensures)
           c.self.invariant.2),
+      c.self.invariant.3,
     )

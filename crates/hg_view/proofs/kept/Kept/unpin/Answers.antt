@@ -18,6 +18,7 @@ invariant_of-self c =
           c.take_out.new.upheld.keys node c.self.invariant.2 c.in-Ok.ensures c.take_out.ensures
           (unpinned-but pins c.unpin.new.self node c.unpin.result
           (c.is_pinned.ensures.0 c.if-not-is_pinned.false) c.unpin.ensures),
+      c.self.invariant.3,
     )
 
 pub returns-in-Ok-clause-answer : goal.returns-in-Ok-clause-answer

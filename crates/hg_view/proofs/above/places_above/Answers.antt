@@ -1,0 +1,69 @@
+use Rattle.std.proofs.Common.{◌↔◌, ℕ, List, length, Contains, sym, subst, true≢false, ◌∙◌}
+use Rattle.hg_graph.proofs.WalkLemmas.{emptied}
+use Rattle.hg_view.specs.Above.{IsAbove}
+use Rattle.hg_view.proofs.AboveLemmas.{IsSearched, IsSearched-start, IsSearched-dropped, IsSearched-found}
+use Rattle.hg_view.proofs.AboveLemmas.{dropped_smaller, found_smaller, found_all, taken_within}
+use Rattle.hg_view.proofs.above.places_above.Goals as goal
+
+pub loop-place-init : goal.loop-place-init
+loop-place-init c =
+    let cs = c.args.graph.now in
+    let tops = c.args.tops.now in
+    let common = c.args.common.now in
+    let fresh = c.in_ok-fresh.fresh.keys in
+    let shared = c.in_ok-shared.shared.keys in (
+      length cs,
+      subst (λ found. IsSearched cs tops common fresh shared found (length cs)) (sym c.new-found.ensures.items)
+          (IsSearched-start cs c.len-count.ensures.graph fresh shared c.requires.tops c.requires.common
+          c.in_ok-fresh.ensures c.in_ok-shared.ensures),
+    )
+
+pub await_parents-requires : goal.await_parents-requires
+await_parents-requires c =
+    taken_within c.args.graph.now c.len-count.ensures.graph c.loop-place.invariant.1 c.in-Some.place
+    c.pop_last.new.self.keys c.in-Some.ensures.removal c.in-Some.ensures.all_below
+
+pub loop-place-preserved-in_ok-await_parents : goal.loop-place-preserved-in_ok-await_parents
+loop-place-preserved-in_ok-await_parents c =
+    let cs = c.args.graph.now in
+    let next = c.await_parents.new.waiting.keys in
+    let shared = c.is_under.new.waiting.keys in
+    let step = IsSearched-found cs c.len-count.ensures.graph c.loop-place.invariant.1 c.in-Some.place
+    c.pop_last.new.self.keys c.in-Some.ensures.removal c.in-Some.ensures.all_below shared
+    (record { within = c.in_ok-is_under.ensures.within; under = c.in_ok-is_under.ensures.under })
+    (λ h. true≢false (sym (c.in_ok-is_under.ensures.answer.1 h) ∙ c.if-not-branch.true))
+    next c.in_ok-await_parents.ensures in (
+      c.in-Some.place,
+      subst (λ found. IsSearched cs c.args.tops.now c.args.common.now next shared found c.in-Some.place)
+          (sym c.in_ok-push.ensures.items) step,
+    )
+
+pub loop-place-smaller-in_ok-await_parents : goal.loop-place-smaller-in_ok-await_parents
+loop-place-smaller-in_ok-await_parents c =
+    found_smaller c.args.graph.now c.len-count.ensures.graph c.loop-place.invariant.1 c.in-Some.place
+    c.pop_last.new.self.keys c.in-Some.ensures.removal c.in-Some.ensures.all_below c.is_under.new.waiting.keys
+    (record { within = c.in_ok-is_under.ensures.within; under = c.in_ok-is_under.ensures.under })
+    (λ h. true≢false (sym (c.in_ok-is_under.ensures.answer.1 h) ∙ c.if-not-branch.true))
+    c.await_parents.new.waiting.keys c.in_ok-await_parents.ensures
+
+pub loop-place-preserved : goal.loop-place-preserved
+loop-place-preserved c = (
+  c.in-Some.place,
+  IsSearched-dropped c.args.graph.now c.len-count.ensures.graph c.loop-place.invariant.1 c.in-Some.place
+      c.pop_last.new.self.keys c.in-Some.ensures.removal c.in-Some.ensures.all_below c.is_under.new.waiting.keys
+      (record { within = c.in_ok-is_under.ensures.within; under = c.in_ok-is_under.ensures.under })
+      (c.in_ok-is_under.ensures.answer.0 c.if-not-branch.false),
+)
+
+pub loop-place-smaller : goal.loop-place-smaller
+loop-place-smaller c =
+    dropped_smaller c.args.graph.now c.len-count.ensures.graph c.loop-place.invariant.1 c.in-Some.place
+    c.pop_last.new.self.keys c.in-Some.ensures.removal c.in-Some.ensures.all_below c.is_under.new.waiting.keys
+    (record { within = c.in_ok-is_under.ensures.within; under = c.in_ok-is_under.ensures.under })
+    (c.in_ok-is_under.ensures.answer.0 c.if-not-branch.false)
+
+pub returns-clause-exact : goal.returns-clause-exact
+returns-clause-exact c = subst (λ (found : List ℕ). (k : ℕ) → Contains found k
+    ↔ IsAbove c.args.graph.now c.args.tops.now c.args.common.now k) (sym c.reverse.ensures.items)
+    (found_all c.args.graph.now c.len-count.ensures.graph c.loop-place.invariant.1
+    (emptied c.loop-place.fresh.keys (λ l. true≢false (sym (c.in_default.ensures.variant.1 l)))))

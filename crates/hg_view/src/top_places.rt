@@ -1,0 +1,177 @@
+//! The places that have no child among all changesets, or among the public ones, and how they move.
+//!
+//! What is added is a top, and so is, among the public ones, what becomes public: none of its children was public
+//! before, since what has a public child is public. Their parents are tops no longer. Nothing else changes: these and
+//! their parents are looked at, and no other place. It takes no memory.
+ghost use Rattle.std.specs.Prelude.{◌≡◌, ◌<◌, ◌≤◌, ◌↔◌, ℕ, Some, IfSome, IsTrue, length};
+ghost use Rattle.hg_graph.specs.Places.{IsAt, IsParentPlace, IsPlaceOfOne};
+ghost use Rattle.hg_phases.specs.declared.phase.Phase.{Phase};
+ghost use Rattle.hg_phases.specs.State.{changesets};
+ghost use Rattle.hg_view.specs.Flags.{AreSettled, AreTakenOut, AreUpdated, IsParentOfOne, IsTouched};
+ghost use Rattle.hg_view.specs.Tops.{IsAmong, IsPublicAt};
+
+use hg_changeset::Node;
+use hg_phases::{Phase, PlaceSet};
+use hg_replica::Replica;
+
+/// Which changesets are looked at.
+#[derive(Clone, Copy)]
+pub(crate) enum Among {
+    /// All of them.
+    Everything,
+    /// The public ones.
+    Published,
+}
+
+/// Puts the changesets from a place on, and these nodes, among the tops, as far as they are looked at. Then takes their
+/// parents out.
+pub(crate) fn update_tops(
+    replica: &Replica,
+    among: Among,
+    tops: &mut PlaceSet,
+    first: usize,
+    nodes: &[Node],
+)
+    requires { length tops.old ≡ length (changesets replica.now.history) }
+    ensures { AreUpdated (changesets replica.now.history)
+        (IsTouched (changesets replica.now.history) first nodes.now) (IsAmong among replica.now.history) tops.old
+        tops.new }
+{
+    settle_from(replica, among, tops, first);
+    settle_nodes(replica, among, tops, nodes);
+    take_out_parents_from(replica, among, tops, first);
+    take_out_parents_of_nodes(replica, among, tops, nodes);
+}
+
+// Settles the places from one on.
+fn settle_from(replica: &Replica, among: Among, tops: &mut PlaceSet, first: usize)
+    requires { length tops.old ≡ length (changesets replica.now.history) }
+    ensures { AreSettled (λ k. first ≤ k) (IsAmong among replica.now.history) tops.old tops.new }
+{
+    for place in first..replica.graph().len() {
+        settle(replica, among, tops, place);
+    }
+}
+
+// Settles the places of these nodes. Those that aren't held have none.
+fn settle_nodes(replica: &Replica, among: Among, tops: &mut PlaceSet, nodes: &[Node])
+    requires { length tops.old ≡ length (changesets replica.now.history) }
+    ensures { AreSettled (IsPlaceOfOne (changesets replica.now.history) nodes.now)
+        (IsAmong among replica.now.history) tops.old tops.new }
+{
+    for node in nodes {
+        settle_node(replica, among, tops, *node);
+    }
+}
+
+// Settles the place of a node, if it is held.
+fn settle_node(replica: &Replica, among: Among, tops: &mut PlaceSet, node: Node)
+    requires { length tops.old ≡ length (changesets replica.now.history) }
+    ensures { AreSettled (IsAt (changesets replica.now.history) node) (IsAmong among replica.now.history) tops.old
+        tops.new }
+{
+    match replica.graph().place(node) {
+        Some(place) => settle(replica, among, tops, place),
+        None => {}
+    }
+}
+
+// Puts a place in where the changeset there is looked at, and takes it out otherwise.
+fn settle(replica: &Replica, among: Among, tops: &mut PlaceSet, place: usize)
+    requires len { length tops.old ≡ length (changesets replica.now.history) }
+    requires within { place < length (changesets replica.now.history) }
+    ensures { AreSettled (λ k. place ≡ k) (IsAmong among replica.now.history) tops.old tops.new }
+{
+    if is_among(replica, among, place) {
+        tops.insert(place);
+    } else {
+        tops.remove(place);
+    }
+}
+
+// Takes out the parents of those changesets from a place on that are looked at.
+fn take_out_parents_from(replica: &Replica, among: Among, tops: &mut PlaceSet, first: usize)
+    requires { length tops.old ≡ length (changesets replica.now.history) }
+    ensures { AreTakenOut (IsParentOfOne (changesets replica.now.history) (λ j. first ≤ j)
+        (IsAmong among replica.now.history)) tops.old tops.new }
+{
+    for place in first..replica.graph().len() {
+        take_out_parents(replica, among, tops, place);
+    }
+}
+
+// Takes out the parents of those of these nodes that are looked at.
+fn take_out_parents_of_nodes(replica: &Replica, among: Among, tops: &mut PlaceSet, nodes: &[Node])
+    requires { length tops.old ≡ length (changesets replica.now.history) }
+    ensures { AreTakenOut (IsParentOfOne (changesets replica.now.history)
+        (IsPlaceOfOne (changesets replica.now.history) nodes.now) (IsAmong among replica.now.history)) tops.old
+        tops.new }
+{
+    for node in nodes {
+        take_out_parents_of(replica, among, tops, *node);
+    }
+}
+
+// Takes out the parents of a node, if it is held and looked at.
+fn take_out_parents_of(replica: &Replica, among: Among, tops: &mut PlaceSet, node: Node)
+    requires { length tops.old ≡ length (changesets replica.now.history) }
+    ensures { AreTakenOut (IsParentOfOne (changesets replica.now.history)
+        (IsAt (changesets replica.now.history) node) (IsAmong among replica.now.history)) tops.old tops.new }
+{
+    match replica.graph().place(node) {
+        Some(place) => take_out_parents(replica, among, tops, place),
+        None => {}
+    }
+}
+
+// Takes out the parents of the changeset at a place, if it is looked at.
+fn take_out_parents(replica: &Replica, among: Among, tops: &mut PlaceSet, place: usize)
+    requires len { length tops.old ≡ length (changesets replica.now.history) }
+    requires within { place < length (changesets replica.now.history) }
+    ensures { AreTakenOut (IsParentOfOne (changesets replica.now.history) (λ j. place ≡ j)
+        (IsAmong among replica.now.history)) tops.old tops.new }
+{
+    if is_among(replica, among, place) {
+        let parents = replica.graph().parent_places(place);
+        take_out(tops, parents.first);
+        take_out(tops, parents.second);
+    }
+}
+
+// Takes a place out, if there is one.
+fn take_out(tops: &mut PlaceSet, place: Option<usize>)
+    requires { IfSome place (λ p. p < length tops.old) }
+    ensures { AreTakenOut (λ k. place ≡ Some k) tops.old tops.new }
+{
+    match place {
+        Some(place) => tops.remove(place),
+        None => {}
+    }
+}
+
+// Whether the changeset at a place is looked at.
+fn is_among(replica: &Replica, among: Among, place: usize) -> bool
+    requires { place < length (changesets replica.now.history) }
+    ensures { IsTrue result ↔ IsAmong among replica.now.history place }
+{
+    match among {
+        Among::Everything => true,
+        Among::Published => is_public_at(replica, place),
+    }
+}
+
+// Whether the changeset at a place is public.
+fn is_public_at(replica: &Replica, place: usize) -> bool
+    ensures { IsTrue result ↔ IsPublicAt replica.now.history place }
+{
+    match replica.phase_at(place) {
+        Some(phase) => is_public(phase),
+        None => false,
+    }
+}
+
+fn is_public(phase: Phase) -> bool
+    ensures { IsTrue result ↔ (phase ≡ Phase.Public) }
+{
+    phase == Phase::Public
+}
