@@ -80,6 +80,44 @@ fn a_small_history_has_instabilities_of_each_kind(rt: HostRuntime) {
     assert!(rt; has_exactly(sets.content_divergent(), &[x, y]));
 }
 
+// Whether these are the places, each once.
+fn has_places(found: &[usize], places: &[usize]) -> bool {
+    places.iter().all(|place| found.contains(place)) && found.len() == places.len()
+}
+
+#[test]
+fn heads_that_are_kept_follow_what_is_absorbed(rt: HostRuntime) {
+    let alloc = rt.alloc();
+    let (replica, nodes) = upset(alloc).expect(&rt, "memory");
+    let part = turning(alloc, &nodes).expect(&rt, "memory");
+    let mut kept = Kept::new(alloc, replica).expect(&rt, "memory");
+
+    // `b` has a child, `g` is pruned, and `y` is secret; what came first stands at place 0.
+    assert!(rt;
+        has_places(
+            &kept.served_heads().expect(&rt, "memory"),
+            &[1, 2, 4, 5, 6, 8, 9]
+        )
+    );
+    assert!(rt;
+        has_places(
+            &kept.shared_heads().expect(&rt, "memory"),
+            &[1, 2, 3, 4, 5, 6, 8, 9]
+        )
+    );
+    assert!(rt; has_places(kept.public_heads(), &[4, 8]));
+
+    // A child of `g` is there, `b` is public, and `v` and `x` are pruned.
+    assert!(rt; kept.absorb(&part).is_ok());
+    assert!(rt;
+        has_places(
+            &kept.served_heads().expect(&rt, "memory"),
+            &[1, 2, 4, 8, 9, 10]
+        )
+    );
+    assert!(rt; has_places(kept.public_heads(), &[0, 4, 8]));
+}
+
 // Whether the sets are those that are told from scratch, where growth was refused before, at most once.
 fn is_right(alloc: Global, kept: &Kept) -> bool {
     match is_up_to_date(alloc, kept) {
@@ -168,6 +206,8 @@ fn refused_growth_of_pins_changes_nothing(rt: HostRuntime) {
     assert!(rt; kept.pins().copy().is_ok() || kept.pins().copy().is_ok());
     assert!(rt; kept.visible().is_ok() || kept.visible().is_ok());
     assert!(rt; kept.served_marks().is_ok() || kept.served_marks().is_ok());
+    assert!(rt; kept.served_heads().is_ok() || kept.served_heads().is_ok());
+    assert!(rt; kept.shared_heads().is_ok() || kept.shared_heads().is_ok());
     assert!(rt; kept.unpin(pruned).is_ok() || kept.unpin(pruned).is_ok());
     assert!(rt; !kept.is_visible(pruned));
 }
