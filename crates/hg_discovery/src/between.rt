@@ -27,15 +27,11 @@ pub fn heads_in_common(
     ensures memory { IfErr result (λ error. error ≡ NoMemory) }
 {
     let served = served_marks(alloc, other, pins)?;
-    let shared = shared_marks(alloc, asker)?;
-    if let Some(heads) = heads_of_all(alloc, asker, &shared, other, &served)? {
-        return Ok(heads);
-    }
-    ask_each(alloc, asker, &shared, other, &served)
+    ask_marked(alloc, asker, other, &served)
 }
 
 /// The heads of what two have in common, as [`heads_in_common`] finds them, by what is kept. Where the other serves each
-/// head of what the asker doesn't keep secret, and there are at most 200, it costs these heads; otherwise what both hold.
+/// head of what the asker doesn't keep secret, there are at most 200 and few of its changesets have no child, it costs these; otherwise what both hold.
 /// It is refused for want of memory alone.
 pub fn heads_in_common_kept(
     alloc: Global,
@@ -46,18 +42,34 @@ pub fn heads_in_common_kept(
         (λ heads. AreHeadsInCommon asker.now.replica other.now.replica other.now.pins heads.items) }
     ensures memory { IfErr result (λ error. error ≡ NoMemory) }
 {
-    if let Some(heads) = heads_of_all_kept(alloc, asker, other)? {
-        return Ok(heads);
+    if asker.has_few_tops() {
+        if let Some(heads) = heads_of_all_kept(alloc, asker, other)? {
+            return Ok(heads);
+        }
     }
     let served = other.served_marks()?;
-    let ours = asker.replica();
-    let theirs = other.replica();
-    let shared = shared_marks(alloc, ours)?;
-    ask_each(alloc, ours, &shared, theirs, &served)
+    ask_marked(alloc, asker.replica(), other.replica(), &served)
 }
 
-// The heads of what the asker has in common with the other replica, under pins with which it serves what is marked: each
-// changeset is looked up, or the asker asks in rounds. Marks tell which of the asker's aren't secret.
+// The heads of what the asker has in common with the other replica, under pins with which it serves what is marked.
+fn ask_marked(
+    alloc: Global,
+    asker: &Replica,
+    other: &Replica,
+    served: &[bool],
+) -> Result<Vec<Node>, DiscoveryError>
+    requires { length served.now ≡ length (changesets other.now.history) }
+    ensures heads { IfOk result (λ heads. AreHeadsOfServed asker.now other.now served.now heads.items) }
+    ensures memory { IfErr result (λ error. error ≡ NoMemory) }
+{
+    let shared = shared_marks(alloc, asker)?;
+    if let Some(heads) = heads_of_all(alloc, asker, &shared, other, served)? {
+        return Ok(heads);
+    }
+    ask_each(alloc, asker, &shared, other, served)
+}
+
+// The heads of what the asker has in common with the other replica, where heads alone don't tell them: each changeset is looked up, or the asker asks in rounds. Marks tell which of the asker's aren't secret.
 fn ask_each(
     alloc: Global,
     asker: &Replica,

@@ -103,8 +103,9 @@ impl<'a> Outgoing<'a> {
     }
 
     /// What goes out above the common nodes, as [`above`](Outgoing::above) finds it, of a replica whose instabilities
-    /// are kept up to date, under its pins. What is served goes out at the cost of what is found, the heads of what is
-    /// served, the common nodes and what stands between them, and what markers name: not of all that is held.
+    /// are kept up to date, under its pins. Where few changesets have no child, what is served goes out at the cost of
+    /// what is found, the heads of what is served, the common nodes and what stands between them, and what markers name:
+    /// not of all that is held.
     ///
     /// Refuses [`OfferRefusal::UnknownCommon`] alone, for the first that isn't held.
     pub fn above_kept(
@@ -274,11 +275,22 @@ fn find_by<'a>(
     ensures { IfOk result (IsOfferOf replica.now kept.now.pins common.now scope) }
 {
     match scope {
-        Scope::Served => find_served(alloc, kept, replica, common),
-        Scope::Whole => {
-            let shared = shared_marks(alloc, replica)?;
-            find(alloc, replica, &shared, common, scope)
+        Scope::Served if kept.has_few_tops() => find_served(alloc, kept, replica, common),
+        _ => {
+            let named = kept_marks(alloc, kept, scope)?;
+            find(alloc, replica, &named, common, scope)
         }
+    }
+}
+
+// A mark for each place of the graph: whether the scope names the changeset there.
+fn kept_marks(alloc: Global, kept: &Kept, scope: Scope) -> Result<Vec<bool>, AllocError>
+    ensures { IfOk result (λ marks. AreMarksOf kept.now.replica
+        (IsNamed (content_of kept.now.replica) kept.now.pins scope) marks.items) }
+{
+    match scope {
+        Scope::Served => kept.served_marks(),
+        Scope::Whole => shared_marks(alloc, kept.replica()),
     }
 }
 

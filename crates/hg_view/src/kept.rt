@@ -34,6 +34,9 @@ use std::alloc::{AllocError, Global};
 use std::collections::BTreeSet;
 use std::marker::Model;
 
+// To visit one place in a walk down costs as much as to look at so many marks.
+const PLACES_PER_TOP: usize = 16;
+
 /// A replica with its instabilities and its heads, which are kept up to date with each part that it absorbs, and with
 /// what its node pins. Contracts see it as its replica and its pins.
 pub struct Kept {
@@ -330,6 +333,12 @@ impl Kept {
             ↔ IsTop (changesets self.now.replica.history) (IsPublicAt self.now.replica.history) k }
     {
         self.tops.public()
+    }
+
+    /// Whether a walk down from the changesets without a child costs less than to go through all that is held, since they
+    /// are few. It tells what is cheaper alone: what is served, or isn't secret, has the same heads either way.
+    pub fn has_few_tops(&self) -> bool {
+        self.tops.childless().len() < self.replica.graph().len() / PLACES_PER_TOP
     }
 
     /// It can be told of each id whether it is served. Says so to proofs, and does nothing.

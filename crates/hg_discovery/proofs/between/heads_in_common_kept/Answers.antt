@@ -2,15 +2,12 @@ use Rattle.std.proofs.lemmas.Result.{IfOk-weaker}
 use Rattle.hg_discovery.proofs.KnownLemmas.{served_as}
 use Rattle.hg_discovery.proofs.between.heads_in_common_kept.Goals as goal
 
-pub ask_each-requires-clause-shared : goal.ask_each-requires-clause-shared
-ask_each-requires-clause-shared c = rw c.deref.ensures.value c.in_ok-shared.ensures.exact
-
 pub returns-clause-heads : goal.returns-clause-heads
 returns-clause-heads c =
-    let asker = c.replica-ours.ensures.replica in
-    let other = c.replica-theirs.ensures.replica in
-    let told = rw other at c.ask_each.ensures.heads in
+    let asker = c.replica.ensures.replica in
+    let other = c.replica-2.ensures.replica in
+    let told = rw other at c.ask_marked.ensures.heads in
     let heads = rw asker at told in
-    IfOk-weaker c.ask_each.result _ _ (λ heads found. found c.args.other.now.pins
-    (served_as c.args.other.now.replica c.args.other.now.pins _ _ c.deref-2.ensures.value
+    IfOk-weaker c.ask_marked.result _ _ (λ heads found. found c.args.other.now.pins
+    (served_as c.args.other.now.replica c.args.other.now.pins _ _ c.deref.ensures.value
     c.in_ok-served.ensures.exact)) heads
