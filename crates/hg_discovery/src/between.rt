@@ -30,9 +30,9 @@ pub fn heads_in_common(
     ask_marked(alloc, asker, other, &served)
 }
 
-/// The heads of what two have in common, as [`heads_in_common`] finds them, by what is kept. Where the other serves each
-/// head of what the asker doesn't keep secret, there are at most 200 and few of its changesets have no child, it costs these; otherwise what both hold.
-/// It is refused for want of memory alone.
+/// The heads of what two have in common, as [`heads_in_common`] finds them, by what is kept. Where the other serves
+/// each head of what the asker doesn't keep secret, there are at most 200 and few of its changesets have no child, it
+/// costs these; otherwise what both hold. It is refused for want of memory alone.
 pub fn heads_in_common_kept(
     alloc: Global,
     asker: &Kept,
@@ -69,7 +69,8 @@ fn ask_marked(
     ask_each(alloc, asker, &shared, other, served)
 }
 
-// The heads of what the asker has in common with the other replica, where heads alone don't tell them: each changeset is looked up, or the asker asks in rounds. Marks tell which of the asker's aren't secret.
+// The heads of what the asker has in common with the other replica, where heads alone don't tell them: each changeset
+// is looked up, or the asker asks in rounds. Marks tell which of the asker's aren't secret.
 fn ask_each(
     alloc: Global,
     asker: &Replica,

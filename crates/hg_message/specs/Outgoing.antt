@@ -25,8 +25,8 @@ pub record AreMarksOf (s : ReplicaState) (P : Node → Type 0) (marks : List Boo
 abbrev pub ArePlacesOf : {X : Type 0} → (X → Type 0) → List X → List ℕ → Type 0
 ArePlacesOf {X = X} P xs places = ListsAll (λ i. (x : X) × (slice_get xs i ≡ Some x) × P x) places
 
--- exactly the heads of what is served stand at the places: each is served and has no served child, and what is served is
--- one of them or an ancestor of one
+-- exactly the heads of what is served stand at the places: each is served and has no served child, and what is served
+-- is one of them or an ancestor of one
 pub record AreServedHeads (k : KeptValue) (places : List ℕ) : Type 0 where
   pub exact : (i : ℕ) → Contains places i ↔ IsTop (changesets k.replica.history) (IsServedAt k.replica k.pins) i
   pub covers : (i : ℕ) → IsServedAt k.replica k.pins i

@@ -142,8 +142,8 @@ fn relevant_to_served(alloc: Global, kept: &Kept) -> Result<Vec<usize>, AllocErr
     relevant(alloc, store, &nodes)
 }
 
-/// The places of what is served and isn't common, ascending, where the heads of what is served stand at these places. It
-/// costs what is found, the heads and the common nodes, and what is common between them.
+/// The places of what is served and isn't common, ascending, where the heads of what is served stand at these places.
+/// It costs what is found, the heads and the common nodes, and what is common between them.
 pub(crate) fn served_outgoing(
     alloc: Global,
     kept: &Kept,

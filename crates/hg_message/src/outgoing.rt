@@ -104,8 +104,8 @@ impl<'a> Outgoing<'a> {
 
     /// What goes out above the common nodes, as [`above`](Outgoing::above) finds it, of a replica whose instabilities
     /// are kept up to date, under its pins. Where few changesets have no child, what is served goes out at the cost of
-    /// what is found, the heads of what is served, the common nodes and what stands between them, and what markers name:
-    /// not of all that is held.
+    /// what is found, the heads of what is served, the common nodes and what stands between them, and what markers
+    /// name: not of all that is held.
     ///
     /// Refuses [`OfferRefusal::UnknownCommon`] alone, for the first that isn't held.
     pub fn above_kept(

@@ -31,8 +31,8 @@ pub(crate) fn name_little(markers: &[Marker], changesets: usize) -> bool {
     names < changesets / CHANGESETS_PER_NAME
 }
 
-/// The changesets that a marker touches, each once: its successors, or of a prune its predecessor and the parents that it
-/// records. It costs what the markers name.
+/// The changesets that a marker touches, each once: its successors, or of a prune its predecessor and the parents that
+/// it records. It costs what the markers name.
 pub(crate) fn touched(alloc: Global, markers: &[Marker]) -> Result<NodeSet, AllocError>
     ensures { IfOk result (λ found. (n : Node) → Contains found.keys n ↔ IsTouchedByOne markers.now n) }
 {

@@ -52,8 +52,8 @@ FindsAgain (Ok undo) t sets (Err fault) after sets_after =
     (fault ≡ NoMemory) × (sets_after ≡ sets) × ((s : ReplicaState) → LeadsBack t undo s → after ≡ s)
 FindsAgain (Err fault) t sets result after sets_after = (result ≡ Err fault) × (after ≡ t) × (sets_after ≡ sets)
 
--- where the replica, now t, answered so, the heads that were kept beside it: they follow the change that it told, or stay
--- where that is nothing, or where it or they were refused
+-- where the replica, now t, answered so, the heads that were kept beside it: they follow the change that it told, or
+-- stay where that is nothing, or where it or they were refused
 abbrev pub KeepsTops : Result Absorbed Fault → ReplicaState → Tops → Result ChangeValue Fault → Tops → Type 0
 KeepsTops (Ok absorbed) t tops (Ok change) after =
     (IsNothing change × (after ≡ tops)) ⊎ AreTops t.history after

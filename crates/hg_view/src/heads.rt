@@ -1,8 +1,8 @@
 //! The heads of what is in view, by a walk down from the changesets without children.
 //!
-//! A view is closed under parents: with a changeset its parents are in view. So what isn't in view stands at the top of
-//! the graph. What isn't in view sends the walk on to its parents; what is in view ends it, and is a head if none of its
-//! children is in view. Nothing below the heads is visited but other parents of what isn't in view.
+//! A view is closed under parents: with a changeset its parents are in view. So what isn't in view stands at the top
+//! of the graph. What isn't in view sends the walk on to its parents; what is in view ends it, and is a head if none
+//! of its children is in view. Nothing below the heads is visited but other parents of what isn't in view.
 ghost use Rattle.std.specs.Prelude.{◌≡◌, ◌↔◌, ◌⊎◌, ◌<◌, ℕ, length, Contains, IsTrue, IfOk, OnOk};
 ghost use Rattle.hg_phases.specs.State.{changesets};
 ghost use Rattle.hg_view.specs.Descent.{GoesOn, HasChildIn, IsChildless, IsClosedUnderParents, IsCovered};

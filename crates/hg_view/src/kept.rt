@@ -299,9 +299,9 @@ impl Kept {
         Ok(marks)
     }
 
-    /// The places of the heads of what is [served](Kept::is_served), from the last to the first: what is served without a
-    /// served child. What else is served is an ancestor of one of them. It costs what is secret or hidden, and the
-    /// children of the heads, whatever else is held.
+    /// The places of the heads of what is [served](Kept::is_served), from the last to the first: what is served
+    /// without a served child. What else is served is an ancestor of one of them. It costs what is secret or hidden,
+    /// and the children of the heads, whatever else is held.
     pub fn served_heads(&self) -> Result<Vec<usize>, AllocError>
         ensures exact { IfOk result (λ heads. (k : ℕ) → Contains heads.items k
             ↔ IsTop (changesets self.now.replica.history) (IsServedAt self.now.replica self.now.pins) k) }
@@ -312,8 +312,8 @@ impl Kept {
         heads_in(self.alloc, &self.replica, view, self.tops.childless())
     }
 
-    /// The places of the heads of what isn't secret, from the last to the first: what isn't, without a child that isn't.
-    /// It costs what is secret, and the children of the heads, whatever else is held.
+    /// The places of the heads of what isn't secret, from the last to the first: what isn't, without a child that
+    /// isn't. It costs what is secret, and the children of the heads, whatever else is held.
     pub fn shared_heads(&self) -> Result<Vec<usize>, AllocError>
         ensures { IfOk result (λ heads. (k : ℕ) → Contains heads.items k
             ↔ IsTop (changesets self.now.replica.history) (IsSharedAt self.now.replica) k) }
@@ -335,8 +335,8 @@ impl Kept {
         self.tops.public()
     }
 
-    /// Whether a walk down from the changesets without a child costs less than to go through all that is held, since they
-    /// are few. It tells what is cheaper alone: what is served, or isn't secret, has the same heads either way.
+    /// Whether a walk down from the changesets without a child costs less than to go through all that is held, since
+    /// they are few. It tells what is cheaper alone: what is served, or isn't secret, has the same heads either way.
     pub fn has_few_tops(&self) -> bool {
         self.tops.childless().len() < self.replica.graph().len() / PLACES_PER_TOP
     }
@@ -351,8 +351,8 @@ impl Kept {
     }
 }
 
-// Brings instabilities and heads up to date with what the replica absorbed, if that is anything. Where memory is refused
-// for that, the replica takes it back.
+// Brings instabilities and heads up to date with what the replica absorbed, if that is anything. Where memory is
+// refused for that, the replica takes it back.
 fn keep_up(
     replica: &mut Replica,
     instabilities: &mut Instabilities,

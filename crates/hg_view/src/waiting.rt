@@ -1,7 +1,7 @@
 //! The places that a walk from children to parents still has to visit.
 //!
-//! They wait in a set, each once, and the greatest is visited first: a parent's place is before its child's, so no place
-//! is visited twice.
+//! They wait in a set, each once, and the greatest is visited first: a parent's place is before its child's, so no
+//! place is visited twice.
 ghost use Rattle.std.specs.Prelude.{◌≡◌, ◌↔◌, ◌⊎◌, ◌<◌, ℕ, Some, length, Contains, IfOk, OnOk};
 ghost use Rattle.hg_graph.specs.Places.{IsParentPlace};
 

@@ -5,7 +5,8 @@ use Rattle.hg_view.proofs.DescentLemmas.{IsDescended, past}
 use Rattle.hg_view.proofs.heads.heads_in.Given as goal
 
 abbrev pub invariant-loop-place : goal.invariant-loop-place
-invariant-loop-place l = (b : ℕ) × IsDescended (changesets l.replica.history) (IsInView l.view l.replica) l.waiting.keys l.found.items b
+invariant-loop-place l = (b : ℕ) × IsDescended (changesets l.replica.history)
+    (IsInView l.view l.replica) l.waiting.keys l.found.items b
 
 abbrev pub decreases-loop-place : goal.decreases-loop-place
 decreases-loop-place l = past l.waiting.keys
