@@ -86,10 +86,15 @@ fn push_escaped(text: &mut Vec<u8>, bytes: &[u8]) -> Result<(), AllocError>
     Ok(())
 }
 
+// All are looked at, since many at once cost less than one by one up to the first that isn't.
 fn are_plain(bytes: &[u8]) -> bool
     ensures { result ≡ list_all is_plain bytes.now }
 {
-    bytes.iter().all(|b| is_plain(*b))
+    let mut plain = true;
+    for b in bytes {
+        plain &= is_plain(*b);
+    }
+    plain
 }
 
 // Whether the byte is above those that are written as two characters, and no backslash.

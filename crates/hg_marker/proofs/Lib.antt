@@ -10,4 +10,5 @@ pub mod FaultLemmas
 pub mod NodesLemmas
 pub mod FormLemmas
 pub mod AscentLemmas
+pub mod OperationLemmas
 pub mod ParentsLemmas

@@ -1,11 +1,13 @@
 -- Metadata without a key of parents records none.
-use Rattle.std.proofs.Common.{◌≡◌, ℕ, false, List, [], ◌∷◌, None, refl, ◌∙◌, codes}
+use Rattle.std.proofs.Common.{◌≡◌, ℕ, false, List, [], ◌∷◌, None, refl, ap, map, ◌∙◌, codes}
+use Rattle.std.specs.Prelude.{◌||◌}
 use Rattle.std.specs.List.{list_any}
 use Rattle.std.specs.FinMap.{entries, find, get}
 use Rattle.std.specs.Str.{bytes_eq}
 use Rattle.std.proofs.lemmas.Bool.{or_parts}
 use Rattle.hg_marker.specs.declared.parents.Parents.TheVariants.{Unrecorded}
 use Rattle.hg_marker.specs.Texts.{Texts, bytes_cmp}
+use Rattle.hg_marker.specs.Metadata.{entry}
 use Rattle.hg_marker.specs.Parents.{is_parents_key, parents_by, parents_of}
 use Rattle.hg_marker.proofs.FormLemmas.{found_later, get_is}
 
@@ -24,3 +26,9 @@ none_recorded m h =
     let p1 = at (codes "p1") (λ k n. (or_parts _ _ (or_parts _ _ n).0).1) in
     let p2 = at (codes "p2") (λ k n. (or_parts _ _ n).1) in
     λ i. parents_by (p0 i) (p1 i) (p2 i)
+
+-- what the keys of the pieces tell, their entries do
+pub piece_keys : (ps : List (List ℕ)) → list_any (λ p. is_parents_key (entry p).0) ps
+    ≡ list_any (λ e. is_parents_key e.0) (map entry ps)
+piece_keys [] = refl
+piece_keys (p ∷ ps) = ap (λ b. is_parents_key (entry p).0 || b) (piece_keys ps)

@@ -14,3 +14,4 @@ pub mod Listing
 pub mod Faults
 pub mod Laid
 pub mod ReadErrors
+pub mod Operation

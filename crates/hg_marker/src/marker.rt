@@ -2,7 +2,7 @@
 //!
 //! A marker says that its predecessor was rewritten to its successors, in their order. Two markers are equal where
 //! their fields are, the metadata as a map, whatever bytes they were read from.
-ghost use Rattle.std.specs.Prelude.{◌≡◌, IfOk, false, length, nat_eq};
+ghost use Rattle.std.specs.Prelude.{◌≡◌, ◌∷◌, [], IfOk, false, length, nat_eq};
 ghost use Rattle.std.specs.List.{list_any, AllByRecursion};
 ghost use Rattle.hex.specs.Hex.{IsBytes};
 ghost use lib.Pointwise.{pointwise};
@@ -110,10 +110,49 @@ impl Marker {
           metadata = metadata;
         }) }
     {
-        if holds(&successors, &predecessor.0) {
+        Marker::of_kept(predecessor, Successors::of(successors), flags, metadata)
+    }
+
+    /// The marker of these fields, which has one successor. It takes no memory, not even for a list.
+    ///
+    /// Refuses as [`new`](Marker::new) does.
+    #[inline(always)]
+    pub fn to_one(
+        predecessor: Node,
+        successor: Node,
+        flags: u8,
+        metadata: Metadata,
+    ) -> Result<Marker, MarkerError>
+        ensures { result ≡ marker_of (record {
+          predecessor = predecessor;
+          successors = successor ∷ [];
+          flags = flags;
+          metadata = metadata;
+        }) }
+    {
+        Marker::of_kept(predecessor, Successors::One([successor]), flags, metadata)
+    }
+
+    // The marker of these fields, if it is one.
+    #[inline(always)]
+    fn of_kept(
+        predecessor: Node,
+        successors: Successors,
+        flags: u8,
+        metadata: Metadata,
+    ) -> Result<Marker, MarkerError>
+        ensures { result ≡ marker_of (record {
+          predecessor = predecessor;
+          successors = kept_nodes successors;
+          flags = flags;
+          metadata = metadata;
+        }) }
+    {
+        let nodes = successors.as_slice();
+        if holds(nodes, &predecessor.0) {
             return Err(MarkerError::SelfSuccessor);
         }
-        if has_null(&successors) {
+        if has_null(nodes) {
             return Err(MarkerError::NullSuccessor);
         }
         if metadata.has_bad_key() {
@@ -122,7 +161,7 @@ impl Marker {
         if metadata.has_bad_value() {
             return Err(MarkerError::BadValue);
         }
-        if successors.len() > 255 {
+        if nodes.len() > 255 {
             return Err(MarkerError::TooManySuccessors);
         }
         if metadata.written_len() > METADATA_LIMIT as usize {
@@ -130,7 +169,7 @@ impl Marker {
         }
         Ok(Marker {
             predecessor,
-            successors: Successors::of(successors),
+            successors,
             flags,
             metadata,
         })

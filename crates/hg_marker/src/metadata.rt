@@ -3,12 +3,13 @@
 //! Metadata is a map from keys to values, both byte strings. Any byte string may be a key or a value here; which of
 //! them a marker can have is asked when the marker is made. What can be written is kept as it is written, in one piece;
 //! only what no marker can have is kept as a map.
-ghost use Rattle.std.specs.Prelude.{◌≡◌, ◌≤◌, ◌+◌, ◌++◌, ◌^◌, ◌-◌, OnOk, OnErr, IfOk, IsOk, option_copied, length, min};
-ghost use Rattle.std.specs.Prelude.{true, map, reverse, vec_len, vec_capacity};
+ghost use Rattle.std.specs.Prelude.{◌≡◌, ◌≤◌, ◌+◌, ◌++◌, ◌^◌, ◌-◌, OnOk, OnErr, IfOk, IfSome, IsOk, option_copied};
+ghost use Rattle.std.specs.Prelude.{length, min, true, map, reverse, vec_len, vec_capacity};
 ghost use Rattle.std.specs.FinMap as finite;
 ghost use Rattle.hg_marker.specs.Metadata.{written, texts, pieces, has_colon};
 ghost use Rattle.hg_marker.specs.Texts.{entry_seen};
 ghost use Rattle.hg_marker.specs.Making.{has_bad_key, has_bad_value, is_writable};
+ghost use Rattle.hg_marker.specs.Operation.{operation_entries};
 ghost use Rattle.std.specs.List.{list_all};
 
 use crate::entries::Entries;
@@ -97,6 +98,29 @@ impl Metadata {
             all.insert(alloc, *key, *value)?;
         }
         Ok(all)
+    }
+
+    /// What is noted of an operation: when it was done, at the key `date`, which one it was, at `operation`, and by
+    /// whom, at `user`. It is what [`from_entries`](Metadata::from_entries) gives of these three, for less.
+    pub fn of_operation(
+        alloc: Global,
+        date: &[u8],
+        operation: &[u8],
+        user: &[u8],
+    ) -> Result<Metadata, AllocError>
+        ensures { IfOk result (λ all. all
+            ≡ finite.from_entries (reverse (operation_entries date.now operation.now user.now))) }
+    {
+        if has_nul(date) || has_nul(operation) || has_nul(user) {
+            return Metadata::from_entries(
+                alloc,
+                &[(b"date", date), (b"operation", operation), (b"user", user)],
+            );
+        }
+        let texts = WrittenTexts::of_operation(alloc, date, operation, user)?;
+        Ok(Metadata {
+            form: Form::Written(texts),
+        })
     }
 
     /// The value of a key.
@@ -207,6 +231,16 @@ impl Metadata {
         match &self.form {
             Form::Written(_) => false,
             Form::Unwritable(texts) => texts.has_bad_value(),
+        }
+    }
+
+    // The texts as they are written, where they can be.
+    pub(crate) fn as_written(&self) -> Option<&WrittenTexts>
+        ensures { IfSome result (λ texts. texts.now ≡ self.now) }
+    {
+        match &self.form {
+            Form::Written(texts) => Some(texts),
+            Form::Unwritable(_) => None,
         }
     }
 

@@ -8,6 +8,7 @@ ghost use Rattle.std.specs.FinMap as finite;
 ghost use Rattle.hg_changeset.specs.Node.{id_value};
 ghost use Rattle.hg_marker.specs.Parents.{is_parents_key, parents_of, one_parent};
 
+use crate::entries::Entries;
 use crate::metadata::Metadata;
 use hg_changeset::Node;
 
@@ -50,7 +51,16 @@ pub(crate) fn parents_of(metadata: &Metadata) -> Parents
 fn names_parents(metadata: &Metadata) -> bool
     ensures { result ≡ list_any (λ e. is_parents_key e.0) (finite.entries metadata.now) }
 {
-    for (key, _) in metadata.iter() {
+    match metadata.as_written() {
+        Some(texts) => texts.names_parents(),
+        None => has_parents_key(metadata.iter()),
+    }
+}
+
+fn has_parents_key(entries: Entries<'_>) -> bool
+    ensures { result ≡ list_any (λ e. is_parents_key e.0) entries.entry }
+{
+    for (key, _) in entries {
         if is_parents_key(key) {
             return true;
         }
@@ -58,7 +68,7 @@ fn names_parents(metadata: &Metadata) -> bool
     false
 }
 
-fn is_parents_key(key: &[u8]) -> bool
+pub(crate) fn is_parents_key(key: &[u8]) -> bool
     ensures { result ≡ is_parents_key key.now }
 {
     key == b"p0".as_slice() || key == b"p1".as_slice() || key == b"p2".as_slice()

@@ -5,10 +5,12 @@
 //! walked piece by piece, so that no list of pieces is kept: metadata of NULs alone takes no memory.
 ghost use Rattle.std.specs.Prelude.{◌≡◌, ◌==◌, ◌++◌, ◌<◌, [], ◌∷◌, length, position, map, option_copied, IfOk, IfSome};
 ghost use Rattle.std.specs.Prelude.{IfNone, true};
-ghost use Rattle.std.specs.List.{list_all};
+ghost use Rattle.std.specs.List.{list_all, list_any};
 ghost use Rattle.hg_marker.specs.Metadata.{pieces, nonempty, has_colon, entry, texts};
+ghost use Rattle.hg_marker.specs.Parents.{is_parents_key};
 ghost use Rattle.hg_marker.specs.Written.{IsWritten, is_behind};
 
+use crate::parents::is_parents_key;
 use crate::text_map::TextMap;
 use memchr::memchr;
 use std::alloc::{AllocError, Global};
@@ -96,6 +98,34 @@ fn is_well_formed(piece: &[u8]) -> bool
     match place_of(piece, b':') {
         Some(_) => true,
         None => piece.is_empty(),
+    }
+}
+
+// Whether the key of a piece says something of parents.
+pub(crate) fn name_parents(bytes: &[u8]) -> bool
+    ensures { result ≡ list_any (λ p. is_parents_key (entry p).0) (pieces bytes.now) }
+{
+    let mut rest = bytes;
+    while !rest.is_empty() {
+        let (piece, after) = next_piece(rest);
+        if names_parents(piece) {
+            return true;
+        }
+        rest = after;
+    }
+    false
+}
+
+// Whether the key of the piece, if it isn't empty, says something of parents. Only what begins as such a key is split.
+fn names_parents(piece: &[u8]) -> bool
+    ensures { result ≡ list_any (λ p. is_parents_key (entry p).0) (nonempty (piece.now ∷ [])) }
+{
+    match piece {
+        [b'p', ..] => {
+            let (key, _) = split_piece(piece);
+            is_parents_key(key)
+        }
+        _ => false,
     }
 }
 

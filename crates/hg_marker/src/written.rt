@@ -2,20 +2,26 @@
 //!
 //! Texts that can be written are kept as their one written spelling: pieces `key:value`, ascending by key, joined by
 //! NUL. So equal texts have equal bytes, and a value is found by a walk over the pieces.
-ghost use Rattle.std.specs.Prelude.{◌≡◌, ℕ, List, ◌∷◌, IfOk, OnOk, OnErr, IsTrue, option_copied, map, reverse, true, false};
+ghost use Rattle.std.specs.Prelude.{◌≡◌, ℕ, List, ◌∷◌, IfOk, OnOk, OnErr, IsTrue, option_copied, map, reverse};
+ghost use Rattle.std.specs.Prelude.{true, false};
 ghost use Rattle.std.specs.FinMap as finite;
 ghost use Rattle.std.specs.FinMap.{find, put};
 ghost use Rattle.hg_marker.specs.Texts.{bytes_cmp, entry_seen};
 ghost use Rattle.std.specs.List.{list_any, list_all};
 ghost use Rattle.hg_marker.specs.Metadata.{written, texts, pieces, is_nul};
-ghost use Rattle.hg_marker.specs.Making.{is_writable, ends_key};
+ghost use Rattle.hg_marker.specs.Parents.{is_parents_key};
+ghost use Rattle.hg_marker.specs.Making.{has_bad_value, is_writable, ends_key};
+ghost use Rattle.hg_marker.specs.Operation.{operation_entries};
 ghost use Rattle.hg_marker.specs.Written.{AreWrittenSo, IsWritten, with_piece, with_pieces, to_come};
 
-use crate::pieces::{Pieces, is_behind, read_texts};
+use crate::pieces::{Pieces, is_behind, name_parents, read_texts};
 use crate::text_map::{TextMap, ends_key, has_nul, write_piece};
 use std::alloc::{AllocError, Global};
 use std::cmp::Ordering;
 use std::marker::Model;
+
+// Bytes of the keys of an operation, with what joins them.
+const KEYS_ROOM: usize = 22;
 
 // Texts that can be written, as they are written.
 #[derive(Drop, Debug)]
@@ -100,6 +106,30 @@ impl WrittenTexts {
         Ok(WrittenTexts { bytes })
     }
 
+    // The texts at the three keys of an operation, of which none holds a NUL. Keys and what joins them are known.
+    pub(crate) fn of_operation(
+        alloc: Global,
+        date: &[u8],
+        operation: &[u8],
+        user: &[u8],
+    ) -> Result<WrittenTexts, AllocError>
+        requires { has_bad_value (operation_entries date.now operation.now user.now) ≡ false }
+        ensures texts { IfOk result (λ all. all
+            ≡ finite.from_entries (reverse (operation_entries date.now operation.now user.now))) }
+        ensures writable { IfOk result (λ all. is_writable all ≡ true) }
+    {
+        let room = date.len().saturating_add(operation.len());
+        let room = room.saturating_add(user.len()).saturating_add(KEYS_ROOM);
+        let mut bytes = Vec::with_capacity(alloc, room)?;
+        bytes.extend_from_slice(b"date:")?;
+        bytes.extend_from_slice(date)?;
+        bytes.extend_from_slice(b"\0operation:")?;
+        bytes.extend_from_slice(operation)?;
+        bytes.extend_from_slice(b"\0user:")?;
+        bytes.extend_from_slice(user)?;
+        Ok(WrittenTexts { bytes })
+    }
+
     // Where the memory comes from.
     pub(crate) fn allocator(&self) -> Global {
         *self.bytes.allocator()
@@ -125,6 +155,13 @@ impl WrittenTexts {
         ensures { result ≡ finite.entries self.now }
     {
         Pieces::new(&self.bytes)
+    }
+
+    // Whether a key says something of parents.
+    pub(crate) fn names_parents(&self) -> bool
+        ensures { result ≡ list_any (λ e. is_parents_key e.0) (finite.entries self.now) }
+    {
+        name_parents(&self.bytes)
     }
 
     // The value of a key.

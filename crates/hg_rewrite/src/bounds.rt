@@ -11,6 +11,7 @@ use hg_replica::Replica;
 use std::alloc::{AllocError, Global};
 
 // The bounds of an operation that makes changesets with these ids.
+#[inline(always)]
 pub(crate) fn bounds(
     alloc: Global,
     replica: &Replica,

@@ -24,6 +24,7 @@ use std::alloc::{AllocError, Global};
 use std::slice;
 
 // The new changesets of an operation.
+#[inline(always)]
 pub(crate) fn new_changesets(
     alloc: Global,
     replica: &Replica,
@@ -238,6 +239,7 @@ pub(crate) enum Ids {
 
 impl Ids {
     /// The ids of the changesets.
+    #[inline(always)]
     pub(crate) fn of(alloc: Global, changesets: &[Changeset]) -> Result<Ids, AllocError>
         ensures { IfOk result (λ ids. listed ids ≡ nodes changesets.now) }
     {

@@ -70,6 +70,7 @@ fn new_parents(op: &Op) -> Option<(Node, Node)>
 }
 
 // Refuses a named node that isn't held. Its second clause tells `decide`, which sees no field, that the state is valid.
+#[inline(always)]
 pub(crate) fn check_known(replica: &Replica, op: &Op) -> Result<(), Refusal>
     ensures answer { Checked (unknown_nodes replica.now op.now) result }
     ensures valid { IsValid replica.now }
@@ -193,6 +194,7 @@ pub(crate) fn check_not_obsolete(replica: &Replica, op: &Op) -> Result<(), Refus
 
 // Refuses a fold of what is no line, and a relocation onto the node itself or a descendant. It looks for neither where
 // sets that are kept have told that it is apart.
+#[inline(always)]
 pub(crate) fn check_linear(replica: &Replica, op: &Op, is_apart: bool) -> Result<(), Refusal>
     requires known { NoneApplies (unknown_nodes replica.now op.now) }
     requires valid { IsValid replica.now }
@@ -289,6 +291,7 @@ pub(crate) fn check_count(op: &Op) -> Result<(), Refusal>
 }
 
 // Refuses an advance to a phase above the present one.
+#[inline(always)]
 pub(crate) fn check_raise(replica: &Replica, op: &Op) -> Result<(), Refusal>
     ensures { Checked (raise replica.now op.now) result }
 {
@@ -317,6 +320,7 @@ pub(crate) fn check_entries(entries: &[Entry]) -> Result<(), Refusal>
 }
 
 // Refuses the user of a prune that is none.
+#[inline(always)]
 pub(crate) fn check_pruner(op: &Op) -> Result<(), Refusal>
     ensures { Checked (bad_users op.now) result }
 {

@@ -63,6 +63,7 @@ pub fn decide_kept(alloc: Global, kept: &Kept, op: &Op) -> Result<Part, Refusal>
 
 // Decides an operation whose nodes are held, under any pins under which its new parents aren't hidden. Whether it is
 // known to be apart, as sets that are kept tell of a relocation, spares a walk.
+#[inline(always)]
 fn decide_shown(alloc: Global, replica: &Replica, op: &Op, is_apart: bool) -> Result<Part, Refusal>
     requires known { NoneApplies (unknown_nodes replica.now op.now) }
     requires valid { IsValid replica.now }

@@ -1,7 +1,8 @@
 //! The markers of an operation: one for each node that is rewritten, with what is noted of the operation.
 ghost use Rattle.std.specs.Prelude.{◌≡◌, ◌∷◌, [], IfOk, map};
 ghost use Rattle.hg_changeset.specs.EntryText.{date_text};
-ghost use Rattle.hg_rewrite.specs.Parts.{new_ids, noted, noted_of, noted_of_first, noted_texts, with_parents};
+ghost use Rattle.hg_rewrite.specs.Parts.{new_ids, noted, noted_of, noted_of_first, with_parents};
+ghost use Rattle.hg_marker.specs.Making.{marker_of};
 ghost use Rattle.hg_rewrite.specs.Parts.{metadata, marker, markers};
 ghost use Rattle.hg_rewrite.specs.Refusals.{marker_refused};
 ghost use Rattle.hg_rewrite.specs.Answer.{Gives};
@@ -12,7 +13,7 @@ use crate::op::Op;
 use crate::query::parents_in;
 use crate::refusal::{Cause, Refusal};
 use hg_changeset::{Entry, Node, push_date, trimmed_user};
-use hg_marker::{Marker, Metadata};
+use hg_marker::{Marker, MarkerError, Metadata};
 use hg_replica::Replica;
 use std::alloc::{AllocError, Global};
 
@@ -89,24 +90,7 @@ fn noted(
 {
     let mut date = Vec::new(alloc);
     push_date(&mut date, secs, offset)?;
-    noted_texts(alloc, &date, operation, trimmed_user(user))
-}
-
-// The same by their texts.
-fn noted_texts<'a>(
-    alloc: Global,
-    date: &'a [u8],
-    operation: &'a [u8],
-    user: &'a [u8],
-) -> Result<Metadata, AllocError>
-    ensures { IfOk result (λ texts. texts ≡ noted_texts date.now operation.now user.now) }
-{
-    let entries: [(&'a [u8], &'a [u8]); 3] = [
-        (b"date", date),
-        (b"operation", operation),
-        (b"user", user),
-    ];
-    Metadata::from_entries(alloc, &entries)
+    Metadata::of_operation(alloc, &date, operation, trimmed_user(user))
 }
 
 // And the parents of what is pruned.
@@ -157,13 +141,30 @@ fn mark_one(
 ) -> Result<Vec<Marker>, Refusal>
     ensures { Gives (marker_refused (marker metadata ids.now node) ∷ []) (marker metadata ids.now node ∷ []) result }
 {
-    let successors = Vec::from_slice(alloc, ids)?;
-    match Marker::new(node, successors, 0, metadata) {
+    match marker_to(alloc, node, ids, metadata)? {
         Ok(marker) => {
             let mut markers = Vec::with_capacity(alloc, 1)?;
             markers.push(marker)?;
             Ok(markers)
         }
         Err(fault) => Err(Refusal::Fault(Cause::Marker(fault))),
+    }
+}
+
+// The marker from the node to all the ids. Where it is one, no list is made.
+fn marker_to(
+    alloc: Global,
+    node: Node,
+    ids: &[Node],
+    metadata: Metadata,
+) -> Result<Result<Marker, MarkerError>, AllocError>
+    ensures { IfOk result (λ made. made ≡ marker_of (marker metadata ids.now node)) }
+{
+    match ids {
+        [id] => Ok(Marker::to_one(node, *id, 0, metadata)),
+        _ => {
+            let successors = Vec::from_slice(alloc, ids)?;
+            Ok(Marker::new(node, successors, 0, metadata))
+        }
     }
 }

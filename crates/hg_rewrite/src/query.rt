@@ -21,6 +21,7 @@ pub(crate) fn holds(replica: &Replica, node: Node) -> bool
 }
 
 // Its phase; that of what isn't held is public. The replica always answers, so no error is passed over.
+#[inline(always)]
 pub(crate) fn phase_in(replica: &Replica, node: Node) -> Phase
     ensures { result ≡ phase_in replica.now.history node }
 {

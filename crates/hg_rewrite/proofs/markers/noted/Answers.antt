@@ -15,5 +15,5 @@ returns c =
     ∙ ap (λ bytes. bytes ++ date_text (to_z w64 (of_z w64 c.args.secs)) (to_z w32 (of_z w32 c.args.offset)))
     c.new-date.ensures.items
     ∙ (λ i. date_text (to_z-of_z w64 c.args.secs c.ranges.secs i) (to_z-of_z w32 c.args.offset c.ranges.offset i)) in
-    subst (λ (noted : Texts). IfOk c.noted_texts.result (λ texts. texts ≡ noted))
-    (λ i. noted_texts (date i) c.args.operation.now (c.trimmed_user.ensures i)) c.noted_texts.ensures
+    subst (λ (noted : Texts). IfOk c.of_operation.result (λ texts. texts ≡ noted))
+    (λ i. noted_texts (date i) c.args.operation.now (c.trimmed_user.ensures i)) c.of_operation.ensures
