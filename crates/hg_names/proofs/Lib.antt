@@ -1,3 +1,4 @@
 pub mod NameLemmas
 mod DigitLemmas
+mod NumberedLemmas
 mod SlotLemmas

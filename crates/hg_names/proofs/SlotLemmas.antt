@@ -6,23 +6,13 @@ use Rattle.std.specs.BTreeMap.{is_at}
 use Rattle.std.specs.Ordering.{nat_cmp}
 use Rattle.std.proofs.lemmas.Bool.{cases_eq, cases_order, cond-false, eq-eqb, eqb-true, ne_eqb}
 use Rattle.std.proofs.lemmas.List.{length-set}
-use Rattle.std.proofs.lemmas.Option.{none-some, same_Some, slice_get-get_or, slice_get_past, slice_get_read}
+use Rattle.std.proofs.lemmas.Option.{none-some, same_Some, slice_get_past}
 use Rattle.hg_changeset.specs.declared.node.Node.{Node}
 use Rattle.hg_names.specs.declared.short.Bound.{Bound}
 use Rattle.hg_names.specs.Slots.{AreAtTheirPlaces, AreBehindOthers, AreFound, BindsKey, aside_at, bound_in, first_at}
 use Rattle.hg_names.specs.Slots.{found, may_hold, node_at, node_in, place_in, place_of, slot_of, slots_by}
 use Rattle.hg_names.specs.Slots.{slots_of, spread}
 use Rattle.hg_names.proofs.DigitLemmas.{other_number}
-
--- what stands at a slot that was read
-pub read_at : (first items : List (Option Bound)) (s : ℕ) (d o : Option Bound) → items ≡ first → s < length items
-    → get_or items s d ≡ o → first_at first s ≡ o
-read_at first items s d o same within is =
-    ap (λ xs. first_at xs s) (sym same) ∙ ap bound_in (slice_get-get_or items s d within) ∙ is
-
-pub read_is : (first : List (Option Bound)) (s : ℕ) (o : Option Bound) → s < length first → o ≡ get_or first s o
-    → first_at first s ≡ o
-read_is first s o within is = ap bound_in (slice_get_read first (length first) s o refl within is)
 
 -- one more of the slots of a number is tried
 pub place_step : (first : List (Option Bound)) (k : ℕ) (shifts : List ℕ) (i s : ℕ) (b : Bool) → i < length shifts

@@ -1,6 +1,6 @@
 -- Where short labels are found: at slots, and by their order where others came to their slots before.
-use Rattle.std.specs.Prelude.{◌≡◌, ◌∷◌, ◌*◌, ◌/◌, ◌%◌, ◌-◌, ◌^◌, ◌≢◌, ℕ, List, [], Option, None, Some, length}
-use Rattle.std.specs.Prelude.{Bool, true, bit_and, bit_xor, if◌then◌else◌, nat_eq, slice_get}
+use Rattle.std.specs.Prelude.{◌≡◌, ◌∷◌, zero, suc, ◌*◌, ◌/◌, ◌%◌, ◌-◌, ◌^◌, ◌≢◌, ℕ, List, [], Option, None, Some}
+use Rattle.std.specs.Prelude.{length, Bool, true, bit_and, bit_xor, if◌then◌else◌, nat_eq, slice_get}
 use Rattle.std.specs.BTreeMap.{is_at}
 use Rattle.std.specs.Map.{lookup}
 use Rattle.std.specs.Ordering.{nat_cmp}
@@ -21,6 +21,11 @@ slots_by (shift ∷ shifts) key count = slot_of (spread key / 2 ^ shift) count �
 
 abbrev pub slots_of : ℕ → ℕ → List ℕ
 slots_of = slots_by (44 ∷ 36 ∷ 28 ∷ 20 ∷ [])
+
+-- what a slot has: nothing, or what came with this number, counted from 1
+abbrev pub numbered : List Bound → ℕ → Option Bound
+numbered bound zero = None
+numbered bound (suc number) = slice_get bound number
 
 -- what stands at a slot
 abbrev pub bound_in : Option (Option Bound) → Option Bound

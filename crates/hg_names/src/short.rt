@@ -7,6 +7,7 @@
 ghost use Rattle.std.specs.Prelude.{◌≡◌, ◌≢◌, ◌<◌, ℕ, [], length, None, Some, IfOk, IfSome, OnOk};
 ghost use Rattle.hg_names.specs.Slots.{slot_of, spread, may_hold, place_of, aside_at, node_of, BindsKey};
 
+use crate::slots::Slots;
 use hg_changeset::Node;
 use std::alloc::{AllocError, Global};
 use std::collections::BTreeMap;
@@ -29,7 +30,7 @@ pub(crate) struct Bound {
 pub(crate) struct ShortLabels {
     alloc: Global,
     // What stands at each slot. There are no slots while nothing is bound.
-    first: Vec<Option<Bound>>,
+    first: Slots,
     // The numbers to whose slots others came before.
     others: BTreeMap<u64, Node>,
     // So many slots are taken.
@@ -53,9 +54,9 @@ impl Model for ShortLabels {
 
     ghost Value = { Standing };
 
-    ghost view = { λ s. record { first = s.first.items; others = s.others.entries } };
+    ghost view = { λ s. record { first = s.first; others = s.others.entries } };
 
-    ghost invariant = { λ s. AreFound s.first.items s.others.entries };
+    ghost invariant = { λ s. AreFound s.first s.others.entries };
 }
 
 impl ShortLabels {
@@ -66,21 +67,22 @@ impl ShortLabels {
     {
         ShortLabels {
             alloc,
-            first: Vec::new(alloc),
+            first: Slots::none(alloc),
             others: BTreeMap::new(alloc),
             taken: 0,
         }
     }
 
     /// What a number stands for.
+    #[inline(always)]
     pub(crate) fn get(&self, key: u64) -> Option<Node>
         ensures { result ≡ node_of self.now key }
     {
-        if self.first.is_empty() {
+        if self.first.len() == 0 {
             return None;
         }
         match place_of(&self.first, key) {
-            Some(slot) => match self.first[slot] {
+            Some(slot) => match self.first.get(slot) {
                 Some(bound) => Some(bound.node),
                 None => None,
             },
@@ -103,10 +105,9 @@ impl ShortLabels {
         ensures some { IfOk result (λ labels. labels.first ≢ []) }
         ensures free { IfOk result (λ labels. (key : ℕ) → node_of labels key ≡ None) }
     {
-        let first = vec![in alloc; None; count]?;
         Ok(ShortLabels {
             alloc,
-            first,
+            first: Slots::free(alloc, count)?,
             others: BTreeMap::new(alloc),
             taken: 0,
         })
@@ -148,8 +149,8 @@ impl ShortLabels {
         ensures some { OnOk result (self.new.first ≢ []) }
         ensures same { OnOk result ((key : ℕ) → node_of self.new key ≡ node_of from.now key) }
     {
-        for slot in &from.first {
-            match slot {
+        for slot in 0..from.first.len() {
+            match from.first.get(slot) {
                 Some(bound) => self.put(bound.key, bound.node)?,
                 None => {}
             }
@@ -157,7 +158,7 @@ impl ShortLabels {
         Ok(())
     }
 
-    // Binds a number to a node, where there are slots. It takes memory where others came to its slots before.
+    // Binds a number to a node, where there are slots.
     #[inline(always)]
     fn put(&mut self, key: u64, node: Node) -> Result<(), AllocError>
         requires { self.old.first ≢ [] }
@@ -166,8 +167,8 @@ impl ShortLabels {
     {
         match place_of(&self.first, key) {
             Some(slot) => {
-                let was_free = self.first[slot].is_none();
-                self.first[slot] = Some(Bound { key, node });
+                let was_free = self.first.get(slot).is_none();
+                self.first.put(slot, Bound { key, node })?;
                 self.taken = self.taken.saturating_add(usize::from(was_free));
             }
             None => {
@@ -179,7 +180,7 @@ impl ShortLabels {
 }
 
 // The slot at which a number stands, or would stand: the first of its slots that has it or is free.
-fn place_of(first: &[Option<Bound>], key: u64) -> Option<usize>
+fn place_of(first: &Slots, key: u64) -> Option<usize>
     requires { first.now ≢ [] }
     ensures place { result ≡ place_of first.now key }
     ensures within { IfSome result (λ slot. slot < length first.now) }
@@ -187,7 +188,7 @@ fn place_of(first: &[Option<Bound>], key: u64) -> Option<usize>
     let spread = spread(key);
     for shift in &SHIFTS {
         let slot = slot_of(spread >> *shift, first.len());
-        if may_hold(&first[slot], key) {
+        if may_hold(first.get(slot), key) {
             return Some(slot);
         }
     }
@@ -195,8 +196,8 @@ fn place_of(first: &[Option<Bound>], key: u64) -> Option<usize>
 }
 
 // Whether a number may stand where this stands: it is that number, or there is none.
-fn may_hold(slot: &Option<Bound>, key: u64) -> bool
-    ensures { result ≡ may_hold slot.now key }
+fn may_hold(slot: Option<Bound>, key: u64) -> bool
+    ensures { result ≡ may_hold slot key }
 {
     match slot {
         Some(bound) => bound.key == key,
