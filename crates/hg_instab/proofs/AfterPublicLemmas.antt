@@ -26,7 +26,7 @@ use Rattle.hg_instab.specs.Near.{IsAfterPublic}
 use Rattle.hg_instab.specs.Walk.{IsReached, Leads, Adds}
 use Rattle.hg_instab.specs.Walk.Leads.{one, further}
 use Rattle.hg_instab.proofs.AmongLemmas.{other-told}
-use Rattle.hg_instab.proofs.WalkLemmas.{IsNextAt}
+use Rattle.hg_instab.proofs.WalkLemmas.{IsNextAt, nothing-reached}
 
 -- ---- what is known, and what is beyond
 
@@ -259,3 +259,13 @@ module _ (s t : ReplicaState) (change : ChangeValue) (known starts seen : List N
     ],
     λ h. elim h [ inl at ↦ known-after n at | inr there ↦ seen-after n ((are n).0 there).0 ],
   )
+
+-- where no walk begins nothing is met
+pub after-unmet : (s t : ReplicaState) (change : ChangeValue) (known : List Node)
+    → Follows (content_of s) (content_of t) change t.markers
+    → ((n : Node) → Contains known n ↔ IsAfterPublic (content_of s) n)
+    → ((n : Node) → ¬ (IsStart (content_of t) change t.markers known n)) → (n : Node)
+    → IsAfterPublic (content_of t) n ↔ (Contains known n ⊎ Contains [] n)
+after-unmet s t change known follows exact no-start = after-met s t change known [] [] follows exact
+    (λ n. (λ h. absurd (Contains-none n h), λ h. absurd (no-start n h)))
+    (nothing-reached (IsRewrittenBeyond known t.markers)) [] (λ n. (λ h. absurd (Contains-none n h), λ h. h.0))

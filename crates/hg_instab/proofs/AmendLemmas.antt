@@ -1,28 +1,20 @@
 -- A plain amend near forks turns two ids: what came of several successors sets is as it was, with the new changeset in
 -- the place of the old one.
-use Rattle.std.proofs.Common.{◌≡◌, ◌≢◌, ◌⊎◌, ◌↔◌, ◌∷◌, ◌++◌, [], ℕ, List, length, Contains, slice_get, Some}
+use Rattle.std.proofs.Common.{◌≡◌, ◌≢◌, ◌⊎◌, ◌↔◌, ◌∷◌, [], ℕ, List, length, Contains, slice_get, Some}
 use Rattle.std.proofs.Common.{inl, inr, refl, sym, ap, subst, ◌∙◌, arith}
-use Rattle.std.proofs.lemmas.List.{map-append}
-use Rattle.std.proofs.lemmas.List.Elements.{Contains-append_right}
-use Rattle.std.proofs.lemmas.Option.{none-some, same_Some, slice_get_within}
+use Rattle.std.proofs.lemmas.Option.{none-some, same_Some}
 use Rattle.hg_changeset.specs.declared.node.Node.{Node}
-use Rattle.hg_changeset.specs.Changeset.{node_of}
 use Rattle.hg_changeset.proofs.NodeLemmas.{node_cases}
-use Rattle.hg_changeset.proofs.ListLemmas.{Contains-first, Contains-none, Contains-one, place_from_Contains}
-use Rattle.hg_changeset.proofs.ListLemmas.{Contains-later, Contains-cons_cases, slice_get-append, slice_get-append_seam}
-use Rattle.hg_graph.specs.Graph.{nodes}
-use Rattle.hg_graph.proofs.PlaceLemmas.{same_place}
-use Rattle.hg_phases.specs.State.{changesets}
+use Rattle.hg_changeset.proofs.ListLemmas.{Contains-first, Contains-none, Contains-one}
+use Rattle.hg_changeset.proofs.ListLemmas.{Contains-later, Contains-cons_cases}
 use Rattle.hg_marker.specs.Fields.{Fields}
 use Rattle.hg_obsstore.specs.Markers.{IsAt, ArePlaces}
 use Rattle.hg_history.specs.Content.{IsHeld}
-use Rattle.hg_history.proofs.ContentLemmas.{content-node, node_in_content}
 use Rattle.hg_replica.specs.Change.{ChangeValue}
 use Rattle.hg_replica.specs.Content.{Content, content_of}
 use Rattle.hg_replica.specs.State.{ReplicaState, IsValid}
 use Rattle.hg_replica.specs.Evolution.{IsMarker, IsPredecessor, IsObsolete, IsCurrent, Precedes}
 use Rattle.hg_replica.specs.Evolution.Precedes.{step, further}
-use Rattle.hg_replica.proofs.MarkerLemmas.{in_from_holds}
 use Rattle.hg_succ.specs.Renamed.{IsAmended}
 use Rattle.hg_succ.specs.Successors.{IsAny}
 use Rattle.hg_succ.proofs.RenamedLemmas.{amend_few, amend_several}
@@ -31,6 +23,8 @@ use Rattle.hg_instab.specs.Amend.{IsPlainAmend}
 use Rattle.hg_instab.specs.Changed.{IsFresh, IsMoved, IsChangedTo, Follows}
 use Rattle.hg_instab.specs.Instabilities.{IsContentDivergent}
 use Rattle.hg_instab.specs.Near.{IsAfterSeveral, IsForked, IsNamed, AreNearForks}
+use Rattle.hg_instab.specs.Walk.{IsFork}
+use Rattle.hg_instab.proofs.AddedLemmas as single
 use Rattle.hg_instab.proofs.ChangedLemmas.{current-untouched}
 use Rattle.hg_instab.proofs.KeptLemmas.{changed-follows}
 use Rattle.hg_instab.proofs.PrecedeLemmas.{precedes-along}
@@ -192,34 +186,16 @@ module _ (s t : ReplicaState) (change : ChangeValue) (near : List Node) (amend :
   follows : Follows Before After change t.markers
   follows = changed-follows s t change v is
 
-  fresh-place : Contains change.markers place
-  fresh-place = subst (λ (ps : List ℕ). Contains ps place) (sym plain.0.only.1) (Contains-first place [])
-
   fresh-is : (m : Fields) → IsFresh t.markers change m → m ≡ Fresh
-  fresh-is m at =
-      let same = Contains-one place at.0 (subst (λ (ps : List ℕ). Contains ps at.0) plain.0.only.1 at.1) in
-      same_Some m Fresh (sym at.2 ∙ ap (slice_get t.markers) (sym same) ∙ plain.0.only.2)
-
-  -- a marker of before stands at another place
-  old-place : (m : Fields) → IsMarker Before m
-      → (i : ℕ) × (i ≢ place) × (slice_get t.markers i ≡ Some m)
-  old-place m held =
-      let k = place_from_Contains s.markers m (in_from_holds s.markers m held) in
-      let before = slice_get_within s.markers k.0 m k.1 in
-      let beyond = ((is.told.markers.places.exact place).0 fresh-place).0 in (
-        k.0,
-        (λ e. omega (arith, e, before, beyond)),
-        ap (λ ms. slice_get ms k.0) is.told.markers.first.1
-            ∙ slice_get-append s.markers is.told.markers.first.0 k.0 m k.1,
-      )
+  fresh-is = single.fresh-is s t change v is Fresh plain.0.only
 
   fresh-stands : IsAt (λ m. m.predecessor ≡ amend.from) t.markers place
   fresh-stands = (Fresh, plain.0.only.2, plain.0.predecessor)
 
   not_rewritten : ¬ (IsPredecessor Before amend.from)
-  not_rewritten h =
-      let k = old-place h.0 h.1 in
-      plain.1.once (k.0, place, k.1, (h.0, k.2, h.2), fresh-stands)
+  not_rewritten = subst (λ n. ¬ (IsPredecessor Before n)) plain.0.predecessor
+      (single.not_rewritten-before s t change v is Fresh plain.0.only
+      (subst (λ n. ¬ (IsFork t.markers n)) (sym plain.0.predecessor) plain.1.once))
 
   new-stands : IsAt (λ m. Contains m.successors amend.to) t.markers place
   new-stands = (
@@ -229,40 +205,21 @@ module _ (s t : ReplicaState) (change : ChangeValue) (near : List Node) (amend :
   )
 
   not_known : (m : Fields) → IsMarker Before m → (m.predecessor ≢ amend.to) × ¬ (Contains m.successors amend.to)
-  not_known m held = let k = old-place m held in (
+  not_known m held = let k = single.old-place s t change v is Fresh plain.0.only m held in (
     (λ e. plain.1.named.last k.0 (m, k.2, e)),
     (λ at. k.1 (plain.1.named.once k.0 place (m, k.2, at) new-stands)),
   )
 
-  -- the new changeset stands last
-  order : nodes (changesets t.history) ≡ nodes (changesets s.history) ++ amend.to ∷ []
-  order = ap (λ cs. nodes cs) is.told.history.order
-      ∙ map-append node_of (changesets s.history) is.told.history.new
-      ∙ ap (λ ns. nodes (changesets s.history) ++ ns) (sym is.told.history.added ∙ plain.0.added.0)
-
-  held : IsHeld After.0 amend.to
-  held = content-node t.history v.graph amend.to (subst (λ (ns : List Node). Contains ns amend.to) (sym order)
-      (Contains-append_right (nodes (changesets s.history)) (amend.to ∷ []) amend.to (Contains-first amend.to [])))
-
-  not_held : ¬ (IsHeld Before.0 amend.to)
-  not_held h =
-      let olds = nodes (changesets s.history) in
-      let k = place_from_Contains olds amend.to (node_in_content s.history is.valid.graph amend.to h) in
-      let within = slice_get_within olds k.0 amend.to k.1 in
-      let there = subst (λ (ns : List Node). slice_get ns k.0 ≡ Some amend.to) (sym order)
-      (slice_get-append olds (amend.to ∷ []) k.0 amend.to k.1) in
-      let last = subst (λ (ns : List Node). slice_get ns (length olds) ≡ Some amend.to) (sym order)
-      (slice_get-append_seam olds amend.to []) in
-      let same = same_place (nodes (changesets t.history)) amend.to k.0 (length olds) v.graph.distinct there last in
-      omega (arith, same, within)
-
-  added-is : (n : Node) → Contains change.added n → n ≡ amend.to
-  added-is n at = sym (Contains-one amend.to n (subst (λ (ns : List Node). Contains ns n) plain.0.added.0 at))
+  new-in : Contains change.added amend.to
+  new-in = single.added-in s t change v is amend.to plain.0.added
 
   others : (n : Node) → n ≢ amend.to → IsHeld Before.0 n ↔ IsHeld After.0 n
   others n other = (
     λ h. let there = follows.above n h.0 h.1 in (there.0, there.1),
-    λ h. elim (follows.held n h) [ inl old ↦ old | inr added ↦ absurd (other (added-is n added)) ],
+    λ h. elim (follows.held n h) [
+      | inl old ↦ old
+      | inr new ↦ absurd (other (single.added-is s t change v is amend.to plain.0.added n new))
+    ],
   )
 
   old-other : amend.from ≢ amend.to
@@ -272,9 +229,9 @@ module _ (s t : ReplicaState) (change : ChangeValue) (near : List Node) (amend :
   amended = record {
     held_before = (others amend.from old-other).1 (plain.1.obsolete.0.0, plain.1.obsolete.0.1);
     not_rewritten = not_rewritten;
-    not_held = not_held;
+    not_held = single.not_held-before s t change v is amend.to new-in;
     not_known = not_known;
-    held = held;
+    held = single.held-now s t change v is amend.to new-in;
     others = others;
     predecessor = plain.0.predecessor;
     successors = plain.0.successors;
@@ -282,14 +239,14 @@ module _ (s t : ReplicaState) (change : ChangeValue) (near : List Node) (amend :
       λ h. elim ((follows.markers m).0 h) [ inl old ↦ inl old | inr fresh ↦ inr (fresh-is m fresh) ],
       λ h. (follows.markers m).1 (elim h [
         | inl old ↦ inl old
-        | inr same ↦ inr (subst (IsFresh t.markers change) (sym same) (place, fresh-place, plain.0.only.2))
+        | inr same ↦ inr (subst (IsFresh t.markers change) (sym same)
+            (single.is-fresh s t change v is Fresh plain.0.only))
       ]),
     );
   }
 
   not_moved : (n : Node) → n ≢ amend.to → ¬ (IsMoved change n)
-  not_moved n other (inl added) = other (added-is n added)
-  not_moved n other (inr low) = Contains-none n (subst (λ (ns : List Node). Contains ns n) plain.0.added.1 low)
+  not_moved = single.not_moved s t change v is amend.to plain.0.added
 
   -- what was amended was current
   was-current : IsCurrent Before amend.from

@@ -23,4 +23,6 @@ pub mod SettlingLemmas
 pub mod SolutionLemmas
 pub mod RegionLemmas
 pub mod AfterPublicLemmas
+mod AddedLemmas
 pub mod AmendLemmas
+mod GlanceLemmas

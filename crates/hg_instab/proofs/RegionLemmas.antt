@@ -28,7 +28,7 @@ use Rattle.hg_instab.specs.Walk.{IsReached, IsNext, IsStep, IsFork, IsOfOneAt, A
 use Rattle.hg_instab.proofs.AmongLemmas.{IsAlso}
 use Rattle.hg_instab.proofs.NearLemmas.{so-forward, so-backward}
 use Rattle.hg_instab.proofs.PrecedeLemmas.{precedes-predecessor, reached-current}
-use Rattle.hg_instab.proofs.WalkLemmas.{reached-next, adds-then, adds-same}
+use Rattle.hg_instab.proofs.WalkLemmas.{reached-next, nothing-reached, adds-then, adds-same}
 
 -- ---- what was near
 
@@ -145,11 +145,8 @@ starts-are ms change near xs ys starts none a b n = (
 -- what begins nowhere is empty
 pub no-region : (s : ReplicaState) (change : ChangeValue) (near starts : List Node) → starts ≡ []
     → AreStarts s.markers change near starts → IsRegion (content_of s) change s.markers near []
-no-region s change near starts none are = is-region s [] []
-    (λ n. (
-      λ h. absurd (Contains-none n h),
-      λ h. elim h [ inl first ↦ absurd (Contains-none n first) | inr far ↦ absurd (Contains-none far.0 far.1) ],
-    )) change near (subst (AreStarts s.markers change near) none are)
+no-region s change near starts none are = is-region s [] [] (nothing-reached (IsStep Both s.markers)) change near
+    (subst (AreStarts s.markers change near) none are)
 
 -- ---- what has several successors sets is the predecessor of a marker
 

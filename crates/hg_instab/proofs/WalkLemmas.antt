@@ -252,3 +252,10 @@ module _ (way : Way) (ms : List Fields) (starts : List Node) where
       λ h. w.sound n h,
       λ h. elim h [ inl first ↦ w.begun n first | inr far ↦ complete far.0 n far.1 far.2 ],
     )
+
+-- steps from nowhere lead to nothing
+pub nothing-reached : (Step : Node → Node → Type 0) (n : Node) → Contains [] n ↔ IsReached Step [] n
+nothing-reached Step n = (
+  λ h. absurd (Contains-none n h),
+  λ h. elim h [ inl first ↦ absurd (Contains-none n first) | inr far ↦ absurd (Contains-none far.0 far.1) ],
+)

@@ -19,6 +19,14 @@ pub record IsApart (sets : InstabilitySets) (n : Node) : Type 0 where
   pub after_public : ¬ (Contains sets.after_public n)
   pub content_divergent : ¬ (Contains sets.content_divergent n)
 
+-- each of its parents is neither obsolete nor an orphan
+abbrev pub StandsFirmly : Content → List Node → Node → Type 0
+StandsFirmly g orphan n = (p : Node) → IsParentOf g p n → ¬ (IsObsolete g p ⊎ Contains orphan p)
+
+-- it isn't public, and nothing stands on it
+abbrev pub IsLone : Content → Node → Type 0
+IsLone g n = IsMutable g n × ((c : Node) → ¬ (IsParentOf g n c))
+
 -- these are the nodes that are obsolete, and weren't extinct
 abbrev pub AreRetired : Content → List Node → List Node → List Node → Type 0
 AreRetired g extinct nodes retired = (n : Node)
@@ -43,7 +51,7 @@ AreStranded g sets retired nodes stranded = (n : Node)
 abbrev pub IsSettled : Content → InstabilitySets → List Node → List Node → Node → Type 0
 IsSettled g sets retired stranded n = HoldsNothing g (IsNow sets.extinct retired) n
     ⊎ ((¬ (IsNow sets.extinct retired n))
-    × (((p : Node) → IsParentOf g p n → ¬ (IsObsolete g p ⊎ Contains sets.orphan p)) ⊎ Contains stranded n))
+    × (StandsFirmly g sets.orphan n ⊎ Contains stranded n))
 
 -- where these are retired, and these are stranded, it is apart from what is unstable, and settled
 pub record IsCalm (g : Content) (sets : InstabilitySets) (retired stranded : List Node) (n : Node) : Type 0 where

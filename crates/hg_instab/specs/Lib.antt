@@ -4,6 +4,7 @@ pub mod Calm
 pub mod Changed
 pub mod Few
 pub mod FewKeys
+pub mod Glance
 pub mod Instabilities
 pub mod Local
 pub mod Near

@@ -43,6 +43,10 @@ pub(crate) fn newly_after_public(
     ensures apart { IfOk result (λ met. (n : Node) → Contains met.keys n → ¬ (Contains after_public.now.keys n)) }
 {
     let starts = starts(alloc, replica, change, after_public)?;
+    if starts.len() == 0 {
+        // So it is with most changes, and no further set is made.
+        return Ok(starts);
+    }
     let seen = reached_beyond(replica.store(), after_public, starts)?;
     unknown(alloc, seen.as_slice(), after_public)
 }

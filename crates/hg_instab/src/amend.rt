@@ -85,7 +85,7 @@ fn rewrite_to(store: &Store, change: &Change, to: Node) -> Option<Amend>
 }
 
 // The new marker, where it is the only one.
-fn only_fresh<'a>(store: &'a Store, change: &Change) -> Option<&'a Marker>
+pub(crate) fn only_fresh<'a>(store: &'a Store, change: &Change) -> Option<&'a Marker>
     ensures { IfSome result (λ marker. IsOnlyFresh store.now change.now marker.now) }
 {
     if change.markers.len() != 1 {

@@ -11,8 +11,8 @@ ghost use Rattle.hg_graph.specs.Places.{IsAt};
 ghost use Rattle.hg_phases.specs.State.{changesets};
 ghost use Rattle.hg_history.specs.Content.{IsHeld};
 ghost use Rattle.hg_replica.specs.Content.{content_of};
-ghost use Rattle.hg_replica.specs.Evolution.{IsMutable, IsObsolete};
-ghost use Rattle.hg_instab.specs.Calm.{IsApart, IsSettled, IsCalm, AreRetired};
+ghost use Rattle.hg_replica.specs.Evolution.{IsObsolete};
+ghost use Rattle.hg_instab.specs.Calm.{IsApart, IsLone, StandsFirmly, IsSettled, IsCalm, AreRetired};
 ghost use Rattle.hg_instab.specs.Calm.{IsStranded, AreStranded, AreCalmTurns, IsCalmTurning};
 ghost use Rattle.hg_instab.specs.Changed.{IsNow};
 ghost use Rattle.hg_instab.specs.Local.{IsParentOf};
@@ -117,10 +117,9 @@ fn is_stranded_at(
 }
 
 // Whether it isn't public, and nothing stands on it.
-fn is_lone(replica: &Replica, place: usize, node: Node) -> bool
+pub(crate) fn is_lone(replica: &Replica, place: usize, node: Node) -> bool
     requires { IsAt (changesets replica.now.history) node place }
-    ensures { IsTrue result → IsMutable (content_of replica.now) node
-        × ((c : Node) → ¬ (IsParentOf (content_of replica.now) node c)) }
+    ensures { IsTrue result → IsLone (content_of replica.now) node }
 {
     replica.graph().children(place).is_empty() && !has_phase_at(replica, place, Phase::Public)
 }
@@ -219,7 +218,7 @@ fn is_calm_at(
 }
 
 // Whether it is in none of the sets of what is unstable or suspended, nor after something public.
-fn is_apart(sets: &Instabilities, node: Node) -> bool
+pub(crate) fn is_apart(sets: &Instabilities, node: Node) -> bool
     ensures { IsTrue result → IsApart sets.now node }
 {
     is_missing(sets.orphan(), node)
@@ -245,11 +244,21 @@ fn is_settled(
     if has_now(sets.extinct(), retired, node) {
         return is_extinct_now(replica, sets.extinct(), holders, retired, place, node);
     }
-    if stranded.contains(node) {
-        return true;
-    }
+    stranded.contains(node) || stands_firmly(replica, sets.orphan(), place, node)
+}
+
+// Whether no parent is obsolete, or was an orphan.
+pub(crate) fn stands_firmly(
+    replica: &Replica,
+    orphan: &BTreeSet<Node>,
+    place: usize,
+    node: Node,
+) -> bool
+    requires { IsAt (changesets replica.now.history) node place }
+    ensures { IsTrue result → StandsFirmly (content_of replica.now) orphan.now.keys node }
+{
     let none = Few::new();
-    !stands_on_unstable(replica, sets.orphan(), &none, place, node)
+    !stands_on_unstable(replica, orphan, &none, place, node)
 }
 
 // What turns where each of the nodes that a change touched is calm. Mostly that is nothing, or one node is retired.

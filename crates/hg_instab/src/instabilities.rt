@@ -9,6 +9,7 @@ ghost use Rattle.hg_instab.specs.Turns.{AreTurns, AreStages, HaveCome, AreThen, 
 use crate::among::{current_among, obsolete_nodes, outside, set_of};
 use crate::divergence::divergent_within;
 use crate::first::{after_public_ids, near_fork_ids};
+use crate::glance::{Glance, at_a_glance};
 use crate::holders::Holders;
 use crate::orphans::{orphan_nodes, suspended_nodes};
 use crate::turn::{put, take_back};
@@ -130,6 +131,19 @@ impl Instabilities {
             // Nothing is unstable, and nothing was.
             return Ok(());
         }
+        match at_a_glance(self, replica, change) {
+            Glance::Nothing => Ok(()),
+            Glance::Retired(node) => self.retire(node),
+            Glance::Unknown => self.turn(replica, change),
+        }
+    }
+
+    // The same where a glance doesn't tell what turns.
+    fn turn(&mut self, replica: &Replica, change: &Change) -> Result<(), AllocError>
+        ensures kept { OnOk result ((s : ReplicaState) → IsChangedTo s change.now replica.now
+            → AreInstabilities (content_of s) self.old → AreInstabilities (content_of replica.now) self.new) }
+        ensures unchanged { OnErr result (self.new ≡ self.old) }
+    {
         match self.turning(replica, change)? {
             Turning::Nothing => Ok(()),
             Turning::Retired(node) => self.retire(node),

@@ -30,6 +30,7 @@ mod divergence;
 mod extinct_walk;
 mod few;
 mod first;
+mod glance;
 mod holders;
 mod instabilities;
 mod laws;

@@ -98,7 +98,7 @@ fn is_touched(store: &Store, marker: &Marker, near: &BTreeSet<Node>) -> bool
     is_fork(store, marker.predecessor()) || names_near(marker, near)
 }
 
-fn names_near(marker: &Marker, near: &BTreeSet<Node>) -> bool
+pub(crate) fn names_near(marker: &Marker, near: &BTreeSet<Node>) -> bool
     ensures { IsTrue result ↔ IsOneNear (IsNamed marker.now) near.now.keys }
 {
     is_near(marker.predecessor(), near) || is_one_near(marker.successors(), near)

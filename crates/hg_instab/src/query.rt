@@ -91,7 +91,7 @@ fn is_predecessor(replica: &Replica, node: Node) -> bool
 }
 
 // The same, and sooner where the hint is of this node.
-fn is_predecessor_near(replica: &Replica, node: Node, hint: Hint) -> bool
+pub(crate) fn is_predecessor_near(replica: &Replica, node: Node, hint: Hint) -> bool
     ensures { IsTrue result ↔ IsPredecessor (content_of replica.now) node }
 {
     let mentions = replica.store().mentions_near(node, hint);
