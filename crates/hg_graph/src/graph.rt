@@ -167,6 +167,7 @@ impl Graph {
     }
 
     /// Adds a changeset whose parents are held.
+    #[inline(always)]
     pub fn add(&mut self, changeset: Changeset) -> Result<Added, GraphError>
         ensures answer { AddAnswer self.old changeset result self.new }
         ensures memory { IsErrOf result GraphError.NoMemory → IsNew self.old changeset }
@@ -197,6 +198,7 @@ impl Graph {
     }
 
     // Where the parents of a new changeset stand; nothing for a known one.
+    #[inline(always)]
     fn look_up(&self, changeset: &Changeset) -> Result<Option<ParentPlaces>, GraphError>
         ensures { LookUpAnswer self.now changeset.now result }
     {
@@ -213,6 +215,7 @@ impl Graph {
     }
 
     // Where the parents stand, or the first, in normal form, that isn't held.
+    #[inline(always)]
     fn places_of_parents(&self, changeset: &Changeset) -> Result<ParentPlaces, Node>
         ensures held { IfOk result
             (λ places. HoldsParents self.now changeset.now × ArePlacesOf self.now changeset.now places) }
@@ -237,6 +240,7 @@ impl Graph {
     }
 
     // Puts a new changeset last.
+    #[inline(always)]
     fn push(&mut self, changeset: Changeset, parents: ParentPlaces) -> Result<(), AllocError>
         requires new { IsNew self.old changeset }
         requires places { ArePlacesOf self.old changeset parents }
@@ -246,7 +250,7 @@ impl Graph {
         let node = changeset.node();
         self.changesets.reserve(1)?;
         self.links.push(parents)?;
-        match self.ids.insert(node) {
+        match self.ids.append(node) {
             Ok(_) => {
                 self.changesets.push(changeset)?;
                 Ok(())

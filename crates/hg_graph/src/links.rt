@@ -78,6 +78,7 @@ impl Links {
     }
 
     /// One changeset more, by where its parents stand.
+    #[inline(always)]
     pub fn push(&mut self, parents: ParentPlaces) -> Result<(), AllocError>
         requires { IsLinkable (length self.old) parents }
         ensures pushed { OnOk result (self.new ≡ self.old ++ parents ∷ []) }
@@ -115,6 +116,7 @@ impl Links {
 }
 
 // Puts a child last for its parents.
+#[inline(always)]
 fn add_child(
     children: &mut Vec<Children>,
     parents: ParentPlaces,

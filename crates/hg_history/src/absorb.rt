@@ -62,6 +62,7 @@ pub(crate) fn absorb_or_undo(
 }
 
 /// Takes the part in, whose changesets are moved, and gives out what takes it back, or leaves everything as it was.
+#[inline(always)]
 pub(crate) fn absorb_owned_or_undo(
     graph: &mut Graph,
     kept: &mut PhaseRoots,
@@ -91,6 +92,7 @@ pub(crate) fn absorb_owned_or_undo(
 
 // Takes the bounds in, where all changesets were added, and gives out what takes it all back; or takes it back at once.
 // Before them there were `before` changesets, whose roots are kept.
+#[inline(always)]
 fn take_bounds_or_undo(
     graph: &mut Graph,
     kept: &mut PhaseRoots,
@@ -140,6 +142,7 @@ fn take_bounds_or_undo(
 
 // Takes the bounds in, logs what goes down, and updates the roots. After a fault what was done can be taken back, and
 // the roots are those of before.
+#[inline(always)]
 fn take_bounds_and_update(
     graph: &Graph,
     kept: &mut PhaseRoots,
@@ -204,6 +207,7 @@ pub(crate) fn take_back(
 
 // Takes the bounds in, where all changesets were added, and logs what goes down. After a fault what was done can be
 // taken back.
+#[inline(always)]
 fn take_bounds_logged(
     graph: &Graph,
     phases: &mut PhaseMap,
@@ -270,6 +274,7 @@ fn add_changesets(
 }
 
 // Moves in the changesets that aren't held. After a fault those before the one at fault were added.
+#[inline(always)]
 fn add_owned_changesets(
     graph: &mut Graph,
     phases: &mut PhaseMap,
@@ -305,6 +310,7 @@ pub(crate) fn add_one(
 }
 
 // Moves the changeset in, as secret, unless it is held.
+#[inline(always)]
 fn add_owned(graph: &mut Graph, phases: &mut PhaseMap, changeset: Changeset) -> Result<Added, Fault>
     requires { length (phases_at graph.old phases.old) ≡ length graph.old }
     ensures { OneAdded graph.old (phases_at graph.old phases.old) changeset result graph.new
@@ -316,6 +322,7 @@ fn add_owned(graph: &mut Graph, phases: &mut PhaseMap, changeset: Changeset) -> 
 }
 
 // Makes the changeset secret that the graph has just added, and tells what it answered.
+#[inline(always)]
 fn admit_added(
     graph: &mut Graph,
     phases: &mut PhaseMap,
@@ -360,6 +367,7 @@ fn admit_or_remove(graph: &mut Graph, phases: &mut PhaseMap, node: Node) -> Resu
 }
 
 // The nodes of the changesets from a place on.
+#[inline(always)]
 fn nodes_from(graph: &Graph, from: usize, alloc: Global) -> Result<Vec<Node>, AllocError>
     requires { from ≤ length graph.now }
     ensures nodes { IfOk result (λ found. found.items ≡ drop from (nodes graph.now)) }
@@ -431,6 +439,7 @@ fn lower_to(
 }
 
 /// Lowers the ancestors of the bound, if it is of this phase.
+#[inline(always)]
 pub(crate) fn lower_bound(
     graph: &Graph,
     phases: &mut PhaseMap,

@@ -189,6 +189,7 @@ impl History {
 
     /// Takes in changesets and bounds on phases as [`absorb_owned`](History::absorb_owned) does, and gives out what
     /// takes them back.
+    #[inline(always)]
     pub fn absorb_owned_with_undo(
         &mut self,
         changesets: Vec<Changeset>,

@@ -145,6 +145,20 @@ impl NodeSet {
         }
     }
 
+    /// Puts an id last that isn't there, and tells its number: what [`insert_full`](NodeSet::insert_full) does of such
+    /// an id, without a look whether it is there. Where memory is refused nothing changes.
+    pub fn append(&mut self, node: Node) -> Result<usize, AllocError>
+        requires { list_any (node_eq node) self.old.keys ≡ false }
+        ensures keys { OnOk result (self.new.keys ≡ self.old.keys ++ node ∷ []) }
+        ensures number { IfOk result (λ number. number ≡ length self.old.keys) }
+        ensures err { OnErr result (self.new ≡ self.old) }
+    {
+        let number = self.nodes.len();
+        self.make_slots()?;
+        self.push(node)?;
+        Ok(number)
+    }
+
     /// Forgets the ids from a number on. It costs what is forgotten.
     pub fn truncate(&mut self, len: usize)
         ensures { self.new.keys ≡ take len self.old.keys }
@@ -167,19 +181,6 @@ impl NodeSet {
         let more = count.saturating_mul(8);
         self.slots = Slots::of(self.alloc, &self.nodes, more)?;
         Ok(())
-    }
-
-    // Puts a new id last, and tells its number.
-    fn append(&mut self, node: Node) -> Result<usize, AllocError>
-        requires { list_any (node_eq node) self.old.keys ≡ false }
-        ensures keys { OnOk result (self.new.keys ≡ self.old.keys ++ node ∷ []) }
-        ensures number { IfOk result (λ number. number ≡ length self.old.keys) }
-        ensures err { OnErr result (self.new ≡ self.old) }
-    {
-        let number = self.nodes.len();
-        self.make_slots()?;
-        self.push(node)?;
-        Ok(number)
     }
 
     // Puts a new id last, where there is a slot for it.

@@ -285,6 +285,7 @@ impl Store {
 
     /// Moves in the markers that aren't held, each once, in their order, and tells their places, ascending. The others
     /// are dropped.
+    #[inline(always)]
     pub fn absorb_owned(&mut self, part: Vec<Marker>) -> Result<Vec<usize>, NoMemory>
         ensures ok { OnOk result (self.new ≡ united self.old part.items) }
         ensures places { IfOk result (λ places. AreNewPlaces self.old self.new places.items) }
@@ -331,6 +332,7 @@ impl Store {
     }
 
     // Keeps what was added from a place on or, where memory ran out, forgets it.
+    #[inline(always)]
     fn keep_or_undo<T: Drop>(
         &mut self,
         before: usize,
@@ -360,6 +362,7 @@ impl Store {
     }
 
     // Moves in the markers that aren't held, and tells their places. After an error some of them stay.
+    #[inline(always)]
     fn add_owned_and_tell(&mut self, part: Vec<Marker>) -> Result<Vec<usize>, NoMemory>
         ensures ok { OnOk result (self.new ≡ united self.old part.items) }
         ensures places { IfOk result (λ places. AreNewPlaces self.old self.new places.items) }
@@ -373,6 +376,7 @@ impl Store {
     }
 
     // The places from one on. No memory is taken where there is none.
+    #[inline(always)]
     fn places_from(&self, start: usize) -> Result<Vec<usize>, AllocError>
         ensures places { IfOk result (λ places. ListsAll (λ i. (start ≤ i) × (i < length self.now)) places.items) }
         ensures memory { OnErr result (start < length self.now) }
@@ -459,6 +463,7 @@ fn add_marker(
 }
 
 // The places from one on to before another. No memory is taken where there is none.
+#[inline(always)]
 fn places_between(alloc: Global, start: usize, end: usize) -> Result<Vec<usize>, AllocError>
     ensures places { IfOk result (λ places. ListsAll (λ i. (start ≤ i) × (i < end)) places.items) }
     ensures memory { OnErr result (start < end) }

@@ -74,6 +74,7 @@ impl LoweringLog {
 
     /// The nodes of what went down and stands before a place, in no promised order: those of the changesets before it
     /// whose phase is lower than when the log was begun. It takes no memory where there are none.
+    #[inline(always)]
     pub fn nodes_before(&self, graph: &Graph, before: usize) -> Result<Vec<Node>, AllocError>
         ensures lowered { IfOk result (λ found. (phase : Phase) (start now : List Phase) → IsGraph graph.now
             → IsLog phase start now self.now
@@ -91,6 +92,7 @@ impl LoweringLog {
 }
 
 // The nodes of the places in a log that stand before a place.
+#[inline(always)]
 fn nodes_of(
     graph: &Graph,
     log: &[LoweredPlace],

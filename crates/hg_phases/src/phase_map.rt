@@ -164,6 +164,7 @@ impl PhaseMap {
     /// lowerings of several calls are told and taken back together. Phases are lowered to in ascending order: then each
     /// changeset is logged once. A refusal may leave some of the phases low: the log takes back what was done. It comes
     /// only where the changeset's phase is higher; otherwise nothing changes.
+    #[inline(always)]
     pub fn lower_logged(
         &mut self,
         graph: &Graph,
@@ -217,6 +218,7 @@ impl PhaseMap {
     //
     // The log is the queue as well: what was logged has its parents still to be seen to. Where a phase is low enough
     // the walk stops, since the ancestors' phases are no higher.
+    #[inline(always)]
     fn lower_at(
         &mut self,
         graph: &Graph,
@@ -264,6 +266,7 @@ impl PhaseMap {
         }
     }
 
+    #[inline(always)]
     fn lower_one(
         &mut self,
         log: &mut LoweredPlaces,

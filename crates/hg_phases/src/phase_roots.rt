@@ -189,6 +189,7 @@ impl PhaseRoots {
     /// Moves the roots of the changesets before a place to where they are since the others were added and what was
     /// logged went down. A refusal leaves everything as it was, and comes only where something was added. It costs what
     /// was, and the children of what went down.
+    #[inline(always)]
     pub fn update(
         &mut self,
         graph: &Graph,

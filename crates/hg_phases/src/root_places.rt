@@ -21,6 +21,7 @@ use std::collections::BTreeSet;
 
 /// Moves the roots of the changesets before a place to where they are since the others were added and what was logged
 /// went down. A refusal leaves them as they were: it comes before any of them moves.
+#[inline(always)]
 pub(crate) fn update_roots(
     graph: &Graph,
     phases: &PhaseMap,
@@ -63,6 +64,7 @@ pub(crate) fn take_back_logged(
 }
 
 // Settles the places from one on.
+#[inline(always)]
 fn settle_added(graph: &Graph, phases: &PhaseMap, roots: &mut PlaceSet, before: usize)
     requires len { length phases.now ≡ length graph.now }
     requires seats { length roots.old ≡ length graph.now }
@@ -74,6 +76,7 @@ fn settle_added(graph: &Graph, phases: &PhaseMap, roots: &mut PlaceSet, before: 
 }
 
 // Settles the places of what was logged, and of the children of that.
+#[inline(always)]
 fn settle_logged(graph: &Graph, phases: &PhaseMap, roots: &mut PlaceSet, log: &[LoweredPlace])
     requires len { length phases.now ≡ length graph.now }
     requires seats { length roots.old ≡ length graph.now }
@@ -99,6 +102,7 @@ fn settle_family(graph: &Graph, phases: &PhaseMap, roots: &mut PlaceSet, place: 
 }
 
 // Makes the place one of the roots exactly where a root stands there.
+#[inline(always)]
 fn settle(graph: &Graph, phases: &PhaseMap, roots: &mut PlaceSet, place: usize)
     requires len { length phases.now ≡ length graph.now }
     requires seats { length roots.old ≡ length graph.now }

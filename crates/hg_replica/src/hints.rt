@@ -6,6 +6,7 @@ use hg_obsstore::{Hint, Store};
 
 /// Notes the hints that may have changed: of the changesets that the markers from a place on name, and of those that
 /// are new.
+#[inline(always)]
 pub(crate) fn note_hints(hints: &mut Vec<Hint>, graph: &Graph, store: &Store, before: usize) {
     if !hints.is_empty() {
         note_named(hints, graph, store, before);
@@ -14,6 +15,7 @@ pub(crate) fn note_hints(hints: &mut Vec<Hint>, graph: &Graph, store: &Store, be
 }
 
 /// Notes the hints of the changesets that have none yet.
+#[inline(always)]
 pub(crate) fn note_new(hints: &mut Vec<Hint>, graph: &Graph, store: &Store) {
     for place in hints.len()..graph.len() {
         let hint = match graph.node_at(place) {
@@ -27,10 +29,16 @@ pub(crate) fn note_new(hints: &mut Vec<Hint>, graph: &Graph, store: &Store) {
 }
 
 // Notes the hints of what the markers from a place on rewrite, and of what they make of it.
+#[inline(always)]
 fn note_named(hints: &mut Vec<Hint>, graph: &Graph, store: &Store, before: usize) {
     for place in before..store.len() {
         if let Some(marker) = store.get(place) {
-            note_each(hints, graph, store, &[marker.predecessor()]);
+            note_one(
+                hints,
+                graph,
+                marker.predecessor(),
+                store.predecessor_hint(place),
+            );
             note_each(hints, graph, store, marker.successors());
         }
     }
@@ -43,6 +51,15 @@ fn note_each(hints: &mut Vec<Hint>, graph: &Graph, store: &Store, nodes: &[Node]
             if place < hints.len() {
                 hints[place] = store.mentions(*node).hint();
             }
+        }
+    }
+}
+
+// Notes this hint of the node, if it has one.
+fn note_one(hints: &mut Vec<Hint>, graph: &Graph, node: Node, hint: Hint) {
+    if let Some(place) = graph.place(node) {
+        if place < hints.len() {
+            hints[place] = hint;
         }
     }
 }

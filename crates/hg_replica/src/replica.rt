@@ -208,6 +208,7 @@ impl Replica {
     }
 
     /// Takes in a part as [`absorb_owned`](Replica::absorb_owned) does, and gives out what takes that back.
+    #[inline(always)]
     pub fn absorb_owned_with_undo(&mut self, part: Part) -> Result<Absorbed, Fault>
         ensures answer { AbsorbAnswer self.old part (without_undo result) self.new }
         ensures back { IfOk result (λ absorbed. LeadsBack self.new absorbed.undo self.old) }
@@ -306,6 +307,7 @@ impl Replica {
 
 // Where the history was changed, tells of the markers too, and takes them back with it; where it refused, the store
 // forgets those from the place `before` on.
+#[inline(always)]
 fn keep_or_forget(
     store: &mut Store,
     before: usize,

@@ -534,6 +534,7 @@ fn are_free(names: &Labels, labels: &[&[u8]], are_distinct: bool, part: &Part) -
 }
 
 // Whether each label names nothing yet.
+#[inline(always)]
 fn are_unbound(names: &Labels, labels: &[&[u8]]) -> bool
     ensures { result ≡ list_all (λ w. is_none (labelled names.now w.now)) labels.now }
 {
@@ -580,6 +581,7 @@ fn label(names: &mut Labels, labels: &[&[u8]], answer: &PeerAnswer) -> Result<()
 }
 
 // Binds each label to the node at its place.
+#[inline(always)]
 fn bind_labels(names: &mut Labels, labels: &[&[u8]], nodes: &[Node]) -> Result<(), RunFault>
     ensures ok { OnOk result ((name : List ℕ)
         → labelled names.new name ≡ bound_to (labelled names.old) (map (λ w. w.now) labels.now) nodes.now name) }

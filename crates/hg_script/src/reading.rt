@@ -314,6 +314,7 @@ fn read_parents<'a>(words: &'a [&'a [u8]]) -> Result<Parents<'a>, LineFault>
 }
 
 // Whether a commit asks for a secret changeset.
+#[inline(always)]
 fn read_asked(word: &[u8]) -> Result<bool, LineFault>
     ensures { MatchResult result (λ is_secret. asked_word is_secret ≡ word.now)
         (λ fault. (fault ≡ BadPhase) × ¬ (Contains commit_form.phases word.now)) }
@@ -338,6 +339,7 @@ fn read_phase(word: &[u8]) -> Result<Phase, LineFault>
 }
 
 // All but the word at a place.
+#[inline(always)]
 fn check_names_but(words: &[&[u8]], place: usize) -> Result<(), LineFault>
     requires { place < length words.now }
     ensures { MatchResult result (λ _. AreNamesBut (Some place) words.now)

@@ -353,6 +353,7 @@ impl Kept {
 
 // Brings instabilities and heads up to date with what the replica absorbed, if that is anything. Where memory is
 // refused for that, the replica takes it back.
+#[inline(always)]
 fn keep_up(
     replica: &mut Replica,
     instabilities: &mut Instabilities,
@@ -384,6 +385,7 @@ fn keep_up(
 }
 
 // Brings instabilities and heads up to date with a change. Where memory is refused both are as they were.
+#[inline(always)]
 fn follow(
     replica: &Replica,
     instabilities: &mut Instabilities,

@@ -25,6 +25,7 @@ pub(crate) enum Among {
 
 /// Puts the changesets from a place on, and these nodes, among the tops, as far as they are looked at. Then takes their
 /// parents out.
+#[inline(always)]
 pub(crate) fn update_tops(
     replica: &Replica,
     among: Among,

@@ -65,6 +65,7 @@ impl Tops {
 
     /// Makes room for so many places, of which [`follow`](Tops::follow) then tells whether they are tops. It takes no
     /// memory where none come, and where memory is refused nothing changes.
+    #[inline(always)]
     pub(crate) fn grow(&mut self, bound: usize) -> Result<(), AllocError>
         requires long { AreLong self.old.len self.old }
         requires within { self.old.len ≤ bound }
@@ -103,6 +104,7 @@ impl Tops {
     /// Brings the tops up to date with a change, where they were those of the replica before it and room was made for
     /// what it added. The replica is handed in as it is after the change. It costs what was added and lowered, and
     /// takes no memory.
+    #[inline(always)]
     pub(crate) fn follow(&mut self, replica: &Replica, change: &Change)
         requires { AreLong (length (changesets replica.now.history)) self.old }
         ensures { (s : ReplicaState) (before : Tops) → IsChangedTo s change.now replica.now → AreTops s.history before

@@ -155,6 +155,7 @@ fn happen<S: Actor>(
 }
 
 /// Does the event. Before an offer there has to be room for its message.
+#[inline(always)]
 pub fn run_event<S: Actor>(
     alloc: Global,
     nodes: &mut [S],

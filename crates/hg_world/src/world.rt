@@ -90,6 +90,7 @@ impl<S: Actor> World<S> {
     ///
     /// Memory runs out here only before an offer, whose message wants a place in the pool; within an event it is that
     /// event's refusal.
+    #[inline(always)]
     pub fn run_one(
         &mut self,
         event: &Event<S::Op, S::Ask, S::Mark>,
