@@ -29,7 +29,9 @@ fn refused_growth_inserts_nothing_and_passes_again(rt: HostRuntime) {
     set.truncate(50);
     assert!(rt; set.len() == 50 && set.insert(id(7, 24)) == Ok(false));
     assert!(rt; !set.contains(id(7, 25)) && set.insert_full(id(7, 25)) == Ok((50, true)));
-    if !set.contains(id(7, 26)) {
-        assert!(rt; set.append(id(7, 26)) == Ok(51) && set.get_index_of(id(7, 26)) == Some(51));
+    let further = id(7, 26);
+    if set.contains(further) {
+        return;
     }
+    assert!(rt; set.append(further) == Ok(51) && set.get_index_of(further) == Some(51));
 }

@@ -82,6 +82,7 @@ pub(crate) fn check_known(replica: &Replica, op: &Op) -> Result<(), Refusal>
     }
 }
 
+#[inline(always)]
 fn check_held(replica: &Replica, nodes: &[Node]) -> Result<(), Refusal>
     ensures answer { Checked (map (unknown replica.now.history) nodes.now) result }
     ensures valid { IsValid replica.now }
@@ -96,6 +97,7 @@ fn check_held(replica: &Replica, nodes: &[Node]) -> Result<(), Refusal>
 }
 
 // Refuses a parent that is there and isn't held.
+#[inline(always)]
 fn check_parents_held(replica: &Replica, p: Node, q: Node) -> Result<(), Refusal>
     ensures { Checked (map (unknown_parent replica.now.history) (p ∷ q ∷ [])) result }
 {

@@ -14,6 +14,7 @@ use hg_view::{Kept, Pins, is_visible};
 use std::alloc::{AllocError, Global};
 
 // Whether it is held.
+#[inline(always)]
 pub(crate) fn holds(replica: &Replica, node: Node) -> bool
     ensures { IsTrue result ↔ Holds replica.now.history node }
 {
@@ -83,6 +84,7 @@ pub(crate) fn is_hidden(
 
 // Whether it is hidden under the pins that are kept, by what is kept: it takes no memory. What is hidden is extinct, so
 // that is asked first.
+#[inline(always)]
 pub(crate) fn is_hidden_in(kept: &Kept, node: Node) -> bool
     ensures { IsTrue result ↔ IsHiddenUnder (content_of kept.now.replica) kept.now.pins node }
 {

@@ -180,6 +180,7 @@ impl Fleet {
     }
 
     /// Does the command of the line with this number. It gives what the events of the command were answered.
+    #[inline(always)]
     pub(crate) fn execute<W: Write>(
         &mut self,
         number: usize,
