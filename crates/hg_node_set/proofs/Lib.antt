@@ -1,3 +1,4 @@
 pub mod KeyLemmas
 pub mod CallerLemmas
 mod SlotLemmas
+mod NumberLemmas

@@ -88,11 +88,6 @@ pub empty : (nodes : List Node) (first : List (Option ℕ)) (others : List (Node
     → others ≡ [] → AreFound nodes first others
 empty nodes first others a b c = rw (a, b, c) (free [] (λ i. refl))
 
--- the number at a slot that was read
-pub read_at : (first : List (Option ℕ)) (s : ℕ) (o : Option ℕ) → s < length first → o ≡ slice_index_or first s o
-    → first_at first s ≡ o
-read_at first s o within is = ap number_in (slice_get_read first (length first) s o refl within is)
-
 module _ (xs : List Node) (n : Node) (others more : List (Node × ℕ)) where
   -- what was found before an id came is found after it
   found_more : IsDistinct node_eq xs → list_any (node_eq n) xs ≡ false → (o : Option ℕ) (m : Node) (k : ℕ)

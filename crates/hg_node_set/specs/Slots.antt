@@ -1,6 +1,6 @@
 -- How ids are found: by slots, and by their order where several ids came to one slot.
 use Rattle.std.specs.Prelude.{◌≡◌, ◌≢◌, ◌⊎◌, ◌∷◌, ◌-◌, ◌<◌, [], ℕ, List, Option, None, Some, if◌then◌else◌, length}
-use Rattle.std.specs.Prelude.{Bool, bit_and, false, position, slice_get, slice_set}
+use Rattle.std.specs.Prelude.{Bool, bit_and, false, position, slice_get, slice_set, zero, suc}
 use Rattle.std.specs.List.{IsDistinct}
 use Rattle.std.specs.Int.{w32, from_be_bytes}
 use Rattle.std.specs.BTreeMap.{is_at}
@@ -11,6 +11,11 @@ use Rattle.hg_changeset.specs.Node.{node_cmp, node_eq}
 -- the slot of an id among so many
 unfoldable pub slot_of : Node → ℕ → ℕ
 slot_of node count = bit_and (from_be_bytes w32 node.0) (count - 1)
+
+-- the number that a count tells, which is one less
+abbrev pub numbered : ℕ → Option ℕ
+numbered zero = None
+numbered (suc number) = Some number
 
 -- the number at a slot
 abbrev pub number_in : Option (Option ℕ) → Option ℕ

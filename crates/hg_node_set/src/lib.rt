@@ -18,6 +18,7 @@
 //! ```
 #![tactic(auto)]
 
+mod numbers;
 mod set;
 mod slots;
 

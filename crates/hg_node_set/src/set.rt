@@ -44,7 +44,7 @@ impl Model for NodeSet {
 
     ghost view = { λ s. record { keys = s.nodes.items } };
 
-    ghost invariant = { λ s. AreFound s.nodes.items s.slots.first.items s.slots.others.entries };
+    ghost invariant = { λ s. AreFound s.nodes.items s.slots.first s.slots.others.entries };
 }
 
 impl NodeSet {
@@ -169,16 +169,16 @@ impl NodeSet {
         }
     }
 
-    // Makes more slots where half of them may be taken, or where ids are no longer few. They are four times as many
-    // each time, so that each id gets its slot again once or twice at most.
+    // Makes more slots where a quarter of them may be taken, or where ids are no longer few. They are four times as
+    // many each time, so that each id gets its slot again once or twice at most.
     fn make_slots(&mut self) -> Result<(), AllocError>
         ensures { self.new ≡ self.old }
     {
         let count = self.nodes.len();
-        if count < FEW || count < self.slots.first.len() / 2 {
+        if count < FEW || count < self.slots.first.len() / 4 {
             return Ok(());
         }
-        let more = count.saturating_mul(8);
+        let more = count.saturating_mul(16);
         self.slots = Slots::of(self.alloc, &self.nodes, more)?;
         Ok(())
     }

@@ -12,8 +12,8 @@ returns-in-Some-clause-index c =
 pub returns-clause-index : goal.returns-clause-index
 returns-clause-index c = let slots = c.self.inside.slots in
     c.find.ensures
-    ∙ ap (λ ns. found_from ns (first_at slots.first.items (slot_of c.args.node (length slots.first.items)))
+    ∙ ap (λ ns. found_from ns (first_at slots.first (slot_of c.args.node (length slots.first)))
     slots.others.entries c.args.node) c.deref-2.ensures.value
-    ∙ found_number c.self.inside.nodes.items slots.first.items slots.others.entries c.self.invariant
+    ∙ found_number c.self.inside.nodes.items slots.first slots.others.entries c.self.invariant
     (c.is_empty.ensures.some c.if-is_empty.false) c.args.node
     ∙ ap (λ (k : Keys). number_of k.keys c.args.node) c.self.view_is

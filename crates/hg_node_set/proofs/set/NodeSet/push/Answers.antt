@@ -14,9 +14,9 @@ invariant_of-self-then-is_empty c =
     let inside = c.self.inside in
     let new : list_any (node_eq c.args.node) inside.nodes.items ≡ false =
     ap (λ (k : Keys). list_any (node_eq c.args.node) k.keys) c.self.view_is ∙ c.requires in
-    subst (λ (ns : List Node). AreFound ns inside.slots.first.items inside.slots.others.entries)
+    subst (λ (ns : List Node). AreFound ns inside.slots.first inside.slots.others.entries)
     (sym c.in_ok-push.ensures.items)
-    (few inside.nodes.items (inside.nodes.items ++ c.args.node ∷ []) inside.slots.first.items
+    (few inside.nodes.items (inside.nodes.items ++ c.args.node ∷ []) inside.slots.first
     inside.slots.others.entries (c.is_empty.ensures.none c.if-is_empty.true) c.self.invariant
     (IsDistinct-push node_eq_laws inside.nodes.items c.args.node c.self.invariant.different new))
 
@@ -26,10 +26,10 @@ invariant_of-self-in-Ok c =
     let number : c.len-number.result ≡ length inside.nodes.items = search rules in
     let new : list_any (node_eq c.args.node) inside.nodes.items ≡ false =
     ap (λ (k : Keys). list_any (node_eq c.args.node) k.keys) c.self.view_is ∙ c.requires in
-    subst (λ (ns : List Node). AreFound ns c.add.new.self.first.items c.add.new.self.others.entries)
+    subst (λ (ns : List Node). AreFound ns c.add.new.self.first c.add.new.self.others.entries)
     (sym c.in_ok-push.ensures.items)
-    (added inside.nodes.items c.args.node inside.slots.first.items c.add.new.self.first.items
+    (added inside.nodes.items c.args.node inside.slots.first c.add.new.self.first
     inside.slots.others.entries c.add.new.self.others.entries c.self.invariant
     (c.is_empty.ensures.some c.if-is_empty.false) new
-    (subst (λ k. AddsNumber k c.args.node inside.slots.first.items c.add.new.self.first.items
+    (subst (λ k. AddsNumber k c.args.node inside.slots.first c.add.new.self.first
     inside.slots.others.entries c.add.new.self.others.entries) number c.in-Ok.ensures.ok))
