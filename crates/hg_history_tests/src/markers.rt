@@ -64,13 +64,13 @@ fn refused_growth_reads_copies_and_writes_the_same(rt: HostRuntime) {
 #[test]
 fn what_is_noted_of_an_operation_is_spelled(rt: HostRuntime) {
     let alloc = rt.alloc();
-    let noted = Metadata::of_operation(alloc, b"0 0", b"amend", b"bob").expect(&rt, "memory");
+    let noted = Metadata::of_operation(alloc, 0, 0, b"amend", b"bob").expect(&rt, "memory");
     let marker = Marker::to_one(OLD, NEW, 0, noted).expect(&rt, "a marker");
     let text = b"date:0 0\0operation:amend\0user:bob";
     let bytes = bytes_with(alloc, 1, text).expect(&rt, "memory");
     let written = encode(&marker).expect(&rt, "memory");
     assert!(rt; written.as_slice() == bytes.as_slice());
-    let noted = Metadata::of_operation(alloc, b"0 0", b"a\0d", b"bob").expect(&rt, "memory");
+    let noted = Metadata::of_operation(alloc, 0, 0, b"a\0d", b"bob").expect(&rt, "memory");
     assert!(rt; noted.get(b"operation") == Some(b"a\0d".as_slice()));
     assert!(rt;
         matches!(

@@ -101,6 +101,11 @@ in_order bytes colons sorted joined =
     sym (ap (λ (xs : List (List ℕ × List ℕ)). join_with_byte 0 (map piece xs)) listed
     ∙ ap (join_with_byte 0) (pieces_again (pieces bytes) colons) ∙ joined)
 
+-- entries that ascend are those of their map
+pub listed_so : (es : List (List ℕ × List ℕ)) → AreWrittenSo es
+    → entries (from_entries {R = bytes_cmp} (reverse es)) ≡ es
+listed_so es h = let sorted = sorted_all es h.ascent in ap entries (any_order es sorted) ∙ same_entries es sorted
+
 -- entries that ascend and can be written are the written spelling of their map, one behind the other
 pub laid : (es : List (List ℕ × List ℕ)) → AreWrittenSo es
     → (with_pieces [] es ≡ written (from_entries {R = bytes_cmp} (reverse es)))
@@ -108,8 +113,7 @@ pub laid : (es : List (List ℕ × List ℕ)) → AreWrittenSo es
 unfolding written
 laid es h =
     let m = from_entries {R = bytes_cmp} (reverse es) in
-    let sorted = sorted_all es h.ascent in
-    let listed : entries m ≡ es = ap entries (any_order es sorted) ∙ same_entries es sorted in (
+    let listed = listed_so es h in (
       pushed_joined [] es
           ∙ ap (λ (xs : List (List ℕ × List ℕ)). join_with_byte 0 (map piece xs)) (sym listed),
       writable_from m (ap has_bad_key listed ∙ h.keys) (ap has_bad_value listed ∙ h.values),

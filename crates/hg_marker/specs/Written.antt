@@ -1,8 +1,10 @@
 -- The one written spelling, as the form in which texts are kept.
 use Rattle.std.specs.Prelude.{◌≡◌, ℕ, ◌==◌, List, [], ◌∷◌, ◌++◌, length, Bool, true, false, ◌&&◌}
 use Rattle.std.specs.Prelude.{if◌then◌else◌, Option, Some, None}
-use Rattle.std.specs.FinMap.{put}
+use Rattle.std.specs.FinMap.{put, entries}
+use Rattle.std.specs.List.{list_any}
 use Rattle.std.specs.Ordering.{is_lt}
+use Rattle.hg_marker.specs.Parents.{is_parents_key}
 use Rattle.hg_marker.specs.Texts.{bytes_cmp}
 use Rattle.hg_marker.specs.Metadata.{piece, pieces, texts, written}
 use Rattle.hg_marker.specs.Making.{has_bad_key, has_bad_value, is_writable}
@@ -11,6 +13,12 @@ use Rattle.hg_marker.specs.Making.{has_bad_key, has_bad_value, is_writable}
 pub record IsWritten (bytes : List ℕ) : Type 0 where
   pub writable : is_writable (texts (pieces bytes)) ≡ true
   pub same : bytes ≡ written (texts (pieces bytes))
+
+-- and no key says something of parents, where that is known
+pub record IsKeptSo (bytes : List ℕ) (may_name_parents : Bool) : Type 0 where
+  pub written : IsWritten bytes
+  pub parents : may_name_parents ≡ false
+      → list_any (λ e. is_parents_key e.0) (entries (texts (pieces bytes))) ≡ false
 
 -- the key stands behind the last one
 abbrev pub is_behind : Option (List ℕ) → List ℕ → Bool

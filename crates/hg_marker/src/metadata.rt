@@ -6,6 +6,7 @@
 ghost use Rattle.std.specs.Prelude.{◌≡◌, ◌≤◌, ◌+◌, ◌++◌, ◌^◌, ◌-◌, OnOk, OnErr, IfOk, IfSome, IsOk, option_copied};
 ghost use Rattle.std.specs.Prelude.{length, min, true, map, reverse, vec_len, vec_capacity};
 ghost use Rattle.std.specs.FinMap as finite;
+ghost use Rattle.hg_changeset.specs.EntryText.{date_text};
 ghost use Rattle.hg_marker.specs.Metadata.{written, texts, pieces, has_colon};
 ghost use Rattle.hg_marker.specs.Texts.{entry_seen};
 ghost use Rattle.hg_marker.specs.Making.{has_bad_key, has_bad_value, is_writable};
@@ -16,6 +17,7 @@ use crate::entries::Entries;
 use crate::pieces::{is_written, read_texts};
 use crate::text_map::{TextMap, ends_key, has_nul};
 use crate::written::{WrittenTexts, are_written_so};
+use hg_changeset::push_date;
 use std::alloc::{AllocError, Global};
 use std::marker::Model;
 
@@ -101,8 +103,44 @@ impl Metadata {
     }
 
     /// What is noted of an operation: when it was done, at the key `date`, which one it was, at `operation`, and by
-    /// whom, at `user`. It is what [`from_entries`](Metadata::from_entries) gives of these three, for less.
+    /// whom, at `user`. The date is that of an entry's text: seconds since 1970 (UTC), and seconds west of UTC. It is
+    /// what [`from_entries`](Metadata::from_entries) gives of these three, for less.
     pub fn of_operation(
+        alloc: Global,
+        secs: i64,
+        offset: i32,
+        operation: &[u8],
+        user: &[u8],
+    ) -> Result<Metadata, AllocError>
+        ensures { IfOk result (λ all. all
+            ≡ finite.from_entries (reverse (operation_entries (date_text secs offset) operation.now user.now))) }
+    {
+        if has_nul(operation) || has_nul(user) {
+            return Metadata::of_unwritable(alloc, secs, offset, operation, user);
+        }
+        let texts = WrittenTexts::of_operation(alloc, secs, offset, operation, user)?;
+        Ok(Metadata {
+            form: Form::Written(texts),
+        })
+    }
+
+    // The same, where a text may hold a NUL.
+    fn of_unwritable(
+        alloc: Global,
+        secs: i64,
+        offset: i32,
+        operation: &[u8],
+        user: &[u8],
+    ) -> Result<Metadata, AllocError>
+        ensures { IfOk result (λ all. all
+            ≡ finite.from_entries (reverse (operation_entries (date_text secs offset) operation.now user.now))) }
+    {
+        let mut date = Vec::new(alloc);
+        push_date(&mut date, secs, offset)?;
+        Metadata::of_texts(alloc, &date, operation, user)
+    }
+
+    fn of_texts(
         alloc: Global,
         date: &[u8],
         operation: &[u8],
@@ -111,16 +149,10 @@ impl Metadata {
         ensures { IfOk result (λ all. all
             ≡ finite.from_entries (reverse (operation_entries date.now operation.now user.now))) }
     {
-        if has_nul(date) || has_nul(operation) || has_nul(user) {
-            return Metadata::from_entries(
-                alloc,
-                &[(b"date", date), (b"operation", operation), (b"user", user)],
-            );
-        }
-        let texts = WrittenTexts::of_operation(alloc, date, operation, user)?;
-        Ok(Metadata {
-            form: Form::Written(texts),
-        })
+        Metadata::from_entries(
+            alloc,
+            &[(b"date", date), (b"operation", operation), (b"user", user)],
+        )
     }
 
     /// The value of a key.

@@ -8,6 +8,7 @@ ghost use Rattle.std.specs.FinMap as finite;
 ghost use Rattle.std.specs.FinMap.{find, put};
 ghost use Rattle.hg_marker.specs.Texts.{bytes_cmp, entry_seen};
 ghost use Rattle.std.specs.List.{list_any, list_all};
+ghost use Rattle.hg_changeset.specs.EntryText.{date_text};
 ghost use Rattle.hg_marker.specs.Metadata.{written, texts, pieces, is_nul};
 ghost use Rattle.hg_marker.specs.Parents.{is_parents_key};
 ghost use Rattle.hg_marker.specs.Making.{has_bad_value, is_writable, ends_key};
@@ -16,17 +17,20 @@ ghost use Rattle.hg_marker.specs.Written.{AreWrittenSo, IsWritten, with_piece, w
 
 use crate::pieces::{Pieces, is_behind, name_parents, read_texts};
 use crate::text_map::{TextMap, ends_key, has_nul, write_piece};
+use hg_changeset::push_date;
 use std::alloc::{AllocError, Global};
 use std::cmp::Ordering;
 use std::marker::Model;
 
-// Bytes of the keys of an operation, with what joins them.
-const KEYS_ROOM: usize = 22;
+// Bytes of the keys of an operation, with what joins them, and of a date as it is now, of ten digits and an offset.
+const DATE_ROOM: usize = 38;
 
 // Texts that can be written, as they are written.
 #[derive(Drop, Debug)]
 pub(crate) struct WrittenTexts {
     bytes: Vec<u8>,
+    // Whether a key may say something of parents. What an operation notes is known to say nothing of them.
+    may_name_parents: bool,
 }
 
 impl Model for WrittenTexts {
@@ -35,7 +39,7 @@ impl Model for WrittenTexts {
     ghost use Rattle.std.specs.FinMap as map;
     ghost use Rattle.hg_marker.specs.Texts.{Texts};
     ghost use Rattle.hg_marker.specs.Metadata.{texts, pieces};
-    ghost use Rattle.hg_marker.specs.Written.{IsWritten};
+    ghost use Rattle.hg_marker.specs.Written.{IsKeptSo};
 
     ghost Value = { Texts };
 
@@ -43,7 +47,7 @@ impl Model for WrittenTexts {
 
     ghost view = { λ a. texts (pieces a.bytes.items) };
 
-    ghost invariant = { λ a. IsWritten a.bytes.items };
+    ghost invariant = { λ a. IsKeptSo a.bytes.items a.may_name_parents };
 }
 
 impl PartialEq for WrittenTexts {
@@ -65,8 +69,18 @@ impl WrittenTexts {
         ensures none { result ≡ finite.empty }
         ensures writable { is_writable result ≡ true }
     {
+        WrittenTexts::of(Vec::new(alloc))
+    }
+
+    // The texts that these bytes are the written spelling of.
+    fn of(bytes: Vec<u8>) -> WrittenTexts
+        requires { IsWritten bytes.items }
+        ensures texts { result ≡ texts (pieces bytes.items) }
+        ensures writable { is_writable result ≡ true }
+    {
         WrittenTexts {
-            bytes: Vec::new(alloc),
+            bytes,
+            may_name_parents: true,
         }
     }
 
@@ -77,7 +91,7 @@ impl WrittenTexts {
         ensures writable { is_writable (texts (pieces bytes.now)) ≡ true }
     {
         let bytes = Vec::from_slice(alloc, bytes)?;
-        Ok(WrittenTexts { bytes })
+        Ok(WrittenTexts::of(bytes))
     }
 
     // The texts of a map.
@@ -87,7 +101,7 @@ impl WrittenTexts {
     {
         let mut bytes = Vec::with_capacity(alloc, texts.written_len())?;
         texts.write_onto(&mut bytes)?;
-        Ok(WrittenTexts { bytes })
+        Ok(WrittenTexts::of(bytes))
     }
 
     // The texts of these entries.
@@ -103,31 +117,35 @@ impl WrittenTexts {
         for (key, value) in entries {
             push_entry(&mut bytes, *key, *value)?;
         }
-        Ok(WrittenTexts { bytes })
+        Ok(WrittenTexts::of(bytes))
     }
 
     // The texts at the three keys of an operation, of which none holds a NUL. Keys and what joins them are known.
     pub(crate) fn of_operation(
         alloc: Global,
-        date: &[u8],
+        secs: i64,
+        offset: i32,
         operation: &[u8],
         user: &[u8],
     ) -> Result<WrittenTexts, AllocError>
-        requires { has_bad_value (operation_entries date.now operation.now user.now) ≡ false }
+        requires operation { list_any is_nul operation.now ≡ false }
+        requires user { list_any is_nul user.now ≡ false }
         ensures texts { IfOk result (λ all. all
-            ≡ finite.from_entries (reverse (operation_entries date.now operation.now user.now))) }
+            ≡ finite.from_entries (reverse (operation_entries (date_text secs offset) operation.now user.now))) }
         ensures writable { IfOk result (λ all. is_writable all ≡ true) }
     {
-        let room = date.len().saturating_add(operation.len());
-        let room = room.saturating_add(user.len()).saturating_add(KEYS_ROOM);
-        let mut bytes = Vec::with_capacity(alloc, room)?;
+        let room = operation.len().saturating_add(user.len());
+        let mut bytes = Vec::with_capacity(alloc, room.saturating_add(DATE_ROOM))?;
         bytes.extend_from_slice(b"date:")?;
-        bytes.extend_from_slice(date)?;
+        push_date(&mut bytes, secs, offset)?;
         bytes.extend_from_slice(b"\0operation:")?;
         bytes.extend_from_slice(operation)?;
         bytes.extend_from_slice(b"\0user:")?;
         bytes.extend_from_slice(user)?;
-        Ok(WrittenTexts { bytes })
+        Ok(WrittenTexts {
+            bytes,
+            may_name_parents: false,
+        })
     }
 
     // Where the memory comes from.
@@ -161,7 +179,7 @@ impl WrittenTexts {
     pub(crate) fn names_parents(&self) -> bool
         ensures { result ≡ list_any (λ e. is_parents_key e.0) (finite.entries self.now) }
     {
-        name_parents(&self.bytes)
+        self.may_name_parents && name_parents(&self.bytes)
     }
 
     // The value of a key.
@@ -176,7 +194,10 @@ impl WrittenTexts {
         ensures { IfOk result (λ copy. copy ≡ self.now) }
     {
         let bytes = self.bytes.clone()?;
-        Ok(WrittenTexts { bytes })
+        Ok(WrittenTexts {
+            bytes,
+            may_name_parents: self.may_name_parents,
+        })
     }
 
     // The same texts, but for this value of this key.
@@ -193,7 +214,7 @@ impl WrittenTexts {
             .saturating_add(value.len());
         let out = Vec::with_capacity(self.allocator(), room.saturating_add(2))?;
         let bytes = with_entry(out, self.entries(), key, value)?;
-        Ok(WrittenTexts { bytes })
+        Ok(WrittenTexts::of(bytes))
     }
 }
 

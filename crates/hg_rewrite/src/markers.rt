@@ -12,7 +12,7 @@ use crate::check::rewritten;
 use crate::op::Op;
 use crate::query::parents_in;
 use crate::refusal::{Cause, Refusal};
-use hg_changeset::{Entry, Node, push_date, trimmed_user};
+use hg_changeset::{Entry, Node, trimmed_user};
 use hg_marker::{Marker, MarkerError, Metadata};
 use hg_replica::Replica;
 use std::alloc::{AllocError, Global};
@@ -88,9 +88,7 @@ fn noted(
 ) -> Result<Metadata, AllocError>
     ensures { IfOk result (λ texts. texts ≡ noted operation.now user.now secs offset) }
 {
-    let mut date = Vec::new(alloc);
-    push_date(&mut date, secs, offset)?;
-    Metadata::of_operation(alloc, &date, operation, trimmed_user(user))
+    Metadata::of_operation(alloc, secs, offset, operation, trimmed_user(user))
 }
 
 // And the parents of what is pruned.

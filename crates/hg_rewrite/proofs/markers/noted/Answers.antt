@@ -1,4 +1,4 @@
-use Rattle.std.proofs.Common.{◌≡◌, ◌++◌, ap, subst, ◌∙◌, IfOk}
+use Rattle.std.proofs.Common.{◌≡◌, ap, subst, IfOk}
 use Rattle.std.specs.Int.{w32, w64}
 use mir.Val.{to_z, of_z}
 use Rattle.std.proofs.lemmas.Int.{to_z-of_z}
@@ -10,10 +10,7 @@ use Rattle.hg_rewrite.proofs.markers.noted.Goals as goal
 pub returns : goal.returns
 unfolding noted
 returns c =
-    let date : c.deref.result.now ≡ date_text c.args.secs c.args.offset =
-    c.deref.ensures.value ∙ c.in_ok-push_date.ensures.ok
-    ∙ ap (λ bytes. bytes ++ date_text (to_z w64 (of_z w64 c.args.secs)) (to_z w32 (of_z w32 c.args.offset)))
-    c.new-date.ensures.items
-    ∙ (λ i. date_text (to_z-of_z w64 c.args.secs c.ranges.secs i) (to_z-of_z w32 c.args.offset c.ranges.offset i)) in
     subst (λ (noted : Texts). IfOk c.of_operation.result (λ texts. texts ≡ noted))
-    (λ i. noted_texts (date i) c.args.operation.now (c.trimmed_user.ensures i)) c.of_operation.ensures
+    (λ i. noted_texts (date_text (to_z-of_z w64 c.args.secs c.ranges.secs i)
+    (to_z-of_z w32 c.args.offset c.ranges.offset i)) c.args.operation.now (c.trimmed_user.ensures i))
+    c.of_operation.ensures

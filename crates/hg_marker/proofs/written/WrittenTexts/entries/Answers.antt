@@ -6,4 +6,4 @@ use Rattle.hg_marker.proofs.written.WrittenTexts.entries.Goals as goal
 
 pub returns : goal.returns
 returns c = c.new.ensures ∙ ap (λ bytes. map entry (pieces bytes)) c.deref.ensures.value
-    ∙ written_entries c.self.inside.bytes.items c.self.invariant ∙ ap entries c.self.view_is
+    ∙ written_entries c.self.inside.bytes.items c.self.invariant.written ∙ ap entries c.self.view_is

@@ -6,12 +6,12 @@ use Rattle.hg_marker.specs.Written.{with_pieces}
 use Rattle.hg_marker.proofs.FormLemmas.{written_so, spelled_so, pushed_written, writable_with}
 use Rattle.hg_marker.proofs.written.WrittenTexts.with.Goals as goal
 
-pub invariant_of-result : goal.invariant_of-result
-invariant_of-result c =
+pub of-requires : goal.of-requires
+of-requires c =
     let m = c.args.self.now in
     let key = c.args.key.now in
     let value = c.args.value.now in
-    let can : is_writable m ≡ true = ap is_writable (sym c.self.view_is) ∙ c.self.invariant.writable in
+    let can : is_writable m ≡ true = ap is_writable (sym c.self.view_is) ∙ c.self.invariant.written.writable in
     written_so (insert m key value) c.in_ok-bytes.bytes.items
     (c.in_ok-bytes.ensures
     ∙ (λ i. with_pieces (c.in_ok-out.ensures.items i) (put bytes_cmp key value (c.entries.ensures i)))
@@ -23,8 +23,8 @@ returns-clause-texts c =
     let m = c.args.self.now in
     let key = c.args.key.now in
     let value = c.args.value.now in
-    let can : is_writable m ≡ true = ap is_writable (sym c.self.view_is) ∙ c.self.invariant.writable in
-    spelled_so (insert m key value) c.in_ok-bytes.bytes.items
+    let can : is_writable m ≡ true = ap is_writable (sym c.self.view_is) ∙ c.self.invariant.written.writable in
+    c.of.ensures.texts ∙ spelled_so (insert m key value) c.in_ok-bytes.bytes.items
     (c.in_ok-bytes.ensures
     ∙ (λ i. with_pieces (c.in_ok-out.ensures.items i) (put bytes_cmp key value (c.entries.ensures i)))
     ∙ pushed_written m key value)
@@ -33,6 +33,6 @@ returns-clause-texts c =
 pub returns-clause-writable : goal.returns-clause-writable
 returns-clause-writable c =
     let m = c.args.self.now in
-    let can : is_writable m ≡ true = ap is_writable (sym c.self.view_is) ∙ c.self.invariant.writable in
+    let can : is_writable m ≡ true = ap is_writable (sym c.self.view_is) ∙ c.self.invariant.written.writable in
     ap is_writable (returns-clause-texts c)
     ∙ writable_with m c.args.key.now c.args.value.now can c.requires.key c.requires.value

@@ -5,5 +5,6 @@ use Rattle.hg_marker.proofs.written.WrittenTextsPartialEq.eq.Goals as goal
 
 pub returns : goal.returns
 returns c =
-    c.eq.ensures ∙ same_written c.self.inside.bytes.items c.other.inside.bytes.items c.self.invariant c.other.invariant
+    c.eq.ensures ∙ same_written c.self.inside.bytes.items c.other.inside.bytes.items c.self.invariant.written
+    c.other.invariant.written
     ∙ (λ i. same_texts (c.self.view_is i) (c.other.view_is i))
