@@ -27,7 +27,7 @@ pub fn heads_in_common(
     ensures memory { IfErr result (λ error. error ≡ NoMemory) }
 {
     let served = served_marks(alloc, other, pins)?;
-    ask_marked(alloc, asker, other, &served)
+    ask_marked(alloc, asker, other, &served, true)
 }
 
 /// The heads of what two have in common, as [`heads_in_common`] finds them, by what is kept. Where the other serves
@@ -42,29 +42,40 @@ pub fn heads_in_common_kept(
         (λ heads. AreHeadsInCommon asker.now.replica other.now.replica other.now.pins heads.items) }
     ensures memory { IfErr result (λ error. error ≡ NoMemory) }
 {
-    if asker.has_few_tops() {
+    let has_few_tops = asker.has_few_tops();
+    if has_few_tops {
         if let Some(heads) = heads_of_all_kept(alloc, asker, other)? {
             return Ok(heads);
         }
     }
     let served = other.served_marks()?;
-    ask_marked(alloc, asker.replica(), other.replica(), &served)
+    ask_marked(
+        alloc,
+        asker.replica(),
+        other.replica(),
+        &served,
+        !has_few_tops,
+    )
 }
 
 // The heads of what the asker has in common with the other replica, under pins with which it serves what is marked.
+// Whether heads alone tell them is looked at where that isn't known not to be so.
 fn ask_marked(
     alloc: Global,
     asker: &Replica,
     other: &Replica,
     served: &[bool],
+    may_go_by_heads: bool,
 ) -> Result<Vec<Node>, DiscoveryError>
     requires { length served.now ≡ length (changesets other.now.history) }
     ensures heads { IfOk result (λ heads. AreHeadsOfServed asker.now other.now served.now heads.items) }
     ensures memory { IfErr result (λ error. error ≡ NoMemory) }
 {
     let shared = shared_marks(alloc, asker)?;
-    if let Some(heads) = heads_of_all(alloc, asker, &shared, other, served)? {
-        return Ok(heads);
+    if may_go_by_heads {
+        if let Some(heads) = heads_of_all(alloc, asker, &shared, other, served)? {
+            return Ok(heads);
+        }
     }
     ask_each(alloc, asker, &shared, other, served)
 }
