@@ -23,6 +23,7 @@ use crate::marking::Marking;
 use crate::operation::{Names, Operation};
 use crate::output::print_line;
 use crate::report::{label_of, print_report};
+use crate::spare::Spare;
 use crate::told::Told;
 use hg_changeset::{Changeset, Node};
 use hg_discovery::heads_in_common_kept;
@@ -174,7 +175,7 @@ impl Fleet {
             number,
             labels: &self.labels,
         };
-        let op = operation.resolve(&names)?;
+        let op = operation.resolve(&names, &mut Spare::new(self.alloc))?;
         let kept = self.kept(number, self.place(number, at)?)?;
         decided(self.alloc, kept, &op)
     }
@@ -185,6 +186,7 @@ impl Fleet {
         &mut self,
         number: usize,
         command: Command<'_>,
+        spare: &mut Spare,
         writer: &mut W,
     ) -> Result<Told, RunFault>
         ensures ok { OnOk result (IsDone number self.old command.entry self.new
@@ -193,7 +195,9 @@ impl Fleet {
     {
         match command {
             Command::Node(at) => self.add_node(number, at),
-            Command::Operation(at, operation) => self.operate(number, at, operation, writer),
+            Command::Operation(at, operation) => {
+                self.operate(number, at, operation, spare, writer)
+            }
             Command::Mark(at, marking) => self.mark(number, at, marking, writer),
             Command::Offer(scope, at, message, labels) => {
                 self.keep_offer(number, scope, at, message, labels, writer)
@@ -225,6 +229,7 @@ impl Fleet {
         number: usize,
         at: &[u8],
         operation: Operation<'_>,
+        spare: &mut Spare,
         writer: &mut W,
     ) -> Result<Told, RunFault>
         ensures ok { OnOk result (IsDone number self.old (Command.Operation at.entry operation.entry) self.new
@@ -237,13 +242,14 @@ impl Fleet {
             number,
             labels: &self.labels,
         };
-        let op = operation.resolve(&names)?;
+        let op = operation.resolve(&names, spare)?;
         let place = self.place(number, at)?;
         let labels = operation.new_labels();
         let kept = self.kept(number, place)?;
         self.check_labels(number, kept, &op, labels)?;
-        let event = Event::Local { at: place, op };
+        let mut event = Event::Local { at: place, op };
         let answer = run_event(self.alloc, number, &mut self.world, &event, writer)?;
+        spare.keep(&mut event);
         label(&mut self.labels, labels, &answer)?;
         Ok(Told::Event { at: place, answer })
     }

@@ -40,6 +40,7 @@ mod output;
 mod reading;
 mod report;
 mod script;
+mod spare;
 mod steps;
 mod telling;
 mod told;

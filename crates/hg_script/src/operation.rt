@@ -6,16 +6,13 @@ ghost use Rattle.hg_script.specs.Events.{AreIds, AreParentIds, IsOperation, IsUn
 ghost use Rattle.hg_names.specs.Labels.{labelled};
 
 use crate::fault::{LineFault, RunFault};
+use crate::spare::{Spare, USER};
 use hg_changeset::{Entry, Node};
 use hg_names::Labels;
 use hg_phases::Phase;
 use hg_rewrite::Op;
 use std::alloc::{AllocError, Global};
-use std::collections::BTreeMap;
 use std::slice::from_ref;
-
-/// The user of each entry that a script makes.
-const USER: &[u8] = b"fleet";
 
 /// The labels of at most two parents.
 #[derive(Clone, Copy)]
@@ -74,9 +71,10 @@ impl<'a> Operation<'a> {
         }
     }
 
-    /// What the operation asks of a replica. All its labels but the new ones have to be bound.
+    /// What the operation asks of a replica, with the entry of a new changeset in the spare room. All its labels but
+    /// the new ones have to be bound.
     #[inline(always)]
-    pub fn resolve(self, names: &Names) -> Result<Op, RunFault>
+    pub fn resolve(self, names: &Names, spare: &mut Spare) -> Result<Op, RunFault>
         ensures ok { IfOk result (IsOperation (labelled names.now.labels.now) self.entry) }
         ensures err { IfErr result (IsUnresolved names.now (old_labels self.entry)) }
     {
@@ -85,12 +83,12 @@ impl<'a> Operation<'a> {
                 new,
                 is_secret,
                 parents,
-            } => names.commit(new, is_secret, parents),
-            Operation::Amend { old, new } => names.amend(old, new),
-            Operation::Split { old, new } => names.split(old, new),
-            Operation::Fold { new, old } => names.fold(new, old),
+            } => names.commit(new, is_secret, parents, spare),
+            Operation::Amend { old, new } => names.amend(old, new, spare),
+            Operation::Split { old, new } => names.split(old, new, spare),
+            Operation::Fold { new, old } => names.fold(new, old, spare),
             Operation::Prune { old } => names.prune(old),
-            Operation::Relocate { old, new, parents } => names.relocate(old, new, parents),
+            Operation::Relocate { old, new, parents } => names.relocate(old, new, parents, spare),
             Operation::Advance { label, phase } => names.advance(label, phase),
         }
     }
@@ -131,7 +129,13 @@ impl Names<'_> {
     }
 
     #[inline(always)]
-    fn commit(&self, new: &[u8], secret: bool, parents: Parents<'_>) -> Result<Op, RunFault>
+    fn commit(
+        &self,
+        new: &[u8],
+        secret: bool,
+        parents: Parents<'_>,
+        spare: &mut Spare,
+    ) -> Result<Op, RunFault>
         ensures ok { IfOk result (IsOperation (labelled self.now.labels.now)
             (Operation.Commit new.entry secret parents.entry)) }
         ensures err { IfErr result (IsUnresolved self.now (parent_words parents.entry)) }
@@ -140,39 +144,39 @@ impl Names<'_> {
         Ok(Op::Commit {
             p,
             q,
-            entry: self.entry(new)?,
+            entry: spare.entry(new)?,
             secret,
         })
     }
 
     #[inline(always)]
-    fn amend(&self, old: &[u8], new: &[u8]) -> Result<Op, RunFault>
+    fn amend(&self, old: &[u8], new: &[u8], spare: &mut Spare) -> Result<Op, RunFault>
         ensures ok { IfOk result (IsOperation (labelled self.now.labels.now) (Operation.Amend old.entry new.entry)) }
         ensures err { IfErr result (IsUnresolved self.now (old.now ∷ [])) }
     {
         Ok(Op::Amend {
             node: self.node(old)?,
-            entry: self.entry(new)?,
+            entry: spare.entry(new)?,
         })
     }
 
-    fn split(&self, old: &[u8], new: &[&[u8]]) -> Result<Op, RunFault>
+    fn split(&self, old: &[u8], new: &[&[u8]], spare: &mut Spare) -> Result<Op, RunFault>
         ensures ok { IfOk result (IsOperation (labelled self.now.labels.now) (Operation.Split old.entry new.entry)) }
         ensures err { IfErr result (IsUnresolved self.now (old.now ∷ [])) }
     {
         Ok(Op::Split {
             node: self.node(old)?,
-            entries: self.entries(new)?,
+            entries: self.entries(new, spare)?,
         })
     }
 
-    fn fold(&self, new: &[u8], old: &[&[u8]]) -> Result<Op, RunFault>
+    fn fold(&self, new: &[u8], old: &[&[u8]], spare: &mut Spare) -> Result<Op, RunFault>
         ensures ok { IfOk result (IsOperation (labelled self.now.labels.now) (Operation.Fold new.entry old.entry)) }
         ensures err { IfErr result (IsUnresolved self.now (texts old.now)) }
     {
         Ok(Op::Fold {
             nodes: self.nodes(old)?,
-            entry: self.entry(new)?,
+            entry: spare.entry(new)?,
         })
     }
 
@@ -189,7 +193,13 @@ impl Names<'_> {
         })
     }
 
-    fn relocate(&self, old: &[u8], new: &[u8], parents: Parents<'_>) -> Result<Op, RunFault>
+    fn relocate(
+        &self,
+        old: &[u8],
+        new: &[u8],
+        parents: Parents<'_>,
+        spare: &mut Spare,
+    ) -> Result<Op, RunFault>
         ensures ok { IfOk result (IsOperation (labelled self.now.labels.now)
             (Operation.Relocate old.entry new.entry parents.entry)) }
         ensures err { IfErr result (IsUnresolved self.now (old.now ∷ parent_words parents.entry)) }
@@ -200,7 +210,7 @@ impl Names<'_> {
             node,
             p,
             q,
-            entry: self.entry(new)?,
+            entry: spare.entry(new)?,
         })
     }
 
@@ -226,25 +236,12 @@ impl Names<'_> {
         Ok(nodes)
     }
 
-    // The entry of a new changeset: the user `fleet`, the date 0 0, no extras, and the label as description.
-    fn entry(&self, label: &[u8]) -> Result<Entry, AllocError>
-        ensures { IfOk result (λ entry. entry ≡ entry_of label.now) }
-    {
-        Ok(Entry {
-            user: Vec::from_slice(self.alloc, USER)?,
-            secs: 0,
-            offset: 0,
-            extra: BTreeMap::new(self.alloc),
-            desc: Vec::from_slice(self.alloc, label)?,
-        })
-    }
-
-    fn entries(&self, labels: &[&[u8]]) -> Result<Vec<Entry>, AllocError>
+    fn entries(&self, labels: &[&[u8]], spare: &mut Spare) -> Result<Vec<Entry>, AllocError>
         ensures { IfOk result (λ entries. entries.items ≡ map (λ w. entry_of w.now) labels.now) }
     {
         let mut entries = Vec::new(self.alloc);
         for label in labels {
-            entries.push(self.entry(*label)?)?;
+            entries.push(spare.entry(*label)?)?;
         }
         Ok(entries)
     }

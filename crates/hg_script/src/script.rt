@@ -17,6 +17,7 @@ use crate::fleet::Fleet;
 use crate::input::read_script;
 use crate::lines::{count_nodes, cut_line, is_short, words_of};
 use crate::reading::read_command;
+use crate::spare::Spare;
 use crate::told::Told;
 use hg_peer::Peer;
 use hg_world::{World, runs_compose};
@@ -148,23 +149,25 @@ fn run_lines<W: Write>(
         × Printed (W.contents writer.old) output (W.contents writer.new)) }
     ensures stopped { IfErr result (StopsAmong fleet.old (lines text.now)) }
 {
+    let mut spare = Spare::new(alloc);
     let mut rest = text;
     let mut number = 0usize;
     while !rest.is_empty() {
         let (line, after) = cut_line(rest);
         number += 1;
-        run_line(alloc, fleet, number, line, writer)?;
+        run_line(alloc, fleet, number, line, &mut spare, writer)?;
         rest = after;
     }
     Ok(())
 }
 
-/// Does the line with this number. It gives what the line was answered.
+/// Does the line with this number, in the spare room where it makes a changeset. It gives what the line was answered.
 pub(crate) fn run_line<W: Write>(
     alloc: Global,
     fleet: &mut Fleet,
     number: usize,
     line: &[u8],
+    spare: &mut Spare,
     writer: &mut W,
 ) -> Result<Told, RunFault>
     ensures done { OnOk result ((t : Trace) × (output : Text) × DoesLine fleet.old line.now t fleet.new
@@ -181,6 +184,6 @@ pub(crate) fn run_line<W: Write>(
         Ok(None) => return Ok(Told::Nothing),
         Err(fault) => return Err(RunFault::Line(number, fault)),
     };
-    let told = fleet.execute(number, command, writer)?;
+    let told = fleet.execute(number, command, spare, writer)?;
     Ok(told)
 }

@@ -21,6 +21,7 @@ use crate::input::read_script;
 use crate::lines::{count_nodes, cut_line, words_of};
 use crate::reading::read_command;
 use crate::script::run_line;
+use crate::spare::Spare;
 use crate::told::Told;
 use crate::tracing::{rounds_of, trace};
 use hg_peer::Peer;
@@ -214,7 +215,8 @@ fn run_wordless(
     ensures stopped { IfErr result (EndsAt number fleet.old line.now) }
 {
     let mut text = Vec::new(alloc);
-    run_line(alloc, fleet, number, line, &mut text)?;
+    let mut spare = Spare::new(alloc);
+    run_line(alloc, fleet, number, line, &mut spare, &mut text)?;
     Ok(())
 }
 
@@ -234,7 +236,8 @@ fn tell_words<W: Write>(
 {
     let rounds = rounds_before(alloc, fleet, words, notes)?;
     let mut text = Vec::new(alloc);
-    match run_line(alloc, fleet, number, line, &mut text) {
+    let mut spare = Spare::new(alloc);
+    match run_line(alloc, fleet, number, line, &mut spare, &mut text) {
         Ok(told) => {
             push_notes(alloc, fleet, number, words, &told, rounds, notes, &mut text)?;
             write_text(&text, writer)?;
