@@ -17,8 +17,8 @@ use std::error::Error;
 use std::fmt;
 use std::hash::{Hash, Hasher};
 
-/// A node id.
-#[derive(Clone, Copy, Eq, PartialOrd, Debug)]
+/// A node id. The default is the null id.
+#[derive(Clone, Copy, Default, Eq, PartialOrd, Debug)]
 pub struct Node(pub [u8; 20]);
 
 impl PartialEq for Node {

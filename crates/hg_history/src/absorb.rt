@@ -25,12 +25,13 @@ ghost use Rattle.hg_history.specs.Absorbed.{without_undo};
 ghost use Rattle.hg_history.specs.Steps.{AddAllAnswer, IsAnswered, IsBegun, CanTakeBack, OneAdded, IsBoundFault};
 ghost use Rattle.hg_history.specs.Steps.{IsBoundAt, OneLowered, IsLoweredTo};
 
-use crate::change::Change;
+use crate::change::{AddedNodes, Change};
 use crate::fault::Fault;
 use crate::undo::{Absorbed, Undo};
 use hg_changeset::{Changeset, Node};
 use hg_graph::{Added, Graph, GraphError};
 use hg_phases::{LoweringLog, Phase, PhaseMap, PhaseRoots};
+use smallvec::SmallVec;
 use std::alloc::{AllocError, Global};
 
 /// Takes the part in and gives out what takes it back, or leaves everything as it was.
@@ -368,12 +369,12 @@ fn admit_or_remove(graph: &mut Graph, phases: &mut PhaseMap, node: Node) -> Resu
 
 // The nodes of the changesets from a place on.
 #[inline(always)]
-fn nodes_from(graph: &Graph, from: usize, alloc: Global) -> Result<Vec<Node>, AllocError>
+fn nodes_from(graph: &Graph, from: usize, alloc: Global) -> Result<AddedNodes, AllocError>
     requires { from ≤ length graph.now }
     ensures nodes { IfOk result (λ found. found.items ≡ drop from (nodes graph.now)) }
     ensures memory { OnErr result (from < length graph.now) }
 {
-    let mut found = Vec::with_capacity(alloc, graph.len() - from)?;
+    let mut found = SmallVec::with_capacity(alloc, graph.len() - from)?;
     for place in from..graph.len() {
         match graph.node_at(place) {
             Some(node) => found.push(node)?,

@@ -37,7 +37,7 @@ mod join;
 mod laws;
 mod undo;
 
-pub use change::Change;
+pub use change::{AddedNodes, Change};
 pub use fault::Fault;
 pub use hg_changeset::{Changeset, Node};
 pub use hg_graph::Graph;

@@ -79,7 +79,7 @@ fn add_after_markers(
     ensures { OnOk result (Adds (IsAfterFresh (content_of replica.now) change.now replica.now.markers known.now.keys)
         seen.old.keys seen.new.keys) }
 {
-    for place in &change.markers {
+    for place in change.markers.as_slice() {
         match replica.store().get(*place) {
             Some(marker) => hand_on(replica, marker, known, seen)?,
             None => {}

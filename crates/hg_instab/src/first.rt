@@ -9,6 +9,8 @@ ghost use Rattle.hg_instab.specs.Near.{IsAfterPublic, AreNearForks};
 use crate::after_public::newly_after_public;
 use crate::near::region;
 use hg_changeset::Node;
+use hg_history::AddedNodes;
+use hg_obsstore::NewPlaces;
 use hg_replica::{Change, Replica};
 use std::alloc::{AllocError, Global};
 use std::collections::BTreeSet;
@@ -40,12 +42,12 @@ fn every_marker(alloc: Global, replica: &Replica) -> Result<Change, AllocError>
     ensures markers { IfOk result (λ change. (m : Fields) → Contains replica.now.markers m
         → IsFresh replica.now.markers change m) }
 {
-    let mut markers = Vec::new(alloc);
+    let mut markers = NewPlaces::new(alloc);
     for place in 0..replica.store().len() {
         markers.push(place)?;
     }
     Ok(Change {
-        added: Vec::new(alloc),
+        added: AddedNodes::new(alloc),
         lowered: Vec::new(alloc),
         markers,
     })

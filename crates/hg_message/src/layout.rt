@@ -20,7 +20,7 @@ use crate::record::{read_records, skip_records};
 use crate::scope::{Scope, VERSION_WITHOUT_SCOPE, read_scope};
 use hg_marker::{Marker, ReadError, read_byte, read_field, read_number};
 use hg_obsstore::{StoreFault, read_markers};
-use hg_replica::{Part, Replica};
+use hg_replica::{Bounds, Part, Replica};
 use std::alloc::Global;
 
 /// `HGFX`.
@@ -135,7 +135,7 @@ impl<'a> Layout<'a> {
         let bounds = read_bounds(alloc, self.total, self.entries, self.bounds)?;
         Ok(Part {
             changesets: Vec::new(alloc),
-            bounds,
+            bounds: Bounds::from_vec(bounds),
             markers,
         })
     }

@@ -17,7 +17,7 @@ use hg_changeset::{Changeset, Node};
 use hg_marker::{Marker, ReadError};
 use hg_obsstore::markers_len;
 use hg_phases::Phase;
-use hg_replica::{Part, Replica};
+use hg_replica::{Bounds, Part, Replica};
 use std::alloc::{AllocError, Global};
 use std::fmt;
 use std::marker::Model;
@@ -234,7 +234,7 @@ impl Message {
         draft_bounds_onto(&mut bounds, &changesets)?;
         Ok(Part {
             changesets,
-            bounds,
+            bounds: Bounds::from_vec(bounds),
             markers,
         })
     }

@@ -3,13 +3,12 @@ use Rattle.std.proofs.Common.{suc, ◌≡◌, ◌<◌, ◌≤◌, ◌+◌, ◌-�
 use Rattle.std.proofs.Common.{ap, subst, ℕ, List, Bool, true, false, cond, refl, length, get_or, Contains, All}
 use Rattle.std.proofs.Common.{append_assoc}
 use Rattle.std.specs.declared.alloc.AllocError.{AllocError}
-use Rattle.std.specs.declared.alloc.Global.{Global}
-use Rattle.std.specs.declared.vec.Vec.{Vec}
-use Rattle.std.specs.Prelude.{Result, Ok, Err, IfOk, OnOk}
-use Rattle.std.specs.Vec.{vec_items}
+use Rattle.std.specs.Prelude.{Result, Ok, Err, IfOk, OnOk, Option}
+use Rattle.std.specs.Iterator.{DrainsIf}
+use Rattle.std.proofs.lemmas.Iterator.{YieldsList, items_from_drains}
 use Rattle.std.specs.List.{range_with_len}
 use Rattle.std.proofs.lemmas.Bool.{cases_Bool, false≢true}
-use Rattle.std.proofs.lemmas.List.{append-nil, get_or_append_left}
+use Rattle.std.proofs.lemmas.List.{append-nil, get_or_append_left, map-id}
 use Rattle.std.proofs.lemmas.List.FromFn.{length-range_with_len, get_or-range_with_len}
 use Rattle.std.proofs.lemmas.Map.Keys.{apart_from_distinct}
 use Rattle.std.proofs.lemmas.List.Folds.{list_any-append}
@@ -170,7 +169,15 @@ lists_between a b =
       );
     }
 
-pub are_between : (a b : ℕ) (r : Result (Vec ℕ Global) AllocError)
-    → IfOk r (λ v. vec_items v ≡ range_with_len a (b - a)) → IfOk r (λ v. ListsAll (λ i. (a ≤ i) × (i < b)) v.items)
-are_between a b (Ok v) e = subst (ListsAll (λ i. (a ≤ i) × (i < b))) (sym e) (lists_between a b)
-are_between a b (Err error) e = tt
+pub are_between : {V : Type 0} (items : V → List ℕ) (a b : ℕ) (r : Result V AllocError)
+    → IfOk r (λ v. items v ≡ range_with_len a (b - a)) → IfOk r (λ v. ListsAll (λ i. (a ≤ i) × (i < b)) (items v))
+are_between items a b (Ok v) e = subst (ListsAll (λ i. (a ≤ i) × (i < b))) (sym e) (lists_between a b)
+are_between items a b (Err error) e = tt
+
+-- what is collected into a list of any kind
+pub items_from_collect : {S V : Type 0} {steps : S → Option ℕ → S → Type 0} {s : S} {all : List ℕ}
+    (items : V → List ℕ) (r : Result V AllocError)
+    → IfOk r (λ v. (xs : List ℕ) × DrainsIf steps (Unit {0}) s xs × (items v ≡ xs)) → YieldsList steps (λ x. x) s all
+    → IfOk r (λ v. items v ≡ all)
+items_from_collect items (Ok v) ran yields = ran.2 ∙ sym (map-id ran.0) ∙ items_from_drains ran.0 ran.1 yields
+items_from_collect items (Err error) ran yields = tt

@@ -9,7 +9,7 @@ ghost use Rattle.hg_obsstore.specs.Sets.{IsSet, IsWithin, HasAll, IsUnion, sets_
 ghost use Rattle.hg_obsstore.specs.Sets.{union_commutes, union_associates, union_idempotent, union_least, union_again};
 ghost use Rattle.hg_obsstore.specs.Sets.{union_swap};
 
-use crate::store::Store;
+use crate::store::{NewPlaces, Store};
 use hg_join::{JoinState, NoMemory};
 use hg_marker::Marker;
 
@@ -17,7 +17,7 @@ impl JoinState for Store {
     type Part = Vec<Marker>;
 
     /// The places of the new markers, each once, ascending.
-    type Change = Vec<usize>;
+    type Change = NewPlaces;
 
     type Fault = NoMemory;
 
@@ -91,11 +91,11 @@ impl JoinState for Store {
         Store::copy(self)
     }
 
-    fn absorb(&mut self, part: &Vec<Marker>) -> Result<Vec<usize>, NoMemory> {
+    fn absorb(&mut self, part: &Vec<Marker>) -> Result<NewPlaces, NoMemory> {
         Store::absorb(self, part)
     }
 
-    fn absorb_owned(&mut self, part: Vec<Marker>) -> Result<Vec<usize>, NoMemory> {
+    fn absorb_owned(&mut self, part: Vec<Marker>) -> Result<NewPlaces, NoMemory> {
         Store::absorb_owned(self, part)
     }
 

@@ -44,4 +44,4 @@ pub use hg_changeset::Node;
 pub use hg_join::NoMemory;
 pub use hg_marker::{Marker, MarkerFault};
 pub use index::{Hint, Mentions};
-pub use store::{Added, Store};
+pub use store::{Added, NewPlaces, Store};

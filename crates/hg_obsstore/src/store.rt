@@ -22,9 +22,13 @@ use crate::index::{Hint, Index, Mentions};
 use hg_changeset::Node;
 use hg_join::NoMemory;
 use hg_marker::Marker;
+use smallvec::SmallVec;
 use std::alloc::{AllocError, Global};
 use std::fmt;
 use std::marker::Model;
+
+/// The places of the markers that a part added, ascending. One, as most operations add, takes no memory.
+pub type NewPlaces = SmallVec<usize, 1>;
 
 /// What [`Store::add`] did.
 #[derive(Clone, Copy, PartialEq, Eq, Debug)]
@@ -269,7 +273,7 @@ impl Store {
     }
 
     /// Adds copies of the markers that aren't held, each once, in their order, and tells their places, ascending.
-    pub fn absorb(&mut self, part: &[Marker]) -> Result<Vec<usize>, NoMemory>
+    pub fn absorb(&mut self, part: &[Marker]) -> Result<NewPlaces, NoMemory>
         ensures ok { OnOk result (self.new ≡ united self.old part.now) }
         ensures places { IfOk result (λ places. AreNewPlaces self.old self.new places.items) }
         ensures union { OnOk result (IsUnion (holds self.old) (holds part.now) (holds self.new)) }
@@ -286,7 +290,7 @@ impl Store {
     /// Moves in the markers that aren't held, each once, in their order, and tells their places, ascending. The others
     /// are dropped.
     #[inline(always)]
-    pub fn absorb_owned(&mut self, part: Vec<Marker>) -> Result<Vec<usize>, NoMemory>
+    pub fn absorb_owned(&mut self, part: Vec<Marker>) -> Result<NewPlaces, NoMemory>
         ensures ok { OnOk result (self.new ≡ united self.old part.items) }
         ensures places { IfOk result (λ places. AreNewPlaces self.old self.new places.items) }
         ensures union { OnOk result (IsUnion (holds self.old) (holds part.items) (holds self.new)) }
@@ -349,7 +353,7 @@ impl Store {
     }
 
     // Adds copies of the markers that aren't held, and tells their places. After an error some of them stay.
-    fn add_and_tell(&mut self, part: &[Marker]) -> Result<Vec<usize>, NoMemory>
+    fn add_and_tell(&mut self, part: &[Marker]) -> Result<NewPlaces, NoMemory>
         ensures ok { OnOk result (self.new ≡ united self.old part.now) }
         ensures places { IfOk result (λ places. AreNewPlaces self.old self.new places.items) }
         ensures kept { StartsWith self.old self.new }
@@ -363,7 +367,7 @@ impl Store {
 
     // Moves in the markers that aren't held, and tells their places. After an error some of them stay.
     #[inline(always)]
-    fn add_owned_and_tell(&mut self, part: Vec<Marker>) -> Result<Vec<usize>, NoMemory>
+    fn add_owned_and_tell(&mut self, part: Vec<Marker>) -> Result<NewPlaces, NoMemory>
         ensures ok { OnOk result (self.new ≡ united self.old part.items) }
         ensures places { IfOk result (λ places. AreNewPlaces self.old self.new places.items) }
         ensures kept { StartsWith self.old self.new }
@@ -377,7 +381,7 @@ impl Store {
 
     // The places from one on. No memory is taken where there is none.
     #[inline(always)]
-    fn places_from(&self, start: usize) -> Result<Vec<usize>, AllocError>
+    fn places_from(&self, start: usize) -> Result<NewPlaces, AllocError>
         ensures places { IfOk result (λ places. ListsAll (λ i. (start ≤ i) × (i < length self.now)) places.items) }
         ensures memory { OnErr result (start < length self.now) }
     {
@@ -464,12 +468,12 @@ fn add_marker(
 
 // The places from one on to before another. No memory is taken where there is none.
 #[inline(always)]
-fn places_between(alloc: Global, start: usize, end: usize) -> Result<Vec<usize>, AllocError>
+fn places_between(alloc: Global, start: usize, end: usize) -> Result<NewPlaces, AllocError>
     ensures places { IfOk result (λ places. ListsAll (λ i. (start ≤ i) × (i < end)) places.items) }
     ensures memory { OnErr result (start < end) }
 {
     if end <= start {
-        return Ok(Vec::new(alloc));
+        return Ok(SmallVec::new(alloc));
     }
     (start..end).collect(alloc)
 }

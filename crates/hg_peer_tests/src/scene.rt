@@ -2,7 +2,7 @@
 use hg_changeset::{Changeset, Entry, Node};
 use hg_marker::{Marker, Metadata};
 use hg_phases::Phase;
-use hg_replica::{Part, Replica};
+use hg_replica::{Bounds, Part, Replica};
 use std::alloc::Global;
 use std::collections::BTreeMap;
 
@@ -23,7 +23,7 @@ pub fn entry(alloc: Global, description: &[u8]) -> Option<Entry> {
 fn empty(alloc: Global) -> Part {
     Part {
         changesets: Vec::new(alloc),
-        bounds: Vec::new(alloc),
+        bounds: Bounds::new(alloc),
         markers: Vec::new(alloc),
     }
 }

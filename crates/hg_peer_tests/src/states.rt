@@ -4,14 +4,14 @@ use hg_history::Fault;
 use hg_join::{Actor, JoinState};
 use hg_peer::{Mark, Peer};
 use hg_phases::Phase;
-use hg_replica::Part;
+use hg_replica::{Bounds, Part};
 use std::alloc::Global;
 
 /// The part of one draft root. `None` where memory ran out.
 fn draft_root(alloc: Global) -> Option<Part> {
     let text = Vec::from_slice(alloc, b"text").ok()?;
     let changeset = Changeset::new(Node::NULL, Node::NULL, text).ok()?;
-    let bounds = Vec::from_slice(alloc, &[(changeset.node(), Phase::Draft)]).ok()?;
+    let bounds = Bounds::from_slice(alloc, &[(changeset.node(), Phase::Draft)]).ok()?;
     let mut changesets = Vec::new(alloc);
     changesets.push(changeset).ok()?;
     Some(Part {

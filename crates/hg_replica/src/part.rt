@@ -3,15 +3,22 @@ ghost use Rattle.std.specs.Prelude.{IsTrue, ◌≡◌, ◌↔◌};
 ghost use Rattle.hg_replica.specs.Change.{IsNothing};
 
 use hg_changeset::{Changeset, Node};
+use hg_history::AddedNodes;
 use hg_marker::Marker;
+use hg_obsstore::NewPlaces;
 use hg_phases::Phase;
+use smallvec::SmallVec;
 use std::marker::Model;
+use std::mem;
+
+/// Bounds on phases. One, as most operations set, takes no memory.
+pub type Bounds = SmallVec<(Node, Phase), 1>;
 
 /// What a replica takes in: changesets, bounds on phases, and markers. A bound `(node, phase)` says that the node and
 /// its ancestors have at most this phase.
 pub struct Part {
     pub changesets: Vec<Changeset>,
-    pub bounds: Vec<(Node, Phase)>,
+    pub bounds: Bounds,
     pub markers: Vec<Marker>,
 }
 
@@ -42,27 +49,26 @@ impl Model for Part {
 }
 
 impl Part {
-    // Its changesets, its bounds and its markers.
-    pub(crate) fn into_lists(self) -> (Vec<Changeset>, Vec<(Node, Phase)>, Vec<Marker>)
-        ensures changesets { result.0.items ≡ self.history.changesets }
-        ensures bounds { result.1.items ≡ self.history.bounds }
-        ensures markers { result.2.items ≡ self.markers }
+    // Takes its changesets and its markers out, and leaves its bounds.
+    #[inline(always)]
+    pub(crate) fn take_lists(&mut self) -> (Vec<Changeset>, Vec<Marker>)
+        ensures changesets { result.0.items ≡ self.old.history.changesets }
+        ensures markers { result.1.items ≡ self.old.markers }
+        ensures bounds { self.new.history.bounds ≡ self.old.history.bounds }
     {
-        let Part {
-            changesets,
-            bounds,
-            markers,
-        } = self;
-        (changesets, bounds, markers)
+        let alloc = *self.markers.allocator();
+        let changesets = mem::replace(&mut self.changesets, Vec::new(alloc));
+        let markers = mem::replace(&mut self.markers, Vec::new(alloc));
+        (changesets, markers)
     }
 }
 
 /// What a part changed: the nodes that were added, in their order; the nodes held before whose phase went down, in no
 /// promised order; and the places of the new markers in the store, ascending.
 pub struct Change {
-    pub added: Vec<Node>,
+    pub added: AddedNodes,
     pub lowered: Vec<Node>,
-    pub markers: Vec<usize>,
+    pub markers: NewPlaces,
 }
 
 // The same of what it changed.

@@ -22,7 +22,7 @@ use hg_changeset::{Changeset, Node};
 use hg_graph::Graph;
 use hg_history::{Fault, History};
 use hg_join::NoMemory;
-use hg_obsstore::{Hint, Store};
+use hg_obsstore::{Hint, NewPlaces, Store};
 use hg_phases::{Phase, Roots};
 use std::alloc::{AllocError, Global};
 use std::marker::Model;
@@ -218,13 +218,16 @@ impl Replica {
         ensures valid { IsValid self.old }
         ensures still_valid { IsValid self.new }
     {
-        let (changesets, bounds, markers) = part.into_lists();
+        let mut part = part;
+        let (changesets, markers) = part.take_lists();
         let before = self.store.len();
         let markers = match self.store.absorb_owned(markers) {
             Ok(markers) => markers,
             Err(NoMemory) => return Err(Fault::NoMemory),
         };
-        let absorbed = self.history.absorb_owned_with_undo(changesets, &bounds);
+        let absorbed = self
+            .history
+            .absorb_owned_with_undo(changesets, &part.bounds);
         let answer = keep_or_forget(&mut self.store, before, markers, absorbed);
         note_hints(&mut self.hints, self.history.graph(), &self.store, before);
         answer
@@ -311,7 +314,7 @@ impl Replica {
 fn keep_or_forget(
     store: &mut Store,
     before: usize,
-    markers: Vec<usize>,
+    markers: NewPlaces,
     absorbed: Result<hg_history::Absorbed, Fault>,
 ) -> Result<Absorbed, Fault>
     ensures answer { KeepAnswer before markers.items (history_without_undo absorbed) store.old (without_undo result)

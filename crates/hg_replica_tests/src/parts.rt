@@ -2,7 +2,7 @@
 use hg_changeset::{Changeset, Node};
 use hg_marker::decode;
 use hg_phases::Phase;
-use hg_replica::{Part, Replica};
+use hg_replica::{Bounds, Part, Replica};
 use std::alloc::Global;
 
 /// Ids under which nothing is held.
@@ -16,7 +16,7 @@ pub const BETWEEN: Node = Node([0x33; 20]);
 pub fn empty(alloc: Global) -> Part {
     Part {
         changesets: Vec::new(alloc),
-        bounds: Vec::new(alloc),
+        bounds: Bounds::new(alloc),
         markers: Vec::new(alloc),
     }
 }

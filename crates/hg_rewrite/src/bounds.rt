@@ -7,7 +7,8 @@ use crate::op::Op;
 use crate::query::{highest, phase_in};
 use hg_changeset::Node;
 use hg_phases::Phase;
-use hg_replica::Replica;
+use hg_replica::{Bounds, Replica};
+use smallvec::SmallVec;
 use std::alloc::{AllocError, Global};
 
 // The bounds of an operation that makes changesets with these ids.
@@ -17,7 +18,7 @@ pub(crate) fn bounds(
     replica: &Replica,
     op: &Op,
     ids: &[Node],
-) -> Result<Vec<(Node, Phase)>, AllocError>
+) -> Result<Bounds, AllocError>
     requires { ids.now ≡ new_ids replica.now.history op.now }
     ensures { IfOk result (λ found. found.items ≡ bounds replica.now.history op.now) }
 {
@@ -29,22 +30,22 @@ pub(crate) fn bounds(
         Op::Amend { node, .. } => on_last(alloc, ids, phase_in(replica, *node)),
         Op::Split { node, .. } => on_last(alloc, ids, phase_in(replica, *node)),
         Op::Fold { nodes, .. } => on_last(alloc, ids, phase_in(replica, last(nodes))),
-        Op::Prune { .. } => Ok(Vec::new(alloc)),
+        Op::Prune { .. } => Ok(SmallVec::new(alloc)),
         Op::Relocate { node, p, q, .. } => {
             let of_parents = highest(phase_in(replica, *p), phase_in(replica, *q));
             on_last(alloc, ids, highest(phase_in(replica, *node), of_parents))
         }
-        Op::Advance { node, phase } => Vec::from_slice(alloc, &[(*node, *phase)]),
+        Op::Advance { node, phase } => SmallVec::from_slice(alloc, &[(*node, *phase)]),
     }
 }
 
 // A bound on the last of the ids.
-fn on_last(alloc: Global, ids: &[Node], phase: Phase) -> Result<Vec<(Node, Phase)>, AllocError>
+fn on_last(alloc: Global, ids: &[Node], phase: Phase) -> Result<Bounds, AllocError>
     ensures { IfOk result (λ found. found.items ≡ on_last ids.now phase) }
 {
     match ids.last() {
-        Some(id) => Vec::from_slice(alloc, &[(*id, phase)]),
-        None => Ok(Vec::new(alloc)),
+        Some(id) => SmallVec::from_slice(alloc, &[(*id, phase)]),
+        None => Ok(SmallVec::new(alloc)),
     }
 }
 

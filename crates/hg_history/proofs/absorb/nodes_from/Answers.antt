@@ -24,7 +24,7 @@ loop-place-preserved c =
             take_more ns p n in_nodes
             ∙ ap (λ x. take p ns ++ x ∷ []) (get_or_from_slice_get ns p n n (sym w.in-Some.ensures)) in
             let room : from ≤ length (take p ns) = omega (arith, le, in_nodes, length-take p ns) in
-            ap (λ v. v.items) w.found-is ∙ w.in_ok-push-in-Some.ensures.items
+            ap (λ v. v.items) w.found-is ∙ w.in_ok-push-in-Some.ensures.ok
             ∙ ap (λ xs. xs ++ n ∷ []) c.loop-place.invariant.1
             ∙ sym (drop-append-le from (take p ns) (n ∷ []) room) ∙ ap (drop from) (sym more)
         | in-None w ↦ absurd (none-some at.0 (w.in-None.ensures ∙ at.1))

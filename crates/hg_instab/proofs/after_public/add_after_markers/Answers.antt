@@ -16,7 +16,7 @@ pub loop-place-preserved : goal.loop-place-preserved
 loop-place-preserved c =
     let ms = c.args.replica.now.markers in
     let Kind = HandsOn (content_of c.args.replica.now) c.args.known.now.keys in
-    let places = c.deref-place-items.result.now in
+    let places = c.as_slice-place-items.result.now in
     let i = c.loop-place.place-index in
     let k = get_or places i 0 in
     let here : get_or places i k ≡ k = get_or_default places i k 0 c.loop-place-test.true in
@@ -43,10 +43,10 @@ returns c =
     let g = content_of c.args.replica.now in
     let known = c.args.known.now.keys in
     let change = c.args.change.now in
-    let places = c.deref-place-items.result.now in
+    let places = c.as_slice-place-items.result.now in
     adds-same (IsNextAt (HandsOn g known) ms change.markers) (IsAfterFresh g change ms known) c.args.seen.now.keys
     c.loop-place.seen.keys (fresh-at g change ms known)
     (subst (λ (ps : List ℕ). Adds (IsNextAt (HandsOn g known) ms ps) c.args.seen.now.keys c.loop-place.seen.keys)
-    (take_all c.loop-place.place-index places c.loop-place-test.false ∙ c.deref-place-items.ensures.value
+    (take_all c.loop-place.place-index places c.loop-place-test.false ∙ c.as_slice-place-items.ensures
     ∙ ap (λ (x : ChangeValue). x.markers) c.change.view_is)
     c.loop-place.invariant)

@@ -16,7 +16,7 @@ returns c =
     let second = c.add_after_each.new.seen.keys in
     let third = c.add_after_each-2.new.seen.keys in
     let added : c.deref.result.now ≡ change.added =
-    c.deref.ensures.value ∙ ap (λ (x : ChangeValue). x.added) c.change.view_is in
+    c.deref.ensures ∙ ap (λ (x : ChangeValue). x.added) c.change.view_is in
     let lowered : c.deref-2.result.now ≡ change.lowered =
     c.deref-2.ensures.value ∙ ap (λ (x : ChangeValue). x.lowered) c.change.view_is in
     added-thrice (IsAfterFresh g change ms c.args.known.now.keys) (IsAfterAny g ms change.added)

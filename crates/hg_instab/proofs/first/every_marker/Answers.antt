@@ -5,7 +5,7 @@ use Rattle.hg_changeset.proofs.ListLemmas.{Contains-pushed, place_from_Contains}
 use Rattle.hg_instab.proofs.first.every_marker.Goals as goal
 
 pub loop-place-preserved : goal.loop-place-preserved
-loop-place-preserved c k l = subst (λ (xs : List ℕ). Contains xs k) (sym c.in_ok-push.ensures.items)
+loop-place-preserved c k l = subst (λ (xs : List ℕ). Contains xs k) (sym c.in_ok-push.ensures.ok)
     ((Contains-pushed c.loop-place.markers.items c.loop-place.place k).1 (elim (cases_order k c.loop-place.place) [
       | inl e ↦ inr (sym e)
       | inr apart ↦ elim apart [

@@ -9,12 +9,12 @@ pub returns : goal.returns
 returns c =
     let added : c.extend_from_slice.new.self.items ≡ c.args.change.now.added =
     c.in_ok-extend_from_slice.ensures.items ∙ ap (λ xs. xs ++ c.deref.result.now) c.new-found.ensures.items
-    ∙ c.deref.ensures.value ∙ ap (λ x. x.added) c.change.view_is in
+    ∙ c.deref.ensures ∙ ap (λ x. x.added) c.change.view_is in
     let moved : c.extend_from_slice-2.new.self.items ≡ c.args.change.now.added ++ c.args.change.now.lowered =
     c.in_ok-extend_from_slice-2.ensures.items ∙ ap (λ xs. xs ++ c.deref-2.result.now) added
     ∙ ap (λ xs. c.args.change.now.added ++ xs) (c.deref-2.ensures.value ∙ ap (λ x. x.lowered) c.change.view_is) in
     let places : c.deref-3.result.now ≡ c.args.change.now.markers =
-    c.deref-3.ensures.value ∙ ap (λ x. x.markers) c.change.view_is in
+    c.deref-3.ensures ∙ ap (λ x. x.markers) c.change.view_is in
     let members : (n : Node) → Contains c.add_rewritten.new.found.items n
     ↔ (Contains c.extend_from_slice-2.new.self.items n
     ⊎ IsOfOneAt (λ m x. m.predecessor ≡ x) c.args.replica.now.markers c.args.change.now.markers n) =

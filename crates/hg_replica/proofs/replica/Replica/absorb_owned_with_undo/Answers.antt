@@ -13,25 +13,26 @@ use Rattle.hg_replica.specs.declared.undo.Absorbed.{Absorbed}
 use Rattle.hg_replica.proofs.NothingLemmas.{kept_grown, kept_nothing}
 use Rattle.hg_replica.proofs.ReplicaLemmas.{kept_answer, kept_back, kept_growth}
 use Rattle.hg_replica.proofs.replica.Replica.absorb_owned_with_undo.Goals as goal
-use Rattle.hg_replica.proofs.replica.Replica.absorb_owned_with_undo.Goals.{After-drop-bounds-2}
+use Rattle.hg_replica.proofs.replica.Replica.absorb_owned_with_undo.Goals.{After-drop-part-2}
 
-module _ (c : After-drop-bounds-2) where
+module _ (c : After-drop-part-2) where
   abbrev s : ReplicaState
   s = record { history = c.self.inside.history; markers = c.self.inside.store }
 
   abbrev k : PartValue
   k = record {
-    history = record { changesets = c.into_lists-changesets.result.0.items; bounds = c.deref.result.now };
-    markers = c.into_lists-changesets.result.2.items;
+    history = record { changesets = c.take_lists-changesets.result.0.items; bounds = c.deref.result.now };
+    markers = c.take_lists-changesets.result.1.items;
   }
 
   k_is : k ≡ c.args.part
   k_is i = record {
     history = record {
-      changesets = c.into_lists-changesets.ensures.changesets i;
-      bounds = (c.deref.ensures.value ∙ c.into_lists-changesets.ensures.bounds) i;
+      changesets = c.take_lists-changesets.ensures.changesets i;
+      bounds = (c.deref.ensures ∙ ap (λ (left : PartValue). left.history.bounds) c.part.view_is
+          ∙ c.take_lists-changesets.ensures.bounds) i;
     };
-    markers = c.into_lists-changesets.ensures.markers i;
+    markers = c.take_lists-changesets.ensures.markers i;
   }
 
 pub returns-clause-answer : goal.returns-clause-answer
@@ -103,6 +104,6 @@ pub returns-in-Err-clause-memory : goal.returns-in-Err-clause-memory
 unfolding IsGrowthBeforeFault
 returns-in-Err-clause-memory c =
     let new =
-    subst (λ ms. new_among c.self.inside.store ms ≢ []) c.into_lists-changesets.ensures.markers
+    subst (λ ms. new_among c.self.inside.store ms ≢ []) c.take_lists-changesets.ensures.markers
     c.in-Err.ensures.memory in
     λ e. inl (subst (λ (u : ReplicaState). new_among u.markers c.args.part.markers ≢ []) c.self.view_is new)

@@ -27,7 +27,7 @@ module _ (c : After-note_hints) where
 
   k_is : k ≡ c.args.part.now
   k_is = (λ i. record {
-    history = record { changesets = c.deref-2.ensures.value i; bounds = c.deref-3.ensures.value i };
+    history = record { changesets = c.deref-2.ensures.value i; bounds = c.deref-3.ensures i };
     markers = c.deref.ensures.value i;
   }) ∙ c.part.view_is
 
