@@ -14,3 +14,4 @@ mod DescentLemmas
 mod HeadLemmas
 mod ViewHeadLemmas
 mod AboveLemmas
+pub mod CommonLemmas

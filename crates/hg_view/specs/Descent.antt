@@ -7,7 +7,8 @@ use Rattle.hg_phases.specs.State.{changesets}
 use Rattle.hg_replica.specs.State.{ReplicaState}
 use Rattle.hg_replica.specs.Content.{content_of}
 use Rattle.hg_view.specs.declared.heads.View.{View}
-use Rattle.hg_view.specs.declared.heads.View.TheVariants.{Shared, Served}
+use Rattle.hg_view.specs.declared.heads.View.TheVariants.{Shared, Served, Common}
+use Rattle.hg_view.specs.Pins.{IsServedUnder}
 use Rattle.hg_view.specs.Share.{IsShared}
 use Rattle.hg_view.specs.Tops.{IsTop}
 
@@ -32,10 +33,11 @@ abbrev pub GoesOn : List Contents → (ℕ → Type 0) → ℕ → List ℕ → 
 GoesOn cs P visited old new = (k : ℕ) → Contains new k
     ↔ (Contains old k ⊎ ((¬ (P visited)) × IsParentPlace cs visited k))
 
--- what isn't secret is in view: all of it, or what isn't extinct, or is upheld
+-- what isn't secret is in view: all of it, or what isn't extinct, or is upheld, or what another serves
 abbrev pub IsShownIn : View → Node → Type 0
 IsShownIn Shared n = Unit {0}
 IsShownIn (Served sets upheld) n = ¬ (Contains sets.now.extinct n) ⊎ Contains upheld.now.keys n
+IsShownIn (Common other) n = IsServedUnder (content_of other.now.replica) other.now.pins n
 
 -- the changeset at the place is in view
 abbrev pub IsInView : View → ReplicaState → ℕ → Type 0

@@ -8,4 +8,5 @@ pub mod Upheld
 pub mod Flags
 pub mod Tops
 pub mod Descent
+pub mod Common
 pub mod Above

@@ -9,6 +9,7 @@ ghost use Rattle.hg_view.specs.Descent.{GoesOn, HasChildIn, IsChildless, IsClose
 ghost use Rattle.hg_view.specs.Descent.{IsInView, IsShownIn};
 ghost use Rattle.hg_view.specs.Tops.{IsTop};
 
+use crate::kept::Kept;
 use crate::waiting::{await_parents, set_of};
 use hg_changeset::Node;
 use hg_instab::{Instabilities, has_phase_at};
@@ -24,6 +25,8 @@ pub(crate) enum View<'a> {
     Shared,
     /// What of that isn't extinct, or is upheld.
     Served(&'a Instabilities, &'a BTreeSet<Node>),
+    /// What of that another replica serves.
+    Common(&'a Kept),
 }
 
 /// The places in view without a child in view, from the last to the first, where these are the places of the changesets
@@ -106,6 +109,7 @@ fn is_shown_in(view: View, node: Node) -> bool
     match view {
         View::Shared => true,
         View::Served(instabilities, upheld) => is_shown(instabilities, upheld, node),
+        View::Common(other) => other.is_served(node),
     }
 }
 

@@ -12,7 +12,8 @@ ghost use Rattle.hg_replica.specs.Undo.{LeadsBack};
 ghost use Rattle.hg_instab.specs.Changed.{IsChangedTo};
 ghost use Rattle.hg_instab.specs.Instabilities.{AreInstabilities};
 ghost use Rattle.hg_view.specs.Kept.{FindsAgain, FindsTopsAgain, KeepsTops, KeepsUp, KeptUnpinAnswer};
-ghost use Rattle.hg_view.specs.Descent.{IsCovered};
+ghost use Rattle.hg_view.specs.Common.{AreFree, IsCommonAt};
+ghost use Rattle.hg_view.specs.Descent.{IsClosedUnderParents, IsCovered};
 ghost use Rattle.hg_view.specs.Pins.{IsServedUnder, IsVisibleUnder, PinAnswer};
 ghost use Rattle.hg_view.specs.Tops.{AreTops, IsPublicAt, IsServedAt, IsSharedAt, IsTop};
 
@@ -322,6 +323,28 @@ impl Kept {
             self.alloc,
             &self.replica,
             View::Shared,
+            self.tops.childless(),
+        )
+    }
+
+    /// The places of the heads of what isn't secret here and the other [serves](Kept::is_served), from the last to the
+    /// first: what is so, without a child that is. It costs what is secret here or isn't served there, other parents of
+    /// that, and the children of the heads, whatever else both hold.
+    ///
+    /// No changeset of the one collides with one of the other, so what both hold has the same parents there and here.
+    pub fn common_heads(&self, other: &Kept) -> Result<Vec<usize>, AllocError>
+        requires { AreFree (changesets self.now.replica.history) (changesets other.now.replica.history) }
+        ensures exact { IfOk result (λ heads. (k : ℕ) → Contains heads.items k
+            ↔ IsTop (changesets self.now.replica.history) (IsCommonAt self.now.replica other.now) k) }
+        ensures closed { IsClosedUnderParents (changesets self.now.replica.history)
+            (IsCommonAt self.now.replica other.now) }
+    {
+        // It says that the other's replica is valid.
+        let _ = other.replica();
+        heads_in(
+            self.alloc,
+            &self.replica,
+            View::Common(other),
             self.tops.childless(),
         )
     }
