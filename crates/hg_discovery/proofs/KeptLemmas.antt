@@ -1,13 +1,16 @@
 -- Heads of what isn't secret, told by places.
 use Rattle.std.proofs.Common.{◌≡◌, ◌↔◌, ◌⊎◌, ℕ, zero, suc, ◌<◌, ◌+◌, inl, inr, Bool, true, false, List, [], ◌∷◌, ◌++◌}
-use Rattle.std.proofs.Common.{length, length-append, take, get_or, slice_get, Some, Contains, refl, sym, ap, subst, ◌∙◌, arith, true≢false}
+use Rattle.std.proofs.Common.{length, length-append, take, get_or, slice_get, Some, Contains, refl, sym, ap, subst, ◌∙◌}
+use Rattle.std.proofs.Common.{arith, true≢false}
 use Rattle.std.proofs.lemmas.Bool.{cases_eq}
 use Rattle.std.proofs.lemmas.List.Elements.{Contains-append_left, Contains-push, Contains-push_cases}
 use Rattle.std.proofs.lemmas.Option.{same_Some, slice_get_within}
 use Rattle.hg_changeset.specs.declared.node.Node.{Node}
 use Rattle.hg_changeset.specs.Contents.{Contents}
-use Rattle.hg_changeset.proofs.ListLemmas.{Contains-from_place, slice_get-append, slice_get-append_seam, slice_get-push_cases}
-use Rattle.hg_graph.specs.Graph.{nodes}
+use Rattle.hg_changeset.proofs.ListLemmas.{Contains-from_place, slice_get-append, slice_get-append_seam}
+use Rattle.hg_changeset.proofs.ListLemmas.{slice_get-push_cases}
+use Rattle.hg_graph.specs.Graph.{nodes, Holds, IsGraph}
+use Rattle.hg_graph.specs.Marks.{IsMarkedNode}
 use Rattle.hg_graph.specs.Places.{IsAt}
 use Rattle.hg_graph.proofs.WalkLemmas.{taken_one}
 use Rattle.hg_graph.proofs.PlaceLemmas.{IsAt-within, place_from_Holds, placed_within}
@@ -71,58 +74,81 @@ module _ (Q : ℕ → Type 0) where
         )
       ]
 
+-- marks that tell of each place whether P holds of what stands there
+module _ (cs : List Contents) (graph : IsGraph cs) (P : Node → Type 0)
+    (can : (n : Node) → Holds cs n → P n ⊎ (P n → ⊥)) where
+  abbrev pub IsSoAt : ℕ → Type 0
+  IsSoAt k = (n : Node) × IsAt cs n k × P n
+
+  so_at-or : (k : ℕ) → k < length cs → IsSoAt k ⊎ (IsSoAt k → ⊥)
+  so_at-or k lt =
+      let n = IsAt-within cs k lt in
+      elim (can n.0 (Contains-from_place (nodes cs) k n.0 n.1)) [
+        | inl so ↦ inl (n.0, n.1, so)
+        | inr not ↦ inr (λ h. not (subst P (same_Some h.0 n.0 (sym h.1 ∙ n.1)) h.2))
+      ]
+
+  abbrev told : (marks : List Bool) × TellsOf IsSoAt (length cs) marks
+  told = marks_for IsSoAt (length cs) so_at-or
+
+  pub told_marks : List Bool
+  told_marks = told.0
+
+  pub told-len : length told_marks ≡ length cs
+  unfolding told_marks
+  told-len = told.1.0
+
+  pub told-at : (k : ℕ) → IsMarked told_marks k ↔ IsSoAt k
+  unfolding told_marks
+  told-at k = (
+    λ m. (told.1.1 k (omega (arith, slice_get_within told_marks k true m, told-len))).0 m,
+    λ so. (told.1.1 k (placed_within cs so.0 k so.1)).1 so,
+  )
+
+  pub told-are : ((n : Node) → P n → Holds cs n) → (n : Node) → IsMarkedNode cs told_marks n ↔ P n
+  told-are held n = (
+    λ m.
+        let so = (told-at m.0).0 ((marked_at cs graph told_marks told-len m.0 n m.1).1 m) in
+        subst P (same_Some so.0 n (sym so.1 ∙ m.1)) so.2,
+    λ so.
+        let p = place_from_Holds cs n (held n so) in
+        (marked_at cs graph told_marks told-len p.0 n p.1).0 ((told-at p.0).1 (n, p.1, so)),
+  )
+
+  pub told-heads : (places : List ℕ) → ((k : ℕ) → Contains places k ↔ IsTop cs IsSoAt k) → (x : Spot)
+      → (Contains places x.place × IsAt cs x.node x.place) ↔ IsMarkedHead cs told_marks x
+  told-heads places exact x = (
+    λ h.
+        let top = (exact x.place).0 h.0 in
+        (h.1, (told-at x.place).1 top.0, λ k parent m. top.1 k parent ((told-at k).0 m)),
+    λ h. (
+      (exact x.place).1 ((told-at x.place).0 h.1, λ j parent so. h.2 j parent ((told-at j).1 so)),
+      h.0,
+    ),
+  )
+
+-- what isn't secret
 module _ (ours : ReplicaState) (valid : IsValid ours.history) where
   abbrev all : List Contents
   all = changesets ours.history
 
-  shared_at-or : (k : ℕ) → k < length all → IsSharedAt ours k ⊎ (IsSharedAt ours k → ⊥)
-  shared_at-or k lt =
-      let n = IsAt-within all k lt in
-      let held = content-node ours.history valid.graph n.0 (Contains-from_place (nodes all) k n.0 n.1) in
-      elim (shared-or (content_of ours) n.0 held) [
-        | inl so ↦ inl (n.0, n.1, so)
-        | inr not ↦ inr (λ h. not (subst (IsShared (content_of ours)) (same_Some h.0 n.0 (sym h.1 ∙ n.1)) h.2))
-      ]
-
-  abbrev told : (marks : List Bool) × TellsOf (IsSharedAt ours) (length all) marks
-  told = marks_for (IsSharedAt ours) (length all) shared_at-or
+  pub shared-tell : (n : Node) → Holds all n → IsShared (content_of ours) n ⊎ (IsShared (content_of ours) n → ⊥)
+  shared-tell n held = shared-or (content_of ours) n (content-node ours.history valid.graph n held)
 
   -- a mark for each place: whether what stands there isn't secret
-  pub shared : List Bool
-  shared = told.0
+  abbrev pub shared : List Bool
+  shared = told_marks all valid.graph (IsShared (content_of ours)) shared-tell
 
   pub shared-len : length shared ≡ length all
-  unfolding shared
-  shared-len = told.1.0
-
-  shared-at : (k : ℕ) → IsMarked shared k ↔ IsSharedAt ours k
-  unfolding shared
-  shared-at k = (
-    λ m. (told.1.1 k (omega (arith, slice_get_within shared k true m, shared-len))).0 m,
-    λ so. (told.1.1 k (placed_within all so.0 k so.1)).1 so,
-  )
+  shared-len = told-len all valid.graph (IsShared (content_of ours)) shared-tell
 
   pub shared-are : AreSharedMarks ours shared
-  shared-are n = (
-    λ m.
-        let so = (shared-at m.0).0 ((marked_at all valid.graph shared shared-len m.0 n m.1).1 m) in
-        subst (IsShared (content_of ours)) (same_Some so.0 n (sym so.1 ∙ m.1)) so.2,
-    λ so.
-        let p = place_from_Holds all n (node_in_content ours.history valid.graph n so.0) in
-        (marked_at all valid.graph shared shared-len p.0 n p.1).0 ((shared-at p.0).1 (n, p.1, so)),
-  )
+  shared-are = told-are all valid.graph (IsShared (content_of ours)) shared-tell
+      (λ n so. node_in_content ours.history valid.graph n so.0)
 
   pub shared-heads : (places : List ℕ) → ((k : ℕ) → Contains places k ↔ IsTop all (IsSharedAt ours) k) → (x : Spot)
       → (Contains places x.place × IsAt all x.node x.place) ↔ IsMarkedHead all shared x
-  shared-heads places exact x = (
-    λ h.
-        let top = (exact x.place).0 h.0 in
-        (h.1, (shared-at x.place).1 top.0, λ k parent m. top.1 k parent ((shared-at k).0 m)),
-    λ h. (
-      (exact x.place).1 ((shared-at x.place).0 h.1, λ j parent so. h.2 j parent ((shared-at j).1 so)),
-      h.0,
-    ),
-  )
+  shared-heads = told-heads all valid.graph (IsShared (content_of ours)) shared-tell
 
 -- ---- what stands at places, one more
 

@@ -22,3 +22,5 @@ pub mod SampleLemmas
 pub mod KnownLemmas
 pub mod ServedLemmas
 pub mod KeptLemmas
+pub mod CommonLemmas
+pub mod ComparedLemmas

@@ -15,13 +15,14 @@ use Rattle.hg_changeset.proofs.ListLemmas.{Contains-first, Contains-later}
 use Rattle.hg_graph.proofs.PlaceLemmas.{IsAt-from, place_from_Holds}
 use Rattle.hg_phases.specs.declared.phase.Phase.TheVariants.{Secret}
 use Rattle.hg_phases.specs.State.{State, changesets, IsPhaseOf}
+use Rattle.hg_view.specs.Common.{AreFree}
 use Rattle.hg_discovery.specs.declared.status.Status.TheVariants.{Undecided, Common, Missing}
 use Rattle.hg_discovery.specs.declared.status.Spot.{Spot}
 use Rattle.hg_discovery.specs.Under.{IsUnder, IsShapeOf, itself, below}
 use Rattle.hg_discovery.specs.Search.{Search, Is, IsSearch, nodes_of}
 use Rattle.hg_discovery.specs.Answers.{AreTold}
 use Rattle.hg_discovery.specs.Start.{IsStart}
-use Rattle.hg_discovery.specs.Rounds.{Round, AreTrueRounds, AreAnsweredRounds, IsCommon, AreWithin, AreFree}
+use Rattle.hg_discovery.specs.Rounds.{Round, AreTrueRounds, AreAnsweredRounds, IsCommon, AreWithin}
 use Rattle.hg_discovery.proofs.UnderLemmas.{not_both_um, three, above_missing, under_before}
 use Rattle.hg_discovery.proofs.ToldLemmas.{all_common, all_missing, told_length}
 use Rattle.hg_discovery.proofs.DrawLemmas.{sample_member}
@@ -54,7 +55,7 @@ module _ (cs theirs : List Contents) (graph : IsGraph theirs) (free : AreFree cs
   parent_held : (c : Contents) (p : Node) → Contains cs c → IsParent c p → Holds theirs (node_of c) → Holds theirs p
   parent_held c p at is held =
       let d = Holds-changeset theirs (node_of c) held in
-      let same : c ≡ d.0 = free c d.0 at d.1 (sym d.2) in
+      let same : c ≡ d.0 = free c at d.0 d.1 (sym d.2) in
       let place = place_from_Contains theirs d.0 d.1 in
       Holds-taken theirs place.0 p (graph.parents_first place.0 d.0 place.1 p (subst (λ e. IsParent e p) same is))
 

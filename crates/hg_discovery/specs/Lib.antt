@@ -14,3 +14,4 @@ pub mod Order
 pub mod Line
 pub mod Heads
 pub mod Whole
+pub mod Compared

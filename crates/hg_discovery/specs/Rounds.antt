@@ -2,7 +2,6 @@
 use Rattle.std.specs.Prelude.{◌≡◌, ℕ, suc, Bool, true, List, [], ◌∷◌, length, slice_get, ◌↔◌, Some, Contains, IsTrue}
 use Rattle.hg_changeset.specs.declared.node.Node.{Node}
 use Rattle.hg_changeset.specs.Contents.{Contents}
-use Rattle.hg_changeset.specs.Changeset.{node_of}
 use Rattle.hg_graph.specs.Graph.{Holds}
 use Rattle.hg_replica.specs.Content.{Content}
 use Rattle.hg_view.specs.Pins.{IsServedUnder}
@@ -58,10 +57,6 @@ IsCommon t n = (x : Spot) × IsSo t Common x × (x.node ≡ n)
 -- each changeset of the first is among the second
 abbrev pub AreWithin : List Contents → List Contents → Type 0
 AreWithin cs ds = (c : Contents) → Contains cs c → Contains ds c
-
--- no changeset of the first collides with one of the second
-abbrev pub AreFree : List Contents → List Contents → Type 0
-AreFree cs ds = (c d : Contents) → Contains cs c → Contains ds d → node_of c ≡ node_of d → c ≡ d
 
 -- how many changesets are undecided
 abbrev pub undecided : List Status → ℕ

@@ -6,6 +6,7 @@ ghost use Rattle.hg_graph.specs.Marks.{IsMarkedNode};
 ghost use Rattle.hg_phases.specs.State.{changesets};
 ghost use Rattle.hg_graph.specs.Places.{IsAt};
 ghost use Rattle.hg_replica.specs.Content.{content_of};
+ghost use Rattle.hg_view.specs.Common.{AreFree};
 ghost use Rattle.hg_view.specs.Pins.{IsServedUnder};
 ghost use Rattle.hg_discovery.specs.Between.{AreHeadsInCommon, AreHeadsOfServed, AreSharedMarks};
 ghost use Rattle.hg_discovery.specs.declared.status.Spot.{Spot};
@@ -75,6 +76,25 @@ pub(crate) fn heads_of_all_kept(
     } else {
         Ok(None)
     }
+}
+
+// The heads of what is in common, ascending, by a walk down from the asker's changesets without a child. It costs what
+// the asker holds and the other doesn't serve.
+pub(crate) fn heads_by_walk(
+    alloc: Global,
+    asker: &Kept,
+    other: &Kept,
+) -> Result<Vec<Node>, AllocError>
+    requires { AreFree (changesets asker.now.replica.history) (changesets other.now.replica.history) }
+    ensures { IfOk result
+        (λ heads. AreHeadsInCommon asker.now.replica other.now.replica other.now.pins heads.items) }
+{
+    // They say that the replicas are valid, and that it can be told of each id whether it is served.
+    let _ = other.replica();
+    other.tells_what_is_served();
+    let places = asker.common_heads(other)?;
+    let found = spots_at(alloc, asker.replica().graph(), &places)?;
+    nodes(alloc, &ascending(found))
 }
 
 // What stands at the places, with its place.

@@ -7,10 +7,11 @@ ghost use Rattle.hg_phases.specs.declared.phase.Phase.TheVariants.{Secret};
 ghost use Rattle.hg_phases.specs.State.{State, changesets, IsPhaseOf};
 ghost use Rattle.hg_replica.specs.State.{ReplicaState, IsValid};
 ghost use Rattle.hg_replica.specs.Content.{content_of};
+ghost use Rattle.hg_view.specs.Common.{AreFree};
 ghost use Rattle.hg_view.specs.Pins.{IsServedUnder};
 ghost use Rattle.hg_discovery.specs.Search.{Search, IsSearch};
 ghost use Rattle.hg_discovery.specs.Start.{IsStart};
-ghost use Rattle.hg_discovery.specs.Rounds.{Round, AreTrueRounds, AreKnownRounds, AreRounds, AreWithin, AreFree};
+ghost use Rattle.hg_discovery.specs.Rounds.{Round, AreTrueRounds, AreKnownRounds, AreRounds, AreWithin};
 ghost use Rattle.hg_discovery.specs.Rounds.{IsCommon, undecided};
 
 /// Where each yes was true when it was given, each common changeset is held by both sides, whatever either does between

@@ -12,9 +12,10 @@
 //! where it is full.
 //!
 //! The asker calls [`Discovery`], and the other side answers by [`known`], under its pins. Both may go on in the
-//! meantime. Where both stand in one process, [`heads_in_common`] does all of it. Where the asker has at most 200 heads,
-//! and the other side serves each, all is in common; otherwise each of the asker's changesets is looked up there, and
-//! that tells without rounds where they would end.
+//! meantime. Where both stand in one process, [`heads_in_common`] does all of it. Where the asker has at most 200
+//! heads, and the other side serves each, all is in common. Otherwise a walk down from these heads, where no changeset
+//! of the one side collides with one of the other, or a look-up of each of the asker's changesets, tells without rounds
+//! where they would end.
 //!
 //! # Example
 //!
@@ -40,6 +41,7 @@
 
 mod answers;
 mod between;
+mod compared;
 mod discovery;
 mod draw;
 mod error;
@@ -54,7 +56,8 @@ mod status;
 mod whole;
 
 pub use answers::{known, known_kept};
-pub use between::{heads_in_common, heads_in_common_kept};
+pub use between::{heads_in_common, heads_in_common_compared, heads_in_common_kept};
+pub use compared::Compared;
 pub use discovery::Discovery;
 pub use error::DiscoveryError;
 pub use laws::{rounds_are_few, what_is_common_is_held_by_both, what_is_common_is_what_is_served};

@@ -97,7 +97,7 @@ fn place_there(
 }
 
 // Where the changeset with this id stands, which may be near.
-fn place_near(graph: &Graph, node: Node, near: usize) -> Option<usize>
+pub(crate) fn place_near(graph: &Graph, node: Node, near: usize) -> Option<usize>
     ensures { MatchOption result (¬ (Holds graph.now node)) (IsOnlyAt graph.now node) }
 {
     // It says that this is a graph.
@@ -109,7 +109,7 @@ fn place_near(graph: &Graph, node: Node, near: usize) -> Option<usize>
 }
 
 // The place behind this one, if there is one.
-fn behind(place: Option<usize>, near: usize) -> usize {
+pub(crate) fn behind(place: Option<usize>, near: usize) -> usize {
     match place {
         Some(place) => place.saturating_add(1),
         None => near,
