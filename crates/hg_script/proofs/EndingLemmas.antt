@@ -72,7 +72,7 @@ unknown_fault number f command fault is uses = subst (IsCommandFault number f co
 -- a name that stands for no node, told of its place
 pub node_fault : (number : ℕ) (f : Fleet) (command : Command) (name : Text) (place : ℕ) (fault : RunFault)
     → places f name ≡ Some place → (node_named f name ≡ None → UsesUnknown f command)
-    → IsNodeFault number f place fault → IsCommandFault number f command fault
+    → IsNodeFault number f.world place fault → IsCommandFault number f command fault
 node_fault number f command name place fault at leads (is, none) =
     unknown_fault number f command fault is (leads (node_from_place f name place None at none))
 
@@ -209,7 +209,7 @@ mark_nowhere f at place mark is (inr h) = absurd h
 -- one of the two of a pull
 pub pull_nodes : (number : ℕ) (f : Fleet) (scope : Scope) (to from : Word) (taker giver : ℕ) (fault : RunFault)
     → places f from.now ≡ Some giver → places f to.now ≡ Some taker
-    → (fault ≡ NoMemory) ⊎ (IsNodeFault number f taker fault ⊎ IsNodeFault number f giver fault)
+    → (fault ≡ NoMemory) ⊎ (IsNodeFault number f.world taker fault ⊎ IsNodeFault number f.world giver fault)
     → IsCommandFault number f (Pull scope to from) fault
 pull_nodes number f scope to from taker giver fault gives takes (inl e) =
     subst (IsCommandFault number f (Pull scope to from)) (sym e) tt

@@ -84,8 +84,8 @@ IsTakenFault number names labels state op Write = ⊥
 IsTakenFault number names labels state op NoMemory = Unit {0}
 
 -- there is no node at the place
-abbrev pub IsNodeFault : ℕ → Fleet → ℕ → RunFault → Type 0
-IsNodeFault number f place fault = (fault ≡ Line number UnknownName) × (slice_get f.world.nodes place ≡ None)
+abbrev pub IsNodeFault : ℕ → Snapshot KeptValue → ℕ → RunFault → Type 0
+IsNodeFault number world place fault = (fault ≡ Line number UnknownName) × (slice_get world.nodes place ≡ None)
 
 -- which fault the names of a command show
 abbrev pub IsNameFault : Fleet → Command → LineFault → Type 0

@@ -5,6 +5,7 @@ pub mod Events
 pub mod Faults
 pub mod Limits
 pub mod Outputs
+pub mod Peers
 pub mod Printing
 pub mod Reports
 pub mod Scripts

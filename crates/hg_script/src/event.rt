@@ -9,11 +9,12 @@ ghost use Rattle.hg_script.specs.Printing.{answer_line};
 
 use crate::fault::RunFault;
 use crate::output::print_refused;
+use crate::peers::Peers;
 use hg_history::Fault;
-use hg_peer::{Ask, Mark, Peer, PeerRefusal};
+use hg_peer::{Ask, Mark, PeerRefusal};
 use hg_replica::Change;
 use hg_rewrite::Op;
-use hg_world::{Answer, Event, World};
+use hg_world::{Answer, Event};
 use std::alloc::Global;
 use std::io::Write;
 
@@ -27,7 +28,7 @@ pub type PeerAnswer = Answer<Change, PeerRefusal, Fault>;
 pub fn run_event<W: Write>(
     alloc: Global,
     number: usize,
-    world: &mut World<Peer>,
+    world: &mut Peers,
     event: &PeerEvent,
     writer: &mut W,
 ) -> Result<PeerAnswer, RunFault>

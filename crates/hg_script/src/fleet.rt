@@ -8,7 +8,7 @@ ghost use Rattle.hg_replica.specs.State.{Below, IsSameState};
 ghost use Rattle.hg_script.specs.Commands.{texts};
 ghost use Rattle.hg_script.specs.Endings.{AreLabelsFree, IsCommandFault, IsDecided, IsLeftBy, IsNodeFault};
 ghost use Rattle.hg_script.specs.Endings.{IsTakenFault};
-ghost use Rattle.hg_script.specs.Events.{AreLeftOutAt, IsTakeFault, no_trace};
+ghost use Rattle.hg_script.specs.Events.{IsTakeFault, no_trace};
 ghost use Rattle.hg_names.specs.Labels.{labelled};
 ghost use Rattle.hg_script.specs.Outputs.{Printed};
 ghost use Rattle.hg_script.specs.Printing.{IsDone, PrintsTaken, agree_line};
@@ -22,11 +22,11 @@ use crate::fault::{LineFault, RunFault};
 use crate::marking::Marking;
 use crate::operation::{Names, Operation};
 use crate::output::print_line;
+use crate::peers::Peers;
 use crate::report::{label_of, print_report};
 use crate::spare::Spare;
 use crate::told::Told;
 use hg_changeset::{Changeset, Node};
-use hg_discovery::heads_in_common_kept;
 use hg_join::{JoinState, NoMemory};
 use hg_names::{Labels, are_distinct, bind, bound};
 use hg_peer::{Ask, Peer, Scope};
@@ -41,7 +41,7 @@ use std::io::Write;
 /// What a script has made so far.
 pub struct Fleet {
     alloc: Global,
-    world: World<Peer>,
+    world: Peers,
     // The place of each node in the world.
     nodes: BTreeMap<Vec<u8>, usize>,
     labels: Labels,
@@ -70,7 +70,7 @@ impl Fleet {
     {
         Ok(Fleet {
             alloc,
-            world: World::new(alloc, count)?,
+            world: Peers::new(alloc, count)?,
             nodes: BTreeMap::new(alloc),
             labels: Labels::new(alloc),
             messages: BTreeMap::new(alloc),
@@ -88,7 +88,7 @@ impl Fleet {
             labels: _,
             messages: _,
         } = self;
-        world
+        world.into_world()
     }
 
     /// The replica of the node with this name, with its instabilities and its pins.
@@ -96,7 +96,7 @@ impl Fleet {
         ensures { option_copied result ≡ node_named self.now name.now }
     {
         match bound(&self.nodes, name) {
-            Some(place) => Some(self.world.state(place)?.kept()),
+            Some(place) => self.world.kept(place),
             None => None,
         }
     }
@@ -123,7 +123,7 @@ impl Fleet {
 
     /// The replica of the node at a place, with its instabilities and its pins.
     pub(crate) fn kept_at(&self, place: usize) -> Option<&Kept> {
-        Some(self.world.state(place)?.kept())
+        self.world.kept(place)
     }
 
     /// The place of the node with this name.
@@ -387,7 +387,7 @@ impl Fleet {
     {
         let giver = self.place(number, from)?;
         let taker = self.place(number, to)?;
-        let common = self.left_out(number, scope, taker, giver)?;
+        let common = self.world.left_out(number, scope, taker, giver)?;
         let offer = Event::Offer {
             at: giver,
             ask: Ask { common, scope },
@@ -399,31 +399,6 @@ impl Fleet {
             offered: answer,
             taken,
         })
-    }
-
-    // What the taker leaves out of what it asks of the giver: by its heads what it has in common with it, where it asks
-    // for what is served, and nothing otherwise.
-    fn left_out(
-        &self,
-        number: usize,
-        scope: Scope,
-        taker: usize,
-        giver: usize,
-    ) -> Result<Vec<Node>, RunFault>
-        ensures ok { IfOk result (λ heads. AreLeftOutAt scope self.now.world taker giver heads.items) }
-        ensures err { IfErr result (λ fault.
-            (fault ≡ RunFault.NoMemory)
-            ⊎ (IsNodeFault number self.now taker fault ⊎ IsNodeFault number self.now giver fault)) }
-    {
-        let asker = self.kept(number, taker)?;
-        let other = self.kept(number, giver)?;
-        match scope {
-            Scope::Whole => Ok(Vec::new(self.alloc)),
-            Scope::Served => match heads_in_common_kept(self.alloc, asker, other) {
-                Ok(heads) => Ok(heads),
-                Err(_) => Err(RunFault::NoMemory),
-            },
-        }
     }
 
     // Whether two replicas are in equal states: each is below the other.
@@ -470,12 +445,9 @@ impl Fleet {
     // The replica of the node at a place, with its instabilities and its pins.
     fn kept(&self, number: usize, place: usize) -> Result<&Kept, RunFault>
         ensures ok { IfOk result (λ kept. slice_get self.now.world.nodes place ≡ Some kept.now) }
-        ensures err { IfErr result (IsNodeFault number self.now place) }
+        ensures err { IfErr result (IsNodeFault number self.now.world place) }
     {
-        match self.world.state(place) {
-            Some(peer) => Ok(peer.kept()),
-            None => Err(RunFault::Line(number, LineFault::UnknownName)),
-        }
+        self.world.kept_at(number, place)
     }
 }
 
@@ -623,7 +595,7 @@ fn keep(
 fn take_offered<W: Write>(
     alloc: Global,
     number: usize,
-    world: &mut World<Peer>,
+    world: &mut Peers,
     at: usize,
     answer: &PeerAnswer,
     writer: &mut W,

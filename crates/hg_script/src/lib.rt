@@ -37,6 +37,7 @@ mod lines;
 mod marking;
 mod operation;
 mod output;
+mod peers;
 mod reading;
 mod report;
 mod script;

@@ -16,7 +16,7 @@ pub const USER: &[u8] = b"fleet";
 /// The room of an entry that is done with, for the next one.
 pub struct Spare {
     alloc: Global,
-    // What they hold is of no account, since they are emptied before they are filled.
+    // What they hold is of no account, since they are emptied before they are filled. An empty one has no room.
     user: Vec<u8>,
     desc: Vec<u8>,
 }
@@ -51,11 +51,11 @@ impl Spare {
         let user = mem::replace(&mut self.user, Vec::new(self.alloc));
         let desc = mem::replace(&mut self.desc, Vec::new(self.alloc));
         Ok(Entry {
-            user: filled(user, USER)?,
+            user: filled(self.alloc, user, USER)?,
             secs: 0,
             offset: 0,
             extra: BTreeMap::new(self.alloc),
-            desc: filled(desc, label)?,
+            desc: filled(self.alloc, desc, label)?,
         })
     }
 
@@ -81,11 +81,14 @@ impl Spare {
     }
 }
 
-// The buffer with this text alone.
+// The buffer with this text alone, or a new one that fits it, where there is no buffer.
 #[inline(always)]
-fn filled(mut buffer: Vec<u8>, text: &[u8]) -> Result<Vec<u8>, AllocError>
+fn filled(alloc: Global, mut buffer: Vec<u8>, text: &[u8]) -> Result<Vec<u8>, AllocError>
     ensures { IfOk result (λ filled. filled.items ≡ text.now) }
 {
+    if buffer.is_empty() {
+        return Vec::from_slice(alloc, text);
+    }
     buffer.clear();
     buffer.extend_from_slice(text)?;
     Ok(buffer)
