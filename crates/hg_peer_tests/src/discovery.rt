@@ -1,8 +1,9 @@
 //! Rounds that are worked out by hand, most with each growth refused in turn.
-use crate::scene::{ascending, chain, commit, many_roots, prune};
+use crate::scene::{ascending, chain, commit, many_roots, prune, stack};
 use hg_changeset::Node;
 use hg_discovery::{
-    Discovery, DiscoveryError, heads_in_common, heads_in_common_kept, known, known_kept,
+    Compared, Discovery, DiscoveryError, heads_in_common, heads_in_common_compared,
+    heads_in_common_kept, known, known_kept,
 };
 use hg_phases::Phase;
 use hg_replica::Replica;
@@ -125,6 +126,30 @@ fn refused_growth_of_a_whole_discovery_is_told(rt: HostRuntime) {
         Err(_) => heads_in_common_kept(alloc, &asker, &other).expect(&rt, "memory"),
     };
     assert!(rt; heads.as_slice() == [b].as_slice());
+}
+
+// The other side pruned the tip of a stack.
+#[test]
+fn refused_growth_of_a_discovery_by_a_walk_is_told(rt: HostRuntime) {
+    let alloc = rt.alloc();
+    let (mut asker, mut other) = (Replica::new(alloc), Replica::new(alloc));
+    let Some([below, tip]) = stack(alloc, &mut asker, 40) else {
+        return;
+    };
+    if stack(alloc, &mut other, 40).is_none() || prune(alloc, &mut other, tip, below).is_none() {
+        return;
+    }
+    let (Ok(asker), Ok(other)) = (Kept::new(alloc, asker), Kept::new(alloc, other)) else {
+        return;
+    };
+    let mut compared = Compared::nothing();
+    let heads = match heads_in_common_compared(alloc, &asker, &other, &mut compared) {
+        Ok(heads) => heads,
+        Err(_) => heads_in_common_compared(alloc, &asker, &other, &mut compared).expect(
+            &rt, "memory",
+        ),
+    };
+    assert!(rt; heads.as_slice() == [below].as_slice());
 }
 
 #[test]
