@@ -133,9 +133,10 @@ fn refused_growth_of_a_whole_discovery_is_told(rt: HostRuntime) {
 fn refused_growth_of_a_discovery_by_a_walk_is_told(rt: HostRuntime) {
     let alloc = rt.alloc();
     let (mut asker, mut other) = (Replica::new(alloc), Replica::new(alloc));
-    let Some([below, tip]) = stack(alloc, &mut asker, 40) else {
+    let Some(last) = stack(alloc, &mut asker, 40) else {
         return;
     };
+    let [below, tip] = last;
     if stack(alloc, &mut other, 40).is_none() || prune(alloc, &mut other, tip, below).is_none() {
         return;
     }
