@@ -360,6 +360,19 @@ def amends_pulled(size):
         yield f"amend A {label(size + number)} {label(size + number + 1)}"
 
 
+def pulls_by_a_node_ahead(size):
+    """A chain that two nodes hold, a fourth more that the one holds alone, and a hundred times one more of the other,
+    pulled: what the one holds alone is gone through each time."""
+    yield from pull_into_an_empty_node(size)
+    tip = label(size - 1)
+    for number in range(size // 4):
+        yield f"commit B o{number} draft {tip}"
+        tip = f"o{number}"
+    for number in range(100):
+        yield f"commit A {label(size + number)} draft {label(size + number - 1)}"
+        yield "pull B A"
+
+
 def agreements(size):
     """Two nodes in one state, asked ten times whether they agree."""
     yield from pull_into_an_empty_node(size)
@@ -591,6 +604,7 @@ CASES += [
     ("that, and 10 pulls of nothing", pulls_of_nothing, SIZES, lambda size: 0),
     ("that, and 10 offers of everything taken", plain_offers, SIZES, lambda size: 0),
     ("that, and 100 pulls of an amended tip", amends_pulled, SMALL, lambda size: 0),
+    ("that, and 100 pulls of one by a node that is a fourth ahead", pulls_by_a_node_ahead, SMALL, lambda size: 0),
     ("that, and 10 times whether the nodes agree", agreements, SIZES, lambda size: 10),
     ("a line of merges, pulled, published and pulled", line_of_merges, SIZES, lambda size: 1),
     ("a changeset with so many children, amended, published and pulled", many_children, SIZES, lambda size: 1),
