@@ -13,7 +13,8 @@ ghost use Rattle.hg_graph.specs.Answers.{IsFirstMissing, IsNew, AddAnswer, LookU
 use crate::error::GraphError;
 use crate::links::Links;
 use hg_changeset::{Changeset, Node};
-use hg_node_set::NodeSet;
+use hg_node_set::IdKeys;
+use indexmap::IndexMap;
 use std::alloc::{AllocError, Global};
 use std::marker::Model;
 
@@ -37,9 +38,7 @@ pub struct ParentPlaces {
 
 /// Changesets in an order in which every parent is there and comes first.
 pub struct Graph {
-    // The number of an id is the place of its changeset.
-    ids: NodeSet,
-    changesets: Vec<Changeset>,
+    changesets: IndexMap<Node, Changeset, IdKeys>,
     links: Links,
 }
 
@@ -47,7 +46,6 @@ pub struct Graph {
 impl Drop for Graph {
     fn drop(self) {
         let Graph {
-            ids: _,
             changesets: _,
             links: _,
         } = self;
@@ -56,16 +54,17 @@ impl Drop for Graph {
 
 impl Model for Graph {
     ghost use Rattle.std.specs.Prelude.{◌≡◌, List};
+    ghost use Rattle.indexmap.specs.IndexMap.{keys, values};
     ghost use Rattle.hg_changeset.specs.Contents.{Contents};
     ghost use Rattle.hg_graph.specs.Graph.{IsGraph, nodes};
     ghost use Rattle.hg_graph.specs.Places.{ArePlaces};
 
     ghost Value = { List Contents };
 
-    ghost view = { λ g. g.changesets.items };
+    ghost view = { λ g. values g.changesets };
 
-    ghost invariant = { λ g. (g.ids.keys ≡ nodes g.changesets.items) × IsGraph g.changesets.items
-        × ArePlaces g.changesets.items g.links };
+    ghost invariant = { λ g. (keys g.changesets ≡ nodes (values g.changesets)) × IsGraph (values g.changesets)
+        × ArePlaces (values g.changesets) g.links };
 }
 
 impl Graph {
@@ -74,8 +73,7 @@ impl Graph {
         ensures { result ≡ [] }
     {
         Graph {
-            ids: NodeSet::new(alloc),
-            changesets: Vec::new(alloc),
+            changesets: IndexMap::with_hasher(alloc, IdKeys::known()),
             links: Links::new(alloc),
         }
     }
@@ -84,7 +82,7 @@ impl Graph {
     pub(crate) fn alloc(&self) -> Global
         ensures { IsGraph self.now }
     {
-        self.ids.allocator()
+        *self.changesets.allocator()
     }
 
     /// How many changesets are held.
@@ -126,25 +124,31 @@ impl Graph {
         ensures place { MatchOption result (¬ (Holds self.now node)) (IsOnlyAt self.now node) }
         ensures graph { IsGraph self.now }
     {
-        let ids = &self.ids;
+        let changesets = &self.changesets;
         if node.is_null() {
             return None;
         }
-        ids.get_index_of(node)
+        changesets.get_index_of(&node)
     }
 
     /// The id of the changeset at a place.
     pub fn node_at(&self, place: usize) -> Option<Node>
         ensures { result ≡ slice_get (nodes self.now) place }
     {
-        self.ids.as_slice().get(place).copied()
+        match self.changesets.get_index(place) {
+            Some((node, _)) => Some(*node),
+            None => None,
+        }
     }
 
     /// The changeset at a place.
     pub fn changeset_at(&self, place: usize) -> Option<&Changeset>
         ensures { option_copied result ≡ slice_get self.now place }
     {
-        self.changesets.get(place)
+        match self.changesets.get_index(place) {
+            Some((_, changeset)) => Some(changeset),
+            None => None,
+        }
     }
 
     /// Where the parents of the changeset at a place stand.
@@ -248,16 +252,12 @@ impl Graph {
         ensures unchanged { OnErr result (self.new ≡ self.old) }
     {
         let node = changeset.node();
-        self.changesets.reserve(1)?;
         self.links.push(parents)?;
-        match self.ids.append(node) {
-            Ok(_) => {
-                self.changesets.push(changeset)?;
-                Ok(())
-            }
+        match self.changesets.insert(node, changeset) {
+            Ok(_) => Ok(()),
             Err(refused) => {
                 self.links.pop();
-                Err(refused)
+                Err(refused.into())
             }
         }
     }
@@ -267,7 +267,6 @@ impl Graph {
     pub fn truncate(&mut self, len: usize)
         ensures { self.new ≡ take len self.old }
     {
-        self.ids.truncate(len);
         self.changesets.truncate(len);
         self.links.truncate(len);
     }
@@ -277,8 +276,11 @@ impl Graph {
         ensures { IfOk result (λ graph. graph ≡ self.now) }
     {
         let mut graph = Graph {
-            ids: NodeSet::new(self.alloc()),
-            changesets: Vec::with_capacity(self.alloc(), self.len())?,
+            changesets: IndexMap::with_capacity_and_hasher(
+                self.alloc(),
+                self.len(),
+                *self.changesets.hasher(),
+            )?,
             links: Links::with_capacity(self.alloc(), self.len())?,
         };
         for place in 0..self.len() {

@@ -17,9 +17,8 @@ use Rattle.std.proofs.lemmas.Option.{none-some, same_Some}
 use Rattle.std.proofs.lemmas.Slice.Eq.{bytes_eq-Decides}
 use mathlib.Core.Logic.{⊎_elim}
 use Rattle.hg_changeset.specs.declared.node.Node.{Node}
-use Rattle.hg_names.specs.Labels.{BindsNode, digits_behind, is_byte, is_short, labelled_in}
+use Rattle.hg_names.specs.Labels.{BindsKey, BindsNode, digits_behind, is_byte, is_short, labelled_in}
 use Rattle.hg_names.specs.Names.{value_of}
-use Rattle.hg_names.specs.Slots.{BindsKey}
 
 -- a number above each that a label of this length spells
 abbrev pub bound_of : List ℕ → ℕ
@@ -102,9 +101,6 @@ same_label xs ys all alls h = elim (cases_order (length xs) (length ys)) [
     | inr lt ↦ absurd (longer ys xs alls all lt (sym h))
   ]
 ]
-
-pub other_number : (a b : ℕ) → (a ≡ b → ⊥) → is_eq (nat_cmp a b) ≡ false
-other_number a b apart = sym (unsigned_ties a b) ∙ false_from_ne_true (nat_eq a b) (λ h. apart (eqb-true a b h))
 
 -- a short label is bound
 module _ (short new : ℕ → Option Node) (long : BTreeMap (Vec ℕ Global) Node) (label : List ℕ) (n : Node)

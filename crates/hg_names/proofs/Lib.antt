@@ -1,4 +1,2 @@
 pub mod NameLemmas
 mod DigitLemmas
-mod NumberedLemmas
-mod SlotLemmas

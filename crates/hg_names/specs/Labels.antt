@@ -1,15 +1,15 @@
 -- What labels stand for: those of few bytes by a number, and the others by their text.
-use Rattle.std.specs.Prelude.{ℕ, ◌≡◌, ◌+◌, ◌*◌, Bool, ◌&&◌, List, Option, Some, fold, if◌then◌else◌, length, nat_lt}
+use Rattle.std.specs.Prelude.{ℕ, ◌≡◌, ◌≢◌, nat_eq, ◌+◌, ◌*◌, Bool, ◌&&◌, List, Option, Some, fold, if◌then◌else◌, length, nat_lt}
 use Rattle.std.specs.declared.vec.Vec.{Vec}
 use Rattle.std.specs.declared.alloc.Global.{Global}
 use Rattle.std.specs.BTreeMap.{BTreeMap}
 use Rattle.std.specs.List.{list_all}
 use Rattle.std.specs.Map.{update}
 use Rattle.std.specs.Str.{bytes_eq}
+use Rattle.indexmap.specs.IndexMap.{get}
 use Rattle.hg_changeset.specs.declared.node.Node.{Node}
 use Rattle.hg_names.specs.declared.labels.Labels.{Labels}
 use Rattle.hg_names.specs.Names.{value_of}
-use Rattle.hg_names.specs.Slots.{node_of}
 
 -- the bytes as digits of base 256, behind what is given
 abbrev pub digits_behind : ℕ → List ℕ → ℕ
@@ -28,8 +28,13 @@ abbrev pub labelled_in : (ℕ → Option Node) → BTreeMap (Vec ℕ Global) Nod
 labelled_in short long label = if is_short label then short (digits_behind 1 label) else value_of long label
 
 abbrev pub labelled : Labels → List ℕ → Option Node
-labelled labels label = labelled_in (node_of labels.short) labels.long label
+labelled labels label = labelled_in (get nat_eq labels.short) labels.long label
 
 -- the label stands for the node, and each other for what it did
 abbrev pub BindsNode : (List ℕ → Option Node) → List ℕ → Node → (List ℕ → Option Node) → Type 0
 BindsNode old label node new = (other : List ℕ) → new other ≡ update bytes_eq old label (Some node) other
+
+-- the number stands for the node, and each other for what it did
+pub record BindsKey (old : ℕ → Option Node) (key : ℕ) (node : Node) (new : ℕ → Option Node) : Type 0 where
+  pub here : new key ≡ Some node
+  pub others : (other : ℕ) → other ≢ key → new other ≡ old other

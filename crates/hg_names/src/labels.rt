@@ -4,8 +4,8 @@ ghost use Rattle.std.specs.List.{list_all};
 ghost use Rattle.hg_names.specs.Labels.{digits_behind, is_byte, is_short, labelled, BindsNode};
 
 use crate::names::{bind, bound};
-use crate::short::ShortLabels;
 use hg_changeset::Node;
+use indexmap::IndexMap;
 use std::alloc::{AllocError, Global};
 use std::collections::BTreeMap;
 
@@ -15,7 +15,8 @@ const SHORT: usize = 7;
 /// What labels stand for: for each label, which is bytes, a node or nothing.
 pub struct Labels {
     alloc: Global,
-    short: ShortLabels,
+    // The labels of few bytes, by the numbers that they spell.
+    short: IndexMap<u64, Node>,
     long: BTreeMap<Vec<u8>, Node>,
 }
 
@@ -37,7 +38,7 @@ impl Labels {
     {
         Labels {
             alloc,
-            short: ShortLabels::new(alloc),
+            short: IndexMap::new(alloc),
             long: BTreeMap::new(alloc),
         }
     }
@@ -48,7 +49,7 @@ impl Labels {
         ensures { result ≡ labelled self.now label.now }
     {
         match short_key(label) {
-            Some(key) => self.short.get(key),
+            Some(key) => self.short.get(&key).copied(),
             None => bound(&self.long, label),
         }
     }
@@ -58,7 +59,9 @@ impl Labels {
         ensures { OnOk result (BindsNode (labelled self.old) label.now node (labelled self.new)) }
     {
         match short_key(label) {
-            Some(key) => self.short.bind(key, node)?,
+            Some(key) => {
+                self.short.insert(key, node)?;
+            }
             None => bind(self.alloc, &mut self.long, label, node)?,
         }
         Ok(())

@@ -21,8 +21,6 @@
 
 mod labels;
 mod names;
-mod short;
-mod slots;
 
 pub use labels::Labels;
 pub use names::{are_distinct, bind, bound};

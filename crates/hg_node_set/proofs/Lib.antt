@@ -1,4 +1,2 @@
 pub mod KeyLemmas
 pub mod CallerLemmas
-mod SlotLemmas
-mod NumberLemmas

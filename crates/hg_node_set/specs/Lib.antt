@@ -1,2 +1,1 @@
 pub mod Keys
-pub mod Slots

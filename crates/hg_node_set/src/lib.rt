@@ -1,13 +1,14 @@
 //! Sets of node ids, in the order in which the ids came.
 //!
-//! An id has the number of its place. It is found at about the cost of one look at a list, and at the cost of an
-//! ordered look-up at the worst, whoever chose the ids: [`NodeSet`].
+//! An id has the number of its place, and is found by a hash: [`NodeSet`]. What it is hashed by is a value that a set is
+//! made with, [`IdKeys`]: a rule that everybody knows, or one with a secret, which ids that were chosen to meet don't
+//! meet under. Tables of the crates above that are looked up by ids or labels take the same keys.
 //!
 //! # Example
 //!
 //! ```text
-//! fn numbered(alloc: Global, nodes: &[Node]) -> Result<NodeSet, AllocError> {
-//!     let mut set = NodeSet::new(alloc);
+//! fn numbered(alloc: Global, keys: IdKeys, nodes: &[Node]) -> Result<NodeSet, AllocError> {
+//!     let mut set = NodeSet::with_keys(alloc, keys);
 //!     for node in nodes {
 //!         // An id that is there keeps its number, and a new one has the next: the same as the set's length before.
 //!         let (number, _is_new) = set.insert_full(*node)?;
@@ -18,8 +19,8 @@
 //! ```
 #![tactic(auto)]
 
-mod numbers;
+mod keys;
 mod set;
-mod slots;
 
+pub use keys::IdKeys;
 pub use set::NodeSet;

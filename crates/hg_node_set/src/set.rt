@@ -1,67 +1,69 @@
 //! Node ids with numbers.
 
-ghost use Rattle.std.specs.Prelude.{◌≡◌, ◌++◌, ◌∷◌, ◌+◌, [], length, take, IfOk, IfSome, OnOk, OnErr, Some, not, false};
+ghost use Rattle.std.specs.Prelude.{◌≡◌, ◌++◌, ◌∷◌, [], length, take, IfOk, IfSome, OnOk, OnErr, Some, not, false};
 ghost use Rattle.std.specs.Prelude.{slice_get};
 ghost use Rattle.std.specs.List.{list_any, IsDistinct};
 ghost use Rattle.hg_changeset.specs.Node.{node_eq};
 ghost use Rattle.hg_node_set.specs.Keys.{insert_key, number_of, number_after};
-ghost use Rattle.hg_node_set.specs.Slots.{AreFound};
 
-use crate::slots::Slots;
+use crate::keys::IdKeys;
 use hg_changeset::Node;
+use indexmap::IndexSet;
 use std::alloc::{AllocError, Global};
 use std::marker::Model;
 
-// So many ids are looked through one by one.
-const FEW: usize = 8;
-
 /// Node ids, each once, in the order in which they came. An id has the number of its place. Contracts see the list.
 ///
-/// A look-up costs about one look at a list where ids are hashes, as those of changesets are, and the logarithm of
-/// their number whatever ids they are.
+/// A look-up costs about one hash of an id. Ids that were chosen to share their hashes are dear, so a set that takes
+/// ids of strangers is made [`with_keys`](NodeSet::with_keys) that they don't know.
 pub struct NodeSet {
-    alloc: Global,
-    nodes: Vec<Node>,
-    slots: Slots,
+    nodes: IndexSet<Node, IdKeys>,
 }
 
 // Whoever owns a set calls this once, and is proved without a look at each collection in it.
 impl Drop for NodeSet {
     fn drop(self) {
-        let NodeSet {
-            alloc: _,
-            nodes: _,
-            slots: _,
-        } = self;
+        let NodeSet { nodes: _ } = self;
     }
 }
 
 impl Model for NodeSet {
+    ghost use Rattle.hg_changeset.specs.Node.{node_eq};
+    ghost use Rattle.indexmap.specs.IndexSet.{IsUnique};
     ghost use Rattle.hg_node_set.specs.Keys.{Keys};
-    ghost use Rattle.hg_node_set.specs.Slots.{AreFound};
 
     ghost Value = { Keys };
 
-    ghost view = { λ s. record { keys = s.nodes.items } };
+    ghost view = { λ s. record { keys = s.nodes.keys } };
 
-    ghost invariant = { λ s. AreFound s.nodes.items s.slots.first s.slots.others.entries };
+    ghost invariant = { λ s. IsUnique node_eq s.nodes };
 }
 
 impl NodeSet {
-    /// No ids. It takes its memory from the allocator.
+    /// No ids. It takes its memory from the allocator, and hashes ids by the rule that everybody knows.
     pub fn new(alloc: Global) -> NodeSet
         ensures { result.keys ≡ [] }
     {
+        NodeSet::with_keys(alloc, IdKeys::known())
+    }
+
+    /// No ids, which are hashed by these keys.
+    pub fn with_keys(alloc: Global, keys: IdKeys) -> NodeSet
+        ensures { result.keys ≡ [] }
+    {
         NodeSet {
-            alloc,
-            nodes: Vec::new(alloc),
-            slots: Slots::none(alloc),
+            nodes: IndexSet::with_hasher(alloc, keys),
         }
+    }
+
+    /// What ids are hashed by.
+    pub fn keys(&self) -> IdKeys {
+        *self.nodes.hasher()
     }
 
     /// The allocator that the set takes its memory from.
     pub fn allocator(&self) -> Global {
-        self.alloc
+        *self.nodes.allocator()
     }
 
     /// How many ids there are.
@@ -87,7 +89,7 @@ impl NodeSet {
         self.get_index_of(node).is_some()
     }
 
-    /// The number of an id. What came last is found without a look at a slot.
+    /// The number of an id. What came last is found without a hash.
     pub fn get_index_of(&self, node: Node) -> Option<usize>
         ensures index { result ≡ number_of self.now.keys node }
         ensures unique { IsDistinct node_eq self.now.keys }
@@ -95,10 +97,7 @@ impl NodeSet {
         if let Some(number) = self.number_if_last(node) {
             return Some(number);
         }
-        if self.slots.is_empty() {
-            return self.nodes.iter().position(|held| node == *held);
-        }
-        self.slots.find(&self.nodes, node)
+        self.nodes.get_index_of(&node)
     }
 
     // The number of an id that came last. Mostly it is such a one that is asked of.
@@ -107,7 +106,7 @@ impl NodeSet {
         ensures unique { IsDistinct node_eq self.now.keys }
     {
         let number = self.nodes.len().checked_sub(1)?;
-        match self.nodes.get(number) {
+        match self.nodes.get_index(number) {
             Some(last) if node == *last => Some(number),
             _ => None,
         }
@@ -136,17 +135,14 @@ impl NodeSet {
         ensures err { OnErr result (self.new ≡ self.old) }
         ensures absent { OnErr result (list_any (node_eq node) self.old.keys ≡ false) }
     {
-        match self.get_index_of(node) {
-            Some(number) => Ok((number, false)),
-            None => {
-                let number = self.append(node)?;
-                Ok((number, true))
-            }
+        if let Some(number) = self.number_if_last(node) {
+            return Ok((number, false));
         }
+        let found = self.nodes.insert_full(node)?;
+        Ok(found)
     }
 
-    /// Puts an id last that isn't there, and tells its number: what [`insert_full`](NodeSet::insert_full) does of such
-    /// an id, without a look whether it is there. Where memory is refused nothing changes.
+    /// Puts an id last that isn't there, and tells its number. Where memory is refused nothing changes.
     pub fn append(&mut self, node: Node) -> Result<usize, AllocError>
         requires { list_any (node_eq node) self.old.keys ≡ false }
         ensures keys { OnOk result (self.new.keys ≡ self.old.keys ++ node ∷ []) }
@@ -154,8 +150,7 @@ impl NodeSet {
         ensures err { OnErr result (self.new ≡ self.old) }
     {
         let number = self.nodes.len();
-        self.make_slots()?;
-        self.push(node)?;
+        self.nodes.insert(node)?;
         Ok(number)
     }
 
@@ -163,56 +158,6 @@ impl NodeSet {
     pub fn truncate(&mut self, len: usize)
         ensures { self.new.keys ≡ take len self.old.keys }
     {
-        while self.len() > len {
-            let number = self.len() - 1;
-            self.forget(number);
-        }
-    }
-
-    // Makes more slots where a quarter of them may be taken, or where ids are no longer few. They are four times as
-    // many each time, so that each id gets its slot again once or twice at most.
-    fn make_slots(&mut self) -> Result<(), AllocError>
-        ensures { self.new ≡ self.old }
-    {
-        let count = self.nodes.len();
-        if count < FEW || count < self.slots.first.len() / 4 {
-            return Ok(());
-        }
-        let more = count.saturating_mul(16);
-        self.slots = Slots::of(self.alloc, &self.nodes, more)?;
-        Ok(())
-    }
-
-    // Puts a new id last, where there is a slot for it.
-    fn push(&mut self, node: Node) -> Result<(), AllocError>
-        requires { list_any (node_eq node) self.old.keys ≡ false }
-        ensures ok { OnOk result (self.new.keys ≡ self.old.keys ++ node ∷ []) }
-        ensures err { OnErr result (self.new ≡ self.old) }
-    {
-        let number = self.nodes.len();
-        self.nodes.push(node)?;
-        if self.slots.is_empty() {
-            return Ok(());
-        }
-        match self.slots.add(node, number) {
-            Ok(()) => Ok(()),
-            Err(error) => {
-                let _ = self.nodes.pop();
-                Err(error)
-            }
-        }
-    }
-
-    // Forgets the last id.
-    fn forget(&mut self, number: usize)
-        requires { number + 1 ≡ length self.old.keys }
-        ensures { self.new.keys ≡ take number self.old.keys }
-    {
-        let node = self.nodes[number];
-        self.nodes.truncate(number);
-        if self.slots.is_empty() {
-            return;
-        }
-        self.slots.remove(node, number);
+        self.nodes.truncate(len);
     }
 }

@@ -1,4 +1,5 @@
 use Rattle.std.proofs.Common.{subst, ap, ◌∙◌}
+use Rattle.indexmap.specs.IndexMap.{values}
 use Rattle.hg_node_set.specs.Keys.{number_of}
 use Rattle.hg_graph.specs.Graph.{Holds}
 use Rattle.hg_graph.proofs.GraphLemmas.{null_not_held}
@@ -12,5 +13,5 @@ returns-then-is_null-clause-place c =
 
 pub returns-clause-place : goal.returns-clause-place
 returns-clause-place c =
-    rw (← c.self.view_is) (told_place c.self.inside.changesets.items c.self.invariant.1 c.args.node
+    rw (← c.self.view_is) (told_place (values c.self.inside.changesets) c.self.invariant.1 c.args.node
     c.get_index_of.result (c.get_index_of.ensures.index ∙ ap (λ ns. number_of ns c.args.node) c.self.invariant.0))

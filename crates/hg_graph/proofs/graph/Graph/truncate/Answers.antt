@@ -1,20 +1,27 @@
-use Rattle.std.proofs.Common.{sym, subst, ap, take, ◌∙◌}
+use Rattle.std.proofs.Common.{◌≡◌, sym, subst, ap, take, ◌∙◌}
+use Rattle.std.specs.Map.{keys_of, values_of}
+use Rattle.indexmap.specs.IndexMap.{keys, values}
 use Rattle.hg_graph.specs.Graph.{nodes, IsGraph}
 use Rattle.hg_graph.specs.Places.{ArePlaces}
-use Rattle.hg_graph.proofs.GraphLemmas.{IsGraph-take, keyed-take}
+use Rattle.hg_graph.proofs.GraphLemmas.{IsGraph-take, keyed-take, map-take}
 use Rattle.hg_graph.proofs.PlaceLemmas.{ArePlaces-take}
 use Rattle.hg_graph.proofs.graph.Graph.truncate.Goals as goal
 
 pub invariant_of-self : goal.invariant_of-self
 invariant_of-self c =
     let n = c.args.len in
-    let cs = c.self.inside.changesets.items in
-    let left = sym c.truncate-2.ensures.items in
+    let m = c.self.inside.changesets in
+    let cs = values m in
+    let values_are : take n cs ≡ values c.truncate.new.self = sym (ap values_of c.truncate.ensures.entries
+    ∙ map-take (λ e. e.1) n m.entries) in
+    let keys_are : keys c.truncate.new.self ≡ take n (keys m) = ap keys_of c.truncate.ensures.entries
+    ∙ map-take (λ e. e.0) n m.entries in
     let places = ArePlaces-take cs c.self.invariant.1 n c.self.inside.links c.self.invariant.2 in (
-      c.truncate.ensures ∙ keyed-take n cs c.self.inside.ids.keys c.self.invariant.0 ∙ ap nodes left,
-      subst IsGraph left (IsGraph-take n cs c.self.invariant.1),
-      rw c.truncate-3.ensures (subst (λ ds. ArePlaces ds (take n c.self.inside.links)) left places),
+      keys_are ∙ keyed-take n cs (keys m) c.self.invariant.0 ∙ ap nodes values_are,
+      subst IsGraph values_are (IsGraph-take n cs c.self.invariant.1),
+      rw c.truncate-2.ensures (subst (λ ds. ArePlaces ds (take n c.self.inside.links)) values_are places),
     )
 
 pub returns : goal.returns
-returns c = c.truncate-2.ensures.items ∙ ap (take c.args.len) c.self.view_is
+returns c = ap values_of c.truncate.ensures.entries
+    ∙ map-take (λ e. e.1) c.args.len c.self.inside.changesets.entries ∙ ap (take c.args.len) c.self.view_is
