@@ -13,7 +13,7 @@ ghost use Rattle.hg_graph.specs.Answers.{IsFirstMissing, IsNew, AddAnswer, LookU
 use crate::error::GraphError;
 use crate::links::Links;
 use hg_changeset::{Changeset, Node};
-use hg_node_set::IdKeys;
+use hg_node_set::{IdKeys, give_back_table};
 use indexmap::IndexMap;
 use std::alloc::{AllocError, Global};
 use std::marker::Model;
@@ -68,14 +68,27 @@ impl Model for Graph {
 }
 
 impl Graph {
-    /// The graph without changesets.
+    /// The graph without changesets. It hashes ids by the rule that everybody knows.
     pub fn new(alloc: Global) -> Graph
         ensures { result ≡ [] }
     {
+        Graph::with_keys(alloc, IdKeys::known())
+    }
+
+    /// The graph without changesets, which hashes ids by these keys. Whoever takes in changesets of strangers makes it
+    /// with secret ones, so that ids that were chosen to meet cost what others cost.
+    pub fn with_keys(alloc: Global, keys: IdKeys) -> Graph
+        ensures { result ≡ [] }
+    {
         Graph {
-            changesets: IndexMap::with_hasher(alloc, IdKeys::known()),
+            changesets: IndexMap::with_hasher(alloc, keys),
             links: Links::new(alloc),
         }
+    }
+
+    /// What ids are hashed by.
+    pub fn keys(&self) -> IdKeys {
+        *self.changesets.hasher()
     }
 
     // The allocator that `new` was given. Its clause tells the sweeps, which see no field, that this is a graph.
@@ -262,13 +275,15 @@ impl Graph {
         }
     }
 
-    /// Forgets the changesets from the place `len` on. It takes back what a refused call of a crate above has added,
-    /// and is for no other use: what is kept beside a graph must be taken back with it.
+    /// Forgets the changesets from the place `len` on, and gives back the memory that they took. It takes back what a
+    /// refused call of a crate above has added, and is for no other use: what is kept beside a graph must be taken back
+    /// with it.
     pub fn truncate(&mut self, len: usize)
         ensures { self.new ≡ take len self.old }
     {
         self.changesets.truncate(len);
         self.links.truncate(len);
+        give_back_table(&mut self.changesets);
     }
 
     /// An equal graph.
@@ -276,11 +291,7 @@ impl Graph {
         ensures { IfOk result (λ graph. graph ≡ self.now) }
     {
         let mut graph = Graph {
-            changesets: IndexMap::with_capacity_and_hasher(
-                self.alloc(),
-                self.len(),
-                *self.changesets.hasher(),
-            )?,
+            changesets: IndexMap::with_capacity_and_hasher(self.alloc(), self.len(), self.keys())?,
             links: Links::with_capacity(self.alloc(), self.len())?,
         };
         for place in 0..self.len() {

@@ -10,6 +10,7 @@ ghost use Rattle.hg_graph.specs.Links.{IsChildPlace, IsLinkable, lists_of, put_l
 
 use crate::graph::ParentPlaces;
 use crate::packed::PackedPlaces;
+use hg_node_set::give_back_list;
 use smallvec::SmallVec;
 use std::alloc::{AllocError, Global};
 use std::marker::Model;
@@ -112,6 +113,8 @@ impl Links {
         while self.parents.len() > len {
             self.pop();
         }
+        give_back_list(&mut self.parents);
+        give_back_list(&mut self.children);
     }
 }
 

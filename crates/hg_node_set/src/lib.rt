@@ -4,6 +4,8 @@
 //! made with, [`IdKeys`]: a rule that everybody knows, or one with a secret, which ids that were chosen to meet don't
 //! meet under. Tables of the crates above that are looked up by ids or labels take the same keys.
 //!
+//! A list or a table that was cut gives memory back by one rule: [`give_back_list`], [`give_back_table`].
+//!
 //! # Example
 //!
 //! ```text
@@ -20,7 +22,9 @@
 #![tactic(auto)]
 
 mod keys;
+mod room;
 mod set;
 
 pub use keys::IdKeys;
+pub use room::{give_back_list, give_back_table};
 pub use set::NodeSet;

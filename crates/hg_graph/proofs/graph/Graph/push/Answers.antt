@@ -1,5 +1,5 @@
 use Rattle.std.proofs.Common.{◌≡◌, subst, sym, ap, ◌∷◌, [], ◌++◌, ◌∙◌, length, false, true≢false, refl}
-use Rattle.std.proofs.Common.{Option, None, Some, is_some, map}
+use Rattle.std.proofs.Common.{Option, None, Some, is_some}
 use Rattle.std.specs.Map.{keys_of, values_of}
 use Rattle.std.proofs.lemmas.List.{map-append}
 use Rattle.std.proofs.lemmas.Map.Made.{is_some-lookup}

@@ -12,9 +12,10 @@ invariant_of-self c =
     let n = c.args.len in
     let m = c.self.inside.changesets in
     let cs = values m in
-    let values_are : take n cs ≡ values c.truncate.new.self = sym (ap values_of c.truncate.ensures.entries
+    let cut = c.give_back_table.ensures ∙ c.truncate.ensures.entries in
+    let values_are : take n cs ≡ values c.give_back_table.new.table = sym (ap values_of cut
     ∙ map-take (λ e. e.1) n m.entries) in
-    let keys_are : keys c.truncate.new.self ≡ take n (keys m) = ap keys_of c.truncate.ensures.entries
+    let keys_are : keys c.give_back_table.new.table ≡ take n (keys m) = ap keys_of cut
     ∙ map-take (λ e. e.0) n m.entries in
     let places = ArePlaces-take cs c.self.invariant.1 n c.self.inside.links c.self.invariant.2 in (
       keys_are ∙ keyed-take n cs (keys m) c.self.invariant.0 ∙ ap nodes values_are,
@@ -23,5 +24,5 @@ invariant_of-self c =
     )
 
 pub returns : goal.returns
-returns c = ap values_of c.truncate.ensures.entries
+returns c = ap values_of (c.give_back_table.ensures ∙ c.truncate.ensures.entries)
     ∙ map-take (λ e. e.1) c.args.len c.self.inside.changesets.entries ∙ ap (take c.args.len) c.self.view_is

@@ -1,8 +1,5 @@
-use Rattle.std.proofs.Common.{◌≡◌, ◌∙◌, ◌++◌, ◌∷◌, [], ap, sym, arith, if◌then◌else◌, Bool, not, true, ℕ, List}
-use Rattle.std.specs.List.{list_any, position_or_len, IsDistinct}
+use Rattle.std.proofs.Common.{◌++◌, ◌∷◌, [], ap, sym, arith, if◌then◌else◌, Bool, not}
 use Rattle.std.proofs.lemmas.Grind.{common_steps}
-use Rattle.hg_changeset.specs.Node.{node_eq}
-use Rattle.hg_node_set.specs.Keys.{number_of, insert_key}
 use Rattle.hg_node_set.proofs.KeyLemmas.{number_at, any_at}
 use Rattle.hg_node_set.proofs.set.NodeSet.insert_full.Goals as goal
 
