@@ -19,6 +19,7 @@ use crate::join::{is_below, join_or_undo};
 use crate::undo::{Absorbed, Undo, without_undo};
 use hg_changeset::{Changeset, Node};
 use hg_graph::Graph;
+use hg_node_set::IdKeys;
 use hg_phases::{Phase, PhaseRoots, Roots};
 use std::alloc::{AllocError, Global};
 use std::marker::Model;
@@ -45,12 +46,19 @@ impl Model for History {
 }
 
 impl History {
-    /// The history that holds nothing.
+    /// The history that holds nothing. It hashes ids by the rule that everybody knows.
     pub fn new(alloc: Global) -> History
         ensures { result ≡ state_of [] [] }
     {
+        History::with_keys(alloc, IdKeys::known())
+    }
+
+    /// The history that holds nothing, which hashes ids by these keys.
+    pub fn with_keys(alloc: Global, keys: IdKeys) -> History
+        ensures { result ≡ state_of [] [] }
+    {
         History {
-            graph: Graph::new(alloc),
+            graph: Graph::with_keys(alloc, keys),
             kept: PhaseRoots::new(alloc),
             alloc,
         }
@@ -65,7 +73,20 @@ impl History {
         ensures answer { OpenAnswer changesets.now roots.now result }
         ensures valid { IfOk result IsValid }
     {
-        let mut history = History::new(alloc);
+        History::open_with_keys(alloc, IdKeys::known(), changesets, roots)
+    }
+
+    /// What [`open`](History::open) gives, which hashes ids by these keys.
+    pub fn open_with_keys(
+        alloc: Global,
+        keys: IdKeys,
+        changesets: &[Changeset],
+        roots: &Roots,
+    ) -> Result<History, Fault>
+        ensures answer { OpenAnswer changesets.now roots.now result }
+        ensures valid { IfOk result IsValid }
+    {
+        let mut history = History::with_keys(alloc, keys);
         match history.absorb(changesets, &[]) {
             Ok(_) => {}
             Err(fault) => return Err(fault),
@@ -92,6 +113,11 @@ impl History {
             kept: self.kept.copy()?,
             alloc: self.alloc,
         })
+    }
+
+    /// What ids are hashed by.
+    pub fn keys(&self) -> IdKeys {
+        self.graph.keys()
     }
 
     /// The graph of its changesets.

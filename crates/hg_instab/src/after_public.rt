@@ -20,7 +20,7 @@ use crate::query::has_phase;
 use crate::walk::{Followed, add_successors, follow};
 use hg_changeset::Node;
 use hg_marker::Marker;
-use hg_node_set::NodeSet;
+use hg_node_set::{IdKeys, NodeSet};
 use hg_obsstore::Store;
 use hg_phases::Phase;
 use hg_replica::{Change, Replica};
@@ -48,7 +48,7 @@ pub(crate) fn newly_after_public(
         return Ok(starts);
     }
     let seen = reached_beyond(replica.store(), after_public, starts)?;
-    unknown(alloc, seen.as_slice(), after_public)
+    unknown(alloc, replica.keys(), seen.as_slice(), after_public)
 }
 
 // What the change puts right after something public: the successors of fresh markers, and of what is public now and was
@@ -62,7 +62,7 @@ fn starts(
     ensures { IfOk result (λ starts. (n : Node) → Contains starts.keys n
         ↔ IsStart (content_of replica.now) change.now replica.now.markers known.now.keys n) }
 {
-    let mut starts = NodeSet::new(alloc);
+    let mut starts = NodeSet::with_keys(alloc, replica.keys());
     add_after_markers(replica, change, known, &mut starts)?;
     add_after_each(replica, &change.added, &mut starts)?;
     add_after_each(replica, &change.lowered, &mut starts)?;
@@ -173,11 +173,16 @@ fn add_beyond(
 }
 
 // Those of the nodes that aren't known.
-fn unknown(alloc: Global, nodes: &[Node], known: &BTreeSet<Node>) -> Result<NodeSet, AllocError>
+fn unknown(
+    alloc: Global,
+    keys: IdKeys,
+    nodes: &[Node],
+    known: &BTreeSet<Node>,
+) -> Result<NodeSet, AllocError>
     ensures { IfOk result (λ found. (n : Node) → Contains found.keys n
         ↔ (Contains nodes.now n × ¬ (Contains known.now.keys n))) }
 {
-    let mut found = NodeSet::new(alloc);
+    let mut found = NodeSet::with_keys(alloc, keys);
     for node in nodes {
         if is_missing(known, *node) {
             found.insert(*node)?;

@@ -44,7 +44,7 @@ pub(crate) fn region_starts(
 ) -> Result<NodeSet, AllocError>
     ensures { IfOk result (λ starts. AreStarts replica.now.markers change.now near.now.keys starts.keys) }
 {
-    let mut starts = NodeSet::new(alloc);
+    let mut starts = NodeSet::with_keys(alloc, replica.keys());
     add_rewritten(replica.store(), &change.markers, near, &mut starts)?;
     add_near(&change.added, near, &mut starts)?;
     Ok(starts)

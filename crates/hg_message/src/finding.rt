@@ -112,7 +112,7 @@ fn relevant_to_touched(
         → AreMarksOf replica.now (IsNamed (content_of replica.now) pins served_scope) served.now
         → ArePlaces (IsNamedMarker (content_of replica.now) pins served_scope) replica.now.markers found.items) }
 {
-    let nodes = touched(alloc, replica.store().markers())?;
+    let nodes = touched(alloc, replica.keys(), replica.store().markers())?;
     let nodes = marked_among(alloc, replica.graph(), served, nodes.as_slice())?;
     relevant(alloc, replica.store(), &nodes)
 }
@@ -137,7 +137,7 @@ fn relevant_to_served(alloc: Global, kept: &Kept) -> Result<Vec<usize>, AllocErr
         (IsNamedMarker (content_of kept.now.replica) kept.now.pins served_scope) kept.now.replica.markers found.items) }
 {
     let store = kept.replica().store();
-    let nodes = touched(alloc, store.markers())?;
+    let nodes = touched(alloc, store.keys(), store.markers())?;
     let nodes = served_among(alloc, kept, nodes.as_slice())?;
     relevant(alloc, store, &nodes)
 }

@@ -12,7 +12,7 @@ ghost use Rattle.hg_message.specs.Touched.{IsTouchedByOne};
 use hg_changeset::Node;
 use hg_graph::Graph;
 use hg_marker::{Marker, Parents};
-use hg_node_set::NodeSet;
+use hg_node_set::{IdKeys, NodeSet};
 use hg_view::Kept;
 use std::alloc::{AllocError, Global};
 
@@ -33,10 +33,14 @@ pub(crate) fn name_little(markers: &[Marker], changesets: usize) -> bool {
 
 /// The changesets that a marker touches, each once: its successors, or of a prune its predecessor and the parents that
 /// it records. It costs what the markers name.
-pub(crate) fn touched(alloc: Global, markers: &[Marker]) -> Result<NodeSet, AllocError>
+pub(crate) fn touched(
+    alloc: Global,
+    keys: IdKeys,
+    markers: &[Marker],
+) -> Result<NodeSet, AllocError>
     ensures { IfOk result (λ found. (n : Node) → Contains found.keys n ↔ IsTouchedByOne markers.now n) }
 {
-    let mut found = NodeSet::new(alloc);
+    let mut found = NodeSet::with_keys(alloc, keys);
     for marker in markers {
         add_touched(marker, &mut found)?;
     }

@@ -1,8 +1,9 @@
 //! A replica that decides, offers and reads, with the pins of its node.
-ghost use Rattle.std.specs.Prelude.{◌≡◌, ◌↔◌, ◌⊎◌, Bool, false, Ok, IsTrue, IsOkAnd, IfOk, IfErr, OnOk, OnErr, IsErrOf};
+ghost use Rattle.std.specs.Prelude.{◌≡◌, ◌↔◌, ◌⊎◌, [], Bool, false, Ok, IsTrue, IsOkAnd, IfOk, IfErr, OnOk, OnErr, IsErrOf};
 ghost use Rattle.std.specs.Prelude.{MatchResult};
 ghost use Rattle.hg_changeset.specs.declared.node.Node.{Node};
 ghost use Rattle.hg_join.specs.Order.{IsDue};
+ghost use Rattle.hg_phases.specs.State.{state_of};
 ghost use Rattle.hg_replica.specs.Answer.{AbsorbAnswer, IsGrowthBeforeFault};
 ghost use Rattle.hg_replica.specs.Content.{content_of, IsValidContent, ContentBelow, ContentsJoined, ContentsCollide};
 ghost use Rattle.hg_replica.specs.Content.{ContentAdmits, ContentAfter, IsContentFault};
@@ -42,6 +43,7 @@ use hg_changeset::Node;
 use hg_history::Fault;
 use hg_join::{Actor, JoinState, NoMemory};
 use hg_message::{Message, Outgoing};
+use hg_node_set::IdKeys;
 use hg_replica::{Change, Part, Replica};
 use hg_rewrite::{Op, decide_kept};
 use hg_view::Kept;
@@ -74,6 +76,16 @@ impl Peer {
         ensures { result ≡ kept }
     {
         Peer { kept }
+    }
+
+    /// A peer that holds nothing and pins nothing, which hashes ids by these keys.
+    pub fn with_keys(alloc: Global, keys: IdKeys) -> Result<Peer, NoMemory>
+        ensures replica { IfOk result (λ peer. peer.replica ≡ record { history = state_of [] []; markers = [] }) }
+        ensures pins { IfOk result (λ peer. peer.pins ≡ []) }
+    {
+        Ok(Peer {
+            kept: Kept::new(alloc, Replica::with_keys(alloc, keys))?,
+        })
     }
 
     /// Its replica.
@@ -300,9 +312,7 @@ impl Actor for Peer {
     ghost memory_is_not_against_bytes = { memory_not_against_bytes };
 
     fn empty(alloc: Global) -> Result<Peer, NoMemory> {
-        Ok(Peer {
-            kept: Kept::new(alloc, Replica::new(alloc))?,
-        })
+        Peer::with_keys(alloc, IdKeys::known())
     }
 
     fn decide(&self, alloc: Global, op: &Op) -> Result<Part, PeerRefusal>

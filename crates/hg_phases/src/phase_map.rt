@@ -25,6 +25,7 @@ use crate::phase::Phase;
 use crate::roots::Roots;
 use hg_changeset::Node;
 use hg_graph::Graph;
+use hg_node_set::give_back_list;
 use std::alloc::{AllocError, Global};
 use std::marker::Model;
 
@@ -212,6 +213,7 @@ impl PhaseMap {
         ensures { self.new ≡ take before self.old }
     {
         self.phases.truncate(before);
+        give_back_list(&mut self.phases);
     }
 
     // Lowers what stands at a place, with its ancestors.

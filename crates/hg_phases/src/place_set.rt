@@ -7,6 +7,7 @@ ghost use Rattle.std.specs.Prelude.{◌≡◌, ◌<◌, ◌≤◌, ◌-◌, ◌�
 ghost use Rattle.std.specs.Prelude.{take, slice_get, slice_set, IfOk, OnOk, OnErr};
 ghost use Rattle.hg_phases.specs.Seats.{AreSeated, swapped};
 
+use hg_node_set::give_back_list;
 use std::alloc::{AllocError, Global};
 use std::marker::Model;
 
@@ -112,6 +113,8 @@ impl PlaceSet {
         while bound < self.order.len() {
             self.forget_last();
         }
+        give_back_list(&mut self.order);
+        give_back_list(&mut self.seats);
     }
 
     // Moves the bound down by one.

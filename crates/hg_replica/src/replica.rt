@@ -22,6 +22,7 @@ use hg_changeset::{Changeset, Node};
 use hg_graph::Graph;
 use hg_history::{Fault, History};
 use hg_join::NoMemory;
+use hg_node_set::IdKeys;
 use hg_obsstore::{Hint, NewPlaces, Store};
 use hg_phases::{Phase, Roots};
 use std::alloc::{AllocError, Global};
@@ -62,27 +63,42 @@ impl Model for Replica {
 }
 
 impl Replica {
-    /// The replica that holds nothing.
+    /// The replica that holds nothing. It hashes ids by the rule that everybody knows, so it is for who knows where its
+    /// parts come from: a stranger who reads the rule can choose ids that make look-ups dear.
     pub fn new(alloc: Global) -> Replica
         ensures { result ≡ record { history = state_of [] []; markers = [] } }
     {
+        Replica::with_keys(alloc, IdKeys::known())
+    }
+
+    /// The replica that holds nothing, which hashes ids by these keys. Whoever takes in bytes of strangers makes it with
+    /// secret ones.
+    pub fn with_keys(alloc: Global, keys: IdKeys) -> Replica
+        ensures { result ≡ record { history = state_of [] []; markers = [] } }
+    {
         Replica {
-            history: History::new(alloc),
-            store: Store::new(alloc),
+            history: History::with_keys(alloc, keys),
+            store: Store::with_keys(alloc, keys),
             hints: Vec::new(alloc),
         }
     }
 
+    /// What ids are hashed by. Sets of ids that are made in passing take the same keys.
+    pub fn keys(&self) -> IdKeys {
+        self.history.keys()
+    }
+
     /// The replica of these changesets, in their order and each once, and of this store. Each changeset has the highest
     /// phase of a listed root that is it or an ancestor of it, in whatever order and however often roots are listed,
-    /// and is public where there is none. Roots that aren't among the changesets say nothing.
+    /// and is public where there is none. Roots that aren't among the changesets say nothing. Ids are hashed by the
+    /// store's keys.
     ///
     /// Refuses as [`absorb`](Replica::absorb) does: the first [`Fault::UnknownParent`] or [`Fault::Collision`].
     pub fn open(changesets: &[Changeset], roots: &Roots, store: Store) -> Result<Replica, Fault>
         ensures answer { OpenAnswer changesets.now roots.now store result }
         ensures valid { IfOk result IsValid }
     {
-        match History::open(roots.allocator(), changesets, roots) {
+        match History::open_with_keys(roots.allocator(), store.keys(), changesets, roots) {
             Ok(history) => {
                 let mut hints = Vec::new(roots.allocator());
                 note_new(&mut hints, history.graph(), &store);

@@ -230,7 +230,7 @@ impl Table {
             return Ok(Solved::Counted(ways - empty));
         }
         let found = self.unions(markers, places)?;
-        let family = largest(self.alloc, found)?;
+        let family = largest(self.alloc, self.nodes.keys(), found)?;
         self.keep_or_count(plan.lists(node), family)
     }
 

@@ -11,7 +11,7 @@ ghost use Rattle.hg_succ.specs.Holders.{IsWithinNone, Indexes, Notes, AreBelow, 
 
 use crate::numbered::{Numbered, number_each};
 use hg_changeset::Node;
-use hg_node_set::NodeSet;
+use hg_node_set::{IdKeys, NodeSet};
 use std::alloc::{AllocError, Global};
 
 /// So many sets share a word.
@@ -28,13 +28,13 @@ pub(crate) struct Holders {
 
 impl Holders {
     /// Of these sets.
-    pub(crate) fn of(alloc: Global, sets: &[Vec<Node>]) -> Result<Holders, AllocError>
+    pub(crate) fn of(alloc: Global, keys: IdKeys, sets: &[Vec<Node>]) -> Result<Holders, AllocError>
         ensures { IfOk result (Indexes (sets_of sets.now)) }
     {
         let Numbered {
             nodes: members,
             rows,
-        } = number_members(alloc, sets)?;
+        } = number_members(alloc, keys, sets)?;
         let blocks = blocks_of(alloc, &rows, members.len())?;
         Ok(Holders { rows, blocks })
     }
@@ -52,11 +52,11 @@ impl Holders {
 }
 
 // Numbers the members of the sets.
-fn number_members(alloc: Global, sets: &[Vec<Node>]) -> Result<Numbered, AllocError>
+fn number_members(alloc: Global, keys: IdKeys, sets: &[Vec<Node>]) -> Result<Numbered, AllocError>
     ensures { IfOk result
         (λ numbered. AreNumberings (sets_of sets.now) numbered.nodes.keys (rows_of numbered.rows.items)) }
 {
-    let mut nodes = NodeSet::new(alloc);
+    let mut nodes = NodeSet::with_keys(alloc, keys);
     let mut rows = Vec::new(alloc);
     for set in sets {
         let mut row = Vec::new(alloc);

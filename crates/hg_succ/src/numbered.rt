@@ -10,7 +10,7 @@ ghost use Rattle.hg_succ.specs.Numbered.{successors_at, Adds, IsRow, IsNumbered}
 
 use hg_changeset::Node;
 use hg_marker::Marker;
-use hg_node_set::NodeSet;
+use hg_node_set::{IdKeys, NodeSet};
 use hg_replica::Replica;
 use std::alloc::{AllocError, Global};
 
@@ -21,11 +21,11 @@ pub(crate) struct Numbered {
     pub rows: Vec<Vec<usize>>,
 }
 
-/// The nodes, each once.
-pub(crate) fn set_of(alloc: Global, nodes: &[Node]) -> Result<NodeSet, AllocError>
+/// The nodes, each once, hashed by these keys.
+pub(crate) fn set_of(alloc: Global, keys: IdKeys, nodes: &[Node]) -> Result<NodeSet, AllocError>
     ensures { IfOk result (λ set. (n : Node) → Contains nodes.now n → Contains set.keys n) }
 {
-    let mut set = NodeSet::new(alloc);
+    let mut set = NodeSet::with_keys(alloc, keys);
     for node in nodes {
         set.insert(*node)?;
     }

@@ -16,7 +16,7 @@ use crate::numbered::{Numbered, number};
 use crate::search::Settled;
 use crate::survey::{Survey, survey_of};
 use hg_changeset::Node;
-use hg_node_set::NodeSet;
+use hg_node_set::{IdKeys, NodeSet};
 use hg_replica::Replica;
 use std::alloc::{AllocError, Global};
 
@@ -59,19 +59,19 @@ impl Plan {
         ensures sets { asked ≡ Asked.Sets → IfOk result (λ plan. (n : Node) → Lists plan n) }
     {
         match asked {
-            Asked::Sets => Ok(Plan::whole(alloc)),
+            Asked::Sets => Ok(Plan::whole(alloc, replica.keys())),
             Asked::Counts => Plan::of_counts(alloc, replica, nodes, rows, order),
         }
     }
 
     // The families of all nodes are formed.
-    fn whole(alloc: Global) -> Plan
+    fn whole(alloc: Global, keys: IdKeys) -> Plan
         ensures { (n : Node) → Lists result n }
     {
         Plan {
             is_whole: true,
-            tangled: NodeSet::new(alloc),
-            listed: NodeSet::new(alloc),
+            tangled: NodeSet::with_keys(alloc, keys),
+            listed: NodeSet::with_keys(alloc, keys),
         }
     }
 

@@ -19,7 +19,7 @@ use std::alloc::{AllocError, Global};
 pub fn successors_sets(alloc: Global, replica: &Replica, node: Node) -> Result<Sets, AllocError>
     ensures { IfOk result (AreSets (content_of replica.now) node) }
 {
-    let mut roots = NodeSet::new(alloc);
+    let mut roots = NodeSet::with_keys(alloc, replica.keys());
     roots.insert(node)?;
     let table = table_of(alloc, replica, roots, Asked::Sets)?;
     table.sets(replica, node)
@@ -35,8 +35,13 @@ pub fn several_among(
     ensures { IfOk result (λ found. (n : Node) → Contains found.keys n
         ↔ (Contains nodes.now n × HasSeveral (content_of replica.now) n)) }
 {
-    let table = table_of(alloc, replica, set_of(alloc, nodes)?, Asked::Counts)?;
-    let mut found = NodeSet::new(alloc);
+    let table = table_of(
+        alloc,
+        replica,
+        set_of(alloc, replica.keys(), nodes)?,
+        Asked::Counts,
+    )?;
+    let mut found = NodeSet::with_keys(alloc, replica.keys());
     for node in nodes {
         if table.has_several(*node) {
             found.insert(*node)?;

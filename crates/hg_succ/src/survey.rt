@@ -19,7 +19,7 @@ use crate::numbered::successors_at;
 use crate::search::Settled;
 use hg_changeset::Node;
 use hg_marker::Marker;
-use hg_node_set::NodeSet;
+use hg_node_set::{IdKeys, NodeSet};
 use hg_replica::Replica;
 use std::alloc::{AllocError, Global};
 
@@ -65,7 +65,7 @@ pub(crate) fn survey_of(
     ensures { IfOk result (Surveys replica.now nodes.now.keys order.now) }
 {
     let ranks = ranks(alloc, nodes.len(), order)?;
-    let mut survey = Survey::new(alloc, nodes.len())?;
+    let mut survey = Survey::new(alloc, replica.keys(), nodes.len())?;
     survey.see_all(replica, nodes, &ranks, rows, order)?;
     Ok(survey)
 }
@@ -84,14 +84,14 @@ fn ranks(alloc: Global, count: usize, order: &[Settled]) -> Result<Vec<usize>, A
 
 impl Survey {
     // Nothing is seen.
-    fn new(alloc: Global, count: usize) -> Result<Survey, AllocError>
+    fn new(alloc: Global, keys: IdKeys, count: usize) -> Result<Survey, AllocError>
         ensures long { IfOk result (λ survey. length survey.spans.items ≡ count) }
         ensures none { IfOk result (λ survey. survey.tangled.keys ≡ []) }
     {
         Ok(Survey {
             spans: vec![in alloc; None; count]?,
-            tangled: NodeSet::new(alloc),
-            starts: NodeSet::new(alloc),
+            tangled: NodeSet::with_keys(alloc, keys),
+            starts: NodeSet::with_keys(alloc, keys),
         })
     }
 

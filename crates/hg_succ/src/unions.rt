@@ -15,6 +15,7 @@ ghost use Rattle.hg_succ.specs.Holders.{Indexes};
 
 use crate::holders::Holders;
 use hg_changeset::Node;
+use hg_node_set::IdKeys;
 use std::alloc::{AllocError, Global};
 
 /// The same sets.
@@ -72,8 +73,12 @@ fn union(alloc: Global, first: &[Node], second: &[Node]) -> Result<Vec<Node>, Al
 }
 
 /// The largest of the sets, which are lists in any order: those that aren't empty and aren't within a larger one, each
-/// once, ascending, in lexicographic order.
-pub(crate) fn largest(alloc: Global, found: Vec<Vec<Node>>) -> Result<Vec<Vec<Node>>, AllocError>
+/// once, ascending, in lexicographic order. Members are looked up by these keys.
+pub(crate) fn largest(
+    alloc: Global,
+    keys: IdKeys,
+    found: Vec<Vec<Node>>,
+) -> Result<Vec<Vec<Node>>, AllocError>
     ensures { IfOk result (λ family. AreLargest (sets_of found.items) (sets_of family.items)) }
 {
     let mut sets = ascending(alloc, found)?;
@@ -83,7 +88,7 @@ pub(crate) fn largest(alloc: Global, found: Vec<Vec<Node>>) -> Result<Vec<Vec<No
     if are_as_long(&sets, longest) {
         return Ok(sets);
     }
-    without_subsets(alloc, &sets, longest)
+    without_subsets(alloc, keys, &sets, longest)
 }
 
 // Each list as a set: ascending, each member once.
@@ -136,6 +141,7 @@ fn are_as_long(sets: &[Vec<Node>], longest: usize) -> bool
 // The sets that aren't empty and aren't within a larger one. None of them is longer than `longest`.
 fn without_subsets(
     alloc: Global,
+    keys: IdKeys,
     sets: &[Vec<Node>],
     longest: usize,
 ) -> Result<Vec<Vec<Node>>, AllocError>
@@ -144,7 +150,7 @@ fn without_subsets(
     requires different { IsStrictlySortedBy (slice_cmp node_cmp) (sets_of sets.now) }
     ensures { IfOk result (λ kept. sets_of kept.items ≡ filter (is_largest (sets_of sets.now)) (sets_of sets.now)) }
 {
-    let holders = Holders::of(alloc, sets)?;
+    let holders = Holders::of(alloc, keys, sets)?;
     let mut kept = Vec::new(alloc);
     for place in 0..sets.len() {
         if is_largest(sets, place, longest, &holders) {

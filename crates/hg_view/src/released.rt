@@ -35,7 +35,7 @@ pub(crate) fn released(
         (λ gone. AreReleased (content_of replica.now) pins.now node upheld.now.keys gone.keys) }
 {
     let graph = replica.graph();
-    let mut gone = NodeSet::new(alloc);
+    let mut gone = NodeSet::with_keys(alloc, replica.keys());
     let mut waiting = BTreeSet::new(alloc);
     wait_at(graph, upheld, &gone, graph.place(node), &mut waiting)?;
     while let Some(place) = waiting.pop_last() {

@@ -41,7 +41,7 @@ fn has_shown(alloc: Global, replica: &Replica, pins: &Pins, node: Node) -> Resul
     ensures { IfOk result (λ answer. IsTrue answer ↔ IsVisibleUnder (content_of replica.now) pins.now node) }
 {
     let graph = replica.graph();
-    let mut met = NodeSet::new(alloc);
+    let mut met = NodeSet::with_keys(alloc, replica.keys());
     met.insert(node)?;
     let mut next = 0;
     while next < met.len() {

@@ -36,7 +36,7 @@ pub(crate) fn upheld_besides(
         → ((n : Node) → Contains more n ↔ (Contains pins n ⊎ (node ≡ n))) → IsHeld (content_of replica.now).0 node
         → AreUpheld (content_of replica.now) more (upheld.now.keys ++ found.keys)) }
 {
-    let mut found = NodeSet::new(alloc);
+    let mut found = NodeSet::with_keys(alloc, replica.keys());
     add_mutable(replica, upheld, node, &mut found)?;
     hang_below(replica, upheld, &mut found)?;
     Ok(found)

@@ -1,7 +1,7 @@
 //! A world of nodes, with the pool of all that was offered.
 ghost use Rattle.std.specs.Prelude.{◌≡◌, ◌<◌, [], length, Option, IfOk, OnErr, vec_len, slice_get};
 ghost use Rattle.std.specs.Option.{option_copied};
-ghost use Rattle.hg_world.specs.Runs.{HasRun, Happens, IsOffer, AllEmpty, AllUnmarked, AllValid};
+ghost use Rattle.hg_world.specs.Runs.{HasRun, Happens, IsOffer, AllEmpty, AllUnmarked, AllValid, snapshot};
 
 use crate::event::{Answer, Event};
 use crate::steps::{run_all, run_event};
@@ -58,6 +58,19 @@ impl<S: Actor> World<S> {
             nodes,
             messages: Vec::new(alloc),
         })
+    }
+
+    /// A world of these nodes, each in a valid state, and no message. So nodes may be made otherwise than empty, or with
+    /// what [`new`](World::new) can't hand to them.
+    pub fn of(alloc: Global, nodes: Vec<S>) -> World<S>
+        requires { AllValid S.JoinState (snapshot nodes.items []) }
+        ensures { result ≡ snapshot nodes.items [] }
+    {
+        World {
+            alloc,
+            nodes,
+            messages: Vec::new(alloc),
+        }
     }
 
     /// Does the events one after another and gives their answers, one for each.
