@@ -6,13 +6,15 @@
 
 use hg_changeset::{Entry, Node};
 use hg_join::NoMemory;
-use hg_peer::{Ask, Peer, Scope};
+use hg_peer::{Ask, Peer, Scope, peers_with_keys};
+use hg_replica::IdKeys;
 use hg_rewrite::Op;
 use hg_world::{Answer, Event, World};
 use std::alloc::{AllocError, AllocFailed, Global};
 use std::collections::{BTreeMap, BTreeSet};
 use std::io;
 use std::process::ExitCode;
+use std::random::RandomSource;
 
 // The places of the two peers in their world.
 const ALICE: usize = 0;
@@ -24,6 +26,7 @@ const BOB: usize = 1;
 enum Stop {
     Refused,
     NoMemory,
+    Input,
     Output,
 }
 
@@ -61,9 +64,14 @@ fn main(rt: HostRuntime) -> ExitCode {
     }
 }
 
-fn exchange(rt: &(impl Print + AllocGlobal)) -> Result<(), Stop> {
+fn exchange(rt: &(impl Print + RandomSource + AllocGlobal)) -> Result<(), Stop> {
     let alloc = rt.alloc();
-    let mut world = World::<Peer>::new(alloc, 2)?;
+    // What peers send is bytes of strangers: ids that they choose to meet cost nothing more where keys are secret.
+    let keys = match IdKeys::secret(rt) {
+        Ok(keys) => keys,
+        Err(_) => return Err(Stop::Input),
+    };
+    let mut world = peers_with_keys(alloc, keys, 2)?;
     let a = commit(alloc, &mut world, ALICE, Node::NULL, b"a")?;
     let b = commit(alloc, &mut world, ALICE, a, b"b")?;
     pull(alloc, &mut world, BOB, ALICE)?;

@@ -8,10 +8,11 @@
 //! # Example
 //!
 //! ```text
-//! fn small_race<R: Threads + Wait + Sync>(rt: &R, alloc: Global) -> Result<Vec<u8>, RunFault> {
+//! fn small_race<R: RandomSource + Threads + Wait + Sync>(rt: &R, alloc: Global) -> Result<Vec<u8>, RunFault> {
 //!     let mut lines = Vec::new(alloc);
 //!     // Two nodes, of two threads each, and three rounds. It waits until all threads have ended. A line that can't be
-//!     // written ends it as `RunFault::Write`, and want of memory as `RunFault::NoMemory`.
+//!     // written ends it as `RunFault::Write`, a secret that can't be drawn as `RunFault::Read`, and want of memory as
+//!     // `RunFault::NoMemory`.
 //!     run_race(rt, alloc, 2, 3, &mut lines)?;
 //!     // Five lines: `nodes 2`, `rounds 3`, `written 12`, `read back 12` and `agreeing pairs 1 of 1`. Proved is that
 //!     // the nodes, the rounds and the number of all pairs are these. The other three come where memory isn't wanting.

@@ -9,10 +9,12 @@ use crate::result::{RaceResult, print_result};
 use crate::station::open;
 use hg_join::NoMemory;
 use hg_peer::Peer;
+use hg_replica::IdKeys;
 use hg_script::RunFault;
 use hg_view::Kept;
 use std::alloc::Global;
 use std::io::Write;
+use std::random::RandomSource;
 use std::sync::Wait;
 use std::thread;
 use std::thread::Threads;
@@ -21,8 +23,9 @@ use std::thread::Threads;
 /// rounds there were, the operations after which a node published them, the changesets that were read back and found,
 /// and how many pairs of nodes agree in the end. It waits for its threads.
 ///
-/// Refuses [`RunFault::Write`] where a line can't be written, and [`RunFault::NoMemory`], which prints nothing.
-pub fn run_race<R: Threads + Wait + Sync, W: Write>(
+/// The nodes hash ids by one secret. Refuses [`RunFault::Read`] where the system draws none, which prints nothing,
+/// [`RunFault::Write`] where a line can't be written, and [`RunFault::NoMemory`], which prints nothing.
+pub fn run_race<R: RandomSource + Threads + Wait + Sync, W: Write>(
     rt: &R,
     alloc: Global,
     nodes: u8,
@@ -34,9 +37,14 @@ pub fn run_race<R: Threads + Wait + Sync, W: Write>(
     ensures printed { OnOk result ((written : ℕ) × (read_back : ℕ) × (agreeing : ℕ)
         × Appends (W.contents writer.old) (W.contents writer.new)
         (race_lines nodes rounds written read_back agreeing)) }
-    ensures err { IfErr result (λ fault. (fault ≡ RunFault.Write) ⊎ (fault ≡ RunFault.NoMemory)) }
+    ensures err { IfErr result
+        (λ fault. (fault ≡ RunFault.Read) ⊎ (fault ≡ RunFault.Write) ⊎ (fault ≡ RunFault.NoMemory)) }
 {
-    let outcomes = race_all(rt, alloc, nodes, rounds)?;
+    let keys = match IdKeys::secret(rt) {
+        Ok(keys) => keys,
+        Err(_) => return Err(RunFault::Read),
+    };
+    let outcomes = race_all(rt, ring(alloc, keys, nodes, rounds)?)?;
     let counts = all_counts(&outcomes);
     let race = RaceResult {
         nodes: u64::from(nodes),
@@ -52,13 +60,9 @@ pub fn run_race<R: Threads + Wait + Sync, W: Write>(
 // Lets all nodes race, and tells what is left of each, in their order.
 fn race_all<R: Threads + Wait + Sync>(
     rt: &R,
-    alloc: Global,
-    nodes: u8,
-    rounds: u16,
-) -> Result<Vec<Outcome>, NoMemory>
-    requires { 1 ≤ nodes }
-{
-    let racers = ring(alloc, nodes, rounds)?;
+    racers: Vec<Racer>,
+) -> Result<Vec<Outcome>, NoMemory> {
+    let alloc = racers.allocator();
     let results = thread::map_vec(rt, racers, &|racer| race_one(rt, racer))?;
     let mut outcomes = Vec::with_capacity(alloc, results.len())?;
     for result in results {
@@ -68,7 +72,7 @@ fn race_all<R: Threads + Wait + Sync>(
 }
 
 // The nodes in a ring: each puts messages into the inbox of the next one, and the last one into that of the first.
-fn ring(alloc: Global, nodes: u8, rounds: u16) -> Result<Vec<Racer>, NoMemory>
+fn ring(alloc: Global, keys: IdKeys, nodes: u8, rounds: u16) -> Result<Vec<Racer>, NoMemory>
     requires { 1 ≤ nodes }
 {
     let (first, mut own) = open(alloc)?;
@@ -77,6 +81,7 @@ fn ring(alloc: Global, nodes: u8, rounds: u16) -> Result<Vec<Racer>, NoMemory>
         let (next, takes) = open(alloc)?;
         let lane = Lane {
             alloc,
+            keys,
             number,
             rounds,
         };
@@ -85,6 +90,7 @@ fn ring(alloc: Global, nodes: u8, rounds: u16) -> Result<Vec<Racer>, NoMemory>
     }
     let lane = Lane {
         alloc,
+        keys,
         number: nodes - 1,
         rounds,
     };

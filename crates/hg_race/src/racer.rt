@@ -5,7 +5,7 @@ use crate::rounds::write_rounds;
 use crate::station::{Mailbox, Station};
 use hg_join::NoMemory;
 use hg_live::{Blank, CallRefusal, Node, NodeName, OpenGate, Pass, Writer};
-use hg_replica::Replica;
+use hg_replica::{IdKeys, Replica};
 use std::alloc::Global;
 use std::marker::Brand;
 use std::sync::Wait;
@@ -20,6 +20,9 @@ pub(crate) type Open<K, W> = Node<K, OpenGate, Writer<K, W>>;
 pub(crate) struct Lane {
     /// The allocator.
     pub alloc: Global,
+
+    /// What its replicas hash ids by.
+    pub keys: IdKeys,
 
     /// The node's number, from 0.
     pub number: u8,
@@ -83,7 +86,7 @@ pub(crate) fn race_one<R: Threads + Wait + Sync>(
     racer: Racer,
 ) -> Result<Outcome, NoMemory> {
     let alloc = racer.lane.alloc;
-    let blank = Blank::new(alloc, Replica::new(alloc))?;
+    let blank = Blank::new(alloc, Replica::with_keys(alloc, racer.lane.keys))?;
     race_named::<Brand, R>(rt, blank, racer)
 }
 

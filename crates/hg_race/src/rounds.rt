@@ -20,10 +20,11 @@ pub(crate) fn write_rounds<K: NodeName, R: Wait, M: Mailbox>(
 ) -> Result<Counts, NoMemory> {
     let Lane {
         alloc,
+        keys,
         number,
         rounds,
     } = lane;
-    let mut own = Replica::new(alloc);
+    let mut own = Replica::with_keys(alloc, keys);
     let mut last = Id::NULL;
     let mut counts = Counts::NONE;
     for round in 0..rounds {
