@@ -6,7 +6,7 @@
 
 use hg_changeset::{Entry, Node};
 use hg_join::NoMemory;
-use hg_peer::{Ask, Peer, Scope, peers_with_keys};
+use hg_peer::{Ask, Peer, Scope, world_with_keys};
 use hg_replica::IdKeys;
 use hg_rewrite::Op;
 use hg_world::{Answer, Event, World};
@@ -71,7 +71,7 @@ fn exchange(rt: &(impl Print + RandomSource + AllocGlobal)) -> Result<(), Stop> 
         Ok(keys) => keys,
         Err(_) => return Err(Stop::Input),
     };
-    let mut world = peers_with_keys(alloc, keys, 2)?;
+    let mut world = world_with_keys(alloc, keys, 2)?;
     let a = commit(alloc, &mut world, ALICE, Node::NULL, b"a")?;
     let b = commit(alloc, &mut world, ALICE, a, b"b")?;
     pull(alloc, &mut world, BOB, ALICE)?;

@@ -1,4 +1,5 @@
 //! Sets of instabilities that are kept: after each line of a script those of each node are the ones told from scratch.
+use hg_node_set::IdKeys;
 use hg_replica_tests::is_up_to_date;
 use hg_script::{Fleet, run_counted_named};
 use std::alloc::Global;
@@ -18,7 +19,12 @@ fn is_so_throughout(alloc: Global, script: &[u8]) -> Option<bool> {
     for end in 0..script.len() {
         if script[end] == b'\n' {
             let mut writer = Vec::new(alloc);
-            let fleet = run_counted_named(alloc, &script[..=end], &mut writer).ok()?;
+            let fleet = run_counted_named(
+                alloc,
+                IdKeys::known(),
+                &script[..=end],
+                &mut writer,
+            ).ok()?;
             if !are_up_to_date(alloc, &fleet)? {
                 return Some(false);
             }

@@ -1,15 +1,10 @@
 -- Labels and the numbers that they spell.
-use Rattle.std.proofs.Common.{◌≡◌, ℕ, ◌+◌, ◌*◌, ◌-◌, ◌<◌, ◌≤◌, Bool, true, false, ◌&&◌, List, [], ◌∷◌, ◌++◌, length, take}
-use Rattle.std.proofs.Common.{drop, get_or, fold, nat_eq, nat_lt, None, Some, inl, inr, if◌then◌else◌, refl, sym, ap, subst}
-use Rattle.std.proofs.Common.{◌∙◌, arith, true≢false, Option}
-use Rattle.std.specs.declared.vec.Vec.{Vec}
-use Rattle.std.specs.declared.alloc.Global.{Global}
-use Rattle.std.specs.BTreeMap.{BTreeMap}
-use Rattle.std.specs.Cmp.{unsigned_ties}
+use Rattle.std.proofs.Common.{◌≡◌, ℕ, ◌+◌, ◌*◌, ◌-◌, ◌<◌, ◌≤◌, Bool, true, false, ◌&&◌, List, [], ◌∷◌, ◌++◌}
+use Rattle.std.proofs.Common.{length, take, drop, get_or, fold, nat_lt, Option, None, Some, inl, inr, if◌then◌else◌}
+use Rattle.std.proofs.Common.{refl, sym, ap, subst, ◌∙◌, arith, true≢false}
 use Rattle.std.specs.List.{list_all}
-use Rattle.std.specs.Ordering.{is_eq, nat_cmp}
 use Rattle.std.specs.Str.{bytes_eq}
-use Rattle.std.proofs.lemmas.Bool.{cases_Bool, cases_order, cond-true, cond-false, eqb-true, false_from_ne_true, ltb-true}
+use Rattle.std.proofs.lemmas.Bool.{cases_Bool, cases_order, cond-true, cond-false, ltb-true}
 use Rattle.std.proofs.lemmas.List.{length-drop, length-take, take-append-drop, take_more}
 use Rattle.std.proofs.lemmas.List.Folds.{list_all-append}
 use Rattle.std.proofs.lemmas.List.Sums.{fold-append}
@@ -18,7 +13,6 @@ use Rattle.std.proofs.lemmas.Slice.Eq.{bytes_eq-Decides}
 use mathlib.Core.Logic.{⊎_elim}
 use Rattle.hg_changeset.specs.declared.node.Node.{Node}
 use Rattle.hg_names.specs.Labels.{BindsKey, BindsNode, digits_behind, is_byte, is_short, labelled_in}
-use Rattle.hg_names.specs.Names.{value_of}
 
 -- a number above each that a label of this length spells
 abbrev pub bound_of : List ℕ → ℕ
@@ -103,23 +97,24 @@ same_label xs ys all alls h = elim (cases_order (length xs) (length ys)) [
 ]
 
 -- a short label is bound
-module _ (short new : ℕ → Option Node) (long : BTreeMap (Vec ℕ Global) Node) (label : List ℕ) (n : Node)
+module _ (short new : ℕ → Option Node) (long : List ℕ → Option Node) (label : List ℕ) (n : Node)
     (is : is_short label ≡ true) (binds : BindsKey short (digits_behind 1 label) n new) where
   bytes : (xs : List ℕ) → is_short xs ≡ true → list_all is_byte xs ≡ true
   bytes xs h = (both (nat_lt (length xs) 8) (list_all is_byte xs) h).1
 
   by_number : (m : ℕ → Option Node) (xs : List ℕ) → is_short xs ≡ true
       → labelled_in m long xs ≡ m (digits_behind 1 xs)
-  by_number m xs h = ap (λ b. if b then m (digits_behind 1 xs) else value_of long xs) h
+  by_number m xs h = ap (λ b. if b then m (digits_behind 1 xs) else long xs) h
 
-  by_text : (m : ℕ → Option Node) (xs : List ℕ) → is_short xs ≡ false → labelled_in m long xs ≡ value_of long xs
-  by_text m xs h = ap (λ b. if b then m (digits_behind 1 xs) else value_of long xs) h
+  by_text : (m : ℕ → Option Node) (xs : List ℕ) → is_short xs ≡ false → labelled_in m long xs ≡ long xs
+  by_text m xs h = ap (λ b. if b then m (digits_behind 1 xs) else long xs) h
 
   same : (other : List ℕ) → bytes_eq label other ≡ true → labelled_in new long other ≡ Some n
   same other h = subst (λ xs. labelled_in new long xs ≡ Some n) ((bytes_eq-Decides label other).0 h)
       (by_number new label is ∙ binds.here)
 
-  others_stay : (other : List ℕ) → bytes_eq label other ≡ false → labelled_in new long other ≡ labelled_in short long other
+  others_stay : (other : List ℕ) → bytes_eq label other ≡ false
+      → labelled_in new long other ≡ labelled_in short long other
   others_stay other h = by (is_short other) refl
     where
       by : (b : Bool) → is_short other ≡ b → labelled_in new long other ≡ labelled_in short long other
@@ -138,7 +133,7 @@ module _ (short new : ℕ → Option Node) (long : BTreeMap (Vec ℕ Global) Nod
       (cases_Bool (bytes_eq label other))
 
 -- the key that was found is that of a short label
-pub bound_key : (short new : ℕ → Option Node) (long : BTreeMap (Vec ℕ Global) Node) (label : List ℕ) (n : Node) (k : ℕ)
+pub bound_key : (short new : ℕ → Option Node) (long : List ℕ → Option Node) (label : List ℕ) (n : Node) (k : ℕ)
     → Some k ≡ (if is_short label then Some (digits_behind 1 label) else None)
     → BindsKey short k n new → BindsNode (labelled_in short long) label n (labelled_in new long)
 bound_key short new long label n k h binds = by (is_short label) refl h

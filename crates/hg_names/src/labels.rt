@@ -1,45 +1,48 @@
 //! What labels stand for.
 ghost use Rattle.std.specs.Prelude.{◌≡◌, ◌<◌, List, ℕ, None, Some, OnOk, if◌then◌else◌, true, length};
 ghost use Rattle.std.specs.List.{list_all};
-ghost use Rattle.hg_names.specs.Labels.{digits_behind, is_byte, is_short, labelled, BindsNode};
+ghost use Rattle.hg_names.specs.Labels.{digits_behind, is_byte, is_short, labelled, text_value, BindsNode};
 
-use crate::names::{bind, bound};
 use hg_changeset::Node;
+use hg_node_set::IdKeys;
 use indexmap::IndexMap;
 use std::alloc::{AllocError, Global};
-use std::collections::BTreeMap;
 
 /// So many bytes a label has at most whose number is its key.
 const SHORT: usize = 7;
 
 /// What labels stand for: for each label, which is bytes, a node or nothing.
+///
+/// A look-up costs about one hash of a label. Labels that were chosen to share their hashes are dear, so whoever takes
+/// labels of strangers makes the table [`with_keys`](Labels::with_keys) that they don't know.
 pub struct Labels {
-    alloc: Global,
     // The labels of few bytes, by the numbers that they spell.
-    short: IndexMap<u64, Node>,
-    long: BTreeMap<Vec<u8>, Node>,
+    short: IndexMap<u64, Node, IdKeys>,
+    long: IndexMap<Vec<u8>, Node, IdKeys>,
 }
 
 // Whoever owns labels calls this once, and is proved without a look at each collection in them.
 impl Drop for Labels {
     fn drop(self) {
-        let Labels {
-            alloc: _,
-            short: _,
-            long: _,
-        } = self;
+        let Labels { short: _, long: _ } = self;
     }
 }
 
 impl Labels {
-    /// No label is bound. It takes its memory from the allocator.
+    /// No label is bound. It takes its memory from the allocator, and hashes labels by the rule that everybody knows.
     pub fn new(alloc: Global) -> Labels
         ensures { (label : List ℕ) → labelled result label ≡ None }
     {
+        Labels::with_keys(alloc, IdKeys::known())
+    }
+
+    /// No label is bound. Labels are hashed by these keys.
+    pub fn with_keys(alloc: Global, keys: IdKeys) -> Labels
+        ensures { (label : List ℕ) → labelled result label ≡ None }
+    {
         Labels {
-            alloc,
-            short: IndexMap::new(alloc),
-            long: BTreeMap::new(alloc),
+            short: IndexMap::with_hasher(alloc, keys),
+            long: IndexMap::with_hasher(alloc, keys),
         }
     }
 
@@ -50,7 +53,7 @@ impl Labels {
     {
         match short_key(label) {
             Some(key) => self.short.get(&key).copied(),
-            None => bound(&self.long, label),
+            None => self.long.get(label).copied(),
         }
     }
 
@@ -62,10 +65,23 @@ impl Labels {
             Some(key) => {
                 self.short.insert(key, node)?;
             }
-            None => bind(self.alloc, &mut self.long, label, node)?,
+            None => bind_text(&mut self.long, label, node)?,
         }
         Ok(())
     }
+}
+
+// Binds the text to the node, in place of what it stood for.
+fn bind_text(
+    texts: &mut IndexMap<Vec<u8>, Node, IdKeys>,
+    text: &[u8],
+    node: Node,
+) -> Result<(), AllocError>
+    ensures { OnOk result (BindsNode (text_value texts.old) text.now node (text_value texts.new)) }
+{
+    let text = Vec::from_slice(*texts.allocator(), text)?;
+    texts.insert(text, node)?;
+    Ok(())
 }
 
 // The key of a short label.

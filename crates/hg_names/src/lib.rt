@@ -1,16 +1,18 @@
 //! Names in a script, and what they stand for.
 //!
 //! [`bound`] and [`bind`] look names up in an ordered map. Labels, of which a script has as many as changesets, have a
-//! type of their own, [`Labels`]: a label of up to seven bytes is looked up as the number that it spells. The number
-//! tells four slots, and mostly stands at the first, so a look-up costs a comparison of numbers as a rule, and no copy
-//! of the label. Labels that find their slots taken stand in an ordered map, and longer ones in one of texts, so no
-//! choice of names makes a look-up dear.
+//! type of their own, [`Labels`], two hash tables: a label of up to seven bytes is looked up by the number that it
+//! spells, with no copy of the label, and a longer one by its text, which is copied when it is bound.
+//!
+//! The tables hash by a value that they are made with, [`IdKeys`](hg_node_set::IdKeys). Labels come from whoever wrote
+//! the script, and under the rule that everybody knows they can be chosen so that all of them meet, and each look-up
+//! goes over all of them. So a program that runs scripts of strangers draws secret keys: [`Labels::with_keys`].
 //!
 //! # Example
 //!
 //! ```text
-//! fn rebound(alloc: Global, first: Node, second: Node) -> Result<Option<Node>, AllocError> {
-//!     let mut labels = Labels::new(alloc);
+//! fn rebound(alloc: Global, keys: IdKeys, first: Node, second: Node) -> Result<Option<Node>, AllocError> {
+//!     let mut labels = Labels::with_keys(alloc, keys);
 //!     labels.bind(b"tip", first)?;
 //!     labels.bind(b"tip", second)?;
 //!     // The second changeset: a label stands for what it was bound to last.

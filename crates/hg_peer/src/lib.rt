@@ -53,7 +53,7 @@
 //! - Where memory is wanting, nothing changes.
 //! - Nothing is said of arrival: no message need ever be taken, and peers need not come to cover each other.
 //!
-//! Peers of a new world hash ids by a rule that everybody knows. Where bytes of strangers come in, [`peers_with_keys`]
+//! Peers of a new world hash ids by a rule that everybody knows. Where bytes of strangers come in, [`world_with_keys`]
 //! makes the world, with secret keys, and every law holds of it as well.
 //!
 //! # Example
@@ -80,8 +80,8 @@ mod ask;
 mod laws;
 mod mark;
 mod peer;
-mod peers;
 mod refusal;
+mod world;
 
 pub use ask::Ask;
 pub use hg_message::Scope;
@@ -92,5 +92,5 @@ pub use laws::{
 };
 pub use mark::Mark;
 pub use peer::Peer;
-pub use peers::peers_with_keys;
 pub use refusal::{Numbered, PeerRefusal};
+pub use world::world_with_keys;

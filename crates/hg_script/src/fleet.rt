@@ -29,6 +29,7 @@ use crate::told::Told;
 use hg_changeset::{Changeset, Node};
 use hg_join::{JoinState, NoMemory};
 use hg_names::{Labels, are_distinct, bind, bound};
+use hg_node_set::IdKeys;
 use hg_peer::{Ask, Peer, Scope};
 use hg_replica::{Part, Replica};
 use hg_rewrite::{Op, decide_kept};
@@ -63,16 +64,16 @@ impl Drop for Fleet {
 }
 
 impl Fleet {
-    /// A new world with a place for so many nodes, none of which has a name yet.
-    pub(crate) fn new(alloc: Global, count: usize) -> Result<Fleet, NoMemory>
+    /// A new world with a place for so many nodes, none of which has a name yet. Ids and labels are hashed by the keys.
+    pub(crate) fn new(alloc: Global, keys: IdKeys, count: usize) -> Result<Fleet, NoMemory>
         ensures new { IfOk result (IsNewFleet count) }
         ensures memory { OnErr result (0 < count) }
     {
         Ok(Fleet {
             alloc,
-            world: Peers::new(alloc, count)?,
+            world: Peers::new(alloc, keys, count)?,
             nodes: BTreeMap::new(alloc),
-            labels: Labels::new(alloc),
+            labels: Labels::with_keys(alloc, keys),
             messages: BTreeMap::new(alloc),
         })
     }

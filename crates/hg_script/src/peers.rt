@@ -16,7 +16,8 @@ use crate::fault::{LineFault, RunFault};
 use hg_changeset::Node;
 use hg_discovery::{Compared, heads_in_common_compared};
 use hg_join::NoMemory;
-use hg_peer::{Peer, Scope};
+use hg_node_set::IdKeys;
+use hg_peer::{Peer, Scope, world_with_keys};
 use hg_view::Kept;
 use hg_world::World;
 use std::alloc::Global;
@@ -60,8 +61,8 @@ impl Model for Peers {
 }
 
 impl Peers {
-    /// So many new peers, and no message. Nothing is noted.
-    pub(crate) fn new(alloc: Global, count: usize) -> Result<Peers, NoMemory>
+    /// So many new peers, and no message. Nothing is noted. Ids are hashed by the keys.
+    pub(crate) fn new(alloc: Global, keys: IdKeys, count: usize) -> Result<Peers, NoMemory>
         ensures nodes { IfOk result (λ peers. length peers.nodes ≡ count) }
         ensures empty { IfOk result (AllEmpty peer_state) }
         ensures unmarked { IfOk result (AllUnmarked peer_state peer_words) }
@@ -70,7 +71,7 @@ impl Peers {
     {
         Ok(Peers {
             alloc,
-            world: World::new(alloc, count)?,
+            world: world_with_keys(alloc, keys, count)?,
             pairs: BTreeMap::new(alloc),
         })
     }

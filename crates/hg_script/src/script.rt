@@ -19,6 +19,7 @@ use crate::lines::{count_nodes, cut_line, is_short, words_of};
 use crate::reading::read_command;
 use crate::spare::Spare;
 use crate::told::Told;
+use hg_node_set::IdKeys;
 use hg_peer::Peer;
 use hg_world::{World, runs_compose};
 use std::alloc::Global;
@@ -29,7 +30,8 @@ use std::sync::ledger::{Blank, Ledger};
 /// Reads a script, does its lines in order, and prints what they report, one write for each line. What was printed
 /// before a fault stays.
 ///
-/// It makes at most 1,048,577 reads, one more than a script may have bytes.
+/// It makes at most 1,048,577 reads, one more than a script may have bytes. Ids and labels are hashed by the rule that
+/// everybody knows; whoever takes scripts of strangers calls [`run_named`] with keys that they don't know.
 pub fn run_script<R: CountedRead, W: Write>(
     alloc: Global,
     reader: &mut R,
@@ -59,13 +61,15 @@ pub fn run_fleet<R: CountedRead, W: Write>(
     ensures stopped { IfErr result (IsStop (R.remaining reader.old)) }
     ensures reads { R.reads reader.new ≤ R.reads reader.old + (script_limit + 1) }
 {
-    let fleet = run_named(alloc, reader, writer)?;
+    let fleet = run_named(alloc, IdKeys::known(), reader, writer)?;
     Ok(fleet.into_world())
 }
 
-/// [`run_fleet`], which gives the names of the script too: its nodes and messages are found by them.
+/// [`run_fleet`], which gives the names of the script too: its nodes and messages are found by them. Ids and labels are
+/// hashed by the keys.
 pub fn run_named<R: CountedRead, W: Write>(
     alloc: Global,
+    keys: IdKeys,
     reader: &mut R,
     writer: &mut W,
 ) -> Result<Fleet, RunFault>
@@ -76,7 +80,7 @@ pub fn run_named<R: CountedRead, W: Write>(
     ensures reads { R.reads reader.new ≤ R.reads reader.old + (script_limit + 1) }
 {
     let text = read_script(alloc, reader)?;
-    run_text(alloc, &text, writer)
+    run_text(alloc, keys, &text, writer)
 }
 
 /// [`run_script`] of a reader that counts nothing, by a count of its own.
@@ -90,13 +94,14 @@ pub fn run_counted<R: Read + Drop, W: Write>(
         × PrintsScript (R.remaining reader) world (W.contents writer.old) (W.contents writer.new)) }
     ensures stopped { IfErr result (IsStop (R.remaining reader)) }
 {
-    run_counted_named(alloc, reader, writer)?;
+    run_counted_named(alloc, IdKeys::known(), reader, writer)?;
     Ok(())
 }
 
 /// [`run_named`] of a reader that counts nothing, by a count of its own.
 pub fn run_counted_named<R: Read + Drop, W: Write>(
     alloc: Global,
+    keys: IdKeys,
     reader: R,
     writer: &mut W,
 ) -> Result<Fleet, RunFault>
@@ -105,11 +110,12 @@ pub fn run_counted_named<R: Read + Drop, W: Write>(
         PrintsScript (R.remaining reader) fleet.world (W.contents writer.old) (W.contents writer.new)) }
     ensures stopped { IfErr result (IsStop (R.remaining reader)) }
 {
-    count_and_run::<R, W, Brand>(alloc, reader, writer, Blank::new(1))
+    count_and_run::<R, W, Brand>(alloc, keys, reader, writer, Blank::new(1))
 }
 
 fn count_and_run<R: Read + Drop, W: Write, L: Ledger>(
     alloc: Global,
+    keys: IdKeys,
     reader: R,
     writer: &mut W,
     blank: Blank,
@@ -123,16 +129,21 @@ fn count_and_run<R: Read + Drop, W: Write, L: Ledger>(
     ensures stopped { IfErr result (IsStop (R.remaining reader)) }
 {
     let mut counted = Counted::<R, L>::new(reader, blank);
-    run_named(alloc, &mut counted, writer)
+    run_named(alloc, keys, &mut counted, writer)
 }
 
-fn run_text<W: Write>(alloc: Global, text: &[u8], writer: &mut W) -> Result<Fleet, RunFault>
+fn run_text<W: Write>(
+    alloc: Global,
+    keys: IdKeys,
+    text: &[u8],
+    writer: &mut W,
+) -> Result<Fleet, RunFault>
     ensures ran { IfOk result (IsRunTo text.now) }
     ensures printed { IfOk result (λ fleet.
         PrintsRun text.now fleet.world (W.contents writer.old) (W.contents writer.new)) }
     ensures stopped { IfErr result (λ fault. (fault ≡ RunFault.NoMemory) ⊎ IsStoppedBy text.now fault) }
 {
-    let mut fleet = Fleet::new(alloc, count_nodes(text))?;
+    let mut fleet = Fleet::new(alloc, keys, count_nodes(text))?;
     runs_compose::<Peer>();
     run_lines(alloc, &mut fleet, text, writer)?;
     Ok(fleet)

@@ -24,6 +24,7 @@ use crate::script::run_line;
 use crate::spare::Spare;
 use crate::told::Told;
 use crate::tracing::{rounds_of, trace};
+use hg_node_set::IdKeys;
 use hg_peer::Peer;
 use hg_world::runs_compose;
 use std::alloc::{AllocError, Global};
@@ -103,6 +104,7 @@ impl From<hg_join::NoMemory> for ToldFault {
 /// [`run_named`](crate::run_named), with notes on its lines. The lines of the script are done as without notes.
 pub fn run_told<R: CountedRead, W: Write>(
     alloc: Global,
+    keys: IdKeys,
     reader: &mut R,
     writer: &mut W,
     notes: Notes,
@@ -112,12 +114,13 @@ pub fn run_told<R: CountedRead, W: Write>(
     ensures reads { R.reads reader.new ≤ R.reads reader.old + (script_limit + 1) }
 {
     let text = read_script(alloc, reader)?;
-    tell_text(alloc, &text, writer, notes)
+    tell_text(alloc, keys, &text, writer, notes)
 }
 
 /// [`run_told`] of a reader that counts nothing, by a count of its own.
 pub fn run_counted_told<R: Read + Drop, W: Write>(
     alloc: Global,
+    keys: IdKeys,
     reader: R,
     writer: &mut W,
     notes: Notes,
@@ -125,11 +128,12 @@ pub fn run_counted_told<R: Read + Drop, W: Write>(
     ensures ran { IfOk result (IsLeftFleet (R.remaining reader)) }
     ensures stopped { IfErr result (λ told. IsStop (R.remaining reader) told.fault) }
 {
-    count_and_tell::<R, W, Brand>(alloc, reader, writer, notes, Blank::new(1))
+    count_and_tell::<R, W, Brand>(alloc, keys, reader, writer, notes, Blank::new(1))
 }
 
 fn count_and_tell<R: Read + Drop, W: Write, L: Ledger>(
     alloc: Global,
+    keys: IdKeys,
     reader: R,
     writer: &mut W,
     notes: Notes,
@@ -142,11 +146,12 @@ fn count_and_tell<R: Read + Drop, W: Write, L: Ledger>(
     ensures stopped { IfErr result (λ told. IsStop (R.remaining reader) told.fault) }
 {
     let mut counted = Counted::<R, L>::new(reader, blank);
-    run_told(alloc, &mut counted, writer, notes)
+    run_told(alloc, keys, &mut counted, writer, notes)
 }
 
 fn tell_text<W: Write>(
     alloc: Global,
+    keys: IdKeys,
     text: &[u8],
     writer: &mut W,
     notes: Notes,
@@ -154,7 +159,7 @@ fn tell_text<W: Write>(
     ensures ran { IfOk result (IsRunTo text.now) }
     ensures stopped { IfErr result (λ told. (told.fault ≡ NoMemory) ⊎ IsStoppedBy text.now told.fault) }
 {
-    let mut fleet = Fleet::new(alloc, count_nodes(text))?;
+    let mut fleet = Fleet::new(alloc, keys, count_nodes(text))?;
     runs_compose::<Peer>();
     tell_lines(alloc, &mut fleet, text, writer, notes)?;
     Ok(fleet)

@@ -3,23 +3,26 @@ ghost use Rattle.std.specs.Prelude.{◌≤◌};
 
 use crate::failure::Failure;
 use hg_log::{draw_graph, draw_log};
+use hg_node_set::IdKeys;
 use hg_race::run_race;
 use hg_script::{Fleet, Notes, RunFault, run_counted_named, run_counted_told};
 use hg_show::{Form, write_roots, write_store};
 use hg_view::Kept;
 use std::alloc::{AllocError, Global};
 use std::io::{BufWriter, Write, sink};
+use std::random::RandomSource;
 use std::sync::Wait;
 use std::thread::Threads;
 use std::{io, mem};
 
 /// Runs the script of standard input. What was printed before a fault stays.
-pub fn run(rt: &(impl Print + Input + AllocGlobal)) -> Result<(), Failure<'static>> {
+pub fn run(rt: &(impl Print + Input + AllocGlobal + RandomSource)) -> Result<(), Failure<'static>> {
+    let keys = secret_keys(rt)?;
     let mut writer = match BufWriter::new(rt.alloc(), io::writer(rt)) {
         Ok(writer) => writer,
         Err(_) => return Err(Failure::Run(RunFault::NoMemory)),
     };
-    let done = run_counted_named(rt.alloc(), rt.reader(), &mut writer);
+    let done = run_counted_named(rt.alloc(), keys, rt.reader(), &mut writer);
     let flushed = writer.flush().map_err(|_| RunFault::Write);
     let fleet = done?;
     flushed?;
@@ -30,14 +33,15 @@ pub fn run(rt: &(impl Print + Input + AllocGlobal)) -> Result<(), Failure<'stati
 
 /// Runs the script of standard input with notes. What was printed before a fault stays.
 pub fn run_told(
-    rt: &(impl Print + Input + AllocGlobal),
+    rt: &(impl Print + Input + AllocGlobal + RandomSource),
     notes: Notes,
 ) -> Result<(), Failure<'static>> {
+    let keys = secret_keys(rt)?;
     let mut writer = match BufWriter::new(rt.alloc(), io::writer(rt)) {
         Ok(writer) => writer,
         Err(_) => return Err(Failure::Run(RunFault::NoMemory)),
     };
-    let done = run_counted_told(rt.alloc(), rt.reader(), &mut writer, notes);
+    let done = run_counted_told(rt.alloc(), keys, rt.reader(), &mut writer, notes);
     let flushed = writer.flush().map_err(|_| Failure::Run(RunFault::Write));
     match done {
         Ok(_) => flushed,
@@ -67,7 +71,7 @@ pub fn race(
 /// Draws the histories of these nodes as the script of standard input leaves them, or those of all its nodes where none
 /// is named. Nothing is drawn where one of the names is unknown.
 pub fn log<'a>(
-    rt: &(impl Print + Input + AllocGlobal),
+    rt: &(impl Print + Input + AllocGlobal + RandomSource),
     nodes: &'a [String],
     drawing: Drawing,
 ) -> Result<(), Failure<'a>> {
@@ -97,9 +101,18 @@ pub struct Drawing {
     pub is_graph: bool,
 }
 
+// Keys that no writer of a script knows.
+fn secret_keys(rt: &impl RandomSource) -> Result<IdKeys, Failure<'static>> {
+    IdKeys::secret(rt).map_err(|_| Failure::Keys)
+}
+
 // The fleet as the script of standard input leaves it. What the script prints goes nowhere.
-fn left_by_script(rt: &(impl Input + AllocGlobal)) -> Result<Fleet, RunFault> {
-    run_counted_named(rt.alloc(), rt.reader(), &mut sink())
+fn left_by_script(
+    rt: &(impl Input + AllocGlobal + RandomSource),
+) -> Result<Fleet, Failure<'static>> {
+    let keys = secret_keys(rt)?;
+    let fleet = run_counted_named(rt.alloc(), keys, rt.reader(), &mut sink())?;
+    Ok(fleet)
 }
 
 // Whether the fleet has a node of each name.
@@ -176,7 +189,10 @@ fn write_bytes<W: Write>(bytes: &[u8], writer: &mut W) -> Result<(), Failure<'st
 }
 
 /// Reads the bytes of standard input in this form, and prints them as text.
-pub fn show(rt: &(impl Print + Input + AllocGlobal), form: Form) -> Result<(), Failure<'static>> {
+pub fn show(
+    rt: &(impl Print + Input + AllocGlobal + RandomSource),
+    form: Form,
+) -> Result<(), Failure<'static>> {
     let mut writer = match BufWriter::new(rt.alloc(), io::writer(rt)) {
         Ok(writer) => writer,
         Err(_) => return Err(Failure::Run(RunFault::NoMemory)),
@@ -191,7 +207,7 @@ pub fn show(rt: &(impl Print + Input + AllocGlobal), form: Form) -> Result<(), F
 /// Writes the store or the roots of the node of this name, or the message of this name, as the script of standard input
 /// leaves them.
 pub fn write<'a>(
-    rt: &(impl Print + Input + AllocGlobal),
+    rt: &(impl Print + Input + AllocGlobal + RandomSource),
     form: Form,
     name: &'a str,
 ) -> Result<(), Failure<'a>> {

@@ -14,6 +14,8 @@ pub enum Failure<'a> {
     Told(ToldFault),
     /// Why bytes weren't shown.
     Show(ShowFault),
+    /// The system drew no keys to hash by.
+    Keys,
     /// The script leaves no node, or no message, of this name.
     UnknownName(&'a str),
 }
@@ -25,7 +27,7 @@ impl Failure<'_> {
             Failure::Run(fault) => fault.status(),
             Failure::Told(fault) => fault.status(),
             Failure::Show(fault) => fault.status(),
-            Failure::UnknownName(_) => 1,
+            Failure::Keys | Failure::UnknownName(_) => 1,
         }
     }
 }
@@ -36,6 +38,7 @@ impl fmt::Display for Failure<'_> {
             Failure::Run(fault) => write!(f, "{fault}"),
             Failure::Told(fault) => write!(f, "{fault}"),
             Failure::Show(fault) => write!(f, "{fault}"),
+            Failure::Keys => write!(f, "no random keys"),
             Failure::UnknownName(name) => write!(f, "unknown name: {name}"),
         }
     }

@@ -2,7 +2,7 @@ use Rattle.std.proofs.Common.{◌≡◌, ◌≤◌, All, vec_len, vec_capacity}
 use Rattle.hg_join.specs.Order.{IsLeastOfAll}
 use Rattle.hg_peer.specs.Words.{peer_state, peer_words}
 use Rattle.hg_view.specs.Kept.{KeptValue}
-use Rattle.hg_peer.proofs.peers.peers_with_keys.Given as goal
+use Rattle.hg_peer.proofs.world.world_with_keys.Given as goal
 
 abbrev pub invariant-loop : goal.invariant-loop
 invariant-loop l = record {

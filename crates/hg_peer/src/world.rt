@@ -11,7 +11,7 @@ use std::alloc::Global;
 
 /// A world of so many empty peers, none of which pins anything, and no message: what [`World::new`] gives, of peers that
 /// hash ids by these keys. Whoever hands bytes of strangers to a world makes it so, with secret keys.
-pub fn peers_with_keys(
+pub fn world_with_keys(
     alloc: Global,
     keys: IdKeys,
     count: usize,
