@@ -5,9 +5,9 @@ use std::random::RandomSource;
 
 /// How tables hash ids and labels: by the rule that everybody knows, or by that rule begun at a secret.
 ///
-/// No answer depends on it, but what a look-up costs does. Who knows the keys can choose ids that share their hashes, and
-/// each look-up among these goes over all of them. So whoever takes bytes of strangers makes its tables with secret keys,
-/// which cost what the known ones do. Ids that are chosen in advance then meet no oftener than others. It is no
+/// No answer depends on it, but what a look-up costs does. Who knows the keys can choose ids that share their hashes,
+/// and each look-up among these goes over all of them. So whoever takes bytes of strangers makes its tables with secret
+/// keys, which cost what the known ones do. Ids that were chosen in advance then meet no oftener than others. It is no
 /// cryptographic hash: nothing is promised against somebody who can measure single look-ups.
 #[derive(Clone, Copy)]
 pub struct IdKeys {

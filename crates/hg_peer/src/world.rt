@@ -9,13 +9,9 @@ use hg_node_set::IdKeys;
 use hg_world::World;
 use std::alloc::Global;
 
-/// A world of so many empty peers, none of which pins anything, and no message: what [`World::new`] gives, of peers that
-/// hash ids by these keys. Whoever hands bytes of strangers to a world makes it so, with secret keys.
-pub fn world_with_keys(
-    alloc: Global,
-    keys: IdKeys,
-    count: usize,
-) -> Result<World<Peer>, NoMemory>
+/// A world of so many empty peers, none of which pins anything, and no message: what [`World::new`] gives, of peers
+/// that hash ids by these keys. Whoever hands bytes of strangers to a world makes it so, with secret keys.
+pub fn world_with_keys(alloc: Global, keys: IdKeys, count: usize) -> Result<World<Peer>, NoMemory>
     ensures nodes { IfOk result (λ world. length world.nodes ≡ count) }
     ensures empty { IfOk result (AllEmpty peer_state) }
     ensures unmarked { IfOk result (AllUnmarked peer_state peer_words) }

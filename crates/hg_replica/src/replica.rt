@@ -63,16 +63,16 @@ impl Model for Replica {
 }
 
 impl Replica {
-    /// The replica that holds nothing. It hashes ids by the rule that everybody knows, so it is for who knows where its
-    /// parts come from: a stranger who reads the rule can choose ids that make look-ups dear.
+    /// The replica that holds nothing. It hashes ids by the rule that everybody knows, so it is for parts that don't
+    /// come from strangers: these can choose ids that make look-ups dear.
     pub fn new(alloc: Global) -> Replica
         ensures { result ≡ record { history = state_of [] []; markers = [] } }
     {
         Replica::with_keys(alloc, IdKeys::known())
     }
 
-    /// The replica that holds nothing, which hashes ids by these keys. Whoever takes in bytes of strangers makes it with
-    /// secret ones.
+    /// The replica that holds nothing, which hashes ids by these keys. Whoever takes in bytes of strangers makes it
+    /// with secret ones.
     pub fn with_keys(alloc: Global, keys: IdKeys) -> Replica
         ensures { result ≡ record { history = state_of [] []; markers = [] } }
     {

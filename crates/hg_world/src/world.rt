@@ -60,8 +60,8 @@ impl<S: Actor> World<S> {
         })
     }
 
-    /// A world of these nodes, each in a valid state, and no message. So nodes may be made otherwise than empty, or with
-    /// what [`new`](World::new) can't hand to them.
+    /// A world of these nodes, each in a valid state, and no message. So nodes may be made otherwise than empty, or
+    /// with what [`new`](World::new) can't hand to them.
     pub fn of(alloc: Global, nodes: Vec<S>) -> World<S>
         requires { AllValid S.JoinState (snapshot nodes.items []) }
         ensures { result ≡ snapshot nodes.items [] }

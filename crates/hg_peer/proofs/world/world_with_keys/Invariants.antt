@@ -8,6 +8,7 @@ abbrev pub invariant-loop : goal.invariant-loop
 invariant-loop l = record {
   counted : vec_len l.peers ≡ l.counter;
   room : l.count ≤ vec_capacity l.peers;
-  empty : All (λ (peer : KeptValue). IsLeastOfAll peer_state.IsValid peer_state.Below (peer_state.content peer)) l.peers.items;
+  empty : All (λ (peer : KeptValue). IsLeastOfAll peer_state.IsValid peer_state.Below (peer_state.content peer))
+      l.peers.items;
   unmarked : All (λ (peer : KeptValue). peer_words.owned peer ≡ peer_words.own_of_empty) l.peers.items;
 }
