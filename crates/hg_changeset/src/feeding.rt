@@ -12,7 +12,7 @@ use std::hash::Hasher;
 ///
 /// The standard hash tables mix up to eight bytes into all that came before, and may forget it at a longer write.
 #[tactic(auto, unfolding(crate::specs::Fed::bytes_fed))]
-pub fn feed_bytes<H: Hasher>(bytes: &[u8], state: &mut H)
+pub(crate) fn feed_bytes<H: Hasher>(bytes: &[u8], state: &mut H)
     ensures { state.new ≡ fold H.write state.old (bytes_fed bytes.now) }
 {
     let mut rest = bytes;
