@@ -37,8 +37,8 @@ fn labels_that_differ_in_a_byte(rt: HostRuntime) {
     let mut labels = Labels::new(rt.alloc());
     for label in [b"seven-1".as_slice(), b"eight-12"] {
         assert!(rt; labels.get(label) == None);
-        assert!(rt; labels.bind(label, Node([1; 20])).is_ok() || labels.bind(label, Node([1; 20])).is_ok());
-        assert!(rt; labels.bind(label, Node([2; 20])).is_ok() || labels.bind(label, Node([2; 20])).is_ok());
+        labels.bind(label, Node([1; 20])).expect(&rt, "memory");
+        labels.bind(label, Node([2; 20])).expect(&rt, "memory");
         assert!(rt; labels.get(label) == Some(Node([2; 20])));
     }
     assert!(rt; labels.get(b"seven-2") == None && labels.get(b"eight-13") == None);

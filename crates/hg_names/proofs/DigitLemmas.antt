@@ -1,11 +1,11 @@
 -- Labels and the numbers that they spell.
 use Rattle.std.proofs.Common.{◌≡◌, ℕ, ◌+◌, ◌*◌, ◌-◌, ◌<◌, ◌≤◌, Bool, true, false, ◌&&◌, List, [], ◌∷◌, ◌++◌}
-use Rattle.std.proofs.Common.{length, take, drop, get_or, fold, nat_lt, Option, None, Some, inl, inr, if◌then◌else◌}
+use Rattle.std.proofs.Common.{length, take, drop, fold, nat_lt, Option, None, Some, inl, inr, if◌then◌else◌}
 use Rattle.std.proofs.Common.{refl, sym, ap, subst, ◌∙◌, arith, true≢false}
 use Rattle.std.specs.List.{list_all}
 use Rattle.std.specs.Str.{bytes_eq}
 use Rattle.std.proofs.lemmas.Bool.{cases_Bool, cases_order, cond-true, cond-false, ltb-true}
-use Rattle.std.proofs.lemmas.List.{length-drop, length-take, take-append-drop, take_more}
+use Rattle.std.proofs.lemmas.List.{length-drop, length-take, take-append-drop}
 use Rattle.std.proofs.lemmas.List.Folds.{list_all-append}
 use Rattle.std.proofs.lemmas.List.Sums.{fold-append}
 use Rattle.std.proofs.lemmas.Option.{none-some, same_Some}
@@ -17,15 +17,6 @@ use Rattle.hg_names.specs.Labels.{BindsKey, BindsNode, digits_behind, is_byte, i
 -- a number above each that a label of this length spells
 abbrev pub bound_of : List ℕ → ℕ
 bound_of label = fold (λ bound _. bound * 256) 2 label
-
-pub digits_more : (xs : List ℕ) (i d : ℕ) → i < length xs
-    → digits_behind 1 (take (i + 1) xs) ≡ digits_behind 1 (take i xs) * 256 + get_or xs i d
-digits_more xs i d l = ap (digits_behind 1) (take_more xs i d l)
-    ∙ fold-append (λ key byte. key * 256 + byte) 1 (take i xs) (get_or xs i d ∷ [])
-
-pub bound_more : (xs : List ℕ) (i d : ℕ) → i < length xs → bound_of (take (i + 1) xs) ≡ bound_of (take i xs) * 256
-bound_more xs i d l = ap bound_of (take_more xs i d l)
-    ∙ fold-append (λ bound _. bound * 256) 2 (take i xs) (get_or xs i d ∷ [])
 
 -- a short label leaves room
 pub room : (xs : List ℕ) → length xs < 7 → bound_of xs < 1125899906842624
