@@ -2,7 +2,8 @@
 //!
 //! `hg_bench CASE < MESSAGE` does the case with the message, and prints the nanoseconds that it took: of processor time,
 //! but where threads work beside each other, of time on the clock. What the case needs is made before, and isn't in it.
-//! Without a case it prints nothing.
+//! Without a case it prints nothing. Replicas hash ids by a secret that is drawn; `keep-known` is `keep` by the rule that
+//! everybody knows.
 #![tactic(auto)]
 
 mod looking;
@@ -10,12 +11,13 @@ mod parts;
 mod replicas;
 
 use hg_message::Scope;
-use hg_replica::Replica;
+use hg_replica::{IdKeys, Replica};
 use looking::look_beside_writer;
 use parts::{keep, part_of, read, replica_of, take};
 use replicas::{ask_below, copy_of, find, join, send, tell, tell_roots, tell_sets, view};
 use std::alloc::Global;
 use std::io::{ErrorKind, Read};
+use std::random::RandomSource;
 use std::sync::Wait;
 use std::thread::Threads;
 use std::time::{Clock, CpuClock, Duration};
@@ -32,13 +34,14 @@ fn main(rt: HostRuntime) -> io::Result<()> {
     }
 }
 
-fn run<R: Input + Clock + CpuClock + Threads + Wait + Print + AllocGlobal + Sync>(
+fn run<R: Input + Clock + CpuClock + RandomSource + Threads + Wait + Print + AllocGlobal + Sync>(
     rt: &R,
     case: &str,
 ) -> io::Result<()> {
+    let keys = IdKeys::secret(rt)?;
     let mut bytes = Vec::new(rt.alloc());
     rt.reader().take(LIMIT).read_to_end(&mut bytes)?;
-    let nanos = spent(rt, rt.alloc(), case, &bytes)?.as_nanos();
+    let nanos = spent(rt, rt.alloc(), keys, case, &bytes)?.as_nanos();
     println!(rt; "{nanos}")
 }
 
@@ -46,14 +49,21 @@ fn run<R: Input + Clock + CpuClock + Threads + Wait + Print + AllocGlobal + Sync
 fn spent<R: Clock + CpuClock + Threads + Wait + Sync>(
     rt: &R,
     alloc: Global,
+    keys: IdKeys,
     case: &str,
     bytes: &[u8],
 ) -> io::Result<Duration> {
     match case {
         "read" => read(rt, alloc, bytes),
-        "take" => take(rt, alloc, part_of(alloc, bytes)?),
-        "keep" => keep(rt, alloc, part_of(alloc, bytes)?),
-        _ => spent_on_replica(rt, alloc, case, replica_of(alloc, part_of(alloc, bytes)?)?),
+        "take" => take(rt, alloc, keys, part_of(alloc, bytes)?),
+        "keep" => keep(rt, alloc, keys, part_of(alloc, bytes)?),
+        "keep-known" => keep(rt, alloc, IdKeys::known(), part_of(alloc, bytes)?),
+        _ => spent_on_replica(
+            rt,
+            alloc,
+            case,
+            replica_of(alloc, keys, part_of(alloc, bytes)?)?,
+        ),
     }
 }
 
@@ -80,7 +90,7 @@ fn spent_on_looks(
     replica: &Replica,
 ) -> io::Result<Duration> {
     match case {
-        "join-into-empty" => join(rt, &mut Replica::new(alloc), replica),
+        "join-into-empty" => join(rt, &mut Replica::with_keys(alloc, replica.keys()), replica),
         "join-into-equal" => join(rt, &mut copy_of(replica)?, replica),
         "below" => ask_below(rt, &copy_of(replica)?, replica),
         "roots" => tell_roots(rt, replica),

@@ -1,6 +1,6 @@
 //! Cases of a message and its part: what reading it costs, and taking it in.
 use hg_message::Message;
-use hg_replica::{Part, Replica};
+use hg_replica::{IdKeys, Part, Replica};
 use hg_view::Kept;
 use std::alloc::Global;
 use std::io;
@@ -16,8 +16,8 @@ pub fn part_of(alloc: Global, bytes: &[u8]) -> io::Result<Part> {
 }
 
 /// A replica that holds the part alone.
-pub fn replica_of(alloc: Global, part: Part) -> io::Result<Replica> {
-    let mut replica = Replica::new(alloc);
+pub fn replica_of(alloc: Global, keys: IdKeys, part: Part) -> io::Result<Replica> {
+    let mut replica = Replica::with_keys(alloc, keys);
     match replica.absorb_owned(part) {
         Ok(_) => Ok(replica),
         Err(_) => Err(ErrorKind::InvalidData.into()),
@@ -32,16 +32,16 @@ pub fn read(rt: &impl CpuClock, alloc: Global, bytes: &[u8]) -> io::Result<Durat
 }
 
 /// A part is taken in by an empty replica, to which it is handed over.
-pub fn take(rt: &impl CpuClock, alloc: Global, part: Part) -> io::Result<Duration> {
-    let mut replica = Replica::new(alloc);
+pub fn take(rt: &impl CpuClock, alloc: Global, keys: IdKeys, part: Part) -> io::Result<Duration> {
+    let mut replica = Replica::with_keys(alloc, keys);
     let before = rt.thread_cpu_time()?;
     let _absorbed = replica.absorb_owned(part);
     Ok(rt.thread_cpu_time()?.saturating_sub(before))
 }
 
 /// The same by a replica that keeps its sets of instabilities.
-pub fn keep(rt: &impl CpuClock, alloc: Global, part: Part) -> io::Result<Duration> {
-    let mut kept = Kept::new(alloc, Replica::new(alloc))?;
+pub fn keep(rt: &impl CpuClock, alloc: Global, keys: IdKeys, part: Part) -> io::Result<Duration> {
+    let mut kept = Kept::new(alloc, Replica::with_keys(alloc, keys))?;
     let before = rt.thread_cpu_time()?;
     let _absorbed = kept.absorb_owned(part);
     Ok(rt.thread_cpu_time()?.saturating_sub(before))
