@@ -101,18 +101,18 @@ pub struct Drawing {
     pub is_graph: bool,
 }
 
-// Keys that no writer of a script knows.
-fn secret_keys(rt: &impl RandomSource) -> Result<IdKeys, Failure<'static>> {
-    IdKeys::secret(rt).map_err(|_| Failure::Keys)
+// Keys that no writer of a script knows. Where the system draws none, the answer is that of a failed read.
+fn secret_keys(rt: &impl RandomSource) -> Result<IdKeys, RunFault> {
+    match IdKeys::secret(rt) {
+        Ok(keys) => Ok(keys),
+        Err(_) => Err(RunFault::Read),
+    }
 }
 
 // The fleet as the script of standard input leaves it. What the script prints goes nowhere.
-fn left_by_script(
-    rt: &(impl Input + AllocGlobal + RandomSource),
-) -> Result<Fleet, Failure<'static>> {
+fn left_by_script(rt: &(impl Input + AllocGlobal + RandomSource)) -> Result<Fleet, RunFault> {
     let keys = secret_keys(rt)?;
-    let fleet = run_counted_named(rt.alloc(), keys, rt.reader(), &mut sink())?;
-    Ok(fleet)
+    run_counted_named(rt.alloc(), keys, rt.reader(), &mut sink())
 }
 
 // Whether the fleet has a node of each name.

@@ -14,8 +14,6 @@ pub enum Failure<'a> {
     Told(ToldFault),
     /// Why bytes weren't shown.
     Show(ShowFault),
-    /// The system drew no keys to hash by.
-    Keys,
     /// The script leaves no node, or no message, of this name.
     UnknownName(&'a str),
 }
@@ -27,7 +25,7 @@ impl Failure<'_> {
             Failure::Run(fault) => fault.status(),
             Failure::Told(fault) => fault.status(),
             Failure::Show(fault) => fault.status(),
-            Failure::Keys | Failure::UnknownName(_) => 1,
+            Failure::UnknownName(_) => 1,
         }
     }
 }
@@ -38,7 +36,6 @@ impl fmt::Display for Failure<'_> {
             Failure::Run(fault) => write!(f, "{fault}"),
             Failure::Told(fault) => write!(f, "{fault}"),
             Failure::Show(fault) => write!(f, "{fault}"),
-            Failure::Keys => write!(f, "no random keys"),
             Failure::UnknownName(name) => write!(f, "unknown name: {name}"),
         }
     }
