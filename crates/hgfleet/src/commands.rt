@@ -51,7 +51,7 @@ pub fn run_told(
 
 /// Runs a race of so many nodes for so many rounds.
 pub fn race(
-    rt: &(impl Print + AllocGlobal + Threads + Wait + Sync),
+    rt: &(impl Print + AllocGlobal + RandomSource + Threads + Wait + Sync),
     nodes: u8,
     rounds: u16,
 ) -> Result<(), Failure<'static>>
@@ -189,10 +189,7 @@ fn write_bytes<W: Write>(bytes: &[u8], writer: &mut W) -> Result<(), Failure<'st
 }
 
 /// Reads the bytes of standard input in this form, and prints them as text.
-pub fn show(
-    rt: &(impl Print + Input + AllocGlobal + RandomSource),
-    form: Form,
-) -> Result<(), Failure<'static>> {
+pub fn show(rt: &(impl Print + Input + AllocGlobal), form: Form) -> Result<(), Failure<'static>> {
     let mut writer = match BufWriter::new(rt.alloc(), io::writer(rt)) {
         Ok(writer) => writer,
         Err(_) => return Err(Failure::Run(RunFault::NoMemory)),
