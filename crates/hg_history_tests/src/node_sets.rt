@@ -1,37 +1,46 @@
-//! Ids that share a slot and ids that don't, and each growth refused.
+//! Ids with the numbers in whose order they came, by known keys and by secret ones, and each growth refused.
 use hg_changeset::Node;
-use hg_node_set::NodeSet;
+use hg_node_set::{IdKeys, NodeSet};
 
-// An id that begins with four bytes of the one and ends with the other.
+// An id that begins with so many of the one byte and ends with the other.
 fn id(first: u8, last: u8) -> Node {
     let mut bytes = [first; 20];
     bytes[19] = last;
     Node(bytes)
 }
 
-// Ids of one slot, and in between ids of others.
-#[test]
-fn refused_growth_inserts_nothing_and_passes_again(rt: HostRuntime) {
-    let mut set = NodeSet::new(rt.alloc());
+// Whether an id that isn't there takes the next number, by a second call where growth is refused.
+fn takes(set: &mut NodeSet, node: Node) -> bool {
+    let held = set.len();
+    let full = match set.insert_full(node) {
+        Err(_) if set.len() == held && !set.contains(node) => set.insert_full(node),
+        answer => answer,
+    };
+    full == Ok((held, true)) && set.get_index_of(node) == Some(held)
+}
+
+// Whether ids keep their numbers while others come and go.
+fn keeps_numbers(mut set: NodeSet) -> bool {
     for number in 0..30u8 {
-        let (shared, own) = (id(7, number), id(number, 99));
-        let held = set.len();
-        if set.insert(shared).is_err() {
-            assert!(rt; set.len() == held && !set.contains(shared));
-            assert!(rt; set.insert(shared) == Ok(true));
+        if !takes(&mut set, id(7, number)) || !takes(&mut set, id(number, 99)) {
+            return false;
         }
-        let full = match set.insert_full(own) {
-            Ok(full) => full,
-            Err(_) => set.insert_full(own).expect(&rt, "memory"),
-        };
-        assert!(rt; full == (held.wrapping_add(1), true) && set.get_index_of(shared) == Some(held));
     }
     set.truncate(50);
-    assert!(rt; set.len() == 50 && set.insert(id(7, 24)) == Ok(false));
-    assert!(rt; !set.contains(id(7, 25)) && set.insert_full(id(7, 25)) == Ok((50, true)));
-    let further = id(7, 26);
-    if set.contains(further) {
-        return;
-    }
-    assert!(rt; set.append(further) == Ok(51) && set.get_index_of(further) == Some(51));
+    let kept = set.len() == 50 && set.insert(id(7, 24)) == Ok(false) && !set.contains(id(7, 25));
+    kept && takes(&mut set, id(7, 25)) && set.as_slice()[2] == id(7, 1)
+}
+
+#[test]
+fn refused_growth_inserts_nothing_and_passes_again(rt: HostRuntime) {
+    let alloc = rt.alloc();
+    let keys = IdKeys::secret(&rt).expect(&rt, "keys");
+    assert!(rt; keeps_numbers(NodeSet::new(alloc)) && keeps_numbers(NodeSet::with_keys(alloc, keys)));
+    let mut set = NodeSet::with_keys(alloc, NodeSet::with_keys(alloc, keys).keys());
+    let node = id(1, 2);
+    let number = match set.append(node) {
+        Ok(number) => number,
+        Err(_) => set.append(node).expect(&rt, "memory"),
+    };
+    assert!(rt; number == 0 && set.get_index_of(node) == Some(0));
 }

@@ -105,6 +105,14 @@ fn rewrites(alloc: Global) -> Option<Vec<Marker>> {
     Some(part)
 }
 
+// Whether nothing is there, nor is anything named, but by the prune.
+fn is_the_pruned(store: &Store) -> bool {
+    let named = [OLD, NEW, Node([0x33; 20])];
+    store.len() == 1
+        && store.with_predecessor(OLD) == [0usize].as_slice()
+        && store.named() == named.as_slice()
+}
+
 #[test]
 fn refused_growth_takes_nothing_in_and_passes_again(rt: HostRuntime) {
     let alloc = rt.alloc();
@@ -121,14 +129,18 @@ fn refused_growth_takes_nothing_in_and_passes_again(rt: HostRuntime) {
     };
     let places = match store.absorb(&part) {
         Ok(places) => places,
-        Err(NoMemory) => store.absorb(&part).expect(&rt, "memory"),
+        Err(NoMemory) => {
+            assert!(rt; is_the_pruned(&store));
+            store.absorb(&part).expect(&rt, "memory")
+        }
     };
-    assert!(rt; places.len() == 9 && store.with_predecessor(OLD).len() == 10);
+    assert!(rt; places.len() == 9 && store.with_predecessor(OLD).len() == 10 && store.named().len() == 12);
     if copy.join(&store).is_err() {
-        assert!(rt; copy.len() == 1 && copy.with_predecessor(OLD) == [0usize].as_slice());
-        assert!(rt; copy.join(&store).is_ok());
+        assert!(rt; is_the_pruned(&copy) && copy.join(&store).is_ok());
     }
     assert!(rt; copy == store && copy.with_predecessor(OLD).len() == 10);
+    copy.truncate(1);
+    assert!(rt; is_the_pruned(&copy));
 }
 
 #[test]

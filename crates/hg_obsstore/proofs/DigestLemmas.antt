@@ -17,7 +17,6 @@ use Rattle.hg_changeset.specs.Node.{node_cmp}
 use Rattle.hg_changeset.proofs.NodeLemmas.{node_cases}
 use Rattle.hg_obsstore.specs.declared.places.Places.{Places}
 use Rattle.hg_obsstore.specs.declared.digests.Digests.{Digests}
-use Rattle.hg_obsstore.specs.Entries.{places_in}
 use Rattle.hg_obsstore.specs.Index.{stands_last, with_last, without_last, places_of, AddsPlace, SamePlaces}
 use Rattle.hg_obsstore.specs.Indexes.{AreIndexed, TakeMarker}
 use Rattle.hg_obsstore.specs.Markers.{AreApart, predecessors}
@@ -87,14 +86,14 @@ without_last_keeps xs k i other h = ⊎_elim
     (λ (apart : s.1 ≢ k). subst (λ ys. Contains ys i) (sym (not_last s.0 s.1 k apart)) there) (cases_eq s.1 k)))
     (end_view xs)
 
--- what stands under each digest after v was put under one
-module _ (old new : Digests) (digest : Node) (v : Places) (at : get_by (node_cmp digest) new.by_digest ≡ Some v)
+-- what stands under each digest after w was put under one
+module _ (old new : Digests) (digest : Node) (w : Option Places) (at : get_by (node_cmp digest) new.by_digest ≡ w)
     (off : (q : Node) → is_at (node_cmp digest) q ≡ false
     → get node_cmp new.by_digest q ≡ get node_cmp old.by_digest q) (place : ℕ) where
-  pub under_it : (i : ℕ) → Contains (places_in v) i → Contains (under new digest) i
+  pub under_it : (i : ℕ) → Contains (found_places w) i → Contains (under new digest) i
   under_it i h = subst (λ o. Contains (found_places o) i) (sym at) h
 
-  pub keeps : ((i : ℕ) → i ≢ place → Contains (under old digest) i → Contains (places_in v) i)
+  pub keeps : ((i : ℕ) → i ≢ place → Contains (under old digest) i → Contains (found_places w) i)
       → KeepsOtherDigests place old new
   keeps f n i other there = ⊎_elim
       (λ (e : n ≡ digest). subst (λ q. Contains (under new q) i) (sym e)

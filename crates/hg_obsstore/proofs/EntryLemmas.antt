@@ -1,193 +1,192 @@
--- Tables after a change under one number, and after an entry more.
-use Rattle.std.proofs.Common.{◌≡◌, ◌≢◌, ◌<◌, ◌++◌, ◌∷◌, [], ◌∙◌, ⊎_elim, arith, sym, ap, subst, ℕ, List}
-use Rattle.std.proofs.Common.{Option, None, Some, refl, length, length-append, slice_get, true, false, Bool}
-use Rattle.std.proofs.Common.{get_or, ◌≤◌, ◌+◌, not}
-use Rattle.std.specs.Prelude.{if◌then◌else◌, position}
-use Rattle.std.specs.List.{list_any, position_or_len}
-use Rattle.std.proofs.lemmas.Option.{slice_get_within}
-use Rattle.std.proofs.lemmas.Bool.{cases_Bool, cases_lt, false≢true}
-use Rattle.std.proofs.lemmas.List.{get_or_append_left, get_or_push}
-use Rattle.std.proofs.lemmas.List.Folds.{list_any_at, list_any_none}
-use Rattle.std.proofs.lemmas.List.Quantifiers.{position-Some}
-use Rattle.std.proofs.lemmas.List.Sums.{fails_before_first, position_or_len_is, prefix_len-le-length}
+-- Tables after a change at one node.
+use Rattle.std.proofs.Common.{◌≡◌, ◌≢◌, ◌∷◌, [], ◌∙◌, ⊎_elim, sym, ap, subst, ℕ, List}
+use Rattle.std.proofs.Common.{Option, None, Some, refl, slice_get, zero, suc, Bool, false, true, Contains, arith, ◌↔◌}
+use Rattle.std.proofs.Common.{is_some}
+use Rattle.std.specs.Prelude.{IsSome, position}
+use Rattle.std.specs.Option.{option_map}
+use Rattle.std.specs.List.{IsDistinct, list_any, position_or_len}
+use Rattle.std.specs.Map.{keys_of, values_of}
+use Rattle.std.proofs.lemmas.Bool.{false≢true}
+use Rattle.std.proofs.lemmas.List.Folds.{list_any_none}
+use Rattle.std.proofs.lemmas.List.Sums.{fails_before_first}
+use Rattle.std.proofs.lemmas.Map.Made.{is_some-lookup}
+use Rattle.hg_changeset.proofs.ListLemmas.{position-found, position-none}
+use Rattle.std.proofs.lemmas.Map.Views.{Contains-keys_from_lookup, IsSome-lookup_from_Contains}
+use Rattle.indexmap.specs.IndexMap.{IndexMap, ContainsKey, IsUnique, Updates, keys, values, with_value_at}
+use Rattle.indexmap.specs.IndexMap.{insert_entry, insert_index}
+use Rattle.indexmap.proofs.CallerLemmas.{updates-with_value_at, keys-with_value_at, keys-insert_entry-present}
+use Rattle.std.proofs.lemmas.Option.{same_Some, none-some, slice_get-map}
 use Rattle.hg_changeset.specs.declared.node.Node.{Node}
-use Rattle.hg_changeset.proofs.ListLemmas.{position-found, position-none, slice_get-append, slice_get_some}
-use Rattle.hg_changeset.proofs.NodeLemmas.{node_apart, node_cases, node_itself, same_node}
+use Rattle.hg_changeset.proofs.NodeLemmas.{node_apart, node_cases, node_eq_laws, same_node}
+use Rattle.hg_node_set.proofs.KeyLemmas.{held_at}
 use Rattle.hg_changeset.specs.Node.{node_eq}
-use Rattle.hg_node_set.specs.Keys.{insert_key, number_after, number_of}
-use Rattle.hg_node_set.proofs.KeyLemmas.{set_else, set_here}
 use Rattle.hg_obsstore.specs.declared.index.Role.{Role}
 use Rattle.hg_obsstore.specs.declared.index.Roles.{Roles}
-use Rattle.hg_obsstore.specs.Entries.{Table, PutsAt, ChangesPlaces, ChangesRole, SameRoles, at_number, known}
+use Rattle.hg_obsstore.specs.Entries.{Table, ChangesPlaces, ChangesRole, SameRoles, ArePlaced, HasPlace, IsPlaced, known}
 use Rattle.hg_obsstore.specs.Entries.{found_as, listed_as, places_at}
-use Rattle.hg_obsstore.proofs.StoreLemmas.{last}
+use Rattle.hg_obsstore.specs.Index.{with_last}
+use Rattle.hg_obsstore.proofs.PlaceLemmas.{with_last_below}
 
--- the first place that passes, with an element more
-module _ {X : Type 0} (p : X → Bool) (xs : List X) where
-  first_at : (i : ℕ) → i < length xs → position_or_len p xs ≡ i → position p xs ≡ Some i
-  first_at i lt is = by (position p xs) refl
-    where
-      by : (o : Option ℕ) → position p xs ≡ o → position p xs ≡ Some i
-      by None e = let past = position-none p xs e in absurd (omega (arith, past, lt, is))
-      by (Some j) e = e ∙ ap Some (sym (position-found p xs j e).1 ∙ is)
+-- the entry at a place, by its node and by what is known of it
+pub entry_at : (es : List (Node × Roles)) (i : ℕ) (k : Node) (v : Roles) → slice_get (keys_of es) i ≡ Some k
+    → slice_get (values_of es) i ≡ Some v → slice_get es i ≡ Some (k, v)
+entry_at [] i k v h g = absurd (none-some k h)
+entry_at (e ∷ es) zero k v h g = λ j. Some (same_Some e.0 k h j, same_Some e.1 v g j)
+entry_at (e ∷ es) (suc i) k v h g = entry_at es i k v h g
 
-  nowhere : list_any p xs ≡ false → position p xs ≡ None
-  nowhere h = by (position p xs) refl
-    where
-      by : (o : Option ℕ) → position p xs ≡ o → position p xs ≡ None
-      by None e = e
-      by (Some j) e = let q : (x : X) × (slice_get xs j ≡ Some x) = slice_get_some xs j
-          (let f = position-found p xs j e in omega (arith, f)) in
-          let s = position-Some p xs j q.0 e in
-          absurd (false≢true (sym h ∙ list_any_at p xs j q.0 s.0 s.1))
+-- one node has w, and each other has what it had
+pub record Sets (old new : Table) (node : Node) (w : Option Roles) : Type 0 where
+  pub here : known new node ≡ w
+  pub others : (q : Node) → node_eq node q ≡ false → known new q ≡ known old q
 
-  somewhere : list_any p xs ≡ true → position p xs ≡ Some (position_or_len p xs)
-  somewhere h = by (position p xs) refl
-    where
-      by : (o : Option ℕ) → position p xs ≡ o → position p xs ≡ Some (position_or_len p xs)
-      by None e = let past = position-none p xs e in
-          absurd (false≢true (sym (list_any_none p xs (λ k d lt. fails_before_first p xs k d (omega (arith, past, lt))))
-          ∙ h))
-      by (Some j) e = e ∙ ap Some (sym (position-found p xs j e).1)
+module _ (old new : Table) (node : Node) (w : Option Roles) (sets : Sets old new node w) where
+  off : (q : Node) → q ≢ node → known new q ≡ known old q
+  off q other = sets.others q (node_apart node q (λ e. other (sym e)))
 
-module _ {X : Type 0} (p : X → Bool) (xs : List X) (y : X) where
-  long : length (xs ++ y ∷ []) ≡ length xs + 1
-  long = length-append xs (y ∷ [])
-
-  fails : position p xs ≡ None → (k : ℕ) (d : X) → k < length xs → p (get_or (xs ++ y ∷ []) k d) ≡ false
-  fails none k d lt = let past = position-none p xs none in
-      rw (get_or_append_left xs (y ∷ []) d k lt) (fails_before_first p xs k d (omega (arith, past, lt)))
-
-  first_pushed : position p xs ≡ None → p y ≡ true → position p (xs ++ y ∷ []) ≡ Some (length xs)
-  first_pushed none passes = first_at p (xs ++ y ∷ []) (length xs) (omega (arith, long))
-      (position_or_len_is p (xs ++ y ∷ []) (length xs) y (omega (arith, long))
-      (λ k lt. fails none k y lt)
-      (λ lt. rw (get_or_push xs y y (length xs) refl) passes))
-
-  first_kept : p y ≡ false → position p (xs ++ y ∷ []) ≡ position p xs
-  first_kept fail = by (position p xs) refl
-    where
-      by : (o : Option ℕ) → position p xs ≡ o → position p (xs ++ y ∷ []) ≡ position p xs
-      by None e = nowhere p (xs ++ y ∷ []) (list_any_none p (xs ++ y ∷ []) (λ k d lt. ⊎_elim
-          (λ (l : k < length xs). fails e k d l)
-          (λ (ge : length xs ≤ k). rw (get_or_push xs y d k (omega (arith, ge, lt, long))) fail)
-          (cases_lt k (length xs))))
-          ∙ sym e
-      by (Some j) e = let s = position-Some p xs j y e in
-          first_at p (xs ++ y ∷ []) j (omega (arith, long, s.0))
-          (position_or_len_is p (xs ++ y ∷ []) j y (omega (arith, long, s.0))
-          (λ k lt. rw (get_or_append_left xs (y ∷ []) y k (omega (arith, lt, s.0))) (s.2 k lt))
-          (λ lt. rw (get_or_append_left xs (y ∷ []) y j s.0) s.1)) ∙ sym e
-
--- the numbers of nodes, after one is inserted
-module _ (keys : List Node) (node : Node) where
-  pub number_within : (k : ℕ) → number_of keys node ≡ Some k → k < length keys
-  number_within k is = let found = position-found (node_eq node) keys k is in omega (arith, found)
-
-  pub inserted_old : list_any (node_eq node) keys ≡ true → insert_key keys node ≡ keys
-  inserted_old e = ap (λ b. if b then keys else keys ++ node ∷ []) e
-
-  pub inserted_new : list_any (node_eq node) keys ≡ false → insert_key keys node ≡ keys ++ node ∷ []
-  inserted_new e = ap (λ b. if b then keys else keys ++ node ∷ []) e
-
-  pub number_inserted : number_of (insert_key keys node) node ≡ Some (number_after keys node)
-  number_inserted = ⊎_elim
-      (λ (e : list_any (node_eq node) keys ≡ true). ap (λ ks. number_of ks node) (inserted_old e)
-      ∙ somewhere (node_eq node) keys e)
-      (λ (e : list_any (node_eq node) keys ≡ false). let none = nowhere (node_eq node) keys e in
-      let past = position-none (node_eq node) keys none in
-      let within : number_after keys node ≤ length keys = prefix_len-le-length (λ x. not (node_eq node x)) keys in
-      let number : length keys ≡ number_after keys node = omega (arith, past, within) in
-      ap (λ ks. number_of ks node) (inserted_new e)
-      ∙ first_pushed (node_eq node) keys node none (node_itself node node refl) ∙ ap Some number)
-      (cases_Bool (list_any (node_eq node) keys))
-
--- what each look-up gives after v was put at the node
-module _ (old new : Table) (node : Node) (v : Roles) (at : known new node ≡ Some v)
-    (off : (q : Node) → q ≢ node → known new q ≡ known old q) where
   found_else : (role : Role) (q : Node) → q ≢ node → places_at new role q ≡ places_at old role q
   found_else role q other = ap (found_as role) (off q other)
 
-  pub found_same : (role : Role) → listed_as role v ≡ places_at old role node → places_at new role ≡ places_at old role
+  pub found_same : (role : Role) → found_as role w ≡ places_at old role node → places_at new role ≡ places_at old role
   found_same role same i q = ⊎_elim
-      (λ (e : q ≡ node). rw e (ap (found_as role) at ∙ same)) (λ (other : q ≢ node). found_else role q other)
+      (λ (e : q ≡ node). rw e (ap (found_as role) sets.here ∙ same))
+      (λ (other : q ≢ node). found_else role q other)
       (node_cases q node) i
 
-  pub found_changed : (role : Role) (places : List ℕ) → listed_as role v ≡ places
-      → ((other : Role) → other ≢ role → listed_as other v ≡ places_at old other node)
+  pub found_changed : (role : Role) (places : List ℕ) → found_as role w ≡ places
+      → ((other : Role) → other ≢ role → found_as other w ≡ places_at old other node)
       → ChangesPlaces (places_at old) (places_at new) role node places
   found_changed role places is asides = record {
-    here = ap (found_as role) at ∙ is;
+    here = ap (found_as role) sets.here ∙ is;
     others = found_else role;
     aside = λ other apart. found_same other (asides other apart);
   }
 
--- other roles under the number of a node
-module _ (keys : List Node) (old new : List Roles) (node : Node) (k : ℕ) (is : number_of keys node ≡ Some k)
-    (stood v : Roles) (puts : PutsAt k old new stood v) where
-  known_before : at_number old (number_of keys node) ≡ Some stood
-  known_before = ap (at_number old) is ∙ puts.was
+  pub placed : ArePlaced old → ((roles : Roles) → w ≡ Some roles → HasPlace roles) → ArePlaced new
+  placed before now n roles at = ⊎_elim
+      (λ (e : n ≡ node). now roles (sym sets.here ∙ ap (known new) (sym e) ∙ at))
+      (λ (other : n ≢ node). before n roles (sym (off n other) ∙ at))
+      (node_cases n node)
 
-  known_here : at_number new (number_of keys node) ≡ Some v
-  known_here = ap (at_number new) is ∙ ap (λ rs. slice_get rs k) puts.is ∙ set_here old k v (slice_get_within old k stood puts.was)
+-- what has the places that it had has a place
+pub place_kept : (old new : Roles) → SameRoles old new → HasPlace old → HasPlace new
+place_kept old new same h = (h.0, h.1, subst (λ ps. Contains ps h.1) (sym (same h.0)) h.2)
 
-  one_each : (q : Node) → number_of keys q ≡ Some k → q ≡ node
-  one_each q at =
-      let a = position-Some (node_eq q) keys k node at in
-      let b = position-Some (node_eq node) keys k node is in
-      same_node q (get_or keys k node) a.1 ∙ sym (same_node node (get_or keys k node) b.1)
+-- what a node's entry becomes is told by what it was
+pub changes : (old new : Table) (node : Node) (stood v : Roles) (w : Option Roles) → known old node ≡ Some stood
+    → Sets old new node w → ((role : Role) → found_as role w ≡ listed_as role v) → (f : List ℕ → List ℕ) (role : Role)
+    → ChangesRole role (f (listed_as role stood)) stood v → (t : Table) → old ≡ t
+    → ChangesPlaces (places_at t) (places_at new) role node (f (places_at t role node))
+changes old new node stood v w was set is f role change t e =
+    subst (λ (t : Table). ChangesPlaces (places_at t) (places_at new) role node (f (places_at t role node))) e
+    (found_changed old new node w set role (f (places_at old role node))
+    (is role ∙ change.here ∙ ap (λ (o : Option Roles). f (found_as role o)) (sym was))
+    (λ other apart. is other ∙ change.others other apart ∙ ap (found_as other) (sym was)))
 
-  known_else : (q : Node) → q ≢ node → at_number new (number_of keys q) ≡ at_number old (number_of keys q)
-  known_else q other = by (number_of keys q) refl
-    where
-      by : (o : Option ℕ) → number_of keys q ≡ o → at_number new o ≡ at_number old o
-      by None at = refl
-      by (Some j) at = ap (λ rs. slice_get rs j) puts.is
-          ∙ set_else old k j v (λ (e : j ≡ k). other (one_each q (at ∙ ap Some e)))
+-- and where there was none, it has the one place
+pub starts : (old new : Table) (node : Node) (one : Roles) (place : ℕ) (role : Role) → known old node ≡ None
+    → Sets old new node (Some one) → listed_as role one ≡ place ∷ []
+    → ((other : Role) → other ≢ role → listed_as other one ≡ []) → (t : Table) → old ≡ t
+    → ChangesPlaces (places_at t) (places_at new) role node (with_last (places_at t role node) place)
+starts old new node one place role was set here others t e =
+    subst (λ (t : Table). ChangesPlaces (places_at t) (places_at new) role node
+    (with_last (places_at t role node) place)) e
+    (found_changed old new node (Some one) set role (with_last (places_at old role node) place)
+    (here ∙ sym (ap (λ (o : Option Roles). with_last (found_as role o) place) was
+    ∙ with_last_below [] place (λ i h. absurd (omega (arith, h.1)))))
+    (λ other apart. others other apart ∙ ap (found_as other) (sym was)))
 
-  pub same : SameRoles stood v → (t : Table) → record { keys = keys; roles = old } ≡ t → (role : Role)
-      → places_at (record { keys = keys; roles = new }) role ≡ places_at t role
-  same alike t e role =
-      found_same (record { keys = keys; roles = old }) (record { keys = keys; roles = new }) node v known_here
-      known_else role (alike role ∙ ap (found_as role) (sym known_before)) ∙ ap (λ (t : Table). places_at t role) e
+-- nothing is known of a node that isn't found
+pub unknown : (o : Option Roles) → false ≡ is_some o → o ≡ None
+unknown None e = refl
+unknown (Some roles) e = absurd (false≢true e)
 
-  pub changed : (f : List ℕ → List ℕ) (role : Role) → ChangesRole role (f (listed_as role stood)) stood v
-      → (t : Table) → record { keys = keys; roles = old } ≡ t
-      → ChangesPlaces (places_at t) (places_at (record { keys = keys; roles = new })) role node
-      (f (places_at t role node))
-  changed f role changes t e =
-      subst (λ (t : Table). ChangesPlaces (places_at t) (places_at (record { keys = keys; roles = new })) role node
-      (f (places_at t role node))) e
-      (found_changed (record { keys = keys; roles = old }) (record { keys = keys; roles = new }) node v known_here
-      known_else role (f (found_as role (at_number old (number_of keys node))))
-      (changes.here ∙ ap (λ (o : Option Roles). f (found_as role o)) (sym known_before))
-      (λ other apart. changes.others other apart ∙ ap (found_as other) (sym known_before)))
+-- a list that isn't empty has a first place
+pub first_place : (xs : List ℕ) → (xs ≡ [] → ⊥) → (place : ℕ) × Contains xs place
+first_place [] some = absurd (some refl)
+first_place (x ∷ xs) some = (x, (0, omega arith, refl))
 
--- an entry more, without places, for a node without a number
-module _ (keys : List Node) (roles : List Roles) (long : length keys ≡ length roles) (node : Node)
-    (none : list_any (node_eq node) keys ≡ false) (empty : Roles)
-    (nothing : (role : Role) → listed_as role empty ≡ []) where
-  more_here : at_number (roles ++ empty ∷ []) (number_of (keys ++ node ∷ []) node) ≡ Some empty
-  more_here = ap (at_number (roles ++ empty ∷ []))
-      (first_pushed (node_eq node) keys node (nowhere (node_eq node) keys none) (node_itself node node refl)
-      ∙ ap Some long) ∙ last roles empty
+-- exactly the nodes of the entries have places, where each entry has one
+pub named_placed : (t : Table) → ArePlaced t → (n : Node) → Contains (keys_of t.entries) n ↔ IsPlaced t n
+named_placed t all n = (λ h. there (known t n) refl (IsSome-lookup_from_Contains node_eq_laws n t.entries h), back)
+  where
+    there : (o : Option Roles) → known t n ≡ o → IsSome o → IsPlaced t n
+    there None e some = absurd (false≢true some)
+    there (Some roles) e some = let p = all n roles e in
+        (p.0, p.1, subst (λ (o : Option Roles). Contains (found_as p.0 o) p.1) (sym e) p.2)
 
-  more_else : (q : Node) → q ≢ node
-      → at_number (roles ++ empty ∷ []) (number_of (keys ++ node ∷ []) q) ≡ at_number roles (number_of keys q)
-  more_else q other = ap (at_number (roles ++ empty ∷ [])) (first_kept (node_eq q) keys node (node_apart q node other))
-      ∙ by (number_of keys q) refl
-    where
-      by : (o : Option ℕ) → number_of keys q ≡ o → at_number (roles ++ empty ∷ []) o ≡ at_number roles o
-      by None is = refl
-      by (Some j) is =
-          let lt = number_within keys q j is in
-          let was = slice_get_some roles j (omega (arith, lt, long)) in
-          slice_get-append roles (empty ∷ []) j was.0 was.1 ∙ sym was.1
+    found : (o : Option Roles) (role : Role) (place : ℕ) → Contains (found_as role o) place → IsSome o
+    found None role place h = absurd (omega (arith, h.1))
+    found (Some roles) role place h = refl
 
-  pub same_more : (role : Role) → places_at (record { keys = keys ++ node ∷ []; roles = roles ++ empty ∷ [] }) role
-      ≡ places_at (record { keys = keys; roles = roles }) role
-  same_more role =
-      found_same (record { keys = keys; roles = roles })
-      (record { keys = keys ++ node ∷ []; roles = roles ++ empty ∷ [] }) node empty more_here more_else role
-      (nothing role ∙ sym (ap (λ (o : Option ℕ). found_as role (at_number roles o))
-      (nowhere (node_eq node) keys none)))
+    back : IsPlaced t n → Contains (keys_of t.entries) n
+    back p = Contains-keys_from_lookup same_node n t.entries (found (known t n) p.0 p.1 p.2)
+
+-- the first that passes, where one does
+somewhere : {X : Type 0} (p : X → Bool) (xs : List X) → list_any p xs ≡ true
+    → position p xs ≡ Some (position_or_len p xs)
+somewhere p xs h = by (position p xs) refl
+  where
+    by : (o : Option ℕ) → position p xs ≡ o → position p xs ≡ Some (position_or_len p xs)
+    by None e = let past = position-none p xs e in
+        absurd (false≢true (sym (list_any_none p xs (λ k d lt. fails_before_first p xs k d (omega (arith, past, lt))))
+        ∙ h))
+    by (Some j) e = e ∙ ap Some (sym (position-found p xs j e).1)
+
+module _ {H : Type 0} (m : IndexMap Node Roles H) where
+  -- a map that is updated at a node
+  pub sets : (n : IndexMap Node Roles H) (node : Node) (w : Option Roles) → Updates node_eq m n node w
+      → Sets (record { entries = m.entries }) (record { entries = n.entries }) node w
+  sets n node w u = record { here = u.1; others = u.2 }
+
+  module _ (number : ℕ) (node : Node) (unique : IsUnique node_eq m) (v : Roles) where
+    pub unique_at : IsUnique node_eq (with_value_at m number v)
+    unique_at = subst (IsDistinct node_eq) (sym (keys-with_value_at m number v)) unique
+
+    module _ (at : position (node_eq node) (keys m) ≡ Some number) (stood : Roles)
+        (there : slice_get (values m) number ≡ Some stood) where
+      -- a map that is written at the number of a node
+      pub sets_at : Sets (record { entries = m.entries }) (record { entries = (with_value_at m number v).entries })
+          node (Some v)
+      sets_at = sets (with_value_at m number v) node (Some v)
+          (updates-with_value_at m number v node_eq_laws unique node stood
+          (entry_at m.entries number node stood (held_at (keys m) node number at) there))
+
+      -- and then loses what stands there
+      removed : (n : IndexMap Node Roles H) → ((p : Node × Roles)
+          → slice_get (with_value_at m number v).entries number ≡ Some p
+          → Updates node_eq (with_value_at m number v) n p.0 None)
+          → Updates node_eq (with_value_at m number v) n node None
+      removed n u = by (slice_get (with_value_at m number v).entries number) refl
+        where
+          key : (o : Option (Node × Roles)) → slice_get (with_value_at m number v).entries number ≡ o
+              → option_map (λ (e : Node × Roles). e.0) o ≡ Some node
+          key o e = ap (option_map (λ (e : Node × Roles). e.0)) (sym e)
+              ∙ sym (slice_get-map (λ (e : Node × Roles). e.0) (with_value_at m number v).entries number)
+              ∙ ap (λ ks. slice_get ks number) (keys-with_value_at m number v) ∙ held_at (keys m) node number at
+
+          by : (o : Option (Node × Roles)) → slice_get (with_value_at m number v).entries number ≡ o
+              → Updates node_eq (with_value_at m number v) n node None
+          by None e = absurd (none-some node (key None e))
+          by (Some p) e = subst (λ k. Updates node_eq (with_value_at m number v) n k None)
+              (same_Some p.0 node (key (Some p) e)) (u p e)
+
+      pub sets_none : (n : IndexMap Node Roles H) → ((p : Node × Roles)
+          → slice_get (with_value_at m number v).entries number ≡ Some p
+          → Updates node_eq (with_value_at m number v) n p.0 None)
+          → Sets (record { entries = m.entries }) (record { entries = n.entries }) node None
+      sets_none n u = let gone = removed n u in
+          record { here = gone.1; others = λ q other. gone.2 q other ∙ sets_at.others q other }
+
+-- a map whose entry of a node was put in place of the one that was there, and is written then
+pub sets_again : {H : Type 0} (m mid : IndexMap Node Roles H) (number : ℕ) (node : Node) (one v stood : Roles)
+    → Updates node_eq m mid node (Some one) → IsUnique node_eq mid
+    → mid.entries ≡ insert_entry node_eq m.entries node one → number ≡ insert_index node_eq m node
+    → ContainsKey node_eq m node → slice_get (values mid) number ≡ Some stood
+    → Sets (record { entries = m.entries }) (record { entries = (with_value_at mid number v).entries }) node (Some v)
+sets_again m mid number node one v stood u unique entries index held there =
+    let same : keys mid ≡ keys m = ap keys_of entries ∙ keys-insert_entry-present node_eq m node one held in
+    let at : position (node_eq node) (keys mid) ≡ Some number = ap (position (node_eq node)) same
+    ∙ somewhere (node_eq node) (keys m) (sym (is_some-lookup (node_eq node) m.entries) ∙ held)
+    ∙ ap Some (sym index) in
+    let again = sets_at mid number node unique v at stood there in
+    record { here = again.here; others = λ q other. again.others q other ∙ u.2 q other }

@@ -1,6 +1,7 @@
 -- A store's markers and indexes after one marker more.
 use Rattle.std.proofs.Common.{◌≡◌, ◌<◌, ◌+◌, ◌++◌, ◌∷◌, [], ◌∙◌, ⊎_elim, arith, sym, ap, subst, ℕ, List, true}
 use Rattle.std.proofs.Common.{Some, refl, length, length-append, slice_get, get_or, Contains, take, not}
+use Rattle.std.proofs.Common.{◌↔◌, ◌⊎◌, inl, inr}
 use Rattle.std.proofs.lemmas.List.{get_or_append_left, get_or_push}
 use Rattle.std.proofs.lemmas.List.Elements.{Contains-push}
 use Rattle.std.proofs.lemmas.Option.{slice_get_within, slice_get_read, get_or_from_slice_get, same_Some}
@@ -8,6 +9,7 @@ use Rattle.std.specs.List.{list_any}
 use Rattle.std.proofs.lemmas.Map.Views.{Contains-from_any, list_any-from_Contains}
 use Rattle.std.proofs.Math.Seq.{take-append_seam}
 use Rattle.hg_changeset.specs.declared.node.Node.{Node}
+use Rattle.hg_changeset.proofs.ListLemmas.{Contains-from_place, Contains-one, place_from_Contains}
 use Rattle.hg_marker.specs.Same.{same_fields, fields_decides, fields_equivalence}
 use Rattle.hg_marker.specs.Fields.{Fields}
 use Rattle.hg_marker.specs.Parents.{recorded_parents}
@@ -15,7 +17,8 @@ use Rattle.hg_obsstore.specs.declared.index.Index.{Index}
 use Rattle.hg_obsstore.specs.declared.index.Role.{Role}
 use Rattle.hg_obsstore.specs.declared.index.Role.TheVariants.{Predecessor, Successor, Parent}
 use Rattle.hg_obsstore.specs.Places.{ListsAll}
-use Rattle.hg_obsstore.specs.Markers.{IsAt, ArePlaces, predecessors, successors}
+use Rattle.hg_obsstore.specs.Markers.{IsAt, ArePlaces, IsNamed, predecessors, successors}
+use Rattle.hg_obsstore.specs.Entries.{IsPlaced}
 use Rattle.hg_obsstore.specs.Index.{places_of, AreBelow, AddsPlace, SamePlaces}
 use Rattle.hg_obsstore.specs.Indexes.{IsIndexBy, AreIndexed, HaveBelow, AddMarker}
 use Rattle.hg_obsstore.proofs.PlaceLemmas.{one_more, no_more, all_listed}
@@ -144,3 +147,32 @@ places_alike P Q ms ps f g all = record {
   exact = λ i.
       ((λ h. let at = (all.exact i).0 h in (at.0, at.1, f at.0 at.2)), (λ h. (all.exact i).1 (h.0, h.1, g h.0 h.2)));
 }
+
+-- where the index is exact, the nodes that have a place are those that a marker names
+pub placed_named : (ms : List Fields) (index : Index) → AreIndexed ms index → (n : Node)
+    → IsPlaced index.by_node n ↔ IsNamed ms n
+placed_named ms index all n = (λ h. there h.0 h.1 h.2, back)
+  where
+    there : (role : Role) (i : ℕ) → Contains (places_of role index n) i → IsNamed ms n
+    there Predecessor i h = let at = ((all.predecessor n).exact i).0 h in
+        (at.0, Contains-from_place ms i at.0 at.1, inl (Contains-one at.0.predecessor n at.2))
+    there Successor i h = let at = ((all.successor n).exact i).0 h in
+        (at.0, Contains-from_place ms i at.0 at.1, inr (inl at.2))
+    there Parent i h = let at = ((all.child n).exact i).0 h in
+        (at.0, Contains-from_place ms i at.0 at.1, inr (inr at.2))
+
+    back : IsNamed ms n → IsPlaced index.by_node n
+    back h =
+        let m = h.0 in
+        let at = place_from_Contains ms m h.1 in
+        ⊎_elim
+        (λ (e : m.predecessor ≡ n). (
+          Predecessor,
+          at.0,
+          ((all.predecessor n).exact at.0).1
+              (m, at.1, alone_back m.predecessor n e),
+        ))
+        (λ (other : Contains m.successors n ⊎ Contains (recorded_parents m) n). ⊎_elim
+        (λ (yes : Contains m.successors n). (Successor, at.0, ((all.successor n).exact at.0).1 (m, at.1, yes)))
+        (λ (yes : Contains (recorded_parents m) n). (Parent, at.0, ((all.child n).exact at.0).1 (m, at.1, yes)))
+        other) h.2

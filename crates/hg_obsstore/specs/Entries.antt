@@ -1,7 +1,8 @@
--- Places by node, under the numbers of nodes.
-use Rattle.std.specs.Prelude.{◌≡◌, ◌≢◌, ◌∷◌, [], ℕ, List, Option, None, Some, slice_get, slice_set}
+-- Places by node.
+use Rattle.std.specs.Prelude.{◌≡◌, ◌≢◌, ◌∷◌, [], ℕ, List, Option, None, Some, Contains}
+use Rattle.std.specs.Map.{lookup}
 use Rattle.hg_changeset.specs.declared.node.Node.{Node}
-use Rattle.hg_node_set.specs.Keys.{number_of}
+use Rattle.hg_changeset.specs.Node.{node_eq}
 use Rattle.hg_obsstore.specs.declared.places.Places.{Places}
 use Rattle.hg_obsstore.specs.declared.places.Places.TheVariants.{Empty, One, Several}
 use Rattle.hg_obsstore.specs.declared.index.Role.{Role}
@@ -24,19 +25,13 @@ abbrev pub found_as : Role → Option Roles → List ℕ
 found_as role None = []
 found_as role (Some roles) = listed_as role roles
 
--- nodes by number, and what is known of the node of each number
+-- each node of which something is known, with that
 pub record Table : Type 0 where
-  pub keys : List Node
-  pub roles : List Roles
-
--- what stands under a number
-abbrev pub at_number : List Roles → Option ℕ → Option Roles
-at_number roles None = None
-at_number roles (Some number) = slice_get roles number
+  pub entries : List (Node × Roles)
 
 -- what is known of a node
 abbrev pub known : Table → Node → Option Roles
-known table node = at_number table.roles (number_of table.keys node)
+known table node = lookup (node_eq node) table.entries
 
 -- the places for a node in a role
 abbrev pub places_at : Table → Role → Node → List ℕ
@@ -56,15 +51,14 @@ pub record ChangesPlaces (old new : Role → Node → List ℕ) (role : Role) (n
   pub others : (other : Node) → other ≢ node → new role other ≡ old role other
   pub aside : (other : Role) → other ≢ role → new other ≡ old other
 
--- what stands under one number is put in place of what stood there
-pub record PutsAt (number : ℕ) (old new : List Roles) (stood v : Roles) : Type 0 where
-  pub was : slice_get old number ≡ Some stood
-  pub is : new ≡ slice_set old number v
+-- there is a place in some role
+abbrev pub HasPlace : Roles → Type 0
+HasPlace roles = (role : Role) × (place : ℕ) × Contains (listed_as role roles) place
 
--- the role of the entry of a number has what f makes of what it had, and all else is as it was
-abbrev pub ChangesEntry : ℕ → Role → (List ℕ → List ℕ) → List Roles → List Roles → Type 0
-ChangesEntry number role f old new = (stood : Roles) × (v : Roles) × PutsAt number old new stood v
-    × ChangesRole role (f (listed_as role stood)) stood v
+-- each entry has a place
+abbrev pub ArePlaced : Table → Type 0
+ArePlaced table = (n : Node) (roles : Roles) → known table n ≡ Some roles → HasPlace roles
 
-abbrev pub SameEntry : ℕ → List Roles → List Roles → Type 0
-SameEntry number old new = (stood : Roles) × (v : Roles) × PutsAt number old new stood v × SameRoles stood v
+-- the node has a place in some role
+abbrev pub IsPlaced : Table → Node → Type 0
+IsPlaced table node = (role : Role) × (place : ℕ) × Contains (places_at table role node) place

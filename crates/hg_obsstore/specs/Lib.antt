@@ -9,5 +9,6 @@ pub mod Growth
 pub mod Sets
 pub mod Spelling
 pub mod Faults
+pub mod Reads
 pub mod Refusals
 pub mod Same

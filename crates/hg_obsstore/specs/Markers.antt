@@ -1,8 +1,9 @@
 -- A store's markers, and the places of those that are so.
-use Rattle.std.specs.Prelude.{◌≡◌, ℕ, List, [], ◌∷◌, Some, slice_get, AllPairs, ◌≢◌}
+use Rattle.std.specs.Prelude.{◌≡◌, ◌⊎◌, ℕ, List, [], ◌∷◌, Some, slice_get, AllPairs, ◌≢◌, Contains}
 use Rattle.std.specs.List.{IsDistinct}
 use Rattle.hg_changeset.specs.declared.node.Node.{Node}
 use Rattle.hg_marker.specs.Fields.{Fields}
+use Rattle.hg_marker.specs.Parents.{recorded_parents}
 use Rattle.hg_marker.specs.Same.{same_fields}
 use Rattle.hg_obsstore.specs.Places.{ListsAll}
 
@@ -28,3 +29,11 @@ predecessors m = m.predecessor ∷ []
 
 abbrev pub successors : Fields → List Node
 successors m = m.successors
+
+-- the marker names the node: as its predecessor, as one of its successors, or as a recorded parent
+abbrev pub Names : Fields → Node → Type 0
+Names m n = (m.predecessor ≡ n) ⊎ (Contains m.successors n ⊎ Contains (recorded_parents m) n)
+
+-- one of the markers names the node
+abbrev pub IsNamed : List Fields → Node → Type 0
+IsNamed markers n = (m : Fields) × Contains markers m × Names m n

@@ -97,12 +97,17 @@ impl Digests {
         Ok(())
     }
 
-    // Takes the place away from the digest, where it stands last.
+    // Takes the place away from the digest, where it stands last. A digest without a place is forgotten.
     fn take(&mut self, digest: Node, place: usize)
         ensures { KeepsOtherDigests place self.old self.new }
     {
         match self.by_digest.get_mut(&digest) {
-            Some(places) => places.take_last(place),
+            Some(places) => {
+                places.take_last(place);
+                if places.as_slice().is_empty() {
+                    let _ = self.by_digest.remove(&digest);
+                }
+            }
             None => {}
         }
     }

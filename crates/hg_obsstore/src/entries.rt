@@ -1,58 +1,72 @@
 //! The places of markers by node, found by a look-up or by the number of an entry.
 
-ghost use Rattle.std.specs.Prelude.{◌≡◌, ◌<◌, ℕ, List, [], length, OnOk, OnErr, IfOk, IfSome, Some};
-ghost use Rattle.std.specs.Option.{option_map, option_copied};
-ghost use Rattle.hg_node_set.specs.Keys.{number_of};
-ghost use Rattle.hg_obsstore.specs.Entries.{known, places_at, ChangesEntry, SameEntry, ChangesPlaces, listed_as};
+ghost use Rattle.std.specs.Prelude.{◌≡◌, ◌↔◌, [], OnOk, OnErr, IfSome, None, Some, Contains, slice_get};
+ghost use Rattle.std.specs.Option.{option_map};
+ghost use Rattle.std.specs.List.{IsDistinct};
+ghost use Rattle.indexmap.specs.IndexMap.{IsUnique, Updates};
+ghost use Rattle.hg_changeset.specs.declared.node.Node.{Node};
+ghost use Rattle.hg_changeset.specs.Node.{node_eq};
+ghost use Rattle.hg_obsstore.specs.declared.index.Roles.{Roles};
+ghost use Rattle.hg_obsstore.specs.Entries.{known, places_at, IsPlaced, ChangesPlaces};
 ghost use Rattle.hg_obsstore.specs.Index.{with_last, without_last};
 
 use crate::index::{Role, Roles};
 use hg_changeset::Node;
-use hg_node_set::NodeSet;
+use hg_node_set::{IdKeys, give_back_table};
+use indexmap::IndexMap;
 use std::alloc::{AllocError, Global};
 use std::marker::Model;
 
-/// What is known of each node. An entry keeps its number.
+/// What is known of each node that has a place, and of no other.
 ///
-/// A look-up costs about one look at a list, and an ordered look-up at the worst, whoever chose the ids.
+/// A look-up costs about one hash of an id. An entry keeps its number while the places go in the order in which they
+/// came, the last first.
 #[derive(Drop)]
 pub struct Entries {
-    nodes: NodeSet,
-    // What is known of the node with a number stands at that number.
-    roles: Vec<Roles>,
+    table: IndexMap<Node, Roles, IdKeys>,
 }
 
 impl Model for Entries {
-    ghost use Rattle.std.specs.Prelude.{◌≡◌, length};
-    ghost use Rattle.hg_obsstore.specs.Entries.{Table};
+    ghost use Rattle.indexmap.specs.IndexMap.{IsUnique};
+    ghost use Rattle.hg_changeset.specs.Node.{node_eq};
+    ghost use Rattle.hg_obsstore.specs.Entries.{Table, ArePlaced};
 
     ghost Value = { Table };
 
-    ghost view = { λ e. record { keys = e.nodes.keys; roles = e.roles.items } };
+    ghost view = { λ e. record { entries = e.table.entries } };
 
-    ghost invariant = { λ e. length e.nodes.keys ≡ length e.roles.items };
+    ghost invariant = { λ e. IsUnique node_eq e.table × ArePlaced (record { entries = e.table.entries }) };
 }
 
 impl Entries {
-    /// No entries.
-    pub fn new(alloc: Global) -> Entries
-        ensures { result ≡ record { keys = []; roles = [] } }
+    /// No entries. Ids are hashed by these keys.
+    pub fn with_keys(alloc: Global, keys: IdKeys) -> Entries
+        ensures { result ≡ record { entries = [] } }
     {
         Entries {
-            nodes: NodeSet::new(alloc),
-            roles: Vec::new(alloc),
+            table: IndexMap::with_hasher(alloc, keys),
         }
+    }
+
+    /// What ids are hashed by.
+    pub fn keys(&self) -> IdKeys {
+        *self.table.hasher()
+    }
+
+    /// The nodes that have a place.
+    pub fn named(&self) -> &[Node]
+        ensures exact { (n : Node) → Contains result.now n ↔ IsPlaced self.now n }
+        ensures different { IsDistinct node_eq result.now }
+    {
+        self.table.keys().as_slice()
     }
 
     /// The number of a node's entry, and what is known of the node.
     pub fn find(&self, node: Node) -> Option<(usize, &Roles)>
         ensures { option_map (λ p. p.1.now) result ≡ known self.now node }
     {
-        match self.nodes.get_index_of(node) {
-            Some(number) => match self.roles.get(number) {
-                Some(roles) => Some((number, roles)),
-                None => None,
-            },
+        match self.table.get_full(&node) {
+            Some((number, _, roles)) => Some((number, roles)),
             None => None,
         }
     }
@@ -61,13 +75,7 @@ impl Entries {
     pub fn get(&self, number: usize) -> Option<(&Node, &Roles)>
         ensures { IfSome result (λ p. known self.now p.0.now ≡ Some p.1.now) }
     {
-        match self.nodes.as_slice().get(number) {
-            Some(node) => match self.roles.get(number) {
-                Some(roles) => Some((node, roles)),
-                None => None,
-            },
-            None => None,
-        }
+        self.table.get_index(number)
     }
 
     /// Puts the place last for the node in the role, where it doesn't stand last. Tells the number of the entry.
@@ -82,57 +90,48 @@ impl Entries {
             (with_last (places_at self.old role node) place)) }
         ensures err { OnErr result ((other : Role) → places_at self.new other ≡ places_at self.old other) }
     {
-        let number = self.number_for(node)?;
-        put_at(&mut self.roles, number, alloc, role, place)?;
-        Ok(number)
+        let (number, known) = self.table.insert_full(node, Roles::one(role, place))?;
+        match known {
+            Some(mut roles) => {
+                let put = roles.put(alloc, role, place);
+                self.table[number] = roles;
+                put?;
+                Ok(number)
+            }
+            None => Ok(number),
+        }
     }
 
-    /// Takes the place away from the node in the role, where it stands last.
+    /// Takes the place away from the node in the role, where it stands last. A node without a place is forgotten.
     pub fn take(&mut self, role: Role, node: Node, place: usize)
         ensures { ChangesPlaces (places_at self.old) (places_at self.new) role node
             (without_last (places_at self.old role node) place) }
     {
-        match self.nodes.get_index_of(node) {
-            Some(number) => take_at(&mut self.roles, number, role, place),
+        match self.table.get_index_of(&node) {
+            Some(number) => {
+                let roles = &mut self.table[number];
+                roles.take(role, place);
+                if roles.is_empty() {
+                    forget(&mut self.table, number);
+                }
+            }
             None => {}
         }
     }
 
-    // The number of a node's entry. Where there is none, one without places is made.
-    fn number_for(&mut self, node: Node) -> Result<usize, AllocError>
-        ensures number { IfOk result (λ number. number_of self.new.keys node ≡ Some number) }
-        ensures places { (role : Role) → places_at self.new role ≡ places_at self.old role }
+    /// Gives room back of which little is left in use.
+    pub fn give_back(&mut self)
+        ensures { self.new ≡ self.old }
     {
-        self.roles.reserve(1)?;
-        let (number, new) = self.nodes.insert_full(node)?;
-        if new {
-            self.roles.push(Roles::new())?;
-        }
-        Ok(number)
+        give_back_table(&mut self.table);
     }
 }
 
-// Puts the place last for the role in the entry of a number.
-fn put_at(
-    entries: &mut Vec<Roles>,
-    number: usize,
-    alloc: Global,
-    role: Role,
-    place: usize,
-) -> Result<(), AllocError>
-    requires { number < length entries.old.items }
-    ensures ok { OnOk result (ChangesEntry number role (λ places. with_last places place) entries.old.items
-        entries.new.items) }
-    ensures err { OnErr result (SameEntry number entries.old.items entries.new.items) }
+// Forgets the entry of a number.
+fn forget(table: &mut IndexMap<Node, Roles, IdKeys>, number: usize)
+    ensures updates { (p : Node × Roles) → slice_get table.old.entries number ≡ Some p
+        → Updates node_eq table.old table.new p.0 None }
+    ensures unique { IsUnique node_eq table.new }
 {
-    entries[number].put(alloc, role, place)?;
-    Ok(())
-}
-
-// Takes the place away from the role in the entry of a number.
-fn take_at(entries: &mut Vec<Roles>, number: usize, role: Role, place: usize)
-    requires { number < length entries.old.items }
-    ensures { ChangesEntry number role (λ places. without_last places place) entries.old.items entries.new.items }
-{
-    entries[number].take(role, place);
+    let _ = table.swap_remove_index(number);
 }

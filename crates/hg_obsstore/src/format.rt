@@ -9,16 +9,17 @@ ghost use Rattle.hg_marker.specs.Fields.{Fields};
 ghost use Rattle.hg_marker.specs.Faults.{marker_at, left};
 ghost use Rattle.hg_marker.specs.Reading.{Gives, IsRead, IsReading};
 ghost use Rattle.hg_obsstore.specs.declared.fault.StoreFault.{StoreFault};
-ghost use Rattle.hg_obsstore.specs.Markers.{AreDifferent};
 ghost use Rattle.hg_obsstore.specs.Places.{picked};
 ghost use Rattle.hg_obsstore.specs.Growth.{new_among};
 ghost use Rattle.hg_obsstore.specs.Spelling.{IsLength, IsStoreSpelling, store_spelling};
 ghost use Rattle.hg_obsstore.specs.Faults.{IsStoreFault, placed_marker, markers_at, store_at};
+ghost use Rattle.hg_obsstore.specs.Reads.{StoreAnswer};
 
 use crate::fault::StoreFault;
 use crate::store::Store;
 use hg_join::NoMemory;
 use hg_marker::{Marker, ReadError, read_marker, skip_marker, write_marker};
+use hg_node_set::IdKeys;
 use std::alloc::{AllocError, Global};
 
 /// The bytes of a store: its one written spelling, with its markers in their order.
@@ -115,29 +116,24 @@ fn add_len(len: Option<usize>, more: usize) -> Option<usize>
 
 /// Reads the bytes of a store. No bytes at all are a store without markers, and of equal markers the first stands.
 ///
-/// Refuses with the first [`StoreFault`] from the front, before it takes any memory.
+/// Refuses with the first [`StoreFault`] from the front, before it takes any memory. The store hashes ids by the rule
+/// that everybody knows. Who reads bytes of strangers takes [`read_store_with_keys`].
 pub fn read_store(alloc: Global, bytes: &[u8]) -> Result<Store, ReadError<StoreFault>>
-    // What is spelled so is read, each marker once, unless memory runs out.
-    ensures only { (ms : List Fields) → IsStoreSpelling ms bytes.now
-        → Gives (λ store. store) result (Ok (new_among [] ms)) }
+    ensures { StoreAnswer bytes.now result }
+{
+    read_store_with_keys(alloc, IdKeys::known(), bytes)
+}
 
-    // So what is written of a store is read as that store, in its order.
-    ensures again { (ms : List Fields) → AreDifferent ms → IsStoreSpelling ms bytes.now
-        → Gives (λ store. store) result (Ok ms) }
-
-    // Nothing else is read.
-    ensures found { IfOk result (λ store. (ms : List Fields) × IsStoreSpelling ms bytes.now
-        × (store ≡ new_among [] ms)) }
-
-    // The fault is the one that there is, and where there is one it is told: want of memory never stands for it.
-    ensures fault { (f : StoreFault) → IsErrOf result (Fault f) → IsStoreFault bytes.now f }
-    ensures refused { (f : StoreFault) → IsStoreFault bytes.now f → IsErrOf result (Fault f) }
-
-    // Without a marker behind the version no memory is taken.
-    ensures memory { IsErrOf result ReadError.NoMemory → 1 < length bytes.now }
+/// The same as [`read_store`], and the store hashes ids by these keys.
+pub fn read_store_with_keys(
+    alloc: Global,
+    keys: IdKeys,
+    bytes: &[u8],
+) -> Result<Store, ReadError<StoreFault>>
+    ensures { StoreAnswer bytes.now result }
 {
     let markers = read_markers(alloc, bytes)?;
-    match store_of(alloc, markers) {
+    match store_of(alloc, keys, markers) {
         Ok(store) => Ok(store),
         Err(NoMemory) => Err(ReadError::NoMemory),
     }
@@ -261,11 +257,11 @@ fn read_next(alloc: Global, rest: &[u8]) -> Result<(Marker, &[u8]), AllocError>
 }
 
 // The store of the markers, each once.
-fn store_of(alloc: Global, markers: Vec<Marker>) -> Result<Store, NoMemory>
+fn store_of(alloc: Global, keys: IdKeys, markers: Vec<Marker>) -> Result<Store, NoMemory>
     ensures ok { IfOk result (λ store. store ≡ new_among [] markers.items) }
     ensures err { OnErr result (0 < length markers.items) }
 {
-    let mut store = Store::new(alloc);
+    let mut store = Store::with_keys(alloc, keys);
     store.add_owned(markers)?;
     Ok(store)
 }

@@ -2,7 +2,8 @@
 //!
 //! A [`Store`] holds each marker once, in the order in which they came, and a marker is named by its place there. It is
 //! what a repository remembers of its rewrites. Begin with [`Store::new`], or with [`read_store`] where there are
-//! bytes. [`Store::add`] takes in a marker, [`Store::absorb`] several, and [`Store::join`] those of another store; a
+//! bytes; who takes bytes of strangers makes the store [`Store::with_keys`] or by [`read_store_with_keys`].
+//! [`Store::add`] takes in a marker, [`Store::absorb`] several, and [`Store::join`] those of another store; a
 //! refusal leaves the store as it was. [`Store::mentions`] tells by one look-up which markers name a node: as
 //! predecessor, as a successor, or as a parent of the predecessor. [`store_bytes`] writes a store in its one way, which
 //! [`read_store`] reads back.
@@ -38,7 +39,7 @@ mod store;
 pub use fault::StoreFault;
 pub use format::{
     check_markers, markers_bytes, markers_len, markers_len_at, read_markers, read_store,
-    store_bytes, write_markers, write_markers_at,
+    read_store_with_keys, store_bytes, write_markers, write_markers_at,
 };
 pub use hg_changeset::Node;
 pub use hg_join::NoMemory;

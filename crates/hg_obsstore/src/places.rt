@@ -4,6 +4,7 @@ ghost use Rattle.std.specs.Prelude.{◌≡◌, ◌++◌, ◌∷◌, ◌-◌, [],
 ghost use Rattle.hg_obsstore.specs.Entries.{places_in};
 ghost use Rattle.hg_obsstore.specs.Index.{stands_last, with_last, without_last};
 
+use hg_node_set::give_back_list;
 use std::alloc::{AllocError, Global};
 use std::slice;
 
@@ -75,6 +76,7 @@ impl Places {
             Places::One(_) => *self = Places::Empty,
             Places::Several(places) => {
                 let _ = places.pop();
+                give_back_list(places);
             }
         }
     }

@@ -6,10 +6,12 @@
 ghost use Rattle.std.specs.Prelude.{◌≡◌, ◌≢◌, ◌+◌, ◌<◌, ◌≤◌, ◌↔◌, [], length, take, All, IsTrue, IfOk, OnOk, OnErr};
 ghost use Rattle.std.specs.Prelude.{Contains, slice_get};
 ghost use Rattle.std.specs.Option.{option_copied};
+ghost use Rattle.std.specs.List.{IsDistinct};
+ghost use Rattle.hg_changeset.specs.Node.{node_eq};
 ghost use Rattle.hg_marker.specs.Grammar.{IsMarker};
 ghost use Rattle.hg_marker.specs.Parents.{recorded_parents};
 ghost use Rattle.hg_obsstore.specs.Places.{ListsAll};
-ghost use Rattle.hg_obsstore.specs.Markers.{AreDifferent, ArePlaces};
+ghost use Rattle.hg_obsstore.specs.Markers.{AreDifferent, ArePlaces, IsNamed};
 ghost use Rattle.hg_obsstore.specs.Growth.{AddAnswer, AreNewPlaces, StartsWith, holds, new_among, united, with_marker};
 ghost use Rattle.hg_obsstore.specs.Sets.{IsUnion};
 ghost use Rattle.hg_obsstore.specs.Index.{places_of, SamePlaces};
@@ -22,6 +24,7 @@ use crate::index::{Hint, Index, Mentions};
 use hg_changeset::Node;
 use hg_join::NoMemory;
 use hg_marker::Marker;
+use hg_node_set::{IdKeys, give_back_list};
 use smallvec::SmallVec;
 use std::alloc::{AllocError, Global};
 use std::fmt;
@@ -44,8 +47,8 @@ pub enum Added {
 /// Two stores are `==` where they hold the same markers in the same order.
 ///
 /// It joins as a [`JoinState`](hg_join::JoinState). A call that adds costs what it is given, and a refused one no more;
-/// a look-up costs about one look at a list, however many markers it tells of, and an ordered look-up at the worst.
-/// Whoever chooses the markers can't make it cost more.
+/// a look-up costs about one hash of an id, however many markers it tells of. Ids that were chosen to share their hashes
+/// are dear, so a store that takes markers of strangers is made [`with_keys`](Store::with_keys) that they don't know.
 pub struct Store {
     alloc: Global,
     markers: Vec<Marker>,
@@ -111,16 +114,37 @@ impl fmt::Debug for Store {
 }
 
 impl Store {
-    /// The store without markers. It takes its memory from the allocator.
+    /// The store without markers. It takes its memory from the allocator, and hashes ids by the rule that everybody
+    /// knows. Who takes bytes of strangers makes it [`with_keys`](Store::with_keys).
     pub fn new(alloc: Global) -> Store
+        ensures { result ≡ [] }
+    {
+        Store::with_keys(alloc, IdKeys::known())
+    }
+
+    /// The store without markers, which hashes ids by these keys. It takes its memory from the allocator.
+    pub fn with_keys(alloc: Global, keys: IdKeys) -> Store
         ensures { result ≡ [] }
     {
         Store {
             alloc,
             markers: Vec::new(alloc),
-            index: Index::new(alloc),
+            index: Index::with_keys(alloc, keys),
             digests: Digests::new(alloc),
         }
+    }
+
+    /// What ids are hashed by.
+    pub fn keys(&self) -> IdKeys {
+        self.index.keys()
+    }
+
+    /// The ids that markers name, in no order that is promised. What was refused or taken back leaves no id behind.
+    pub fn named(&self) -> &[Node]
+        ensures exact { (n : Node) → Contains result.now n ↔ IsNamed self.now n }
+        ensures different { IsDistinct node_eq result.now }
+    {
+        self.index.named()
     }
 
     /// How many markers are held.
@@ -227,12 +251,14 @@ impl Store {
             place,
         ) {
             self.markers.truncate(place);
+            give_back_all(&mut self.markers, &mut self.index);
             return Err(NoMemory);
         }
         Ok(Added::New)
     }
 
-    /// Forgets the markers from a place on. It costs what is forgotten.
+    /// Forgets the markers from a place on. It costs what is forgotten, and gives room back where most of it is free
+    /// then.
     ///
     /// A store never shrinks for its users: this is for states above that hold one, which take back with it what they
     /// added in a call that they then refuse.
@@ -243,6 +269,14 @@ impl Store {
             let place = self.len() - 1;
             self.forget(place);
         }
+        self.give_back();
+    }
+
+    // Gives room back of which little is left in use.
+    fn give_back(&mut self)
+        ensures { self.new ≡ self.old }
+    {
+        give_back_all(&mut self.markers, &mut self.index);
     }
 
     // Forgets the last marker.
@@ -263,11 +297,11 @@ impl Store {
 }
 
 impl Store {
-    /// An equal store.
+    /// An equal store, with the same keys.
     pub fn copy(&self) -> Result<Store, NoMemory>
         ensures { IfOk result (λ copy. copy ≡ self.now) }
     {
-        let mut copy = Store::new(self.alloc);
+        let mut copy = Store::with_keys(self.alloc, self.keys());
         copy.add_copies(self.markers())?;
         Ok(copy)
     }
@@ -464,6 +498,15 @@ fn add_marker(
             Err(error)
         }
     }
+}
+
+// Gives room back of which little is left in use.
+fn give_back_all(markers: &mut Vec<Marker>, index: &mut Index)
+    ensures markers { markers.new.items ≡ markers.old.items }
+    ensures places { SamePlaces index.old index.new }
+{
+    give_back_list(markers);
+    index.give_back();
 }
 
 // The places from one on to before another. No memory is taken where there is none.

@@ -1,32 +1,85 @@
-use Rattle.std.proofs.Common.{◌≡◌, ◌∙◌, ap, subst, ℕ, List, Some}
-use Rattle.hg_changeset.specs.declared.node.Node.{Node}
+use Rattle.std.proofs.Common.{◌∙◌, [], ap, sym, refl, subst, Some, Contains, is_some}
+use Rattle.std.proofs.lemmas.Option.{same_Some}
+use Rattle.std.proofs.lemmas.List.Elements.{Contains-push}
 use Rattle.hg_changeset.proofs.ListLemmas.{on_err_anyway}
-use Rattle.hg_node_set.specs.Keys.{number_of}
-use Rattle.hg_obsstore.specs.declared.index.Role.{Role}
-use Rattle.hg_obsstore.specs.Entries.{Table, ChangesPlaces, places_at}
+use Rattle.hg_obsstore.specs.Entries.{HasPlace, Table, found_as, places_at}
 use Rattle.hg_obsstore.specs.Index.{with_last}
-use Rattle.hg_obsstore.proofs.EntryLemmas.{changed, same}
+use Rattle.hg_obsstore.proofs.DigestLemmas.{with_last_has}
+use Rattle.hg_obsstore.proofs.EntryLemmas.{changes, found_same, place_kept, placed, sets, sets_again, starts, unique_at}
 use Rattle.hg_obsstore.proofs.entries.Entries.put.Goals as goal
 
-pub returns-in_err-put_at-clause-err : goal.returns-in_err-put_at-clause-err
-returns-in_err-put_at-clause-err c =
-    let keys = c.self.inside.nodes.keys in
-    let at : number_of keys c.args.node ≡ Some c.in_ok-number.number =
-    ap (λ (t : Table). number_of t.keys c.args.node) c.self.view_is ∙ c.in_ok-number.ensures.number in
-    let t = c.in_err-put_at.ensures.err in
-    on_err_anyway c.from_residual-in_err-put_at.result _ (λ role.
-    same keys c.self.inside.roles.items c.put_at.new.entries.items c.args.node c.in_ok-number.number at t.0 t.1 t.2 t.3
-    c.number_for.new.self c.self.view_is role ∙ c.number_for.ensures.places role)
+pub invariant_of-self-in_err-put-in-Some : goal.invariant_of-self-in_err-put-in-Some
+invariant_of-self-in_err-put-in-Some c =
+    let m = c.self.inside.table in
+    let there = sym c.in_ok-number.ensures.old ∙ c.in-Some.is in (
+      unique_at c.insert_full.new.self c.in_ok-number.number c.args.node c.insert_full.ensures.unique c.put-put.new.self,
+      placed (record { entries = m.entries }) _ c.args.node (Some c.put-put.new.self)
+          (sets_again m c.insert_full.new.self c.in_ok-number.number c.args.node c.one.result c.put-put.new.self
+          c.index_mut.result.now c.in_ok-number.ensures.updates c.insert_full.ensures.unique
+          c.in_ok-number.ensures.entries c.in_ok-number.ensures.index (ap is_some there) c.index_mut.ensures.value)
+          c.self.invariant.1 (λ roles e. subst HasPlace (same_Some c.put-put.new.self roles e)
+          (place_kept c.in-Some.roles c.put-put.new.self c.in_err-put-in-Some.ensures.err
+          (c.self.invariant.1 c.args.node c.in-Some.roles there))),
+    )
 
-pub returns-clause-ok : goal.returns-clause-ok
-returns-clause-ok c =
-    let keys = c.self.inside.nodes.keys in
-    let new = c.put_at.new.entries.items in
-    let at : number_of keys c.args.node ≡ Some c.in_ok-number.number =
-    ap (λ (t : Table). number_of t.keys c.args.node) c.self.view_is ∙ c.in_ok-number.ensures.number in
-    let t = c.in_ok-put_at.ensures.ok in
-    subst (λ (before : Role → Node → List ℕ).
-    ChangesPlaces before (places_at (record { keys = keys; roles = new })) c.args.role c.args.node
-    (with_last (before c.args.role c.args.node) c.args.place)) (λ i role. c.number_for.ensures.places role i)
-    (changed keys c.self.inside.roles.items new c.args.node c.in_ok-number.number at t.0 t.1 t.2
-    (λ places. with_last places c.args.place) c.args.role t.3 c.number_for.new.self c.self.view_is)
+pub returns-in_err-put-in-Some-clause-err : goal.returns-in_err-put-in-Some-clause-err
+returns-in_err-put-in-Some-clause-err c =
+    let m = c.self.inside.table in
+    let there = sym c.in_ok-number.ensures.old ∙ c.in-Some.is in
+    on_err_anyway c.from_residual-in_err-put-in-Some.result _ (λ other.
+    found_same (record { entries = m.entries }) _ c.args.node (Some c.put-put.new.self)
+    (sets_again m c.insert_full.new.self c.in_ok-number.number c.args.node c.one.result c.put-put.new.self
+    c.index_mut.result.now c.in_ok-number.ensures.updates c.insert_full.ensures.unique
+    c.in_ok-number.ensures.entries c.in_ok-number.ensures.index (ap is_some there) c.index_mut.ensures.value)
+    other (c.in_err-put-in-Some.ensures.err other ∙ ap (found_as other) (sym there))
+    ∙ ap (λ (t : Table). places_at t other) c.self.view_is)
+
+pub invariant_of-self-in-Some : goal.invariant_of-self-in-Some
+invariant_of-self-in-Some c =
+    let m = c.self.inside.table in
+    let there = sym c.in_ok-number.ensures.old ∙ c.in-Some.is in (
+      unique_at c.insert_full.new.self c.in_ok-number.number c.args.node c.insert_full.ensures.unique c.put-put.new.self,
+      placed (record { entries = m.entries }) _ c.args.node (Some c.put-put.new.self)
+          (sets_again m c.insert_full.new.self c.in_ok-number.number c.args.node c.one.result c.put-put.new.self
+          c.index_mut.result.now c.in_ok-number.ensures.updates c.insert_full.ensures.unique
+          c.in_ok-number.ensures.entries c.in_ok-number.ensures.index (ap is_some there) c.index_mut.ensures.value)
+          c.self.invariant.1 (λ roles e. subst HasPlace (same_Some c.put-put.new.self roles e) (
+            c.args.role,
+            c.args.place,
+            subst (λ ps. Contains ps c.args.place) (sym c.in_ok-put-in-Some.ensures.ok.here)
+                (with_last_has _ c.args.place),
+          )),
+    )
+
+pub invariant_of-self-in-None : goal.invariant_of-self-in-None
+invariant_of-self-in-None c =
+    let m = c.self.inside.table in (
+      c.insert_full.ensures.unique,
+      placed (record { entries = m.entries }) _ c.args.node (Some c.one.result)
+          (sets m c.insert_full.new.self c.args.node (Some c.one.result) c.in_ok-number.ensures.updates)
+          c.self.invariant.1 (λ roles e. subst HasPlace (same_Some c.one.result roles e) (
+            c.args.role,
+            c.args.place,
+            subst (λ ps. Contains ps c.args.place) (sym c.one.ensures.here) (Contains-push [] c.args.place),
+          )),
+    )
+
+pub returns-in_ok-put-in-Some-clause-ok : goal.returns-in_ok-put-in-Some-clause-ok
+returns-in_ok-put-in-Some-clause-ok c =
+    let m = c.self.inside.table in
+    let there = sym c.in_ok-number.ensures.old ∙ c.in-Some.is in
+    changes (record { entries = m.entries }) _ c.args.node c.in-Some.roles c.put-put.new.self (Some c.put-put.new.self)
+    there
+    (sets_again m c.insert_full.new.self c.in_ok-number.number c.args.node c.one.result c.put-put.new.self
+    c.index_mut.result.now c.in_ok-number.ensures.updates c.insert_full.ensures.unique
+    c.in_ok-number.ensures.entries c.in_ok-number.ensures.index (ap is_some there) c.index_mut.ensures.value)
+    (λ role. refl) (λ places. with_last places c.args.place) c.args.role c.in_ok-put-in-Some.ensures.ok
+    c.args.self.now c.self.view_is
+
+pub returns-in-None-clause-ok : goal.returns-in-None-clause-ok
+returns-in-None-clause-ok c =
+    let m = c.self.inside.table in
+    starts (record { entries = m.entries }) _ c.args.node c.one.result c.args.place c.args.role
+    (sym c.in_ok-number.ensures.old ∙ c.in-None.is)
+    (sets m c.insert_full.new.self c.args.node (Some c.one.result) c.in_ok-number.ensures.updates)
+    c.one.ensures.here c.one.ensures.others c.args.self.now c.self.view_is

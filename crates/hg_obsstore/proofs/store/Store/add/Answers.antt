@@ -7,6 +7,7 @@ use Rattle.hg_marker.specs.Fields.{Fields}
 use Rattle.hg_marker.specs.Grammar.{IsMarker}
 use Rattle.hg_marker.specs.Same.{same_fields, fields_equivalence}
 use Rattle.hg_obsstore.specs.Digests.{AreDigested, IsUnderDigest, KeepsOtherDigests}
+use Rattle.hg_obsstore.specs.Index.{SamePlaces}
 use Rattle.hg_obsstore.specs.Indexes.{HaveBelow, AreIndexed, AddMarker}
 use Rattle.hg_obsstore.specs.Markers.{AreApart}
 use Rattle.hg_obsstore.proofs.DigestLemmas.{digested_push, digested_same}
@@ -22,16 +23,17 @@ add_marker-requires-clause-below c =
 pub invariant_of-self-in-Err : goal.invariant_of-self-in-Err
 invariant_of-self-in-Err c =
     let ms = c.self.inside.markers.items in
+    let old = c.self.inside.index in
+    let new = c.give_back_all.new.index in
     let at : c.len-place.result ≡ length ms = search rules in
-    let back = sym (cut_back ms c.push.new.self.items c.truncate.new.self.items c.args.marker c.len-place.result
-    c.in_ok-push.ensures.items at c.truncate.ensures.items) in (
+    let back = sym (c.give_back_all.ensures.markers ∙ cut_back ms c.push.new.self.items c.truncate.new.self.items
+    c.args.marker c.len-place.result c.in_ok-push.ensures.items at c.truncate.ensures.items) in
+    let same : SamePlaces old new = λ role. c.give_back_all.ensures.places role ∙ c.in-Err.ensures.err role in (
       subst AreApart back c.self.invariant.0,
-      subst (λ (xs : List Fields). AreIndexed xs c.add_marker.new.index) back
-          (all_same ms c.self.inside.index c.add_marker.new.index c.in-Err.ensures.err c.self.invariant.1),
+      subst (λ (xs : List Fields). AreIndexed xs new) back (all_same ms old new same c.self.invariant.1),
       subst (All IsMarker) back c.self.invariant.2,
-      subst (λ (xs : List Fields). AreDigested xs c.add_marker.new.index c.add_marker.new.digests) back
-          (digested_same ms c.self.inside.index c.add_marker.new.index c.self.inside.digests c.add_marker.new.digests
-          c.self.invariant.3 c.in-Err.ensures.err
+      subst (λ (xs : List Fields). AreDigested xs new c.add_marker.new.digests) back
+          (digested_same ms old new c.self.inside.digests c.add_marker.new.digests c.self.invariant.3 same
           (subst (λ n. KeepsOtherDigests n c.self.inside.digests c.add_marker.new.digests) at c.in-Err.ensures.kept)),
     )
 

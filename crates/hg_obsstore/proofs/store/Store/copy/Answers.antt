@@ -6,5 +6,5 @@ use Rattle.hg_obsstore.proofs.store.Store.copy.Goals as goal
 
 pub returns : goal.returns
 returns c =
-    c.in_ok-add_copies.ensures.ok ∙ (λ i. united (c.new-copy.ensures i) (c.markers.ensures.markers i))
+    c.in_ok-add_copies.ensures.ok ∙ (λ i. united (c.with_keys-copy.ensures i) (c.markers.ensures.markers i))
     ∙ copied c.args.self.now (subst AreApart c.self.view_is c.self.invariant.0)

@@ -6,13 +6,13 @@ use Rattle.hg_obsstore.specs.Indexes.{AreIndexed}
 use Rattle.hg_obsstore.specs.Digests.{AreDigested}
 use Rattle.hg_obsstore.proofs.DigestLemmas.{apart_none}
 use Rattle.hg_obsstore.proofs.StoreLemmas.{indexed_none}
-use Rattle.hg_obsstore.proofs.store.Store.new.Goals as goal
+use Rattle.hg_obsstore.proofs.store.Store.with_keys.Goals as goal
 
 pub invariant_of-result : goal.invariant_of-result
 invariant_of-result c =
     let none = sym c.new.ensures.items in (
       subst AreApart none apart_none,
-      subst (λ (ms : List Fields). AreIndexed ms c.new-2.result) none (indexed_none c.new-2.result c.new-2.ensures),
+      subst (λ (ms : List Fields). AreIndexed ms c.with_keys.result) none (indexed_none c.with_keys.result c.with_keys.ensures),
       subst (All IsMarker) none (λ k d lt. absurd (omega (arith, lt))),
-      subst (λ (ms : List Fields). AreDigested ms c.new-2.result c.new-3.result) none (λ m i at. absurd cc),
+      subst (λ (ms : List Fields). AreDigested ms c.with_keys.result c.new-2.result) none (λ m i at. absurd cc),
     )
