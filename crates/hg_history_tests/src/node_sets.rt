@@ -35,7 +35,9 @@ fn keeps_numbers(mut set: NodeSet) -> bool {
 fn refused_growth_inserts_nothing_and_passes_again(rt: HostRuntime) {
     let alloc = rt.alloc();
     let keys = IdKeys::secret(&rt).expect(&rt, "keys");
-    assert!(rt; keeps_numbers(NodeSet::new(alloc)) && keeps_numbers(NodeSet::with_keys(alloc, keys)));
+    assert!(rt;
+        keeps_numbers(NodeSet::new(alloc)) && keeps_numbers(NodeSet::with_keys(alloc, keys))
+    );
     let mut set = NodeSet::with_keys(alloc, NodeSet::with_keys(alloc, keys).keys());
     let node = id(1, 2);
     let number = match set.append(node) {

@@ -134,7 +134,9 @@ fn refused_growth_takes_nothing_in_and_passes_again(rt: HostRuntime) {
             store.absorb(&part).expect(&rt, "memory")
         }
     };
-    assert!(rt; places.len() == 9 && store.with_predecessor(OLD).len() == 10 && store.named().len() == 12);
+    assert!(rt;
+        places.len() == 9 && store.with_predecessor(OLD).len() == 10 && store.named().len() == 12
+    );
     if copy.join(&store).is_err() {
         assert!(rt; is_the_pruned(&copy) && copy.join(&store).is_ok());
     }

@@ -22,7 +22,8 @@ use Rattle.hg_node_set.proofs.KeyLemmas.{held_at}
 use Rattle.hg_changeset.specs.Node.{node_eq}
 use Rattle.hg_obsstore.specs.declared.index.Role.{Role}
 use Rattle.hg_obsstore.specs.declared.index.Roles.{Roles}
-use Rattle.hg_obsstore.specs.Entries.{Table, ChangesPlaces, ChangesRole, SameRoles, ArePlaced, HasPlace, IsPlaced, known}
+use Rattle.hg_obsstore.specs.Entries.{Table, ChangesPlaces, ChangesRole, SameRoles, ArePlaced, HasPlace, IsPlaced}
+use Rattle.hg_obsstore.specs.Entries.{known}
 use Rattle.hg_obsstore.specs.Entries.{found_as, listed_as, places_at}
 use Rattle.hg_obsstore.specs.Index.{with_last}
 use Rattle.hg_obsstore.proofs.PlaceLemmas.{with_last_below}

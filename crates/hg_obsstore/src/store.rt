@@ -47,8 +47,9 @@ pub enum Added {
 /// Two stores are `==` where they hold the same markers in the same order.
 ///
 /// It joins as a [`JoinState`](hg_join::JoinState). A call that adds costs what it is given, and a refused one no more;
-/// a look-up costs about one hash of an id, however many markers it tells of. Ids that were chosen to share their hashes
-/// are dear, so a store that takes markers of strangers is made [`with_keys`](Store::with_keys) that they don't know.
+/// a look-up costs about one hash of an id, however many markers it tells of. Ids that were chosen to share their
+/// hashes are dear, so a store that takes markers of strangers is made [`with_keys`](Store::with_keys) that they don't
+/// know.
 pub struct Store {
     alloc: Global,
     markers: Vec<Marker>,

@@ -44,5 +44,6 @@ returns-in-Err c = record {
   fault = search rules;
   refused = search rules;
   memory =
-      λ _. store_longer c.in_ok-markers.markers.items c.args.bytes.now c.in_ok-markers.ensures.found c.in-Err.ensures.err;
+      λ _. store_longer c.in_ok-markers.markers.items c.args.bytes.now c.in_ok-markers.ensures.found
+      c.in-Err.ensures.err;
 }

@@ -12,7 +12,8 @@ pub invariant_of-self-in_err-put-in-Some : goal.invariant_of-self-in_err-put-in-
 invariant_of-self-in_err-put-in-Some c =
     let m = c.self.inside.table in
     let there = sym c.in_ok-number.ensures.old ∙ c.in-Some.is in (
-      unique_at c.insert_full.new.self c.in_ok-number.number c.args.node c.insert_full.ensures.unique c.put-put.new.self,
+      unique_at c.insert_full.new.self c.in_ok-number.number c.args.node c.insert_full.ensures.unique
+          c.put-put.new.self,
       placed (record { entries = m.entries }) _ c.args.node (Some c.put-put.new.self)
           (sets_again m c.insert_full.new.self c.in_ok-number.number c.args.node c.one.result c.put-put.new.self
           c.index_mut.result.now c.in_ok-number.ensures.updates c.insert_full.ensures.unique
@@ -38,7 +39,8 @@ pub invariant_of-self-in-Some : goal.invariant_of-self-in-Some
 invariant_of-self-in-Some c =
     let m = c.self.inside.table in
     let there = sym c.in_ok-number.ensures.old ∙ c.in-Some.is in (
-      unique_at c.insert_full.new.self c.in_ok-number.number c.args.node c.insert_full.ensures.unique c.put-put.new.self,
+      unique_at c.insert_full.new.self c.in_ok-number.number c.args.node c.insert_full.ensures.unique
+          c.put-put.new.self,
       placed (record { entries = m.entries }) _ c.args.node (Some c.put-put.new.self)
           (sets_again m c.insert_full.new.self c.in_ok-number.number c.args.node c.one.result c.put-put.new.self
           c.index_mut.result.now c.in_ok-number.ensures.updates c.insert_full.ensures.unique

@@ -12,7 +12,8 @@ pub invariant_of-result : goal.invariant_of-result
 invariant_of-result c =
     let none = sym c.new.ensures.items in (
       subst AreApart none apart_none,
-      subst (λ (ms : List Fields). AreIndexed ms c.with_keys.result) none (indexed_none c.with_keys.result c.with_keys.ensures),
+      subst (λ (ms : List Fields). AreIndexed ms c.with_keys.result) none
+          (indexed_none c.with_keys.result c.with_keys.ensures),
       subst (All IsMarker) none (λ k d lt. absurd (omega (arith, lt))),
       subst (λ (ms : List Fields). AreDigested ms c.with_keys.result c.new-2.result) none (λ m i at. absurd cc),
     )
