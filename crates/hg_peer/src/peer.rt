@@ -312,7 +312,8 @@ impl Actor for Peer {
     ghost memory_is_not_against_bytes = { memory_not_against_bytes };
 
     fn empty(alloc: Global) -> Result<Peer, NoMemory> {
-        Peer::with_keys(alloc, IdKeys::known())
+        let peer = Peer::with_keys(alloc, IdKeys::known())?;
+        Ok(peer)
     }
 
     fn decide(&self, alloc: Global, op: &Op) -> Result<Part, PeerRefusal>

@@ -20,7 +20,7 @@ returns c =
     let lowered : c.deref-2.result.now ≡ change.lowered =
     c.deref-2.ensures.value ∙ ap (λ (x : ChangeValue). x.lowered) c.change.view_is in
     added-thrice (IsAfterFresh g change ms c.args.known.now.keys) (IsAfterAny g ms change.added)
-    (IsAfterAny g ms change.lowered) _ first second third c.new-starts.ensures
+    (IsAfterAny g ms change.lowered) _ first second third c.with_keys-starts.ensures
     c.in_ok-add_after_markers.ensures
     (subst (λ (ns : List Node). Adds (IsAfterAny g ms ns) first second) added c.in_ok-add_after_each.ensures)
     (subst (λ (ns : List Node). Adds (IsAfterAny g ms ns) second third) lowered c.in_ok-add_after_each-2.ensures)

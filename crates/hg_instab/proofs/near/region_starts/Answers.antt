@@ -12,14 +12,14 @@ returns c =
     let s = c.args.replica.now in
     let change = c.args.change.now in
     let near = c.args.near.now.keys in
-    let xs = c.new-starts.result.keys in
+    let xs = c.with_keys-starts.result.keys in
     let ys = c.add_rewritten.new.starts.keys in
     let starts = c.add_near.new.starts.keys in
     let markers : c.deref.result.now ≡ change.markers =
     c.deref.ensures ∙ ap (λ (v : ChangeValue). v.markers) c.change.view_is in
     let added : c.deref-2.result.now ≡ change.added =
     c.deref-2.ensures ∙ ap (λ (v : ChangeValue). v.added) c.change.view_is in
-    starts-are s.markers change near xs ys starts c.new-starts.ensures
+    starts-are s.markers change near xs ys starts c.with_keys-starts.ensures
     (subst (λ (ms : List Fields). Adds (IsStart ms near change.markers) xs ys) c.store.ensures
     (subst (λ (ps : List ℕ). Adds (IsStart c.store.result.now near ps) xs ys) markers c.in_ok-add_rewritten.ensures))
     (subst (λ (ns : List Node). Adds (λ n. Contains ns n × Contains near n) ys starts) added c.in_ok-add_near.ensures)

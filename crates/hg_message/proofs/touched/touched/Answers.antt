@@ -9,7 +9,7 @@ use Rattle.hg_message.proofs.TouchedLemmas.{touched-none, touched-more}
 use Rattle.hg_message.proofs.touched.touched.Goals as goal
 
 pub loop-marker-init : goal.loop-marker-init
-loop-marker-init c = subst (Adds (IsTouchedByOne []) []) (sym c.new-found.ensures)
+loop-marker-init c = subst (Adds (IsTouchedByOne []) []) (sym c.with_keys-found.ensures)
     (adds-nothing (IsTouchedByOne []) [] (λ n h. absurd (touched-none n h)))
 
 pub loop-marker-preserved : goal.loop-marker-preserved

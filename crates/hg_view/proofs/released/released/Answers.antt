@@ -17,14 +17,14 @@ loop-place-init c =
     let s = c.args.replica.now in
     let node = c.args.node in
     let upheld = c.args.upheld.now.keys in
-    let gone = c.new-gone.result.keys in
+    let gone = c.with_keys-gone.result.keys in
     let old = c.new-waiting.result.keys in
     let waiting = c.wait_at.new.waiting.keys in
     let place = c.place.result in
     let there : MatchOption place (¬ (Holds (changesets s.history) node)) (IsOnlyAt (changesets s.history) node) =
     subst (λ (cs : List Contents). MatchOption place (¬ (Holds cs node)) (IsOnlyAt cs node))
     c.graph-graph.ensures.graph c.place.ensures.place in
-    releasing-start s c.args.pins.now node upheld gone place old waiting c.requires c.new-gone.ensures there
+    releasing-start s c.args.pins.now node upheld gone place old waiting c.requires c.with_keys-gone.ensures there
     (subst (λ (cs : List Contents). Widens (λ k. (place ≡ Some k) × IsLeftAt cs upheld gone k) old waiting)
     c.graph-graph.ensures.graph c.in_ok-wait_at.ensures)
 

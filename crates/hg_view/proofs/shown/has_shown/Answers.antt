@@ -17,8 +17,8 @@ loop-next-init c =
     let node = c.args.node in
     let new = c.insert.new.self.keys in
     search-start c.args.replica.now c.graph-graph.ensures.valid c.args.pins.now node new c.requires
-    (subst (λ (ks : List Node). Adds (λ n. node ≡ n) ks new) c.new-met.ensures
-    (adds-one c.new-met.result.keys new node c.in_ok-insert.ensures.keys))
+    (subst (λ (ks : List Node). Adds (λ n. node ≡ n) ks new) c.with_keys-met.ensures
+    (adds-one c.with_keys-met.result.keys new node c.in_ok-insert.ensures.keys))
 
 pub loop-next-smaller : goal.loop-next-smaller
 loop-next-smaller c =

@@ -15,12 +15,12 @@ hang_below-requires c n h =
     let first = c.add_mutable.new.found.keys in
     let adds : Adds (λ n. (c.args.node ≡ n) × IsMutable f n) U (U ++ first) =
     subst (λ ns. Adds (λ n. (c.args.node ≡ n) × IsMutable f n) ns (U ++ first))
-    (ap (λ ns. U ++ ns) c.new-found.ensures ∙ append-nil U) c.in_ok-add_mutable.ensures.ok in
+    (ap (λ ns. U ++ ns) c.with_keys-found.ensures ∙ append-nil U) c.in_ok-add_mutable.ensures.ok in
     elim ((adds.members n).0 h) [ inl old ↦ c.requires n old | inr new ↦ (new.1.0, new.1.1) ]
 
 pub returns-clause-apart : goal.returns-clause-apart
 returns-clause-apart c = c.in_ok-hang_below.ensures.apart (c.in_ok-add_mutable.ensures.apart
-    (λ n h. absurd (Contains-none n (subst (λ ns. Contains ns n) c.new-found.ensures h))))
+    (λ n h. absurd (Contains-none n (subst (λ ns. Contains ns n) c.with_keys-found.ensures h))))
 
 pub returns-clause-upheld : goal.returns-clause-upheld
 returns-clause-upheld c pins more are members held =
@@ -29,7 +29,7 @@ returns-clause-upheld c pins more are members held =
     let first = c.add_mutable.new.found.keys in
     let adds : Adds (λ n. (c.args.node ≡ n) × IsMutable f n) U (U ++ first) =
     subst (λ ns. Adds (λ n. (c.args.node ≡ n) × IsMutable f n) ns (U ++ first))
-    (ap (λ ns. U ++ ns) c.new-found.ensures ∙ append-nil U) c.in_ok-add_mutable.ensures.ok in
+    (ap (λ ns. U ++ ns) c.with_keys-found.ensures ∙ append-nil U) c.in_ok-add_mutable.ensures.ok in
     let known : (n : Node) → Contains more n → IsHeld f.0 n = λ n h. elim ((members n).0 h) [
       | inl pinned ↦ are.pinned n pinned
       | inr e ↦ subst (λ (m : Node). IsHeld f.0 m) e held
