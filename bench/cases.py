@@ -1,6 +1,7 @@
 """The scripts that are measured: each case gives the lines of a script of a size, and how many lines it prints."""
-import itertools
 import random
+
+from hashing import group_of, groups_of, hash_of_label
 
 NAME_BYTES = "ABCDEFGHIJKLMNOPQRSTUVWXYZabcdefghijklmnopqrstuvwxyz0123456789_.-"
 SCRIPT_BYTES = 1_048_576
@@ -19,18 +20,12 @@ def short_label(number):
     return (short_label(number // base - 1) if number >= base else "") + NAME_BYTES[number % base]
 
 
-def stands_low(number):
-    """Whether the four slots of a number, as `hg_names` tells them, are among 11 of each 16. Such numbers never take
-    three of four slots, so there are no more than the first 16 as long as no others come, and nearly all stand aside."""
-    spread = (number ^ number >> 28) * 0x9E37_79B9_7F4A_7C15 % 2**64
-    return all((spread >> shift) % 16 < 11 for shift in (44, 36, 28, 20))
-
-
 def meeting_labels(size):
-    """So many labels of three characters that meet."""
+    """So many labels of three characters that meet by the known rule (hashing.py): those with the first groups of a
+    table of so many. There are more of them than these groups hold, so most are looked up past what stands there."""
+    groups = groups_of(size)
     every = map(label, range(len(NAME_BYTES) ** 3))
-    meeting = (text for text in every if stands_low(int.from_bytes(b"\1" + text.encode(), "big")))
-    return list(itertools.islice(meeting, size))
+    return sorted(every, key=lambda text: group_of(hash_of_label(text.encode()), groups))[:size]
 
 
 # ---- operations
@@ -278,6 +273,17 @@ def refused_below_a_hidden_stack(size):
     yield from prunes(size)
     for _ in range(REFUSALS):
         yield f"commit A {label(size)} draft {label(0)}"
+
+
+def refused_message(size, nodes):
+    """One node and a changeset that was amended so often. What stands on the last amend is offered above that, with all
+    markers, and so many empty nodes refuse the message, since none has the parent."""
+    yield from amends(size)
+    yield f"commit A above draft {label(size)}"
+    yield f"offer A message {label(size)}"
+    for number in range(nodes):
+        yield f"node {number}"
+        yield f"take {number} message"
 
 
 # ---- exchange
@@ -560,7 +566,7 @@ CASES = [
     ("commits without parents", roots, SIZES, lambda size: 0),
     ("commits without parents, each named again", lambda size: roots_named_again([label(it) for it in range(size)]),
         NAMED_SIZES, lambda size: 0),
-    ("the same, of labels that meet", lambda size: roots_named_again(meeting_labels(size)),
+    ("commits of labels that meet, each named again", lambda size: roots_named_again(meeting_labels(size)),
         NAMED_SIZES, lambda size: 0),
     ("secret commits", secret_roots, SIZES, lambda size: 0),
     ("merges of the last two", merges, SMALL, lambda size: 0),
@@ -596,6 +602,13 @@ for _kind, (_before, _line) in REFUSED.items():
         lambda size, before=_before, line=_line: refused(size, before, line),
         SIZES,
         lambda size: REFUSALS,
+    ))
+for _nodes, _count in ((1, "one node"), (10, "ten"), (50, "fifty")):
+    CASES.append((
+        f"a message of so many markers, refused by {_count}",
+        lambda size, nodes=_nodes: refused_message(size, nodes),
+        SMALL,
+        lambda size, nodes=_nodes: nodes,
     ))
 CASES += [
     ("1,000 refusals of a hidden parent below a hidden stack", refused_below_a_hidden_stack, SMALL, lambda size: REFUSALS),

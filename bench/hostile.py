@@ -6,9 +6,9 @@
     bench/hostile.py                             names the cases, and how long their messages are
 
 The first cases are of ids with 4,096 successors sets: such an id was split into 12 parts, each of which was rewritten
-in two ways. The others are of ids that meet, so that tables of ids find them by their order, and of as many that look
-like hashes. An id of a marker is whatever its sender writes. That of a changeset is its SHA-1: to let it begin with k
-given bits takes about 2^k tries.
+in two ways. The others are of ids that meet, which have one hash by the rule that everybody knows (hashing.py), and of
+as many that look like hashes. An id of a marker is whatever its sender writes. That of a changeset is its SHA-1: to
+have k given bits of its hash takes about 2^k tries.
 
 `hgfleet show` reads these bytes, and hg_bench takes messages in. No script takes any.
 """
@@ -133,7 +133,7 @@ CASES = {
     "scattered-successors": (lambda size: successors(size, scattered), 200),
 }
 
-# Those of ids that meet, and what stands beside each.
+# Those of ids that meet, and what stands beside each when bytes are shown.
 BESIDE = {f"meeting-{role}": f"scattered-{role}" for role in ("predecessors", "successors")}
 
 # Those that hg_bench takes in, with what they are and their sizes.
@@ -166,6 +166,7 @@ MEASURED = {
 
 
 def main():
+    messages.check_meeting()
     words = sys.argv[1:]
     is_store = words[:1] == ["store"]
     asked = words[is_store:]

@@ -2,6 +2,8 @@
 import hashlib
 import struct
 
+from hashing import START, fed, hash_of_id
+
 NULL = bytes(20)
 SERVED = 0
 DRAFT = 1
@@ -68,8 +70,17 @@ def scattered(number):
 
 
 def meeting(number):
-    """An id that begins as all of these do, and ends so that they come in no order."""
-    return b"\1" * 16 + struct.pack(">I", number * 0x9E37_79B1 % 2**32)
+    """An id that begins as the scattered one does, and whose hash by the known rule is that of all of these: its next
+    eight bytes are what the hasher is at after the first, which leaves it at 0, and its last four are theirs."""
+    front = scattered(number)[:8]
+    return front + fed(START, front).to_bytes(8, "little") + b"\1" * 4
+
+
+def check_meeting():
+    """Fails unless ids that are to meet are all different and have one hash by the known rule."""
+    ids = [meeting(number) for number in range(1_000)]
+    assert len(set(ids)) == len(ids), "two of the ids that are to meet are one"
+    assert len(set(map(hash_of_id, ids))) == 1, "the ids that are to meet have several hashes"
 
 
 def links(size):
@@ -159,7 +170,8 @@ CASES = {
     "view-stack": ("what is visible and what is served of that stack", "view", amended_stack, SIZES),
     "list": ("a message of so many markers read, as a list", "read", markers_in_a_chain, MARKER_SIZES),
     "add-chain": ("those markers added, in a chain", "take", markers_in_a_chain, MARKER_SIZES),
-    "add-meeting": ("the same, of ids that meet", "take", lambda size: markers_in_a_chain(size, meeting), MARKER_SIZES),
+    "add-meeting": ("markers added in a chain, of ids that meet", "take",
+        lambda size: markers_in_a_chain(size, meeting), MARKER_SIZES),
     "add-fan": ("markers added, all of one predecessor", "take", markers_of_one, MARKER_SIZES),
     "write": ("markers written, as a message of the whole", "send-whole", markers_in_a_chain, MARKER_SIZES),
     "sets-of-chains": ("successors sets of all predecessors, in chains of 1,000", "sets", chains_of_markers, MARKER_SIZES),
@@ -167,7 +179,7 @@ CASES = {
     "sets-of-one-chain": ("the same, in one chain", "sets", one_chain_of_markers, MARKER_SIZES),
     "divergence-of-chains": ("instabilities with markers in chains of 1,000", "tell", chains_of_markers, MARKER_SIZES),
     "divergence-of-pairs": ("the same, in chains that begin in pairs", "tell", pairs_of_chains, MARKER_SIZES),
-    "divergence-of-meeting-pairs": ("the same, of ids that meet", "tell",
+    "divergence-of-meeting-pairs": ("instabilities with markers in pairs of chains, of ids that meet", "tell",
         lambda size: pairs_of_chains(size, meeting), MARKER_SIZES),
     "divergence-of-one-chain": ("instabilities with markers in one chain", "tell", one_chain_of_markers, MARKER_SIZES),
     "read-offer": ("an offer of so many changesets and as many markers read", "read", marked_chain, SIZES),

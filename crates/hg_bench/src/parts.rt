@@ -1,6 +1,7 @@
 //! Cases of a message and its part: what reading it costs, and taking it in.
 use hg_message::Message;
-use hg_replica::{IdKeys, Part, Replica};
+use hg_node_set::IdKeys;
+use hg_replica::{Part, Replica};
 use hg_view::Kept;
 use std::alloc::Global;
 use std::io;
@@ -15,7 +16,7 @@ pub fn part_of(alloc: Global, bytes: &[u8]) -> io::Result<Part> {
     }
 }
 
-/// A replica that holds the part alone.
+/// A replica with these keys that holds the part alone.
 pub fn replica_of(alloc: Global, keys: IdKeys, part: Part) -> io::Result<Replica> {
     let mut replica = Replica::with_keys(alloc, keys);
     match replica.absorb_owned(part) {
@@ -31,7 +32,7 @@ pub fn read(rt: &impl CpuClock, alloc: Global, bytes: &[u8]) -> io::Result<Durat
     Ok(rt.thread_cpu_time()?.saturating_sub(before))
 }
 
-/// A part is taken in by an empty replica, to which it is handed over.
+/// A part is taken in by an empty replica with these keys, to which it is handed over.
 pub fn take(rt: &impl CpuClock, alloc: Global, keys: IdKeys, part: Part) -> io::Result<Duration> {
     let mut replica = Replica::with_keys(alloc, keys);
     let before = rt.thread_cpu_time()?;
