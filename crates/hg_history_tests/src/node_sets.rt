@@ -28,7 +28,7 @@ fn keeps_numbers(mut set: NodeSet) -> bool {
     }
     set.truncate(50);
     let kept = set.len() == 50 && set.insert(id(7, 24)) == Ok(false) && !set.contains(id(7, 25));
-    kept && takes(&mut set, id(7, 25)) && set.as_slice()[2] == id(7, 1)
+    kept && takes(&mut set, id(7, 25)) && set.as_slice().get(2).copied() == Some(id(7, 1))
 }
 
 #[test]
