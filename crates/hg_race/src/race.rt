@@ -62,7 +62,7 @@ fn race_all<R: Threads + Wait + Sync>(
     rt: &R,
     racers: Vec<Racer>,
 ) -> Result<Vec<Outcome>, NoMemory> {
-    let alloc = racers.allocator();
+    let alloc = *racers.allocator();
     let results = thread::map_vec(rt, racers, &|racer| race_one(rt, racer))?;
     let mut outcomes = Vec::with_capacity(alloc, results.len())?;
     for result in results {
