@@ -7,3 +7,4 @@ pub mod FormulaLemmas
 pub mod TakenLemmas
 pub mod MarkedLemmas
 mod SharingLemmas
+mod WorldLemmas

@@ -4,6 +4,7 @@ pub mod DecisionLaws
 pub mod Laws
 pub mod MarkLaws
 pub mod Marks
+pub mod New
 pub mod OfferLaws
 pub mod Peers
 pub mod Refusals

@@ -29,6 +29,7 @@ ghost use Rattle.hg_peer.specs.Peers.{IsAgainstOffer, IsAgainstWriting, SpellsPa
 ghost use Rattle.hg_peer.specs.Peers.{IsMemory, CanBeWritten, TakesBytes};
 ghost use Rattle.hg_peer.specs.Marks.{own, Tells as TellsPeer, Marks as MarksPins, IsAgainstMark as AgainstMark};
 ghost use Rattle.hg_peer.specs.Marks.{ChangesPins};
+ghost use Rattle.hg_peer.specs.New.{IsNew};
 ghost use Rattle.hg_peer.specs.DecisionLaws.{decided_once, decided_not_refused, memory_not_against_operation};
 ghost use Rattle.hg_peer.specs.OfferLaws.{offered_once, offered_not_refused, offered_spelled, offered_covered};
 ghost use Rattle.hg_peer.specs.OfferLaws.{offered_alike, memory_not_against_offer};
@@ -80,6 +81,7 @@ impl Peer {
 
     /// A peer that holds nothing and pins nothing, which hashes ids by these keys.
     pub fn with_keys(alloc: Global, keys: IdKeys) -> Result<Peer, NoMemory>
+        ensures new { IfOk result IsNew }
         ensures replica { IfOk result (λ peer. peer.replica ≡ record { history = state_of [] []; markers = [] }) }
         ensures pins { IfOk result (λ peer. peer.pins ≡ []) }
     {
