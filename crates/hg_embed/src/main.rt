@@ -81,7 +81,7 @@ fn exchange(rt: &(impl Print + RandomSource + AllocGlobal)) -> Result<(), Stop> 
     match world.state(BOB) {
         Some(bob) => {
             let sets = bob.kept().instabilities();
-            print_set(rt, "obsolete", &sets.obsolete()?)?;
+            print_set(rt, "obsolete", sets.obsolete())?;
             print_set(rt, "orphan", sets.orphan())
         }
         None => Err(Stop::Refused),

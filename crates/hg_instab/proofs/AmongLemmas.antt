@@ -2,7 +2,6 @@
 use Rattle.std.proofs.Common.{◌≡◌, Bool, true, false, true≢false, not, IsTrue, ℕ, ◌+◌, ◌<◌, ◌≤◌, List, [], ◌∷◌, ◌++◌}
 use Rattle.std.proofs.Common.{length, take, get_or, Contains, ◌↔◌, ◌⊎◌, inl, inr, refl, sym, ap, subst, ◌∙◌}
 use Rattle.std.proofs.lemmas.List.{take_more, take_all}
-use mathlib.Core.Bool.{beq}
 use Rattle.hg_changeset.specs.declared.node.Node.{Node}
 use Rattle.hg_changeset.proofs.ListLemmas.{Contains-none, Contains-pushed, Contains-taken}
 use Rattle.hg_marker.specs.Fields.{Fields}
@@ -89,16 +88,6 @@ told-alike {P = P} a b is told = subst (λ (x : Bool). IsTrue x ↔ P) is told
 pub other-told : {P : Type 0} (b : Bool) → IsTrue b ↔ P → IsTrue (not b) ↔ (¬ P)
 other-told true told = (λ h. absurd (true≢false (sym h)), λ no. absurd (no (told.0 refl)))
 other-told false told = (λ h p. true≢false (sym (told.1 p)), λ no. refl)
-
--- two tests answer alike where what they tell is so together
-pub alike-told : {P Q : Type 0} (a b : Bool) → IsTrue a ↔ P → IsTrue b ↔ Q → IsTrue (not (not (beq a b))) ↔ (P ↔ Q)
-alike-told true true p q = (λ _. (λ _. q.0 refl, λ _. p.0 refl), λ _. refl)
-alike-told true false p q = (λ h. absurd (true≢false (sym h)), λ same. q.1 (same.0 (p.0 refl)))
-alike-told false true p q = (λ h. absurd (true≢false (sym h)), λ same. p.1 (same.1 (q.0 refl)))
-alike-told false false p q = (
-  λ _. (λ x. absurd (true≢false (sym (p.1 x))), λ y. absurd (true≢false (sym (q.1 y)))),
-  λ _. refl,
-)
 
 -- all were seen
 pub those-all : {X : Type 0} (Seen : List X → Node → Type 0) (P : Node → Type 0) (xs : List X) (i : ℕ)

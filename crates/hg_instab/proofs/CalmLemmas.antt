@@ -37,6 +37,7 @@ none-come ns more none n = (
 nothing-grown : (sets : InstabilitySets) (retired stranded : List Node) → retired ≡ [] → stranded ≡ []
     → IsGrown sets retired stranded sets
 nothing-grown sets retired stranded r s = record {
+  obsolete = none-come sets.obsolete retired r;
   orphan = none-come sets.orphan stranded s;
   extinct = none-come sets.extinct retired r;
   suspended = refl;
@@ -48,18 +49,19 @@ nothing-grown sets retired stranded r s = record {
 
 -- a set to which one node comes
 one-comes : (before after more : List Node) (node : Node) → more ≡ node ∷ []
-    → ((n : Node) → Contains after n ↔ (Contains before n ⊎ (node ≡ n)))
+    → ((n : Node) → Contains after n ↔ (Contains before n ⊎ (n ≡ node)))
     → (n : Node) → Contains after n ↔ (Contains before n ⊎ Contains more n)
 one-comes before after more node one then n = (
   λ h. elim ((then n).0 h)
-      [ inl old ↦ inl old | inr e ↦ inr (subst (λ ms. Contains ms n) (sym one) (zero, omega arith, e)) ],
+      [ inl old ↦ inl old | inr e ↦ inr (subst (λ ms. Contains ms n) (sym one) (zero, omega arith, sym e)) ],
   λ h. (then n).1 (elim h
-      [ inl old ↦ inl old | inr new ↦ inr (Contains-one node n (subst (λ ms. Contains ms n) one new)) ]),
+      [ inl old ↦ inl old | inr new ↦ inr (sym (Contains-one node n (subst (λ ms. Contains ms n) one new))) ]),
 )
 
 one-grown : (sets after : InstabilitySets) (node : Node) (retired stranded : List Node) → retired ≡ node ∷ []
     → stranded ≡ [] → IsRetired sets node after → IsGrown sets retired stranded after
 one-grown sets after node retired stranded r s is = record {
+  obsolete = one-comes sets.obsolete after.obsolete retired node r is.obsolete;
   orphan = λ n. subst (λ ns. Contains ns n ↔ (Contains sets.orphan n ⊎ Contains stranded n)) (sym is.orphan)
       (none-come sets.orphan stranded s n);
   extinct = one-comes sets.extinct after.extinct retired node r is.extinct;
@@ -123,10 +125,10 @@ module _ (s t : ReplicaState) (change : ChangeValue) (v : IsValid s) (w : IsVali
   calm-extinct_before n here o =
       (at.extinct n).1 (o, λ suspended. here.apart.suspended ((at.suspended n).1 suspended))
 
-  calm-obsolete : (n : Node) → (IsObsolete f n ⊎ Contains retired n) ↔ IsObsolete g n
+  calm-obsolete : (n : Node) → (Contains sets.obsolete n ⊎ Contains retired n) ↔ IsObsolete g n
   calm-obsolete n = (
     λ h. elim h [
-      | inl o ↦ elim (among_or_not seeds n) [
+      | inl was ↦ let o = (at.obsolete n).0 was in elim (among_or_not seeds n) [
         | inl in_it ↦ (let here = calm n in_it (still-held n (o.0.0, o.0.1)) in elim here.settled [
           | inl nothing ↦ nothing.0
           | inr other ↦ absurd (other.0 ((gone n).0 (inl (calm-extinct_before n here o))))
@@ -137,8 +139,8 @@ module _ (s t : ReplicaState) (change : ChangeValue) (v : IsValid s) (w : IsVali
     ],
     λ o. elim (among_or_not seeds n) [
       | inl in_it ↦ elim (obsolete-gone n in_it o)
-          [ inl x ↦ inl ((at.extinct n).0 x.0).0 | inr r ↦ inr r.1 ]
-      | inr out ↦ inl ((still-obsolete n out).0 o)
+          [ inl x ↦ inl ((at.obsolete n).1 ((at.extinct n).0 x.0).0) | inr r ↦ inr r.1 ]
+      | inr out ↦ inl ((at.obsolete n).1 ((still-obsolete n out).0 o))
     ],
   )
 
@@ -209,7 +211,7 @@ module _ (s t : ReplicaState) (change : ChangeValue) (v : IsValid s) (w : IsVali
             x.1.0,
             (x.1.1.0, still n out ∙ x.1.1.1, x.1.1.2),
             elim x.1.2 [
-              | inl o ↦ inl ((calm-obsolete x.1.0).0 (inl o))
+              | inl o ↦ inl ((calm-obsolete x.1.0).0 (inl ((at.obsolete x.1.0).1 o)))
               | inr o ↦ inr (inl ((at.orphan x.1.0).1 o))
             ],
           ),
@@ -221,7 +223,7 @@ module _ (s t : ReplicaState) (change : ChangeValue) (v : IsValid s) (w : IsVali
           let was : (IsObsolete g h.1.0 ⊎ Contains sets.orphan h.1.0) → IsObsolete f h.1.0 ⊎ IsOrphan f h.1.0 =
           λ x. elim x [
             | inl o ↦ elim ((calm-obsolete h.1.0).1 o) [
-              | inl old ↦ inl old
+              | inl old ↦ inl ((at.obsolete h.1.0).0 old)
               | inr r ↦ absurd (current.1 (on-retired h.1.0 n r h.1.1 out).0)
             ]
             | inr o ↦ inr ((at.orphan h.1.0).0 o)
@@ -370,6 +372,7 @@ module _ (s t : ReplicaState) (change : ChangeValue) (v : IsValid s) (w : IsVali
       -- what turns of each set is told
       calm-told : (turns : Turns) → AreCalmTurns sets retired stranded turns → AreTold g sets turns
       calm-told turns are = record {
+        obsolete = λ n. along (are.obsolete n) (calm-obsolete n);
         orphan = λ n. along (are.orphan n) (calm-orphan n);
         suspended = λ n. along (are.suspended n) (calm-suspended n);
         extinct = λ n. along (along (are.extinct n) (gone n)) (calm-extinct n);
@@ -386,6 +389,7 @@ module _ (s t : ReplicaState) (change : ChangeValue) (v : IsValid s) (w : IsVali
       -- what has grown so is what it is to be
       calm-kept : (after : InstabilitySets) → IsGrown sets retired stranded after → AreInstabilities g after
       calm-kept after are = record {
+        obsolete = λ n. along (are.obsolete n) (calm-obsolete n);
         orphan = λ n. along (are.orphan n) (calm-orphan n);
         suspended = λ n. subst (λ ns. Contains ns n ↔ IsSuspended g n) (sym are.suspended) (calm-suspended n);
         extinct = λ n. along (along (are.extinct n) (gone n)) (calm-extinct n);

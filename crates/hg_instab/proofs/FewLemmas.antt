@@ -14,6 +14,7 @@ use Rattle.hg_node_set.specs.Keys.{Keys}
 use Rattle.hg_instab.specs.declared.few.Held.{Held}
 use Rattle.hg_instab.specs.Few.{Comes}
 use Rattle.hg_instab.specs.FewKeys.{keys_held}
+use Rattle.hg_instab.specs.Turns.{HasPut}
 
 -- what contracts see of a set, by what it holds
 pub seen-keys : (seen : Keys) (held shape : Held) → record { keys = keys_held held } ≡ seen → held ≡ shape
@@ -32,15 +33,30 @@ came-second only node both other are = record {
   fresh = (λ _ h. other (Contains-one only node h), λ _. refl);
 }
 
-pub both-put : (first second : Node) (none one both : List Node) (a b : Bool) → none ≡ [] → Comes first a none one
-    → Comes second b one both → (n : Node) → Contains both n ↔ ((first ≡ n) ⊎ (second ≡ n))
+pub came-put : (node : Node) (came : Bool) (old new : List Node) → HasPut node came old new → Comes node came old new
+came-put node came old new put = record {
+  then = λ n. (
+    λ h. elim ((put.then n).0 h) [ inl was ↦ inl was | inr e ↦ inr (sym e) ],
+    λ h. (put.then n).1 (elim h [ inl was ↦ inl was | inr e ↦ inr (sym e) ]),
+  );
+  fresh = (
+    put.new,
+    λ none. elim (cases_Bool came) [
+      | inl new ↦ new
+      | inr not ↦ absurd (none (subst (λ ns. Contains ns node) (put.old not) ((put.then node).1 (inr refl))))
+    ],
+  );
+}
+
+pub both-put : (first second : Node) (none one both : List Node) (a b : Bool) → none ≡ [] → HasPut first a none one
+    → HasPut second b one both → (n : Node) → Contains both n ↔ ((first ≡ n) ⊎ (second ≡ n))
 both-put first second none one both a b empty put next n = (
   λ h. elim ((next.then n).0 h) [
     | inl was ↦ elim ((put.then n).0 was)
-        [ inl x ↦ absurd (Contains-none n (subst (λ ns. Contains ns n) empty x)) | inr e ↦ inl e ]
-    | inr e ↦ inr e
+        [ inl x ↦ absurd (Contains-none n (subst (λ ns. Contains ns n) empty x)) | inr e ↦ inl (sym e) ]
+    | inr e ↦ inr (sym e)
   ],
-  λ h. (next.then n).1 (elim h [ inl e ↦ inl ((put.then n).1 (inr e)) | inr e ↦ inr e ]),
+  λ h. (next.then n).1 (elim h [ inl e ↦ inl ((put.then n).1 (inr (sym e))) | inr e ↦ inr (sym e) ]),
 )
 
 -- ---- a node is taken out

@@ -124,6 +124,7 @@ flip h = (h.1, h.0)
 pub kept-then : (g : Content) (before after : InstabilitySets) (turns : Turns) → AreThen before turns after
     → AreTold g before turns → AreInstabilities g after
 kept-then g before after turns then told = record {
+  obsolete = λ n. along (then.obsolete n) (told.obsolete n);
   orphan = λ n. along (then.orphan n) (told.orphan n);
   suspended = λ n. along (then.suspended n) (told.suspended n);
   extinct = λ n. along (then.extinct n) (told.extinct n);

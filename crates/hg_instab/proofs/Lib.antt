@@ -11,7 +11,6 @@ mod SuspendedLemmas
 pub mod TurnLemmas
 mod SeedLemmas
 mod KeptLemmas
-mod ObsoleteLemmas
 mod CalmLemmas
 mod FirstLemmas
 pub mod ChangedLemmas

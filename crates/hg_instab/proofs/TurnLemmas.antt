@@ -5,8 +5,9 @@ use Rattle.std.specs.BTreeMap.{is_at}
 use Rattle.std.specs.BTreeSet.{BTreeSet, Updates, contains}
 use Rattle.std.specs.Cmp.{Equal-is}
 use Rattle.std.specs.List.Sorted.{IsStrictlySortedBy}
-use Rattle.std.proofs.lemmas.Bool.{cases_Bool}
-use Rattle.std.specs.Prelude.{Bool, true, not, IsTrue}
+use Rattle.std.proofs.lemmas.Bool.{cases_Bool, not-true}
+use Rattle.std.specs.Prelude.{Bool, true, not}
+use Rattle.std.specs.Bool.{OnFalse}
 use Rattle.hg_graph.proofs.WalkLemmas.{inserted}
 use Rattle.std.proofs.lemmas.Map.Views.{btree_set_contains_iff}
 use Rattle.hg_changeset.specs.declared.node.Node.{Node}
@@ -18,9 +19,7 @@ use Rattle.hg_succ.proofs.SortedLemmas.{same_members}
 use Rattle.hg_instab.specs.Calm.{IsGrowth, IsRest}
 use Rattle.hg_instab.specs.Changed.{IsNow}
 use Rattle.hg_instab.specs.declared.turn.Turn.{Turn}
-use Rattle.hg_instab.specs.Few.{Comes}
-use Rattle.hg_instab.specs.Turns.{IsTurn, IsThen, IsStage, HasCome}
-use Rattle.hg_instab.proofs.AmongLemmas.{other-told}
+use Rattle.hg_instab.specs.Turns.{IsTurn, IsThen, IsStage, HasCome, HasPut}
 
 -- a node less
 pub node-removed : (s t : BTreeSet Node) (k : Node) → Updates node_cmp s t k false → (n : Node)
@@ -171,12 +170,26 @@ asked-then set nodes now turn Was Is told is was others n = (
   ]),
 )
 
--- ---- one node that is put
+-- ---- one node that is put, and taken back
 
-pub put-in : (s t : BTreeSet Node) (node : Node) (came : Bool) → came ≡ not (contains node_cmp s node)
-    → Updates node_cmp s t node true → Comes node came s.keys t.keys
-put-in s t node came is updates = record {
-  then = inserted node_cmp_total node_cmp_exact s t node updates;
-  fresh = subst (λ (b : Bool). IsTrue b ↔ (¬ (Contains s.keys node))) (sym is)
-      (other-told (contains node_cmp s node) (btree_set_contains_iff node_cmp_total node_cmp_exact s node));
+pub put-in : (s t : BTreeSet Node) (node : Node) (came : Bool) → IsStrictlySortedBy node_cmp s.keys
+    → came ≡ not (contains node_cmp s node) → Updates node_cmp s t node true → OnFalse came (t.keys ≡ s.keys)
+    → HasPut node came s.keys t.keys
+put-in s t node came up is updates same = record {
+  ordered = up;
+  then = λ n.
+      let added = inserted node_cmp_total node_cmp_exact s t node updates n in (
+        λ h. elim (added.0 h) [ inl old ↦ inl old | inr e ↦ inr (sym e) ],
+        λ h. added.1 (elim h [ inl old ↦ inl old | inr e ↦ inr (sym e) ]),
+      );
+  new = λ it h. true≢false (sym ((btree_set_contains_iff node_cmp_total node_cmp_exact s node).1 h)
+      ∙ not-true _ (sym is ∙ it));
+  old = λ not_it. subst (λ b. OnFalse b (t.keys ≡ s.keys)) not_it same;
 }
+
+pub taken_back : (before now after : List Node) (node : Node) (came : Bool) → HasPut node came before now
+    → came ≡ true → IsStrictlySortedBy node_cmp after
+    → ((n : Node) → Contains after n ↔ (Contains now n × (n ≢ node))) → after ≡ before
+taken_back before now after node came put it still members = same_members node_cmp_total after before still put.ordered
+    (λ n h. let x = (members n).0 h in elim ((put.then n).0 x.0) [ inl old ↦ old | inr e ↦ absurd (x.1 e) ])
+    (λ n h. (members n).1 ((put.then n).1 (inl h), λ e. put.new it (subst (Contains before) e h)))

@@ -55,6 +55,7 @@ neither same not other = (λ a. absurd (not (same.0 a)), λ c. absurd (other c))
 unmarked-alike : (f g : Content) (sets : InstabilitySets) → ((m : Fields) → ¬ (IsMarker f m))
     → ((m : Fields) → ¬ (IsMarker g m)) → AreInstabilities f sets → AreInstabilities g sets
 unmarked-alike f g sets none none' are = record {
+  obsolete = λ n. neither (are.obsolete n) (never-obsolete f none n) (never-obsolete g none' n);
   orphan = λ n. neither (are.orphan n) (never-orphan f none n) (never-orphan g none' n);
   suspended = λ n. neither (are.suspended n) (never-suspended f none n) (never-suspended g none' n);
   extinct = λ n. neither (are.extinct n) (never-extinct f none n) (never-extinct g none' n);

@@ -66,8 +66,10 @@ IsGrowth set turn P = (n : Node) → IsThen set turn n ↔ (Contains set n ⊎ P
 abbrev pub IsRest : List Node → Turn → Type 0
 IsRest set turn = (n : Node) → IsThen set turn n ↔ Contains set n
 
--- those that are retired come to what is extinct, those that are stranded to the orphans, and nothing else turns
+-- those that are retired come to what is obsolete and to what is extinct, those that are stranded to the orphans, and
+-- nothing else turns
 pub record AreCalmTurns (sets : InstabilitySets) (retired stranded : List Node) (turns : Turns) : Type 0 where
+  pub obsolete : IsGrowth sets.obsolete turns.obsolete (Contains retired)
   pub orphan : IsGrowth sets.orphan turns.orphan (Contains stranded)
   pub suspended : IsRest sets.suspended turns.suspended
   pub extinct : IsGrowth sets.extinct turns.extinct (Contains retired)
@@ -82,9 +84,10 @@ IsCalmTurning sets retired stranded Nothing = (retired ≡ []) × (stranded ≡ 
 IsCalmTurning sets retired stranded (Retired node) = (retired ≡ node ∷ []) × (stranded ≡ [])
 IsCalmTurning sets retired stranded (All turns) = AreCalmTurns sets retired stranded turns
 
--- those that are retired have come to what is extinct, those that are stranded to the orphans, and nothing else has
--- turned
+-- those that are retired have come to what is obsolete and to what is extinct, those that are stranded to the orphans,
+-- and nothing else has turned
 pub record IsGrown (sets : InstabilitySets) (retired stranded : List Node) (after : InstabilitySets) : Type 0 where
+  pub obsolete : (n : Node) → Contains after.obsolete n ↔ (Contains sets.obsolete n ⊎ Contains retired n)
   pub orphan : (n : Node) → Contains after.orphan n ↔ (Contains sets.orphan n ⊎ Contains stranded n)
   pub extinct : (n : Node) → Contains after.extinct n ↔ (Contains sets.extinct n ⊎ Contains retired n)
   pub suspended : after.suspended ≡ sets.suspended

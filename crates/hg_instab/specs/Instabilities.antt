@@ -1,8 +1,8 @@
 -- The instabilities of a content.
-use Rattle.std.specs.Prelude.{◌↔◌, ◌⊎◌, List, Contains}
+use Rattle.std.specs.Prelude.{◌↔◌, List, Contains}
 use Rattle.hg_changeset.specs.declared.node.Node.{Node}
 use Rattle.hg_replica.specs.Content.{Content}
-use Rattle.hg_replica.specs.Evolution.{IsCurrent, IsOrphan, IsSuspended, IsExtinct, IsPhaseDivergent}
+use Rattle.hg_replica.specs.Evolution.{IsObsolete, IsCurrent, IsOrphan, IsSuspended, IsExtinct, IsPhaseDivergent}
 use Rattle.hg_replica.specs.Evolution.{Precedes}
 use Rattle.hg_succ.specs.Successors.{IsAny, HasSeveral}
 use Rattle.hg_instab.specs.Near.{IsAfterPublic, AreNearForks}
@@ -11,9 +11,10 @@ use Rattle.hg_instab.specs.Near.{IsAfterPublic, AreNearForks}
 abbrev pub IsContentDivergent : Content → Node → Type 0
 IsContentDivergent f n = IsCurrent f n × ((p : Node) × HasSeveral f p × Precedes f IsAny p n)
 
--- the set of each kind that is kept, and beside them what a change is told by: the ids that come after something
+-- the set of each kind, as it is kept, and beside them what a change is told by: the ids that come after something
 -- public, and those near forks
 pub record InstabilitySets : Type 0 where
+  pub obsolete : List Node
   pub orphan : List Node
   pub suspended : List Node
   pub extinct : List Node
@@ -22,13 +23,10 @@ pub record InstabilitySets : Type 0 where
   pub after_public : List Node
   pub near_forks : List Node
 
--- what the sets have as obsolete: no set is kept of that, as it is suspended or extinct
-abbrev pub HasObsolete : InstabilitySets → Node → Type 0
-HasObsolete sets n = Contains sets.suspended n ⊎ Contains sets.extinct n
-
 -- each set has exactly the changesets of its kind; so has that of the ids after something public, and that of those
 -- near forks has what it is to have
 pub record AreInstabilities (f : Content) (sets : InstabilitySets) : Type 0 where
+  pub obsolete : (n : Node) → Contains sets.obsolete n ↔ IsObsolete f n
   pub orphan : (n : Node) → Contains sets.orphan n ↔ IsOrphan f n
   pub suspended : (n : Node) → Contains sets.suspended n ↔ IsSuspended f n
   pub extinct : (n : Node) → Contains sets.extinct n ↔ IsExtinct f n

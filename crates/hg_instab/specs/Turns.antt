@@ -1,5 +1,5 @@
 -- What comes to kept sets and goes from them.
-use Rattle.std.specs.Prelude.{◌≡◌, ◌↔◌, ◌⊎◌, List, Contains}
+use Rattle.std.specs.Prelude.{◌≡◌, ◌↔◌, ◌⊎◌, List, Contains, Bool, true, false}
 use Rattle.std.specs.List.Sorted.{IsStrictlySortedBy}
 use Rattle.hg_changeset.specs.declared.node.Node.{Node}
 use Rattle.hg_changeset.specs.Node.{node_cmp}
@@ -8,7 +8,7 @@ use Rattle.hg_instab.specs.declared.turns.Turns.{Turns}
 use Rattle.hg_instab.specs.declared.turns.Turning.{Turning}
 use Rattle.hg_instab.specs.declared.turns.Turning.TheVariants.{Nothing, Retired, All}
 use Rattle.hg_replica.specs.Content.{Content}
-use Rattle.hg_replica.specs.Evolution.{IsOrphan, IsSuspended, IsExtinct, IsPhaseDivergent}
+use Rattle.hg_replica.specs.Evolution.{IsObsolete, IsOrphan, IsSuspended, IsExtinct, IsPhaseDivergent}
 use Rattle.hg_instab.specs.Instabilities.{InstabilitySets, AreInstabilities, IsContentDivergent}
 use Rattle.hg_instab.specs.Near.{IsAfterPublic, AreNearForks}
 
@@ -31,9 +31,17 @@ pub record IsStage (come before now : List Node) : Type 0 where
 abbrev pub HasCome : Turn → List Node → Type 0
 HasCome turn now = (n : Node) → Contains turn.come.items n → Contains now n
 
+-- the node was put into a list that was in order, and came to it or was there before
+pub record HasPut (node : Node) (came : Bool) (before now : List Node) : Type 0 where
+  pub ordered : IsStrictlySortedBy node_cmp before
+  pub then : (n : Node) → Contains now n ↔ (Contains before n ⊎ (n ≡ node))
+  pub new : came ≡ true → ¬ (Contains before node)
+  pub old : came ≡ false → now ≡ before
+
 -- ---- each set
 
 pub record AreTurns (sets : InstabilitySets) (turns : Turns) : Type 0 where
+  pub obsolete : IsTurn sets.obsolete turns.obsolete
   pub orphan : IsTurn sets.orphan turns.orphan
   pub suspended : IsTurn sets.suspended turns.suspended
   pub extinct : IsTurn sets.extinct turns.extinct
@@ -47,6 +55,7 @@ abbrev pub AreDivergenceTurns : InstabilitySets → Turn × Turn → Type 0
 AreDivergenceTurns sets turns = IsTurn sets.content_divergent turns.0 × IsTurn sets.near_forks turns.1
 
 pub record AreStages (turns : Turns) (before now : InstabilitySets) : Type 0 where
+  pub obsolete : IsStage turns.obsolete.come.items before.obsolete now.obsolete
   pub orphan : IsStage turns.orphan.come.items before.orphan now.orphan
   pub suspended : IsStage turns.suspended.come.items before.suspended now.suspended
   pub extinct : IsStage turns.extinct.come.items before.extinct now.extinct
@@ -56,6 +65,7 @@ pub record AreStages (turns : Turns) (before now : InstabilitySets) : Type 0 whe
   pub near_forks : IsStage turns.near_forks.come.items before.near_forks now.near_forks
 
 pub record HaveCome (turns : Turns) (now : InstabilitySets) : Type 0 where
+  pub obsolete : HasCome turns.obsolete now.obsolete
   pub orphan : HasCome turns.orphan now.orphan
   pub suspended : HasCome turns.suspended now.suspended
   pub extinct : HasCome turns.extinct now.extinct
@@ -66,6 +76,7 @@ pub record HaveCome (turns : Turns) (now : InstabilitySets) : Type 0 where
 
 -- each set is what its turn leaves
 pub record AreThen (before : InstabilitySets) (turns : Turns) (after : InstabilitySets) : Type 0 where
+  pub obsolete : (n : Node) → Contains after.obsolete n ↔ IsThen before.obsolete turns.obsolete n
   pub orphan : (n : Node) → Contains after.orphan n ↔ IsThen before.orphan turns.orphan n
   pub suspended : (n : Node) → Contains after.suspended n ↔ IsThen before.suspended turns.suspended n
   pub extinct : (n : Node) → Contains after.extinct n ↔ IsThen before.extinct turns.extinct n
@@ -83,6 +94,7 @@ pub record IsDivergenceTold (g : Content) (sets : InstabilitySets) (turns : Turn
 
 -- what each turn leaves is what the set of g is to have
 pub record AreTold (g : Content) (sets : InstabilitySets) (turns : Turns) : Type 0 where
+  pub obsolete : (n : Node) → IsThen sets.obsolete turns.obsolete n ↔ IsObsolete g n
   pub orphan : (n : Node) → IsThen sets.orphan turns.orphan n ↔ IsOrphan g n
   pub suspended : (n : Node) → IsThen sets.suspended turns.suspended n ↔ IsSuspended g n
   pub extinct : (n : Node) → IsThen sets.extinct turns.extinct n ↔ IsExtinct g n
@@ -93,9 +105,10 @@ pub record AreTold (g : Content) (sets : InstabilitySets) (turns : Turns) : Type
 
 -- ---- what a change turns
 
--- the node has come to what is extinct, and nothing else has turned
+-- the node has become obsolete and extinct, and nothing else has turned
 pub record IsRetired (before : InstabilitySets) (node : Node) (after : InstabilitySets) : Type 0 where
-  pub extinct : (n : Node) → Contains after.extinct n ↔ (Contains before.extinct n ⊎ (node ≡ n))
+  pub obsolete : (n : Node) → Contains after.obsolete n ↔ (Contains before.obsolete n ⊎ (n ≡ node))
+  pub extinct : (n : Node) → Contains after.extinct n ↔ (Contains before.extinct n ⊎ (n ≡ node))
   pub orphan : after.orphan ≡ before.orphan
   pub suspended : after.suspended ≡ before.suspended
   pub phase_divergent : after.phase_divergent ≡ before.phase_divergent

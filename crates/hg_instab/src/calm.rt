@@ -285,8 +285,8 @@ pub(crate) fn calm_turning(
     Ok(Turning::All(turns))
 }
 
-// The same as turns of each set: those that are retired come to the extinct changesets, and those that are stranded to
-// the orphans.
+// The same as turns of each set: those that are retired come to the obsolete and to
+// the extinct changesets, and those that are stranded to the orphans.
 fn calm_turns(
     alloc: Global,
     sets: &Instabilities,
@@ -298,9 +298,11 @@ fn calm_turns(
     ensures calm { IfOk result (AreCalmTurns sets.now retired.now.keys stranded.now.keys) }
 {
     let nodes = retired.list(alloc)?;
+    let obsolete = Turn::growing(alloc, sets.obsolete(), &nodes)?;
     let strays = stranded.list(alloc)?;
     let orphan = Turn::growing(alloc, sets.orphan(), &strays)?;
     Ok(Turns {
+        obsolete,
         orphan,
         suspended: Turn::none(alloc),
         extinct: Turn::coming(alloc, nodes),

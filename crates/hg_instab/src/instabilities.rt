@@ -1,20 +1,18 @@
 //! The sets of changesets of each kind.
-ghost use Rattle.std.specs.Prelude.{◌≡◌, ◌↔◌, Contains, IfOk, OnOk, OnErr, IsTrue};
-ghost use Rattle.hg_changeset.specs.declared.node.Node.{Node};
+ghost use Rattle.std.specs.Prelude.{◌≡◌, IfOk, OnOk, OnErr};
 ghost use Rattle.hg_replica.specs.State.{ReplicaState};
-ghost use Rattle.hg_replica.specs.Content.{Content, content_of};
-ghost use Rattle.hg_replica.specs.Evolution.{IsObsolete};
+ghost use Rattle.hg_replica.specs.Content.{content_of};
 ghost use Rattle.hg_instab.specs.Changed.{IsChangedTo};
-ghost use Rattle.hg_instab.specs.Instabilities.{AreInstabilities, HasObsolete, InstabilitySets};
+ghost use Rattle.hg_instab.specs.Instabilities.{AreInstabilities, InstabilitySets};
 ghost use Rattle.hg_instab.specs.Turns.{AreTurns, AreStages, HaveCome, AreThen, IsRetired, IsTold, MayTurn};
 
-use crate::among::{current_among, has, list_of, obsolete_nodes, outside, set_of};
+use crate::among::{current_among, obsolete_nodes, outside, set_of};
 use crate::divergence::divergent_within;
 use crate::first::{after_public_ids, near_fork_ids};
 use crate::glance::{Glance, at_a_glance};
 use crate::holders::Holders;
 use crate::orphans::{orphan_nodes, suspended_nodes};
-use crate::turn::{insert_all, put};
+use crate::turn::{put, take_back};
 use crate::turns::{Turning, Turns};
 use hg_changeset::Node;
 use hg_replica::{Change, Replica};
@@ -23,11 +21,11 @@ use std::collections::BTreeSet;
 use std::marker::Model;
 use std::mem;
 
-/// The instabilities of a replica: for each kind the changesets that are so. What is obsolete is suspended or extinct,
-/// and has no set of its own. Contracts see the other five, and two beside them by which a change is told: the ids that
-/// come after something public, and those near forks.
+/// The instabilities of a replica: for each kind the changesets that are so. Contracts see the six sets, and two beside
+/// them by which a change is told: the ids that come after something public, and those near forks.
 pub struct Instabilities {
     alloc: Global,
+    obsolete: BTreeSet<Node>,
     orphan: BTreeSet<Node>,
     suspended: BTreeSet<Node>,
     extinct: BTreeSet<Node>,
@@ -43,6 +41,7 @@ impl Drop for Instabilities {
     fn drop(self) {
         let Instabilities {
             alloc: _,
+            obsolete: _,
             orphan: _,
             suspended: _,
             extinct: _,
@@ -61,6 +60,7 @@ impl Model for Instabilities {
     ghost Value = { InstabilitySets };
 
     ghost view = { λ i. record {
+      obsolete = i.obsolete.keys;
       orphan = i.orphan.keys;
       suspended = i.suspended.keys;
       extinct = i.extinct.keys;
@@ -87,6 +87,7 @@ impl Instabilities {
         let content_divergent = divergent_within(alloc, replica, &near_forks)?;
         Ok(Instabilities {
             alloc,
+            obsolete: set_of(alloc, obsolete)?,
             orphan: set_of(alloc, orphan)?,
             suspended,
             extinct: set_of(alloc, extinct)?,
@@ -104,6 +105,7 @@ impl Instabilities {
     {
         Ok(Instabilities {
             alloc: self.alloc,
+            obsolete: self.obsolete.clone()?,
             orphan: self.orphan.clone()?,
             suspended: self.suspended.clone()?,
             extinct: self.extinct.clone()?,
@@ -162,13 +164,19 @@ impl Instabilities {
         turning
     }
 
-    // Puts the node among the extinct ones.
+    // Puts the node among the obsolete and the extinct ones, or leaves both sets as they are.
     fn retire(&mut self, node: Node) -> Result<(), AllocError>
         ensures retired { OnOk result (IsRetired self.old node self.new) }
         ensures unchanged { OnErr result (self.new ≡ self.old) }
     {
-        put(&mut self.extinct, node)?;
-        Ok(())
+        let came = put(&mut self.obsolete, node)?;
+        match put(&mut self.extinct, node) {
+            Ok(_) => Ok(()),
+            Err(refused) => {
+                take_back(&mut self.obsolete, node, came);
+                Err(refused)
+            }
+        }
     }
 
     // Has each set turn, or none.
@@ -194,6 +202,7 @@ impl Instabilities {
         ensures stages { AreStages turns.now self.old self.new }
         ensures all { OnOk result (HaveCome turns.now self.new) }
     {
+        turns.obsolete.come(&mut self.obsolete)?;
         turns.orphan.come(&mut self.orphan)?;
         turns.suspended.come(&mut self.suspended)?;
         turns.extinct.come(&mut self.extinct)?;
@@ -208,6 +217,7 @@ impl Instabilities {
         ensures { (before : InstabilitySets) → AreTurns before turns.now → AreStages turns.now before self.old
             → self.new ≡ before }
     {
+        turns.obsolete.give_back(&mut self.obsolete);
         turns.orphan.give_back(&mut self.orphan);
         turns.suspended.give_back(&mut self.suspended);
         turns.extinct.give_back(&mut self.extinct);
@@ -224,6 +234,7 @@ impl Instabilities {
         ensures { (before : InstabilitySets) → AreTurns before turns.now → AreStages turns.now before self.old
             → HaveCome turns.now self.old → AreThen before turns.now self.new }
     {
+        turns.obsolete.go(&mut self.obsolete);
         turns.orphan.go(&mut self.orphan);
         turns.suspended.go(&mut self.suspended);
         turns.extinct.go(&mut self.extinct);
@@ -233,25 +244,11 @@ impl Instabilities {
         turns.near_forks.go(&mut self.near_forks);
     }
 
-    /// Whether a changeset is not public, and the predecessor of some marker: Mercurial's `obsolete`. What is so is
-    /// suspended or extinct.
-    pub fn is_obsolete(&self, node: Node) -> bool
-        ensures kept { IsTrue result ↔ HasObsolete self.now node }
-        ensures told { (f : Content) → AreInstabilities f self.now → IsTrue result ↔ IsObsolete f node }
+    /// Not public, and the predecessor of some marker: Mercurial's `obsolete`.
+    pub fn obsolete(&self) -> &BTreeSet<Node>
+        ensures { result.now.keys ≡ self.now.obsolete }
     {
-        has(&self.suspended, node) || has(&self.extinct, node)
-    }
-
-    /// All that are obsolete: a set that is made when it is asked for, from the suspended and the extinct ones.
-    pub fn obsolete(&self) -> Result<BTreeSet<Node>, AllocError>
-        ensures kept { IfOk result (λ set. (n : Node) → Contains set.keys n ↔ HasObsolete self.now n) }
-        ensures told { IfOk result (λ set. (f : Content) → AreInstabilities f self.now
-            → (n : Node) → Contains set.keys n ↔ IsObsolete f n) }
-    {
-        let suspended = list_of(self.alloc, &self.suspended)?;
-        let mut both = self.extinct.clone()?;
-        insert_all(&mut both, &suspended)?;
-        Ok(both)
+        &self.obsolete
     }
 
     /// Neither public nor obsolete, with an obsolete ancestor: Mercurial's `orphan`.

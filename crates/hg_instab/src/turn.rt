@@ -8,8 +8,7 @@ ghost use Rattle.hg_changeset.specs.declared.node.Node.{Node};
 ghost use Rattle.hg_changeset.specs.Node.{node_cmp};
 ghost use Rattle.hg_instab.specs.Calm.{IsGrowth, IsRest};
 ghost use Rattle.hg_instab.specs.Changed.{IsNow};
-ghost use Rattle.hg_instab.specs.Few.{Comes};
-ghost use Rattle.hg_instab.specs.Turns.{IsTurn, IsThen, IsStage, HasCome};
+ghost use Rattle.hg_instab.specs.Turns.{IsTurn, IsThen, IsStage, HasCome, HasPut};
 
 use crate::among::{among, has, inside, is_missing, outside, set_of};
 use hg_changeset::Node;
@@ -94,6 +93,17 @@ impl Turn {
         }
     }
 
+    // All that comes and all that goes.
+    pub(crate) fn nodes(&self, alloc: Global) -> Result<Vec<Node>, AllocError>
+        ensures { IfOk result (λ nodes. (set : List Node) (n : Node) → ¬ (Contains nodes.items n)
+            → IsThen set self.now n ↔ Contains set n) }
+    {
+        let mut nodes = Vec::new(alloc);
+        nodes.extend_from_slice(&self.come)?;
+        nodes.extend_from_slice(&self.gone)?;
+        Ok(nodes)
+    }
+
     // Puts what comes into the set. Where memory is refused, some of it may have come.
     pub(crate) fn come(&self, set: &mut BTreeSet<Node>) -> Result<(), AllocError>
         ensures stage { IsStage self.now.come.items set.old.keys set.new.keys }
@@ -146,7 +156,7 @@ fn goes(set: &BTreeSet<Node>, now: &BTreeSet<Node>, node: Node) -> bool
 }
 
 // Inserts the nodes. Where memory is refused, some of them may be there.
-pub(crate) fn insert_all(set: &mut BTreeSet<Node>, nodes: &[Node]) -> Result<(), AllocError>
+fn insert_all(set: &mut BTreeSet<Node>, nodes: &[Node]) -> Result<(), AllocError>
     ensures stage { IsStage nodes.now set.old.keys set.new.keys }
     ensures all { OnOk result ((n : Node) → Contains nodes.now n → Contains set.new.keys n) }
 {
@@ -160,11 +170,22 @@ pub(crate) fn insert_all(set: &mut BTreeSet<Node>, nodes: &[Node]) -> Result<(),
 
 // Puts the node into the set, and answers whether it came.
 pub(crate) fn put(set: &mut BTreeSet<Node>, node: Node) -> Result<bool, AllocError>
-    ensures ok { IfOk result (λ came. Comes node came set.old.keys set.new.keys) }
+    ensures ok { IfOk result (λ came. HasPut node came set.old.keys set.new.keys) }
     ensures unchanged { OnErr result (set.new.keys ≡ set.old.keys) }
 {
+    // It says that the set is in order.
+    let _len = set.len();
     let came = set.insert(node)?;
     Ok(came)
+}
+
+// Takes the node out again, if it came.
+pub(crate) fn take_back(set: &mut BTreeSet<Node>, node: Node, came: bool)
+    ensures { (before : List Node) → HasPut node came before set.old.keys → set.new.keys ≡ before }
+{
+    if came {
+        set.remove(&node);
+    }
 }
 
 // Removes the nodes.

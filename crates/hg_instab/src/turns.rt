@@ -1,12 +1,12 @@
 //! What a change turns in each kept set.
-ghost use Rattle.std.specs.Prelude.{◌↔◌, ◌⊎◌, Contains, IfOk, IsTrue, not};
+ghost use Rattle.std.specs.Prelude.{◌↔◌, ◌⊎◌, List, Contains, IfOk, IsTrue};
 ghost use Rattle.hg_changeset.specs.declared.node.Node.{Node};
 ghost use Rattle.hg_replica.specs.State.{ReplicaState, IsValid};
 ghost use Rattle.hg_replica.specs.Change.{ChangeValue};
 ghost use Rattle.hg_replica.specs.Content.{Content, content_of};
 ghost use Rattle.hg_replica.specs.Evolution.{IsObsolete, IsCurrent, IsOrphan, IsSuspended, IsExtinct, IsPhaseDivergent};
 ghost use Rattle.hg_instab.specs.Changed.{Follows, IsChangedTo, IsSeed, IsNow};
-ghost use Rattle.hg_instab.specs.Instabilities.{AreInstabilities, HasObsolete, IsContentDivergent};
+ghost use Rattle.hg_instab.specs.Instabilities.{AreInstabilities, IsContentDivergent};
 ghost use Rattle.hg_instab.specs.Near.{IsAfterPublic, IsClosed};
 ghost use Rattle.hg_instab.specs.Region.{AreStarts};
 ghost use Rattle.hg_instab.specs.Turns.{AreTurns, AreTold, IsTurn, IsThen, IsTold, MayTurn};
@@ -14,7 +14,7 @@ ghost use Rattle.hg_instab.specs.Turns.{AreDivergenceTurns, IsDivergenceTold};
 
 use crate::after_public::newly_after_public;
 use crate::amend::{amend_of, turns_by_amend};
-use crate::among::{among, has, set_of};
+use crate::among::{among, has, obsolete_among, set_of};
 use crate::calm::{are_calm, calm_turning, retired_among, stranded_among};
 use crate::divergence::divergent_within;
 use crate::extinct_walk::turned_extinct;
@@ -35,6 +35,7 @@ use std::collections::BTreeSet;
 
 // What comes to each set and what goes from it.
 pub(crate) struct Turns {
+    pub(crate) obsolete: Turn,
     pub(crate) orphan: Turn,
     pub(crate) suspended: Turn,
     pub(crate) extinct: Turn,
@@ -47,6 +48,7 @@ pub(crate) struct Turns {
 impl Drop for Turns {
     fn drop(self) {
         let Turns {
+            obsolete: _,
             orphan: _,
             suspended: _,
             extinct: _,
@@ -119,7 +121,8 @@ impl Turns {
             → AreStarts replica.now.markers change.now sets.now.near_forks starts.keys
             → AreTold (content_of replica.now) sets.now turns) }
     {
-        let orphan = orphan_turn(alloc, replica, sets, seeds)?;
+        let obsolete = obsolete_turn(alloc, replica, sets.obsolete(), seeds)?;
+        let orphan = orphan_turn(alloc, replica, sets.orphan(), seeds, &obsolete)?;
         let held = turned_extinct(alloc, replica, sets.extinct(), holders, seeds)?;
         let extinct = turn_of_set(alloc, sets.extinct(), &held)?;
         let suspended = suspended_turn(alloc, replica, sets, seeds, &held)?;
@@ -128,6 +131,7 @@ impl Turns {
             alloc, replica, change, sets, seeds, starts,
         )?;
         Ok(Turns {
+            obsolete,
             orphan,
             suspended,
             extinct,
@@ -139,49 +143,43 @@ impl Turns {
     }
 }
 
+// The obsolete changesets: those of the seeds are asked again.
+fn obsolete_turn(
+    alloc: Global,
+    replica: &Replica,
+    set: &BTreeSet<Node>,
+    seeds: &[Node],
+) -> Result<Turn, AllocError>
+    ensures turn { IfOk result (IsTurn set.now.keys) }
+    ensures told { IfOk result (λ turn. (f : Content)
+        → ((n : Node) → ¬ (Contains seeds.now n) → IsObsolete (content_of replica.now) n ↔ IsObsolete f n)
+        → ((n : Node) → Contains set.now.keys n ↔ IsObsolete f n)
+        → (n : Node) → IsThen set.now.keys turn n ↔ IsObsolete (content_of replica.now) n) }
+{
+    let now = obsolete_among(alloc, replica, seeds)?;
+    Turn::to(alloc, set, seeds, now)
+}
+
 // The orphans: a walk upwards from the seeds, and from what stands on those whose obsolescence turned.
 fn orphan_turn(
     alloc: Global,
     replica: &Replica,
-    sets: &Instabilities,
+    set: &BTreeSet<Node>,
     seeds: &[Node],
+    obsolete: &Turn,
 ) -> Result<Turn, AllocError>
-    ensures turn { IfOk result (IsTurn sets.now.orphan) }
-    ensures told { IfOk result (λ turn. (s : ReplicaState) (change : ChangeValue) → IsValid s
+    ensures turn { IfOk result (IsTurn set.now.keys) }
+    ensures told { IfOk result (λ turn. (s : ReplicaState) (change : ChangeValue) (was : List Node) → IsValid s
         → Follows (content_of s) (content_of replica.now) change replica.now.markers
         → ((n : Node) → IsSeed replica.now.markers change n → Contains seeds.now n)
-        → AreInstabilities (content_of s) sets.now
-        → (n : Node) → IsThen sets.now.orphan turn n ↔ IsOrphan (content_of replica.now) n) }
+        → ((n : Node) → Contains was n ↔ IsObsolete (content_of s) n)
+        → ((n : Node) → IsThen was obsolete.now n ↔ IsObsolete (content_of replica.now) n)
+        → ((n : Node) → Contains set.now.keys n ↔ IsOrphan (content_of s) n)
+        → (n : Node) → IsThen set.now.keys turn n ↔ IsOrphan (content_of replica.now) n) }
 {
-    let turned = turned_obsolete(alloc, replica, sets, seeds)?;
-    let turned = turned_orphans(alloc, replica, sets.orphan(), seeds, &turned)?;
-    turn_of_set(alloc, sets.orphan(), &turned)
-}
-
-// Those of the nodes that became obsolete, or no longer are. Of the others it is as it was.
-fn turned_obsolete(
-    alloc: Global,
-    replica: &Replica,
-    sets: &Instabilities,
-    nodes: &[Node],
-) -> Result<Vec<Node>, AllocError>
-    ensures { IfOk result (λ turned. (n : Node) → Contains nodes.now n → ¬ (Contains turned.items n)
-        → IsObsolete (content_of replica.now) n ↔ HasObsolete sets.now n) }
-{
-    among(
-        alloc,
-        nodes,
-        |node|
-            ensures { IsTrue (not result)
-                ↔ (IsObsolete (content_of replica.entry.now) node ↔ HasObsolete sets.entry.now node) }
-        { has_turned(replica, sets, node) },
-    )
-}
-
-fn has_turned(replica: &Replica, sets: &Instabilities, node: Node) -> bool
-    ensures { IsTrue (not result) ↔ (IsObsolete (content_of replica.now) node ↔ HasObsolete sets.now node) }
-{
-    is_obsolete(replica, node) != sets.is_obsolete(node)
+    let turned = obsolete.nodes(alloc)?;
+    let turned = turned_orphans(alloc, replica, set, seeds, &turned)?;
+    turn_of_set(alloc, set, &turned)
 }
 
 // The suspended changesets: those of the seeds, and those that turned extinct or no longer are, are asked again.

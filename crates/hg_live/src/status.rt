@@ -48,7 +48,7 @@ impl Status {
         let sets = kept.instabilities();
         Status {
             phase: phase_in(kept.replica(), node),
-            obsolete: sets.is_obsolete(node),
+            obsolete: has(sets.obsolete(), node),
             orphan: has(sets.orphan(), node),
             suspended: has(sets.suspended(), node),
             extinct: has(sets.extinct(), node),

@@ -72,8 +72,7 @@ fn a_small_history_has_instabilities_of_each_kind(rt: HostRuntime) {
     let (replica, nodes) = upset(alloc).expect(&rt, "memory");
     let sets = Instabilities::from_scratch(alloc, &replica).expect(&rt, "memory");
     let [b, c, _, g, _, v, x, y] = nodes;
-    let obsolete = sets.obsolete().expect(&rt, "memory");
-    assert!(rt; has_exactly(&obsolete, &[b, g]));
+    assert!(rt; has_exactly(sets.obsolete(), &[b, g]));
     assert!(rt; has_exactly(sets.orphan(), &[c]));
     assert!(rt; has_exactly(sets.suspended(), &[b]));
     assert!(rt; has_exactly(sets.extinct(), &[g]));

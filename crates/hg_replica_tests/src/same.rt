@@ -5,12 +5,13 @@ use hg_view::Kept;
 use std::alloc::{AllocError, Global};
 use std::collections::BTreeSet;
 
-/// Whether all sets are the same.
+/// Whether all six sets are the same.
 pub fn are_same(one: &Instabilities, other: &Instabilities) -> bool {
-    let same = one.orphan() == other.orphan()
-        && one.suspended() == other.suspended()
-        && one.extinct() == other.extinct();
-    same && one.phase_divergent() == other.phase_divergent()
+    let same = one.obsolete() == other.obsolete()
+        && one.orphan() == other.orphan()
+        && one.suspended() == other.suspended();
+    same && one.extinct() == other.extinct()
+        && one.phase_divergent() == other.phase_divergent()
         && one.content_divergent() == other.content_divergent()
 }
 

@@ -110,7 +110,7 @@ fn what_leads_to_nothing_has_no_sets(rt: HostRuntime) {
     }
     let node = id(alloc, b'a').expect(&rt, "memory");
     let sets = Instabilities::from_scratch(alloc, &replica).expect(&rt, "memory");
-    assert!(rt; sets.is_obsolete(node) && sets.extinct().contains(&node));
+    assert!(rt; sets.obsolete().contains(&node) && sets.extinct().contains(&node));
 }
 
 #[test]

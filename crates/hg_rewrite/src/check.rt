@@ -241,7 +241,7 @@ fn is_settled(kept: &Kept, node: Node) -> bool
     ensures obsolete { IsTrue result → ¬ (IsObsolete (content_of kept.now.replica) node) }
 {
     let sets = kept.instabilities();
-    !sets.orphan().contains(&node) && !sets.is_obsolete(node)
+    !sets.orphan().contains(&node) && !sets.obsolete().contains(&node)
 }
 
 // Whether a new parent is the node itself, which takes no memory, or a descendant.

@@ -28,7 +28,7 @@ fn words_of(kept: &Kept, node: &Node) -> RowWords
 {
     let sets = kept.instabilities();
     RowWords {
-        obsolete: sets.is_obsolete(*node),
+        obsolete: is_among(sets.obsolete(), node),
         suspended: is_among(sets.suspended(), node),
         extinct: is_among(sets.extinct(), node),
         orphan: is_among(sets.orphan(), node),

@@ -9,6 +9,8 @@ pub returns-clause-turns : goal.returns-clause-turns
 returns-clause-turns c = λ outside.
     let sets = c.args.sets.now in
     record {
+      obsolete = subst (λ (xs : List Node). IsTurn xs c.in_ok-obsolete.obsolete) c.obsolete.ensures
+          c.in_ok-obsolete.ensures.turn;
       orphan = subst (λ (xs : List Node). IsTurn xs c.in_ok-orphan.orphan) c.orphan.ensures c.in_ok-orphan.ensures.turn;
       suspended = c.none.ensures.turn sets.suspended;
       extinct = c.coming.ensures.turn sets.extinct
@@ -23,8 +25,11 @@ pub returns-clause-calm : goal.returns-clause-calm
 returns-clause-calm c =
     let sets = c.args.sets.now in
     record {
-      orphan = grown-to c.orphan.result.now.keys sets.orphan c.deref.result.now c.args.stranded.now.keys
-          c.in_ok-orphan.orphan c.orphan.ensures (c.deref.ensures.value ∙ c.in_ok-strays.ensures)
+      obsolete = grown-to c.obsolete.result.now.keys sets.obsolete c.deref.result.now c.args.retired.now.keys
+          c.in_ok-obsolete.obsolete c.obsolete.ensures (c.deref.ensures.value ∙ c.in_ok-nodes.ensures)
+          c.in_ok-obsolete.ensures.then;
+      orphan = grown-to c.orphan.result.now.keys sets.orphan c.deref-2.result.now c.args.stranded.now.keys
+          c.in_ok-orphan.orphan c.orphan.ensures (c.deref-2.ensures.value ∙ c.in_ok-strays.ensures)
           c.in_ok-orphan.ensures.then;
       suspended = c.none.ensures.then sets.suspended;
       extinct = subst (λ (xs : List Node). IsGrowth sets.extinct c.coming.result (Contains xs)) c.in_ok-nodes.ensures

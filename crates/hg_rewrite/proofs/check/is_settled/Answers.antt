@@ -1,8 +1,6 @@
 use Rattle.std.proofs.Common.{true≢false, IsTrue, Contains, ◌↔◌, sym, subst, ◌∙◌}
 use Rattle.std.proofs.lemmas.Map.Views.{btree_set_contains_iff}
 use Rattle.hg_changeset.proofs.NodeLemmas.{node_cmp_total, node_cmp_exact}
-use Rattle.hg_replica.specs.Content.{content_of}
-use Rattle.hg_replica.specs.Evolution.{IsObsolete}
 use Rattle.hg_instab.proofs.QueryLemmas.{isnt_so}
 use Rattle.hg_rewrite.proofs.check.is_settled.Goals as goal
 
@@ -14,6 +12,10 @@ returns-then-not-contains-clause-orphan c = λ _ orphan.
     ((c.instabilities-sets.ensures.orphan c.args.node).1 orphan))) ∙ c.if-not-contains.true)
 
 pub returns-then-not-contains-clause-obsolete : goal.returns-then-not-contains-clause-obsolete
-returns-then-not-contains-clause-obsolete c = λ none.
-    (isnt_so c.is_obsolete.result (IsObsolete (content_of c.args.kept.now.replica) c.args.node)
-    (c.is_obsolete.ensures.told (content_of c.args.kept.now.replica) c.instabilities-sets.ensures)).0 none
+returns-then-not-contains-clause-obsolete c = λ none obsolete.
+    let told : IsTrue c.contains-then-not-contains.result ↔ Contains c.obsolete.result.now.keys c.args.node =
+    rw c.contains-then-not-contains.ensures
+    (btree_set_contains_iff node_cmp_total node_cmp_exact c.obsolete.result.now c.args.node) in
+    (isnt_so c.contains-then-not-contains.result (Contains c.obsolete.result.now.keys c.args.node) told).0 none
+    (subst (λ ns. Contains ns c.args.node) (sym c.obsolete.ensures)
+    ((c.instabilities-sets.ensures.obsolete c.args.node).1 obsolete))

@@ -2,7 +2,7 @@ use Rattle.std.proofs.Common.{rules, ◌≡◌, ◌≢◌, true, [], ◌∷◌, 
 use Rattle.std.proofs.lemmas.Result.{IfOk-weaker}
 use Rattle.hg_changeset.proofs.NodeLemmas.{node_itself}
 use Rattle.hg_instab.specs.Few.{Comes}
-use Rattle.hg_instab.proofs.FewLemmas.{came-second, seen-keys}
+use Rattle.hg_instab.proofs.FewLemmas.{came-second, came-put, seen-keys}
 use Rattle.hg_instab.proofs.few.Few.insert.Goals as goal
 
 pub returns-in_ok-both-in-One : goal.returns-in_ok-both-in-One
@@ -19,5 +19,5 @@ pub returns-in-Many : goal.returns-in-Many
 returns-in-Many c =
     let same : c.args.self.now.keys ≡ c.in-Many.set.keys =
     seen-keys c.args.self.now c.self.inside.held _ c.self.view_is c.in-Many.is in
-    IfOk-weaker c.put.result _ _
-    (λ came put. subst (λ ns. Comes c.args.node came ns c.put.new.set.keys) (sym same) put) c.put.ensures.ok
+    IfOk-weaker c.put.result _ _ (λ came put. subst (λ ns. Comes c.args.node came ns c.put.new.set.keys) (sym same)
+    (came-put c.args.node came c.in-Many.set.keys c.put.new.set.keys put)) c.put.ensures.ok

@@ -26,19 +26,20 @@ returns c =
     let near = c.in_ok-near_forks.ensures in
     let within = rw c.deref-5.ensures.value at c.in_ok-content_divergent.ensures in
     record {
-      orphan = λ n. along (c.in_ok-set_of.ensures n) (c.in_ok-orphan.ensures n);
+      obsolete = λ n. along (c.in_ok-set_of.ensures n) (c.in_ok-obsolete.ensures n);
+      orphan = λ n. along (c.in_ok-set_of-2.ensures n) (c.in_ok-orphan.ensures n);
       suspended = suspended;
-      extinct = λ n. along (c.in_ok-set_of-2.ensures n) (
+      extinct = λ n. along (c.in_ok-set_of-3.ensures n) (
         λ h. let x = (outside n).0 h in ((c.in_ok-obsolete.ensures n).0 x.0, λ is. x.1 ((suspended n).1 is)),
         λ h. (outside n).1 ((c.in_ok-obsolete.ensures n).1 h.0, λ at. h.1 ((suspended n).0 at)),
       );
-      phase_divergent = λ n. along (c.in_ok-set_of-3.ensures n) (
+      phase_divergent = λ n. along (c.in_ok-set_of-4.ensures n) (
         λ h. let x = (current n).0 h in (x.1, (after n).0 x.0),
         λ h. (current n).1 ((after n).1 h.1, h.0),
       );
-      content_divergent = λ n. along (c.in_ok-set_of-4.ensures n)
+      content_divergent = λ n. along (c.in_ok-set_of-5.ensures n)
           (along (within near.closed n) (near-divergent f c.in_ok-near_forks.near_forks.items near n));
-      after_public = λ n. along (c.in_ok-set_of-5.ensures n) (after n);
-      near_forks = near-same f (Contains c.in_ok-near_forks.near_forks.items) (Contains c.in_ok-set_of-6.field-0.keys)
-          c.in_ok-set_of-6.ensures near;
+      after_public = λ n. along (c.in_ok-set_of-6.ensures n) (after n);
+      near_forks = near-same f (Contains c.in_ok-near_forks.near_forks.items) (Contains c.in_ok-set_of-7.field-0.keys)
+          c.in_ok-set_of-7.ensures near;
     }

@@ -2,10 +2,12 @@ use Rattle.std.proofs.Common.{◌≡◌, ◌↔◌, ◌⊎◌, Contains, ap, sub
 use Rattle.hg_instab.specs.Instabilities.{InstabilitySets}
 use Rattle.hg_instab.proofs.instabilities.Instabilities.retire.Goals as goal
 
-pub returns-clause-retired : goal.returns-clause-retired
-returns-clause-retired c = record {
-  extinct = λ n. subst (λ (before : InstabilitySets). Contains c.put.new.set.keys n
-      ↔ (Contains before.extinct n ⊎ (c.args.node ≡ n))) c.self.view_is (c.in_ok-put.ensures.ok.then n);
+pub returns-in-Ok-clause-retired : goal.returns-in-Ok-clause-retired
+returns-in-Ok-clause-retired c = record {
+  obsolete = λ n. subst (λ (before : InstabilitySets). Contains c.put.new.set.keys n
+      ↔ (Contains before.obsolete n ⊎ (n ≡ c.args.node))) c.self.view_is (c.in_ok-came.ensures.ok.then n);
+  extinct = λ n. subst (λ (before : InstabilitySets). Contains c.put-2.new.set.keys n
+      ↔ (Contains before.extinct n ⊎ (n ≡ c.args.node))) c.self.view_is (c.in-Ok.ensures.ok.then n);
   orphan = ap (λ (before : InstabilitySets). before.orphan) c.self.view_is;
   suspended = ap (λ (before : InstabilitySets). before.suspended) c.self.view_is;
   phase_divergent = ap (λ (before : InstabilitySets). before.phase_divergent) c.self.view_is;

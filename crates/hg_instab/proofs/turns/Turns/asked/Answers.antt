@@ -2,19 +2,21 @@ use Rattle.std.proofs.Common.{◌↔◌, List, Contains, subst}
 use Rattle.hg_changeset.specs.declared.node.Node.{Node}
 use Rattle.hg_obsstore.proofs.IndexLemmas.{among_or_not}
 use Rattle.hg_replica.specs.Content.{content_of}
-use Rattle.hg_replica.specs.Evolution.{IsObsolete, IsExtinct, IsSuspended, IsCurrent}
+use Rattle.hg_replica.specs.Evolution.{IsObsolete, IsOrphan, IsExtinct, IsSuspended, IsCurrent}
 use Rattle.hg_instab.specs.Changed.{IsNow}
 use Rattle.hg_instab.specs.Turns.{IsTurn, IsThen}
 use Rattle.hg_instab.proofs.ChangedLemmas.{obsolete-untouched, current-untouched}
 use Rattle.hg_instab.proofs.KeptLemmas.{changed-follows, now-or, suspended-told, both-same, set-along}
-use Rattle.hg_instab.proofs.KeptLemmas.{flip}
+use Rattle.hg_instab.proofs.KeptLemmas.{then-along, flip}
 use Rattle.hg_instab.proofs.SetLemmas.{along}
 use Rattle.hg_instab.proofs.TurnLemmas.{grown-to}
 use Rattle.hg_instab.proofs.turns.Turns.asked.Goals as goal
 
 pub returns-clause-turns : goal.returns-clause-turns
 returns-clause-turns c = record {
-  orphan = c.in_ok-orphan.ensures.turn;
+  obsolete = subst (λ (xs : List Node). IsTurn xs c.in_ok-obsolete.obsolete) c.obsolete.ensures
+      c.in_ok-obsolete.ensures.turn;
+  orphan = subst (λ (xs : List Node). IsTurn xs c.in_ok-orphan.orphan) c.orphan.ensures c.in_ok-orphan.ensures.turn;
   suspended = c.in_ok-suspended.ensures.turn;
   extinct = subst (λ (xs : List Node). IsTurn xs c.in_ok-extinct.extinct) c.extinct-2.ensures
       c.in_ok-extinct.ensures.turn;
@@ -39,6 +41,14 @@ returns-clause-told c s valid is at seeded after begun =
     λ n not. obsolete-untouched f g change t.markers follows n (λ h. not (seeded n h)) in
     let current-as : (n : Node) → ¬ (Contains c.args.seeds.now n) → IsCurrent g n ↔ IsCurrent f n =
     λ n not. current-untouched f g change t.markers follows n (λ h. not (seeded n h)) in
+    let obsolete : (n : Node) → IsThen sets.obsolete c.in_ok-obsolete.obsolete n ↔ IsObsolete g n =
+    then-along c.obsolete.result.now.keys sets.obsolete c.in_ok-obsolete.obsolete (IsObsolete g) c.obsolete.ensures
+    (c.in_ok-obsolete.ensures.told f obsolete-as
+    (set-along c.obsolete.result.now.keys sets.obsolete (IsObsolete f) c.obsolete.ensures at.obsolete)) in
+    let orphan : (n : Node) → IsThen sets.orphan c.in_ok-orphan.orphan n ↔ IsOrphan g n =
+    then-along c.orphan.result.now.keys sets.orphan c.in_ok-orphan.orphan (IsOrphan g) c.orphan.ensures
+    (c.in_ok-orphan.ensures.told s change sets.obsolete is.valid follows seeded at.obsolete obsolete
+    (set-along c.orphan.result.now.keys sets.orphan (IsOrphan f) c.orphan.ensures at.orphan)) in
     let extinct_now : (n : Node) → IsNow sets.extinct held n ↔ IsExtinct g n =
     λ n. subst (λ (xs : List Node). IsNow xs held n ↔ IsExtinct g n) c.extinct.ensures
     (c.in_ok-held.ensures s change is.valid follows seeded
@@ -53,7 +63,8 @@ returns-clause-told c s valid is at seeded after begun =
     (flip (suspended-told t valid (IsNow sets.extinct held) (now-or sets.extinct held) extinct_now n)) in
     let divergence = c.in_ok-content_divergent.ensures.told s valid is seeded begun at in
     record {
-      orphan = c.in_ok-orphan.ensures.told s change is.valid follows seeded at;
+      obsolete = obsolete;
+      orphan = orphan;
       suspended = suspended;
       extinct = extinct;
       phase_divergent = λ n. along (c.in_ok-phase_divergent.ensures.told f current-as
