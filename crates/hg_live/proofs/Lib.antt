@@ -2,4 +2,3 @@ pub mod AfterLemmas
 pub mod CallLemmas
 pub mod LookLemmas
 pub mod PassLemmas
-pub mod StatusLemmas

@@ -53,16 +53,15 @@ mod laws;
 mod name;
 mod node;
 mod pass;
-mod status;
 mod store;
 
 pub use answer::{Accepted, CallRefusal, CloseRefusal, LookRefusal, NoPass, NotOffered};
 pub use desk::Desk;
 pub use entry::Entry;
 pub use gate::{Gate, OpenGate};
+pub use hg_view::Status;
 pub use laws::states_are_least;
 pub use name::NodeName;
 pub use node::{Blank, Node, Unclosed as UnclosedNode};
 pub use pass::Pass;
-pub use status::Status;
 pub use store::{Published, Step, Writer};

@@ -4,19 +4,19 @@ ghost use mathlib.Core.List.{IsPrefix};
 ghost use Rattle.hg_replica.specs.Content.{content_of};
 ghost use Rattle.hg_discovery.specs.Rounds.{AreKnown};
 ghost use Rattle.hg_live.specs.declared.answer.LookRefusal.TheVariants as look;
-ghost use Rattle.hg_live.specs.Status.{IsStatus};
+ghost use Rattle.hg_view.specs.Status.{IsStatus};
 ghost use Rattle.hg_live.specs.Looks.{LookAnswer, OfferLookAnswer, StateOffers};
 
 use crate::answer::{LookRefusal, NotOffered};
 use crate::entry::Entry;
 use crate::name::NodeName;
-use crate::status::Status;
 use crate::store::Published;
 use hg_changeset::Node;
 use hg_discovery::known_kept;
 use hg_join::Actor;
 use hg_journal::Front;
 use hg_peer::{Ask, Peer};
+use hg_view::Status;
 use left_right::ReadHandle;
 use std::alloc::Global;
 use std::marker::Model;
@@ -155,7 +155,7 @@ impl<K: NodeName> Pass<K> {
         let Some(now) = further(seen, published) else {
             return Err(LookRefusal::NotEntered);
         };
-        let status = Status::of(published.peer().kept(), node);
+        let status = published.peer().kept().status(node);
         drop(guard);
         *seen = now;
         Ok(status)

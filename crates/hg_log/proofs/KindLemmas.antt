@@ -1,15 +1,5 @@
 -- What the tests of a changeset tell.
-use Rattle.std.proofs.Common.{◌≡◌, ◌↔◌, ◌⊎◌, ◌∙◌, Bool, false, IsTrue, List, Contains, inl, inr, sym}
-use Rattle.std.proofs.Common.{subst, true≢false}
-use Rattle.hg_changeset.specs.declared.node.Node.{Node}
-
--- what is so of the members of a set, by the test of the set
-pub told_among : (b : Bool) (set kept : List Node) (n : Node) (P : Type 0) → set ≡ kept → IsTrue b ↔ Contains set n
-    → Contains kept n ↔ P → IsTrue b ↔ P
-told_among b set kept n P e told so = (
-  λ h. so.0 (subst (λ (ns : List Node). Contains ns n) e (told.0 h)),
-  λ p. told.1 (subst (λ (ns : List Node). Contains ns n) (sym e) (so.1 p)),
-)
+use Rattle.std.proofs.Common.{◌≡◌, ◌↔◌, ◌⊎◌, ◌∙◌, Bool, false, IsTrue, inl, inr, sym, true≢false}
 
 map_or : {A B P Q : Type 0} → (A → P) → (B → Q) → A ⊎ B → P ⊎ Q
 map_or f g (inl a) = inl (f a)

@@ -1,23 +1,16 @@
 -- Of which kind a changeset is.
-use Rattle.std.specs.Prelude.{ℕ, ◌⊎◌, ◌↔◌, List, codes, IsTrue}
+use Rattle.std.specs.Prelude.{ℕ, ◌⊎◌, List, codes}
 use Rattle.hg_changeset.specs.declared.node.Node.{Node}
 use Rattle.hg_replica.specs.Content.{Content}
 use Rattle.hg_replica.specs.Evolution.{IsObsolete, IsOrphan, IsPhaseDivergent}
 use Rattle.hg_instab.specs.Instabilities.{IsContentDivergent}
 use Rattle.hg_view.specs.Pins.{IsVisibleUnder}
-use Rattle.hg_log.specs.declared.unstable.UnstableWords.{UnstableWords}
 use Rattle.hg_log.specs.declared.kind.Kind.{Kind}
 use Rattle.hg_log.specs.declared.kind.Kind.TheVariants.{Ordinary, Unstable, Obsolete, Hidden}
 
 -- an orphan, phase-divergent or content-divergent
 abbrev pub IsUnstable : Content → Node → Type 0
 IsUnstable f n = IsOrphan f n ⊎ (IsPhaseDivergent f n ⊎ IsContentDivergent f n)
-
--- each word is there exactly where what it says is so
-pub record IsToldOf (f : Content) (n : Node) (told : UnstableWords) : Type 0 where
-  pub orphan : IsTrue told.orphan ↔ IsOrphan f n
-  pub phase_divergent : IsTrue told.phase_divergent ↔ IsPhaseDivergent f n
-  pub content_divergent : IsTrue told.content_divergent ↔ IsContentDivergent f n
 
 -- what is visible is of the first kind that is so of it, from the third to the first
 abbrev pub IsOfKind : Content → List Node → Node → Kind → Type 0

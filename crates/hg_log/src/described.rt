@@ -1,8 +1,8 @@
 //! What is written of a changeset: its id, its label, its phase, and what is unstable about it.
-use crate::unstable::UnstableWords;
 use hg_changeset::{Changeset, Node};
 use hg_phases::Phase;
 use hg_replica::Replica;
+use hg_view::Status;
 use memchr::memrchr;
 use std::alloc::AllocError;
 
@@ -47,10 +47,10 @@ pub(crate) fn phase_word(phase: Phase) -> &'static [u8] {
 }
 
 /// Appends what is unstable about a changeset, with a blank before each word.
-pub(crate) fn push_unstable(line: &mut Vec<u8>, told: UnstableWords) -> Result<(), AllocError> {
-    push_where(line, told.orphan, b" orphan")?;
-    push_where(line, told.phase_divergent, b" phase-divergent")?;
-    push_where(line, told.content_divergent, b" content-divergent")
+pub(crate) fn push_unstable(line: &mut Vec<u8>, status: Status) -> Result<(), AllocError> {
+    push_where(line, status.orphan, b" orphan")?;
+    push_where(line, status.phase_divergent, b" phase-divergent")?;
+    push_where(line, status.content_divergent, b" content-divergent")
 }
 
 fn push_where(line: &mut Vec<u8>, is_so: bool, word: &[u8]) -> Result<(), AllocError> {

@@ -1,12 +1,10 @@
 //! Of which kind a changeset is, as its mark in a drawing tells.
-ghost use Rattle.std.specs.Prelude.{◌≡◌, ◌∷◌, []};
+ghost use Rattle.std.specs.Prelude.{◌≡◌, ◌∷◌, ◌↔◌, ◌⊎◌, [], IsTrue};
 ghost use Rattle.hg_replica.specs.Content.{content_of};
 ghost use Rattle.hg_log.specs.Kinds.{IsOfKind, mark_of};
 
-use crate::unstable::is_unstable;
 use hg_changeset::Node;
-use hg_instab::is_obsolete;
-use hg_view::Kept;
+use hg_view::{Kept, Status};
 
 /// Of which kind a changeset is: the first that applies, from the bottom up.
 #[derive(Clone, Copy, PartialEq, Eq)]
@@ -39,14 +37,21 @@ impl Kind {
 pub(crate) fn kind_of(kept: &Kept, node: Node) -> Kind
     ensures { IsOfKind (content_of kept.now.replica) kept.now.pins node result }
 {
-    if !kept.is_visible(node) {
+    let status = kept.status(node);
+    if !status.visible {
         return Kind::Hidden;
     }
-    if is_obsolete(kept.replica(), node) {
+    if status.obsolete {
         return Kind::Obsolete;
     }
-    if is_unstable(kept, node) {
+    if is_unstable(status) {
         return Kind::Unstable;
     }
     Kind::Ordinary
+}
+
+fn is_unstable(status: Status) -> bool
+    ensures { IsTrue result ↔ (IsTrue status.orphan ⊎ (IsTrue status.phase_divergent ⊎ IsTrue status.content_divergent)) }
+{
+    status.orphan || status.phase_divergent || status.content_divergent
 }

@@ -27,7 +27,6 @@ mod kind;
 mod line;
 mod log;
 mod shown;
-mod unstable;
 
 pub use dot::draw_graph;
 pub use fault::DrawFault;

@@ -10,7 +10,6 @@ use crate::fault::DrawFault;
 use crate::kind::kind_of;
 use crate::line::write_line;
 use crate::shown::Shown;
-use crate::unstable::told_of;
 use hg_replica::Replica;
 use hg_view::Kept;
 use std::alloc::{AllocError, Global};
@@ -94,7 +93,7 @@ fn push_description(kept: &Kept, place: usize, line: &mut Vec<u8>) -> Result<(),
     line.push(b' ')?;
     push_label(line, label_of(changeset))?;
     line.extend_from_slice(phase_word(phase))?;
-    push_unstable(line, told_of(kept, changeset.node()))
+    push_unstable(line, kept.status(changeset.node()))
 }
 
 // Draws the lines below a changeset's own, with what became of it beside them.

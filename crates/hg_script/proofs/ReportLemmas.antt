@@ -11,19 +11,15 @@ use Rattle.std.proofs.lemmas.Option.{slice_get_within, get_or_from_slice_get, sl
 use Rattle.hg_changeset.specs.declared.node.Node.{Node}
 use Rattle.hg_changeset.specs.Contents.{Contents}
 use Rattle.hg_changeset.specs.Changeset.{node_of}
-use Rattle.hg_changeset.proofs.ListLemmas.{Contains-from_place}
 use Rattle.hg_graph.specs.Graph.{nodes}
 use Rattle.hg_phases.specs.declared.phase.Phase.{Phase}
 use Rattle.hg_phases.specs.State.{Held, changesets}
-use Rattle.hg_phases.proofs.ContentLemmas.{content-held}
-use Rattle.hg_history.specs.Content.{IsHeld}
-use Rattle.hg_instab.proofs.QueryLemmas.{isnt_so}
-use Rattle.hg_replica.specs.Content.{content_of}
-use Rattle.hg_replica.specs.State.{ReplicaState, IsValid}
+use Rattle.hg_replica.specs.State.{ReplicaState}
 use Rattle.hg_view.specs.Kept.{KeptValue}
-use Rattle.hg_script.specs.declared.report.RowWords.{RowWords}
+use Rattle.hg_view.specs.declared.status.Status.{Status}
+use Rattle.hg_view.specs.Status.{IsStatus}
 use Rattle.hg_script.specs.Commands.{Text, Word}
-use Rattle.hg_script.specs.Reports.{AreRowLines, AreRows, AreWordsOf, IsRowLine, RowValue, label_of, row_cmp, row_line}
+use Rattle.hg_script.specs.Reports.{AreRowLines, AreRows, IsRowLine, RowValue, label_of, row_cmp, row_line}
 use Rattle.hg_script.specs.Reports.{row_values, rows_from}
 
 -- ---- rows
@@ -124,39 +120,21 @@ no_lines s rows i past =
     subst (λ (rs : List (Word × ℕ)). AreRowLines s (row_values rs) []) (sym (drop_all i rows past)) refl
 
 -- the changeset at a place has the node that stands there, and is held
-pub row_of : (s : KeptValue) (place : ℕ) (node : Node) (phase : Phase) (label text : Text) (words : RowWords)
-    → IsValid s.replica → Some node ≡ slice_get (nodes (changesets s.replica.history)) place
+pub row_of : (s : KeptValue) (place : ℕ) (node : Node) (phase : Phase) (label text : Text) (status : Status)
+    → Some node ≡ slice_get (nodes (changesets s.replica.history)) place
     → (h : Held) × (slice_get s.replica.history.held place ≡ Some h) × (h.phase ≡ phase)
-    → (IsHeld (content_of s.replica).0 node → AreWordsOf (content_of s.replica) s.pins node words)
-    → text ≡ row_line label phase words
+    → IsStatus s node status → text ≡ row_line label phase status
     → IsRowLine s (label, place) text
-row_of s place node phase label text words valid at (h, held, is) tells e =
+row_of s place node phase label text status at (h, held, is) told e =
     let cs = changesets s.replica.history in
     let there : slice_get cs place ≡ Some h.changeset =
     slice_get-map (λ (k : Held). k.changeset) s.replica.history.held place
     ∙ ap (option_map (λ (k : Held). k.changeset)) held in
     let node_is : node ≡ node_of h.changeset =
-    same_Some node (node_of h.changeset) (at ∙ slice_get-map node_of cs place ∙ ap (option_map node_of) there) in
-    let known = content-held s.replica.history valid.graph node h
-    (Contains-from_place s.replica.history.held place h held)
-    (sym node_is) in (
+    same_Some node (node_of h.changeset) (at ∙ slice_get-map node_of cs place ∙ ap (option_map node_of) there) in (
       h,
-      words,
+      status,
       held,
-      subst (λ (n : Node). AreWordsOf (content_of s.replica) s.pins n words) node_is (tells (h, known)),
-      e ∙ ap (λ (k : Phase). row_line label k words) (sym is),
+      subst (λ (n : Node). IsStatus s n status) node_is told,
+      e ∙ ap (λ (k : Phase). row_line label k status) (sym is),
     )
-
--- ---- words
-
--- what is so of the members of a set, by the test of the set
-pub told_among : (b : Bool) (set kept : List Node) (n : Node) (P : Type 0) → set ≡ kept → IsTrue b ↔ Contains set n
-    → Contains kept n ↔ P → IsTrue b ↔ P
-told_among b set kept n P e told so = (
-  λ h. so.0 (subst (λ (ns : List Node). Contains ns n) e (told.0 h)),
-  λ p. told.1 (subst (λ (ns : List Node). Contains ns n) (sym e) (so.1 p)),
-)
-
--- what is held and not so
-pub told_hidden : (b : Bool) (P H : Type 0) → IsTrue b ↔ P → H → IsTrue (not b) ↔ (H × ¬ P)
-told_hidden b P H told held = let isnt = isnt_so b P told in (λ h. (held, isnt.0 h), λ h. isnt.1 h.1)

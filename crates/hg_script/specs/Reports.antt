@@ -12,12 +12,9 @@ use Rattle.hg_changeset.specs.Changeset.{node_of}
 use Rattle.hg_phases.specs.declared.phase.Phase.{Phase}
 use Rattle.hg_phases.specs.State.{Held, changesets}
 use Rattle.hg_replica.specs.State.{ReplicaState}
-use Rattle.hg_replica.specs.Content.{Content, content_of}
-use Rattle.hg_replica.specs.Evolution.{IsObsolete, IsOrphan, IsSuspended, IsExtinct, IsPhaseDivergent}
-use Rattle.hg_instab.specs.Instabilities.{IsContentDivergent}
 use Rattle.hg_view.specs.Kept.{KeptValue}
-use Rattle.hg_view.specs.Pins.{IsHiddenUnder}
-use Rattle.hg_script.specs.declared.report.RowWords.{RowWords}
+use Rattle.hg_view.specs.declared.status.Status.{Status}
+use Rattle.hg_view.specs.Status.{IsStatus}
 use Rattle.hg_script.specs.Commands.{Text, Word, phase_word}
 
 -- the text and an LF
@@ -54,38 +51,28 @@ row_values rows = map (λ r. (r.0.now, r.1)) rows
 
 -- ---- the words of a row
 
--- each word is there exactly where what it says is so
-pub record AreWordsOf (f : Content) (pins : List Node) (n : Node) (words : RowWords) : Type 0 where
-  pub obsolete : IsTrue words.obsolete ↔ IsObsolete f n
-  pub suspended : IsTrue words.suspended ↔ IsSuspended f n
-  pub extinct : IsTrue words.extinct ↔ IsExtinct f n
-  pub orphan : IsTrue words.orphan ↔ IsOrphan f n
-  pub phase_divergent : IsTrue words.phase_divergent ↔ IsPhaseDivergent f n
-  pub content_divergent : IsTrue words.content_divergent ↔ IsContentDivergent f n
-  pub hidden : IsTrue words.hidden ↔ IsHiddenUnder f pins n
-
 abbrev pub text_where : Bool → Text → Text
 text_where is_so text = if is_so then text else []
 
--- the line, and then its words
-abbrev pub with_words : Text → RowWords → Text
-with_words line words =
-    line ++ text_where words.obsolete (codes " obsolete") ++ text_where words.suspended (codes " suspended")
-    ++ text_where words.extinct (codes " extinct") ++ text_where words.orphan (codes " orphan")
-    ++ text_where words.phase_divergent (codes " phase-divergent")
-    ++ text_where words.content_divergent (codes " content-divergent") ++ text_where words.hidden (codes " hidden")
+-- the line, and then the words of what is so of a changeset that is held
+abbrev pub with_words : Text → Status → Text
+with_words line status =
+    line ++ text_where status.obsolete (codes " obsolete") ++ text_where status.suspended (codes " suspended")
+    ++ text_where status.extinct (codes " extinct") ++ text_where status.orphan (codes " orphan")
+    ++ text_where status.phase_divergent (codes " phase-divergent")
+    ++ text_where status.content_divergent (codes " content-divergent") ++ text_where (not status.visible) (codes " hidden")
 
 -- ---- the lines of a report
 
 -- a changeset's line: its label, its phase, and its words
-abbrev pub row_line : Text → Phase → RowWords → Text
-row_line label phase words = line_of (with_words (label ++ (codes " " ++ phase_word phase)) words)
+abbrev pub row_line : Text → Phase → Status → Text
+row_line label phase status = line_of (with_words (label ++ (codes " " ++ phase_word phase)) status)
 
 -- the line of the changeset at the row's place
 abbrev pub IsRowLine : KeptValue → RowValue → Text → Type 0
 IsRowLine s row text =
-    (h : Held) × (words : RowWords) × (slice_get s.replica.history.held row.1 ≡ Some h)
-    × AreWordsOf (content_of s.replica) s.pins (node_of h.changeset) words × (text ≡ row_line row.0 h.phase words)
+    (h : Held) × (status : Status) × (slice_get s.replica.history.held row.1 ≡ Some h)
+    × IsStatus s (node_of h.changeset) status × (text ≡ row_line row.0 h.phase status)
 
 -- the lines of these rows, one after the other
 abbrev pub AreRowLines : KeptValue → List RowValue → Text → Type 0

@@ -2,73 +2,33 @@
 ghost use Rattle.std.specs.Prelude.{◌≡◌, ◌≤◌, ◌<◌, ◌-◌, ◌==◌, ◌↔◌, ◌⊎◌, ◌++◌, [], List, IfOk, IfErr, OnOk, IsTrue, All};
 ghost use Rattle.std.specs.Prelude.{Contains, codes, length, not};
 ghost use Rattle.std.specs.List.{suffix_len};
-ghost use Rattle.hg_history.specs.Content.{IsHeld};
 ghost use Rattle.hg_phases.specs.State.{changesets};
-ghost use Rattle.hg_replica.specs.Content.{content_of};
 ghost use Rattle.hg_script.specs.Commands.{Text, phase_word};
 ghost use Rattle.hg_script.specs.Outputs.{Printed};
-ghost use Rattle.hg_script.specs.Reports.{AreRowLines, AreRows, AreWordsOf, IsReport, IsRowLine};
+ghost use Rattle.hg_script.specs.Reports.{AreRowLines, AreRows, IsReport, IsRowLine};
 ghost use Rattle.hg_script.specs.Reports.{RowValue, heading, label_of, row_values, rows_from, text_where, totals};
 ghost use Rattle.hg_script.specs.Reports.{with_words};
 
 use crate::fault::RunFault;
 use crate::output::print_line;
-use hg_changeset::{Changeset, Node};
+use hg_changeset::Changeset;
 use hg_phases::Phase;
 use hg_replica::Replica;
-use hg_view::Kept;
+use hg_view::{Kept, Status};
 use std::alloc::{AllocError, Global};
-use std::collections::BTreeSet;
 use std::io::Write;
 
-// The words that hold of a changeset of the replica, under the pins.
-fn words_of(kept: &Kept, node: &Node) -> RowWords
-    ensures { IsHeld (content_of kept.now.replica).0 node.now
-        → AreWordsOf (content_of kept.now.replica) kept.now.pins node.now result }
+// Appends the words that hold of a changeset, in the order in which a report has them.
+fn push_words(line: &mut Vec<u8>, status: Status) -> Result<(), AllocError>
+    ensures { OnOk result (line.new.items ≡ with_words line.old.items status) }
 {
-    let sets = kept.instabilities();
-    RowWords {
-        obsolete: is_among(sets.obsolete(), node),
-        suspended: is_among(sets.suspended(), node),
-        extinct: is_among(sets.extinct(), node),
-        orphan: is_among(sets.orphan(), node),
-        phase_divergent: is_among(sets.phase_divergent(), node),
-        content_divergent: is_among(sets.content_divergent(), node),
-        hidden: !kept.is_visible(*node),
-    }
-}
-
-fn is_among(set: &BTreeSet<Node>, node: &Node) -> bool
-    ensures { IsTrue result ↔ Contains set.now.keys node.now }
-{
-    set.contains(node)
-}
-
-// Which words hold of a changeset.
-#[derive(Clone, Copy)]
-struct RowWords {
-    obsolete: bool,
-    suspended: bool,
-    extinct: bool,
-    orphan: bool,
-    phase_divergent: bool,
-    content_divergent: bool,
-    hidden: bool,
-}
-
-impl RowWords {
-    // Appends the words, in the order in which a report has them.
-    fn push(self, line: &mut Vec<u8>) -> Result<(), AllocError>
-        ensures { OnOk result (line.new.items ≡ with_words line.old.items self) }
-    {
-        push_where(line, self.obsolete, b" obsolete")?;
-        push_where(line, self.suspended, b" suspended")?;
-        push_where(line, self.extinct, b" extinct")?;
-        push_where(line, self.orphan, b" orphan")?;
-        push_where(line, self.phase_divergent, b" phase-divergent")?;
-        push_where(line, self.content_divergent, b" content-divergent")?;
-        push_where(line, self.hidden, b" hidden")
-    }
+    push_where(line, status.obsolete, b" obsolete")?;
+    push_where(line, status.suspended, b" suspended")?;
+    push_where(line, status.extinct, b" extinct")?;
+    push_where(line, status.orphan, b" orphan")?;
+    push_where(line, status.phase_divergent, b" phase-divergent")?;
+    push_where(line, status.content_divergent, b" content-divergent")?;
+    push_where(line, !status.visible, b" hidden")
 }
 
 fn push_where(line: &mut Vec<u8>, is_so: bool, word: &[u8]) -> Result<(), AllocError>
@@ -237,7 +197,7 @@ fn print_row<W: Write>(
     let phase = replica.phase_at(place).unwrap();
     line.extend_from_slice(label)?;
     line.extend_from_slice(phase_word(phase))?;
-    words_of(kept, &node).push(line)?;
+    push_words(line, kept.status(node))?;
     print_line(writer, line)?;
     Ok(())
 }

@@ -3,6 +3,7 @@ pub mod ViewLemmas
 pub mod PinLemmas
 pub mod ShareLemmas
 mod ShownLemmas
+mod StatusLemmas
 mod HiddenLemmas
 mod KeptLemmas
 mod UpheldLemmas

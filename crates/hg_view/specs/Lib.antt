@@ -4,6 +4,7 @@ pub mod PinRefusals
 pub mod Released
 pub mod Share
 pub mod Shown
+pub mod Status
 pub mod Upheld
 pub mod Flags
 pub mod Tops

@@ -5,7 +5,8 @@
 //! its ancestors, though it is obsolete. What is hidden can still be shared: [`share`] tells all that isn't secret.
 //!
 //! Views are found from a replica and pins alone. Who keeps its instabilities beside it, and what its pins uphold, as
-//! [`Kept`] does, asks of one changeset by three look-ups whether it is visible.
+//! [`Kept`] does, asks of one changeset by three look-ups whether it is visible, and by a few more all that is so of it
+//! ([`Status`]).
 //!
 //! # Example
 //!
@@ -33,6 +34,7 @@ mod refusal;
 mod released;
 mod shared;
 mod shown;
+mod status;
 mod top_places;
 mod tops;
 mod upheld;
@@ -53,4 +55,5 @@ pub use pins::Pins;
 pub use refusal::PinRefusal;
 pub use shared::{share, shared_marks};
 pub use shown::is_visible;
+pub use status::Status;
 pub use view::{served, served_marks, visible};

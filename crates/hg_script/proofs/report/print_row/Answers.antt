@@ -17,7 +17,7 @@ returns-clause-printed g c =
     let place = c.args.place in
     let label = c.args.label.now in
     let phase = c.unwrap-phase.result in
-    let words = c.words_of.result in
+    let status = c.status.result in
     let graph = c.graph.ensures.graph ∙ ap (λ (t : ReplicaState). changesets t.history) same in
     let at = sym c.unwrap-node.ensures ∙ c.node_at.ensures
     ∙ ap (λ (cs : List Contents). slice_get (nodes cs) place) graph in
@@ -30,9 +30,9 @@ returns-clause-printed g c =
     ∙ ap (λ (l : Text). l ++ c.phase_word.result.now)
     (c.in_ok-extend_from_slice.ensures.items ∙ ap (λ (l : Text). l ++ label) c.requires.empty)
     ∙ ap (λ (w : Text). label ++ w) c.phase_word.ensures in
-    let whole = ap line_of (c.in_ok-push.ensures ∙ ap (λ (l : Text). with_words l words) front) in (
-      line_of c.push.new.line.items,
-      row_of s place c.unwrap-node.result phase label _ words c.replica-replica.ensures.valid at held
-          c.words_of.ensures whole,
+    let whole = ap line_of (c.in_ok-push_words.ensures ∙ ap (λ (l : Text). with_words l status) front) in (
+      line_of c.push_words.new.line.items,
+      row_of s place c.unwrap-node.result phase label _ status at held
+          c.status.ensures whole,
       c.in_ok-print_line.ensures.printed,
     )
