@@ -4,7 +4,7 @@ use Rattle.hg_replica.specs.State.{ReplicaState}
 use Rattle.hg_replica.specs.Content.{content_of}
 use Rattle.hg_replica.specs.Evolution.{HasPhase}
 use Rattle.hg_view.proofs.StatusLemmas.{asked}
-use Rattle.hg_view.proofs.status.Kept.status.Goals as goal
+use Rattle.hg_view.proofs.kept.Kept.status.Goals as goal
 
 pub returns : goal.returns
 returns c =
