@@ -1,5 +1,6 @@
 -- What the tests of a changeset tell.
-use Rattle.std.proofs.Common.{◌≡◌, ◌↔◌, ◌⊎◌, ◌∙◌, Bool, false, IsTrue, inl, inr, sym, true≢false}
+use Rattle.std.proofs.Common.{◌≡◌, ◌↔◌, ◌⊎◌, ◌∙◌, Bool, true, false, not, IsTrue, inl, inr, sym, refl}
+use Rattle.std.proofs.Common.{true≢false}
 
 map_or : {A B P Q : Type 0} → (A → P) → (B → Q) → A ⊎ B → P ⊎ Q
 map_or f g (inl a) = inl (f a)
@@ -16,3 +17,8 @@ any_told b A B C P Q R first second third any = (
 -- what isn't so, by its test
 pub not_so : (b : Bool) (P : Type 0) → IsTrue b ↔ P → b ≡ false → ¬ P
 not_so b P told e = λ so. true≢false (sym (told.1 so) ∙ e)
+
+-- what isn't so is not so
+pub is_so : (b : Bool) → not b ≡ false → IsTrue b
+is_so true e = refl
+is_so false e = absurd (true≢false e)
