@@ -1,5 +1,5 @@
 -- How far two lists of changesets were compared, and what that says of all of them.
-use Rattle.std.proofs.Common.{◌≡◌, ◌≤◌, ◌<◌, ◌++◌, ℕ, inl, inr, List, length, slice_get, Some, None, Contains}
+use Rattle.std.proofs.Common.{◌≡◌, ◌<◌, ◌++◌, ℕ, inl, inr, List, length, slice_get, Some, None}
 use Rattle.std.proofs.Common.{◌↔◌, length-append, refl, sym, subst, ◌∙◌, arith}
 use Rattle.std.proofs.lemmas.Bool.{cases_lt}
 use Rattle.std.proofs.lemmas.Option.{none-some, same_Some}

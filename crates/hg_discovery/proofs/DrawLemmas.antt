@@ -111,17 +111,6 @@ take_front zero xs ys = refl
 take_front (suc n) [] ys = refl
 take_front (suc n) (x ∷ xs) ys = ap (λ zs. x ∷ zs) (take_front n xs ys)
 
-take_behind : {X : Type 0} (m n : ℕ) (xs ys : List X) → m ≤ n → take m (xs ++ take n ys) ≡ take m (xs ++ ys)
-take_behind zero n xs ys le = refl
-take_behind (suc m) zero xs ys le = absurd (omega (arith, le))
-take_behind (suc m) (suc n) [] [] le = refl
-take_behind (suc m) (suc n) [] (y ∷ ys) le = ap (λ zs. y ∷ zs) (take_behind m n [] ys (omega (arith, le)))
-take_behind (suc m) (suc n) (x ∷ xs) ys le =
-    ap (λ zs. x ∷ zs) (take_behind m (suc n) xs ys (omega (arith, le)))
-
-pub take_both : {X : Type 0} (n : ℕ) (xs ys : List X) → take n (take n xs ++ take n ys) ≡ take n (xs ++ ys)
-take_both n xs ys = take_front n xs (take n ys) ∙ take_behind n n xs ys (omega arith)
-
 module _ (test : Spot → Bool) (limit : ℕ) (old xs : List Spot) (i : ℕ) (d : Spot) (lt : i < length xs)
     (found : List Spot) (inv : found ≡ take limit (old ++ filter test (take i xs))) where
   more : filter test (take (i + 1) xs) ≡ filter test (take i xs) ++ cond (test (get_or xs i d)) (get_or xs i d ∷ []) []

@@ -2,6 +2,7 @@
 use Rattle.std.proofs.Common.{◌≡◌, ◌≢◌, ◌↔◌, ◌⊎◌, ℕ, zero, suc, ◌<◌, ◌≤◌, ◌+◌, ◌-◌, inl, inr, List, [], ◌∷◌, ◌++◌, length}
 use Rattle.std.proofs.Common.{map, set, take, get_or, replicate, slice_get, Bool, true, Option, Some, None, MatchOption, Contains}
 use Rattle.std.proofs.Common.{option_map, refl, sym, ap, subst, ◌∙◌, arith}
+use Rattle.std.specs.List.Sorted.{IsStrictlySortedBy}
 use Rattle.std.proofs.lemmas.List.{length-map, take_all}
 use Rattle.std.proofs.lemmas.List.Elements.{Contains-get_or}
 use Rattle.std.proofs.lemmas.Option.{none-some, same_Some, slice_get_within, slice_get-map}
@@ -26,12 +27,15 @@ use Rattle.hg_discovery.specs.declared.status.Spot.{Spot}
 use Rattle.hg_discovery.specs.Under.{IsOneOf, IsParentAt, IsUnder, IsInOrder, IsShapeOf}
 use Rattle.hg_discovery.specs.Search.{Is, IsHead}
 use Rattle.hg_discovery.specs.Spread.{IsMarked}
+use Rattle.hg_discovery.specs.Order.{spot_cmp}
 use Rattle.hg_discovery.specs.Heads.{IsMarkedHead}
 use Rattle.hg_discovery.specs.Start.{IsShared, IsGround}
 use Rattle.hg_discovery.proofs.UnderLemmas.{child_on_way, parent_under}
 use Rattle.hg_discovery.proofs.StartLemmas.{AreThoseTo, none_of_those, those_push, those_skip, all_those}
 use Rattle.hg_discovery.proofs.StartLemmas.{phase_in_content, AreUndecidedTo, AreUndecidedTo-start}
 use Rattle.hg_discovery.proofs.StartLemmas.{AreUndecidedTo-more, in_order, shared_within, closed_start, spots_start}
+use Rattle.hg_discovery.proofs.PutLemmas.{ordered, ordered_members, ordered_sorted}
+use Rattle.hg_discovery.proofs.SortLemmas.{ascending_spots}
 
 -- ---- what was found of a history
 
@@ -39,9 +43,9 @@ module _ (s : State) (valid : IsValid s) (ps : List ParentPlaces) (shape : IsSha
     (xs : List Spot) (shared : (x : Spot) → Contains xs x ↔ IsShared s x) (ds : List Status)
     (len : length ds ≡ length ps)
     (undecided : (k : ℕ) → Is ds Undecided k ↔ ((x : Spot) × Contains xs x × (x.place ≡ k)))
-    (nothing : (k : ℕ) → Is ds Common k → ⊥) where
+    (nothing : (k : ℕ) → Is ds Common k → ⊥) (sorted : IsStrictlySortedBy spot_cmp xs) where
   pub ground_from : IsGround s ps xs ds
-  ground_from = record {
+  ground_from = let spots = spots_start s valid ps shape xs shared ds len undecided nothing in record {
     shape = shape;
     shared = shared;
     undecided = undecided;
@@ -49,7 +53,8 @@ module _ (s : State) (valid : IsValid s) (ps : List ParentPlaces) (shape : IsSha
     len = len;
     in_order = in_order s valid ps shape xs shared;
     closed = closed_start s valid ps shape xs shared ds len undecided nothing;
-    spots = spots_start s valid ps shape xs shared ds len undecided nothing;
+    spots = spots;
+    ascending = ascending_spots xs spots.distinct sorted;
   }
 
 -- ---- there is such a ground
@@ -181,9 +186,13 @@ module _ (s : State) (valid : IsValid s) where
   ground_exists =
       let ps = map places_of cs in
       let found = spots_to (length cs) (omega arith) in
-      let xs = found.0 in
-      let shared : (x : Spot) → Contains xs x ↔ IsShared s x =
-      all_those cs (IsShared s) (λ x h. h.0) (length cs) xs found.1 (omega arith) in
+      let xs = ordered found.0 in
+      let those : (x : Spot) → Contains found.0 x ↔ IsShared s x =
+      all_those cs (IsShared s) (λ x h. h.0) (length cs) found.0 found.1 (omega arith) in
+      let shared : (x : Spot) → Contains xs x ↔ IsShared s x = λ x. (
+        λ h. (those x).0 ((ordered_members found.0 x).0 h),
+        λ h. (ordered_members found.0 x).1 ((those x).1 h),
+      ) in
       let within : (x : Spot) → Contains xs x → x.place < length ps =
       shared_within s valid ps shape_exists xs shared in
       let made = undecided_to (length ps) xs within (length xs) (omega arith) in
@@ -192,7 +201,8 @@ module _ (s : State) (valid : IsValid s) where
         ps,
         xs,
         made.0,
-        ground_from s valid ps shape_exists xs shared made.0 all.length_is all.undecided all.nothing_common,
+        ground_from s valid ps shape_exists xs shared made.0 all.length_is all.undecided all.nothing_common
+            (ordered_sorted found.0),
       )
 
 -- ---- heads by marks

@@ -1,4 +1,4 @@
--- Heads of what isn't secret, told by places.
+-- Marks that tell of each place whether it is so, and what stands at places.
 use Rattle.std.proofs.Common.{◌≡◌, ◌↔◌, ◌⊎◌, ℕ, zero, suc, ◌<◌, ◌+◌, inl, inr, Bool, true, false, List, [], ◌∷◌, ◌++◌}
 use Rattle.std.proofs.Common.{length, length-append, take, get_or, slice_get, Some, Contains, refl, sym, ap, subst, ◌∙◌}
 use Rattle.std.proofs.Common.{arith, true≢false}
@@ -19,7 +19,7 @@ use Rattle.hg_history.proofs.ContentLemmas.{content-node, node_in_content}
 use Rattle.hg_replica.specs.State.{ReplicaState}
 use Rattle.hg_replica.specs.Content.{content_of}
 use Rattle.hg_view.specs.Share.{IsShared}
-use Rattle.hg_view.specs.Tops.{IsTop, IsSharedAt}
+use Rattle.hg_view.specs.Tops.{IsTop}
 use Rattle.hg_view.proofs.ShareLemmas.{shared-or}
 use Rattle.hg_discovery.specs.declared.status.Spot.{Spot}
 use Rattle.hg_discovery.specs.Spread.{IsMarked}
@@ -145,10 +145,6 @@ module _ (ours : ReplicaState) (valid : IsValid ours.history) where
   pub shared-are : AreSharedMarks ours shared
   shared-are = told-are all valid.graph (IsShared (content_of ours)) shared-tell
       (λ n so. node_in_content ours.history valid.graph n so.0)
-
-  pub shared-heads : (places : List ℕ) → ((k : ℕ) → Contains places k ↔ IsTop all (IsSharedAt ours) k) → (x : Spot)
-      → (Contains places x.place × IsAt all x.node x.place) ↔ IsMarkedHead all shared x
-  shared-heads = told-heads all valid.graph (IsShared (content_of ours)) shared-tell
 
 -- ---- what stands at places, one more
 

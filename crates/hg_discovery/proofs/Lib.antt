@@ -8,16 +8,12 @@ pub mod BetweenLemmas
 pub mod StartLemmas
 pub mod SortLemmas
 pub mod PutLemmas
-pub mod LeastLemmas
-pub mod LineLemmas
 pub mod CountLemmas
 pub mod WalkLemmas
 pub mod WholeLemmas
-pub mod HeadsLemmas
 pub mod GroundLemmas
 pub mod SharedLemmas
-pub mod LogLemmas
-pub mod FamilyLemmas
+pub mod ChildrenLemmas
 pub mod SampleLemmas
 pub mod KnownLemmas
 pub mod ServedLemmas

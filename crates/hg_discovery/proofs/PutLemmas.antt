@@ -1,6 +1,6 @@
--- Spots put in order one by one.
-use Rattle.std.proofs.Common.{◌≡◌, ◌↔◌, ◌⊎◌, ℕ, zero, suc, inl, inr, List, [], ◌∷◌, ◌++◌, get_or}
-use Rattle.std.proofs.Common.{take, Contains, refl, sym, ap, subst, ◌∙◌, arith}
+-- There is an order for spots: they are put in order one by one.
+use Rattle.std.proofs.Common.{◌≡◌, ◌↔◌, ◌⊎◌, inl, inr, List, [], ◌∷◌, get_or}
+use Rattle.std.proofs.Common.{Contains, refl, ap, subst, ◌∙◌}
 use Rattle.std.specs.List.{AllByRecursion}
 use Rattle.std.specs.List.Sorted.{IsStrictlySortedBy}
 use Rattle.std.specs.Ordering.{nat_cmp, ordering_then, ordering_reverse}
@@ -8,7 +8,6 @@ use Rattle.std.specs.Cmp.{IsTotalOrder}
 use Rattle.std.specs.declared.cmp.Ordering.{Ordering}
 use Rattle.std.specs.declared.cmp.Ordering.TheVariants.{Less, Equal, Greater}
 use Rattle.std.proofs.lemmas.Cmp.{nat_cmp_total, on_total, then_total}
-use Rattle.std.proofs.lemmas.List.{take-take}
 use Rattle.std.proofs.lemmas.List.Elements.{All-from_recursion, recursion_from_All, All-contains}
 use Rattle.std.proofs.lemmas.List.Elements.{Contains-get_or}
 use Rattle.std.proofs.lemmas.Map.Lookups.{exact_unsigned}
@@ -16,8 +15,24 @@ use Rattle.hg_changeset.specs.Node.{node_cmp}
 use Rattle.hg_changeset.proofs.NodeLemmas.{node_cmp_exact, node_cmp_total}
 use Rattle.hg_changeset.proofs.ListLemmas.{Contains-cons_cases, Contains-first, Contains-later, Contains-none}
 use Rattle.hg_discovery.specs.declared.status.Spot.{Spot}
-use Rattle.hg_discovery.specs.Order.{spot_cmp, put_beside, put, put_all, in_order}
+use Rattle.hg_discovery.specs.Order.{spot_cmp}
 use Rattle.hg_discovery.proofs.StartLemmas.{one_spot}
+
+-- x beside the first of a list, which compares with it so; rest is what follows the first once x is put among that
+abbrev put_beside : Ordering → Spot → Spot → List Spot → List Spot → List Spot
+put_beside Less x first others rest = first ∷ rest
+put_beside Equal x first others rest = first ∷ others
+put_beside Greater x first others rest = x ∷ first ∷ others
+
+-- x put into an ascending list, unless it is there
+abbrev put : Spot → List Spot → List Spot
+put x [] = x ∷ []
+put x (y ∷ ys) = put_beside (spot_cmp y x) x y ys (put x ys)
+
+-- the spots ascending, each once
+abbrev pub ordered : List Spot → List Spot
+ordered [] = []
+ordered (x ∷ xs) = put x (ordered xs)
 
 -- ---- the order
 
@@ -73,29 +88,17 @@ put_members x [] z = (
 )
 put_members x (y ∷ ys) z = put_beside_members (spot_cmp y x) x y ys (put x ys) z (spot_exact y x) (put_members x ys z)
 
-put_all_members : (xs ys : List Spot) (z : Spot) → Contains (put_all xs ys) z ↔ (Contains xs z ⊎ Contains ys z)
-put_all_members [] ys z = (λ c. inr c, λ c. elim c [ inl old ↦ absurd (Contains-none z old) | inr old ↦ old ])
-put_all_members (x ∷ xs) ys z = (
-  λ c. elim ((put_all_members xs (put x ys) z).0 c) [
-    | inl later ↦ inl (Contains-later x xs z later)
-    | inr new ↦ elim ((put_members x ys z).0 new) [
-      | inl e ↦ inl (subst (Contains (x ∷ xs)) e (Contains-first x xs))
-      | inr old ↦ inr old
-    ]
+pub ordered_members : (xs : List Spot) (z : Spot) → Contains (ordered xs) z ↔ Contains xs z
+ordered_members [] z = (λ c. c, λ c. c)
+ordered_members (x ∷ xs) z = (
+  λ c. elim ((put_members x (ordered xs) z).0 c) [
+    | inl e ↦ subst (Contains (x ∷ xs)) e (Contains-first x xs)
+    | inr old ↦ Contains-later x xs z ((ordered_members xs z).0 old)
   ],
-  λ c. (put_all_members xs (put x ys) z).1 (elim c [
-    | inl one ↦ elim (Contains-cons_cases x xs z one) [
-      | inl e ↦ inr ((put_members x ys z).1 (inl e))
-      | inr later ↦ inl later
-    ]
-    | inr old ↦ inr ((put_members x ys z).1 (inr old))
+  λ c. (put_members x (ordered xs) z).1 (elim (Contains-cons_cases x xs z c) [
+    | inl e ↦ inl e
+    | inr later ↦ inr ((ordered_members xs z).1 later)
   ]),
-)
-
-pub in_order_members : (xs : List Spot) (z : Spot) → Contains (in_order xs) z ↔ Contains xs z
-in_order_members xs z = (
-  λ c. elim ((put_all_members xs [] z).0 c) [ inl one ↦ one | inr none ↦ absurd (Contains-none z none) ],
-  λ c. (put_all_members xs [] z).1 (inl c),
 )
 
 -- ---- it ascends
@@ -136,43 +139,7 @@ unfolding IsStrictlySortedBy
 put_sorted x [] h = (tt, tt)
 put_sorted x (y ∷ ys) h = put_beside_sorted (spot_cmp y x) x y ys refl h.0 h.1 (put_sorted x ys h.1)
 
-put_all_sorted : (xs ys : List Spot) → IsStrictlySortedBy spot_cmp ys → IsStrictlySortedBy spot_cmp (put_all xs ys)
-put_all_sorted [] ys h = h
-put_all_sorted (x ∷ xs) ys h = put_all_sorted xs (put x ys) (put_sorted x ys h)
-
-nothing_sorted : IsStrictlySortedBy spot_cmp []
+pub ordered_sorted : (xs : List Spot) → IsStrictlySortedBy spot_cmp (ordered xs)
 unfolding IsStrictlySortedBy
-nothing_sorted = tt
-
-pub in_order_sorted : (xs : List Spot) → IsStrictlySortedBy spot_cmp (in_order xs)
-in_order_sorted xs = put_all_sorted xs [] nothing_sorted
-
--- ---- one more
-
-put_all_more : (xs : List Spot) (x : Spot) (ys : List Spot) → put_all (xs ++ x ∷ []) ys ≡ put x (put_all xs ys)
-put_all_more [] x ys = refl
-put_all_more (w ∷ xs) x ys = put_all_more xs x (put w ys)
-
-pub in_order_more : (xs : List Spot) (x : Spot) → in_order (xs ++ x ∷ []) ≡ put x (in_order xs)
-in_order_more xs x = put_all_more xs x []
-
-take_beside : (o : Ordering) (n : ℕ) (x y : Spot) (ys rest other : List Spot) → take n rest ≡ take n other
-    → take (suc n) (put_beside o x y ys rest) ≡ take (suc n) (put_beside o x y (take n ys) other)
-take_beside Less n x y ys rest other e = ap (λ zs. y ∷ zs) e
-take_beside Equal n x y ys rest other e = ap (λ zs. y ∷ zs) (sym (take-take n n ys (omega arith)))
-take_beside Greater zero x y ys rest other e = refl
-take_beside Greater (suc m) x y ys rest other e = ap (λ zs. x ∷ y ∷ zs) (sym (take-take m (suc m) ys (omega arith)))
-
--- of the first n with one more, only the first n from before have to be known
-pub take_put : (n : ℕ) (x : Spot) (ys : List Spot) → take n (put x ys) ≡ take n (put x (take n ys))
-take_put zero x ys = refl
-take_put (suc n) x [] = refl
-take_put (suc n) x (y ∷ ys) = take_beside (spot_cmp y x) n x y ys (put x ys) (put x (take n ys)) (take_put n x ys)
-
--- behind the last of so many
-pub put_behind_all : (x : Spot) (ys : List Spot) → ((y : Spot) → Contains ys y → spot_cmp y x ≡ Less)
-    → put x ys ≡ ys ++ x ∷ []
-put_behind_all x [] all = refl
-put_behind_all x (y ∷ ys) all =
-    ap (λ o. put_beside o x y ys (put x ys)) (all y (Contains-first y ys))
-    ∙ ap (λ zs. y ∷ zs) (put_behind_all x ys (λ z c. all z (Contains-later y ys z c)))
+ordered_sorted [] = tt
+ordered_sorted (x ∷ xs) = put_sorted x (ordered xs) (ordered_sorted xs)

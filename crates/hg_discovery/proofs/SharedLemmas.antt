@@ -24,7 +24,7 @@ use Rattle.hg_discovery.specs.Spread.{IsMarked}
 use Rattle.hg_discovery.specs.Heads.{IsMarkedHead, IsMarkedOnBoth}
 use Rattle.hg_discovery.specs.Start.{IsGround}
 use Rattle.hg_discovery.specs.Whole.{AreToldApart}
-use Rattle.hg_discovery.proofs.UnderLemmas.{under_common, between}
+use Rattle.hg_discovery.proofs.UnderLemmas.{under_common}
 use Rattle.hg_discovery.proofs.StartLemmas.{one_spot, phase_in_content}
 use Rattle.hg_discovery.proofs.GroundLemmas.{marked_head, marked_at, node_marked}
 use Rattle.hg_discovery.proofs.WholeLemmas.{closed_told}
@@ -48,19 +48,6 @@ module _ (s : ReplicaState) (valid : IsValid s.history) (shared : List Bool)
       )
 
   module _ (ps : List ParentPlaces) (xs : List Spot) (ds : List Status) (ground : IsGround s.history ps xs ds) where
-    -- they are the marks of what is undecided at first
-    pub undecided_marks : (k : ℕ) → IsMarked shared k ↔ Is ds Undecided k
-    undecided_marks k = (
-      λ m.
-          let n = node_marked all valid.graph shared len k m in
-          let x : Spot = record { node = n.0; place = k } in
-          (ground.undecided k).1 (x, (ground.shared x).1 (n.1, (open_at x n.1).0 m), refl),
-      λ u.
-          let x = (ground.undecided k).0 u in
-          let is = (ground.shared x.0).0 x.1 in
-          subst (IsMarked shared) x.2 ((open_at x.0 is.0).1 is.1),
-    )
-
     -- what stands where one of the spots does is that spot
     pub spot_at : (x y : Spot) → Contains xs y → y.place ≡ x.place → IsAt all x.node x.place ↔ Contains xs x
     spot_at x y h e = (
@@ -69,12 +56,6 @@ module _ (s : ReplicaState) (valid : IsValid s.history) (shared : List Bool)
           subst (Contains xs) (one_spot y x (same_Some y.node x.node (sym at_y ∙ at)) e) h,
       λ in_xs. ((ground.shared x).0 in_xs).0,
     )
-
-    pub undecided_heads : (asked : List Spot) (x : Spot) → IsMarkedHead all shared x
-        ↔ IsHead (record { parents = ps; spots = xs; decided = ds; asked = asked }) Undecided x
-    undecided_heads asked = marked_head all ps ground.shape ground.in_order xs ds Undecided asked shared undecided_marks
-        (λ x u. let y = (ground.undecided x.place).0 u in spot_at x y.0 y.1 y.2)
-        (between ps ds ground.closed ground.len ground.in_order)
 
     -- ---- what is marked on both sides is common
 

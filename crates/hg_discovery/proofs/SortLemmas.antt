@@ -13,9 +13,8 @@ use Rattle.std.proofs.lemmas.List.Kept.{AllPairs-cons}
 use Rattle.hg_changeset.specs.Node.{node_cmp, node_eq}
 use Rattle.hg_changeset.proofs.NodeLemmas.{node_cmp_exact, same_node}
 use Rattle.hg_discovery.specs.declared.status.Spot.{Spot}
-use Rattle.hg_discovery.specs.Order.{spot_cmp, in_order}
+use Rattle.hg_discovery.specs.Order.{spot_cmp}
 use Rattle.hg_discovery.specs.Search.{IsAscending, Lists}
-use Rattle.hg_discovery.proofs.PutLemmas.{in_order_members, in_order_sorted}
 use Rattle.hg_discovery.proofs.StartLemmas.{one_spot}
 
 pub pairs : (xs : List Spot) → IsStrictlySortedBy spot_cmp xs → AllPairs (λ x y. spot_cmp x y ≡ Less) xs
@@ -72,10 +71,3 @@ sorted_lists xs P distinct some sorted within are = (
   ascending_spots some (λ x y hx hy e. distinct x y (within x ((are x).0 hx)) (within y ((are y).0 hy)) e) sorted,
   are,
 )
-
--- some of these spots, put in order
-pub in_order_lists : (xs : List Spot) (P : Spot → Type 0)
-    → ((x y : Spot) → Contains xs x → Contains xs y → x.node ≡ y.node → x ≡ y) → (some : List Spot)
-    → ((x : Spot) → P x → Contains xs x) → ((x : Spot) → Contains some x ↔ P x) → Lists P (in_order some)
-in_order_lists xs P distinct some within are = sorted_lists xs P distinct (in_order some) (in_order_sorted some) within
-    (λ x. (λ h. (are x).0 ((in_order_members some x).0 h), λ p. (in_order_members some x).1 ((are x).1 p)))

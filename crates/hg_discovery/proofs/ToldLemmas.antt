@@ -89,20 +89,6 @@ all_missing_kept ps (x ∷ xs) (b ∷ answers) old new t j h = all_missing_kept 
 all_missing_kept ps [] (b ∷ answers) old new t j h = absurd t
 all_missing_kept ps (x ∷ xs) [] old new t j h = absurd t
 
--- and so is what is common
-told_common_kept : (ps : List ParentPlaces) (k : ℕ) (said : Bool) (old new : List Status) → IsTold ps k said old new
-    → (j : ℕ) → Is old Common j → Is new Common j
-told_common_kept ps k said old new (inl d) j h = (d.1.common j).1 (inl h)
-told_common_kept ps k said old new (inr e) j h = subst (λ ds. Is ds Common j) (sym e.1) h
-
-pub all_common_kept : (ps : List ParentPlaces) (xs : List Spot) (answers : List Bool) (old new : List Status)
-    → AreTold ps xs answers old new → (j : ℕ) → Is old Common j → Is new Common j
-all_common_kept ps [] [] old new e j h = subst (λ ds. Is ds Common j) (sym e) h
-all_common_kept ps (x ∷ xs) (b ∷ answers) old new t j h = all_common_kept ps xs answers t.0 new t.2 j
-    (told_common_kept ps x.place b old t.0 t.1 j h)
-all_common_kept ps [] (b ∷ answers) old new t j h = absurd t
-all_common_kept ps (x ∷ xs) [] old new t j h = absurd t
-
 -- what answers leave is closed
 pub all_closed : (ps : List ParentPlaces) (xs : List Spot) (answers : List Bool) (old new : List Status)
     → length old ≡ length ps → IsInOrder ps → IsClosed ps old → AreTold ps xs answers old new → IsClosed ps new

@@ -15,9 +15,9 @@ use Rattle.hg_discovery.specs.declared.status.Status.TheVariants.{Undecided, Com
 use Rattle.hg_discovery.specs.Under.{IsOneOf, IsParentAt, IsUnder, IsInOrder, itself, below}
 use Rattle.hg_discovery.specs.Search.{Is, IsClosed}
 use Rattle.hg_discovery.specs.Answers.{IsDecided}
-use Rattle.hg_discovery.specs.declared.family.Stretch.{Stretch}
-use Rattle.hg_discovery.specs.Family.{IsFamily, Stands}
-use Rattle.hg_discovery.specs.Log.{Grows, AreTaken}
+use Rattle.hg_discovery.specs.declared.children.Stretch.{Stretch}
+use Rattle.hg_discovery.specs.Children.{AreChildren, Stands}
+use Rattle.hg_discovery.specs.Queue.{Grows, AreTaken}
 use Rattle.hg_discovery.proofs.UnderLemmas.{not_both_uc, not_both_um, three}
 use Rattle.hg_discovery.proofs.CountLemmas.{one_less}
 
@@ -37,19 +37,19 @@ append_behind (y ∷ xs) ys (suc m) x le h = append_behind xs ys m x (omega (ari
 -- ---- what a step decides
 
 module _ (d : Status) where
-  pub Grows-none : (P : ℕ → Type 0) (old : List Status) (log : List ℕ) → Grows P d old log old log
-  Grows-none P old log = record {
+  pub Grows-none : (P : ℕ → Type 0) (old : List Status) (queue : List ℕ) → Grows P d old queue old queue
+  Grows-none P old queue = record {
     more = [];
-    longer = sym (append-nil log);
+    longer = sym (append-nil queue);
     len = refl;
     changed = λ k. inl refl;
-    logged = λ k h. absurd (Contains-none k h);
+    queued = λ k h. absurd (Contains-none k h);
     count = refl;
   }
 
-  pub Grows-one : d ≢ Undecided → (p : ℕ) (old : List Status) (log : List ℕ) → Is old Undecided p
-      → Grows (λ k. p ≡ k) d old log (set old p d) (log ++ p ∷ [])
-  Grows-one decided p old log at = record {
+  pub Grows-one : d ≢ Undecided → (p : ℕ) (old : List Status) (queue : List ℕ) → Is old Undecided p
+      → Grows (λ k. p ≡ k) d old queue (set old p d) (queue ++ p ∷ [])
+  Grows-one decided p old queue at = record {
     more = p ∷ [];
     longer = refl;
     len = length-set old p d;
@@ -62,9 +62,9 @@ module _ (d : Status) where
       )
       | inr ne ↦ inl (get-set_other old p k d ne)
     ];
-    logged = λ k h. let e : p ≡ k = Contains-one p k h in
+    queued = λ k h. let e : p ≡ k = Contains-one p k h in
         (subst (Is old Undecided) e at, subst (Is (set old p d) d) e now, e);
-    count = omega (arith, one_less old p d decided at, length-append log (p ∷ []));
+    count = omega (arith, one_less old p d decided at, length-append queue (p ∷ []));
   }
     where
       now : Is (set old p d) d p
@@ -77,7 +77,7 @@ module _ (d : Status) where
     longer = g.longer;
     len = g.len;
     changed = λ q. elim (g.changed q) [ inl s ↦ inl s | inr h ↦ inr (h.0, h.1, wide q h.2, h.3) ];
-    logged = λ q h. let f = g.logged q h in (f.0, f.1, wide q f.2);
+    queued = λ q h. let f = g.queued q h in (f.0, f.1, wide q f.2);
     count = g.count;
   }
 
@@ -113,9 +113,9 @@ module _ (d : Status) where
       ]
       | inr h ↦ inr (before q h.0, h.1, h.2, Contains-append_right first.more second.more q h.3)
     ];
-    logged = λ q h. elim (Contains-append_cases first.more second.more q h) [
-      | inl early ↦ let f = first.logged q early in (f.0, Grows-so P b c l m second q f.1, f.2)
-      | inr late ↦ let s = second.logged q late in (before q s.0, s.1, s.2)
+    queued = λ q h. elim (Contains-append_cases first.more second.more q h) [
+      | inl early ↦ let f = first.queued q early in (f.0, Grows-so P b c l m second q f.1, f.2)
+      | inr late ↦ let s = second.queued q late in (before q s.0, s.1, s.2)
     ];
     count = second.count ∙ first.count;
   }
@@ -132,25 +132,25 @@ module _ (d : Status) where
 
 -- ---- a walk
 
--- E leads from what is decided to what is decided with it; what was logged from the place `next` on waits for it
+-- E leads from what is decided to what is decided with it; what was queued from the place `next` on waits for it
 pub record IsWalked (d : Status) (E : ℕ → ℕ → Type 0) (P : ℕ → Type 0) (place : ℕ) (old : List Status)
-    (start : List ℕ) (now : List Status) (log : List ℕ) (next : ℕ) : Type 0 where
-  pub grows : Grows P d old start now log
+    (start : List ℕ) (now : List Status) (queue : List ℕ) (next : ℕ) : Type 0 where
+  pub grows : Grows P d old start now queue
   pub begun : Is now d place
   pub from : length start ≤ next
-  pub followed : (j k : ℕ) → E j k → Is now d j → Is now d k ⊎ ((i : ℕ) × (next ≤ i) × (slice_get log i ≡ Some j))
+  pub followed : (j k : ℕ) → E j k → Is now d j → Is now d k ⊎ ((i : ℕ) × (next ≤ i) × (slice_get queue i ≡ Some j))
 
 module _ (d : Status) (E : ℕ → ℕ → Type 0) (P : ℕ → Type 0) (place : ℕ) (old : List Status) (start : List ℕ)
     (closed : (j k : ℕ) → E j k → Is old d j → Is old d k) where
-  pub IsWalked-start : (now : List Status) (log : List ℕ) → Is old Undecided place → P place
-      → Grows (λ k. place ≡ k) d old start now log → AreTaken (λ k. place ≡ k) d old now
-      → IsWalked d E P place old start now log (length start)
-  IsWalked-start now log at p g taken = record {
-    grows = Grows-wider d (λ k. place ≡ k) P old now start log (λ k e. subst P e p) g;
+  pub IsWalked-start : (now : List Status) (queue : List ℕ) → Is old Undecided place → P place
+      → Grows (λ k. place ≡ k) d old start now queue → AreTaken (λ k. place ≡ k) d old now
+      → IsWalked d E P place old start now queue (length start)
+  IsWalked-start now queue at p g taken = record {
+    grows = Grows-wider d (λ k. place ≡ k) P old now start queue (λ k e. subst P e p) g;
     begun = taken place refl at;
     from = omega arith;
     followed = λ j k e h. elim (g.changed j) [
-      | inl same ↦ inl (Grows-so d (λ k. place ≡ k) old now start log g k (closed j k e (sym same ∙ h)))
+      | inl same ↦ inl (Grows-so d (λ k. place ≡ k) old now start queue g k (closed j k e (sym same ∙ h)))
       | inr q ↦
           let m = place_from_Contains g.more j q.3 in
           let r = append_place start g.more m.0 j m.1 in
@@ -158,24 +158,24 @@ module _ (d : Status) (E : ℕ → ℕ → Type 0) (P : ℕ → Type 0) (place :
     ];
   }
 
-  pub IsWalked-end : (now : List Status) (log : List ℕ) (next : ℕ) → IsWalked d E P place old start now log next
-      → length log ≤ next → (j k : ℕ) → E j k → Is now d j → Is now d k
-  IsWalked-end now log next w le j k e h = elim (w.followed j k e h)
-      [ inl so ↦ so | inr p ↦ absurd (omega (arith, le, p.1, slice_get_within log p.0 j p.2)) ]
+  pub IsWalked-end : (now : List Status) (queue : List ℕ) (next : ℕ) → IsWalked d E P place old start now queue next
+      → length queue ≤ next → (j k : ℕ) → E j k → Is now d j → Is now d k
+  IsWalked-end now queue next w le j k e h = elim (w.followed j k e h)
+      [ inl so ↦ so | inr p ↦ absurd (omega (arith, le, p.1, slice_get_within queue p.0 j p.2)) ]
 
   module _ (step : (j k : ℕ) → E j k → P j → P k) (free : (j k : ℕ) → E j k → Is old Undecided j
-      → Is old d k ⊎ Is old Undecided k) (now : List Status) (log : List ℕ) (next : ℕ)
-      (w : IsWalked d E P place old start now log next) (one : ℕ) (at : slice_get log next ≡ Some one) where
+      → Is old d k ⊎ Is old Undecided k) (now : List Status) (queue : List ℕ) (next : ℕ)
+      (w : IsWalked d E P place old start now queue next) (one : ℕ) (at : slice_get queue next ≡ Some one) where
     pub waited : Is old Undecided one × Is now d one × P one
-    waited = w.grows.logged one (append_behind start w.grows.more next one w.from
+    waited = w.grows.queued one (append_behind start w.grows.more next one w.from
         (subst (λ xs. slice_get xs next ≡ Some one) w.grows.longer at))
 
-    pub IsWalked-grows : (new : List Status) (after : List ℕ) → Grows (E one) d now log new after
+    pub IsWalked-grows : (new : List Status) (after : List ℕ) → Grows (E one) d now queue new after
         → Grows P d old start new after
-    IsWalked-grows new after g = Grows-then d P old now new start log after w.grows
-        (Grows-wider d (E one) P now new log after (λ k e. step one k e waited.2) g)
+    IsWalked-grows new after g = Grows-then d P old now new start queue after w.grows
+        (Grows-wider d (E one) P now new queue after (λ k e. step one k e waited.2) g)
 
-    pub IsWalked-step : (new : List Status) (after : List ℕ) → Grows (E one) d now log new after
+    pub IsWalked-step : (new : List Status) (after : List ℕ) → Grows (E one) d now queue new after
         → AreTaken (E one) d now new → IsWalked d E P place old start new after (next + 1)
     IsWalked-step new after g taken = record {
       grows = IsWalked-grows new after g;
@@ -186,32 +186,32 @@ module _ (d : Status) (E : ℕ → ℕ → Type 0) (P : ℕ → Type 0) (place :
           | inl so ↦ inl (kept k so)
           | inr p ↦ elim (cases_eq p.0 next) [
             | inl is ↦ inl (reached k
-                (subst (λ q. E q k) (same_Some j one (sym (subst (λ m. slice_get log m ≡ Some j) is p.2) ∙ at)) e))
+                (subst (λ q. E q k) (same_Some j one (sym (subst (λ m. slice_get queue m ≡ Some j) is p.2) ∙ at)) e))
             | inr ne ↦ inr (
               p.0,
               omega (arith, p.1, ne),
               subst (λ xs. slice_get xs p.0 ≡ Some j) (sym g.longer)
-                  (slice_get-append log g.more p.0 j p.2),
+                  (slice_get-append queue g.more p.0 j p.2),
             )
           ]
         ]
         | inr q ↦
             let m = place_from_Contains g.more j q.3 in
-            let r = append_place log g.more m.0 j m.1 in
+            let r = append_place queue g.more m.0 j m.1 in
             inr (
               r.0,
-              omega (arith, r.1, slice_get_within log next one at),
+              omega (arith, r.1, slice_get_within queue next one at),
               subst (λ xs. slice_get xs r.0 ≡ Some j) (sym g.longer) r.2,
             )
       ];
     }
       where
         kept : (k : ℕ) → Is now d k → Is new d k
-        kept k h = Grows-so d (E one) now new log after g k h
+        kept k h = Grows-so d (E one) now new queue after g k h
 
         reached : (k : ℕ) → E one k → Is new d k
         reached k e = elim (free one k e waited.0) [
-          | inl so ↦ kept k (Grows-so d P old now start log w.grows k so)
+          | inl so ↦ kept k (Grows-so d P old now start queue w.grows k so)
           | inr u ↦ elim (w.grows.changed k) [ inl s ↦ taken k e (s ∙ u) | inr h ↦ kept k h.1 ]
         ]
 
@@ -262,37 +262,37 @@ reach_down ps Q step k j itself h = h
 reach_down ps Q step k j (below {p = p} u q) h = step p j q (reach_down ps Q step k p u h)
 
 module _ (ps : List ParentPlaces) (place : ℕ) (old : List Status) (start : List ℕ) (closed : IsClosed ps old)
-    (now : List Status) (log : List ℕ) (next : ℕ) (le : length log ≤ next) where
-  pub walked_common : IsWalked Common (ToParent ps) (Below ps place) place old start now log next
+    (now : List Status) (queue : List ℕ) (next : ℕ) (le : length queue ≤ next) where
+  pub walked_common : IsWalked Common (ToParent ps) (Below ps place) place old start now queue next
       → IsDecided ps place true old now
   walked_common w = record {
     len = w.grows.len;
     common = λ j. (
       λ h. elim (w.grows.changed j) [ inl s ↦ inl (sym s ∙ h) | inr q ↦ inr (refl, q.0, q.2) ],
       λ h. elim h [
-        | inl o ↦ Grows-so Common (Below ps place) old now start log w.grows j o
+        | inl o ↦ Grows-so Common (Below ps place) old now start queue w.grows j o
         | inr u ↦ reach_up ps (Is now Common) (IsWalked-end Common (ToParent ps)
-            (Below ps place) place old start closed.common now log next w le) j place u.2 w.begun
+            (Below ps place) place old start closed.common now queue next w le) j place u.2 w.begun
       ],
     );
     missing = λ j. (
-      λ h. inl (Grows-from Common (Below ps place) old now start log w.grows Missing j (λ e. cc) h),
+      λ h. inl (Grows-from Common (Below ps place) old now start queue w.grows Missing j (λ e. cc) h),
       λ h. elim h [
-        | inl o ↦ Grows-kept Common (Below ps place) old now start log w.grows Missing j
+        | inl o ↦ Grows-kept Common (Below ps place) old now start queue w.grows Missing j
             (λ e. cc) o
         | inr u ↦ absurd (true≢false u.0)
       ],
     );
   }
 
-  pub walked_missing : IsWalked Missing (ToChild ps) (IsUnder ps place) place old start now log next
+  pub walked_missing : IsWalked Missing (ToChild ps) (IsUnder ps place) place old start now queue next
       → IsDecided ps place false old now
   walked_missing w = record {
     len = w.grows.len;
     common = λ j. (
-      λ h. inl (Grows-from Missing (IsUnder ps place) old now start log w.grows Common j (λ e. cc) h),
+      λ h. inl (Grows-from Missing (IsUnder ps place) old now start queue w.grows Common j (λ e. cc) h),
       λ h. elim h [
-        | inl o ↦ Grows-kept Missing (IsUnder ps place) old now start log w.grows Common j
+        | inl o ↦ Grows-kept Missing (IsUnder ps place) old now start queue w.grows Common j
             (λ e. cc) o
         | inr u ↦ absurd (true≢false (sym u.0))
       ],
@@ -300,9 +300,9 @@ module _ (ps : List ParentPlaces) (place : ℕ) (old : List Status) (start : Lis
     missing = λ j. (
       λ h. elim (w.grows.changed j) [ inl s ↦ inl (sym s ∙ h) | inr q ↦ inr (refl, q.0, q.2) ],
       λ h. elim h [
-        | inl o ↦ Grows-so Missing (IsUnder ps place) old now start log w.grows j o
+        | inl o ↦ Grows-so Missing (IsUnder ps place) old now start queue w.grows j o
         | inr u ↦ reach_down ps (Is now Missing) (IsWalked-end Missing (ToChild ps) (IsUnder ps place) place old start
-            (λ p k q m. closed.missing k p q m) now log next w le) place j u.2 w.begun
+            (λ p k q m. closed.missing k p q m) now queue next w le) place j u.2 w.begun
       ],
     );
   }
@@ -347,72 +347,56 @@ module _ (d : Status) (ps : List ParentPlaces) (one : ℕ) (a b : List Status) (
     pub parents_taken : AreTaken (IsOneOf p) d a b → AreTaken (ToParent ps one) d a b
     parents_taken taken q h u = taken q (subst (λ x. IsOneOf x q) (same_Some h.0 p (sym h.1 ∙ at)) h.2) u
 
-  module _ (base : List Status) (children : List ℕ) (left : List Stretch) (family : IsFamily ps base children left)
-      (s : Stretch) (at : slice_get left one ≡ Some s) where
-    pub children_grow : Grows (Stands children s.from s.to) d a k b l → Grows (ToChild ps one) d a k b l
-    children_grow g = Grows-wider d (Stands children s.from s.to) (ToChild ps one) a b k l
-        (λ q h. family.sound one s q at h) g
+  module _ (places : List ℕ) (stretches : List Stretch) (children : AreChildren ps places stretches)
+      (s : Stretch) (at : slice_get stretches one ≡ Some s) where
+    pub children_grow : Grows (Stands places s.from s.to) d a k b l → Grows (ToChild ps one) d a k b l
+    children_grow g = Grows-wider d (Stands places s.from s.to) (ToChild ps one) a b k l
+        (λ q h. (children.exact one s q at).0 h) g
 
-    pub children_taken : ((q : ℕ) → Is a Undecided q → Is base Undecided q)
-        → AreTaken (Stands children s.from s.to) d a b → AreTaken (ToChild ps one) d a b
-    children_taken before taken q h u = taken q (family.complete one s q at h (before q u)) u
-
-pub undecided_still : (d : Status) (P : ℕ → Type 0) (a b : List Status) (k l : List ℕ) → Grows P d a k b l → (q : ℕ)
-    → Is b Undecided q → Is a Undecided q
-undecided_still d P a b k l g q u = elim (g.changed q) [ inl s ↦ sym s ∙ u | inr h ↦ h.0 ]
+    pub children_taken : AreTaken (Stands places s.from s.to) d a b → AreTaken (ToChild ps one) d a b
+    children_taken taken q h u = taken q ((children.exact one s q at).1 h) u
 
 -- what was read at an index
 pub read : {X : Type 0} (xs : List X) (i : ℕ) (x : X) → i < length xs → x ≡ get_or xs i x → slice_get xs i ≡ Some x
 read xs i x l e = slice_get-get_or xs i x l ∙ ap (λ y. Some y) (sym e)
 
 module _ (ps : List ParentPlaces) (old : List Status) (len : length old ≡ length ps) (order : IsInOrder ps)
-    (closed : IsClosed ps old) (place : ℕ) (start : List ℕ) (now : List Status) (log : List ℕ) (next one : ℕ)
-    (at : slice_get log next ≡ Some one) where
-  module _ (w : IsWalked Common (ToParent ps) (Below ps place) place old start now log next) where
+    (closed : IsClosed ps old) (place : ℕ) (start : List ℕ) (now : List Status) (queue : List ℕ) (next one : ℕ)
+    (at : slice_get queue next ≡ Some one) where
+  module _ (w : IsWalked Common (ToParent ps) (Below ps place) place old start now queue next) where
     pub up_within : one < length ps
     up_within =
         let was = waited Common (ToParent ps) (Below ps place) place old start closed.common (up_step ps place)
-        (up_free ps old len order closed) now log next w one at in
+        (up_free ps old len order closed) now queue next w one at in
         omega (arith, len, slice_get_within old one Undecided was.0)
 
     module _ (p : ParentPlaces) (at_one : slice_get ps one ≡ Some p) (new : List Status) (after : List ℕ)
-        (g : Grows (IsOneOf p) Common now log new after) where
-      pub up_grows : Grows (Below ps place) Common old start new after
-      up_grows = IsWalked-grows Common (ToParent ps) (Below ps place) place old start closed.common (up_step ps place)
-          (up_free ps old len order closed) now log next w one at new after
-          (parents_grow Common ps one now new log after p at_one g)
-
+        (g : Grows (IsOneOf p) Common now queue new after) where
       pub up_walked : AreTaken (IsOneOf p) Common now new → IsWalked Common (ToParent ps)
           (Below ps place) place old start new after (next + 1)
       up_walked taken =
           IsWalked-step Common (ToParent ps) (Below ps place) place old start closed.common (up_step ps place)
-          (up_free ps old len order closed) now log next w one at new after
-          (parents_grow Common ps one now new log after p at_one g)
-          (parents_taken Common ps one now new log after p at_one taken)
+          (up_free ps old len order closed) now queue next w one at new after
+          (parents_grow Common ps one now new queue after p at_one g)
+          (parents_taken Common ps one now new queue after p at_one taken)
 
-  module _ (w : IsWalked Missing (ToChild ps) (IsUnder ps place) place old start now log next) where
+  module _ (w : IsWalked Missing (ToChild ps) (IsUnder ps place) place old start now queue next) where
     down_closed : (j k : ℕ) → IsParentAt ps k j → Is old Missing j → Is old Missing k
     down_closed j k q m = closed.missing k j q m
 
     pub down_within : one < length ps
     down_within =
         let was = waited Missing (ToChild ps) (IsUnder ps place) place old start down_closed (down_step ps place)
-        (down_free ps old len order closed) now log next w one at in
+        (down_free ps old len order closed) now queue next w one at in
         omega (arith, len, slice_get_within old one Undecided was.0)
 
-    module _ (children : List ℕ) (left : List Stretch) (family : IsFamily ps old children left) (s : Stretch)
-        (at_one : slice_get left one ≡ Some s) (new : List Status) (after : List ℕ)
-        (g : Grows (Stands children s.from s.to) Missing now log new after) where
-      pub down_grows : Grows (IsUnder ps place) Missing old start new after
-      down_grows = IsWalked-grows Missing (ToChild ps) (IsUnder ps place) place old start down_closed
-          (down_step ps place) (down_free ps old len order closed) now log next w one at new after
-          (children_grow Missing ps one now new log after old children left family s at_one g)
-
-      pub down_walked : AreTaken (Stands children s.from s.to) Missing now new
+    module _ (places : List ℕ) (stretches : List Stretch) (children : AreChildren ps places stretches) (s : Stretch)
+        (at_one : slice_get stretches one ≡ Some s) (new : List Status) (after : List ℕ)
+        (g : Grows (Stands places s.from s.to) Missing now queue new after) where
+      pub down_walked : AreTaken (Stands places s.from s.to) Missing now new
           → IsWalked Missing (ToChild ps) (IsUnder ps place) place old start new after (next + 1)
       down_walked taken =
           IsWalked-step Missing (ToChild ps) (IsUnder ps place) place old start down_closed (down_step ps place)
-          (down_free ps old len order closed) now log next w one at new after
-          (children_grow Missing ps one now new log after old children left family s at_one g)
-          (children_taken Missing ps one now new log after old children left family s at_one
-          (undecided_still Missing (IsUnder ps place) old now start log w.grows) taken)
+          (down_free ps old len order closed) now queue next w one at new after
+          (children_grow Missing ps one now new queue after places stretches children s at_one g)
+          (children_taken Missing ps one now new queue after places stretches children s at_one taken)

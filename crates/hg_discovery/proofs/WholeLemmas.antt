@@ -1,6 +1,6 @@
 -- Rounds that are all answered from one state, where what is served is closed under ancestors.
 use Rattle.std.proofs.Common.{◌≡◌, ◌≢◌, ◌↔◌, ◌⊎◌, ℕ, zero, suc, ◌<◌, ◌≤◌, ◌+◌, ◌-◌, inl, inr, Bool, true, false, List, []}
-use Rattle.std.proofs.Common.{◌∷◌, ◌++◌, length, filter, take, set, slice_get, Option, Some, None}
+use Rattle.std.proofs.Common.{◌∷◌, length, set, slice_get, Option, Some, None}
 use Rattle.std.proofs.Common.{MatchOption, IfSome, Contains, IsTrue, refl, sym, ap, subst, ◌∙◌, arith, true≢false}
 use Rattle.std.proofs.lemmas.Bool.{cases_eq, cases_lt, cases_order}
 use Rattle.std.proofs.lemmas.List.{length-map, length-set}
@@ -24,10 +24,9 @@ use Rattle.hg_discovery.specs.declared.status.Status.{Status}
 use Rattle.hg_discovery.specs.declared.status.Status.TheVariants.{Undecided, Common, Missing}
 use Rattle.hg_discovery.specs.declared.status.Spot.{Spot}
 use Rattle.hg_discovery.specs.Under.{IsOneOf, IsParentAt, IsUnder, IsInOrder, itself, below}
-use Rattle.hg_discovery.specs.Search.{Search, Is, IsHead, IsSample, Lists, IsSearch, IsClosed, AreSpots, nodes_of}
+use Rattle.hg_discovery.specs.Search.{Search, Is, IsAscending, IsHead, IsSample, Lists, IsSearch, IsClosed, AreSpots}
+use Rattle.hg_discovery.specs.Search.{nodes_of}
 use Rattle.hg_discovery.specs.Spread.{AreCovered, IsMarked}
-use Rattle.hg_discovery.specs.Picking.{is_picked}
-use Rattle.hg_discovery.specs.Order.{in_order}
 use Rattle.hg_discovery.specs.Answers.{IsDecided, AreTold, IsRound}
 use Rattle.hg_discovery.specs.Rounds.{AreAnswers, undecided}
 use Rattle.hg_discovery.specs.Start.{IsGround, IsStart}
@@ -39,8 +38,7 @@ use Rattle.hg_discovery.proofs.ToldLemmas.{told_length, all_closed, spots_after,
 use Rattle.hg_discovery.proofs.CountLemmas.{some_undecided, round_count}
 use Rattle.hg_discovery.proofs.KnownLemmas.{known_none}
 use Rattle.hg_discovery.proofs.RoundLemmas.{node_at, asked_spot}
-use Rattle.hg_discovery.proofs.SampleLemmas.{marks_exist}
-use Rattle.hg_discovery.proofs.LeastLemmas.{least_sample}
+use Rattle.hg_discovery.proofs.SampleLemmas.{drawn, drawn_sample, marks_exist}
 use Rattle.hg_discovery.proofs.BetweenLemmas.{IsAskedSoFar, IsAskedSoFar-start, IsAskedSoFar-round, IsAskedSoFar-done}
 
 -- ---- whether one is an ancestor can be told
@@ -319,11 +317,6 @@ module _ (P : Node → Type 0) where
 
 -- ---- rounds
 
--- the first 200 of the heads and then of the others
-abbrev drawn : List Status → List Bool → List Spot → List Spot
-drawn ds marks xs = take 200 (in_order (filter (is_picked ds marks Undecided false) xs)
-    ++ in_order (filter (is_picked ds marks Undecided true) xs))
-
 module _ (P : Node → Type 0) (tell : (n : Node) → P n ⊎ (P n → ⊥)) where
   record HasRound (s : Search) : Type 0 where
     pub answers : List Bool
@@ -331,8 +324,8 @@ module _ (P : Node → Type 0) (tell : (n : Node) → P n ⊎ (P n → ⊥)) whe
     pub round : IsRound s answers next
     pub are : AreAnswers P (nodes_of s.asked) answers
 
-  round_exists : (s : Search) → IsSearch s → HasRound s
-  round_exists s known =
+  round_exists : (s : Search) → IsSearch s → IsAscending s.spots → HasRound s
+  round_exists s known ascending =
       let said = answers_exist P tell (nodes_of s.asked) in
       let told = told_exists s.parents known.in_order s.asked said.0 s.decided
       (said.1.0 ∙ length-map s.asked (λ x. x.node)) in
@@ -354,15 +347,16 @@ module _ (P : Node → Type 0) (tell : (n : Node) → P n ⊎ (P n → ⊥)) whe
             in_order = known.in_order;
             spots = spots;
             closed = closed;
-            sample = least_sample s.parents new s.spots asked spots len known.in_order closed marks.0 marks.1 refl;
+            sample = drawn_sample s.parents new s.spots asked len known.in_order closed spots ascending marks.0 marks.1
+                refl;
           };
         };
         are = said.1;
       }
 
   -- what is decided on the way is decided so at the end
-  module _ (ps : List ParentPlaces) (xs : List Spot) (last : List Status) (closed : IsClosed ps last)
-      (told : (x : Spot) → Contains xs x → (P x.node → Is last Common x.place)
+  module _ (ps : List ParentPlaces) (xs : List Spot) (ascending : IsAscending xs) (last : List Status)
+      (closed : IsClosed ps last) (told : (x : Spot) → Contains xs x → (P x.node → Is last Common x.place)
       × ((P x.node → ⊥) → Is last Missing x.place)) where
     record IsOnWay (s : Search) : Type 0 where
       pub search : IsSearch s
@@ -399,7 +393,7 @@ module _ (P : Node → Type 0) (tell : (n : Node) → P n ⊎ (P n → ⊥)) whe
     end_of (suc n) ours s le so_far way = elim (cases_eq (undecided s.decided) 0) [
       | inl e ↦ (s, so_far, way, e)
       | inr ne ↦
-          let r = round_exists s way.search in
+          let r = round_exists s way.search (subst IsAscending (sym way.spots) ascending) in
           let fewer = round_count s r.next r.answers way.search r.round in
           end_of n ours r.next (omega (arith, le, ne, fewer))
           (IsAskedSoFar-round P ours s r.next r.answers so_far r.round r.are) (next_on_way s way r)
@@ -500,8 +494,9 @@ module _ (ours theirs : ReplicaState) (pins : List Node) (ps : List ParentPlaces
   start = record { parents = ps; spots = xs; decided = ds; asked = drawn ds first_marks.0 xs }
 
   starts : IsStart ours.history start
-  starts = started ours.history ps xs ds ground (drawn ds first_marks.0 xs) (least_sample ps ds xs
-      (drawn ds first_marks.0 xs) ground.spots ground.len ground.in_order ground.closed first_marks.0 first_marks.1 refl)
+  starts = started ours.history ps xs ds ground (drawn ds first_marks.0 xs)
+      (drawn_sample ps ds xs (drawn ds first_marks.0 xs) ground.len ground.in_order ground.closed ground.spots
+      ground.ascending first_marks.0 first_marks.1 refl)
 
   -- what is missing at first is no spot
   missing_first : (k : ℕ) → Is ds Missing k → Is last Missing k
@@ -519,7 +514,7 @@ module _ (ours theirs : ReplicaState) (pins : List Node) (ps : List ParentPlaces
       → AreHeadsInCommon ours theirs pins (nodes_of heads)
   told_in_common exact =
       let tell : (n : Node) → P n ⊎ (P n → ⊥) = λ n. marked_or_not (changesets theirs.history) served n in
-      let all = end_of P tell ps xs last closed told_apart (undecided ds) ours start (omega arith)
+      let all = end_of P tell ps xs ground.ascending last closed told_apart (undecided ds) ours start (omega arith)
       (IsAskedSoFar-start P ours start starts)
       (record {
         search = starts.search;
@@ -529,7 +524,7 @@ module _ (ours theirs : ReplicaState) (pins : List Node) (ps : List ParentPlaces
         missing = missing_first;
       }) in
       let t = all.0 in
-      let same = end_common P tell ps xs last closed told_apart t all.2 all.3 (len ∙ ground.len) in (
+      let same = end_common P tell ps xs ground.ascending last closed told_apart t all.2 all.3 (len ∙ ground.len) in (
         t,
         IsAskedSoFar-done P ours theirs pins t all.1 all.3 exact,
         (

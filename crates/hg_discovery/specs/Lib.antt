@@ -5,13 +5,11 @@ pub mod Answers
 pub mod Picking
 pub mod Start
 pub mod Rounds
-pub mod Log
-pub mod Family
-pub mod Cursor
+pub mod Queue
+pub mod Children
 pub mod Between
 pub mod Refusals
 pub mod Order
-pub mod Line
 pub mod Heads
 pub mod Whole
 pub mod Compared

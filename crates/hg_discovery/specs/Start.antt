@@ -9,14 +9,14 @@ use Rattle.hg_discovery.specs.declared.status.Status.{Status}
 use Rattle.hg_discovery.specs.declared.status.Status.TheVariants.{Undecided, Common}
 use Rattle.hg_discovery.specs.declared.status.Spot.{Spot}
 use Rattle.hg_discovery.specs.Under.{IsShapeOf, IsInOrder}
-use Rattle.hg_discovery.specs.Search.{Search, Is, IsSearch, IsClosed, AreSpots, IsHead, Lists, nodes_of}
+use Rattle.hg_discovery.specs.Search.{Search, Is, IsSearch, IsAscending, IsClosed, AreSpots, IsHead, Lists, nodes_of}
 
 -- a changeset that isn't secret, and its place
 abbrev pub IsShared : State → Spot → Type 0
 IsShared s x = IsAt (changesets s) x.node x.place × (IsPhaseOf s x.node Secret → ⊥)
 
--- what a discovery of the replica begins upon: its parents' places, its changesets that aren't secret, and these as
--- undecided
+-- what a discovery of the replica begins upon: its parents' places, its changesets that aren't secret, ascending, and
+-- these as undecided
 pub record IsGround (s : State) (ps : List ParentPlaces) (xs : List Spot) (ds : List Status) : Type 0 where
   pub shape : IsShapeOf (changesets s) ps
   pub shared : (x : Spot) → Contains xs x ↔ IsShared s x
@@ -26,6 +26,7 @@ pub record IsGround (s : State) (ps : List ParentPlaces) (xs : List Spot) (ds : 
   pub in_order : IsInOrder ps
   pub closed : IsClosed ps ds
   pub spots : AreSpots ds xs
+  pub ascending : IsAscending xs
 
 -- the changesets that aren't secret are undecided, and nothing is common
 pub record IsStart (s : State) (t : Search) : Type 0 where

@@ -1,21 +1,14 @@
 //! A discovery, from its start to its end.
-ghost use Rattle.std.specs.Prelude.{◌≡◌, ℕ, ◌↔◌, ◌≤◌, ◌-◌, IfOk, OnOk, OnErr, IsTrue, [], length};
-ghost use Rattle.hg_discovery.specs.declared.status.Status.TheVariants.{Undecided};
-ghost use Rattle.hg_discovery.specs.Search.{IsClosed, IsSearch, nodes_of};
-ghost use Rattle.hg_discovery.specs.Answers.{AnswerAnswer, AreTold};
-ghost use Rattle.hg_discovery.specs.Family.{IsFamily};
-ghost use Rattle.hg_discovery.specs.Line.{IsLine, IsLineIfMade};
-ghost use Rattle.hg_discovery.specs.Cursor.{AreDecidedTo};
-ghost use Rattle.hg_discovery.specs.Log.{KeepsLog};
+ghost use Rattle.std.specs.Prelude.{◌≡◌, ◌↔◌, ◌≤◌, ◌-◌, IfOk, OnOk, IsTrue};
+ghost use Rattle.hg_discovery.specs.Search.{IsSearch, nodes_of};
+ghost use Rattle.hg_discovery.specs.Answers.{AnswerAnswer};
 ghost use Rattle.hg_discovery.specs.Rounds.{undecided};
-ghost use Rattle.hg_discovery.specs.Spread.{AreCovered};
-ghost use Rattle.hg_discovery.specs.Start.{IsStart, IsGround, AreCommonHeads};
+ghost use Rattle.hg_discovery.specs.Start.{IsStart, AreCommonHeads};
 
-use crate::draw::{SAMPLE, common_heads, covered, first_sample, first_undecided_spot, sample};
+use crate::children::{Children, children_of};
+use crate::draw::{common_heads, sample};
 use crate::error::DiscoveryError;
-use crate::family::{Family, family_of};
-use crate::line::{Line, line_up};
-use crate::spread::{take_back, tell_all};
+use crate::spread::answered;
 use crate::start::{Ground, ground_of};
 use crate::status::{Spot, Status};
 use hg_changeset::Node;
@@ -29,11 +22,12 @@ use std::marker::Model;
 /// It is of the asker's changesets that weren't secret when it began. Both sides may go on in the meantime.
 pub struct Discovery {
     parents: Vec<ParentPlaces>,
+    children: Children,
+
+    // Ascending.
     spots: Vec<Spot>,
     decided: Vec<Status>,
     asked: Vec<Spot>,
-    family: Family,
-    line: Line,
     alloc: Global,
 }
 
@@ -42,11 +36,10 @@ impl Drop for Discovery {
     fn drop(self) {
         let Discovery {
             parents: _,
+            children: _,
             spots: _,
             decided: _,
             asked: _,
-            family: _,
-            line: _,
             alloc: _,
         } = self;
     }
@@ -54,9 +47,8 @@ impl Drop for Discovery {
 
 impl Model for Discovery {
     ghost use Rattle.std.specs.Coded.{codes};
-    ghost use Rattle.hg_discovery.specs.Search.{Search, IsSearch};
-    ghost use Rattle.hg_discovery.specs.Family.{IsFamily};
-    ghost use Rattle.hg_discovery.specs.Line.{IsLineIfMade};
+    ghost use Rattle.hg_discovery.specs.Children.{AreChildren};
+    ghost use Rattle.hg_discovery.specs.Search.{Search, IsAscending, IsSearch};
 
     ghost Value = { Search };
 
@@ -75,8 +67,8 @@ impl Model for Discovery {
           spots = d.spots.items;
           decided = d.decided.items;
           asked = d.asked.items;
-        }) × IsFamily d.parents.items d.decided.items d.family.children.items
-        d.family.left.items × IsLineIfMade d.decided.items d.spots.items d.line };
+        }) × AreChildren d.parents.items d.children.places.items
+        d.children.stretches.items × IsAscending d.spots.items };
 }
 
 impl Discovery {
@@ -85,41 +77,19 @@ impl Discovery {
         ensures { IfOk result (IsStart replica.now.history) }
     {
         let ground = ground_of(alloc, replica)?;
-        let marks = covered(alloc, &ground.parents, &ground.decided, Status::Undecided)?;
-        let discovery = Discovery::upon(alloc, replica, ground, &marks)?;
-        Ok(discovery)
-    }
-
-    // Begins upon what was found of the replica, where the changesets are marked that have an undecided child.
-    fn upon(
-        alloc: Global,
-        replica: &Replica,
-        ground: Ground,
-        marks: &[bool],
-    ) -> Result<Discovery, AllocError>
-        requires ground { IsGround replica.now.history ground.parents.items ground.spots.items ground.decided.items }
-        requires marks { AreCovered ground.parents.items ground.decided.items Undecided marks.now }
-        ensures { IfOk result (IsStart replica.now.history) }
-    {
+        let children = children_of(alloc, replica.graph())?;
+        let asked = sample(alloc, &ground.parents, &ground.spots, &ground.decided)?;
         let Ground {
             parents,
             spots,
             decided,
         } = ground;
-        let family = family_of(alloc, replica.graph())?;
-        let asked = first_sample(alloc, &spots, &decided, marks)?;
-        let line = Line {
-            spots: Vec::new(alloc),
-            from: 0,
-            is_made: false,
-        };
         Ok(Discovery {
             parents,
+            children,
             spots,
             decided,
             asked,
-            family,
-            line,
             alloc,
         })
     }
@@ -144,16 +114,16 @@ impl Discovery {
         if answers.len() != self.asked.len() {
             return Err(DiscoveryError::WrongCount);
         }
-        let asked = next_sample(
+        let decided = answered(
             self.alloc,
             &self.parents,
-            &mut self.family,
-            &self.spots,
+            &self.children,
             &self.asked,
             answers,
-            &mut self.decided,
-            &mut self.line,
+            &self.decided,
         )?;
+        let asked = sample(self.alloc, &self.parents, &self.spots, &decided)?;
+        self.decided = decided;
         self.asked = asked;
         Ok(())
     }
@@ -184,77 +154,4 @@ pub(crate) fn nodes(alloc: Global, spots: &[Spot]) -> Result<Vec<Node>, AllocErr
         nodes.push(spot.node)?;
     }
     Ok(nodes)
-}
-
-// Takes the answers to a sample in, and draws the next one. Where memory is refused, what was decided is taken back.
-fn next_sample(
-    alloc: Global,
-    parents: &[ParentPlaces],
-    family: &mut Family,
-    spots: &[Spot],
-    asked: &[Spot],
-    answers: &[bool],
-    decided: &mut [Status],
-    line: &mut Line,
-) -> Result<Vec<Spot>, AllocError>
-    requires search { IsSearch
-        (record { parents = parents.now; spots = spots.now; decided = decided.old; asked = asked.now }) }
-    requires family { IsFamily parents.now decided.old family.old.children.items family.old.left.items }
-    requires made { IsLineIfMade decided.old spots.now line.old }
-    requires answers { length answers.now ≡ length asked.now }
-    ensures told { IfOk result (λ xs. AreTold parents.now asked.now answers.now decided.old decided.new) }
-    ensures search { IfOk result
-        (λ xs. IsSearch (record {
-          parents = parents.now;
-          spots = spots.now;
-          decided = decided.new;
-          asked = xs.items;
-        })) }
-    ensures err { OnErr result (decided.new ≡ decided.old) }
-    ensures family { IsFamily parents.now decided.new family.new.children.items family.new.left.items }
-    ensures made { IsLineIfMade decided.new spots.now line.new }
-{
-    let room = Vec::with_capacity(alloc, SAMPLE)?;
-    let mut log = Vec::new(alloc);
-    match tell_and_line_up(
-        alloc, parents, family, spots, asked, answers, decided, &mut log, line,
-    ) {
-        Ok(()) => {}
-        Err(refused) => {
-            take_back(&log, decided);
-            return Err(refused);
-        }
-    }
-    line.from = first_undecided_spot(&line.spots, decided, line.from);
-    Ok(sample(family, &line.spots, decided, line.from, room))
-}
-
-// Takes the answers to a sample in, and puts what is undecided then in line, unless that was done before.
-fn tell_and_line_up(
-    alloc: Global,
-    parents: &[ParentPlaces],
-    family: &Family,
-    spots: &[Spot],
-    asked: &[Spot],
-    answers: &[bool],
-    decided: &mut [Status],
-    log: &mut Vec<usize>,
-    line: &mut Line,
-) -> Result<(), AllocError>
-    requires search { IsSearch
-        (record { parents = parents.now; spots = spots.now; decided = decided.old; asked = asked.now }) }
-    requires family { IsFamily parents.now decided.old family.now.children.items family.now.left.items }
-    requires made { IsLineIfMade decided.old spots.now line.old }
-    requires answers { length answers.now ≡ length asked.now }
-    ensures told { OnOk result (AreTold parents.now asked.now answers.now decided.old decided.new) }
-    ensures closed { OnOk result (IsClosed parents.now decided.new) }
-    ensures len { length decided.new ≡ length decided.old }
-    ensures log { KeepsLog decided.old log.old.items decided.new log.new.items }
-    ensures line { OnOk result (IsLine decided.new spots.now line.new.spots.items) }
-    ensures from { OnOk result (AreDecidedTo decided.new line.new.spots.items line.new.from) }
-    ensures err { OnErr result (line.new ≡ line.old) }
-{
-    tell_all(parents, family, asked, answers, decided, log)?;
-    line_up(alloc, spots, decided, line)?;
-    Ok(())
 }

@@ -6,16 +6,13 @@
 //! children. An answer is spread by a walk that stops at what is decided, so all answers together cost what they
 //! decide.
 //!
-//! The first sample keeps the least 200 heads, and the least 200 others, of what comes in the graph's order. Its
-//! answers decide all where there are at most 200 heads and the other side serves them. What they leave undecided is
-//! put in the order of ids; each further sample is drawn from the first undecided changeset on in that line, and ends
-//! where it is full.
+//! Ids are put in order once, at the start. A round costs one sweep over what the asker holds, to mark what has an
+//! undecided child, and what its answers decide.
 //!
 //! The asker calls [`Discovery`], and the other side answers by [`known`], under its pins. Both may go on in the
-//! meantime. Where both stand in one process, [`heads_in_common`] does all of it. Where the asker has at most 200
-//! heads, and the other side serves each, all is in common. Otherwise a walk down from these heads, where no changeset
-//! of the one side collides with one of the other, or a look-up of each of the asker's changesets, tells without rounds
-//! where they would end.
+//! meantime. Where both stand in one process, [`heads_in_common_compared`] does all of it by a walk down from the
+//! asker's changesets without a child; where that would be long, by a look-up of each of its changesets; and by rounds
+//! where one id stands for two changesets.
 //!
 //! # Example
 //!
@@ -41,14 +38,13 @@
 
 mod answers;
 mod between;
+mod children;
 mod compared;
 mod discovery;
 mod draw;
 mod error;
-mod family;
 mod heads;
 mod laws;
-mod line;
 mod order;
 mod spread;
 mod start;
@@ -56,7 +52,7 @@ mod status;
 mod whole;
 
 pub use answers::{known, known_kept};
-pub use between::{heads_in_common, heads_in_common_compared, heads_in_common_kept};
+pub use between::heads_in_common_compared;
 pub use compared::Compared;
 pub use discovery::Discovery;
 pub use error::DiscoveryError;

@@ -1,77 +1,97 @@
 //! What one round's answers decide.
 //!
-//! An answer is spread by a walk: places that it has decided are logged, and the log is what waits for the walk, too.
-//! So it costs what it decides; and where memory is refused, what the log names becomes undecided again.
-ghost use Rattle.std.specs.Prelude.{◌≡◌, ◌≢◌, ℕ, ◌≤◌, ◌<◌, true, false, List, Some, length, Contains, OnOk};
+//! An answer is spread by a walk: the places that it decides are queued, and from each the walk goes on to what is
+//! undecided beside it. So all walks together cost what they decide. They decide in a copy, since nothing changes where
+//! memory is refused.
+ghost use Rattle.std.specs.Prelude.{◌≡◌, ◌≢◌, ◌≤◌, true, false, Some, length, OnOk, IfOk};
 ghost use Rattle.hg_discovery.specs.declared.status.Status.TheVariants.{Undecided, Common, Missing};
-ghost use Rattle.hg_discovery.specs.Under.{IsInOrder, IsOneOf, IsParentAt};
+ghost use Rattle.hg_discovery.specs.Under.{IsInOrder, IsOneOf};
 ghost use Rattle.hg_discovery.specs.Search.{Is, IsClosed};
 ghost use Rattle.hg_discovery.specs.Answers.{IsTold, AreTold, IsDecided};
-ghost use Rattle.hg_discovery.specs.Family.{IsFamily, Stands};
-ghost use Rattle.hg_discovery.specs.Log.{Grows, AreTaken, IsLogged, KeepsLog};
+ghost use Rattle.hg_discovery.specs.Children.{AreChildren, Stands};
+ghost use Rattle.hg_discovery.specs.Queue.{Grows, AreTaken};
 
-use crate::family::{Family, Stretch};
+use crate::children::{Children, Stretch};
 use crate::status::{Spot, Status};
 use hg_graph::ParentPlaces;
-use std::alloc::AllocError;
+use std::alloc::{AllocError, Global};
+
+// What is decided once a sample is answered.
+pub(crate) fn answered(
+    alloc: Global,
+    parents: &[ParentPlaces],
+    children: &Children,
+    asked: &[Spot],
+    answers: &[bool],
+    decided: &[Status],
+) -> Result<Vec<Status>, AllocError>
+    requires in_order { IsInOrder parents.now }
+    requires len { length decided.now ≡ length parents.now }
+    requires closed { IsClosed parents.now decided.now }
+    requires children { AreChildren parents.now children.now.places.items children.now.stretches.items }
+    requires answers { length answers.now ≡ length asked.now }
+    ensures told { IfOk result (λ new. AreTold parents.now asked.now answers.now decided.now new.items) }
+    ensures closed { IfOk result (λ new. IsClosed parents.now new.items) }
+    ensures len { IfOk result (λ new. length new.items ≡ length decided.now) }
+{
+    let mut decided = Vec::from_slice(alloc, decided)?;
+    let mut queue = Vec::new(alloc);
+    tell_all(parents, children, asked, answers, &mut decided, &mut queue)?;
+    Ok(decided)
+}
 
 // The answers to a sample, one by one, in its order.
-pub(crate) fn tell_all(
+fn tell_all(
     parents: &[ParentPlaces],
-    family: &Family,
+    children: &Children,
     asked: &[Spot],
     answers: &[bool],
     decided: &mut [Status],
-    log: &mut Vec<usize>,
+    queue: &mut Vec<usize>,
 ) -> Result<(), AllocError>
     requires in_order { IsInOrder parents.now }
     requires len { length decided.old ≡ length parents.now }
     requires closed { IsClosed parents.now decided.old }
-    requires family { IsFamily parents.now decided.old family.now.children.items family.now.left.items }
+    requires children { AreChildren parents.now children.now.places.items children.now.stretches.items }
     requires answers { length answers.now ≡ length asked.now }
     ensures told { OnOk result (AreTold parents.now asked.now answers.now decided.old decided.new) }
     ensures closed { OnOk result (IsClosed parents.now decided.new) }
     ensures len { length decided.new ≡ length decided.old }
-    ensures log { KeepsLog decided.old log.old.items decided.new log.new.items }
 {
     for i in 0..asked.len() {
-        tell(parents, family, asked[i].place, answers[i], decided, log)?;
+        tell(
+            parents,
+            children,
+            asked[i].place,
+            answers[i],
+            decided,
+            queue,
+        )?;
     }
     Ok(())
-}
-
-// Makes what is logged undecided again.
-pub(crate) fn take_back(log: &[usize], decided: &mut [Status])
-    requires { (k : ℕ) → Contains log.now k → k < length decided.old }
-    ensures { (base : List Status) → IsLogged base decided.old log.now → decided.new ≡ base }
-{
-    for place in log {
-        decided[*place] = Status::Undecided;
-    }
 }
 
 // One answer. What is decided already stays so.
 fn tell(
     parents: &[ParentPlaces],
-    family: &Family,
+    children: &Children,
     place: usize,
     yes: bool,
     decided: &mut [Status],
-    log: &mut Vec<usize>,
+    queue: &mut Vec<usize>,
 ) -> Result<(), AllocError>
     requires in_order { IsInOrder parents.now }
     requires len { length decided.old ≡ length parents.now }
     requires closed { IsClosed parents.now decided.old }
-    requires family { IsFamily parents.now decided.old family.now.children.items family.now.left.items }
+    requires children { AreChildren parents.now children.now.places.items children.now.stretches.items }
     ensures told { OnOk result (IsTold parents.now place yes decided.old decided.new) }
     ensures len { length decided.new ≡ length decided.old }
-    ensures log { KeepsLog decided.old log.old.items decided.new log.new.items }
 {
     if place < decided.len() && decided[place] == Status::Undecided {
         if yes {
-            make_common(parents, place, decided, log)?;
+            make_common(parents, place, decided, queue)?;
         } else {
-            make_missing(parents, family, place, decided, log)?;
+            make_missing(parents, children, place, decided, queue)?;
         }
     }
     Ok(())
@@ -82,7 +102,7 @@ fn make_common(
     parents: &[ParentPlaces],
     place: usize,
     decided: &mut [Status],
-    log: &mut Vec<usize>,
+    queue: &mut Vec<usize>,
 ) -> Result<(), AllocError>
     requires in_order { IsInOrder parents.now }
     requires len { length decided.old ≡ length parents.now }
@@ -90,12 +110,11 @@ fn make_common(
     requires undecided { Is decided.old Undecided place }
     ensures decided { OnOk result (IsDecided parents.now place true decided.old decided.new) }
     ensures len { length decided.new ≡ length decided.old }
-    ensures log { KeepsLog decided.old log.old.items decided.new log.new.items }
 {
-    let mut next = log.len();
-    decide(place, Status::Common, decided, log)?;
-    while next < log.len() {
-        decide_parents(parents[log[next]], decided, log)?;
+    let mut next = queue.len();
+    decide(place, Status::Common, decided, queue)?;
+    while next < queue.len() {
+        decide_parents(parents[queue[next]], decided, queue)?;
         next += 1;
     }
     Ok(())
@@ -104,24 +123,28 @@ fn make_common(
 // Makes an undecided changeset and its undecided descendants missing: a walk over children.
 fn make_missing(
     parents: &[ParentPlaces],
-    family: &Family,
+    children: &Children,
     place: usize,
     decided: &mut [Status],
-    log: &mut Vec<usize>,
+    queue: &mut Vec<usize>,
 ) -> Result<(), AllocError>
     requires in_order { IsInOrder parents.now }
     requires len { length decided.old ≡ length parents.now }
     requires closed { IsClosed parents.now decided.old }
-    requires family { IsFamily parents.now decided.old family.now.children.items family.now.left.items }
+    requires children { AreChildren parents.now children.now.places.items children.now.stretches.items }
     requires undecided { Is decided.old Undecided place }
     ensures decided { OnOk result (IsDecided parents.now place false decided.old decided.new) }
     ensures len { length decided.new ≡ length decided.old }
-    ensures log { KeepsLog decided.old log.old.items decided.new log.new.items }
 {
-    let mut next = log.len();
-    decide(place, Status::Missing, decided, log)?;
-    while next < log.len() {
-        decide_children(&family.children, family.left[log[next]], decided, log)?;
+    let mut next = queue.len();
+    decide(place, Status::Missing, decided, queue)?;
+    while next < queue.len() {
+        decide_children(
+            &children.places,
+            children.stretches[queue[next]],
+            decided,
+            queue,
+        )?;
         next += 1;
     }
     Ok(())
@@ -131,13 +154,13 @@ fn make_missing(
 fn decide_parents(
     parents: ParentPlaces,
     decided: &mut [Status],
-    log: &mut Vec<usize>,
+    queue: &mut Vec<usize>,
 ) -> Result<(), AllocError>
-    ensures grows { Grows (IsOneOf parents) Common decided.old log.old.items decided.new log.new.items }
+    ensures grows { Grows (IsOneOf parents) Common decided.old queue.old.items decided.new queue.new.items }
     ensures taken { OnOk result (AreTaken (IsOneOf parents) Common decided.old decided.new) }
 {
-    decide_parent(parents.first, decided, log)?;
-    decide_parent(parents.second, decided, log)?;
+    decide_parent(parents.first, decided, queue)?;
+    decide_parent(parents.second, decided, queue)?;
     Ok(())
 }
 
@@ -145,14 +168,14 @@ fn decide_parents(
 fn decide_parent(
     place: Option<usize>,
     decided: &mut [Status],
-    log: &mut Vec<usize>,
+    queue: &mut Vec<usize>,
 ) -> Result<(), AllocError>
-    ensures grows { Grows (λ k. place ≡ Some k) Common decided.old log.old.items decided.new log.new.items }
+    ensures grows { Grows (λ k. place ≡ Some k) Common decided.old queue.old.items decided.new queue.new.items }
     ensures taken { OnOk result (AreTaken (λ k. place ≡ Some k) Common decided.old decided.new) }
 {
     match place {
         Some(place) => {
-            decide(place, Status::Common, decided, log)?;
+            decide(place, Status::Common, decided, queue)?;
             Ok(())
         }
         None => Ok(()),
@@ -164,33 +187,33 @@ fn decide_children(
     children: &[usize],
     stretch: Stretch,
     decided: &mut [Status],
-    log: &mut Vec<usize>,
+    queue: &mut Vec<usize>,
 ) -> Result<(), AllocError>
     requires { stretch.to ≤ length children.now }
-    ensures grows { Grows (Stands children.now stretch.from stretch.to) Missing decided.old log.old.items decided.new
-        log.new.items }
+    ensures grows { Grows (Stands children.now stretch.from stretch.to) Missing decided.old queue.old.items decided.new
+        queue.new.items }
     ensures taken { OnOk result
         (AreTaken (Stands children.now stretch.from stretch.to) Missing decided.old decided.new) }
 {
     for i in stretch.from..stretch.to {
-        decide(children[i], Status::Missing, decided, log)?;
+        decide(children[i], Status::Missing, decided, queue)?;
     }
     Ok(())
 }
 
-// Decides an undecided changeset, and logs it.
+// Decides an undecided changeset, and queues it.
 fn decide(
     one: usize,
     status: Status,
     decided: &mut [Status],
-    log: &mut Vec<usize>,
+    queue: &mut Vec<usize>,
 ) -> Result<(), AllocError>
     requires { status ≢ Undecided }
-    ensures grows { Grows (λ k. one ≡ k) status decided.old log.old.items decided.new log.new.items }
+    ensures grows { Grows (λ k. one ≡ k) status decided.old queue.old.items decided.new queue.new.items }
     ensures taken { OnOk result (AreTaken (λ k. one ≡ k) status decided.old decided.new) }
 {
     if one < decided.len() && decided[one] == Status::Undecided {
-        log.push(one)?;
+        queue.push(one)?;
         decided[one] = status;
     }
     Ok(())

@@ -8,6 +8,7 @@ ghost use Rattle.hg_discovery.specs.Under.{IsShapeOf};
 ghost use Rattle.hg_discovery.specs.Search.{Is};
 ghost use Rattle.hg_discovery.specs.Start.{IsShared, IsGround};
 
+use crate::order::ascending;
 use crate::status::{Spot, Status};
 use hg_changeset::Node;
 use hg_graph::{Graph, ParentPlaces};
@@ -16,8 +17,8 @@ use hg_phases::Phase;
 use hg_replica::Replica;
 use std::alloc::{AllocError, Global};
 
-// What a discovery begins upon: where the parents of each changeset stand, the changesets that aren't secret, and these
-// as undecided.
+// What a discovery begins upon: where the parents of each changeset stand, the changesets that aren't secret,
+// ascending, and these as undecided.
 #[derive(Drop)]
 pub(crate) struct Ground {
     pub(crate) parents: Vec<ParentPlaces>,
@@ -31,7 +32,7 @@ pub(crate) fn ground_of(alloc: Global, replica: &Replica) -> Result<Ground, Allo
         ground.decided.items) }
 {
     let parents = parents_of(alloc, replica.graph())?;
-    let spots = shared(alloc, replica)?;
+    let spots = ascending(shared(alloc, replica)?);
     let decided = undecided(alloc, parents.len(), &spots)?;
     Ok(Ground {
         parents,

@@ -2,8 +2,7 @@
 use crate::scene::{ascending, chain, commit, many_roots, prune, stack};
 use hg_changeset::Node;
 use hg_discovery::{
-    Compared, Discovery, DiscoveryError, heads_in_common, heads_in_common_compared,
-    heads_in_common_kept, known, known_kept,
+    Compared, Discovery, DiscoveryError, heads_in_common_compared, known, known_kept,
 };
 use hg_phases::Phase;
 use hg_replica::Replica;
@@ -100,32 +99,34 @@ fn refused_growth_leaves_a_discovery_between_two_rounds_as_it_was(rt: HostRuntim
     assert!(rt; sample.len() == 1 && !discovery.done());
 }
 
+// The heads of what two have in common that were not compared before, asked for again where memory was refused.
+fn common_heads(alloc: Global, asker: &Kept, other: &Kept) -> Result<Vec<Node>, DiscoveryError> {
+    match heads_in_common_compared(alloc, asker, other, &mut Compared::nothing()) {
+        Ok(heads) => Ok(heads),
+        Err(_) => heads_in_common_compared(alloc, asker, other, &mut Compared::nothing()),
+    }
+}
+
+// Then the other side asks. It holds more, and doesn't serve all that it asks about.
 #[test]
 fn refused_growth_of_a_whole_discovery_is_told(rt: HostRuntime) {
     let alloc = rt.alloc();
-    let pins = Pins::new(alloc);
     let (mut asker, mut other) = (Replica::new(alloc), Replica::new(alloc));
     let Some(made) = partly_served(alloc, &mut other) else {
         return;
     };
     let (nodes, _) = made;
-    let [_, b, _] = nodes;
+    let [_, b, c] = nodes;
     if chain(alloc, &mut asker).is_none() {
         return;
     }
-    let heads = match heads_in_common(alloc, &asker, &other, &pins) {
-        Ok(heads) => heads,
-        Err(_) => heads_in_common(alloc, &asker, &other, &pins).expect(&rt, "memory"),
-    };
-    assert!(rt; heads.as_slice() == [b].as_slice());
     let (Ok(asker), Ok(other)) = (Kept::new(alloc, asker), Kept::new(alloc, other)) else {
         return;
     };
-    let heads = match heads_in_common_kept(alloc, &asker, &other) {
-        Ok(heads) => heads,
-        Err(_) => heads_in_common_kept(alloc, &asker, &other).expect(&rt, "memory"),
-    };
+    let heads = common_heads(alloc, &asker, &other).expect(&rt, "memory");
     assert!(rt; heads.as_slice() == [b].as_slice());
+    let heads = common_heads(alloc, &other, &asker).expect(&rt, "memory");
+    assert!(rt; heads.as_slice() == [c].as_slice());
 }
 
 // The other side pruned the tip of a stack.
@@ -143,13 +144,7 @@ fn refused_growth_of_a_discovery_by_a_walk_is_told(rt: HostRuntime) {
     let (Ok(asker), Ok(other)) = (Kept::new(alloc, asker), Kept::new(alloc, other)) else {
         return;
     };
-    let mut compared = Compared::nothing();
-    let heads = match heads_in_common_compared(alloc, &asker, &other, &mut compared) {
-        Ok(heads) => heads,
-        Err(_) => heads_in_common_compared(alloc, &asker, &other, &mut compared).expect(
-            &rt, "memory",
-        ),
-    };
+    let heads = common_heads(alloc, &asker, &other).expect(&rt, "memory");
     assert!(rt; heads.as_slice() == [below].as_slice());
 }
 

@@ -6,8 +6,8 @@ pub returns-clause-heads : goal.returns-clause-heads
 returns-clause-heads c =
     let asker = c.replica-2.ensures.replica in
     let other = c.replica-3.ensures.replica in
-    let told = rw other at c.ask_marked.ensures.heads in
+    let told = rw other at c.ask_each.ensures.heads in
     let heads = rw asker at told in
-    IfOk-weaker c.ask_marked.result _ _ (λ heads found. found c.args.other.now.pins
+    IfOk-weaker c.ask_each.result _ _ (λ heads found. found c.args.other.now.pins
     (served_as c.args.other.now.replica c.args.other.now.pins _ _ c.deref.ensures.value
     c.in_ok-served.ensures.exact)) heads

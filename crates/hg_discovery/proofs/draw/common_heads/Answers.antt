@@ -1,13 +1,12 @@
-use Rattle.std.proofs.Common.{◌≡◌, ◌++◌, ◌∙◌, List, Contains, length, take, filter, false, sym, ap, subst}
+use Rattle.std.proofs.Common.{◌≡◌, ◌++◌, ◌∙◌, List, length, take, filter, false, sym, ap, subst}
 use Rattle.std.proofs.lemmas.List.{take_all}
 use Rattle.std.proofs.lemmas.List.Elements.{Contains-get_or}
 use Rattle.hg_discovery.specs.declared.status.Status.TheVariants.{Common}
 use Rattle.hg_discovery.specs.declared.status.Spot.{Spot}
 use Rattle.hg_discovery.specs.Picking.{is_picked}
-use Rattle.hg_discovery.specs.Search.{Search, IsHead}
+use Rattle.hg_discovery.specs.Search.{Search, IsHead, Lists}
 use Rattle.hg_discovery.proofs.UnderLemmas.{under_common}
-use Rattle.hg_discovery.proofs.DrawLemmas.{heads_among, short_filter}
-use Rattle.hg_discovery.proofs.SortLemmas.{sorted_lists}
+use Rattle.hg_discovery.proofs.DrawLemmas.{heads_are, short_filter}
 use Rattle.hg_discovery.proofs.draw.common_heads.Goals as goal
 
 pub pick-requires-clause-within : goal.pick-requires-clause-within
@@ -19,20 +18,15 @@ returns c =
     let ps = c.args.parents.now in
     let spots = c.args.spots.now in
     let marks = c.in_ok-covered.covered.items in
-    let new = c.ascending.result.items in
+    let new = c.pick.new.found.items in
     let s : Search = record { parents = ps; spots = spots; decided = ds; asked = new } in
     let test = is_picked ds marks Common false in
     let heads : List Spot = filter test spots in
-    let all : c.pick.new.found.items ≡ heads =
-    c.in_ok-pick.ensures
+    let all : new ≡ heads = c.in_ok-pick.ensures
     ∙ ap (λ ms. take (length spots) (c.new-found.result.items ++ filter (is_picked ds ms Common false) spots))
     c.deref.ensures.value
     ∙ ap (λ zs. take (length spots) (zs ++ heads)) c.new-found.ensures.items
     ∙ take_all (length spots) heads (short_filter test spots) in
-    let among = heads_among s Common marks c.requires.in_order c.requires.spots c.in_ok-covered.ensures
-    (λ k m j low high at_k at_j. under_common ps ds c.requires.closed m j high at_j) spots (λ x h. h) (λ x h u. h) in
-    sorted_lists spots (IsHead s Common) c.requires.spots.distinct new c.ascending.ensures.sorted (λ x h. h.0.0)
-    (λ x. (
-      λ h. (among x).0 (subst (λ ys. Contains ys x) all ((c.ascending.ensures.same x).0 h)),
-      λ h. (c.ascending.ensures.same x).1 (subst (λ ys. Contains ys x) (sym all) ((among x).1 h)),
-    ))
+    subst (Lists (IsHead s Common)) (sym all) (heads_are s Common marks c.requires.in_order c.requires.spots
+    c.in_ok-covered.ensures (λ k m j low high at_k at_j. under_common ps ds c.requires.closed m j high at_j) spots
+    (λ x h. h) (λ x h u. h) c.requires.ascending)

@@ -26,7 +26,7 @@ returns c =
     let found : (x : Spot) → Contains c.in_ok-found.found.items x ↔ (Contains places x.place
     × IsAt cs x.node x.place) =
     subst (λ (ds : List Contents). (x : Spot) → Contains c.in_ok-found.found.items x ↔ (Contains places x.place
-    × IsAt ds x.node x.place)) here c.in_ok-found.ensures.exact in
+    × IsAt ds x.node x.place)) here c.in_ok-found.ensures in
     let new = c.ascending.result.items in
     let heads = walked_in_common ours other c.replica-2.ensures.valid c.replica.ensures.valid
     c.tells_what_is_served.ensures c.common_heads.ensures.closed places tops new c.ascending.ensures.sorted

@@ -1,5 +1,4 @@
-use Rattle.std.proofs.Common.{◌≡◌, ◌↔◌, ◌+◌, ◌≤◌, ◌∷◌, [], List, Contains, take, get_or, length, length-append, sym}
-use Rattle.std.proofs.Common.{subst, ap, ◌∙◌, arith}
+use Rattle.std.proofs.Common.{◌↔◌, ◌+◌, ◌≡◌, List, Contains, take, sym, subst, ap, ◌∙◌, arith}
 use Rattle.std.proofs.lemmas.List.{take_all}
 use Rattle.std.proofs.lemmas.Option.{none-some}
 use Rattle.hg_graph.specs.Places.{IsAt}
@@ -15,28 +14,18 @@ loop-place-preserved c =
     let i = c.loop-place.place-index in
     let l = c.loop-place-test.true in
     let old = c.loop-place.found.items in
+    let So : List Spot → Type 0 = λ xs. (x : Spot) → Contains xs x
+    ↔ (Contains (take (i + 1) ps) x.place × IsAt cs x.node x.place) in
     elim c.match-node_at.branch [
-      | in-Some+in_ok-push w ↦
-          let spot : Spot = record { node = w.in-Some.node; place = get_or ps i 0 } in
-          subst (λ (xs : List Spot). ((x : Spot) → Contains xs x
-          ↔ (Contains (take (i + 1) ps) x.place × IsAt cs x.node x.place)) × (length xs ≤ i + 1))
-          (sym (ap (λ v. v.items) w.found-is ∙ w.in_ok-push.ensures.items)) (
-            spots-push cs ps i l old c.loop-place.invariant.0 w.in-Some.node (sym c.node_at.ensures ∙ w.in-Some.is),
-            omega (arith, length-append old (spot ∷ []), c.loop-place.invariant.1),
-          )
-      | in_default w ↦
-          subst (λ (xs : List Spot). ((x : Spot) → Contains xs x
-          ↔ (Contains (take (i + 1) ps) x.place × IsAt cs x.node x.place)) × (length xs ≤ i + 1))
-          (sym (ap (λ v. v.items) w.found-is)) (
-            spots-skip cs ps i l old c.loop-place.invariant.0
-                (λ n at. none-some n (sym w.in_default.is ∙ c.node_at.ensures ∙ at)),
-            omega (arith, c.loop-place.invariant.1),
-          )
+      | in-Some+in_ok-push w ↦ subst So (sym (ap (λ v. v.items) w.found-is ∙ w.in_ok-push.ensures.items))
+          (spots-push cs ps i l old c.loop-place.invariant w.in-Some.node (sym c.node_at.ensures ∙ w.in-Some.is))
+      | in_default w ↦ subst So (sym (ap (λ v. v.items) w.found-is)) (spots-skip cs ps i l old c.loop-place.invariant
+          (λ n at. none-some n (sym w.in_default.is ∙ c.node_at.ensures ∙ at)))
     ]
 
-pub returns-clause-exact : goal.returns-clause-exact
-returns-clause-exact c =
+pub returns : goal.returns
+returns c =
     let ps = c.args.places.now in
     let all : take c.loop-place.place-index ps ≡ ps = take_all c.loop-place.place-index ps
     (omega (arith, c.loop-place-test.false)) in
-    rw all at c.loop-place.invariant.0
+    rw all at c.loop-place.invariant

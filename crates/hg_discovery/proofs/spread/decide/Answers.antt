@@ -14,7 +14,7 @@ returns-in_ok-push-clause-grows c =
     let old = c.args.decided.now in
     let p = c.args.one in
     let at = read_so old p Undecided Undecided c.eq.result c.if-one-decided.true c.eq.ensures c.if-eq.true in
-    rw c.in_ok-push.ensures.items (Grows-one c.args.status c.requires p old c.args.log.now.items at)
+    rw c.in_ok-push.ensures.items (Grows-one c.args.status c.requires p old c.args.queue.now.items at)
 
 pub returns-in_ok-push-clause-taken : goal.returns-in_ok-push-clause-taken
 returns-in_ok-push-clause-taken c k e u =

@@ -1,7 +1,7 @@
 use Rattle.std.proofs.Common.{◌≡◌, ◌+◌, inl, inr, arith, get_or, slice_get, Some, refl}
 use Rattle.std.proofs.lemmas.Option.{slice_get-get_or}
 use Rattle.hg_discovery.specs.declared.status.Status.TheVariants.{Missing}
-use Rattle.hg_discovery.specs.Family.{Stands}
+use Rattle.hg_discovery.specs.Children.{Stands}
 use Rattle.hg_discovery.proofs.WalkLemmas.{Grows-wider, Grows-none, stretch_grows, stretch_taken, stands_in}
 use Rattle.hg_discovery.proofs.spread.decide_children.Goals as goal
 
@@ -49,7 +49,7 @@ pub loop-i-init : goal.loop-i-init
 loop-i-init c = record {
   grows = Grows-wider Missing (λ k. ⊥)
       (Stands c.args.children.now c.args.stretch.from c.args.stretch.from) _ _ _ _ (λ k h. absurd h)
-      (Grows-none Missing (λ k. ⊥) c.args.decided.now c.args.log.now.items);
+      (Grows-none Missing (λ k. ⊥) c.args.decided.now c.args.queue.now.items);
   taken =
       λ k h u. absurd (omega (arith, h.1, h.2));
   from = omega arith;

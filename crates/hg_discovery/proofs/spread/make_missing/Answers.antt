@@ -1,95 +1,68 @@
 use Rattle.std.proofs.Common.{◌≡◌, ◌∙◌, arith, length}
 use Rattle.hg_discovery.specs.declared.status.Status.TheVariants.{Missing}
 use Rattle.hg_discovery.specs.Under.{IsUnder, itself}
-use Rattle.hg_discovery.specs.Family.{Stands}
-use Rattle.hg_discovery.specs.Log.{Grows, AreTaken}
-use Rattle.hg_discovery.proofs.LogLemmas.{Grows-log}
-use Rattle.hg_discovery.proofs.WalkLemmas.{IsWalked-start, ToChild, read, down_within, down_grows, down_walked}
+use Rattle.hg_discovery.specs.Children.{Stands}
+use Rattle.hg_discovery.specs.Queue.{Grows, AreTaken}
+use Rattle.hg_discovery.proofs.WalkLemmas.{IsWalked-start, ToChild, read, down_within, down_walked}
 use Rattle.hg_discovery.proofs.WalkLemmas.{walked_missing}
 use Rattle.hg_discovery.proofs.spread.make_missing.Goals as goal
-
-pub returns-in_err-decide-clause-log : goal.returns-in_err-decide-clause-log
-returns-in_err-decide-clause-log c = Grows-log _ Missing _ _ _ _ c.decide.ensures.grows
 
 pub loop-next-init : goal.loop-next-init
 loop-next-init c =
     let ps = c.args.parents.now in
-    let start = c.args.log.now in
+    let start = c.args.queue.now in
     let next : c.len-next.result ≡ length start.items = c.len-next.ensures ∙ start.ok.0 in
     rw next (IsWalked-start Missing (ToChild ps) (IsUnder ps c.args.place) c.args.place c.args.decided.now start.items
-    (λ p k q m. c.requires.closed.missing k p q m) c.decide.new.decided c.decide.new.log.items
+    (λ p k q m. c.requires.closed.missing k p q m) c.decide.new.decided c.decide.new.queue.items
     c.requires.undecided itself c.decide.ensures.grows c.in_ok-decide.ensures.taken)
 
 pub index-requires-in-loop-next : goal.index-requires-in-loop-next
 index-requires-in-loop-next c =
-    let log = c.loop-next.log in
-    let at = read log.items c.loop-next.next c.index.result.now
-    (omega (arith, c.loop-next-test.true, c.len.ensures, log.ok.0)) c.index.ensures in
+    let queue = c.loop-next.queue in
+    let at = read queue.items c.loop-next.next c.index.result.now
+    (omega (arith, c.loop-next-test.true, c.len.ensures, queue.ok.0)) c.index.ensures in
     let l = down_within c.args.parents.now c.args.decided.now c.requires.len c.requires.in_order c.requires.closed
-    c.args.place c.args.log.now.items c.loop-next.decided log.items c.loop-next.next c.index.result.now at
+    c.args.place c.args.queue.now.items c.loop-next.decided queue.items c.loop-next.next c.index.result.now at
     c.loop-next.invariant in
-    omega (arith, l, c.requires.family.len, c.args.family.now.left.ok.0)
+    omega (arith, l, c.requires.children.len, c.args.children.now.stretches.ok.0)
 
 pub decide_children-requires : goal.decide_children-requires
 decide_children-requires c =
-    let log = c.loop-next.log in
-    let at = read log.items c.loop-next.next c.index.result.now
-    (omega (arith, c.loop-next-test.true, c.len.ensures, log.ok.0)) c.index.ensures in
-    let left = c.args.family.now.left in
+    let queue = c.loop-next.queue in
+    let at = read queue.items c.loop-next.next c.index.result.now
+    (omega (arith, c.loop-next-test.true, c.len.ensures, queue.ok.0)) c.index.ensures in
+    let stretches = c.args.children.now.stretches in
     let l = down_within c.args.parents.now c.args.decided.now c.requires.len c.requires.in_order c.requires.closed
-    c.args.place c.args.log.now.items c.loop-next.decided log.items c.loop-next.next c.index.result.now at
+    c.args.place c.args.queue.now.items c.loop-next.decided queue.items c.loop-next.next c.index.result.now at
     c.loop-next.invariant in
-    let one = read left.items c.index.result.now c.index-in-loop-next.result.now
-    (omega (arith, l, c.requires.family.len)) c.index-in-loop-next.ensures in
-    rw c.deref.ensures.value (c.requires.family.within _ _ one)
-
-pub returns-in_err-decide_children-clause-log : goal.returns-in_err-decide_children-clause-log
-returns-in_err-decide_children-clause-log c =
-    let log = c.loop-next.log in
-    let at = read log.items c.loop-next.next c.index.result.now
-    (omega (arith, c.loop-next-test.true, c.len.ensures, log.ok.0)) c.index.ensures in
-    let left = c.args.family.now.left in
-    let l = down_within c.args.parents.now c.args.decided.now c.requires.len c.requires.in_order c.requires.closed
-    c.args.place c.args.log.now.items c.loop-next.decided log.items c.loop-next.next c.index.result.now at
-    c.loop-next.invariant in
-    let one = read left.items c.index.result.now c.index-in-loop-next.result.now
-    (omega (arith, l, c.requires.family.len)) c.index-in-loop-next.ensures in
-    let s = c.index-in-loop-next.result.now in
-    let first : Grows (Stands c.args.family.now.children.items s.from s.to) Missing c.loop-next.decided log.items
-    c.decide_children.new.decided c.decide_children.new.log.items =
-    rw c.deref.ensures.value at c.decide_children.ensures.grows in
-    Grows-log (IsUnder c.args.parents.now c.args.place) Missing _ _ _ _
-    (down_grows c.args.parents.now c.args.decided.now c.requires.len c.requires.in_order c.requires.closed
-    c.args.place c.args.log.now.items c.loop-next.decided log.items c.loop-next.next c.index.result.now at
-    c.loop-next.invariant c.args.family.now.children.items left.items c.requires.family s one _ _ first)
+    let one = read stretches.items c.index.result.now c.index-in-loop-next.result.now
+    (omega (arith, l, c.requires.children.len)) c.index-in-loop-next.ensures in
+    rw c.deref.ensures.value (c.requires.children.within _ _ one)
 
 pub loop-next-preserved : goal.loop-next-preserved
 loop-next-preserved c =
-    let log = c.loop-next.log in
-    let at = read log.items c.loop-next.next c.index.result.now
-    (omega (arith, c.loop-next-test.true, c.len.ensures, log.ok.0)) c.index.ensures in
-    let left = c.args.family.now.left in
+    let queue = c.loop-next.queue in
+    let at = read queue.items c.loop-next.next c.index.result.now
+    (omega (arith, c.loop-next-test.true, c.len.ensures, queue.ok.0)) c.index.ensures in
+    let stretches = c.args.children.now.stretches in
     let l = down_within c.args.parents.now c.args.decided.now c.requires.len c.requires.in_order c.requires.closed
-    c.args.place c.args.log.now.items c.loop-next.decided log.items c.loop-next.next c.index.result.now at
+    c.args.place c.args.queue.now.items c.loop-next.decided queue.items c.loop-next.next c.index.result.now at
     c.loop-next.invariant in
-    let one = read left.items c.index.result.now c.index-in-loop-next.result.now
-    (omega (arith, l, c.requires.family.len)) c.index-in-loop-next.ensures in
+    let one = read stretches.items c.index.result.now c.index-in-loop-next.result.now
+    (omega (arith, l, c.requires.children.len)) c.index-in-loop-next.ensures in
     let s = c.index-in-loop-next.result.now in
-    let first : Grows (Stands c.args.family.now.children.items s.from s.to) Missing c.loop-next.decided log.items
-    c.decide_children.new.decided c.decide_children.new.log.items =
+    let first : Grows (Stands c.args.children.now.places.items s.from s.to) Missing c.loop-next.decided queue.items
+    c.decide_children.new.decided c.decide_children.new.queue.items =
     rw c.deref.ensures.value at c.decide_children.ensures.grows in
-    let all : AreTaken (Stands c.args.family.now.children.items s.from s.to) Missing c.loop-next.decided
+    let all : AreTaken (Stands c.args.children.now.places.items s.from s.to) Missing c.loop-next.decided
     c.decide_children.new.decided = rw c.deref.ensures.value at c.in_ok-decide_children.ensures.taken in
     down_walked c.args.parents.now c.args.decided.now c.requires.len c.requires.in_order c.requires.closed
-    c.args.place c.args.log.now.items c.loop-next.decided log.items c.loop-next.next c.index.result.now at
-    c.loop-next.invariant c.args.family.now.children.items left.items c.requires.family s one _ _ first all
+    c.args.place c.args.queue.now.items c.loop-next.decided queue.items c.loop-next.next c.index.result.now at
+    c.loop-next.invariant c.args.children.now.places.items stretches.items c.requires.children s one _ _ first all
 
 pub returns-clause-decided : goal.returns-clause-decided
 returns-clause-decided c =
-    let log = c.loop-next.log in
-    walked_missing c.args.parents.now c.args.place c.args.decided.now c.args.log.now.items c.requires.closed
-    c.loop-next.decided log.items c.loop-next.next (omega
-    (arith, c.loop-next-test.false, c.len.ensures, log.ok.0)) c.loop-next.invariant
-
-pub returns-clause-log : goal.returns-clause-log
-returns-clause-log c = Grows-log (IsUnder c.args.parents.now c.args.place) Missing _ _ _ _ c.loop-next.invariant.grows
+    let queue = c.loop-next.queue in
+    walked_missing c.args.parents.now c.args.place c.args.decided.now c.args.queue.now.items c.requires.closed
+    c.loop-next.decided queue.items c.loop-next.next (omega
+    (arith, c.loop-next-test.false, c.len.ensures, queue.ok.0)) c.loop-next.invariant

@@ -1,16 +1,13 @@
 use Rattle.std.proofs.Common.{◌≡◌, ◌+◌, ◌++◌, ◌∷◌, ◌∙◌, [], arith, take, get_or, false, refl}
 use Rattle.std.proofs.lemmas.List.{take_more, take_all}
-use Rattle.hg_discovery.proofs.FamilyLemmas.{IsFamily-later}
-use Rattle.hg_discovery.proofs.ToldLemmas.{AreTold-more, told_before, told_closed}
+use Rattle.hg_discovery.proofs.ToldLemmas.{AreTold-more, told_closed}
 use Rattle.hg_discovery.proofs.spread.tell_all.Goals as goal
 
 pub loop-i-init : goal.loop-i-init
 loop-i-init c = record {
   told = refl;
   closed = c.requires.closed;
-  family = c.requires.family;
   len = refl;
-  log = λ base l. l;
 }
 
 pub loop-i-preserved : goal.loop-i-preserved
@@ -31,10 +28,7 @@ loop-i-preserved c =
           (take i bs) x b c.args.decided.now mid new c.loop-i.invariant.told c.in_ok-tell.ensures.told));
       closed = told_closed ps x.place b mid new (c.loop-i.invariant.len ∙ c.requires.len) c.requires.in_order
           c.loop-i.invariant.closed c.in_ok-tell.ensures.told;
-      family = IsFamily-later ps mid new c.args.family.now.children.items c.args.family.now.left.items
-          (told_before ps x.place b mid new c.in_ok-tell.ensures.told) c.loop-i.invariant.family;
       len = c.tell.ensures.len ∙ c.loop-i.invariant.len;
-      log = λ base l. c.tell.ensures.log base (c.loop-i.invariant.log base l);
     }
 
 pub returns-clause-told : goal.returns-clause-told

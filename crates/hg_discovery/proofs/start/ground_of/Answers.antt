@@ -2,6 +2,7 @@ use Rattle.std.proofs.Common.{◌≡◌, ◌↔◌, ℕ, arith, length, Contains
 use Rattle.hg_phases.specs.State.{changesets}
 use Rattle.hg_discovery.specs.declared.status.Status.TheVariants.{Undecided}
 use Rattle.hg_discovery.specs.declared.status.Spot.{Spot}
+use Rattle.hg_discovery.specs.Start.{IsShared}
 use Rattle.hg_discovery.specs.Under.{IsShapeOf}
 use Rattle.hg_discovery.specs.Search.{Is}
 use Rattle.hg_discovery.proofs.StartLemmas.{shared_within}
@@ -14,16 +15,25 @@ undecided-requires c x h =
     let ps = c.in_ok-parents.parents.items in
     let shape : IsShapeOf (changesets s) ps = subst (λ cs. IsShapeOf cs ps) c.graph.ensures.graph
     c.in_ok-parents.ensures in
-    let within = shared_within s c.graph.ensures.valid ps shape c.in_ok-spots.spots.items c.in_ok-spots.ensures
-    x (subst (λ xs. Contains xs x) c.deref.ensures.value h) in
+    let xs = c.ascending-spots.result.items in
+    let shared : (x : Spot) → Contains xs x ↔ IsShared s x = λ x. (
+      λ h. (c.in_ok-shared.ensures x).0 ((c.ascending-spots.ensures.same x).0 h),
+      λ h. (c.ascending-spots.ensures.same x).1 ((c.in_ok-shared.ensures x).1 h),
+    ) in
+    let within = shared_within s c.graph.ensures.valid ps shape xs shared x
+    (subst (λ xs. Contains xs x) c.deref.ensures.value h) in
     omega (arith, within, c.len.ensures, c.in_ok-parents.parents.ok.0)
 
 pub returns : goal.returns
 returns c =
     let s = c.args.replica.now.history in
     let ps = c.in_ok-parents.parents.items in
-    let xs = c.in_ok-spots.spots.items in
+    let xs = c.ascending-spots.result.items in
     let ds = c.in_ok-decided.decided.items in
+    let shared : (x : Spot) → Contains xs x ↔ IsShared s x = λ x. (
+      λ h. (c.in_ok-shared.ensures x).0 ((c.ascending-spots.ensures.same x).0 h),
+      λ h. (c.ascending-spots.ensures.same x).1 ((c.in_ok-shared.ensures x).1 h),
+    ) in
     let shape : IsShapeOf (changesets s) ps = subst (λ cs. IsShapeOf cs ps) c.graph.ensures.graph
     c.in_ok-parents.ensures in
     let len : length ds ≡ length ps = omega (
@@ -35,5 +45,5 @@ returns c =
     let undecided : (k : ℕ) → Is ds Undecided k ↔ ((x : Spot) × Contains xs x × (x.place ≡ k)) =
     subst (λ ys. (k : ℕ) → Is ds Undecided k ↔ ((x : Spot) × Contains ys x × (x.place ≡ k))) c.deref.ensures.value
     c.in_ok-decided.ensures.undecided in
-    ground_from s c.graph.ensures.valid ps shape xs c.in_ok-spots.ensures ds len undecided
-    c.in_ok-decided.ensures.nothing_common
+    ground_from s c.graph.ensures.valid ps shape xs shared ds len undecided c.in_ok-decided.ensures.nothing_common
+    c.ascending-spots.ensures.sorted

@@ -1,42 +1,77 @@
-use Rattle.std.proofs.Common.{◌≡◌, ◌≤◌, ◌-◌, ◌∙◌, length, refl, sym, subst}
-use Rattle.hg_graph.proofs.MarkLemmas.{written}
-use Rattle.hg_discovery.specs.Search.{Search, IsSearch}
-use Rattle.hg_discovery.specs.Answers.{IsRound, AreTold}
-use Rattle.hg_discovery.specs.Rounds.{undecided}
+use Rattle.std.proofs.Common.{rules, ◌≡◌, ◌∙◌, length, refl, subst}
+use Rattle.std.specs.Prelude.{Ok}
+use Rattle.hg_discovery.specs.Search.{Search, IsSample, IsSearch}
+use Rattle.hg_discovery.specs.Answers.{AnswerAnswer, AreTold}
 use Rattle.hg_discovery.proofs.CountLemmas.{round_count}
-use Rattle.hg_discovery.proofs.ToldLemmas.{told_length}
+use Rattle.hg_discovery.proofs.ToldLemmas.{spots_after}
 use Rattle.hg_discovery.proofs.discovery.Discovery.answer.Goals as goal
 
-pub returns-clause-fewer : goal.returns-clause-fewer
-returns-clause-fewer c =
+pub answered-requires-clause-in_order : goal.answered-requires-clause-in_order
+answered-requires-clause-in_order c = rw c.deref.ensures.value c.self.invariant.0.in_order
+
+pub sample-requires-clause-in_order : goal.sample-requires-clause-in_order
+sample-requires-clause-in_order c = rw c.deref-4.ensures.value c.self.invariant.0.in_order
+
+pub sample-requires-clause-closed : goal.sample-requires-clause-closed
+sample-requires-clause-closed c =
+    rw c.deref-4.ensures.value (rw c.deref-6.ensures.value (rw c.deref.ensures.value at c.in_ok-decided.ensures.closed))
+
+pub sample-requires-clause-spots : goal.sample-requires-clause-spots
+sample-requires-clause-spots c =
     let old = c.self.inside in
-    let new = c.next_sample.new.decided in
+    let new = c.in_ok-decided.decided.items in
+    let told : AreTold old.parents.items old.asked.items c.args.answers.now old.decided.items new =
+    rw c.deref.ensures.value at (rw c.deref-2.ensures.value at
+    (rw c.deref-3.ensures.value at c.in_ok-decided.ensures.told)) in
+    rw c.deref-5.ensures.value (rw c.deref-6.ensures.value (spots_after old.parents.items old.asked.items
+    c.args.answers.now old.decided.items new old.spots.items told c.self.invariant.0.spots))
+
+pub invariant_of-self : goal.invariant_of-self
+invariant_of-self c =
+    let old = c.self.inside in
+    let known = c.self.invariant.0 in
+    let ps = old.parents.items in
+    let xs = old.spots.items in
+    let new = c.in_ok-decided.decided.items in
     let asked = c.in_ok-asked.asked.items in
-    let before : Search = record {
-      parents = old.parents.items;
-      spots = old.spots.items;
-      decided = old.decided.items;
-      asked = old.asked.items;
-    } in
+    let told : AreTold ps old.asked.items c.args.answers.now old.decided.items new =
+    rw c.deref.ensures.value at (rw c.deref-2.ensures.value at
+    (rw c.deref-3.ensures.value at c.in_ok-decided.ensures.told)) in
+    let len : length new ≡ length old.decided.items =
+    rw c.deref-3.ensures.value at c.in_ok-decided.ensures.len in
+    let drawn : IsSample (record { parents = ps; spots = xs; decided = new; asked = asked }) asked =
+    rw c.deref-4.ensures.value at (rw c.deref-5.ensures.value at (rw c.deref-6.ensures.value at c.in_ok-asked.ensures)) in (
+      record {
+        len = len ∙ known.len;
+        in_order = known.in_order;
+        spots = spots_after ps old.asked.items c.args.answers.now old.decided.items new xs told known.spots;
+        closed = rw c.deref.ensures.value at c.in_ok-decided.ensures.closed;
+        sample = drawn;
+      },
+      c.self.invariant.1,
+      c.self.invariant.2,
+    )
+
+pub returns-clause-answer : goal.returns-clause-answer
+returns-clause-answer c =
+    let old = c.self.inside in
+    let new = c.in_ok-decided.decided.items in
     let after : Search = record {
       parents = old.parents.items;
       spots = old.spots.items;
       decided = new;
-      asked = asked;
+      asked = c.in_ok-asked.asked.items;
     } in
     let told : AreTold old.parents.items old.asked.items c.args.answers.now old.decided.items new =
-    rw c.deref.ensures.value at (rw c.deref-3.ensures.value at
-    (rw c.deref_mut.ensures.value at c.in_ok-asked.ensures.told)) in
-    let search : IsSearch after = rw c.deref.ensures.value at
-    (rw c.deref-2.ensures.value at c.in_ok-asked.ensures.search) in
-    let round : IsRound before c.args.answers.now after = record {
-      parents = refl;
-      spots = refl;
-      told = told;
-      search = search;
-    } in
-    let len : length new ≡ old.decided.len = told_length old.parents.items old.asked.items c.args.answers.now
-    old.decided.items new told ∙ sym old.decided.ok.0 in
-    rw (written old.decided.len new old.decided.items len) (subst
-    (λ (s : Search). undecided new ≤ undecided s.decided - 200) c.self.view_is
-    (round_count before after c.args.answers.now c.self.invariant.0 round))
+    rw c.deref.ensures.value at (rw c.deref-2.ensures.value at
+    (rw c.deref-3.ensures.value at c.in_ok-decided.ensures.told)) in
+    let len : length c.args.answers.now ≡ length old.asked.items = search rules in
+    subst (λ (s : Search). AnswerAnswer s c.args.answers.now (Ok tt) after) c.self.view_is (
+      len,
+      record { parents = refl; spots = refl; told = told; search = (invariant_of-self c).0 },
+    )
+
+pub returns-clause-fewer : goal.returns-clause-fewer
+returns-clause-fewer c =
+    let known : IsSearch c.args.self.now = subst IsSearch c.self.view_is c.self.invariant.0 in
+    round_count c.args.self.now _ c.args.answers.now known (returns-clause-answer c).1
