@@ -1,5 +1,5 @@
 -- Entries taken in one after the other.
-use Rattle.std.proofs.Common.{◌≡◌, List, [], ◌∷◌, ◌++◌, Ok, refl, subst, ap}
+use Rattle.std.proofs.Common.{◌≡◌, ℕ, ◌+◌, List, [], ◌∷◌, ◌++◌, length, Ok, refl, sym, subst, ap, arith, length-append}
 use Rattle.hg_replica.specs.State.{ReplicaState}
 use Rattle.hg_replica.specs.Least.{PartValue, IsLeastOneByOne}
 use Rattle.hg_replica.specs.Change.{ChangeValue}
@@ -22,6 +22,17 @@ pub after_next : (s u t : KeptValue) (es : List Entry) (e : Entry) → IsAfter s
 unfolding IsAfter
 after_next s u t [] e h n = (t, subst (λ (v : KeptValue). IsNext v e t) h n, refl)
 after_next s u t (d ∷ es) e h n = (h.0, h.1, after_next h.0 u t es e h.2 n)
+
+-- a list that grew by it leads there
+pub after_grown : (s u t : KeptValue) (es grown : List Entry) (e : Entry) → IsAfter s es u → IsNext u e t →
+    grown ≡ es ++ e ∷ [] → IsAfter s grown t
+after_grown s u t es grown e h n is = subst (λ (l : List Entry). IsAfter s l t) (sym is) (after_next s u t es e h n)
+
+-- and has one entry more
+pub counted_grown : (count more : ℕ) (es grown : List Entry) (e : Entry) → more ≡ count + 1 → count ≡ length es →
+    grown ≡ es ++ e ∷ [] → more ≡ length grown
+counted_grown count more es grown e one counted is =
+    omega (arith, one, counted, ap length is, length-append es (e ∷ []))
 
 -- a state to which these entries lead is so by equal ones
 pub after_same : (s t u : KeptValue) (es ds : List Entry) → IsAfter s es t → es ≡ ds → t ≡ u → IsAfter s ds u

@@ -80,8 +80,8 @@ bytes_told d bytes peer.NoMemory h memory = memory refl
 
 -- what was decided is admitted, so only memory can be wanting for it
 pub decided_told : (d : DeskView) (op : Op) (k : PartValue) (r : CallRefusal) →
-    IsValidContent (content_of d.working.replica) → Decides d.working op k → ContentAdmits (content_of d.working.replica) k → IsAgainstEntry d.working (Part k) r →
-    IsAgainstLocal d op r
+    IsValidContent (content_of d.working.replica) → Decides d.working op k →
+    ContentAdmits (content_of d.working.replica) k → IsAgainstEntry d.working (Part k) r → IsAgainstLocal d op r
 decided_told d op k JournalFull valid so admitted h = absurd h
 decided_told d op k (Refused r) valid so admitted h = absurd h
 decided_told d op k (Fault f) valid so admitted h =

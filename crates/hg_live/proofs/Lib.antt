@@ -1,4 +1,6 @@
 pub mod AfterLemmas
 pub mod CallLemmas
 pub mod LookLemmas
+pub mod OfferLemmas
 pub mod PassLemmas
+pub mod WaitLemmas

@@ -5,7 +5,8 @@ use Rattle.std.specs.declared.alloc.Global.{Global}
 use Rattle.std.specs.Prelude.{ℕ}
 use mathlib.Core.List.{IsPrefix}
 use Rattle.hg_view.specs.Kept.{KeptValue}
-use Rattle.hg_peer.specs.declared.ask.Ask.{Ask}
+use Rattle.hg_changeset.specs.declared.node.Node.{Node}
+use Rattle.hg_message.specs.declared.scope.Scope.{Scope}
 use Rattle.hg_live.specs.declared.answer.LookRefusal.{LookRefusal}
 use Rattle.hg_live.specs.declared.answer.LookRefusal.TheVariants.{NotEntered, NoMemory}
 use Rattle.hg_live.specs.declared.answer.NotOffered.{NotOffered}
@@ -35,9 +36,9 @@ module _ (o : KeptValue) (old new : PassView) (p : PublishedView) (begins : IsPr
   look_answer P (Err NotEntered) ok err = absurd (cc (err))
   look_answer P (Err NoMemory) ok err = looked (λ s. Unit {0}) tt
 
-  pub offer_answer : (ask : Ask) (r : Result (Vec ℕ Global) NotOffered) → StateOffers p.state ask r →
-      OfferLookAnswer o ask old r new
-  offer_answer ask (Ok bytes) so = looked _ so
-  offer_answer ask (Err offer.NotEntered) so = absurd so
-  offer_answer ask (Err (offer.Refused refusal)) so = looked _ so
-  offer_answer ask (Err offer.NoMemory) so = looked _ so
+  pub offer_answer : (common : List Node) (scope : Scope) (r : Result (Vec ℕ Global) NotOffered) →
+      StateOffers p.state common scope r → OfferLookAnswer o common scope old r new
+  offer_answer common scope (Ok bytes) so = looked _ so
+  offer_answer common scope (Err offer.NotEntered) so = absurd so
+  offer_answer common scope (Err (offer.Refused refusal)) so = looked _ so
+  offer_answer common scope (Err offer.NoMemory) so = looked _ so

@@ -64,11 +64,13 @@ IsAgainstMarking d m NoMemory = Unit {0}
 
 -- ---- what an accepted call does
 
--- to the desk: the entry ends the journal, the state takes it in, and all of it is published, or nothing more
+-- to the desk: the entry ends the journal, the state takes it in, and all of it is published; or nothing more is, and
+-- the entry waits behind what waited
 pub record IsNoted (entry : Entry) (answer : Accepted) (old new : DeskView) : Type 0 where
   pub journal : new.journal ≡ old.journal ++ entry ∷ []
   pub working : IsNext old.working entry new.working
   pub published : MatchAccepted answer (new.published ≡ new.journal) (new.published ≡ old.published)
+  pub waiting : MatchAccepted answer (new.waiting ≡ []) (new.waiting ≡ old.waiting ++ entry ∷ [])
 
 -- to the pass: it was told all that the journal has afterwards. Before, the journal began with all that the pass had
 -- seen or been told. It has seen all of it, or what it had; and one more of its calls was accepted

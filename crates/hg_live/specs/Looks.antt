@@ -1,13 +1,20 @@
 -- What looks at the published state tell.
-use Rattle.std.specs.Prelude.{◌≡◌, ℕ, Result, Ok, Err}
+use Rattle.std.specs.Prelude.{◌≡◌, ℕ, List, Result, Ok, Err}
 use Rattle.std.specs.declared.vec.Vec.{Vec}
 use Rattle.std.specs.declared.alloc.Global.{Global}
 use mathlib.Core.List.{IsPrefix}
+use Rattle.hg_changeset.specs.declared.node.Node.{Node}
+use Rattle.hg_replica.specs.State.{IsValid}
 use Rattle.hg_replica.specs.Content.{content_of}
-use Rattle.hg_message.specs.Offer.{AreHeld}
+use Rattle.hg_message.specs.declared.scope.Scope.{Scope}
+use Rattle.hg_message.specs.declared.refusal.OfferRefusal.TheVariants as message
+use Rattle.hg_message.specs.Value.{MessageValue}
+use Rattle.hg_message.specs.Spelling.{message_spelling}
+use Rattle.hg_message.specs.Offer.{AreHeld, OfferAnswer}
 use Rattle.hg_view.specs.Kept.{KeptValue}
-use Rattle.hg_peer.specs.declared.ask.Ask.{Ask}
-use Rattle.hg_peer.specs.Peers.{Offers, IsAgainstOffer}
+use Rattle.hg_peer.specs.declared.refusal.PeerRefusal.{PeerRefusal}
+use Rattle.hg_peer.specs.declared.refusal.PeerRefusal.TheVariants as peer
+use Rattle.hg_peer.specs.Peers.{CanBeWritten, IsAgainstWriting}
 use Rattle.hg_live.specs.declared.answer.LookRefusal.{LookRefusal}
 use Rattle.hg_live.specs.declared.answer.LookRefusal.TheVariants.{NotEntered, NoMemory}
 use Rattle.hg_live.specs.declared.answer.NotOffered.{NotOffered}
@@ -31,17 +38,47 @@ LookAnswer o P old (Ok x) new = Looked o (λ s. P s x) old new
 LookAnswer o P old (Err NotEntered) new = new ≡ old
 LookAnswer o P old (Err NoMemory) new = Looked o (λ s. Unit {0}) old new
 
+-- ---- offers
+
+-- the state is valid and holds the common nodes, and the bytes are what is written of its offer of the scope above
+-- them, under its pins: what a peer in that state offers
+abbrev pub OffersAbove : KeptValue → List Node → Scope → List ℕ → Type 0
+OffersAbove s common scope bytes =
+    IsValid s.replica × ((m : MessageValue) × OfferAnswer s.replica s.pins common scope (Ok m) × CanBeWritten m
+    × (bytes ≡ message_spelling m))
+
+-- the first of the common nodes that isn't held; or the offer above them is too large
+abbrev pub IsAgainstOffering : KeptValue → List Node → Scope → PeerRefusal → Type 0
+IsAgainstOffering s common scope (peer.Rewrite refusal) = ⊥
+IsAgainstOffering s common scope (peer.Offer (message.UnknownCommon node)) =
+    OfferAnswer s.replica s.pins common scope (Err (message.UnknownCommon node))
+IsAgainstOffering s common scope (peer.Offer message.TooLarge) =
+    OfferAnswer s.replica s.pins common scope (Err message.TooLarge)
+IsAgainstOffering s common scope (peer.Offer message.NoMemory) = ⊥
+IsAgainstOffering s common scope (peer.Message fault) = ⊥
+IsAgainstOffering s common scope (peer.View refusal) = ⊥
+IsAgainstOffering s common scope peer.NoMemory = ⊥
+
 -- the answer to an offer. Want of memory is told only where each common node is held
-abbrev pub OfferLookAnswer : KeptValue → Ask → PassView → Result (Vec ℕ Global) NotOffered → PassView → Type 0
-OfferLookAnswer o ask old (Ok bytes) new = Looked o (λ s. Offers s ask bytes.items) old new
-OfferLookAnswer o ask old (Err offer.NotEntered) new = new ≡ old
-OfferLookAnswer o ask old (Err (offer.Refused refusal)) new = Looked o (λ s. IsAgainstOffer s ask refusal) old new
-OfferLookAnswer o ask old (Err offer.NoMemory) new =
-    Looked o (λ s. AreHeld (content_of s.replica) ask.common.items) old new
+abbrev pub OfferLookAnswer : KeptValue → List Node → Scope → PassView → Result (Vec ℕ Global) NotOffered → PassView →
+    Type 0
+OfferLookAnswer o common scope old (Ok bytes) new = Looked o (λ s. OffersAbove s common scope bytes.items) old new
+OfferLookAnswer o common scope old (Err offer.NotEntered) new = new ≡ old
+OfferLookAnswer o common scope old (Err (offer.Refused refusal)) new =
+    Looked o (λ s. IsAgainstOffering s common scope refusal) old new
+OfferLookAnswer o common scope old (Err offer.NoMemory) new =
+    Looked o (λ s. AreHeld (content_of s.replica) common) old new
 
 -- the answer of the state itself
-abbrev pub StateOffers : KeptValue → Ask → Result (Vec ℕ Global) NotOffered → Type 0
-StateOffers s ask (Ok bytes) = Offers s ask bytes.items
-StateOffers s ask (Err offer.NotEntered) = ⊥
-StateOffers s ask (Err (offer.Refused refusal)) = IsAgainstOffer s ask refusal
-StateOffers s ask (Err offer.NoMemory) = AreHeld (content_of s.replica) ask.common.items
+abbrev pub StateOffers : KeptValue → List Node → Scope → Result (Vec ℕ Global) NotOffered → Type 0
+StateOffers s common scope (Ok bytes) = OffersAbove s common scope bytes.items
+StateOffers s common scope (Err offer.NotEntered) = ⊥
+StateOffers s common scope (Err (offer.Refused refusal)) = IsAgainstOffering s common scope refusal
+StateOffers s common scope (Err offer.NoMemory) = AreHeld (content_of s.replica) common
+
+-- what is written of a message, which can be too large, or memory wanting
+abbrev pub Writes : MessageValue → Result (Vec ℕ Global) NotOffered → Type 0
+Writes m (Ok bytes) = CanBeWritten m × (bytes.items ≡ message_spelling m)
+Writes m (Err offer.NotEntered) = ⊥
+Writes m (Err (offer.Refused refusal)) = IsAgainstWriting m refusal
+Writes m (Err offer.NoMemory) = Unit {0}

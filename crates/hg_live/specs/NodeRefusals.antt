@@ -3,6 +3,8 @@ use Rattle.std.specs.Prelude.{ℕ, List, Option, Some, None, codes}
 use Rattle.hg_history.specs.declared.fault.Fault.{Fault as PartFault}
 use Rattle.hg_history.specs.declared.fault.Fault.TheVariants as fault
 use Rattle.hg_history.specs.Fault.{number as fault_number, name as fault_name}
+use Rattle.hg_message.specs.declared.refusal.OfferRefusal.{OfferRefusal}
+use Rattle.hg_message.specs.declared.refusal.OfferRefusal.TheVariants as message
 use Rattle.hg_peer.specs.declared.refusal.PeerRefusal.{PeerRefusal}
 use Rattle.hg_peer.specs.declared.refusal.PeerRefusal.TheVariants as peer
 use Rattle.hg_peer.specs.Refusals.{peer_refusal_number, peer_refusal_text}
@@ -31,13 +33,11 @@ call_fault (fault.UnknownBound node) = Fault (fault.UnknownBound node)
 call_fault fault.NullBound = Fault fault.NullBound
 call_fault fault.NoMemory = NoMemory
 
--- how an offer tells it
-abbrev pub offer_refusal : PeerRefusal → NotOffered
-offer_refusal (peer.Rewrite refusal) = offer.Refused (peer.Rewrite refusal)
-offer_refusal (peer.Offer refusal) = offer.Refused (peer.Offer refusal)
-offer_refusal (peer.Message fault) = offer.Refused (peer.Message fault)
-offer_refusal (peer.View refusal) = offer.Refused (peer.View refusal)
-offer_refusal peer.NoMemory = offer.NoMemory
+-- how a node tells that nothing is offered
+abbrev pub not_offered : OfferRefusal → NotOffered
+not_offered (message.UnknownCommon node) = offer.Refused (peer.Offer (message.UnknownCommon node))
+not_offered message.TooLarge = offer.Refused (peer.Offer message.TooLarge)
+not_offered message.NoMemory = offer.NoMemory
 
 -- the numbers that a user reads; want of memory has none
 abbrev pub call_refusal_number : CallRefusal → Option ℕ

@@ -14,10 +14,12 @@ pub record PassView : Type 0 where
   pub told : List Entry
   pub calls : ℕ
 
--- all that was accepted, in order; what of it is published; and the state that all of it leads to
+-- all that was accepted, in order; what readers see of it; what waits to be published, in order; and the state that all
+-- of it leads to
 pub record DeskView : Type 0 where
   pub journal : List Entry
   pub published : List Entry
+  pub waiting : List Entry
   pub working : KeptValue
 
 -- a pass that has seen nothing and was told nothing, and no call of which was accepted

@@ -1,11 +1,12 @@
 //! What calls of a node answer.
 ghost use Rattle.std.specs.Prelude.{◌≡◌, Some};
 ghost use Rattle.hg_live.specs.NodeRefusals.{call_refusal, call_fault, call_refusal_number, call_refusal_text};
-ghost use Rattle.hg_live.specs.NodeRefusals.{look_refusal_number, look_refusal_name, offer_refusal};
+ghost use Rattle.hg_live.specs.NodeRefusals.{look_refusal_number, look_refusal_name, not_offered};
 ghost use Rattle.hg_live.specs.NodeRefusals.{not_offered_number, not_offered_text, close_refusal_number};
 ghost use Rattle.hg_live.specs.NodeRefusals.{close_refusal_name, no_pass_name};
 
 use hg_history::Fault;
+use hg_message::OfferRefusal;
 use hg_peer::PeerRefusal;
 use std::error::Error;
 use std::fmt;
@@ -92,7 +93,8 @@ impl From<Fault> for CallRefusal {
 /// Why a look at what is published tells nothing.
 #[derive(Clone, Copy, PartialEq, Eq, Debug)]
 pub enum LookRefusal {
-    /// The store gave no guard. The pass is as it was.
+    /// The store gave no guard, or one to a state that is older than what the pass has seen, which it never should. The
+    /// pass is as it was.
     NotEntered,
 
     /// Memory was wanting. The pass may have seen more.
@@ -127,7 +129,7 @@ impl Error for LookRefusal {}
 /// Why nothing is offered.
 #[derive(Clone, Copy, PartialEq, Eq, Debug)]
 pub enum NotOffered {
-    /// The store gave no guard. The pass is as it was.
+    /// As [`LookRefusal::NotEntered`]. The pass is as it was.
     NotEntered,
 
     /// The state that is published refuses the offer. The pass may have seen more.
@@ -165,13 +167,13 @@ impl fmt::Display for NotOffered {
 
 impl Error for NotOffered {}
 
-impl From<PeerRefusal> for NotOffered {
-    ghost from_gives = { λ refusal e. e ≡ offer_refusal refusal };
+impl From<OfferRefusal> for NotOffered {
+    ghost from_gives = { λ refusal e. e ≡ not_offered refusal };
 
-    fn from(refusal: PeerRefusal) -> NotOffered {
+    fn from(refusal: OfferRefusal) -> NotOffered {
         match refusal {
-            PeerRefusal::NoMemory => NotOffered::NoMemory,
-            _ => NotOffered::Refused(refusal),
+            OfferRefusal::NoMemory => NotOffered::NoMemory,
+            _ => NotOffered::Refused(PeerRefusal::Offer(refusal)),
         }
     }
 }

@@ -1,6 +1,6 @@
 //! What lies under a node's lock.
 ghost use Rattle.std.specs.Prelude.{◌≡◌, ◌+◌, ◌<◌, ◌≤◌, ◌^◌, ◌++◌, ◌∷◌, ◌↔◌, [], List, fold, length, All};
-ghost use Rattle.std.specs.Prelude.{IfOk, IfErr, IsErrOf, OnOk, OnErr, IsTrue, MatchBool, IfSome};
+ghost use Rattle.std.specs.Prelude.{IfOk, IfErr, IsErrOf, OnOk, OnErr, IsTrue, IfSome, MatchOption};
 ghost use Rattle.std.specs.List.{sum_by};
 ghost use mathlib.Core.List.{IsPrefix};
 ghost use Rattle.left_right.specs.Handles.{published, pending};
@@ -17,7 +17,7 @@ use crate::entry::{Entry, accept};
 use crate::gate::Gate;
 use crate::name::NodeName;
 use crate::pass::Pass;
-use crate::store::{Step, Writer};
+use crate::store::{Publisher, Sight, Step, Writer};
 use hg_changeset::Node;
 use hg_join::Actor;
 use hg_journal::{Front, History};
@@ -35,11 +35,10 @@ pub(crate) const MOST: u64 = 1 << 62;
 
 /// What lies under a node's lock: the working replica with its pins, the journal of all that was accepted, and the
 /// writer of what is published. Contracts see the journal, what of it is published, and the working state.
-pub struct Desk<K: NodeName, S> {
+pub struct Desk<K: NodeName, S: Publisher> {
     alloc: Global,
     working: Peer,
     journal: History<K, Entry>,
-    shown: Front<K, Entry>,
     start: Front<K, Entry>,
     waiting: VecDeque<Step<K>>,
     writer: S,
@@ -49,13 +48,12 @@ pub struct Desk<K: NodeName, S> {
 }
 
 // Whoever owns one calls this once, and is proved without a look at each collection in it.
-impl<K: NodeName, S: Drop> Drop for Desk<K, S> {
+impl<K: NodeName, S: Publisher + Drop> Drop for Desk<K, S> {
     fn drop(self) {
         let Desk {
             alloc: _,
             working: _,
             journal: _,
-            shown: _,
             start: _,
             waiting: _,
             writer: _,
@@ -66,8 +64,8 @@ impl<K: NodeName, S: Drop> Drop for Desk<K, S> {
     }
 }
 
-impl<K: NodeName, S> Model for Desk<K, S> {
-    ghost use Rattle.std.specs.Prelude.{◌≡◌, ◌+◌, length, []};
+impl<K: NodeName, S: Publisher> Model for Desk<K, S> {
+    ghost use Rattle.std.specs.Prelude.{◌≡◌, ◌+◌, ◌++◌, length, map, []};
     ghost use Rattle.std.specs.Coded.{codes};
     ghost use Rattle.hg_marker.specs.Fields.{fields_code};
     ghost use Rattle.hg_live.specs.After.{IsAfter};
@@ -77,10 +75,16 @@ impl<K: NodeName, S> Model for Desk<K, S> {
 
     ghost coded = { Prim.hlevel (codes, fields_code) };
 
-    ghost view = { λ d. record { journal = d.journal; published = d.shown; working = d.working } };
+    ghost view = { λ d. record {
+      journal = d.journal;
+      published = S.shown d.writer;
+      waiting = S.held d.writer ++ map (λ step. step.entry) d.waiting.items;
+      working = d.working;
+    } };
 
     ghost invariant = { λ d. record {
       after : IsAfter K.opening d.journal d.working;
+      rest : d.journal ≡ S.shown d.writer ++ (S.held d.writer ++ map (λ step. step.entry) d.waiting.items);
       counted : d.book.total ≡ length d.journal;
       unasked : d.rest.amount ≡ 0;
       start : d.start ≡ [];
@@ -99,16 +103,16 @@ impl<K: NodeName, R: Wait + Drop> Desk<K, Writer<K, R>> {
     ) -> Desk<K, Writer<K, R>>
         requires working { working ≡ K.opening }
         requires journal { journal ≡ [] }
+        requires writer { ((published writer).entries ≡ []) × (pending writer ≡ []) }
         requires book { book.total ≡ 0 }
         requires rest { (rest.amount ≡ 0) × (rest.parts ≡ 2 ^ 62 + 1) }
-        ensures { result ≡ record { journal = []; published = []; working = K.opening } }
+        ensures { result ≡ record { journal = []; published = []; waiting = []; working = K.opening } }
     {
         let start = journal.front();
         Desk {
             alloc,
             working,
             journal,
-            shown: start.again(),
             start,
             waiting: VecDeque::new(alloc),
             writer,
@@ -149,6 +153,7 @@ impl<K: NodeName, R: Wait + Drop> Desk<K, Writer<K, R>> {
         ensures refused { IfErr result (IsAgainstLocal self.old op.now) }
         ensures err { OnErr result ((self.new ≡ self.old) × (pass.new ≡ pass.old)) }
         ensures after { IsAfter K.opening self.old.journal self.old.working }
+        ensures rest { self.old.journal ≡ self.old.published ++ self.old.waiting }
     {
         if self.journal.len() >= MOST {
             return Err(CallRefusal::JournalFull);
@@ -174,6 +179,7 @@ impl<K: NodeName, R: Wait + Drop> Desk<K, Writer<K, R>> {
         ensures refused { IfErr result (IsAgainstTake self.old bytes.now) }
         ensures err { OnErr result ((self.new ≡ self.old) × (pass.new ≡ pass.old)) }
         ensures after { IsAfter K.opening self.old.journal self.old.working }
+        ensures rest { self.old.journal ≡ self.old.published ++ self.old.waiting }
     {
         if self.journal.len() >= MOST {
             return Err(CallRefusal::JournalFull);
@@ -202,6 +208,7 @@ impl<K: NodeName, R: Wait + Drop> Desk<K, Writer<K, R>> {
         ensures refused { IfErr result (IsAgainstMarking self.old (mark.Pin node)) }
         ensures err { OnErr result ((self.new ≡ self.old) × (pass.new ≡ pass.old)) }
         ensures after { IsAfter K.opening self.old.journal self.old.working }
+        ensures rest { self.old.journal ≡ self.old.published ++ self.old.waiting }
     {
         if self.journal.len() >= MOST {
             return Err(CallRefusal::JournalFull);
@@ -226,6 +233,7 @@ impl<K: NodeName, R: Wait + Drop> Desk<K, Writer<K, R>> {
         ensures refused { IfErr result (IsAgainstMarking self.old (mark.Unpin node)) }
         ensures err { OnErr result ((self.new ≡ self.old) × (pass.new ≡ pass.old)) }
         ensures after { IsAfter K.opening self.old.journal self.old.working }
+        ensures rest { self.old.journal ≡ self.old.published ++ self.old.waiting }
     {
         if self.journal.len() >= MOST {
             return Err(CallRefusal::JournalFull);
@@ -248,11 +256,11 @@ impl<K: NodeName, R: Wait + Drop> Desk<K, Writer<K, R>> {
         ensures refused { IfErr result (IsAgainstEntry self.old.working entry) }
         ensures err { OnErr result ((self.new ≡ self.old) × (pass.new ≡ pass.old)) }
         ensures after { IsAfter K.opening self.old.journal self.old.working }
+        ensures rest { self.old.journal ≡ self.old.published ++ self.old.waiting }
     {
         let Desk {
             working,
             journal,
-            shown,
             waiting,
             writer,
             book,
@@ -275,12 +283,12 @@ impl<K: NodeName, R: Wait + Drop> Desk<K, Writer<K, R>> {
             before,
             after: after.again(),
         });
-        if publish(writer, waiting, &after, gate) {
-            *shown = after.again();
-            pass.see(after);
-            Ok(Accepted::Shown)
-        } else {
-            Ok(Accepted::Later)
+        match publish(writer, waiting, &after, gate) {
+            Some(sight) => {
+                pass.see(sight);
+                Ok(Accepted::Shown)
+            }
+            None => Ok(Accepted::Later),
         }
     }
 
@@ -315,7 +323,8 @@ fn hand_over<K: NodeName, R: Wait + Drop>(
     waiting: &mut VecDeque<Step<K>>,
 ) -> bool
     ensures same { published writer.new ≡ published writer.old }
-    ensures all { IsTrue result → pending writer.new ≡ pending writer.old ++ waiting.old.items }
+    ensures rest { pending writer.new ++ waiting.new.items ≡ pending writer.old ++ waiting.old.items }
+    ensures all { IsTrue result → waiting.new.items ≡ [] }
 {
     let mut left = waiting.len();
     while left > 0 {
@@ -329,22 +338,29 @@ fn hand_over<K: NodeName, R: Wait + Drop>(
     true
 }
 
-// Publishes all that waits, or nothing.
+// Publishes all that waits, or nothing. Who published it has then seen it.
 fn publish<K: NodeName, R: Wait + Drop, G: Gate>(
     writer: &mut Writer<K, R>,
     waiting: &mut VecDeque<Step<K>>,
     front: &Front<K, Entry>,
     gate: &G,
-) -> bool
+) -> Option<Sight<K>>
     requires leads { (l : List EntryValue) → fold (λ l step. step.after) l waiting.old.items ≡ front.now }
-    ensures { MatchBool result ((published writer.new).entries ≡ front.now)
-        (published writer.new ≡ published writer.old) }
+    ensures sight { IfSome result (λ sight. sight ≡ front.now) }
+    ensures shown { MatchOption result (published writer.new ≡ published writer.old)
+        (λ _. (published writer.new).entries ≡ front.now) }
+    ensures rest { MatchOption result
+        (pending writer.new ++ waiting.new.items ≡ pending writer.old ++ waiting.old.items)
+        (λ _. (pending writer.new ≡ []) × (waiting.new.items ≡ [])) }
 {
     if !hand_over(writer, waiting) {
-        return false;
+        return None;
     }
     gate.at_publish();
-    writer.publish().is_ok()
+    match writer.publish() {
+        Ok(()) => Some(writer.published().sight()),
+        Err(_) => None,
+    }
 }
 
 // Whether what the pass has seen and was told begins the journal.

@@ -1,6 +1,9 @@
 //! What is called before a publication.
 
 /// Is called under a node's lock before each publication. It may wait; readers don't.
+///
+/// It must not call the node that it is of, by what takes the lock: the thread that has the lock would wait for itself.
+/// It may look.
 pub trait Gate {
     /// What is done there.
     fn at_publish(&self);

@@ -9,7 +9,8 @@
 //! {
 //!     match node.local(rt, pass, op) {
 //!         // The operation's part is in the journal, and all that was accepted before it. This pass sees it now.
-//!         Ok(Accepted::Shown) => Node::<K, OpenGate, Writer<K, &R>>::read(pass, id).is_ok(),
+//!         // A look is through the pass alone, so it is no matter what the node's gate is and what it is written by.
+//!         Ok(Accepted::Shown) => Node::<K, (), ()>::read(pass, id).is_ok(),
 //!         // It is in the journal, but memory was wanting to publish it. The next call does that, too.
 //!         Ok(Accepted::Later) => true,
 //!         // Nothing changed.
@@ -34,15 +35,18 @@
 //!   begins with all that each of them had seen or been told, and has as many entries as these passes count accepted
 //!   calls: nothing entered the journal unasked.
 //!
+//! Messages go from node to node by any means. An [`Inbox`], which threads share too, is one.
+//!
 //! The state that entries lead to is the least one, part after part, above what the node opened with
 //! ([`states_are_least`]).
 //!
 //! # What is not promised
 //!
 //! The calls of a node that take its lock wait for whoever has it, and publishing waits for readers of what is no
-//! longer published, so no contract says that they return. Nothing is said of the order of two calls of passes that
-//! told each other nothing. That [`Accepted::Later`] comes only where memory was wanting, and a pass is refused only
-//! where there are 16, is for tests.
+//! longer published. To drop a node, or to close it with success, waits for whoever is inside a look at it. So no
+//! contract says that these return. A look waits for nobody, and that it returns is proved. Nothing is said of the
+//! order of two calls of passes that told each other nothing. That [`Accepted::Later`] comes only where memory was
+//! wanting, and a pass is refused only where there are 16, is for tests.
 #![tactic(auto)]
 
 mod answer;
@@ -59,9 +63,10 @@ pub use answer::{Accepted, CallRefusal, CloseRefusal, LookRefusal, NoPass, NotOf
 pub use desk::Desk;
 pub use entry::Entry;
 pub use gate::{Gate, OpenGate};
+pub use hg_inbox::{Full, Inbox, InboxRefusal, Seat, Unclosed as UnclosedInbox};
 pub use hg_view::Status;
 pub use laws::states_are_least;
 pub use name::NodeName;
 pub use node::{Blank, Node, Unclosed as UnclosedNode};
 pub use pass::Pass;
-pub use store::{Published, Step, Writer};
+pub use store::{Published, Publisher, Step, Writer};

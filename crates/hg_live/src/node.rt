@@ -21,11 +21,11 @@ use crate::entry::Entry;
 use crate::gate::Gate;
 use crate::name::NodeName;
 use crate::pass::Pass;
-use crate::store::{Published, Writer};
+use crate::store::{Published, Publisher, Writer};
 use hg_changeset::Node as Id;
 use hg_join::{JoinState, NoMemory};
 use hg_journal::Opened;
-use hg_peer::{Ask, Peer};
+use hg_peer::{Peer, Scope};
 use hg_replica::Replica;
 use hg_rewrite::Op;
 use hg_view::{Kept, Status};
@@ -60,13 +60,13 @@ impl Blank {
 }
 
 /// A replica with a lock of its own, which threads share.
-pub struct Node<K: NodeName, G, S> {
+pub struct Node<K: NodeName, G, S: Publisher> {
     desk: Mutex<Desk<K, S>>,
     gate: G,
 }
 
 // Whoever owns one calls this once, and is proved without a look at each collection in it.
-impl<K: NodeName, G: Drop, S: Drop> Drop for Node<K, G, S> {
+impl<K: NodeName, G: Drop, S: Publisher + Drop> Drop for Node<K, G, S> {
     fn drop(self) {
         let Node { desk: _, gate: _ } = self;
     }
@@ -74,7 +74,7 @@ impl<K: NodeName, G: Drop, S: Drop> Drop for Node<K, G, S> {
 
 /// A node that wasn't closed comes back, and so do the passes.
 #[derive(Drop)]
-pub struct Unclosed<K: NodeName, G, S> {
+pub struct Unclosed<K: NodeName, G, S: Publisher> {
     /// Why it wasn't.
     pub why: CloseRefusal,
 
@@ -191,9 +191,36 @@ impl<K: NodeName, G: Gate + Drop, R: Wait + Drop> Node<K, G, Writer<K, R>> {
         desk.unpin(pass, &self.gate, node)
     }
 
+    /// A copy of the working replica, where all passes are back whose calls were accepted. The accepted calls of these
+    /// passes are all that ever entered the journal. It needs no lock, since nobody else has the node; but where it
+    /// succeeds it waits, as dropping a node does, for whoever is inside a look by a pass that isn't back.
+    pub fn close(self, passes: Vec<Pass<K>>) -> Result<Replica, Unclosed<K, G, Writer<K, R>>>
+        ensures ok { IfOk result (λ replica. (l : List EntryValue) × (s : KeptValue) × IsAfter K.opening l s
+            × (replica ≡ s.replica) × (length l ≡ sum_by (λ p. p.calls) passes.items)
+            × All (λ p. IsPrefix p.seen l × IsPrefix p.told l) passes.items) }
+        ensures err { IfErr result (λ unclosed. unclosed.passes ≡ passes) }
+    {
+        let Node { desk, gate } = self;
+        let desk = desk.into_inner();
+        match desk.closing(passes.as_slice()) {
+            Ok(replica) => Ok(replica),
+            Err(why) => Err(Unclosed {
+                why,
+                node: Node {
+                    desk: Mutex::new(desk),
+                    gate,
+                },
+                passes,
+            }),
+        }
+    }
+}
+
+/// What waits for nobody, whatever the node is written by.
+impl<K: NodeName, G, S: Publisher> Node<K, G, S> {
     /// Lets both passes see one list, and tells them one list, which begins with all that each had seen or been told.
     /// Nothing is refused, and what the passes know suffices for it, so it waits for nobody.
-    pub fn meet<W: Wait>(&self, _rt: &W, one: &mut Pass<K>, other: &mut Pass<K>)
+    pub fn meet(&self, one: &mut Pass<K>, other: &mut Pass<K>)
         ensures one { (one.new.seen ≡ other.new.seen) × (one.new.told ≡ other.new.told) }
         ensures seen { IsPrefix one.old.seen one.new.seen × IsPrefix other.old.seen other.new.seen }
         ensures told { IsPrefix one.old.told one.new.told × IsPrefix other.old.told other.new.told }
@@ -220,34 +247,11 @@ impl<K: NodeName, G: Gate + Drop, R: Wait + Drop> Node<K, G, Writer<K, R>> {
         pass.known(nodes)
     }
 
-    /// The bytes that the state that is published offers above the common nodes, of the scope that is asked for. It
-    /// takes no lock, and waits for nobody.
-    pub fn offer(pass: &mut Pass<K>, ask: &Ask) -> Result<Vec<u8>, NotOffered>
-        ensures { OfferLookAnswer K.opening ask.now pass.old result pass.new }
+    /// The bytes that the state that is published offers above the common nodes, of this scope. It takes no lock, and
+    /// waits for nobody.
+    pub fn offer(pass: &mut Pass<K>, common: &[Id], scope: Scope) -> Result<Vec<u8>, NotOffered>
+        ensures { OfferLookAnswer K.opening common.now scope pass.old result pass.new }
     {
-        pass.offer(ask)
-    }
-
-    /// A copy of the working replica, where all passes are back whose calls were accepted. The accepted calls of these
-    /// passes are all that ever entered the journal. It needs no lock, since nobody else has the node.
-    pub fn close(self, passes: Vec<Pass<K>>) -> Result<Replica, Unclosed<K, G, Writer<K, R>>>
-        ensures ok { IfOk result (λ replica. (l : List EntryValue) × (s : KeptValue) × IsAfter K.opening l s
-            × (replica ≡ s.replica) × (length l ≡ sum_by (λ p. p.calls) passes.items)
-            × All (λ p. IsPrefix p.seen l × IsPrefix p.told l) passes.items) }
-        ensures err { IfErr result (λ unclosed. unclosed.passes ≡ passes) }
-    {
-        let Node { desk, gate } = self;
-        let desk = desk.into_inner();
-        match desk.closing(passes.as_slice()) {
-            Ok(replica) => Ok(replica),
-            Err(why) => Err(Unclosed {
-                why,
-                node: Node {
-                    desk: Mutex::new(desk),
-                    gate,
-                },
-                passes,
-            }),
-        }
+        pass.offer(common, scope)
     }
 }

@@ -1,21 +1,22 @@
 //! The right to use a node.
-ghost use Rattle.std.specs.Prelude.{◌≡◌, ◌+◌, ◌<◌, ◌^◌, ℕ, IfSome, IfOk, IfErr, IsErrOf, length};
+ghost use Rattle.std.specs.Prelude.{◌≡◌, ◌+◌, ◌<◌, ◌^◌, ℕ, [], IfSome, IfOk, IfErr, IsErrOf, length};
 ghost use mathlib.Core.List.{IsPrefix};
 ghost use Rattle.hg_replica.specs.Content.{content_of};
 ghost use Rattle.hg_discovery.specs.Rounds.{AreKnown};
 ghost use Rattle.hg_live.specs.declared.answer.LookRefusal.TheVariants as look;
 ghost use Rattle.hg_view.specs.Status.{IsStatus};
-ghost use Rattle.hg_live.specs.Looks.{LookAnswer, OfferLookAnswer, StateOffers};
+ghost use Rattle.hg_live.specs.NodeViews.{new_pass};
+ghost use Rattle.hg_live.specs.Looks.{LookAnswer, OfferLookAnswer, StateOffers, Writes};
 
 use crate::answer::{LookRefusal, NotOffered};
 use crate::entry::Entry;
 use crate::name::NodeName;
-use crate::store::Published;
+use crate::store::{Published, Sight};
 use hg_changeset::Node;
 use hg_discovery::known_kept;
-use hg_join::Actor;
 use hg_journal::Front;
-use hg_peer::{Ask, Peer};
+use hg_message::Outgoing;
+use hg_peer::{Peer, Scope};
 use hg_view::Status;
 use left_right::ReadHandle;
 use std::alloc::Global;
@@ -27,7 +28,7 @@ use std::sync::ledger::{Book, Share};
 pub struct Pass<K: NodeName> {
     alloc: Global,
     reader: ReadHandle<Published<K>>,
-    seen: Front<K, Entry>,
+    seen: Sight<K>,
     told: Front<K, Entry>,
     calls: u64,
     share: Share<K>,
@@ -69,13 +70,14 @@ impl<K: NodeName> Pass<K> {
         start: &Front<K, Entry>,
         share: Share<K>,
     ) -> Pass<K>
-        requires { (share.parts ≡ 1) × (share.amount ≡ 0) }
-        ensures { result ≡ record { seen = start.now; told = start.now; calls = 0 } }
+        requires share { (share.parts ≡ 1) × (share.amount ≡ 0) }
+        requires start { start.now ≡ [] }
+        ensures { result ≡ new_pass }
     {
         Pass {
             alloc,
             reader,
-            seen: start.again(),
+            seen: Sight::none(start),
             told: start.again(),
             calls: 0,
             share,
@@ -86,7 +88,7 @@ impl<K: NodeName> Pass<K> {
     pub fn seen(&self) -> &Front<K, Entry>
         ensures { result.now ≡ self.now.seen }
     {
-        &self.seen
+        self.seen.front()
     }
 
     /// The beginning of the journal that it was told.
@@ -114,10 +116,10 @@ impl<K: NodeName> Pass<K> {
         self.calls += 1;
     }
 
-    pub(crate) fn see(&mut self, front: Front<K, Entry>)
-        ensures { self.new ≡ record self.old { seen = front } }
+    pub(crate) fn see(&mut self, sight: Sight<K>)
+        ensures { self.new ≡ record self.old { seen = sight } }
     {
-        self.seen = front;
+        self.seen = sight;
     }
 
     pub(crate) fn hear(&mut self, front: Front<K, Entry>)
@@ -135,7 +137,7 @@ impl<K: NodeName> Pass<K> {
         ensures calls { (self.new.calls ≡ self.old.calls) × (other.new.calls ≡ other.old.calls) }
     {
         let seen = self.seen.longer(&other.seen);
-        let told = self.told.longer(&other.told).longer(&seen);
+        let told = self.told.longer(&other.told).longer(seen.front());
         self.seen = seen.again();
         other.seen = seen;
         self.told = told.again();
@@ -185,9 +187,9 @@ impl<K: NodeName> Pass<K> {
         answers
     }
 
-    // The bytes that the state that is published offers.
-    pub(crate) fn offer(&mut self, ask: &Ask) -> Result<Vec<u8>, NotOffered>
-        ensures { OfferLookAnswer K.opening ask.now self.old result self.new }
+    // The bytes that the state that is published offers of the scope above the common nodes.
+    pub(crate) fn offer(&mut self, common: &[Node], scope: Scope) -> Result<Vec<u8>, NotOffered>
+        ensures { OfferLookAnswer K.opening common.now scope self.old result self.new }
     {
         let Pass {
             alloc,
@@ -202,7 +204,7 @@ impl<K: NodeName> Pass<K> {
         let Some(now) = further(seen, published) else {
             return Err(NotOffered::NotEntered);
         };
-        let bytes = offered_by(*alloc, published.peer(), ask);
+        let bytes = offered_by(*alloc, published.peer(), common, scope);
         drop(guard);
         *seen = now;
         bytes
@@ -210,14 +212,11 @@ impl<K: NodeName> Pass<K> {
 }
 
 // What is published, where that begins with all that was seen. It always does, but no contract of the store says so.
-fn further<K: NodeName>(seen: &Front<K, Entry>, published: &Published<K>) -> Option<Front<K, Entry>>
+fn further<K: NodeName>(seen: &Sight<K>, published: &Published<K>) -> Option<Sight<K>>
     ensures { IfSome result (λ now. (now ≡ published.now.entries) × IsPrefix seen.now published.now.entries) }
 {
-    if seen.begins(published.front()) {
-        Some(published.front().again())
-    } else {
-        None
-    }
+    let now = published.sight();
+    if seen.begins(&now) { Some(now) } else { None }
 }
 
 // Which of the nodes the state serves.
@@ -231,11 +230,29 @@ fn known_by(alloc: Global, peer: &Peer, nodes: &[Node]) -> Result<Vec<bool>, Loo
     }
 }
 
-// What the state offers.
-fn offered_by(alloc: Global, peer: &Peer, ask: &Ask) -> Result<Vec<u8>, NotOffered>
-    ensures { StateOffers peer.now ask.now result }
+// What the state offers of the scope above the common nodes, as a peer does that is asked for it.
+fn offered_by(
+    alloc: Global,
+    peer: &Peer,
+    common: &[Node],
+    scope: Scope,
+) -> Result<Vec<u8>, NotOffered>
+    ensures { StateOffers peer.now common.now scope result }
 {
-    match peer.offer(alloc, ask) {
+    let kept = peer.kept();
+    // It says that the replica is in a valid state.
+    let _replica = kept.replica();
+    match Outgoing::above_kept(alloc, kept, common, scope) {
+        Ok(found) => written(&found),
+        Err(refusal) => Err(refusal.into()),
+    }
+}
+
+// The bytes of what goes out.
+fn written(found: &Outgoing<'_>) -> Result<Vec<u8>, NotOffered>
+    ensures { Writes found.now result }
+{
+    match found.to_bytes() {
         Ok(bytes) => Ok(bytes),
         Err(refusal) => Err(refusal.into()),
     }

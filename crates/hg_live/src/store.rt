@@ -1,5 +1,6 @@
-//! What readers of a node see, and what changes it.
-ghost use Rattle.std.specs.Prelude.{◌≡◌, ◌++◌, ◌∷◌, []};
+//! What readers of a node see, what changes it, and what is known of it.
+ghost use Rattle.std.specs.Prelude.{◌≡◌, ◌++◌, ◌∷◌, [], MatchBool};
+ghost use mathlib.Core.List.{IsPrefix};
 ghost use Rattle.hg_live.specs.After.{IsAfter};
 
 use crate::entry::{Entry, accept};
@@ -9,6 +10,7 @@ use hg_peer::Peer;
 use left_right::{Absorb, WriteHandle};
 use std::alloc::AllocError;
 use std::marker::Model;
+use std::sync::Wait;
 
 /// An entry that was accepted, with the journal before it and after it.
 #[derive(Drop)]
@@ -48,9 +50,11 @@ impl<K: NodeName> Model for Published<K> {
 }
 
 impl<K: NodeName> Published<K> {
+    // What is published before any entry was accepted.
     pub(crate) fn new(peer: Peer, front: Front<K, Entry>) -> Published<K>
-        requires { IsAfter K.opening front peer }
-        ensures { result ≡ record { entries = front; state = peer } }
+        requires state { peer ≡ K.opening }
+        requires entries { front ≡ [] }
+        ensures { result ≡ record { entries = []; state = peer } }
     {
         Published { peer, front }
     }
@@ -63,11 +67,84 @@ impl<K: NodeName> Published<K> {
         &self.peer
     }
 
+    // The entries, as whoever sees them now knows them.
+    pub(crate) fn sight(&self) -> Sight<K>
+        ensures { result ≡ self.now.entries }
+    {
+        Sight {
+            front: self.front.again(),
+        }
+    }
+}
+
+/// What somebody has seen of the entries that are published. It is had from what is published alone, but for one that
+/// has seen none. Contracts see the entries.
+pub struct Sight<K: NodeName> {
+    front: Front<K, Entry>,
+}
+
+// Whoever owns one calls this once, and is proved without a look at each collection in it.
+impl<K: NodeName> Drop for Sight<K> {
+    fn drop(self) {
+        let Sight { front: _ } = self;
+    }
+}
+
+impl<K: NodeName> Model for Sight<K> {
+    ghost use Rattle.std.specs.Prelude.{List};
+    ghost use Rattle.std.specs.Coded.{codes};
+    ghost use Rattle.hg_marker.specs.Fields.{fields_code};
+    ghost use Rattle.hg_live.specs.declared.entry.Entry.{Entry};
+
+    ghost Value = { List Entry };
+
+    ghost coded = { Prim.hlevel (codes, fields_code) };
+
+    ghost view = { λ s. s.front };
+}
+
+impl<K: NodeName> Sight<K> {
+    // That of somebody who has seen no entry.
+    pub(crate) fn none(start: &Front<K, Entry>) -> Sight<K>
+        requires { start.now ≡ [] }
+        ensures { result ≡ [] }
+    {
+        Sight {
+            front: start.again(),
+        }
+    }
+
     // The entries.
     pub(crate) fn front(&self) -> &Front<K, Entry>
-        ensures { result.now ≡ self.now.entries }
+        ensures { result.now ≡ self.now }
     {
         &self.front
+    }
+
+    // A copy.
+    pub(crate) fn again(&self) -> Sight<K>
+        ensures { result ≡ self.now }
+    {
+        Sight {
+            front: self.front.again(),
+        }
+    }
+
+    // Whether this is no longer than the other, and so begins it. Else the other begins it.
+    pub(crate) fn begins(&self, other: &Sight<K>) -> bool
+        ensures { MatchBool result (IsPrefix self.now other.now) (IsPrefix other.now self.now) }
+    {
+        self.front.begins(&other.front)
+    }
+
+    // The longer of two, which the other begins.
+    pub(crate) fn longer(&self, other: &Sight<K>) -> Sight<K>
+        ensures this { IsPrefix self.now result }
+        ensures that { IsPrefix other.now result }
+    {
+        Sight {
+            front: self.front.longer(&other.front),
+        }
     }
 }
 
@@ -94,3 +171,33 @@ impl<K: NodeName> Absorb<Step<K>> for Published<K> {
 
 /// The writer of a node's store.
 pub type Writer<K, R> = WriteHandle<Published<K>, Step<K>, R>;
+
+/// What a node publishes by. Contracts see the entries that readers see, and those that wait in it, in their order.
+pub trait Publisher {
+    ghost use Rattle.std.specs.Prelude.{List};
+    ghost use Rattle.hg_live.specs.declared.entry.Entry.{Entry};
+
+    /// The entries that readers see.
+    ghost shown: { Self → List Entry };
+
+    /// The entries that wait in it.
+    ghost held: { Self → List Entry };
+}
+
+impl<K: NodeName, R: Wait + Drop> Publisher for Writer<K, R> {
+    ghost use Rattle.left_right.specs.Handles.{published, pending};
+    ghost use Rattle.std.specs.Prelude.{map};
+
+    ghost shown = { λ w. (published w).entries };
+
+    ghost held = { λ w. map (λ step. step.entry) (pending w) };
+}
+
+/// Of a node that is only named, as by a look through a pass: `Node::<K, (), ()>::read(pass, id)`.
+impl Publisher for () {
+    ghost use Rattle.std.specs.Prelude.{[]};
+
+    ghost shown = { λ _. [] };
+
+    ghost held = { λ _. [] };
+}

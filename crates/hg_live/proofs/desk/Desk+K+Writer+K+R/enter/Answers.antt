@@ -1,24 +1,52 @@
-use Rattle.std.proofs.Common.{◌≡◌, List, [], ◌∷◌, length, ap, sym, subst, arith, length-append}
-use Rattle.hg_live.specs.declared.entry.Entry.{Entry}
-use Rattle.hg_live.specs.After.{IsAfter}
-use Rattle.hg_live.proofs.AfterLemmas.{after_next}
-use Rattle.hg_live.proofs.desk.Desk+K+Writer+K+R.enter.Goals.{then-publish, else-publish}
+use Rattle.std.proofs.Common.{◌∙◌, ap}
+use Rattle.hg_live.specs.NodeViews.{PublishedView}
+use Rattle.hg_live.proofs.AfterLemmas.{after_grown, counted_grown}
+use Rattle.hg_live.proofs.WaitLemmas.{waits_behind, rest_behind, none_behind}
 use Rattle.hg_live.proofs.desk.Desk+K+Writer+K+R.enter.Goals as goal
 
-pub invariant_of-self-2 : goal.invariant_of-self-2
-invariant_of-self-2 g c =
-    let o = g.K.NodeName.opening in
+pub invariant_of-self-in-Some : goal.invariant_of-self-in-Some
+invariant_of-self-in-Some g c =
     let i = c.self.inside in
     let v = c.self.invariant in
     let grown = c.extend-entry.ensures.new in
-    let after : IsAfter o c.extend-entry.new.self c.accept.new.peer =
-    subst (λ (l : List Entry). IsAfter o l c.accept.new.peer) (sym grown)
-    (after_next o i.working c.accept.new.peer i.journal c.args.entry v.after c.in-Ok.ensures.ok) in
-    let counted : c.count.new.book.total ≡ length c.extend-entry.new.self =
-    omega (arith, c.count.ensures.total, v.counted, ap length grown, length-append i.journal (c.args.entry ∷ [])) in
-    elim c.if-publish.branch [
-      | then-publish w ↦ rw w.self-inside-is
-          record { after = after; counted = counted; unasked = v.unasked; start = v.start; parts = v.parts }
-      | else-publish w ↦ rw w.self-inside-is
-          record { after = after; counted = counted; unasked = v.unasked; start = v.start; parts = v.parts }
-    ]
+    record {
+      after = after_grown g.K.NodeName.opening i.working c.accept.new.peer i.journal _ c.args.entry v.after
+          c.in-Ok.ensures.ok grown;
+      rest = none_behind (λ step. step.entry) _ _ _ _ (c.in-Some.ensures.shown ∙ c.front-after.ensures)
+          c.in-Some.ensures.rest;
+      counted = counted_grown i.book.total c.count.new.book.total i.journal _ c.args.entry c.count.ensures.total
+          v.counted grown;
+      unasked = v.unasked;
+      start = v.start;
+      parts = v.parts;
+    }
+
+pub invariant_of-self-2 : goal.invariant_of-self-2
+invariant_of-self-2 g c =
+    let i = c.self.inside in
+    let v = c.self.invariant in
+    let grown = c.extend-entry.ensures.new in
+    let told = c.in-None.ensures in
+    record {
+      after = after_grown g.K.NodeName.opening i.working c.accept.new.peer i.journal _ c.args.entry v.after
+          c.in-Ok.ensures.ok grown;
+      rest = rest_behind (λ step. step.entry) _ _ _ _ _ _ _ _ told.rest c.push_back_reserved.ensures.items
+          c.reserve.ensures.items c.extend-entry.ensures.same _ _ _ _ v.rest grown
+          (ap (λ (p : PublishedView). p.entries) told.shown);
+      counted = counted_grown i.book.total c.count.new.book.total i.journal _ c.args.entry c.count.ensures.total
+          v.counted grown;
+      unasked = v.unasked;
+      start = v.start;
+      parts = v.parts;
+    }
+
+pub returns-clause-noted : goal.returns-clause-noted
+returns-clause-noted g c =
+    let told = c.in-None.ensures in
+    rw (← c.self.view_is) record {
+      journal = c.extend-entry.ensures.new;
+      working = c.in-Ok.ensures.ok;
+      published = ap (λ (p : PublishedView). p.entries) told.shown;
+      waiting = waits_behind (λ step. step.entry) _ _ _ _ _ _ _ _ told.rest c.push_back_reserved.ensures.items
+          c.reserve.ensures.items c.extend-entry.ensures.same;
+    }

@@ -1,7 +1,9 @@
-use Rattle.std.proofs.Common.{subst}
+use Rattle.std.proofs.Common.{◌≡◌, ◌⊎◌, subst}
 use Rattle.hg_replica.specs.Content.{content_of, ContentAdmits}
 use Rattle.hg_replica.proofs.ContentLemmas.{content-valid}
-use Rattle.hg_peer.specs.Peers.{Decides}
+use Rattle.hg_rewrite.specs.Memory.{MayWantMemory}
+use Rattle.hg_peer.specs.declared.refusal.PeerRefusal.TheVariants.{NoMemory}
+use Rattle.hg_peer.specs.Peers.{Decides, IsAgainstOperation, IsMemory}
 use Rattle.hg_live.specs.declared.entry.Entry.TheVariants.{Part}
 use Rattle.hg_live.specs.NodeViews.{DeskView}
 use Rattle.hg_live.specs.Calls.{IsAgainstEntry, IsAgainstLocal}
@@ -23,7 +25,12 @@ returns-in-Ok-clause-refused g c =
 
 pub returns-in-Err-clause-refused : goal.returns-in-Err-clause-refused
 returns-in-Err-clause-refused g c =
-    let i = c.self.inside in
-    let d : DeskView = record { journal = i.journal; published = i.shown; working = i.working } in
-    rw (c.into.ensures, ← c.self.view_is)
-    (operation_told d c.args.op.now c.in-Err.refusal c.in-Err.ensures.err (λ e. c.in-Err.ensures.memory (cc (e))))
+    let d = c.args.self.now in
+    let op = c.args.op.now in
+    let r = c.in-Err.refusal in
+    let told : IsAgainstOperation d.working op r ⊎ IsMemory r =
+    subst (λ (d : DeskView). IsAgainstOperation d.working op r ⊎ IsMemory r) c.self.view_is c.in-Err.ensures.err in
+    let memory : r ≡ NoMemory → MayWantMemory d.working.replica d.working.pins op =
+    λ e. subst (λ (d : DeskView). MayWantMemory d.working.replica d.working.pins op) c.self.view_is
+    (c.in-Err.ensures.memory (cc (e))) in
+    rw (c.into.ensures) (operation_told d op r told memory)

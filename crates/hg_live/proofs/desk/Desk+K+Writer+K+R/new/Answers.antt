@@ -1,4 +1,4 @@
-use Rattle.std.proofs.Common.{◌∙◌, length, ap, sym}
+use Rattle.std.proofs.Common.{rules, ◌∙◌, length, ap, sym}
 use Rattle.hg_live.proofs.AfterLemmas.{after_none, after_same}
 use Rattle.hg_live.proofs.desk.Desk+K+Writer+K+R.new.Goals as goal
 
@@ -8,6 +8,7 @@ invariant_of-result g c =
     record {
       after = after_same o o c.args.working _ c.args.journal (after_none o) (sym c.requires.journal)
           (sym c.requires.working);
+      rest = search rules;
       counted = c.requires.book ∙ sym (ap length c.requires.journal);
       unasked = c.requires.rest.0;
       start = c.front-start.ensures ∙ c.requires.journal;

@@ -8,4 +8,4 @@ returns g c =
     let looks = c.in-Some-further.ensures in
     rw (← c.self.view_is)
     (offer_answer g.K.NodeName.opening _ _ p looks.1 looks.0 refl refl c.peer.ensures.after
-    c.args.ask.now c.offered_by-bytes.result (rw (← c.peer.ensures.state) c.offered_by-bytes.ensures))
+    c.args.common.now c.args.scope c.offered_by-bytes.result (rw (← c.peer.ensures.state) c.offered_by-bytes.ensures))
