@@ -51,7 +51,8 @@ pub(crate) fn kind_of(kept: &Kept, node: Node) -> Kind
 }
 
 fn is_unstable(status: Status) -> bool
-    ensures { IsTrue result ↔ (IsTrue status.orphan ⊎ (IsTrue status.phase_divergent ⊎ IsTrue status.content_divergent)) }
+    ensures { IsTrue result
+        ↔ (IsTrue status.orphan ⊎ (IsTrue status.phase_divergent ⊎ IsTrue status.content_divergent)) }
 {
     status.orphan || status.phase_divergent || status.content_divergent
 }

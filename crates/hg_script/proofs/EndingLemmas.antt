@@ -438,11 +438,6 @@ of_script P known text (Err e) script h = tt
 pub left_world : (known : Option Text) (fleet : Fleet) → IsLeftFleet known fleet → IsLeftWorld known fleet.world
 left_world known fleet (text, script, (run, e)) = (text, script, run)
 
-pub left_as : (known : Option Text) (fleet : Fleet) (world : Snapshot KeptValue) → IsLeftFleet known fleet
-    → world ≡ fleet.world → IsLeftWorld known world
-left_as known fleet world left e =
-    subst (λ (w : Snapshot KeptValue). IsLeftWorld known w) (sym e) (left_world known fleet left)
-
 -- what stopped the lines of a text, from a new fleet on, stopped the text
 pub stopped_told : (text : Text) (start : Fleet) (fault : RunFault) → IsNewFleet (count_by has_node (lines text)) start
     → (fault ≡ NoMemory) ⊎ StopsAmong start (lines text) fault → (fault ≡ NoMemory) ⊎ IsStoppedBy text fault

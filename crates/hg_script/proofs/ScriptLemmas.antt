@@ -32,7 +32,7 @@ use Rattle.hg_script.specs.Events.{Trace, PeerEvent, PeerAnswer, no_trace, joine
 use Rattle.hg_script.specs.Events.{asking}
 use Rattle.hg_script.specs.Outputs.{Printed}
 use Rattle.hg_script.specs.Printing.{answer_line, answer_lines, agree_line, IsDone, PrintsTaken, PrintsLines, PrintsRun}
-use Rattle.hg_script.specs.Printing.{PrintsLine, PrintsScript}
+use Rattle.hg_script.specs.Printing.{PrintsLine}
 use Rattle.hg_script.specs.Reports.{IsReport}
 use Rattle.hg_script.specs.Scripts.{places, node_named, Does, DoesWords, DoesLines, IsNewFleet, IsRunTo}
 use Rattle.hg_script.specs.Words.{has_node, words_of}
@@ -264,9 +264,3 @@ pub run_to : Compose → (text : Text) (start : Fleet) (t : Trace) (end : Fleet)
     → IsNewFleet (count_by has_node (lines text)) start → PrintsLines 1 start (lines text) t end output → IsRunTo text end
 run_to compose text start t end output new prints =
     run_done compose text start t end new (does_printed 1 start (lines text) t end output prints)
-
--- what is printed is told of the world under any name
-pub printed_of : (known : Option Text) (world other : Snapshot KeptValue) (held holds : Option Text)
-    → PrintsScript known world held holds → other ≡ world → PrintsScript known other held holds
-printed_of known world other held holds h e =
-    subst (λ (w : Snapshot KeptValue). PrintsScript known w held holds) (sym e) h

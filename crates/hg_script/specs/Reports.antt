@@ -1,6 +1,6 @@
 -- The report of a replica: a line for each changeset, by the definitions of what is so of it, under its node's pins.
 use Rattle.std.specs.Prelude.{ℕ, ◌≡◌, ◌+◌, ◌==◌, ◌↔◌, List, [], ◌∷◌, ◌++◌, map, codes, decimal, slice_get, length, Bool}
-use Rattle.std.specs.Prelude.{IsTrue, Some, if◌then◌else◌}
+use Rattle.std.specs.Prelude.{IsTrue, Some, if◌then◌else◌, not}
 use Rattle.std.specs.declared.cmp.Ordering.{Ordering}
 use Rattle.std.specs.Cmp.Lexicographic.{slice_cmp}
 use Rattle.std.specs.List.{after_last}
@@ -60,7 +60,8 @@ with_words line status =
     line ++ text_where status.obsolete (codes " obsolete") ++ text_where status.suspended (codes " suspended")
     ++ text_where status.extinct (codes " extinct") ++ text_where status.orphan (codes " orphan")
     ++ text_where status.phase_divergent (codes " phase-divergent")
-    ++ text_where status.content_divergent (codes " content-divergent") ++ text_where (not status.visible) (codes " hidden")
+    ++ text_where status.content_divergent (codes " content-divergent")
+    ++ text_where (not status.visible) (codes " hidden")
 
 -- ---- the lines of a report
 

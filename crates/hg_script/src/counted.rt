@@ -12,7 +12,7 @@ use std::io::Read;
 use std::sync::ledger::{Blank, Ledger};
 
 /// A reader whose reads are counted.
-pub trait CountedRead: Read {
+pub(crate) trait CountedRead: Read {
     /// How many reads were made.
     ghost reads: { Self → ℕ };
 
@@ -23,20 +23,20 @@ pub trait CountedRead: Read {
         ensures bytes { ReadConsumes (Self.remaining self.old) (Self.remaining self.new) result buf.new };
 }
 
-/// A reader with a count of its reads, which the proof keeps in a ledger of its own.
+/// A reader that is lent, with a count of its reads, which the proof keeps in a ledger of its own.
 #[derive(Drop)]
-pub struct Counted<R, L: Ledger> {
-    reader: R,
+pub(crate) struct Counted<'a, R, L: Ledger> {
+    reader: &'a mut R,
     steps: Steps<L>,
 }
 
-impl<R: Read, L: Ledger> Counted<R, L> {
+impl<'a, R: Read, L: Ledger> Counted<'a, R, L> {
     /// The reader, of whose reads none was made.
-    pub fn new(reader: R, blank: Blank) -> Counted<R, L>
+    pub(crate) fn new(reader: &'a mut R, blank: Blank) -> Counted<'a, R, L>
         requires name { blank.name ≡ L.name }
         requires parts { blank.parts ≡ L.parts }
         requires some { 0 < blank.parts }
-        ensures { result.reader ≡ reader }
+        ensures { result.reader.now ≡ reader.entry.now }
     {
         Counted {
             reader,
@@ -45,15 +45,15 @@ impl<R: Read, L: Ledger> Counted<R, L> {
     }
 }
 
-impl<R: Read, L: Ledger> Read for Counted<R, L> {
-    ghost remaining = { λ counted. R.remaining counted.reader };
+impl<R: Read, L: Ledger> Read for Counted<'_, R, L> {
+    ghost remaining = { λ counted. R.remaining counted.reader.now };
 
     fn read(&mut self, buf: &mut [u8]) -> io::Result<usize> {
         self.reader.read(buf)
     }
 }
 
-impl<R: Read, L: Ledger> CountedRead for Counted<R, L> {
+impl<R: Read, L: Ledger> CountedRead for Counted<'_, R, L> {
     ghost reads = { λ counted. counted.steps };
 
     fn read_once(&mut self, buf: &mut [u8]) -> io::Result<usize> {

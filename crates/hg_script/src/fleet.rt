@@ -78,20 +78,6 @@ impl Fleet {
         })
     }
 
-    /// The world, as the script leaves it.
-    pub(crate) fn into_world(self) -> World<Peer>
-        ensures { result ≡ self.world }
-    {
-        let Fleet {
-            alloc: _,
-            world,
-            nodes: _,
-            labels: _,
-            messages: _,
-        } = self;
-        world.into_world()
-    }
-
     /// The replica of the node with this name, with its instabilities and its pins.
     pub fn kept_of(&self, name: &[u8]) -> Option<&Kept>
         ensures { option_copied result ≡ node_named self.now name.now }

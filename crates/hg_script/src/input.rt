@@ -5,17 +5,50 @@ ghost use Rattle.std.specs.Io.KnownBytes.{Consumes, IsAtEnd};
 ghost use Rattle.hg_script.specs.Faults.{IsInputFault};
 ghost use Rattle.hg_script.specs.Limits.{script_limit};
 
-use crate::counted::CountedRead;
+use crate::counted::{Counted, CountedRead};
 use crate::fault::RunFault;
 use crate::limits::SCRIPT_LIMIT;
 use std::alloc::Global;
+use std::io::Read;
+use std::marker::Brand;
+use std::sync::ledger::{Blank, Ledger};
 
 // How many bytes a read asks for.
 const CHUNK: usize = 8192;
 
 /// Reads to the end, with at most one read more than a script may have bytes. A read that fails, an interrupted one
 /// too, isn't tried again.
-pub fn read_script<R: CountedRead>(alloc: Global, reader: &mut R) -> Result<Vec<u8>, RunFault>
+pub fn read_script<R: Read>(alloc: Global, reader: &mut R) -> Result<Vec<u8>, RunFault>
+    ensures whole { IfOk result (λ text. IfSome (R.remaining reader.old) (λ bytes. bytes ≡ text.items)) }
+    ensures limit { IfOk result (λ text. length text.items ≤ script_limit) }
+    ensures fault { IfErr result IsInputFault }
+    ensures too_long { IsErrOf result RunFault.ScriptTooLong
+        → IfSome (R.remaining reader.old) (λ bytes. script_limit < length bytes) }
+{
+    count_and_read::<R, Brand>(alloc, reader, Blank::new(1))
+}
+
+// The same, by a count of reads that begins here.
+fn count_and_read<R: Read, L: Ledger>(
+    alloc: Global,
+    reader: &mut R,
+    blank: Blank,
+) -> Result<Vec<u8>, RunFault>
+    requires name { blank.name ≡ L.name }
+    requires parts { blank.parts ≡ L.parts }
+    requires some { 0 < blank.parts }
+    ensures whole { IfOk result (λ text. IfSome (R.remaining reader.old) (λ bytes. bytes ≡ text.items)) }
+    ensures limit { IfOk result (λ text. length text.items ≤ script_limit) }
+    ensures fault { IfErr result IsInputFault }
+    ensures too_long { IsErrOf result RunFault.ScriptTooLong
+        → IfSome (R.remaining reader.old) (λ bytes. script_limit < length bytes) }
+{
+    let mut counted = Counted::<R, L>::new(reader, blank);
+    read_counted(alloc, &mut counted)
+}
+
+// The same of a reader that counts its reads.
+fn read_counted<R: CountedRead>(alloc: Global, reader: &mut R) -> Result<Vec<u8>, RunFault>
     ensures whole { IfOk result (λ text. IfSome (R.remaining reader.old) (λ bytes. bytes ≡ text.items)) }
     ensures limit { IfOk result (λ text. length text.items ≤ script_limit) }
     ensures fault { IfErr result IsInputFault }

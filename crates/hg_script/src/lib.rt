@@ -6,20 +6,20 @@
 //!
 //! The replicas of a script are the peers of a world ([`hg_world`], [`hg_peer`]), which begins new, and each command is
 //! events of it. So whatever a script does is one run of that world, and the laws of runs say what became of it:
-//! [`run_fleet`] gives the world as the script leaves it, and its contract says so.
+//! [`run_fleet`] gives the fleet as the script leaves it, world and names, and its contract says so.
 //!
-//! Ids and labels are hashed by keys ([`hg_node_set`]). Whoever writes a script chooses them, and under the rule that
-//! everybody knows, which [`run_script`] takes, can choose them so that they meet and each look-up is dear. So a
-//! program that runs scripts of strangers draws secret keys, and hands them to [`run_named`] or [`run_counted_named`].
+//! Ids and labels are hashed by keys ([`hg_node_set`]). Whoever writes a script chooses them, and under the keys that
+//! everybody knows can choose them so that they meet and each look-up is dear. So a program that runs scripts of
+//! strangers draws secret keys.
 //!
 //! # Example
 //!
 //! ```text
 //! fn changesets_at_end<W: Write>(alloc: Global, keys: IdKeys, writer: &mut W) -> Result<Option<usize>, RunFault> {
-//!     let script = b"node A\ncommit A a draft\namend A a b\namend A a c\nreport A\n".as_slice();
+//!     let mut script = b"node A\ncommit A a draft\namend A a b\namend A a c\nreport A\n".as_slice();
 //!     // What a replica refuses is printed, here as `4: rewrite 4 AlreadyObsolete`, and the script goes on. A line at
 //!     // fault ends it, as `RunFault::Line` with its number. What was printed before stays.
-//!     let fleet = run_counted_named(alloc, keys, script, writer)?;
+//!     let fleet = run_fleet(alloc, keys, &mut script, writer)?;
 //!     // The world of the fleet is what a run of the events of all lines leads to, from a new world. A name that no
 //!     // line gave to a node has no replica. The one of `A` holds `a` and `b`.
 //!     let kept = fleet.kept_of(b"A");
@@ -51,10 +51,9 @@ mod telling;
 mod told;
 mod tracing;
 
-pub use counted::CountedRead;
 pub use fault::{LineFault, RunFault};
 pub use fleet::Fleet;
 pub use limits::{LINE_LIMIT, NAME_LIMIT, SCRIPT_LIMIT, limits_are_those_of_the_format};
 pub use output::printed_lines_are_those_of_the_format;
-pub use script::{run_counted, run_counted_named, run_fleet, run_named, run_script};
-pub use telling::{Notes, ToldFault, run_counted_told, run_told};
+pub use script::{run_fleet, run_script};
+pub use telling::{Notes, ToldFault, run_told};

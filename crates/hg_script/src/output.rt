@@ -28,13 +28,14 @@ pub fn printed_lines_are_those_of_the_format()
     ensures differs { agree_line (codes "A") (codes "B") false ≡ codes "agree A B: no" ++ 10 ∷ [] }
     ensures heading { heading (codes "A") ≡ codes "report A" ++ 10 ∷ [] }
     ensures row { row_line (codes "b") Phase.Draft (record {
+      phase = Some Phase.Draft;
       obsolete = true;
+      orphan = false;
       suspended = true;
       extinct = false;
-      orphan = false;
       phase_divergent = false;
       content_divergent = false;
-      hidden = false;
+      visible = true;
     }) ≡ codes "b draft obsolete suspended" ++ 10 ∷ [] }
     ensures totals { totals 4 1 ≡ codes "4 changesets 1 markers" ++ 10 ∷ [] }
 {}

@@ -76,18 +76,6 @@ impl Peers {
         })
     }
 
-    /// The world alone.
-    pub(crate) fn into_world(self) -> World<Peer>
-        ensures { result ≡ self }
-    {
-        let Peers {
-            alloc: _,
-            world,
-            pairs: _,
-        } = self;
-        world
-    }
-
     /// The replica of the peer at a place, with its instabilities and its pins.
     pub(crate) fn kept(&self, place: usize) -> Option<&Kept>
         ensures { option_copied result ≡ slice_get self.now.nodes place }

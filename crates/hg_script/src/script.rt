@@ -1,17 +1,15 @@
 //! A script from its first line to its last.
-ghost use Rattle.std.specs.Prelude.{◌≡◌, ◌≤◌, ◌<◌, ◌+◌, ◌⊎◌, IfOk, IfErr, OnOk};
+ghost use Rattle.std.specs.Prelude.{◌≡◌, ◌≤◌, ◌+◌, ◌⊎◌, IfOk, IfErr, OnOk};
 ghost use Rattle.std.specs.Str.Lines.{lines};
 ghost use Rattle.hg_view.specs.Kept.{KeptValue};
 ghost use Rattle.hg_world.specs.Runs.{Snapshot};
 ghost use Rattle.hg_script.specs.Commands.{Text};
 ghost use Rattle.hg_script.specs.Events.{Trace};
 ghost use Rattle.hg_script.specs.Endings.{EndsAt, IsLeftFleet, IsLeftWorld, IsStop, IsStoppedBy, StopsAmong};
-ghost use Rattle.hg_script.specs.Limits.{script_limit};
 ghost use Rattle.hg_script.specs.Outputs.{Printed};
 ghost use Rattle.hg_script.specs.Printing.{PrintsLine, PrintsLines, PrintsRun, PrintsScript};
 ghost use Rattle.hg_script.specs.Scripts.{DoesLine, IsRunTo};
 
-use crate::counted::{Counted, CountedRead};
 use crate::fault::{LineFault, RunFault};
 use crate::fleet::Fleet;
 use crate::input::read_script;
@@ -21,19 +19,18 @@ use crate::spare::Spare;
 use crate::told::Told;
 use hg_node_set::IdKeys;
 use hg_peer::Peer;
-use hg_world::{World, runs_compose};
+use hg_world::runs_compose;
 use std::alloc::Global;
 use std::io::{Read, Write};
-use std::marker::Brand;
-use std::sync::ledger::{Blank, Ledger};
 
 /// Reads a script, does its lines in order, and prints what they report, one write for each line. What was printed
 /// before a fault stays.
 ///
-/// It makes at most 1,048,577 reads, one more than a script may have bytes. Ids and labels are hashed by the rule that
-/// everybody knows; whoever takes scripts of strangers calls [`run_named`] with keys that they don't know.
-pub fn run_script<R: CountedRead, W: Write>(
+/// Ids and labels are hashed by the keys. Where a stranger may write the script, they are secret ones. At most
+/// 1,048,577 reads are made, one more than a script may have bytes.
+pub fn run_script<R: Read, W: Write>(
     alloc: Global,
+    keys: IdKeys,
     reader: &mut R,
     writer: &mut W,
 ) -> Result<(), RunFault>
@@ -41,33 +38,15 @@ pub fn run_script<R: CountedRead, W: Write>(
     ensures printed { OnOk result ((world : Snapshot KeptValue)
         × PrintsScript (R.remaining reader.old) world (W.contents writer.old) (W.contents writer.new)) }
     ensures stopped { IfErr result (IsStop (R.remaining reader.old)) }
-    ensures reads { R.reads reader.new ≤ R.reads reader.old + (script_limit + 1) }
 {
-    run_fleet(alloc, reader, writer)?;
+    run_fleet(alloc, keys, reader, writer)?;
     Ok(())
 }
 
-/// [`run_script`], which gives the world as the script leaves it.
+/// [`run_script`], which gives the fleet as the script leaves it: its world, and what its names stand for.
 ///
-/// It begins as a new world, with a peer for each line whose first word is `node`.
-pub fn run_fleet<R: CountedRead, W: Write>(
-    alloc: Global,
-    reader: &mut R,
-    writer: &mut W,
-) -> Result<World<Peer>, RunFault>
-    ensures ran { IfOk result (IsLeftWorld (R.remaining reader.old)) }
-    ensures printed { IfOk result (λ world.
-        PrintsScript (R.remaining reader.old) world (W.contents writer.old) (W.contents writer.new)) }
-    ensures stopped { IfErr result (IsStop (R.remaining reader.old)) }
-    ensures reads { R.reads reader.new ≤ R.reads reader.old + (script_limit + 1) }
-{
-    let fleet = run_named(alloc, IdKeys::known(), reader, writer)?;
-    Ok(fleet.into_world())
-}
-
-/// [`run_fleet`], which gives the names of the script too: its nodes and messages are found by them. Ids and labels are
-/// hashed by the keys.
-pub fn run_named<R: CountedRead, W: Write>(
+/// The world begins new, with a peer for each line whose first word is `node`.
+pub fn run_fleet<R: Read, W: Write>(
     alloc: Global,
     keys: IdKeys,
     reader: &mut R,
@@ -77,59 +56,9 @@ pub fn run_named<R: CountedRead, W: Write>(
     ensures printed { IfOk result (λ fleet.
         PrintsScript (R.remaining reader.old) fleet.world (W.contents writer.old) (W.contents writer.new)) }
     ensures stopped { IfErr result (IsStop (R.remaining reader.old)) }
-    ensures reads { R.reads reader.new ≤ R.reads reader.old + (script_limit + 1) }
 {
     let text = read_script(alloc, reader)?;
     run_text(alloc, keys, &text, writer)
-}
-
-/// [`run_script`] of a reader that counts nothing, by a count of its own.
-pub fn run_counted<R: Read + Drop, W: Write>(
-    alloc: Global,
-    reader: R,
-    writer: &mut W,
-) -> Result<(), RunFault>
-    ensures ran { OnOk result ((world : Snapshot KeptValue) × IsLeftWorld (R.remaining reader) world) }
-    ensures printed { OnOk result ((world : Snapshot KeptValue)
-        × PrintsScript (R.remaining reader) world (W.contents writer.old) (W.contents writer.new)) }
-    ensures stopped { IfErr result (IsStop (R.remaining reader)) }
-{
-    run_counted_named(alloc, IdKeys::known(), reader, writer)?;
-    Ok(())
-}
-
-/// [`run_named`] of a reader that counts nothing, by a count of its own.
-pub fn run_counted_named<R: Read + Drop, W: Write>(
-    alloc: Global,
-    keys: IdKeys,
-    reader: R,
-    writer: &mut W,
-) -> Result<Fleet, RunFault>
-    ensures ran { IfOk result (IsLeftFleet (R.remaining reader)) }
-    ensures printed { IfOk result (λ fleet.
-        PrintsScript (R.remaining reader) fleet.world (W.contents writer.old) (W.contents writer.new)) }
-    ensures stopped { IfErr result (IsStop (R.remaining reader)) }
-{
-    count_and_run::<R, W, Brand>(alloc, keys, reader, writer, Blank::new(1))
-}
-
-fn count_and_run<R: Read + Drop, W: Write, L: Ledger>(
-    alloc: Global,
-    keys: IdKeys,
-    reader: R,
-    writer: &mut W,
-    blank: Blank,
-) -> Result<Fleet, RunFault>
-    requires name { blank.name ≡ L.name }
-    requires parts { blank.parts ≡ L.parts }
-    requires some { 0 < blank.parts }
-    ensures ran { IfOk result (IsLeftFleet (R.remaining reader)) }
-    ensures printed { IfOk result (λ fleet.
-        PrintsScript (R.remaining reader) fleet.world (W.contents writer.old) (W.contents writer.new)) }
-    ensures stopped { IfErr result (IsStop (R.remaining reader)) }
-{
-    let mut counted = Counted::<R, L>::new(reader, blank);
-    run_named(alloc, keys, &mut counted, writer)
 }
 
 fn run_text<W: Write>(

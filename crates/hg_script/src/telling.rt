@@ -2,18 +2,16 @@
 //!
 //! A script with notes does what it does without them, line by line; the notes of a line are written with what it
 //! prints.
-ghost use Rattle.std.specs.Prelude.{◌≡◌, ◌≢◌, ◌≤◌, ◌<◌, ◌+◌, ◌⊎◌, [], IfOk, IfErr, OnOk};
+ghost use Rattle.std.specs.Prelude.{◌≡◌, ◌≢◌, ◌≤◌, ◌+◌, ◌⊎◌, [], IfOk, IfErr, OnOk};
 ghost use Rattle.std.specs.Str.Lines.{lines};
 ghost use Rattle.hg_script.specs.Events.{Trace};
 ghost use Rattle.hg_script.specs.Endings.{EndsAt, IsLeftFleet, IsStop, IsStoppedBy, StopsAmong};
 ghost use Rattle.hg_script.specs.Faults.{status_of};
-ghost use Rattle.hg_script.specs.Limits.{script_limit};
 ghost use Rattle.hg_script.specs.Scripts.{DoesLine, DoesLines, IsRunTo};
 ghost use Rattle.hg_script.specs.Words.{words_of};
 ghost use Rattle.hg_script.specs.declared.fault.RunFault.TheVariants.{NoMemory};
 
 use crate::blaming::word_at_fault;
-use crate::counted::{Counted, CountedRead};
 use crate::explaining::explain;
 use crate::fault::RunFault;
 use crate::fleet::Fleet;
@@ -31,8 +29,6 @@ use std::alloc::{AllocError, Global};
 use std::error::Error;
 use std::fmt;
 use std::io::{Read, Write};
-use std::marker::Brand;
-use std::sync::ledger::{Blank, Ledger};
 
 /// Which notes a script is run with.
 #[derive(Clone, Copy, PartialEq, Eq, Debug)]
@@ -101,8 +97,8 @@ impl From<hg_join::NoMemory> for ToldFault {
     }
 }
 
-/// [`run_named`](crate::run_named), with notes on its lines. The lines of the script are done as without notes.
-pub fn run_told<R: CountedRead, W: Write>(
+/// [`run_fleet`](crate::run_fleet), with notes on its lines. The lines of the script are done as without notes.
+pub fn run_told<R: Read, W: Write>(
     alloc: Global,
     keys: IdKeys,
     reader: &mut R,
@@ -111,42 +107,9 @@ pub fn run_told<R: CountedRead, W: Write>(
 ) -> Result<Fleet, ToldFault>
     ensures ran { IfOk result (IsLeftFleet (R.remaining reader.old)) }
     ensures stopped { IfErr result (λ told. IsStop (R.remaining reader.old) told.fault) }
-    ensures reads { R.reads reader.new ≤ R.reads reader.old + (script_limit + 1) }
 {
     let text = read_script(alloc, reader)?;
     tell_text(alloc, keys, &text, writer, notes)
-}
-
-/// [`run_told`] of a reader that counts nothing, by a count of its own.
-pub fn run_counted_told<R: Read + Drop, W: Write>(
-    alloc: Global,
-    keys: IdKeys,
-    reader: R,
-    writer: &mut W,
-    notes: Notes,
-) -> Result<Fleet, ToldFault>
-    ensures ran { IfOk result (IsLeftFleet (R.remaining reader)) }
-    ensures stopped { IfErr result (λ told. IsStop (R.remaining reader) told.fault) }
-{
-    count_and_tell::<R, W, Brand>(alloc, keys, reader, writer, notes, Blank::new(1))
-}
-
-fn count_and_tell<R: Read + Drop, W: Write, L: Ledger>(
-    alloc: Global,
-    keys: IdKeys,
-    reader: R,
-    writer: &mut W,
-    notes: Notes,
-    blank: Blank,
-) -> Result<Fleet, ToldFault>
-    requires name { blank.name ≡ L.name }
-    requires parts { blank.parts ≡ L.parts }
-    requires some { 0 < blank.parts }
-    ensures ran { IfOk result (IsLeftFleet (R.remaining reader)) }
-    ensures stopped { IfErr result (λ told. IsStop (R.remaining reader) told.fault) }
-{
-    let mut counted = Counted::<R, L>::new(reader, blank);
-    run_told(alloc, keys, &mut counted, writer, notes)
 }
 
 fn tell_text<W: Write>(

@@ -5,15 +5,15 @@ use crate::failure::Failure;
 use hg_log::{draw_graph, draw_log};
 use hg_node_set::IdKeys;
 use hg_race::run_race;
-use hg_script::{Fleet, Notes, RunFault, run_counted_named, run_counted_told};
+use hg_script::{Fleet, Notes, RunFault, run_fleet, run_script};
 use hg_show::{Form, write_roots, write_store};
 use hg_view::Kept;
 use std::alloc::{AllocError, Global};
+use std::io;
 use std::io::{BufWriter, Write, sink};
 use std::random::RandomSource;
 use std::sync::Wait;
 use std::thread::Threads;
-use std::{io, mem};
 
 /// Runs the script of standard input. What was printed before a fault stays.
 pub fn run(rt: &(impl Print + Input + AllocGlobal + RandomSource)) -> Result<(), Failure<'static>> {
@@ -22,12 +22,9 @@ pub fn run(rt: &(impl Print + Input + AllocGlobal + RandomSource)) -> Result<(),
         Ok(writer) => writer,
         Err(_) => return Err(Failure::Run(RunFault::NoMemory)),
     };
-    let done = run_counted_named(rt.alloc(), keys, rt.reader(), &mut writer);
+    let done = run_script(rt.alloc(), keys, &mut rt.reader(), &mut writer);
     let flushed = writer.flush().map_err(|_| RunFault::Write);
-    let fleet = done?;
-    flushed?;
-    // The process ends, and its memory with it: to give the fleet back one by one would be work for nothing.
-    mem::forget(fleet);
+    done.and(flushed)?;
     Ok(())
 }
 
@@ -41,7 +38,7 @@ pub fn run_told(
         Ok(writer) => writer,
         Err(_) => return Err(Failure::Run(RunFault::NoMemory)),
     };
-    let done = run_counted_told(rt.alloc(), keys, rt.reader(), &mut writer, notes);
+    let done = hg_script::run_told(rt.alloc(), keys, &mut rt.reader(), &mut writer, notes);
     let flushed = writer.flush().map_err(|_| Failure::Run(RunFault::Write));
     match done {
         Ok(_) => flushed,
@@ -112,7 +109,7 @@ fn secret_keys(rt: &impl RandomSource) -> Result<IdKeys, RunFault> {
 // The fleet as the script of standard input leaves it. What the script prints goes nowhere.
 fn left_by_script(rt: &(impl Input + AllocGlobal + RandomSource)) -> Result<Fleet, RunFault> {
     let keys = secret_keys(rt)?;
-    run_counted_named(rt.alloc(), keys, rt.reader(), &mut sink())
+    run_fleet(rt.alloc(), keys, &mut rt.reader(), &mut sink())
 }
 
 // Whether the fleet has a node of each name.

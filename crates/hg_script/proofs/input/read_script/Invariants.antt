@@ -1,11 +1,5 @@
-use Rattle.std.proofs.Common.{◌≡◌, ◌≤◌, ◌+◌, length}
-use Rattle.std.specs.Io.KnownBytes.{Consumes}
 use Rattle.hg_script.proofs.input.read_script.Given as goal
 
-abbrev pub invariant-loop : goal.invariant-loop
-invariant-loop g l = record {
-  bytes : Consumes (g.R.Read.remaining l.fn.reader) (g.R.Read.remaining l.reader) l.text.items;
-  counted : l.counter ≤ length l.text.items;
-  reads : g.R.CountedRead.reads l.reader ≡ g.R.CountedRead.reads l.fn.reader + l.counter;
-  limit : length l.text.items ≤ 1048576;
-}
+-- the ledger that was just made
+abbrev pub ghosts-count_and_read : goal.ghosts-count_and_read
+ghosts-count_and_read g a = record { name = a.blank.name; parts = a.blank.parts }

@@ -1,7 +1,7 @@
 use Rattle.std.proofs.Common.{◌≤◌, length, sym, subst, arith}
 use Rattle.std.specs.Io.KnownBytes.{Consumes}
 use Rattle.hg_script.proofs.InputLemmas.{Consumes-nothing, all_is_read, all_is_longer}
-use Rattle.hg_script.proofs.input.read_script.Goals as goal
+use Rattle.hg_script.proofs.input.read_counted.Goals as goal
 
 pub loop-init : goal.loop-init
 loop-init g c =
