@@ -1,2 +1,5 @@
 mod PrintLemmas
+mod RingLemmas
+pub mod RoundLemmas
 pub mod SendLemmas
+pub mod TurnLemmas

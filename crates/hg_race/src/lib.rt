@@ -27,6 +27,11 @@ mod race;
 mod racer;
 mod result;
 mod rounds;
+mod seating;
 mod station;
+mod taking;
 
+pub use agreement::share_in_ring;
 pub use race::run_race;
+pub use seating::stations;
+pub use station::{Mailbox, Station};

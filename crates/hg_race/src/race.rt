@@ -1,12 +1,13 @@
 //! A race from its first round to its last line.
-ghost use Rattle.std.specs.Prelude.{◌≡◌, ◌≤◌, ◌⊎◌, ℕ, IfErr, OnOk};
+ghost use Rattle.std.specs.Prelude.{◌≡◌, ◌≤◌, ◌⊎◌, ℕ, IfErr, IfOk, OnOk, vec_len};
 ghost use Rattle.std.specs.Io.KnownBytes.{Appends};
 ghost use Rattle.hg_race.specs.Lines.{race_lines};
+ghost use Rattle.hg_race.specs.Pairs.{IsOfPairs};
 
-use crate::agreement::{agreeing, go_round};
+use crate::agreement::share_in_ring;
 use crate::racer::{Counts, Lane, Outcome, Racer, race_one};
 use crate::result::{RaceResult, print_result};
-use crate::station::open;
+use crate::seating::stations;
 use hg_join::NoMemory;
 use hg_peer::Peer;
 use hg_replica::IdKeys;
@@ -23,8 +24,11 @@ use std::thread::Threads;
 /// rounds there were, the operations after which a node published them, the changesets that were read back and found,
 /// and how many pairs of nodes agree in the end. It waits for its threads.
 ///
-/// The nodes hash ids by one secret. Refuses [`RunFault::Read`] where the system draws none, which prints nothing,
-/// [`RunFault::Write`] where a line can't be written, and [`RunFault::NoMemory`], which prints nothing.
+/// The nodes hash ids by one secret. A node that gives its threads no passes writes nothing, and like one that isn't
+/// closed it agrees with none; neither comes of want of memory.
+///
+/// Refuses [`RunFault::Read`] where the system draws no secret and [`RunFault::NoMemory`], which print nothing, and
+/// [`RunFault::Write`] where a line can't be written.
 pub fn run_race<R: RandomSource + Threads + Wait + Sync, W: Write>(
     rt: &R,
     alloc: Global,
@@ -34,11 +38,13 @@ pub fn run_race<R: RandomSource + Threads + Wait + Sync, W: Write>(
 ) -> Result<(), RunFault>
     requires nodes { (2 ≤ nodes) × (nodes ≤ 16) }
     requires rounds { (1 ≤ rounds) × (rounds ≤ 1000) }
-    ensures printed { OnOk result ((written : ℕ) × (read_back : ℕ) × (agreeing : ℕ)
+    ensures printed { OnOk result ((written : ℕ) × (read_back : ℕ) × (agreeing : ℕ) × IsOfPairs nodes agreeing
         × Appends (W.contents writer.old) (W.contents writer.new)
         (race_lines nodes rounds written read_back agreeing)) }
     ensures err { IfErr result
         (λ fault. (fault ≡ RunFault.Read) ⊎ (fault ≡ RunFault.Write) ⊎ (fault ≡ RunFault.NoMemory)) }
+    ensures unprinted { IfErr result
+        (λ fault. (fault ≡ RunFault.Write) ⊎ (W.contents writer.new ≡ W.contents writer.old)) }
 {
     let keys = match IdKeys::secret(rt) {
         Ok(keys) => keys,
@@ -58,10 +64,9 @@ pub fn run_race<R: RandomSource + Threads + Wait + Sync, W: Write>(
 }
 
 // Lets all nodes race, and tells what is left of each, in their order.
-fn race_all<R: Threads + Wait + Sync>(
-    rt: &R,
-    racers: Vec<Racer>,
-) -> Result<Vec<Outcome>, NoMemory> {
+fn race_all<R: Threads + Wait + Sync>(rt: &R, racers: Vec<Racer>) -> Result<Vec<Outcome>, NoMemory>
+    ensures { IfOk result (λ outcomes. vec_len outcomes ≡ vec_len racers) }
+{
     let alloc = *racers.allocator();
     let results = thread::map_vec(rt, racers, &|racer| race_one(rt, racer))?;
     let mut outcomes = Vec::with_capacity(alloc, results.len())?;
@@ -74,11 +79,12 @@ fn race_all<R: Threads + Wait + Sync>(
 // The nodes in a ring: each puts messages into the inbox of the next one, and the last one into that of the first.
 fn ring(alloc: Global, keys: IdKeys, nodes: u8, rounds: u16) -> Result<Vec<Racer>, NoMemory>
     requires { 1 ≤ nodes }
+    ensures { IfOk result (λ racers. vec_len racers ≡ nodes) }
 {
-    let (first, mut own) = open(alloc)?;
+    let (first, mut own) = stations(alloc)?;
     let mut racers = Vec::new(alloc);
     for number in 0..nodes - 1 {
-        let (next, takes) = open(alloc)?;
+        let (next, takes) = stations(alloc)?;
         let lane = Lane {
             alloc,
             keys,
@@ -111,14 +117,26 @@ fn all_counts(outcomes: &[Outcome]) -> Counts {
     all
 }
 
-// Lets the replicas take from each other, twice round the ring, and counts the pairs that agree.
-fn count_agreeing(alloc: Global, outcomes: Vec<Outcome>) -> Result<u64, NoMemory> {
+// Lets the replicas that are left take from each other, twice round the ring, and counts the pairs that agree.
+fn count_agreeing(alloc: Global, outcomes: Vec<Outcome>) -> Result<u64, NoMemory>
+    requires { vec_len outcomes ≤ 16 }
+    ensures { IfOk result (IsOfPairs (vec_len outcomes)) }
+{
+    let mut peers = peers_left(alloc, outcomes)?;
+    let count = share_in_ring(alloc, &mut peers)?;
+    Ok(count)
+}
+
+// A peer for each replica that is left.
+fn peers_left(alloc: Global, outcomes: Vec<Outcome>) -> Result<Vec<Peer>, NoMemory>
+    ensures { IfOk result (λ peers. vec_len peers ≤ vec_len outcomes) }
+{
     let mut peers = Vec::new(alloc);
     for outcome in outcomes {
-        let kept = Kept::new(alloc, outcome.replica)?;
-        peers.push(Peer::new(kept))?;
+        match outcome.replica {
+            Some(replica) => peers.push(Peer::new(Kept::new(alloc, replica)?))?,
+            None => {}
+        }
     }
-    go_round(alloc, &mut peers)?;
-    go_round(alloc, &mut peers)?;
-    agreeing(&peers)
+    Ok(peers)
 }

@@ -1,10 +1,11 @@
 //! One node of a race.
-ghost use Rattle.std.specs.Prelude.{◌≡◌, ◌*◌, ◌≤◌, IfOk};
+ghost use Rattle.std.specs.Prelude.{◌≡◌};
 
 use crate::rounds::write_rounds;
 use crate::station::{Mailbox, Station};
+use crate::taking::take_rounds;
 use hg_join::NoMemory;
-use hg_live::{Blank, CallRefusal, Node, NodeName, OpenGate, Pass, Writer};
+use hg_live::{Blank, CloseRefusal, Node, NodeName, OpenGate, Pass, Writer};
 use hg_replica::{IdKeys, Replica};
 use std::alloc::Global;
 use std::marker::Brand;
@@ -76,11 +77,19 @@ pub(crate) struct Outcome {
     /// What its rounds came to.
     pub counts: Counts,
 
-    /// Its replica.
-    pub replica: Replica,
+    /// Its replica, where it was closed.
+    pub replica: Option<Replica>,
 }
 
-/// Lets one node race. Nothing is in it at first.
+impl Outcome {
+    /// That of a node that gave no passes.
+    const NONE: Outcome = Outcome {
+        counts: Counts::NONE,
+        replica: None,
+    };
+}
+
+/// Lets one node race. Nothing is in it at first. Where it gives no passes it does no rounds, and none is left of it.
 pub(crate) fn race_one<R: Threads + Wait + Sync>(
     rt: &R,
     racer: Racer,
@@ -101,7 +110,9 @@ fn race_named<K: NodeName + Send + Sync, R: Threads + Wait + Sync>(
     requires parts { blank.tokens.parts ≡ K.parts }
 {
     let node: Open<K, &R> = Node::new(rt, racer.lane.alloc, blank, OpenGate)?;
-    let (mut writes, mut takes) = two_passes(rt, &node)?;
+    let Some((mut writes, mut takes)) = two_passes(rt, &node) else {
+        return Ok(Outcome::NONE);
+    };
     let Racer {
         lane,
         mut own,
@@ -109,18 +120,19 @@ fn race_named<K: NodeName + Send + Sync, R: Threads + Wait + Sync>(
     } = racer;
     let counts = race_both(
         rt,
-        lane,
+        &lane,
         &node,
         (&mut writes, &mut next),
         (&mut takes, &mut own),
     )?;
-    close(lane.alloc, node, writes, takes, counts)
+    let replica = close(lane.alloc, node, writes, takes)?;
+    Ok(Outcome { counts, replica })
 }
 
 // Lets the threads of a node do their rounds: one with what it writes by, the other with what it takes by.
 fn race_both<K: NodeName + Send + Sync, R: Threads + Wait + Sync, M: Mailbox + Send>(
     rt: &R,
-    lane: Lane,
+    lane: &Lane,
     node: &Open<K, &R>,
     writes: (&mut Pass<K>, &mut M),
     takes: (&mut Pass<K>, &mut M),
@@ -136,74 +148,30 @@ fn race_both<K: NodeName + Send + Sync, R: Threads + Wait + Sync, M: Mailbox + S
     written
 }
 
-// Takes in what lies in the node's inbox, as often as there are rounds.
-fn take_rounds<K: NodeName, R: Wait, M: Mailbox>(
-    rt: &R,
-    lane: Lane,
-    node: &Open<K, &R>,
-    pass: &mut Pass<K>,
-    own: &mut M,
-) -> Result<(), NoMemory> {
-    for _ in 0..lane.rounds {
-        take_all(rt, node, pass, own)?;
-    }
-    Ok(())
-}
-
-// Takes messages until there is none.
-fn take_all<K: NodeName, R: Wait, M: Mailbox>(
-    rt: &R,
-    node: &Open<K, &R>,
-    pass: &mut Pass<K>,
-    own: &mut M,
-) -> Result<(), NoMemory> {
-    for _ in rt.forever() {
-        match own.take(rt) {
-            Some(message) => take_one(rt, node, pass, &message)?,
-            None => return Ok(()),
-        }
-    }
-    Ok(())
-}
-
-// Hands a message to the node. What it refuses is dropped.
-fn take_one<K: NodeName, R: Wait>(
-    rt: &R,
-    node: &Open<K, &R>,
-    pass: &mut Pass<K>,
-    message: &[u8],
-) -> Result<(), NoMemory> {
-    match node.take(rt, pass, message) {
-        Err(CallRefusal::NoMemory) => Err(NoMemory),
-        _ => Ok(()),
-    }
-}
-
-// Two passes. A new node has room for them.
-fn two_passes<K: NodeName, R: Wait>(
-    rt: &R,
-    node: &Open<K, &R>,
-) -> Result<(Pass<K>, Pass<K>), NoMemory> {
+// Two passes, where the node gives them.
+fn two_passes<K: NodeName, R: Wait>(rt: &R, node: &Open<K, &R>) -> Option<(Pass<K>, Pass<K>)> {
     let Ok(writes) = node.pass(rt) else {
-        return Err(NoMemory);
+        return None;
     };
     let Ok(takes) = node.pass(rt) else {
-        return Err(NoMemory);
+        return None;
     };
-    Ok((writes, takes))
+    Some((writes, takes))
 }
 
-// Closes a node. Both its passes are back, so nothing but want of memory refuses that.
+// Closes a node, for which both its passes are back. None is left where one is said to be missing.
 fn close<K: NodeName, R: Wait>(
     alloc: Global,
     node: Open<K, &R>,
     writes: Pass<K>,
     takes: Pass<K>,
-    counts: Counts,
-) -> Result<Outcome, NoMemory> {
+) -> Result<Option<Replica>, NoMemory> {
     let passes = vec![in alloc; writes, takes]?;
     match node.close(passes) {
-        Ok(replica) => Ok(Outcome { counts, replica }),
-        Err(_) => Err(NoMemory),
+        Ok(replica) => Ok(Some(replica)),
+        Err(unclosed) => match unclosed.why {
+            CloseRefusal::PassesOut => Ok(None),
+            CloseRefusal::NoMemory => Err(NoMemory),
+        },
     }
 }

@@ -1,10 +1,10 @@
 //! What a race came to, and its lines.
-ghost use Rattle.std.specs.Prelude.{◌≡◌, ◌⊎◌, ◌≤◌, IfErr, OnOk};
+ghost use Rattle.std.specs.Prelude.{◌≡◌, ◌⊎◌, ◌≤◌, IfOk, IfErr, OnOk, string_bytes};
 ghost use Rattle.std.specs.Io.KnownBytes.{Appends};
 ghost use Rattle.hg_race.specs.Lines.{counted_line, pairs_line, race_lines};
 
 use hg_script::RunFault;
-use std::alloc::Global;
+use std::alloc::{AllocError, Global};
 use std::io::Write;
 
 /// What a race came to.
@@ -26,7 +26,7 @@ pub(crate) struct RaceResult {
     pub agreeing: u64,
 }
 
-/// Prints the lines of a race, one write for each.
+/// Prints the lines of a race, one write for each. All are spelled before the first is printed.
 pub(crate) fn print_result<W: Write>(
     alloc: Global,
     writer: &mut W,
@@ -35,46 +35,35 @@ pub(crate) fn print_result<W: Write>(
     requires nodes { (1 ≤ race.now.nodes) × (race.now.nodes ≤ 16) }
     ensures printed { OnOk result (Appends (W.contents writer.old) (W.contents writer.new)
         (race_lines race.now.nodes race.now.rounds race.now.written race.now.read_back race.now.agreeing)) }
-    ensures err { IfErr result (λ fault. (fault ≡ RunFault.Write) ⊎ (fault ≡ RunFault.NoMemory)) }
+    ensures err { IfErr result (λ fault. (fault ≡ RunFault.Write)
+        ⊎ ((fault ≡ RunFault.NoMemory) × (W.contents writer.new ≡ W.contents writer.old))) }
 {
-    print_count(alloc, writer, "nodes", race.nodes)?;
-    print_count(alloc, writer, "rounds", race.rounds)?;
-    print_count(alloc, writer, "written", race.written)?;
-    print_count(alloc, writer, "read back", race.read_back)?;
-    let pairs = race.nodes * (race.nodes - 1) / 2;
-    print_pairs(alloc, writer, race.agreeing, pairs)?;
+    let nodes = counted(alloc, "nodes", race.nodes)?;
+    let rounds = counted(alloc, "rounds", race.rounds)?;
+    let written = counted(alloc, "written", race.written)?;
+    let read_back = counted(alloc, "read back", race.read_back)?;
+    let all = race.nodes * (race.nodes - 1) / 2;
+    let pairs = pairs(alloc, race.agreeing, all)?;
+    print(writer, &nodes)?;
+    print(writer, &rounds)?;
+    print(writer, &written)?;
+    print(writer, &read_back)?;
+    print(writer, &pairs)?;
     Ok(())
 }
 
-// Prints how many pairs agree, and how many there are.
-fn print_pairs<W: Write>(
-    alloc: Global,
-    writer: &mut W,
-    agreeing: u64,
-    pairs: u64,
-) -> Result<(), RunFault>
-    ensures printed { OnOk result
-        (Appends (W.contents writer.old) (W.contents writer.new) (pairs_line agreeing pairs)) }
-    ensures err { IfErr result (λ fault. (fault ≡ RunFault.Write) ⊎ (fault ≡ RunFault.NoMemory)) }
+// A word and a number, as a line.
+fn counted(alloc: Global, word: &str, count: u64) -> Result<String, AllocError>
+    ensures { IfOk result (λ line. string_bytes line ≡ counted_line word.now count) }
 {
-    print(
-        writer,
-        &format!(in alloc; "agreeing pairs {agreeing} of {pairs}\n")?,
-    )
+    format!(in alloc; "{word} {count}\n")
 }
 
-// Prints a word and a number.
-fn print_count<W: Write>(
-    alloc: Global,
-    writer: &mut W,
-    word: &str,
-    count: u64,
-) -> Result<(), RunFault>
-    ensures printed { OnOk result
-        (Appends (W.contents writer.old) (W.contents writer.new) (counted_line word.now count)) }
-    ensures err { IfErr result (λ fault. (fault ≡ RunFault.Write) ⊎ (fault ≡ RunFault.NoMemory)) }
+// How many pairs agree, and how many there are, as a line.
+fn pairs(alloc: Global, agreeing: u64, all: u64) -> Result<String, AllocError>
+    ensures { IfOk result (λ line. string_bytes line ≡ pairs_line agreeing all) }
 {
-    print(writer, &format!(in alloc; "{word} {count}\n")?)
+    format!(in alloc; "agreeing pairs {agreeing} of {all}\n")
 }
 
 fn print<W: Write>(writer: &mut W, line: &str) -> Result<(), RunFault>

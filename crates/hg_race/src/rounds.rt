@@ -1,4 +1,7 @@
 //! The rounds of the first thread of a node.
+ghost use Rattle.std.specs.Prelude.{OnOk};
+ghost use Rattle.hg_race.specs.Rounds.{AreRounds, PutsOffer};
+
 use crate::author::{amend, commit, finds, foretell, offer, write};
 use crate::racer::{Counts, Lane, Open};
 use crate::station::Mailbox;
@@ -10,46 +13,50 @@ use hg_rewrite::Op;
 use std::alloc::Global;
 use std::sync::Wait;
 
-/// Does all rounds of a node. The thread keeps its own changesets in a replica beside, which tells it their ids.
+/// Does all rounds of a node, which are numbered from 1. The thread keeps its own changesets in a replica beside, which
+/// tells it their ids.
 pub(crate) fn write_rounds<K: NodeName, R: Wait, M: Mailbox>(
     rt: &R,
-    lane: Lane,
+    lane: &Lane,
     node: &Open<K, &R>,
     pass: &mut Pass<K>,
     next: &mut M,
-) -> Result<Counts, NoMemory> {
+) -> Result<Counts, NoMemory>
+    ensures { OnOk result (AreRounds M.given M.FindsNoRoom K.opening lane.now.rounds next.old next.new) }
+{
     let Lane {
         alloc,
         keys,
         number,
         rounds,
-    } = lane;
+    } = *lane;
     let mut own = Replica::with_keys(alloc, keys);
     let mut last = Id::NULL;
     let mut counts = Counts::NONE;
-    for round in 0..rounds {
+    for done in 0..rounds {
+        let round = done + 1;
         let commit = commit(alloc, last, number, round)?;
         let (committed, entered) = enter(rt, alloc, node, pass, &mut own, &commit)?;
         let amend = amend(alloc, committed, number, round)?;
         let (amended, entered_too) = enter(rt, alloc, node, pass, &mut own, &amend)?;
         counts = counts.and(Counts {
             written: u64::from(entered) + u64::from(entered_too),
-            read_back: count_found::<K, R>(pass, committed, amended)?,
+            read_back: count_found(pass, committed, amended)?,
         });
-        put_offer(rt, alloc, pass, next)?;
+        put_offer(rt, pass, next)?;
         last = amended;
     }
     Ok(counts)
 }
 
 // How many of the two changesets a look finds.
-fn count_found<K: NodeName, R: Wait>(
+fn count_found<K: NodeName>(
     pass: &mut Pass<K>,
     committed: Id,
     amended: Id,
 ) -> Result<u64, NoMemory> {
-    let first = finds::<K, R>(pass, committed)?;
-    let second = finds::<K, R>(pass, amended)?;
+    let first = finds(pass, committed)?;
+    let second = finds(pass, amended)?;
     Ok(u64::from(first) + u64::from(second))
 }
 
@@ -68,15 +75,16 @@ fn enter<K: NodeName, R: Wait>(
     Ok((id, done))
 }
 
-// Puts an offer into the inbox of the next node.
+// Puts an offer of what the node serves into the mailbox of the next one. It is dropped where there is no room.
 fn put_offer<K: NodeName, R: Wait, M: Mailbox>(
     rt: &R,
-    alloc: Global,
     pass: &mut Pass<K>,
     next: &mut M,
-) -> Result<(), NoMemory> {
-    match offer::<K, R>(alloc, pass)? {
-        Some(bytes) => next.put(rt, bytes),
+) -> Result<(), NoMemory>
+    ensures { OnOk result (PutsOffer M.given M.FindsNoRoom K.opening pass.old pass.new next.old next.new) }
+{
+    match offer(pass)? {
+        Some(bytes) => drop(next.put(rt, bytes)),
         None => {}
     }
     Ok(())

@@ -1,69 +1,82 @@
 //! A place at an inbox.
-ghost use Rattle.std.specs.Prelude.{◌≡◌, IfOk};
+ghost use Rattle.std.specs.Prelude.{◌≡◌, ◌∷◌, ◌++◌, ℕ, List, [], MatchOption, MatchResult};
 ghost use Rattle.std.specs.Arc.{arc_value};
 
-use hg_inbox::{Inbox, Seat};
-use hg_join::NoMemory;
+use hg_inbox::{Full, Inbox, Seat};
 use std::alloc::Global;
 use std::sync::{Arc, Wait};
 
-/// How many messages an inbox holds at most.
-const CAPACITY: usize = 4;
+/// Where a thread puts messages, or takes them. Contracts see those that it was given and those that were taken from
+/// it, in their order.
+pub trait Mailbox {
+    /// The messages that were put.
+    ghost given: { Self → List (List ℕ) };
 
-/// Where a thread puts messages, or takes them.
-pub(crate) trait Mailbox {
-    /// Puts a message, which is dropped where there is no room.
-    fn put<R: Wait>(&mut self, rt: &R, message: Vec<u8>);
+    /// The messages that were taken.
+    ghost taken: { Self → List (List ℕ) };
+
+    /// A put found no room, and left the second of the first.
+    ghost FindsNoRoom: { Self → Self → Type 0 };
+
+    /// A take found no message, and left the second of the first.
+    ghost FindsNone: { Self → Self → Type 0 };
+
+    /// Puts a message. It comes back where there is no room.
+    fn put<R: Wait>(&mut self, rt: &R, message: Vec<u8>) -> Result<(), Full>
+        ensures given { MatchResult result (λ _. given self.new ≡ given self.old ++ message.items ∷ [])
+            (λ full. (full.message.items ≡ message.items) × FindsNoRoom self.old self.new) }
+        ensures taken { taken self.new ≡ taken self.old };
 
     /// Takes a message, if there is one.
-    fn take<R: Wait>(&mut self, rt: &R) -> Option<Vec<u8>>;
+    fn take<R: Wait>(&mut self, rt: &R) -> Option<Vec<u8>>
+        ensures given { given self.new ≡ given self.old }
+        ensures taken { MatchOption result (FindsNone self.old self.new)
+            (λ message. taken self.new ≡ taken self.old ++ message.items ∷ []) };
 }
 
 /// An inbox, and a seat at it.
 #[derive(Drop)]
-pub(crate) struct Station {
+pub struct Station {
     inbox: Arc<Inbox, Global>,
     seat: Seat,
     ghost of: { seat.inbox ≡ (arc_value inbox).name },
 }
 
+impl Station {
+    /// A seat with the inbox that it is of.
+    pub(crate) fn new(inbox: Arc<Inbox, Global>, seat: Seat) -> Station
+        requires { seat.inbox ≡ (arc_value inbox).name }
+        ensures { result.seat ≡ seat }
+    {
+        Station { inbox, seat }
+    }
+}
+
+/// It finds no room only where the inbox held as many messages as it may at one moment of the call, and no message only
+/// where the inbox was empty at one moment of the call.
 impl Mailbox for Station {
-    fn put<R: Wait>(&mut self, rt: &R, message: Vec<u8>) {
+    ghost use Rattle.std.specs.Prelude.{◌≡◌};
+    ghost use Rattle.std.specs.Arc.{arc_value};
+    ghost use Rattle.crossbeam_queue.specs.Fifo.{Held};
+    ghost use Rattle.hg_inbox.specs.Rule.{Agrees};
+    ghost use Rattle.hg_race.specs.Stations.{given_at, taken_at};
+
+    ghost given = { given_at };
+
+    ghost taken = { taken_at };
+
+    ghost FindsNoRoom = { λ s t. (t.seat ≡ s.seat)
+        × Held (arc_value s.inbox).capacity (Agrees s.seat.puts s.seat.takes) };
+
+    ghost FindsNone = { λ s t. (t.seat ≡ s.seat) × Held 0 (Agrees s.seat.puts s.seat.takes) };
+
+    fn put<R: Wait>(&mut self, rt: &R, message: Vec<u8>) -> Result<(), Full> {
         let Station { inbox, seat } = self;
-        drop(inbox.put(rt, seat, message));
+        inbox.put(rt, seat, message)
     }
 
     fn take<R: Wait>(&mut self, rt: &R) -> Option<Vec<u8>> {
         let Station { inbox, seat } = self;
         inbox.take(rt, seat)
     }
-}
-
-/// Two stations at a new inbox: the first one for who puts messages, the second one for who takes them.
-pub(crate) fn open(alloc: Global) -> Result<(Station, Station), NoMemory> {
-    let (inbox, puts, takes) = seated(alloc)?;
-    let inbox = Arc::new(alloc, inbox)?;
-    let other = Arc::try_clone(&inbox)?;
-    let puts = Station { inbox, seat: puts };
-    let takes = Station {
-        inbox: other,
-        seat: takes,
-    };
-    Ok((puts, takes))
-}
-
-// An inbox with two seats.
-fn seated(alloc: Global) -> Result<(Inbox, Seat, Seat), NoMemory>
-    ensures { IfOk result (λ r. (r.1.inbox ≡ r.0.name) × (r.2.inbox ≡ r.0.name)) }
-{
-    let Ok(mut inbox) = Inbox::new(alloc, CAPACITY) else {
-        return Err(NoMemory);
-    };
-    let Ok(puts) = inbox.seat() else {
-        return Err(NoMemory);
-    };
-    let Ok(takes) = inbox.seat() else {
-        return Err(NoMemory);
-    };
-    Ok((inbox, puts, takes))
 }

@@ -1,6 +1,7 @@
-use Rattle.std.proofs.Common.{ℕ, Option, List, subst}
+use Rattle.std.proofs.Common.{ℕ, Option, List, ◌∙◌, subst}
 use Rattle.std.specs.Io.KnownBytes.{Appends}
 use Rattle.hg_race.specs.Lines.{race_lines}
+use Rattle.hg_race.specs.Pairs.{IsOfPairs}
 use Rattle.hg_race.proofs.race.run_race.Goals as goal
 
 pub returns-clause-printed : goal.returns-clause-printed
@@ -14,6 +15,8 @@ returns-clause-printed g c =
       written,
       read_back,
       agreeing,
+      subst (λ (n : ℕ). IsOfPairs n agreeing) (c.in_ok-outcomes.ensures ∙ c.in_ok-ring.ensures)
+          c.in_ok-count_agreeing.ensures,
       subst (λ (n : ℕ). Appends before after (lines n c.args.rounds)) c.from.ensures
           (subst (λ (m : ℕ). Appends before after (lines c.from.result m)) c.from-2.ensures
           c.in_ok-print_result.ensures.printed),
