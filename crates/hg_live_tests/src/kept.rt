@@ -1,7 +1,7 @@
 //! Sets of instabilities that are kept: after each line of a script those of each node are the ones told from scratch.
 use hg_node_set::IdKeys;
 use hg_replica_tests::is_up_to_date;
-use hg_script::{Fleet, run_counted_named};
+use hg_script::{Fleet, run_fleet};
 use std::alloc::Global;
 
 // Whether that is so of each node of the fleet. `None` where memory ran out.
@@ -14,17 +14,18 @@ fn are_up_to_date(alloc: Global, fleet: &Fleet) -> Option<bool> {
     Some(true)
 }
 
+// The fleet as the script leaves it.
+fn left_by(alloc: Global, script: &[u8]) -> Option<Fleet> {
+    let mut rest = script;
+    let mut writer = Vec::new(alloc);
+    run_fleet(alloc, IdKeys::known(), &mut rest, &mut writer).ok()
+}
+
 // Whether it is so after each line of the script.
 fn is_so_throughout(alloc: Global, script: &[u8]) -> Option<bool> {
     for end in 0..script.len() {
         if script[end] == b'\n' {
-            let mut writer = Vec::new(alloc);
-            let fleet = run_counted_named(
-                alloc,
-                IdKeys::known(),
-                &script[..=end],
-                &mut writer,
-            ).ok()?;
+            let fleet = left_by(alloc, &script[..=end])?;
             if !are_up_to_date(alloc, &fleet)? {
                 return Some(false);
             }

@@ -2,6 +2,8 @@
 #![tactic(auto)]
 
 #[cfg(test)]
+mod crowded;
+#[cfg(test)]
 mod inboxes;
 #[cfg(test)]
 mod kept;
@@ -9,6 +11,8 @@ mod kept;
 mod making;
 #[cfg(test)]
 mod passes;
+#[cfg(test)]
+mod refusals;
 #[cfg(test)]
 mod scripts;
 #[cfg(test)]

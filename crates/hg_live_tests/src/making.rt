@@ -29,8 +29,8 @@ pub fn id(rt: &impl Abort, digits: &[u8]) -> Id {
     Id::from_hex(digits).expect(rt, "an id")
 }
 
-// An entry of user `fleet` at `0 0`.
-fn entry(alloc: Global, description: &[u8]) -> Option<Entry> {
+/// An entry of user `fleet` at `0 0`.
+pub fn entry(alloc: Global, description: &[u8]) -> Option<Entry> {
     Some(Entry {
         user: Vec::from_slice(alloc, b"fleet").ok()?,
         secs: 0,
@@ -42,8 +42,13 @@ fn entry(alloc: Global, description: &[u8]) -> Option<Entry> {
 
 /// To commit a draft root.
 pub fn root(alloc: Global, description: &[u8]) -> Option<Op> {
+    commit(alloc, Id::NULL, description)
+}
+
+/// To commit a draft changeset on this parent.
+pub fn commit(alloc: Global, parent: Id, description: &[u8]) -> Option<Op> {
     Some(Op::Commit {
-        p: Id::NULL,
+        p: parent,
         q: Id::NULL,
         entry: entry(alloc, description)?,
         secret: false,

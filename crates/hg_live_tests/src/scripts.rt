@@ -1,17 +1,22 @@
 //! Scripts over readers and writers that give little, fail or count. What a script prints, leaves and is told with, and
 //! how it ends, is shown by cases of `examples/`.
 use crate::streams::{Failing, Full, Noting, OneByte};
-use hg_script::run_counted;
+use hg_node_set::IdKeys;
+use hg_script::run_script;
 
 #[test]
 fn a_script_is_read_byte_by_byte_and_each_line_and_its_end_is_one_write(rt: HostRuntime) {
-    let alloc = rt.alloc();
     let script = b"node A\ncommit A a draft\nphase A a secret\nreport A\nagree A A\n";
     let mut writer = Noting {
         writes: 0,
         lines: 0,
     };
-    let done = run_counted(alloc, OneByte(script), &mut writer);
+    let done = run_script(
+        rt.alloc(),
+        IdKeys::known(),
+        &mut OneByte(script),
+        &mut writer,
+    );
     assert!(rt; done.is_ok());
     assert_eq!(rt; (writer.writes, writer.lines), (5, 5));
 }
@@ -20,7 +25,7 @@ fn a_script_is_read_byte_by_byte_and_each_line_and_its_end_is_one_write(rt: Host
 fn a_read_that_fails_ends_a_script(rt: HostRuntime) {
     let alloc = rt.alloc();
     let mut writer = Vec::new(alloc);
-    let done = run_counted(alloc, Failing(10), &mut writer);
+    let done = run_script(alloc, IdKeys::known(), &mut Failing(10), &mut writer);
     assert!(rt; writer.is_empty());
     let fault = done.err().expect(&rt, "a fault");
     assert_eq!(rt; fault.status(), 1);
@@ -31,11 +36,8 @@ fn a_read_that_fails_ends_a_script(rt: HostRuntime) {
 #[test]
 fn a_write_that_fails_ends_a_script(rt: HostRuntime) {
     let alloc = rt.alloc();
-    let done = run_counted(
-        alloc,
-        b"node A\nreport A\nreport A\n".as_slice(),
-        &mut Full(1),
-    );
+    let mut script = b"node A\nreport A\nreport A\n".as_slice();
+    let done = run_script(alloc, IdKeys::known(), &mut script, &mut Full(1));
     let fault = done.err().expect(&rt, "a fault");
     assert_eq!(rt; fault.status(), 1);
     let told = format!(in alloc; "{fault}").expect(&rt, "memory");

@@ -4,10 +4,10 @@ ghost use Rattle.std.specs.Prelude.{◌≡◌};
 use crate::making::{A, B_FOR_A, MESSAGE, N1, Open, amend, id, root};
 use hg_changeset::Node as Id;
 use hg_live::{
-    Accepted, Blank, CallRefusal, CloseRefusal, LookRefusal, NoPass, NodeName, NotOffered,
-    OpenGate, Pass, Status,
+    Accepted, Blank, CallRefusal, CloseRefusal, LookRefusal, Node, NodeName, NotOffered, OpenGate,
+    Pass, Status,
 };
-use hg_peer::{Ask, Scope};
+use hg_peer::Scope;
 use hg_replica::Replica;
 use hg_rewrite::Op;
 use std::alloc::Global;
@@ -40,11 +40,11 @@ fn make<K: NodeName, R: Wait, W: Wait + Drop>(
 }
 
 // Looks at `a`, at what it is amended to and at what the message has. It takes no memory.
-fn look<K: NodeName, W: Wait + Drop>(rt: &impl Abort, pass: &mut Pass<K>) -> [Status; 3] {
+fn look<K: NodeName>(rt: &impl Abort, pass: &mut Pass<K>) -> [Status; 3] {
     [
-        Open::<K, W>::read(pass, id(rt, A)).expect(rt, "a look"),
-        Open::<K, W>::read(pass, id(rt, B_FOR_A)).expect(rt, "a look"),
-        Open::<K, W>::read(pass, id(rt, N1)).expect(rt, "a look"),
+        Node::<K, (), ()>::read(pass, id(rt, A)).expect(rt, "a look"),
+        Node::<K, (), ()>::read(pass, id(rt, B_FOR_A)).expect(rt, "a look"),
+        Node::<K, (), ()>::read(pass, id(rt, N1)).expect(rt, "a look"),
     ]
 }
 
@@ -55,12 +55,12 @@ fn make_or_wait<K: NodeName, R: Wait + Abort, W: Wait + Drop>(
     pass: &mut Pass<K>,
     call: &Call<'_>,
 ) {
-    let before = look::<K, W>(rt, pass);
+    let before = look(rt, pass);
     let answer = make(rt, node, pass, call);
     if answer == Ok(Accepted::Shown) {
         return;
     }
-    assert!(rt; look::<K, W>(rt, pass) == before);
+    assert!(rt; look(rt, pass) == before);
     if answer != Ok(Accepted::Later) {
         assert!(rt; answer == Err(CallRefusal::NoMemory));
         assert!(rt; make(rt, node, pass, call) == Ok(Accepted::Shown));
@@ -96,10 +96,7 @@ fn starve<'a, K: NodeName, R: Wait + Abort, W: Wait + Drop>(
     let Ok(node) = Open::<K, W>::new(keep, alloc, blank, OpenGate) else {
         return;
     };
-    let mut pass = match node.pass(rt) {
-        Ok(pass) => pass,
-        Err(NoPass) => node.pass(rt).expect(rt, "there is memory again"),
-    };
+    let mut pass = node.pass(rt).expect(rt, "a pass wants no memory");
     let a = id(rt, A);
     for call in [
         Call::Local(commit),
@@ -111,7 +108,7 @@ fn starve<'a, K: NodeName, R: Wait + Abort, W: Wait + Drop>(
     ] {
         make_or_wait(rt, &node, &mut pass, &call);
     }
-    let [old, new, taken] = look::<K, W>(rt, &mut pass);
+    let [old, new, taken] = look(rt, &mut pass);
     assert!(rt; old.extinct && !old.visible && new.visible && taken.visible);
 }
 
@@ -139,16 +136,12 @@ fn look_and_close<K: NodeName, R: Wait + Abort, W: Wait + Drop>(
     let Ok(node) = Open::<K, W>::new(keep, alloc, blank, OpenGate) else {
         return;
     };
-    let Ok(mut pass) = node.pass(rt) else {
-        return;
-    };
+    let mut pass = node.pass(rt).expect(rt, "a pass wants no memory");
     let Ok(Accepted::Shown) = node.take(rt, &mut pass, MESSAGE) else {
         return;
     };
-    assert!(rt; is_known::<K, W>(rt, &mut pass) || is_known::<K, W>(rt, &mut pass));
-    assert!(rt;
-        is_offered::<K, W>(rt, alloc, &mut pass) || is_offered::<K, W>(rt, alloc, &mut pass)
-    );
+    assert!(rt; is_known(rt, &mut pass) || is_known(rt, &mut pass));
+    assert!(rt; is_offered(rt, &mut pass) || is_offered(rt, &mut pass));
     let Ok(passes) = vec![in alloc; pass] else {
         return;
     };
@@ -167,8 +160,8 @@ fn look_and_close<K: NodeName, R: Wait + Abort, W: Wait + Drop>(
 }
 
 // Whether it is told what the node serves: what the message has, and not `a`.
-fn is_known<K: NodeName, W: Wait + Drop>(rt: &impl Abort, pass: &mut Pass<K>) -> bool {
-    match Open::<K, W>::known(pass, &[id(rt, N1), id(rt, A)]) {
+fn is_known<K: NodeName>(rt: &impl Abort, pass: &mut Pass<K>) -> bool {
+    match Node::<K, (), ()>::known(pass, &[id(rt, N1), id(rt, A)]) {
         Ok(answers) => answers.as_slice() == [true, false].as_slice(),
         Err(refusal) => {
             assert!(rt; refusal == LookRefusal::NoMemory);
@@ -178,16 +171,8 @@ fn is_known<K: NodeName, W: Wait + Drop>(rt: &impl Abort, pass: &mut Pass<K>) ->
 }
 
 // Whether something is offered.
-fn is_offered<K: NodeName, W: Wait + Drop>(
-    rt: &impl Abort,
-    alloc: Global,
-    pass: &mut Pass<K>,
-) -> bool {
-    let ask = Ask {
-        common: Vec::new(alloc),
-        scope: Scope::Served,
-    };
-    match Open::<K, W>::offer(pass, &ask) {
+fn is_offered<K: NodeName>(rt: &impl Abort, pass: &mut Pass<K>) -> bool {
+    match Node::<K, (), ()>::offer(pass, &[], Scope::Served) {
         Ok(_) => true,
         Err(refusal) => {
             assert!(rt; refusal == NotOffered::NoMemory);
