@@ -1,4 +1,6 @@
 //! What the tests of nodes make.
+ghost use Rattle.std.specs.Prelude.{◌≡◌, [], IfSome};
+
 use hg_changeset::{Entry, Node as Id};
 use hg_live::{Node, OpenGate, Writer};
 use hg_rewrite::Op;
@@ -30,7 +32,9 @@ pub fn id(rt: &impl Abort, digits: &[u8]) -> Id {
 }
 
 /// An entry of user `fleet` at `0 0`.
-pub fn entry(alloc: Global, description: &[u8]) -> Option<Entry> {
+pub fn entry(alloc: Global, description: &[u8]) -> Option<Entry>
+    ensures { IfSome result (λ entry. entry.extra ≡ []) }
+{
     Some(Entry {
         user: Vec::from_slice(alloc, b"fleet").ok()?,
         secs: 0,
