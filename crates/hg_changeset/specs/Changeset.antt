@@ -1,6 +1,7 @@
 -- What a changeset is: its parents in normal form, its text, and the id that these give.
-use Rattle.std.specs.Prelude.{ℕ, ◌≡◌, ◌≢◌, ◌≤◌, ◌⊎◌, ◌++◌, List, length, Bool, false, not, ◌&&◌, nat_lt, if◌then◌else◌}
+use Rattle.std.specs.Prelude.{ℕ, ◌≡◌, ◌≢◌, ◌≤◌, ◌⊎◌, ◌++◌, ◌==◌, List, length, Bool, false, not, ◌&&◌, nat_lt, if◌then◌else◌}
 use Rattle.std.specs.Prelude.{Option, Some, None}
+use Rattle.std.specs.List.{after_last}
 use Rattle.std.specs.Ordering.{is_gt}
 use Rattle.std.specs.declared.cmp.Ordering.TheVariants.{Less}
 use Rattle.hex.specs.Hex.{IsBytes}
@@ -21,6 +22,10 @@ greater p q = if is_gt (node_cmp p q) then p else q
 -- the id: the SHA-1 of the lesser parent, the greater parent and the text
 unfoldable pub node_of : Contents → Node
 node_of c = record { 0 = sha1 ((lesser c.first c.second).0 ++ (greater c.first c.second).0 ++ c.text) }
+
+-- what follows the last LF of the text
+abbrev pub last_line : Contents → List ℕ
+last_line c = after_last (λ b. b == 10) c.text
 
 -- one changeset is named as both parents
 abbrev pub is_given_twice : Node → Node → Bool

@@ -2,11 +2,13 @@
 //!
 //! A changeset has at most two parents and a text, and is named by the SHA-1 of these. Its parents are an unordered
 //! pair, which is kept in normal form: an absent parent, the null id, stands last, otherwise the lesser stands first.
-ghost use Rattle.std.specs.Prelude.{◌≡◌, ◌++◌, ◌↔◌, ◌≤◌, length, Some, None, IsTrue, MatchOption, IfOk, Ok, Err};
+ghost use Rattle.std.specs.Prelude.{◌≡◌, ◌++◌, ◌↔◌, ◌≤◌, ◌-◌, ◌==◌, not, length, Some, None, IsTrue, MatchOption, IfOk};
+ghost use Rattle.std.specs.Prelude.{Ok, Err};
+ghost use Rattle.std.specs.List.{suffix_len};
 ghost use Rattle.hex.specs.Hex.{IsBytes};
 ghost use Rattle.hg_changeset.specs.Contents.{contents};
 ghost use Rattle.hg_changeset.specs.Node.{IsNode};
-ghost use Rattle.hg_changeset.specs.Changeset.{node_of, lesser, greater, is_given_twice, IsNormal, IsNormalFormOf};
+ghost use Rattle.hg_changeset.specs.Changeset.{node_of, last_line, lesser, greater, is_given_twice, IsNormal, IsNormalFormOf};
 ghost use Rattle.hg_changeset.specs.Changeset.{IsChangeset, changeset_of, changeset_fault, text_limit};
 ghost use Rattle.hg_changeset.specs.Refusals.{changeset_error_number, changeset_error_name};
 
@@ -180,6 +182,13 @@ impl Changeset {
         &self.text
     }
 
+    /// What follows the last LF of the text. Where that is an entry's text, it is the last line of the description.
+    pub fn last_line(&self) -> &[u8]
+        ensures { result.now ≡ last_line self.now }
+    {
+        &self.text[start_of_last_line(&self.text)..]
+    }
+
     /// Whether the other changeset has the same parents and the same text.
     pub fn is_same(&self, other: &Changeset) -> bool
         ensures { IsTrue result ↔ (self.now ≡ other.now) }
@@ -200,6 +209,18 @@ impl Changeset {
             text: self.text.clone()?,
         })
     }
+}
+
+// Where what follows the last LF begins.
+fn start_of_last_line(text: &[u8]) -> usize
+    ensures start { result ≡ length text.now - suffix_len (λ b. not (b == 10)) text.now }
+    ensures within { result ≤ length text.now }
+{
+    let mut start = text.len();
+    while start > 0 && text[start - 1] != b'\n' {
+        start -= 1;
+    }
+    start
 }
 
 // The two parents with a null one last, otherwise the lesser first; none where one parent is given twice.

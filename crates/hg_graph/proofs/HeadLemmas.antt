@@ -1,25 +1,21 @@
 -- Heads, by marks on the places of those that are asked about.
-use Rattle.std.proofs.Common.{◌≡◌, ◌≢◌, ℕ, zero, suc, ◌<◌, ◌≤◌, ◌+◌, ◌-◌, min, max, Bool, true, false, List, [], ◌∷◌}
-use Rattle.std.proofs.Common.{length, take, drop}
-use Rattle.std.specs.Prelude.{position}
-use Rattle.std.specs.List.{position_or_len}
-use Rattle.std.proofs.lemmas.List.Sums.{fails_before_first}
+use Rattle.std.proofs.Common.{◌≡◌, ◌≢◌, ℕ, ◌<◌, ◌≤◌, ◌+◌, ◌-◌, min, max, Bool, true, false, List, [], ◌∷◌}
+use Rattle.std.proofs.Common.{length, take}
 use Rattle.std.proofs.Common.{get_or, replicate, slice_get, Option, None, Some, MatchOption, Contains, ◌↔◌, ◌⊎◌, inl}
 use Rattle.std.proofs.Common.{inr, refl, sym, ap, subst, ◌∙◌, arith, true≢false}
 use Rattle.std.specs.BTreeSet.{BTreeSet, Updates}
 use Rattle.std.proofs.lemmas.Bool.{cases_eq, cases_lt}
 use Rattle.std.proofs.lemmas.List.{length-replicate}
-use Rattle.std.proofs.lemmas.Option.{none-some, slice_get-get_or, get_or_from_slice_get, same_Some}
+use Rattle.std.proofs.lemmas.Option.{none-some, slice_get-get_or, same_Some}
 use Rattle.hg_changeset.specs.declared.node.Node.{Node}
 use Rattle.hg_changeset.specs.Node.{node_cmp}
 use Rattle.hg_changeset.specs.Contents.{Contents}
-use Rattle.hg_changeset.proofs.ListLemmas.{position-found, position-none}
 use Rattle.hg_changeset.proofs.NodeLemmas.{node_cmp_total, node_cmp_exact}
 use Rattle.hg_graph.specs.Graph.{nodes, Holds, IsGraph, Reaches, IsHeadAmong, IsHeadOfThem}
 use Rattle.hg_graph.specs.Places.{IsAt, IsOnlyAt, IsParentPlace, IsPlaceOfOne, IsHeadPlace, IsSpan}
-use Rattle.hg_graph.specs.Marks.{IsMarked, IsMarkedNode, MarksAlso, MarksAncestors}
+use Rattle.hg_graph.specs.Marks.{IsMarked, MarksAlso, MarksAncestors}
 use Rattle.hg_graph.proofs.GraphLemmas.{Contains-from_place}
-use Rattle.hg_graph.proofs.PlaceLemmas.{same_place, place_from_Holds, placed_within, Holds-reached, IsAt-within}
+use Rattle.hg_graph.proofs.PlaceLemmas.{same_place, place_from_Holds, placed_within, Holds-reached}
 use Rattle.hg_graph.proofs.PlaceLemmas.{parent_first, ancestor_first, ancestor_by_parent, ancestor_through_parent}
 use Rattle.hg_graph.proofs.MarkLemmas.{MarksAlso-then, MarksAlso-same, unmarked, IsMarked-within, taken_more}
 use Rattle.hg_graph.proofs.WalkLemmas.{inserted}
@@ -201,53 +197,6 @@ heads_are cs graph N P given heads are n = (
         ),
       ),
 )
-
--- a marked place is that of a marked node
-pub marked_given : (cs : List Contents) → IsGraph cs → (marks : List Bool) → length marks ≡ length cs → (k : ℕ)
-    → IsMarked 0 marks k ↔ ((n : Node) × IsMarkedNode cs marks n × IsAt cs n k)
-marked_given cs graph marks len k = (
-  λ m. let n = IsAt-within cs k (omega (arith, IsMarked-within 0 marks k m, len)) in (n.0, (k, n.1, m), n.1),
-  λ h. subst (IsMarked 0 marks) (same_place (nodes cs) h.0 k h.1.0 graph.distinct h.2 h.1.1) h.1.2,
-)
-
--- ---- the first mark
-
-from_place : {X : Type 0} (a : ℕ) (xs : List X) (i : ℕ) → slice_get (drop a xs) i ≡ slice_get xs (a + i)
-from_place zero xs i = let e : i ≡ 0 + i = omega arith in ap (slice_get xs) e
-from_place (suc a) [] i = refl
-from_place (suc a) (x ∷ xs) i =
-    let e : suc (a + i) ≡ suc a + i = omega arith in
-    from_place a xs i ∙ ap (slice_get (x ∷ xs)) e
-
-module _ (marks : List Bool) where
-  abbrev is_set : Bool → Bool
-  is_set mark = mark
-
-  not_before : (k : ℕ) → k < position_or_len is_set marks → ¬ (IsMarked 0 marks k)
-  not_before k lt m =
-      let at : slice_get marks k ≡ Some true = let e : k - 0 ≡ k = omega arith in
-      subst (λ i. slice_get marks i ≡ Some true) e m.1 in
-      true≢false (sym (get_or_from_slice_get marks k true false at) ∙ fails_before_first is_set marks k false lt)
-
-  pub first_none : position is_set marks ≡ None → (k : ℕ) → ¬ (IsMarked 0 marks k)
-  first_none none k m = not_before k
-      (omega (arith, position-none is_set marks none, IsMarked-within 0 marks k m)) m
-
-  -- the marks from the first one on are all marks
-  pub from_first : (first : ℕ) → position is_set marks ≡ Some first → (k : ℕ)
-      → IsMarked first (drop first marks) k ↔ IsMarked 0 marks k
-  from_first first found k =
-      let is = position-found is_set marks first found in (
-        λ m.
-            let e : first + (k - first) ≡ k - 0 = omega (arith, m.0) in
-            (omega arith, subst (λ i. slice_get marks i ≡ Some true) e (sym (from_place first marks (k - first)) ∙ m.1)),
-        λ m. elim (cases_lt k first) [
-          | inl lt ↦ absurd (not_before k (omega (arith, lt, is.1)) m)
-          | inr ge ↦
-              let e : k - 0 ≡ first + (k - first) = omega (arith, ge) in
-              (ge, from_place first marks (k - first) ∙ subst (λ i. slice_get marks i ≡ Some true) e m.1)
-        ],
-      )
 
 -- ---- the places of some nodes
 

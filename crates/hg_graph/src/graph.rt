@@ -98,6 +98,14 @@ impl Graph {
         *self.changesets.allocator()
     }
 
+    /// It says to proofs that this is a graph, and does nothing.
+    #[inline(always)]
+    pub fn is_valid(&self)
+        ensures { IsGraph self.now }
+    {
+        let _links = &self.links;
+    }
+
     /// How many changesets are held.
     pub fn len(&self) -> usize
         ensures len { result ≡ length self.now }

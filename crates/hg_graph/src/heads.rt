@@ -3,13 +3,12 @@
 //! Parents of what is marked get a second mark, and then all that reach them: what has both marks is an ancestor of
 //! another marked changeset, and no head.
 ghost use Rattle.std.specs.Prelude.{◌≡◌, ◌↔◌, ℕ, ◌+◌, ◌≤◌, min, max, length, Contains, MatchOption, IfOk, OnErr};
-ghost use Rattle.std.specs.Prelude.{position};
 ghost use Rattle.std.specs.List.Sorted.{IsStrictlySortedBy};
 ghost use Rattle.hg_changeset.specs.declared.node.Node.{Node};
 ghost use Rattle.hg_changeset.specs.Node.{node_cmp};
-ghost use Rattle.hg_graph.specs.Graph.{Holds, IsGraph, IsHeadAmong, IsHeadOfThem};
+ghost use Rattle.hg_graph.specs.Graph.{Holds, IsHeadOfThem};
 ghost use Rattle.hg_graph.specs.Places.{IsAt, IsParentPlace, IsPlaceOfOne, IsHeadPlace, IsSpan};
-ghost use Rattle.hg_graph.specs.Marks.{IsMarked, IsMarkedNode, MarksAlso};
+ghost use Rattle.hg_graph.specs.Marks.{IsMarked, MarksAlso};
 
 use crate::graph::Graph;
 use hg_changeset::Node;
@@ -39,22 +38,6 @@ impl Graph {
                 self.heads_between(first, last + 1, marks)
             }
             None => Ok(Vec::new(alloc)),
-        }
-    }
-
-    /// The marked changesets that have no other marked one as a descendant, ascending by id. There is a mark for each
-    /// place. It costs a look at each mark before the first one that is set, and what stands from there on.
-    pub fn marked_heads(&self, marks: &[bool]) -> Result<Vec<Node>, AllocError>
-        requires { length marks.now ≡ length self.now }
-        ensures exact { IfOk result
-            (λ heads. (n : Node) → Contains heads.items n ↔ IsHeadAmong self.now (IsMarkedNode self.now marks.now) n) }
-        ensures ascending { IfOk result (λ heads. IsStrictlySortedBy node_cmp heads.items) }
-    {
-        // It says that this is a graph.
-        let count = self.len();
-        match first_mark(marks) {
-            Some(first) => self.heads_between(first, count, &marks[first..]),
-            None => Ok(Vec::new(self.alloc())),
         }
     }
 
@@ -134,13 +117,6 @@ impl Graph {
         }
         Ok(found)
     }
-}
-
-// The place of the first mark that is set.
-fn first_mark(marks: &[bool]) -> Option<usize>
-    ensures { result ≡ position (λ mark. mark) marks.now }
-{
-    marks.iter().position(|mark| *mark)
 }
 
 // The nodes of a set, ascending.

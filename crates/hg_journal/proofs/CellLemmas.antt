@@ -11,12 +11,6 @@ is_home cells key = (cell cells key).1
 abbrev pub StayHome : List Cell → List Cell → Type 0
 StayHome cells others = (key : ℕ) → is_home cells key ≡ true → is_home others key ≡ true
 
--- a cell that is at home is there
-pub home_within : (cells : List Cell) (key : ℕ) → is_home cells key ≡ true → key < length cells
-home_within [] key h = absurd (cc h)
-home_within (c ∷ cells) zero h = omega arith
-home_within (c ∷ cells) (suc key) h = let rest = home_within cells key h in omega arith
-
 -- one more cell
 pub stay_longer : (cells more : List Cell) → StayHome cells (cells ++ more)
 stay_longer [] more key h = absurd (cc h)

@@ -72,12 +72,6 @@ none_at ns n d none = false_from_ne_true (list_any (node_eq n) ns)
     (λ h. let at = place_from_Contains ns n (Contains-from_any same_node n ns h) in
     none-some at.0 (sym none ∙ number_at ns n at.0 d at.1))
 
-pub number_none : (ns : List Node) (n : Node) → number_of ns n ≡ None → position_or_len (node_eq n) ns ≡ length ns
-number_none ns n none =
-    let past = position-none (node_eq n) ns none in
-    let within = prefix_len-le-length (λ m. not (node_eq n m)) ns in
-    grind (arith, common_steps)
-
 -- an element of a front of the list
 pub get-take : {X : Type 0} (xs : List X) (n i : ℕ) (x : X) → slice_get (take n xs) i ≡ Some x
     → (i < n) × (slice_get xs i ≡ Some x)
@@ -123,21 +117,8 @@ not_at node q other =
     false_from_ne_true (is_at (node_cmp node) q)
     (λ h. other (sym (node_cmp_exact node q (equal_told (node_cmp node q) h))))
 
-pub distinct_front : (ns : List Node) (n : Node) → IsDistinct node_eq (ns ++ n ∷ []) → IsDistinct node_eq ns
-distinct_front ns n d = IsDistinct-from_apart node_eq ns (λ i j e l within.
-    subst (λ m. node_eq m (get_or ns j e) ≡ false) (get_or_append_left ns (n ∷ []) e i (omega arith))
-    (subst (λ m. node_eq (get_or (ns ++ n ∷ []) i e) m ≡ false) (get_or_append_left ns (n ∷ []) e j within)
-    (apart_from_distinct node_eq (ns ++ n ∷ []) i j e d l (omega (arith, within, length-append ns (n ∷ []))))))
-
 -- what stands at a place after it was set
 pub set_here : {A : Type 0} (xs : List A) (k : ℕ) (a : A) → k < length xs → slice_get (slice_set xs k a) k ≡ Some a
 set_here [] k a l = absurd (omega arith)
 set_here (y ∷ xs) zero a l = refl
 set_here (y ∷ xs) (suc k) a l = set_here xs k a (omega arith)
-
-pub set_else : {A : Type 0} (xs : List A) (k j : ℕ) (a : A) → j ≢ k → slice_get (slice_set xs k a) j ≡ slice_get xs j
-set_else [] k j a other = refl
-set_else (y ∷ xs) zero zero a other = absurd (other refl)
-set_else (y ∷ xs) zero (suc j) a other = refl
-set_else (y ∷ xs) (suc k) zero a other = refl
-set_else (y ∷ xs) (suc k) (suc j) a other = set_else xs k j a (λ e. other (ap suc e))

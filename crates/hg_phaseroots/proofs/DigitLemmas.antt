@@ -18,9 +18,6 @@ pub record IsNumberSoFar (cs : List ℕ) (n : ℕ) : Type 0 where
 decimal_value : (c : ℕ) → 48 ≤ c → c ≤ 57 → digit_value c ≡ c - 48
 decimal_value c low high = rw (le-ltb c 48 low, lt-ltb c 58 (omega arith)) refl
 
-pub none_yet : IsNumberSoFar [] 0
-none_yet = record { digits = tt; decimal = refl; number = refl }
-
 pub one_more : (digits : List ℕ) (c n : ℕ) → 48 ≤ c → c ≤ 57 → IsNumberSoFar digits n
     → IsNumberSoFar (digits ++ c ∷ []) (n * 10 + (c - 48))
 one_more digits c n low high h =

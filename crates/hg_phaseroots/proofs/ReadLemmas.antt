@@ -45,8 +45,3 @@ module _ (text : List ℕ) (roots : List Root) (n : ℕ) (rest line after : List
   pub read_line : (o : Option Root) → Ok o ≡ root_in n line → (more : List Root) × IsReadTo text more (n + 1) after
   read_line None says = (roots, read_none says)
   read_line (Some root) says = (roots ++ root ∷ [], read_root root says)
-
-pub read_all : (text : List ℕ) (roots : List Root) (n : ℕ) (rest : List ℕ) → rest ≡ [] → IsReadTo text roots n rest
-    → roots_of text ≡ Ok roots
-read_all text roots n rest e read = read ∙ ap (λ bytes. after_roots roots (roots_in n (lines_of bytes))) e
-    ∙ ap (λ rs. Ok rs) (append-nil roots)

@@ -69,17 +69,6 @@ pick_on_cycle s n p on (itself free held) = absurd (free (cycle_rewritten s n on
 pick_on_cycle s n p on (unknown free not_held) = refl
 pick_on_cycle s n p on (rewritten m in' at off picks) = absurd (off on)
 
--- it has no successors sets
-pub no_sets : (s : Content) (n : Node) → IsOnCycle s n → IsFamily s n []
-unfolding IsStrictlySortedBy
-no_sets s n on = record {
-  ascending = tt;
-  exact = λ set. (
-    (λ h. absurd (omega (arith, h.1))),
-    (λ h. absurd (h.some (within_nil set (subst (AreWithin set) (pick_on_cycle s n h.pick.0 on h.pick.1) h.pick.2)))),
-  );
-}
-
 pub not_overfull : (s : Content) (n : Node) → IsOnCycle s n → IsOverfull s n → ⊥
 not_overfull s n on (passed_on off to over) = off on
 not_overfull s n on (too_many places counts off are zip many) = off on

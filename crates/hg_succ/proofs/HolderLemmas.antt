@@ -66,12 +66,6 @@ numbering_grows old new set row g is = record {
   each = λ y h. (let w = is.each y h in (w.0, w.1, grown old new g w.0 y w.2));
 }
 
-pub no_numberings : (members : List Node) → AreNumberings [] members []
-no_numberings members = record {
-  all = refl;
-  exact = λ p set row s r. absurd (omega (arith, slice_get_within [] p set s));
-}
-
 pub numberings_more : (old new : List Node) (sets : List (List Node)) (rows : List (List ℕ)) (set : List Node)
     (row : List ℕ) → (more : List Node) × (new ≡ old ++ more) → AreNumberings sets old rows → IsNumbering new set row
     → AreNumberings (sets ++ set ∷ []) new (rows ++ row ∷ [])
@@ -113,12 +107,6 @@ rows_push rows row longer e p r at =
     ]
 
 -- ---- words
-
-pub note_none : (bit : ℕ) (words : List ℕ) → Notes bit [] words words
-note_none bit words = record {
-  long = refl;
-  each = λ m j l. ((λ h. inl h), (λ h. elim h [ inl old ↦ old | inr new ↦ absurd (Contains-none m new.1) ]));
-}
 
 pub note_one : (bit : ℕ) (row more old words : List ℕ) (m : ℕ) → bit < 64 → m < length words
     → ((k : ℕ) → Contains more k ↔ (Contains row k ⊎ (m ≡ k))) → Notes bit row old words
@@ -179,17 +167,6 @@ abbrev pub IsBlockBefore : List (List ℕ) → ℕ → ℕ → List ℕ → Type
 IsBlockBefore rows first bit words = (m j : ℕ) → j < 64
     → (bit_at (get_or words m 0) j ≡ 1) ↔ ((j < bit) × Contains (row_in rows (first + j)) m)
 
-zero_at : (count m : ℕ) → ◌≡◌ {A = ℕ} (get_or (replicate count 0) m 0) 0
-zero_at zero m = refl
-zero_at (suc count) zero = refl
-zero_at (suc count) (suc m) = zero_at count m
-
-pub block_none : (rows : List (List ℕ)) (first count : ℕ) → IsBlockBefore rows first 0 (replicate count 0)
-block_none rows first count m j l = (
-  (λ h. absurd (omega (arith, sym h ∙ ap (λ v. bit_at v j) (zero_at count m) ∙ bit_at-zero j))),
-  (λ h. absurd (omega (arith, h.0))),
-)
-
 pub block_more : (rows : List (List ℕ)) (first bit : ℕ) (row old new : List ℕ) → row ≡ row_in rows (first + bit)
     → IsBlockBefore rows first bit old → Notes bit row old new → IsBlockBefore rows first (bit + 1) new
 block_more rows first bit row old new is before so m j l = (
@@ -220,11 +197,6 @@ block_same rows first bit words end before m j l = (
     | inr other ↦ (before m j l).1 (omega (arith, h.0, other), h.1)
   ]),
 )
-
-pub block_done : (rows : List (List ℕ)) (first bit : ℕ) (words : List ℕ) → 64 ≤ bit
-    → IsBlockBefore rows first bit words → IsBlock rows first words
-block_done rows first bit words all before m j l =
-    ((λ h. ((before m j l).0 h).1), (λ h. (before m j l).1 (omega (arith, l, all), h)))
 
 -- ---- the words of a set
 
@@ -298,15 +270,6 @@ own_here block place e = record {
         ap (bit_at (2 ^ (place % 64))) same ∙ bit_at-pow_same (place % 64)),
   );
   none = λ j l. bit_at-pow_other (place % 64) j (λ same. omega (arith, same, l));
-}
-
-pub own_elsewhere : (block place : ℕ) → place / 64 ≢ block → IsOwnBit (block * 64) place 0
-own_elsewhere block place n = record {
-  each = λ j l. (
-    (λ h. absurd (omega (arith, h, bit_at-zero j))),
-    (λ h. absurd (n (omega (arith, h, l)))),
-  );
-  none = λ j l. bit_at-zero j;
 }
 
 -- ---- what no other row has

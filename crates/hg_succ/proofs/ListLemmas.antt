@@ -91,21 +91,6 @@ popped xs ys front n t long rest ends =
     let count : n - 1 ≡ length front = omega (arith, long, ap length ends, longer) in
     rest ∙ (λ i. take (count i) (ends i)) ∙ take_at front (t ∷ []) (length front) refl
 
--- what stands last is the end
-pub ends_at_last : (xs : List ℕ) (t : ℕ) → At xs (length xs - 1) t → EndsWith xs t
-ends_at_last xs t h = split_last xs t h
-
--- and the only one
-pub one_end : (xs : List ℕ) (s t : ℕ) → EndsWith xs s → EndsWith xs t → s ≡ t
-one_end xs s t a b =
-    let la : length (a.0 ++ s ∷ []) ≡ length a.0 + 1 = length_push a.0 s in
-    let lb : length (b.0 ++ t ∷ []) ≡ length b.0 + 1 = length_push b.0 t in
-    let same : length a.0 ≡ length b.0 = omega (arith, la, lb, ap length a.1, ap length b.1) in
-    get_one xs (length b.0) s t
-    (subst (λ i. At xs i s) same
-    (subst (λ (zs : List ℕ). At zs (length a.0) s) (sym a.1) (slice_get-append_seam a.0 s [])))
-    (subst (λ (zs : List ℕ). At zs (length b.0) t) (sym b.1) (slice_get-append_seam b.0 t []))
-
 pub sum_set : (xs : List ℕ) (i l : ℕ) → At xs i (suc l) → sum (set xs i l) + 1 ≡ sum xs
 sum_set xs i l h =
     let e = sum_by-set (λ x. x) xs i l 0 (slice_get_within xs i (suc l) h) in

@@ -60,13 +60,6 @@ none_there zero i = refl
 none_there (suc count) zero = refl
 none_there (suc count) (suc i) = none_there count i
 
-pub look_none : (nodes : List Node) (count : ℕ) (n : Node) → look nodes (replicate count None) n ≡ None
-look_none nodes count n = by (position (node_eq n) nodes)
-  where
-    by : (o : Option ℕ) → option_and_then (answer_at (replicate count None)) o ≡ None
-    by None = refl
-    by (Some i) = none_there count i
-
 module _ (nodes : List Node) (once : AreOnce nodes) (answers : List (Option Solved))
     (long : length answers ≡ length nodes) (number : ℕ) (node : Node) (at : At nodes number node)
     (v : Option Solved) where

@@ -69,11 +69,3 @@ module _ (f : Content) (nodes : List Node) (rows : List (List ℕ)) (once : AreO
       let x = slice_get_some nodes i (let l = slice_get_within rows i e.0 e.1 in omega (arith, l, all)) in
       let s = edge_to i j x.0 e x.1 in
       (let l = slice_get_within nodes j s.0 s.1 in omega (arith, l, all))
-
-pub reads_node : (nodes read : List Node) (rows : List (Vec ℕ Global)) (i : ℕ)
-    → read ≡ nodes → length rows ≡ length nodes → i < length (rows_of rows)
-    → At nodes i (get_or read i (record { 0 = [] }))
-reads_node nodes read rows i e all l =
-    subst (λ (ns : List Node). At ns i (get_or read i (record { 0 = [] }))) e
-    (slice_get-get_or read i (record { 0 = [] })
-    (omega (arith, l, all, ap length e, length-map rows (λ (row : Vec ℕ Global). row.items))))

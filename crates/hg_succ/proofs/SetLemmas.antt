@@ -306,19 +306,6 @@ pub choices_push : (fs : List (List (List Node))) (f : List (List Node)) (unions
 choices_push [] f unions = refl
 choices_push (g ∷ fs) f unions = choices_push fs f (with_sets g unions)
 
--- one failure is enough
-pub all_fails : {X : Type 0} (p : X → Bool) (xs : List X) (x : X) → Contains xs x → p x ≡ false → list_all p xs ≡ false
-all_fails p xs x h e = list_all_at p xs h.0 x h.1 (ap p h.2 ∙ e)
-
-pub all_more : {X : Type 0} (p : X → Bool) (xs : List X) (i : ℕ) (x : X) → i < length xs → x ≡ get_or xs i x
-    → list_all p (take i xs) ≡ true → p x ≡ true → list_all p (take (i + 1) xs) ≡ true
-all_more p xs i x l e before here = has_all p (take (i + 1) xs)
-    (λ y h. elim ((more_of xs i x l e y).0 h) [
-      | inl old ↦ all_has p (take i xs) before y old
-      | inr same ↦
-          ap p (sym same) ∙ here
-    ])
-
 pub filter_all : {X : Type 0} (p : X → Bool) (xs : List X) → ((x : X) → Contains xs x → p x ≡ true) → filter p xs ≡ xs
 filter_all p [] h = refl
 filter_all {X} p (x ∷ xs) h =

@@ -109,11 +109,6 @@ pub last_kept : (old new : Table) (family : Vec (Vec Node Global) Global) (e : S
 last_kept old new family e put count is =
     (let g : Family (length old.families.items) ≡ Counted count = sym put.place ∙ is in cc)
 
--- what was answered stays answered, where nodes and answers do
-answer_same : (old new : Table) → new.nodes.keys ≡ old.nodes.keys → new.answers.items ≡ old.answers.items → (n : Node)
-    → answer new n ≡ answer old n
-answer_same old new nodes answers n = λ i. look (nodes i) (answers i) n
-
 -- ---- one node more
 
 module _ (f : Content) (old mid new : Table) (number : ℕ) (node : Node) (solved : Solved) (so : IsTable f old)
