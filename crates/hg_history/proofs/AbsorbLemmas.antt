@@ -1,8 +1,8 @@
 -- The steps of `absorb` together.
-use Rattle.std.proofs.Common.{◌≡◌, ℕ, List, [], ◌∷◌, ◌++◌, length, take, drop, Contains, Result, Ok, Err, ◌≤◌, ◌⊎◌, inl}
-use Rattle.std.proofs.Common.{inr, Bool, refl, sym, ap, subst, ◌∙◌, arith}
+use Rattle.std.proofs.Common.{◌≡◌, ℕ, List, [], ◌∷◌, ◌++◌, length, take, drop, Contains, Result, ◌≤◌, ◌⊎◌, inl}
+use Rattle.std.proofs.Common.{inr, refl, sym, ap, subst, ◌∙◌, arith}
 use Rattle.std.proofs.Math.Seq.{drop-append_seam}
-use Rattle.std.proofs.lemmas.List.{take-take, take_all, map-append, length-append, length-map}
+use Rattle.std.proofs.lemmas.List.{take_all, map-append, length-append, length-map}
 use Rattle.std.proofs.lemmas.Option.{slice_get_within}
 use Rattle.hg_changeset.specs.declared.node.Node.{Node}
 use Rattle.hg_changeset.specs.Contents.{Contents}
@@ -16,14 +16,13 @@ use Rattle.hg_phases.specs.State.{State, IsValid, state_of, changesets}
 use Rattle.hg_phases.specs.Least.{PartValue, IsAdmitted, IsLeast}
 use Rattle.hg_phases.specs.Log.{IsLog, restored}
 use Rattle.hg_phases.proofs.PlaceLemmas.{changesets-held_of}
-use Rattle.hg_phases.specs.RootPlaces.{AreRootPlaces}
-use Rattle.hg_phases.proofs.LogLemmas.{fresh_log}
+use Rattle.hg_phases.proofs.LogLemmas.{fresh_log, IsLog-above}
 use Rattle.hg_history.specs.declared.fault.Fault.{Fault}
 use Rattle.hg_history.specs.declared.fault.Fault.TheVariants.{UnknownParent, Collision, UnknownBound, NullBound}
 use Rattle.hg_history.specs.declared.fault.Fault.TheVariants.{NoMemory}
 use Rattle.hg_history.specs.Change.{unheld}
 use Rattle.hg_history.specs.Answer.{IsFineUpTo, AreHeldUpTo, IsRefusal, IsFirstUnheld}
-use Rattle.hg_history.specs.Steps.{AddAllAnswer, IsBegun, CanTakeBack, IsAdded, IsBoundFault, IsLoweredTo}
+use Rattle.hg_history.specs.Steps.{AddAllAnswer, CanTakeBack, IsAdded, IsBoundFault, IsLoweredTo}
 use Rattle.hg_history.proofs.AddLemmas.{Holds-same, some_added, front_kept, phases_kept, least-added}
 use Rattle.hg_history.proofs.FirstFaultLemmas.{fine-admitted}
 use Rattle.hg_history.proofs.BoundLemmas.{least-secrets}
@@ -48,57 +47,25 @@ pub back_added : (held : List Contents) (had : List Phase) (part : List Contents
 back_added held had part i cs ks log len a fresh =
     back_lowered held had part i cs ks ks Public log len a refl (fresh_log Public ks log fresh) (ap (restored ks) fresh)
 
--- the log gives the phases of the first changesets back
-pub front_restored : (cs : List Contents) (ks new : List Phase) (log : List LoweredPlace) (before : ℕ)
-    → before ≤ length cs → CanTakeBack cs ks cs new log → take before (restored new log) ≡ take before ks
-front_restored cs ks new log before within back =
-    sym (take-take before (length cs) (restored new log) within) ∙ ap (take before) back.phases
+-- what was added, and then lowered to public and to draft, can be taken back
+pub back_twice : (held : List Contents) (had : List Phase) (part : List Contents) (i : ℕ) (cs : List Contents)
+    (ks mid new : List Phase) (log first second : List LoweredPlace) → length had ≡ length held
+    → IsAdded held had part i cs ks → log ≡ [] → length mid ≡ length ks → length new ≡ length mid
+    → ((start : List Phase) → IsLog Public start ks log → IsLog Public start mid first)
+    → ((start : List Phase) → IsLog Draft start mid first → IsLog Draft start new second)
+    → restored mid first ≡ restored ks log → restored new second ≡ restored mid first
+    → CanTakeBack held had cs new second
+back_twice held had part i cs ks mid new log first second len a fresh mid_len new_len public draft undone undoes =
+    back_lowered held had part i cs ks new Draft second len a (new_len ∙ mid_len)
+    (draft ks (IsLog-above Public Draft ks mid first (omega arith) (public ks (fresh_log Public ks log fresh))))
+    (undoes ∙ undone ∙ ap (restored ks) fresh)
 
--- what was begun
-module _ (held : List Contents) (had : List Phase) (part : List Contents) (before : ℕ) (added : Result Unit Fault)
-    (cs : List Contents) (ks : List Phase) (begun : IsBegun held had part before added cs ks) where
-  pub begun_all : (u : Unit) → added ≡ Ok u → IsAdded held had part (length part) cs ks
-  begun_all u is = subst (λ r. AddAllAnswer held had part r cs ks) is begun.done
-
-  pub begun_fault : (f : Fault) → added ≡ Err f → AddAllAnswer held had part (Err f) cs ks
-  begun_fault f is = subst (λ r. AddAllAnswer held had part r cs ks) is begun.done
-
-  pub begun_front : take before cs ≡ held
-  begun_front =
-      let a = some_added held had part added cs ks begun.done in
-      ap (λ n. take n cs) begun.first ∙ front_kept held had part a.0 cs ks a.1
-
-  pub begun_phases : take before ks ≡ had
-  begun_phases =
-      let a = some_added held had part added cs ks begun.done in
-      ap (λ n. take n ks) begun.first ∙ phases_kept held had part a.0 cs ks a.1 begun.len
-
-  -- the roots of what was held first
-  pub rooted_after : (flags : List Bool) → AreRootPlaces held had flags
-      → AreRootPlaces (take before cs) (take before ks) flags
-  rooted_after flags are =
-      subst (λ ls. AreRootPlaces (take before cs) ls flags) (sym begun_phases)
-      (subst (λ ds. AreRootPlaces ds had flags) (sym begun_front) are)
-
-  pub rooted_before : (flags : List Bool) → AreRootPlaces (take before cs) (take before ks) flags
-      → AreRootPlaces held had flags
-  rooted_before flags are =
-      subst (λ ls. AreRootPlaces held ls flags) begun_phases
-      (subst (λ ds. AreRootPlaces ds (take before ks) flags) begun_front are)
-
--- what a call that adds leaves can be gone on with
-module _ (held : List Contents) (had : List Phase) (part : List Contents) (added : Result Unit Fault)
-    (cs : List Contents) (ks : List Phase) (answer : AddAllAnswer held had part added cs ks) where
-  pub added_len : length ks ≡ length cs
-  added_len = (some_added held had part added cs ks answer).1.len
-
-  pub added_valid : IsValid (state_of cs ks)
-  added_valid = (some_added held had part added cs ks answer).1.valid
-
-  pub added_within : length held ≤ length cs
-  added_within =
-      let a = some_added held had part added cs ks answer in
-      omega (arith, ap length a.1.appended, length-append held (unheld held (take a.0 part)))
+-- a call that adds takes nothing away
+pub added_within : (held : List Contents) (had : List Phase) (part : List Contents) (added : Result Unit Fault)
+    (cs : List Contents) (ks : List Phase) → AddAllAnswer held had part added cs ks → length held ≤ length cs
+added_within held had part added cs ks answer =
+    let a = some_added held had part added cs ks answer in
+    omega (arith, ap length a.1.appended, length-append held (unheld held (take a.0 part)))
 
 module _ (held : List Contents) (had : List Phase) (part : List Contents) (bounds : List (Node × Phase))
     (cs : List Contents) (ks : List Phase) (a : IsAdded held had part (length part) cs ks) where

@@ -1,5 +1,5 @@
 -- What is told where nothing changed, and what changed where nothing is told.
-use Rattle.std.proofs.Common.{◌≡◌, ◌≢◌, ◌∙◌, ◌<◌, ◌≤◌, ◌⊎◌, ℕ, List, [], ◌∷◌, ◌++◌, length, map, take, Contains, Result}
+use Rattle.std.proofs.Common.{◌≡◌, ◌≢◌, ◌∙◌, ◌⊎◌, ℕ, List, [], ◌∷◌, ◌++◌, length, map, take, Contains, Result}
 use Rattle.std.proofs.Common.{Ok, Err, IfOk, inl, inr, refl, sym, ap, subst, arith}
 use Rattle.std.proofs.lemmas.Bool.{cases_eq, cases_lt}
 use Rattle.std.proofs.lemmas.List.{append-nil, length-append, take_all}
@@ -10,7 +10,7 @@ use Rattle.hg_changeset.specs.declared.node.Node.{Node}
 use Rattle.hg_graph.specs.Graph.{IsGraph, nodes}
 use Rattle.hg_phases.specs.declared.phase.Phase.{Phase}
 use Rattle.hg_phases.specs.declared.lowered.LoweredPlace.{LoweredPlace}
-use Rattle.hg_phases.specs.State.{State, Held, rank, changesets, state_of}
+use Rattle.hg_phases.specs.State.{State, Held, IsValid, rank, changesets, state_of}
 use Rattle.hg_phases.specs.Least.{PartValue}
 use Rattle.hg_phases.specs.Log.{restored}
 use Rattle.hg_phases.specs.Lowered.{WentDown}
@@ -21,8 +21,7 @@ use Rattle.hg_history.specs.declared.undo.Absorbed.{Absorbed}
 use Rattle.hg_history.specs.Absorbed.{without_undo}
 use Rattle.hg_history.specs.Answer.{AbsorbAnswer, IsAbsorbed, IsGrowthBeforeFault}
 use Rattle.hg_history.specs.Change.{ChangeValue, IsNothing, unheld}
-use Rattle.hg_history.specs.Steps.{IsBegun, CanTakeBack}
-use Rattle.hg_history.proofs.AbsorbLemmas.{begun_front, begun_phases, front_restored}
+use Rattle.hg_history.specs.Steps.{CanTakeBack}
 
 -- a list is empty or not
 pub empty_or_not : {X : Type 0} (xs : List X) → (xs ≡ []) ⊎ (xs ≢ [])
@@ -119,21 +118,17 @@ same_unlogged cs ds ks new log before len front phases none first =
     λ i. state_of (graph_is i) (phases_are i)
 
 -- nothing is told, or something grew
-pub nothing_or_growth : (held : List Contents) (had : List Phase) (part : List Contents) (before : ℕ)
-    (added : Result Unit Fault) (cs : List Contents) (ks new : List Phase) (log : List LoweredPlace) (k : PartValue)
-    (change : ChangeValue) → IsBegun held had part before added cs ks → before ≤ length cs
-    → CanTakeBack cs ks cs new log → IsAbsorbed (state_of held had) k change (state_of cs new)
-    → (¬ ((log ≡ []) × (before ≡ length cs)) → IsGrowthBeforeFault (state_of held had) k)
+pub nothing_or_growth : (held : List Contents) (had : List Phase) (cs : List Contents) (new : List Phase)
+    (log : List LoweredPlace) (k : PartValue) (change : ChangeValue) → IsValid (state_of held had)
+    → CanTakeBack held had cs new log → IsAbsorbed (state_of held had) k change (state_of cs new)
+    → (¬ ((log ≡ []) × (length held ≡ length cs)) → IsGrowthBeforeFault (state_of held had) k)
     → IsNothing change ⊎ IsGrowthBeforeFault (state_of held had) k
-nothing_or_growth held had part before added cs ks new log k change begun within back a growth =
+nothing_or_growth held had cs new log k change valid back a growth =
     elim (nothing_or_not change) [
       | inl none_told ↦ inl none_told
-      | inr told ↦ inr (growth (λ same. told (nothing_told (state_of held had) k change begun.valid.graph
+      | inr told ↦ inr (growth (λ same. told (nothing_told (state_of held had) k change valid.graph
           (subst (IsAbsorbed (state_of held had) k change)
-          (same_unlogged held cs had new log before back.len
-          (begun_front held had part before added cs ks begun)
-          (front_restored cs ks new log before within back ∙ begun_phases held had part before added cs ks begun)
-          same.0 same.1) a))))
+          (same_unlogged held cs had new log (length held) back.len back.front back.phases same.0 same.1) a))))
     ]
 
 -- something grew, or the state is the same

@@ -1,4 +1,5 @@
 pub mod Fault
+pub mod Arriving
 pub mod Change
 pub mod Answer
 pub mod Steps

@@ -58,15 +58,6 @@ AddAllAnswer held had part (Ok _) ds ls = IsAdded held had part (length part) ds
 AddAllAnswer held had part (Err fault) ds ls = (i : ℕ) × (c : Contents) × (slice_get part i ≡ Some c)
     × IsAdded held had part i ds ls × IsAddFault (held ++ take i part) c fault
 
--- an absorption began where these changesets and phases were held, as many as `before` says: it added changesets of the
--- part, all or those before the first one at fault
-pub record IsBegun (held : List Contents) (had : List Phase) (part : List Contents) (before : ℕ)
-    (added : Result Unit Fault) (cs : List Contents) (ks : List Phase) : Type 0 where
-  pub len : length had ≡ length held
-  pub valid : IsValid (state_of held had)
-  pub first : before ≡ length held
-  pub done : AddAllAnswer held had part added cs ks
-
 -- the graph answered this to a changeset that was to be added, and is as it is since
 pub record IsAnswered (cs : List Contents) (c : Contents) (answer : Result Added GraphError) (ds : List Contents) : Type
     0 where

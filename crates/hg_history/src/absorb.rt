@@ -16,15 +16,17 @@ ghost use Rattle.hg_phases.specs.State.{state_of, IsValid};
 ghost use Rattle.hg_phases.specs.Kept.{phases_at, kept_state, before_last, phases_before, IsLogOf};
 ghost use Rattle.hg_phases.specs.Log.{IsLog};
 ghost use Rattle.hg_phases.specs.Lowered.{IsAbove};
-ghost use Rattle.hg_phases.specs.RootPlaces.{AreKept, AreRootPlaces};
+ghost use Rattle.hg_phases.specs.RootPlaces.{AreKept};
 ghost use Rattle.hg_history.specs.Answer.{AbsorbAnswer, AreHeldUpTo, IsAbsorbed, IsGrowthBeforeFault, HasHigher};
 ghost use Rattle.hg_history.specs.Answer.{IsRefusal};
+ghost use Rattle.hg_history.specs.Arriving.{arrived, part_with};
 ghost use Rattle.hg_history.specs.Change.{IsNothing};
 ghost use Rattle.hg_history.specs.Undo.{LeadsBack};
 ghost use Rattle.hg_history.specs.Absorbed.{without_undo};
-ghost use Rattle.hg_history.specs.Steps.{AddAllAnswer, IsAnswered, IsBegun, CanTakeBack, OneAdded, IsBoundFault};
+ghost use Rattle.hg_history.specs.Steps.{AddAllAnswer, IsAnswered, CanTakeBack, OneAdded, IsBoundFault};
 ghost use Rattle.hg_history.specs.Steps.{IsBoundAt, OneLowered, IsLoweredTo};
 
+use crate::arriving::Arriving;
 use crate::change::{AddedNodes, Change};
 use crate::fault::Fault;
 use crate::undo::{Absorbed, Undo};
@@ -35,101 +37,29 @@ use smallvec::SmallVec;
 use std::alloc::{AllocError, Global};
 
 /// Takes the part in and gives out what takes it back, or leaves everything as it was.
+#[inline(always)]
 pub(crate) fn absorb_or_undo(
     graph: &mut Graph,
     kept: &mut PhaseRoots,
     alloc: Global,
-    changesets: &[Changeset],
+    changesets: Arriving<'_>,
     bounds: &[(Node, Phase)],
 ) -> Result<Absorbed, Fault>
     requires kept { AreKept graph.old kept.old }
     requires valid { IsValid (kept_state graph.old kept.old.phases) }
     ensures inside { AreKept graph.new kept.new × IsValid (kept_state graph.new kept.new.phases) }
-    ensures answer { AbsorbAnswer (kept_state graph.old kept.old.phases)
-        (record { changesets = changesets.now; bounds = bounds.now }) (without_undo result)
-        (kept_state graph.new kept.new.phases) }
+    ensures answer { AbsorbAnswer (kept_state graph.old kept.old.phases) (part_with changesets.entry bounds.now)
+        (without_undo result) (kept_state graph.new kept.new.phases) }
     ensures back { IfOk result (λ absorbed. LeadsBack (kept_state graph.new kept.new.phases) absorbed.undo
         (kept_state graph.old kept.old.phases)) }
     ensures growth { IfOk result (λ absorbed. IsNothing absorbed.change
-        ⊎ IsGrowthBeforeFault (kept_state graph.old kept.old.phases)
-        (record { changesets = changesets.now; bounds = bounds.now })) }
+        ⊎ IsGrowthBeforeFault (kept_state graph.old kept.old.phases) (part_with changesets.entry bounds.now)) }
     ensures memory { IsErrOf result Fault.NoMemory
-        → IsGrowthBeforeFault (kept_state graph.old kept.old.phases)
-        (record { changesets = changesets.now; bounds = bounds.now }) }
+        → IsGrowthBeforeFault (kept_state graph.old kept.old.phases) (part_with changesets.entry bounds.now) }
 {
     let before = graph.len();
-    let added = add_changesets(graph, &mut kept.phases, changesets);
-    take_bounds_or_undo(graph, kept, alloc, before, added, bounds)
-}
-
-/// Takes the part in, whose changesets are moved, and gives out what takes it back, or leaves everything as it was.
-#[inline(always)]
-pub(crate) fn absorb_owned_or_undo(
-    graph: &mut Graph,
-    kept: &mut PhaseRoots,
-    alloc: Global,
-    changesets: Vec<Changeset>,
-    bounds: &[(Node, Phase)],
-) -> Result<Absorbed, Fault>
-    requires kept { AreKept graph.old kept.old }
-    requires valid { IsValid (kept_state graph.old kept.old.phases) }
-    ensures inside { AreKept graph.new kept.new × IsValid (kept_state graph.new kept.new.phases) }
-    ensures answer { AbsorbAnswer (kept_state graph.old kept.old.phases)
-        (record { changesets = changesets.items; bounds = bounds.now }) (without_undo result)
-        (kept_state graph.new kept.new.phases) }
-    ensures back { IfOk result (λ absorbed. LeadsBack (kept_state graph.new kept.new.phases) absorbed.undo
-        (kept_state graph.old kept.old.phases)) }
-    ensures growth { IfOk result (λ absorbed. IsNothing absorbed.change
-        ⊎ IsGrowthBeforeFault (kept_state graph.old kept.old.phases)
-        (record { changesets = changesets.items; bounds = bounds.now })) }
-    ensures memory { IsErrOf result Fault.NoMemory
-        → IsGrowthBeforeFault (kept_state graph.old kept.old.phases)
-        (record { changesets = changesets.items; bounds = bounds.now }) }
-{
-    let before = graph.len();
-    let added = add_owned_changesets(graph, &mut kept.phases, changesets);
-    take_bounds_or_undo(graph, kept, alloc, before, added, bounds)
-}
-
-// Takes the bounds in, where all changesets were added, and gives out what takes it all back; or takes it back at once.
-// Before them there were `before` changesets, whose roots are kept.
-#[inline(always)]
-fn take_bounds_or_undo(
-    graph: &mut Graph,
-    kept: &mut PhaseRoots,
-    alloc: Global,
-    before: usize,
-    added: Result<(), Fault>,
-    bounds: &[(Node, Phase)],
-) -> Result<Absorbed, Fault>
-    requires len { length (phases_at graph.old kept.old.phases) ≡ length graph.old }
-    requires valid { IsValid (kept_state graph.old kept.old.phases) }
-    requires within { before ≤ length graph.old }
-    requires rooted { AreRootPlaces (take before graph.old) (take before (phases_at graph.old kept.old.phases))
-        kept.old.roots }
-    ensures inside { (held : List Contents) (had : List Phase) (part : List Contents)
-        → IsBegun held had part before added graph.old (phases_at graph.old kept.old.phases)
-        → AreKept graph.new kept.new × IsValid (kept_state graph.new kept.new.phases) }
-    ensures answer { (held : List Contents) (had : List Phase) (part : List Contents)
-        → IsBegun held had part before added graph.old (phases_at graph.old kept.old.phases)
-        → AbsorbAnswer (state_of held had) (record { changesets = part; bounds = bounds.now }) (without_undo result)
-        (kept_state graph.new kept.new.phases) }
-    ensures back { (held : List Contents) (had : List Phase) (part : List Contents)
-        → IsBegun held had part before added graph.old (phases_at graph.old kept.old.phases)
-        → IfOk result
-        (λ absorbed. LeadsBack (kept_state graph.new kept.new.phases) absorbed.undo (state_of held had)) }
-    ensures growth { (held : List Contents) (had : List Phase) (part : List Contents)
-        → IsBegun held had part before added graph.old (phases_at graph.old kept.old.phases)
-        → IfOk result
-        (λ absorbed. IsNothing absorbed.change
-        ⊎ IsGrowthBeforeFault (state_of held had) (record { changesets = part; bounds = bounds.now })) }
-    ensures memory { (held : List Contents) (had : List Phase) (part : List Contents)
-        → IsBegun held had part before added graph.old (phases_at graph.old kept.old.phases)
-        → IsErrOf result Fault.NoMemory
-        → IsGrowthBeforeFault (state_of held had) (record { changesets = part; bounds = bounds.now }) }
-{
     let mut log = LoweringLog::new(alloc);
-    match take_bounds_and_update(graph, kept, &mut log, alloc, before, added, bounds) {
+    match absorb_and_update(graph, kept, &mut log, alloc, changesets, bounds) {
         Ok(change) => Ok(Absorbed {
             change,
             undo: Undo { before, log },
@@ -141,46 +71,34 @@ fn take_bounds_or_undo(
     }
 }
 
-// Takes the bounds in, logs what goes down, and updates the roots. After a fault what was done can be taken back, and
-// the roots are those of before.
+// Takes the part in, logs what goes down, and updates the roots. After a fault what was done can be taken back, and the
+// roots are those of before.
 #[inline(always)]
-fn take_bounds_and_update(
-    graph: &Graph,
+fn absorb_and_update(
+    graph: &mut Graph,
     kept: &mut PhaseRoots,
     log: &mut LoweringLog,
     alloc: Global,
-    before: usize,
-    added: Result<(), Fault>,
+    changesets: Arriving<'_>,
     bounds: &[(Node, Phase)],
 ) -> Result<Change, Fault>
-    requires len { length (phases_at graph.now kept.old.phases) ≡ length graph.now }
-    requires valid { IsValid (kept_state graph.now kept.old.phases) }
-    requires within { before ≤ length graph.now }
+    requires kept { AreKept graph.old kept.old }
+    requires valid { IsValid (kept_state graph.old kept.old.phases) }
     requires fresh { log.old ≡ [] }
-    requires rooted { AreRootPlaces (take before graph.now) (take before (phases_at graph.now kept.old.phases))
-        kept.old.roots }
-    ensures back { CanTakeBack graph.now (phases_at graph.now kept.old.phases) graph.now kept.new.phases log.new }
-    ensures kept { OnOk result (AreKept graph.now kept.new) }
+    ensures back { CanTakeBack graph.old (phases_at graph.old kept.old.phases) graph.new kept.new.phases log.new }
+    ensures kept { OnOk result (AreKept graph.new kept.new) }
     ensures roots { OnErr result (kept.new.roots ≡ kept.old.roots) }
-    ensures absorbed { (held : List Contents) (had : List Phase) (part : List Contents)
-        → IsBegun held had part before added graph.now (phases_at graph.now kept.old.phases)
-        → IfOk result
-        (λ change. IsAbsorbed (state_of held had) (record { changesets = part; bounds = bounds.now }) change
-        (kept_state graph.now kept.new.phases)) }
-    ensures refusal { (held : List Contents) (had : List Phase) (part : List Contents)
-        → IsBegun held had part before added graph.now (phases_at graph.now kept.old.phases)
-        → MatchResult result (λ _. Unit {0}) (IsRefusal held (record { changesets = part; bounds = bounds.now })) }
-    ensures growth { (held : List Contents) (had : List Phase) (part : List Contents)
-        → IsBegun held had part before added graph.now (phases_at graph.now kept.old.phases)
-        → IfOk result
-        (λ change. IsNothing change
-        ⊎ IsGrowthBeforeFault (state_of held had) (record { changesets = part; bounds = bounds.now })) }
-    ensures memory { (held : List Contents) (had : List Phase) (part : List Contents)
-        → IsBegun held had part before added graph.now (phases_at graph.now kept.old.phases)
-        → IsErrOf result Fault.NoMemory
-        → IsGrowthBeforeFault (state_of held had) (record { changesets = part; bounds = bounds.now }) }
+    ensures absorbed { IfOk result
+        (λ change. IsAbsorbed (kept_state graph.old kept.old.phases) (part_with changesets.entry bounds.now) change
+        (kept_state graph.new kept.new.phases)) }
+    ensures refusal { IfErr result (IsRefusal graph.old (part_with changesets.entry bounds.now)) }
+    ensures growth { IfOk result (λ change. IsNothing change
+        ⊎ IsGrowthBeforeFault (kept_state graph.old kept.old.phases) (part_with changesets.entry bounds.now)) }
+    ensures memory { IsErrOf result Fault.NoMemory
+        → IsGrowthBeforeFault (kept_state graph.old kept.old.phases) (part_with changesets.entry bounds.now) }
 {
-    match take_bounds_logged(graph, &mut kept.phases, log, alloc, before, added, bounds) {
+    let before = graph.len();
+    match absorb_logged(graph, &mut kept.phases, log, alloc, changesets, bounds) {
         Ok(change) => {
             kept.update(graph, log, before)?;
             Ok(change)
@@ -206,40 +124,31 @@ pub(crate) fn take_back(
     graph.truncate(before);
 }
 
-// Takes the bounds in, where all changesets were added, and logs what goes down. After a fault what was done can be
-// taken back.
+// Takes the part in and logs what goes down. After a fault what was done can be taken back.
 #[inline(always)]
-fn take_bounds_logged(
-    graph: &Graph,
+fn absorb_logged(
+    graph: &mut Graph,
     phases: &mut PhaseMap,
     log: &mut LoweringLog,
     alloc: Global,
-    before: usize,
-    added: Result<(), Fault>,
+    changesets: Arriving<'_>,
     bounds: &[(Node, Phase)],
 ) -> Result<Change, Fault>
-    requires len { length (phases_at graph.now phases.old) ≡ length graph.now }
-    requires valid { IsValid (kept_state graph.now phases.old) }
-    requires within { before ≤ length graph.now }
+    requires len { length (phases_at graph.old phases.old) ≡ length graph.old }
+    requires valid { IsValid (kept_state graph.old phases.old) }
     requires fresh { log.old ≡ [] }
-    ensures back { CanTakeBack graph.now (phases_at graph.now phases.old) graph.now phases.new log.new }
-    ensures absorbed { (held : List Contents) (had : List Phase) (part : List Contents)
-        → IsBegun held had part before added graph.now (phases_at graph.now phases.old)
-        → IfOk result
-        (λ change. IsAbsorbed (state_of held had) (record { changesets = part; bounds = bounds.now }) change
-        (kept_state graph.now phases.new)) }
-    ensures refusal { (held : List Contents) (had : List Phase) (part : List Contents)
-        → IsBegun held had part before added graph.now (phases_at graph.now phases.old)
-        → MatchResult result (λ _. Unit {0}) (IsRefusal held (record { changesets = part; bounds = bounds.now })) }
-    ensures memory { (held : List Contents) (had : List Phase) (part : List Contents)
-        → IsBegun held had part before added graph.now (phases_at graph.now phases.old) → IsErrOf result Fault.NoMemory
-        → IsGrowthBeforeFault (state_of held had) (record { changesets = part; bounds = bounds.now }) }
-    ensures growth { (held : List Contents) (had : List Phase) (part : List Contents)
-        → IsBegun held had part before added graph.now (phases_at graph.now phases.old)
-        → OnOk result (¬ ((log.new ≡ []) × (before ≡ length graph.now))
-        → IsGrowthBeforeFault (state_of held had) (record { changesets = part; bounds = bounds.now })) }
+    ensures back { CanTakeBack graph.old (phases_at graph.old phases.old) graph.new phases.new log.new }
+    ensures absorbed { IfOk result
+        (λ change. IsAbsorbed (kept_state graph.old phases.old) (part_with changesets.entry bounds.now) change
+        (kept_state graph.new phases.new)) }
+    ensures refusal { IfErr result (IsRefusal graph.old (part_with changesets.entry bounds.now)) }
+    ensures growth { OnOk result (¬ ((log.new ≡ []) × (length graph.old ≡ length graph.new))
+        → IsGrowthBeforeFault (kept_state graph.old phases.old) (part_with changesets.entry bounds.now)) }
+    ensures memory { IsErrOf result Fault.NoMemory
+        → IsGrowthBeforeFault (kept_state graph.old phases.old) (part_with changesets.entry bounds.now) }
 {
-    match added {
+    let before = graph.len();
+    match add_arriving(graph, phases, changesets) {
         Ok(()) => {}
         Err(fault) => return Err(fault),
     }
@@ -255,6 +164,24 @@ fn take_bounds_logged(
 }
 
 // Adds the changesets that aren't held. After a fault those before the one at fault were added.
+#[inline(always)]
+fn add_arriving(
+    graph: &mut Graph,
+    phases: &mut PhaseMap,
+    changesets: Arriving<'_>,
+) -> Result<(), Fault>
+    requires len { length (phases_at graph.old phases.old) ≡ length graph.old }
+    requires valid { IsValid (kept_state graph.old phases.old) }
+    ensures { AddAllAnswer graph.old (phases_at graph.old phases.old) (arrived changesets.entry) result graph.new
+        (phases_at graph.new phases.new) }
+{
+    match changesets {
+        Arriving::Lent(changesets) => add_changesets(graph, phases, changesets),
+        Arriving::Moved(changesets) => add_owned_changesets(graph, phases, changesets),
+    }
+}
+
+// Adds copies of the changesets that aren't held. After a fault those before the one at fault were added.
 fn add_changesets(
     graph: &mut Graph,
     phases: &mut PhaseMap,

@@ -7,12 +7,14 @@ ghost use Rattle.hg_phases.specs.Order.{Below};
 ghost use Rattle.hg_history.specs.Answer.{AbsorbAnswer, IsGrowthBeforeFault};
 ghost use Rattle.hg_phases.specs.Roots.{AreRoots};
 ghost use Rattle.hg_history.specs.Join.{JoinAnswer};
-ghost use Rattle.hg_history.specs.Open.{OpenAnswer};
+ghost use Rattle.hg_history.specs.Open.{OpenAnswer, MayWantMemory};
 ghost use Rattle.hg_history.specs.Undo.{LeadsBack};
 ghost use Rattle.hg_history.specs.Absorbed.{without_undo, join_without_undo};
+ghost use Rattle.hg_history.specs.Arriving.{part_with};
 ghost use Rattle.hg_history.specs.Change.{IsNothing};
 
-use crate::absorb::{absorb_or_undo, absorb_owned_or_undo};
+use crate::absorb::absorb_or_undo;
+use crate::arriving::Arriving;
 use crate::change::Change;
 use crate::fault::Fault;
 use crate::join::{is_below, join_or_undo};
@@ -69,8 +71,10 @@ impl History {
     /// none. Roots that aren't among the changesets say nothing.
     ///
     /// Refuses as [`absorb`](History::absorb) does: the first [`Fault::UnknownParent`] or [`Fault::Collision`].
+    /// [`Fault::NoMemory`] never stands for a fault that is met before anything grows.
     pub fn open(alloc: Global, changesets: &[Changeset], roots: &Roots) -> Result<History, Fault>
         ensures answer { OpenAnswer changesets.now roots.now result }
+        ensures memory { IsErrOf result Fault.NoMemory → MayWantMemory changesets.now }
         ensures valid { IfOk result IsValid }
     {
         History::open_with_keys(alloc, IdKeys::known(), changesets, roots)
@@ -84,6 +88,7 @@ impl History {
         roots: &Roots,
     ) -> Result<History, Fault>
         ensures answer { OpenAnswer changesets.now roots.now result }
+        ensures memory { IsErrOf result Fault.NoMemory → MayWantMemory changesets.now }
         ensures valid { IfOk result IsValid }
     {
         let mut history = History::with_keys(alloc, keys);
@@ -166,73 +171,28 @@ impl History {
         ensures memory { IsErrOf result Fault.NoMemory
             → IsGrowthBeforeFault self.old (record { changesets = changesets.now; bounds = bounds.now }) }
     {
-        without_undo(self.absorb_with_undo(changesets, bounds))
-    }
-
-    /// Takes in changesets and bounds on phases as [`absorb`](History::absorb) does, but moves the changesets that
-    /// aren't held in place of copying them. The others are dropped, and after a refusal all are.
-    pub fn absorb_owned(
-        &mut self,
-        changesets: Vec<Changeset>,
-        bounds: &[(Node, Phase)],
-    ) -> Result<Change, Fault>
-        ensures answer { AbsorbAnswer self.old (record { changesets = changesets.items; bounds = bounds.now }) result
-            self.new }
-        ensures valid { IsValid self.old }
-        ensures still_valid { IsValid self.new }
-        ensures memory { IsErrOf result Fault.NoMemory
-            → IsGrowthBeforeFault self.old (record { changesets = changesets.items; bounds = bounds.now }) }
-    {
-        without_undo(self.absorb_owned_with_undo(changesets, bounds))
+        without_undo(self.absorb_with_undo(Arriving::Lent(changesets), bounds))
     }
 
     /// Takes in changesets and bounds on phases as [`absorb`](History::absorb) does, and gives out what takes them
-    /// back.
+    /// back. Changesets that are moved in are dropped where they are held, and after a refusal all are.
+    #[inline(always)]
     pub fn absorb_with_undo(
         &mut self,
-        changesets: &[Changeset],
+        changesets: Arriving<'_>,
         bounds: &[(Node, Phase)],
     ) -> Result<Absorbed, Fault>
-        ensures answer { AbsorbAnswer self.old (record { changesets = changesets.now; bounds = bounds.now })
-            (without_undo result) self.new }
+        ensures answer { AbsorbAnswer self.old (part_with changesets.entry bounds.now) (without_undo result) self.new }
         ensures back { IfOk result (λ absorbed. LeadsBack self.new absorbed.undo self.old) }
         ensures nothing { IfOk result (λ absorbed. IsNothing absorbed.change → self.new ≡ self.old) }
         ensures growth { IfOk result (λ absorbed. IsNothing absorbed.change
-            ⊎ IsGrowthBeforeFault self.old (record { changesets = changesets.now; bounds = bounds.now })) }
+            ⊎ IsGrowthBeforeFault self.old (part_with changesets.entry bounds.now)) }
         ensures valid { IsValid self.old }
         ensures still_valid { IsValid self.new }
         ensures memory { IsErrOf result Fault.NoMemory
-            → IsGrowthBeforeFault self.old (record { changesets = changesets.now; bounds = bounds.now }) }
+            → IsGrowthBeforeFault self.old (part_with changesets.entry bounds.now) }
     {
         absorb_or_undo(
-            &mut self.graph,
-            &mut self.kept,
-            self.alloc,
-            changesets,
-            bounds,
-        )
-    }
-
-    /// Takes in changesets and bounds on phases as [`absorb_owned`](History::absorb_owned) does, and gives out what
-    /// takes them back.
-    #[inline(always)]
-    pub fn absorb_owned_with_undo(
-        &mut self,
-        changesets: Vec<Changeset>,
-        bounds: &[(Node, Phase)],
-    ) -> Result<Absorbed, Fault>
-        ensures answer { AbsorbAnswer self.old (record { changesets = changesets.items; bounds = bounds.now })
-            (without_undo result) self.new }
-        ensures back { IfOk result (λ absorbed. LeadsBack self.new absorbed.undo self.old) }
-        ensures nothing { IfOk result (λ absorbed. IsNothing absorbed.change → self.new ≡ self.old) }
-        ensures growth { IfOk result (λ absorbed. IsNothing absorbed.change
-            ⊎ IsGrowthBeforeFault self.old (record { changesets = changesets.items; bounds = bounds.now })) }
-        ensures valid { IsValid self.old }
-        ensures still_valid { IsValid self.new }
-        ensures memory { IsErrOf result Fault.NoMemory
-            → IsGrowthBeforeFault self.old (record { changesets = changesets.items; bounds = bounds.now }) }
-    {
-        absorb_owned_or_undo(
             &mut self.graph,
             &mut self.kept,
             self.alloc,

@@ -30,6 +30,7 @@
 #![tactic(auto)]
 
 mod absorb;
+mod arriving;
 mod change;
 mod fault;
 mod history;
@@ -37,6 +38,7 @@ mod join;
 mod laws;
 mod undo;
 
+pub use arriving::Arriving;
 pub use change::{AddedNodes, Change};
 pub use fault::Fault;
 pub use hg_changeset::{Changeset, Node};

@@ -72,12 +72,6 @@ fn refused_growth_adds_nothing_and_passes_again(rt: HostRuntime) {
     assert!(rt; copy.len() == 10 && copy.children(0).len() == 9);
 }
 
-// The heads of the ancestors of nodes.
-fn marked_heads(graph: &Graph, nodes: &[Node]) -> Option<Vec<Node>> {
-    let marks = graph.ancestor_marks(nodes).ok()?;
-    graph.marked_heads(&marks).ok()
-}
-
 #[test]
 fn refused_growth_of_what_is_asked_passes_again(rt: HostRuntime) {
     let alloc = rt.alloc();
@@ -96,9 +90,5 @@ fn refused_growth_of_what_is_asked_passes_again(rt: HostRuntime) {
         Ok(heads) => heads,
         Err(_) => graph.heads_of(&[root, last]).expect(&rt, "memory"),
     };
-    let marked = match marked_heads(&graph, &[root, last]) {
-        Some(marked) => marked,
-        None => marked_heads(&graph, &[root, last]).expect(&rt, "memory"),
-    };
-    assert!(rt; heads.as_slice() == [last].as_slice() && marked.as_slice() == [last].as_slice());
+    assert!(rt; heads.as_slice() == [last].as_slice());
 }

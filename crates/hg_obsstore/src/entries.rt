@@ -1,7 +1,7 @@
-//! The places of markers by node, found by a look-up or by the number of an entry.
+//! The places of markers by node.
 
-ghost use Rattle.std.specs.Prelude.{◌≡◌, ◌↔◌, [], OnOk, OnErr, IfSome, None, Some, Contains, slice_get};
-ghost use Rattle.std.specs.Option.{option_map};
+ghost use Rattle.std.specs.Prelude.{◌≡◌, ◌↔◌, [], OnOk, OnErr, None, Some, Contains, slice_get};
+ghost use Rattle.std.specs.Option.{option_copied};
 ghost use Rattle.std.specs.List.{IsDistinct};
 ghost use Rattle.indexmap.specs.IndexMap.{IsUnique, Updates};
 ghost use Rattle.hg_changeset.specs.declared.node.Node.{Node};
@@ -19,8 +19,7 @@ use std::marker::Model;
 
 /// What is known of each node that has a place, and of no other.
 ///
-/// A look-up costs about one hash of an id. An entry keeps its number while the places go in the order in which they
-/// came, the last first.
+/// A look-up costs about one hash of an id.
 #[derive(Drop)]
 pub struct Entries {
     table: IndexMap<Node, Roles, IdKeys>,
@@ -61,31 +60,21 @@ impl Entries {
         self.table.keys().as_slice()
     }
 
-    /// The number of a node's entry, and what is known of the node.
-    pub fn find(&self, node: Node) -> Option<(usize, &Roles)>
-        ensures { option_map (λ p. p.1.now) result ≡ known self.now node }
+    /// What is known of a node.
+    pub fn find(&self, node: Node) -> Option<&Roles>
+        ensures { option_copied result ≡ known self.now node }
     {
-        match self.table.get_full(&node) {
-            Some((number, _, roles)) => Some((number, roles)),
-            None => None,
-        }
+        self.table.get(&node)
     }
 
-    /// The entry of a number. It takes no look-up.
-    pub fn get(&self, number: usize) -> Option<(&Node, &Roles)>
-        ensures { IfSome result (λ p. known self.now p.0.now ≡ Some p.1.now) }
-    {
-        self.table.get_index(number)
-    }
-
-    /// Puts the place last for the node in the role, where it doesn't stand last. Tells the number of the entry.
+    /// Puts the place last for the node in the role, where it doesn't stand last.
     pub fn put(
         &mut self,
         alloc: Global,
         role: Role,
         node: Node,
         place: usize,
-    ) -> Result<usize, AllocError>
+    ) -> Result<(), AllocError>
         ensures ok { OnOk result (ChangesPlaces (places_at self.old) (places_at self.new) role node
             (with_last (places_at self.old role node) place)) }
         ensures err { OnErr result ((other : Role) → places_at self.new other ≡ places_at self.old other) }
@@ -96,9 +85,9 @@ impl Entries {
                 let put = roles.put(alloc, role, place);
                 self.table[number] = roles;
                 put?;
-                Ok(number)
+                Ok(())
             }
-            None => Ok(number),
+            None => Ok(()),
         }
     }
 

@@ -44,5 +44,5 @@ pub use format::{
 pub use hg_changeset::Node;
 pub use hg_join::NoMemory;
 pub use hg_marker::{Marker, MarkerFault};
-pub use index::{Hint, Mentions};
+pub use index::Mentions;
 pub use store::{Added, NewPlaces, Store};

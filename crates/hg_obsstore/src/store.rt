@@ -20,7 +20,7 @@ ghost use Rattle.hg_obsstore.specs.Digests.{AreDigested, IsUnderDigest, KeepsOth
 ghost use Rattle.hg_obsstore.specs.declared.index.Role.TheVariants.{Predecessor};
 
 use crate::digests::Digests;
-use crate::index::{Hint, Index, Mentions};
+use crate::index::{Index, Mentions};
 use hg_changeset::Node;
 use hg_join::NoMemory;
 use hg_marker::Marker;
@@ -189,22 +189,7 @@ impl Store {
         ensures successor { ArePlaces (λ m. Contains m.successors node) self.now result.as_successor }
         ensures parent { ArePlaces (λ m. Contains (recorded_parents m) node) self.now result.as_parent }
     {
-        self.mentions_near(node, Hint::NOWHERE)
-    }
-
-    /// The same as [`mentions`](Store::mentions), whatever the hint is. It takes no look-up where the hint came with
-    /// the mentions of this node.
-    pub fn mentions_near(&self, node: Node, hint: Hint) -> Mentions<'_>
-        ensures predecessor { ArePlaces (λ m. m.predecessor ≡ node) self.now result.as_predecessor }
-        ensures successor { ArePlaces (λ m. Contains m.successors node) self.now result.as_successor }
-        ensures parent { ArePlaces (λ m. Contains (recorded_parents m) node) self.now result.as_parent }
-    {
-        self.index.mentions_near(node, hint)
-    }
-
-    /// A hint that is of the predecessor of the marker at a place.
-    pub fn predecessor_hint(&self, place: usize) -> Hint {
-        self.index.predecessor_hint(place)
+        self.index.mentions(node)
     }
 
     /// The places of the markers with this predecessor, ascending.

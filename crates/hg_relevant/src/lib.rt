@@ -2,8 +2,7 @@
 //!
 //! Who is sent changesets has to learn as well what they came in place of, and what was pruned. [`relevant`] takes the
 //! nodes that are sent and a [`Store`](hg_obsstore::Store), and gives the places there of exactly the markers that go
-//! with them: the whole line of rewrites that led to the nodes, and what was pruned from them. Begin with it. Who has
-//! hints of the store's at hand asks [`relevant_near`], which gives the same answer with fewer look-ups.
+//! with them: the whole line of rewrites that led to the nodes, and what was pruned from them. Begin with it.
 //!
 //! # Example
 //!
@@ -28,4 +27,4 @@
 
 mod search;
 
-pub use search::{relevant, relevant_near};
+pub use search::relevant;

@@ -10,7 +10,7 @@ ghost use Rattle.hg_relevant.specs.Search.{Expands, Finds, IsMarked, IsSearched,
 
 use hg_changeset::Node;
 use hg_marker::Marker;
-use hg_obsstore::{Hint, Store};
+use hg_obsstore::Store;
 use std::alloc::{AllocError, Global};
 
 /// The places of the markers that are relevant to the nodes, ascending.
@@ -20,26 +20,12 @@ use std::alloc::{AllocError, Global};
 /// whole line of rewrites that led to the nodes is told, and what was pruned from them.
 ///
 /// It costs what the nodes, the markers and their successors are together, however the markers hang together: one
-/// look-up by a hash for each node. A node that is given twice is looked up twice.
+/// look-up by a hash for each node, and for each predecessor. A node that is given twice is looked up twice.
 pub fn relevant(alloc: Global, store: &Store, nodes: &[Node]) -> Result<Vec<usize>, AllocError>
     ensures { IfOk result (λ places. ArePlaces (IsRelevant (Contains store.now) (Contains nodes.now)) store.now
         places.items) }
 {
-    relevant_near(alloc, store, nodes, &[])
-}
-
-/// The same as [`relevant`], with a hint for each of the nodes, as far as there are hints. Whatever they are, the
-/// answer is the same; a node takes no look-up by a hash where its hint came with its mentions.
-pub fn relevant_near(
-    alloc: Global,
-    store: &Store,
-    nodes: &[Node],
-    hints: &[Hint],
-) -> Result<Vec<usize>, AllocError>
-    ensures { IfOk result (λ places. ArePlaces (IsRelevant (Contains store.now) (Contains nodes.now)) store.now
-        places.items) }
-{
-    let mut search = Search::of_nodes(alloc, store, nodes, hints)?;
+    let mut search = Search::of_nodes(alloc, store, nodes)?;
     let mut next = 0;
     while next < search.queue.len() {
         let place = search.queue[next];
@@ -60,17 +46,12 @@ struct Search {
 
 impl Search {
     // What touches one of the nodes is found.
-    fn of_nodes(
-        alloc: Global,
-        store: &Store,
-        nodes: &[Node],
-        hints: &[Hint],
-    ) -> Result<Search, AllocError>
+    fn of_nodes(alloc: Global, store: &Store, nodes: &[Node]) -> Result<Search, AllocError>
         ensures { IfOk result (λ s. IsSearched store.now nodes.now nodes.now s 0) }
     {
         let mut search = Search::new(alloc, store.len())?;
-        for number in 0..nodes.len() {
-            search.expand(store, nodes[number], hint_at(hints, number))?;
+        for node in nodes {
+            search.expand(store, *node)?;
         }
         Ok(search)
     }
@@ -101,18 +82,18 @@ impl Search {
             return Ok(());
         }
         let node = store.markers()[place].predecessor();
-        self.expand(store, node, store.predecessor_hint(place))?;
+        self.expand(store, node)?;
         Ok(())
     }
 
     // Finds the markers that touch the node.
-    fn expand(&mut self, store: &Store, node: Node, hint: Hint) -> Result<(), AllocError>
+    fn expand(&mut self, store: &Store, node: Node) -> Result<(), AllocError>
         requires found { length self.old.found.items ≡ length store.now }
         requires expanded { length self.old.expanded.items ≡ length store.now }
         ensures { OnOk result (Expands store.now node self.old self.new) }
     {
         let markers = store.markers();
-        let mentions = store.mentions_near(node, hint);
+        let mentions = store.mentions(node);
         self.find_all(mentions.as_successor())?;
         self.find_prunes(markers, mentions.as_predecessor())?;
         self.find_prunes(markers, mentions.as_parent())?;
@@ -179,14 +160,6 @@ impl Search {
             self.found[place] = true;
         }
         Ok(())
-    }
-}
-
-// The hint for a node, or one that leads nowhere.
-fn hint_at(hints: &[Hint], number: usize) -> Hint {
-    match hints.get(number) {
-        Some(hint) => *hint,
-        None => Hint::NOWHERE,
     }
 }
 

@@ -1,5 +1,5 @@
 -- What is told where nothing changed, and what changed where nothing is told.
-use Rattle.std.proofs.Common.{◌≡◌, ◌<◌, ◌≤◌, ◌⊎◌, ◌∙◌, ◌++◌, ℕ, List, [], ◌∷◌, length, Contains, Result, Ok, Err, IfOk}
+use Rattle.std.proofs.Common.{◌≡◌, ◌<◌, ◌⊎◌, ◌∙◌, ◌++◌, ℕ, List, [], ◌∷◌, length, Contains, Result, Ok, Err, IfOk}
 use Rattle.std.proofs.Common.{inl, inr, refl, sym, ap, subst, arith}
 use Rattle.std.proofs.lemmas.List.{append-nil, length-append}
 use Rattle.hg_marker.specs.Fields.{Fields}

@@ -8,6 +8,7 @@ ghost use Rattle.hg_phases.specs.State.{Held, changesets, state_of, Holds, IsPha
 ghost use Rattle.hg_phases.specs.Roots.{AreRoots};
 ghost use Rattle.hg_obsstore.specs.Markers.{AreApart};
 ghost use Rattle.hg_history.specs.Absorbed.{without_undo as history_without_undo};
+ghost use Rattle.hg_history.specs.Open.{MayWantMemory};
 ghost use Rattle.hg_replica.specs.State.{ReplicaState, IsValid, Below};
 ghost use Rattle.hg_replica.specs.Least.{part_of};
 ghost use Rattle.hg_replica.specs.Answer.{AbsorbAnswer, KeepAnswer, IsGrowthBeforeFault, JoinAnswer, OpenAnswer};
@@ -15,15 +16,14 @@ ghost use Rattle.hg_replica.specs.Absorbed.{without_undo, join_without_undo, Kee
 ghost use Rattle.hg_replica.specs.Change.{IsNothing};
 ghost use Rattle.hg_replica.specs.Undo.{LeadsBack};
 
-use crate::hints::{note_hints, note_new};
 use crate::part::{Change, Part};
 use crate::undo::{Absorbed, Undo, without_undo};
 use hg_changeset::{Changeset, Node};
 use hg_graph::Graph;
-use hg_history::{Fault, History};
+use hg_history::{Arriving, Fault, History};
 use hg_join::NoMemory;
 use hg_node_set::IdKeys;
-use hg_obsstore::{Hint, NewPlaces, Store};
+use hg_obsstore::{NewPlaces, Store};
 use hg_phases::{Phase, Roots};
 use std::alloc::{AllocError, Global};
 use std::marker::Model;
@@ -33,8 +33,6 @@ use std::marker::Model;
 pub struct Replica {
     history: History,
     store: Store,
-    // For each place of the graph, where the store finds what names the changeset there, as far as it was noted.
-    hints: Vec<Hint>,
 }
 
 // Whoever owns a replica calls this once, and is proved without a look at each collection in it.
@@ -43,7 +41,6 @@ impl Drop for Replica {
         let Replica {
             history: _,
             store: _,
-            hints: _,
         } = self;
     }
 }
@@ -79,7 +76,6 @@ impl Replica {
         Replica {
             history: History::with_keys(alloc, keys),
             store: Store::with_keys(alloc, keys),
-            hints: Vec::new(alloc),
         }
     }
 
@@ -94,20 +90,14 @@ impl Replica {
     /// store's keys.
     ///
     /// Refuses as [`absorb`](Replica::absorb) does: the first [`Fault::UnknownParent`] or [`Fault::Collision`].
+    /// [`Fault::NoMemory`] never stands for a fault that is met before anything grows.
     pub fn open(changesets: &[Changeset], roots: &Roots, store: Store) -> Result<Replica, Fault>
         ensures answer { OpenAnswer changesets.now roots.now store result }
+        ensures memory { IsErrOf result Fault.NoMemory → MayWantMemory changesets.now }
         ensures valid { IfOk result IsValid }
     {
         match History::open_with_keys(roots.allocator(), store.keys(), changesets, roots) {
-            Ok(history) => {
-                let mut hints = Vec::new(roots.allocator());
-                note_new(&mut hints, history.graph(), &store);
-                Ok(Replica {
-                    history,
-                    store,
-                    hints,
-                })
-            }
+            Ok(history) => Ok(Replica { history, store }),
             Err(fault) => Err(fault),
         }
     }
@@ -127,12 +117,7 @@ impl Replica {
     {
         let history = self.history.copy()?;
         let store = self.store.copy()?;
-        let hints = self.hints.clone()?;
-        Ok(Replica {
-            history,
-            store,
-            hints,
-        })
+        Ok(Replica { history, store })
     }
 
     /// The graph of its changesets.
@@ -143,19 +128,19 @@ impl Replica {
         self.history.graph()
     }
 
+    /// It says to proofs that the replica is in a valid state, and does nothing.
+    #[inline(always)]
+    pub fn is_valid(&self)
+        ensures { IsValid self.now }
+    {
+        let _history = &self.history;
+    }
+
     /// The store of its markers.
     pub fn store(&self) -> &Store
         ensures { result.now ≡ self.now.markers }
     {
         &self.store
-    }
-
-    /// A hint of the store's that is of the changeset at a place of the graph, where there is one.
-    pub fn hint_at(&self, place: usize) -> Hint {
-        match self.hints.get(place) {
-            Some(hint) => *hint,
-            None => Hint::NOWHERE,
-        }
     }
 
     /// The phase of the changeset with this id, if it is held.
@@ -215,12 +200,9 @@ impl Replica {
             Ok(markers) => markers,
             Err(NoMemory) => return Err(Fault::NoMemory),
         };
-        let absorbed = self
-            .history
-            .absorb_with_undo(&part.changesets, &part.bounds);
-        let answer = keep_or_forget(&mut self.store, before, markers, absorbed);
-        note_hints(&mut self.hints, self.history.graph(), &self.store, before);
-        answer
+        let changesets = Arriving::Lent(&part.changesets);
+        let absorbed = self.history.absorb_with_undo(changesets, &part.bounds);
+        keep_or_forget(&mut self.store, before, markers, absorbed)
     }
 
     /// Takes in a part as [`absorb_owned`](Replica::absorb_owned) does, and gives out what takes that back.
@@ -241,12 +223,9 @@ impl Replica {
             Ok(markers) => markers,
             Err(NoMemory) => return Err(Fault::NoMemory),
         };
-        let absorbed = self
-            .history
-            .absorb_owned_with_undo(changesets, &part.bounds);
-        let answer = keep_or_forget(&mut self.store, before, markers, absorbed);
-        note_hints(&mut self.hints, self.history.graph(), &self.store, before);
-        answer
+        let changesets = Arriving::Moved(changesets);
+        let absorbed = self.history.absorb_with_undo(changesets, &part.bounds);
+        keep_or_forget(&mut self.store, before, markers, absorbed)
     }
 
     /// Takes an absorption or a join back: the replica is as it was before it. Nothing may have changed it since. It
@@ -259,8 +238,6 @@ impl Replica {
         let Undo { history, markers } = undo;
         self.history.take_back(history);
         self.store.truncate(markers);
-        let held = self.history.graph().len();
-        self.hints.truncate(held);
     }
 
     /// Takes in all that another replica holds: the replica goes to the least state above both, the union of the
@@ -295,13 +272,10 @@ impl Replica {
             Err(NoMemory) => return Err(Fault::NoMemory),
         }
         match self.history.join_with_undo(&other.history) {
-            Ok(history) => {
-                note_hints(&mut self.hints, self.history.graph(), &self.store, held);
-                Ok(Undo {
-                    history,
-                    markers: held,
-                })
-            }
+            Ok(history) => Ok(Undo {
+                history,
+                markers: held,
+            }),
             Err(fault) => {
                 self.store.truncate(held);
                 Err(fault)

@@ -1,13 +1,13 @@
-use Rattle.std.proofs.Common.{◌≡◌, ◌∙◌, [], ◌∷◌, length, inl, inr, refl, ap, subst, arith}
-use Rattle.hg_phases.specs.declared.phase.Phase.TheVariants.{Public, Draft}
+use Rattle.std.proofs.Common.{◌≡◌, ◌∙◌, [], ◌∷◌, length, inl, inr, refl, ap, subst}
+use Rattle.hg_phases.specs.declared.phase.Phase.TheVariants.{Public}
 use Rattle.hg_phases.specs.State.{state_of}
 use Rattle.hg_phases.specs.Least.{IsLeast}
 use Rattle.hg_phases.specs.Log.{restored}
-use Rattle.hg_phases.proofs.LogLemmas.{fresh_log, IsLog-above}
+use Rattle.hg_phases.proofs.LogLemmas.{fresh_log}
 use Rattle.hg_phases.proofs.PlaceLemmas.{graph_of_state}
 use Rattle.hg_history.specs.declared.fault.Fault.TheVariants.{NoMemory}
 use Rattle.hg_history.specs.Answer.{IsGrowthBeforeFault}
-use Rattle.hg_history.proofs.AbsorbLemmas.{back_added, back_lowered, least-absorbed}
+use Rattle.hg_history.proofs.AbsorbLemmas.{back_added, back_lowered, back_twice, least-absorbed}
 use Rattle.hg_history.proofs.GrowthLemmas.{growth-adding, growth-after, growth-any, growth-draft, refused_along}
 use Rattle.hg_history.proofs.JoinLemmas.{bounds_held, fault_joined, part_is}
 use Rattle.hg_history.proofs.join.join_logged.Goals as goal
@@ -73,27 +73,19 @@ returns-in_err-lower_to_each-2-clause-memory c is =
 
 pub returns-in_err-lower_to_each-2-clause-back : goal.returns-in_err-lower_to_each-2-clause-back
 returns-in_err-lower_to_each-2-clause-back c =
-    let ks = c.add_all.new.phases in
-    let public = c.lower_to_each.ensures.logged ks (fresh_log Public ks c.args.log.now c.requires.fresh) in
-    let logged =
-    c.lower_to_each-2.ensures.logged ks
-    (IsLog-above Public Draft ks c.lower_to_each.new.phases c.lower_to_each.new.log (omega arith) public) in
-    back_lowered c.args.graph.now c.args.phases.now c.args.other.now _ c.add_all.new.graph ks
-    c.lower_to_each-2.new.phases Draft c.lower_to_each-2.new.log c.requires.len c.in-Ok.ensures
-    (c.lower_to_each-2.ensures.len ∙ c.lower_to_each.ensures.len) logged
-    (c.lower_to_each-2.ensures.undoes ∙ c.lower_to_each.ensures.undoes ∙ ap (restored ks) c.requires.fresh)
+    back_twice c.args.graph.now c.args.phases.now c.args.other.now _ c.add_all.new.graph c.add_all.new.phases
+    c.lower_to_each.new.phases c.lower_to_each-2.new.phases c.args.log.now c.lower_to_each.new.log
+    c.lower_to_each-2.new.log c.requires.len c.in-Ok.ensures c.requires.fresh c.lower_to_each.ensures.len
+    c.lower_to_each-2.ensures.len c.lower_to_each.ensures.logged c.lower_to_each-2.ensures.logged
+    c.lower_to_each.ensures.undoes c.lower_to_each-2.ensures.undoes
 
 pub returns-clause-back : goal.returns-clause-back
 returns-clause-back c =
-    let ks = c.add_all.new.phases in
-    let public = c.lower_to_each.ensures.logged ks (fresh_log Public ks c.args.log.now c.requires.fresh) in
-    let logged =
-    c.lower_to_each-2.ensures.logged ks
-    (IsLog-above Public Draft ks c.lower_to_each.new.phases c.lower_to_each.new.log (omega arith) public) in
-    back_lowered c.args.graph.now c.args.phases.now c.args.other.now _ c.add_all.new.graph ks
-    c.lower_to_each-2.new.phases Draft c.lower_to_each-2.new.log c.requires.len c.in-Ok.ensures
-    (c.lower_to_each-2.ensures.len ∙ c.lower_to_each.ensures.len) logged
-    (c.lower_to_each-2.ensures.undoes ∙ c.lower_to_each.ensures.undoes ∙ ap (restored ks) c.requires.fresh)
+    back_twice c.args.graph.now c.args.phases.now c.args.other.now _ c.add_all.new.graph c.add_all.new.phases
+    c.lower_to_each.new.phases c.lower_to_each-2.new.phases c.args.log.now c.lower_to_each.new.log
+    c.lower_to_each-2.new.log c.requires.len c.in-Ok.ensures c.requires.fresh c.lower_to_each.ensures.len
+    c.lower_to_each-2.ensures.len c.lower_to_each.ensures.logged c.lower_to_each-2.ensures.logged
+    c.lower_to_each.ensures.undoes c.lower_to_each-2.ensures.undoes
 
 pub returns-clause-joined : goal.returns-clause-joined
 returns-clause-joined c =

@@ -1,4 +1,9 @@
-use Rattle.std.proofs.Common.{sym}
+use Rattle.std.proofs.Common.{inl, inr, sym, subst}
+use Rattle.hg_phases.specs.Least.{IsAdmitted}
+use Rattle.hg_history.specs.declared.fault.Fault.TheVariants.{NoMemory}
+use Rattle.hg_history.specs.Answer.{IsGrowthBeforeFault}
+use Rattle.hg_history.specs.Open.{changesets_alone}
+use Rattle.hg_history.proofs.GrowthLemmas.{refused_along}
 use Rattle.hg_history.proofs.OpenLemmas.{history-opened}
 use Rattle.hg_history.proofs.history.History.open_with_keys.Goals as goal
 
@@ -14,3 +19,13 @@ returns-clause-answer c =
 
 pub returns-clause-valid : goal.returns-clause-valid
 returns-clause-valid c = c.in_ok-history-inside.ensures.valid
+
+pub returns-in-Err-clause-memory : goal.returns-in-Err-clause-memory
+returns-in-Err-clause-memory c is =
+    inl (subst (λ s. IsGrowthBeforeFault s (changesets_alone c.args.changesets.now)) c.with_keys-history.ensures
+    (c.in-Err.ensures.memory (refused_along c.in-Err.fault NoMemory is)))
+
+pub returns-in_err-history-inside-clause-memory : goal.returns-in_err-history-inside-clause-memory
+returns-in_err-history-inside-clause-memory c is =
+    inr (subst (λ s. IsAdmitted s (changesets_alone c.args.changesets.now)) c.with_keys-history.ensures
+    c.in-Ok.ensures.answer.admitted)

@@ -15,25 +15,25 @@ told P ms given places same are = subst (λ (ps : List ℕ). ArePlaces P ms ps) 
 pub find_all-requires : goal.find_all-requires
 find_all-requires c =
     let are = told (λ m. Contains m.successors c.args.node) c.args.store.now _ c.as_successor.result.now
-    c.as_successor.ensures c.mentions_near-mentions.ensures.successor in
+    c.as_successor.ensures c.mentions-mentions.ensures.successor in
     rw c.requires.found (place-within c.args.store.now _ c.as_successor.result.now are)
 
 pub find_prunes-requires-clause-within : goal.find_prunes-requires-clause-within
 find_prunes-requires-clause-within c =
     let are = told (λ m. m.predecessor ≡ c.args.node) c.args.store.now _ c.as_predecessor.result.now
-    c.as_predecessor.ensures c.mentions_near-mentions.ensures.predecessor in
+    c.as_predecessor.ensures c.mentions-mentions.ensures.predecessor in
     rw c.markers-markers.ensures.markers (place-within c.args.store.now _ c.as_predecessor.result.now are)
 
 pub find_prunes-requires-2-clause-within : goal.find_prunes-requires-2-clause-within
 find_prunes-requires-2-clause-within c =
     let are = told (λ m. Contains (recorded_parents m) c.args.node) c.args.store.now _ c.as_parent.result.now
-    c.as_parent.ensures c.mentions_near-mentions.ensures.parent in
+    c.as_parent.ensures c.mentions-mentions.ensures.parent in
     rw c.markers-markers.ensures.markers (place-within c.args.store.now _ c.as_parent.result.now are)
 
 pub mark_expanded-requires : goal.mark_expanded-requires
 mark_expanded-requires c =
     let are = told (λ m. m.predecessor ≡ c.args.node) c.args.store.now _ c.as_predecessor-2.result.now
-    c.as_predecessor-2.ensures c.mentions_near-mentions.ensures.predecessor in
+    c.as_predecessor-2.ensures c.mentions-mentions.ensures.predecessor in
     record {
       within = rw (ap length
           (c.in_ok-find_prunes-2.ensures.expanded ∙ c.in_ok-find_prunes.ensures.expanded ∙
@@ -49,13 +49,13 @@ returns c =
     let in_c = c.as_parent.result.now in
     let expanded = c.as_predecessor-2.result.now in
     let are_s = told (λ m. Contains m.successors c.args.node) ms _ in_s c.as_successor.ensures
-    c.mentions_near-mentions.ensures.successor in
+    c.mentions-mentions.ensures.successor in
     let are_p = told (λ m. m.predecessor ≡ c.args.node) ms _ in_p c.as_predecessor.ensures
-    c.mentions_near-mentions.ensures.predecessor in
+    c.mentions-mentions.ensures.predecessor in
     let are_c = told (λ m. Contains (recorded_parents m) c.args.node) ms _ in_c c.as_parent.ensures
-    c.mentions_near-mentions.ensures.parent in
+    c.mentions-mentions.ensures.parent in
     let are_expanded = told (λ m. m.predecessor ≡ c.args.node) ms _ expanded c.as_predecessor-2.ensures
-    c.mentions_near-mentions.ensures.predecessor in
+    c.mentions-mentions.ensures.predecessor in
     let here : c.markers-markers.result.now ≡ ms = c.markers-markers.ensures.markers in
     expands ms c.args.node expanded c.args.self.now c.find_prunes-2.new.self c.mark_expanded.new.self are_expanded
     (finds-touching ms c.args.node in_s in_p in_c c.args.self.now c.find_all.new.self c.find_prunes.new.self

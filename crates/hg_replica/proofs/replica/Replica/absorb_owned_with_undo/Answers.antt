@@ -37,8 +37,8 @@ module _ (c : After-drop-part-2) where
 
 pub returns-clause-answer : goal.returns-clause-answer
 returns-clause-answer c =
-    let answered = c.absorb_owned_with_undo-absorbed in
-    let told = c.keep_or_forget-answer in
+    let answered = c.absorb_with_undo-absorbed in
+    let told = c.keep_or_forget in
     let t : ReplicaState = record { history = answered.new.self; markers = told.new.store } in
     let answer =
     kept_answer (s c) (k c) t.history c.absorb_owned.new.self t.markers c.len-before.result c.in-Ok.markers.items
@@ -49,8 +49,8 @@ returns-clause-answer c =
 
 pub returns-clause-back : goal.returns-clause-back
 returns-clause-back c =
-    let answered = c.absorb_owned_with_undo-absorbed in
-    let told = c.keep_or_forget-answer in
+    let answered = c.absorb_with_undo-absorbed in
+    let told = c.keep_or_forget in
     let t : ReplicaState = record { history = answered.new.self; markers = told.new.store } in
     let back =
     kept_back (s c) (k c) t.history c.absorb_owned.new.self t.markers c.len-before.result c.in-Ok.markers.items
@@ -60,8 +60,8 @@ returns-clause-back c =
 
 pub returns-clause-nothing : goal.returns-clause-nothing
 returns-clause-nothing c =
-    let answered = c.absorb_owned_with_undo-absorbed in
-    let told = c.keep_or_forget-answer in
+    let answered = c.absorb_with_undo-absorbed in
+    let told = c.keep_or_forget in
     let t : ReplicaState = record { history = answered.new.self; markers = told.new.store } in
     let same =
     kept_nothing (s c) (k c) t.history c.absorb_owned.new.self t.markers c.len-before.result c.in-Ok.markers.items
@@ -71,8 +71,8 @@ returns-clause-nothing c =
 
 pub returns-clause-growth : goal.returns-clause-growth
 returns-clause-growth c =
-    let answered = c.absorb_owned_with_undo-absorbed in
-    let told = c.keep_or_forget-answer in
+    let answered = c.absorb_with_undo-absorbed in
+    let told = c.keep_or_forget in
     let growth =
     kept_grown (s c) (k c) answered.new.self c.absorb_owned.new.self told.new.store c.len-before.result c.in-Ok.markers.items
     c.in-Ok.ensures.ok c.in-Ok.ensures.places answered.result told.result told.ensures.answer
@@ -86,8 +86,8 @@ returns-clause-growth c =
 
 pub returns-clause-memory : goal.returns-clause-memory
 returns-clause-memory c is =
-    let answered = c.absorb_owned_with_undo-absorbed in
-    let told = c.keep_or_forget-answer in
+    let answered = c.absorb_with_undo-absorbed in
+    let told = c.keep_or_forget in
     let growth =
     kept_growth (s c) (k c) c.absorb_owned.new.self told.new.store c.len-before.result c.in-Ok.markers.items
     (history_without_undo answered.result) (without_undo told.result) told.ensures.answer

@@ -13,9 +13,9 @@ use Rattle.hg_replica.specs.declared.undo.Absorbed.{Absorbed}
 use Rattle.hg_replica.proofs.NothingLemmas.{kept_grown, kept_nothing}
 use Rattle.hg_replica.proofs.ReplicaLemmas.{kept_answer, kept_back, kept_growth}
 use Rattle.hg_replica.proofs.replica.Replica.absorb_with_undo.Goals as goal
-use Rattle.hg_replica.proofs.replica.Replica.absorb_with_undo.Goals.{After-note_hints}
+use Rattle.hg_replica.proofs.replica.Replica.absorb_with_undo.Goals.{After-keep_or_forget}
 
-module _ (c : After-note_hints) where
+module _ (c : After-keep_or_forget) where
   abbrev s : ReplicaState
   s = record { history = c.self.inside.history; markers = c.self.inside.store }
 
@@ -34,7 +34,7 @@ module _ (c : After-note_hints) where
 pub returns-clause-answer : goal.returns-clause-answer
 returns-clause-answer c =
     let answered = c.absorb_with_undo-absorbed in
-    let told = c.keep_or_forget-answer in
+    let told = c.keep_or_forget in
     let t : ReplicaState = record { history = answered.new.self; markers = told.new.store } in
     let answer =
     kept_answer (s c) (k c) t.history c.absorb.new.self t.markers c.len-before.result c.in-Ok.markers.items
@@ -46,7 +46,7 @@ returns-clause-answer c =
 pub returns-clause-back : goal.returns-clause-back
 returns-clause-back c =
     let answered = c.absorb_with_undo-absorbed in
-    let told = c.keep_or_forget-answer in
+    let told = c.keep_or_forget in
     let t : ReplicaState = record { history = answered.new.self; markers = told.new.store } in
     let back =
     kept_back (s c) (k c) t.history c.absorb.new.self t.markers c.len-before.result c.in-Ok.markers.items
@@ -57,7 +57,7 @@ returns-clause-back c =
 pub returns-clause-nothing : goal.returns-clause-nothing
 returns-clause-nothing c =
     let answered = c.absorb_with_undo-absorbed in
-    let told = c.keep_or_forget-answer in
+    let told = c.keep_or_forget in
     let t : ReplicaState = record { history = answered.new.self; markers = told.new.store } in
     let same =
     kept_nothing (s c) (k c) t.history c.absorb.new.self t.markers c.len-before.result c.in-Ok.markers.items
@@ -68,7 +68,7 @@ returns-clause-nothing c =
 pub returns-clause-growth : goal.returns-clause-growth
 returns-clause-growth c =
     let answered = c.absorb_with_undo-absorbed in
-    let told = c.keep_or_forget-answer in
+    let told = c.keep_or_forget in
     let growth =
     kept_grown (s c) (k c) answered.new.self c.absorb.new.self told.new.store c.len-before.result c.in-Ok.markers.items
     c.in-Ok.ensures.ok c.in-Ok.ensures.places answered.result told.result told.ensures.answer
@@ -83,7 +83,7 @@ returns-clause-growth c =
 pub returns-clause-memory : goal.returns-clause-memory
 returns-clause-memory c is =
     let answered = c.absorb_with_undo-absorbed in
-    let told = c.keep_or_forget-answer in
+    let told = c.keep_or_forget in
     let growth =
     kept_growth (s c) (k c) c.absorb.new.self told.new.store c.len-before.result c.in-Ok.markers.items
     (history_without_undo answered.result) (without_undo told.result) told.ensures.answer

@@ -4,7 +4,7 @@ use Rattle.std.proofs.lemmas.Result.{IfOk-weaker}
 use Rattle.hg_obsstore.specs.Places.{ListsAll}
 use Rattle.hg_relevant.specs.Search.{IsMarked}
 use Rattle.hg_relevant.proofs.RelevantLemmas.{queued-within, searched-next, searched-within, searched-end}
-use Rattle.hg_relevant.proofs.search.relevant_near.Goals as goal
+use Rattle.hg_relevant.proofs.search.relevant.Goals as goal
 
 pub expand_predecessor-requires-clause-within : goal.expand_predecessor-requires-clause-within
 expand_predecessor-requires-clause-within c =

@@ -1,6 +1,6 @@
 use Rattle.std.proofs.Common.{◌-◌, length}
 use Rattle.hg_relevant.specs.Search.{IsSearched}
-use Rattle.hg_relevant.proofs.search.relevant_near.Given as goal
+use Rattle.hg_relevant.proofs.search.relevant.Given as goal
 
 abbrev pub invariant-loop-next : goal.invariant-loop-next
 invariant-loop-next l = IsSearched l.store l.nodes l.nodes l.search l.next
