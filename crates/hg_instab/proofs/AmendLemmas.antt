@@ -1,8 +1,7 @@
 -- A plain amend near forks turns two ids: what came of several successors sets is as it was, with the new changeset in
 -- the place of the old one.
-use Rattle.std.proofs.Common.{◌≡◌, ◌≢◌, ◌⊎◌, ◌↔◌, ◌∷◌, [], ℕ, List, length, Contains, slice_get, Some}
+use Rattle.std.proofs.Common.{◌≡◌, ◌≢◌, ◌⊎◌, ◌↔◌, ◌∷◌, [], ℕ, List, length, Contains}
 use Rattle.std.proofs.Common.{inl, inr, refl, sym, ap, subst, ◌∙◌, arith}
-use Rattle.std.proofs.lemmas.Option.{none-some, same_Some}
 use Rattle.hg_changeset.specs.declared.node.Node.{Node}
 use Rattle.hg_changeset.proofs.NodeLemmas.{node_cases}
 use Rattle.hg_changeset.proofs.ListLemmas.{Contains-first, Contains-none, Contains-one}
@@ -30,12 +29,6 @@ use Rattle.hg_instab.proofs.KeptLemmas.{changed-follows}
 use Rattle.hg_instab.proofs.PrecedeLemmas.{precedes-along}
 
 -- ---- lists
-
--- a list of one has what stands first
-pub only-first : {X : Type 0} (xs : List X) (x : X) → length xs ≡ 1 → slice_get xs 0 ≡ Some x → xs ≡ x ∷ []
-only-first [] x l at = absurd (none-some x at)
-only-first (y ∷ []) x l at = ap (λ z. z ∷ []) (same_Some y x at)
-only-first (y ∷ z ∷ xs) x l at = absurd (omega (arith, l))
 
 -- where there is one place two that are so are the same
 pub one-place : {P : Fields → Type 0} (ms : List Fields) (places : List ℕ) → ArePlaces P ms places → length places ≡ 1

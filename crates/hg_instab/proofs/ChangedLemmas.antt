@@ -1,13 +1,29 @@
 -- What a change didn't touch is as it was.
-use Rattle.std.proofs.Common.{◌≡◌, ◌↔◌, inl, inr, sym, ◌∙◌, List}
+use Rattle.std.proofs.Common.{◌≡◌, ◌↔◌, inl, inr, sym, subst, ◌∙◌, List}
 use Rattle.hg_changeset.specs.declared.node.Node.{Node}
+use Rattle.hg_graph.specs.Graph.{IsParent}
+use Rattle.hg_history.specs.Content.{IsHeld}
 use Rattle.hg_marker.specs.Fields.{Fields}
 use Rattle.hg_replica.specs.Content.{Content}
 use Rattle.hg_replica.specs.Change.{ChangeValue}
 use Rattle.hg_replica.specs.Evolution.{IsMarker, IsMutable, IsPredecessor, IsObsolete, IsCurrent}
-use Rattle.hg_instab.specs.Changed.{Follows, IsSeed}
+use Rattle.hg_instab.specs.Changed.{Follows, IsMoved, IsSeed}
+use Rattle.hg_instab.specs.Local.{IsParentOf}
 
 module _ (f g : Content) (change : ChangeValue) (ms : List Fields) (follows : Follows f g change ms) where
+  -- what was held still is
+  pub held-after : (n : Node) → IsHeld f.0 n → IsHeld g.0 n
+  held-after n held = let after = follows.above n held.0 held.1 in (after.0, after.1)
+
+  pub parent-after : (p n : Node) → IsParentOf f p n → IsParentOf g p n
+  parent-after p n parent =
+      let after = follows.above n parent.0 parent.1 in
+      (after.0, after.1, subst (λ d. IsParent d p) (sym after.2) parent.2)
+
+  -- what wasn't moved has the parents that it had
+  pub parent-before : (p n : Node) → ¬ (IsMoved change n) → IsParentOf g p n → IsParentOf f p n
+  parent-before p n stays parent = (parent.0, sym (follows.same n stays) ∙ parent.1, parent.2)
+
   -- a marker of before is one of after
   pub marker-after : (m : Fields) → IsMarker f m → IsMarker g m
   marker-after m held = (follows.markers m).1 (inl held)

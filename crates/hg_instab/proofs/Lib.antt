@@ -11,11 +11,9 @@ mod SuspendedLemmas
 pub mod TurnLemmas
 mod SeedLemmas
 mod KeptLemmas
-mod CalmLemmas
 mod FirstLemmas
 pub mod ChangedLemmas
 pub mod NearLemmas
-pub mod FewLemmas
 pub mod TurnedLemmas
 pub mod UnmarkedLemmas
 pub mod WaitingLemmas
@@ -25,4 +23,4 @@ pub mod RegionLemmas
 pub mod AfterPublicLemmas
 mod AddedLemmas
 pub mod AmendLemmas
-mod GlanceLemmas
+mod QuickLemmas

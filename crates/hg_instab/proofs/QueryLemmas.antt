@@ -36,9 +36,6 @@ told_phase s v n (Some k) h = (h.0, content-held s.history v.graph n h.0 h.1 h.2
 pub one_phase : (f : Content) (n : Node) (j k : Phase) → HasPhase f n j → HasPhase f n k → j ≡ k
 one_phase f n j k a b = sym a.2 ∙ ap (λ h. h.phase) (same_Some a.0 b.0 (sym a.1 ∙ b.1)) ∙ b.2
 
-pub phase_held : (f : Content) (n : Node) (k : Phase) → HasPhase f n k → IsHeld f.0 n
-phase_held f n k h = (h.0, h.1)
-
 -- mutable is to have another phase than public
 pub mutable_from_phase : (f : Content) (n : Node) (k : Phase) → HasPhase f n k → k ≢ Public → IsMutable f n
 mutable_from_phase f n k h ne = (h.0, h.1, λ e. ne (sym h.2 ∙ e))

@@ -25,10 +25,9 @@ use Rattle.hg_instab.specs.Instabilities.{IsContentDivergent}
 use Rattle.hg_instab.specs.Near.{IsForked, IsNamed, IsClosed, IsRegion}
 use Rattle.hg_instab.specs.Region.{IsTouched, IsStart, AreStarts}
 use Rattle.hg_instab.specs.Walk.{IsReached, IsNext, IsStep, IsFork, IsOfOneAt, Adds}
-use Rattle.hg_instab.proofs.AmongLemmas.{IsAlso}
 use Rattle.hg_instab.proofs.NearLemmas.{so-forward, so-backward}
 use Rattle.hg_instab.proofs.PrecedeLemmas.{precedes-predecessor, reached-current}
-use Rattle.hg_instab.proofs.WalkLemmas.{reached-next, nothing-reached, adds-then, adds-same}
+use Rattle.hg_instab.proofs.WalkLemmas.{reached-next, nothing-reached}
 
 -- ---- what was near
 
@@ -60,24 +59,6 @@ of-missing Of ms places i k l is missing n = (
   ],
   λ h. (h.0, (Contains-taken places i k h.0 l is).1 (inl h.1), h.2, h.3, h.4),
 )
-
-module _ (Old New Q : Node → Type 0) (m : Node) (also : IsAlso m Old New) (xs ys : List Node)
-    (before : Adds (λ n. Old n × Q n) xs ys) where
-  -- one node more that is so
-  pub adds-also : Q m → (zs : List Node) → Adds (λ n. m ≡ n) ys zs → Adds (λ n. New n × Q n) xs zs
-  adds-also q zs one = adds-then (λ n. Old n × Q n) (λ n. m ≡ n) (λ n. New n × Q n) xs ys zs
-      (λ n. (
-        λ h. elim ((also n).0 h.0) [ inl old ↦ inl (old, h.1) | inr e ↦ inr e ],
-        λ h. elim h [ inl x ↦ ((also n).1 (inl x.0), x.1) | inr e ↦ ((also n).1 (inr e), subst Q e q) ],
-      )) before one
-
-  -- one that isn't
-  pub adds-other : ¬ (Q m) → Adds (λ n. New n × Q n) xs ys
-  adds-other not = adds-same (λ n. Old n × Q n) (λ n. New n × Q n) xs ys
-      (λ n. (
-        λ h. elim ((also n).0 h.0) [ inl old ↦ (old, h.1) | inr e ↦ absurd (not (subst Q (sym e) h.1)) ],
-        λ h. ((also n).1 (inl h.0), h.1),
-      )) before
 
 -- ---- the region
 

@@ -1,9 +1,8 @@
 -- What neighbours tell has one solution, and where it can fail after a change.
-use Rattle.std.proofs.Common.{◌≡◌, ℕ, zero, suc, ◌+◌, ◌≤◌, List, [], length, Contains, ◌↔◌, inl, inr, refl}
-use Rattle.std.proofs.Common.{sym, subst, ◌∙◌, arith}
+use Rattle.std.proofs.Common.{ℕ, zero, suc, ◌+◌, ◌≤◌, List, [], length, Contains, ◌↔◌, inl, inr, refl}
+use Rattle.std.proofs.Common.{arith}
 use Rattle.hg_changeset.specs.declared.node.Node.{Node}
 use Rattle.hg_changeset.proofs.ListLemmas.{Contains-none}
-use Rattle.hg_graph.specs.Graph.{IsParent}
 use Rattle.hg_graph.specs.Places.{IsAt}
 use Rattle.hg_graph.proofs.PlaceLemmas.{placed_within, parent_first}
 use Rattle.hg_phases.specs.State.{changesets}
@@ -11,14 +10,16 @@ use Rattle.hg_history.specs.Content.{IsHeld, IsGrounded}
 use Rattle.hg_history.specs.Content.IsGrounded.{grounded}
 use Rattle.hg_history.proofs.ContentLemmas.{content-node}
 use Rattle.hg_replica.specs.State.{ReplicaState, IsValid}
-use Rattle.hg_replica.specs.Content.{content_of}
+use Rattle.hg_replica.specs.Content.{Content, content_of}
 use Rattle.hg_replica.specs.Change.{ChangeValue}
-use Rattle.hg_replica.specs.Evolution.{IsMutable, IsPredecessor, IsObsolete, IsCurrent, IsOrphan, IsExtinct}
+use Rattle.hg_replica.specs.Evolution.{IsObsolete, IsCurrent, IsOrphan, IsExtinct}
 use Rattle.hg_replica.proofs.ContentLemmas.{content-valid}
 use Rattle.hg_instab.specs.declared.waiting.Beside.TheVariants.{Itself, Children, Parents}
 use Rattle.hg_instab.specs.Changed.{Follows, IsSeed, IsNow}
 use Rattle.hg_instab.specs.Local.{IsParentOf, StandsUnstably, HoldsNothing}
 use Rattle.hg_instab.specs.Settling.{IsBesideOne, IsToldBut, IsSettling}
+use Rattle.hg_instab.proofs.ChangedLemmas.{held-after, parent-after, parent-before}
+use Rattle.hg_instab.proofs.ChangedLemmas.{obsolete-untouched, current-untouched}
 use Rattle.hg_instab.proofs.LocalLemmas.{orphan-by_parents, extinct-by_children}
 use Rattle.hg_instab.proofs.SettlingLemmas.{place-from_parent, parent-held, placed-node}
 
@@ -85,41 +86,17 @@ module _ (s : ReplicaState) (v : IsValid s) (A : Node → Type 0)
 
 module _ (s t : ReplicaState) (change : ChangeValue) (v : IsValid s) (w : IsValid t)
     (follows : Follows (content_of s) (content_of t) change t.markers) where
-  module _ (n : Node) (calm : ¬ (IsSeed t.markers change n)) where
-    still : (content_of t).0 n ≡ (content_of s).0 n
-    still = follows.same n (λ moved. calm (inl moved))
+  abbrev f : Content
+  f = content_of s
 
-    same-predecessor : IsPredecessor (content_of t) n ↔ IsPredecessor (content_of s) n
-    same-predecessor = (
-      λ h. elim ((follows.markers h.0).0 h.1)
-          [ inl old ↦ (h.0, old, h.2) | inr fresh ↦ absurd (calm (inr (h.0, fresh, h.2))) ],
-      λ h. (h.0, (follows.markers h.0).1 (inl h.1), h.2),
-    )
-
-    same-mutable : IsMutable (content_of t) n ↔ IsMutable (content_of s) n
-    same-mutable = (λ h. (h.0, sym still ∙ h.1, h.2), λ h. (h.0, still ∙ h.1, h.2))
-
-    same-obsolete : IsObsolete (content_of t) n ↔ IsObsolete (content_of s) n
-    same-obsolete = (
-      λ h. (same-mutable.0 h.0, same-predecessor.0 h.1),
-      λ h. (same-mutable.1 h.0, same-predecessor.1 h.1),
-    )
-
-    same-current : IsCurrent (content_of t) n ↔ IsCurrent (content_of s) n
-    same-current = (
-      λ h. (same-mutable.0 h.0, λ o. h.1 (same-obsolete.1 o)),
-      λ h. (same-mutable.1 h.0, λ o. h.1 (same-obsolete.0 o)),
-    )
-
-  -- what was held still is
-  still-held : (n : Node) → IsHeld (content_of s).0 n → IsHeld (content_of t).0 n
-  still-held n held = let g = follows.above n held.0 held.1 in (g.0, g.1)
+  abbrev g : Content
+  g = content_of t
 
   module _ (seeds : List Node) (given : (n : Node) → IsSeed t.markers change n → Contains seeds n) (starts : List ℕ)
       (begun : (k : ℕ) → IsBesideOne Itself (changesets t.history) seeds k → Contains starts k) where
-    calm-there : (n : Node) (k : ℕ) → IsAt (changesets t.history) n k → ¬ (Contains starts k)
+    untouched-there : (n : Node) (k : ℕ) → IsAt (changesets t.history) n k → ¬ (Contains starts k)
         → ¬ (IsSeed t.markers change n)
-    calm-there n k at free seed = free (begun k (n, given n seed, (k, at, refl)))
+    untouched-there n k at free seed = free (begun k (n, given n seed, (k, at, refl)))
 
     module _ (orphan : List Node) (kept : (n : Node) → Contains orphan n ↔ IsOrphan (content_of s) n)
         (turned_obsolete : List Node)
@@ -130,7 +107,7 @@ module _ (s t : ReplicaState) (change : ChangeValue) (v : IsValid s) (w : IsVali
       pub orphans-told : IsToldBut (changesets t.history) (StandsUnstably (content_of t)) (Contains orphan) starts
       orphans-told n k at free = (
         λ h. let x = by.0 ((kept n).0 h) in (
-          (same-current n calm).1 x.0,
+          current.1 x.0,
           (
             x.1.0,
             up x.1.0 x.1.1,
@@ -141,7 +118,7 @@ module _ (s t : ReplicaState) (change : ChangeValue) (v : IsValid s) (w : IsVali
           ),
         ),
         λ h. (kept n).1 (by.1 (
-          (same-current n calm).0 h.0,
+          current.0 h.0,
           (
             h.1.0,
             down h.1.0 h.1.1,
@@ -150,17 +127,20 @@ module _ (s t : ReplicaState) (change : ChangeValue) (v : IsValid s) (w : IsVali
         )),
       )
         where
-          calm : ¬ (IsSeed t.markers change n)
-          calm = calm-there n k at free
+          untouched : ¬ (IsSeed t.markers change n)
+          untouched = untouched-there n k at free
+
+          current : IsCurrent g n ↔ IsCurrent f n
+          current = current-untouched f g change t.markers follows n untouched
 
           by : IsOrphan (content_of s) n ↔ StandsUnstably (content_of s) (IsOrphan (content_of s)) n
           by = orphan-by_parents s v n
 
-          up : (p : Node) → IsParentOf (content_of s) p n → IsParentOf (content_of t) p n
-          up p parent = (parent.0, still n calm ∙ parent.1, parent.2)
+          up : (p : Node) → IsParentOf f p n → IsParentOf g p n
+          up p parent = parent-after f g change t.markers follows p n parent
 
-          down : (p : Node) → IsParentOf (content_of t) p n → IsParentOf (content_of s) p n
-          down p parent = (parent.0, sym (still n calm) ∙ parent.1, parent.2)
+          down : (p : Node) → IsParentOf g p n → IsParentOf f p n
+          down p parent = parent-before f g change t.markers follows p n (λ moves. untouched (inl moves)) parent
 
           obsolete : (p : Node) → IsParentOf (content_of t) p n
               → IsObsolete (content_of t) p ↔ IsObsolete (content_of s) p
@@ -175,7 +155,7 @@ module _ (s t : ReplicaState) (change : ChangeValue) (v : IsValid s) (w : IsVali
         where
           held : (n : Node) → IsNow orphan turned n → IsHeld (content_of t).0 n
           held n h = elim h [
-            | inl x ↦ let o = (kept n).0 x.0 in still-held n (o.0.0.0, o.0.0.1)
+            | inl x ↦ let o = (kept n).0 x.0 in held-after f g change t.markers follows n (o.0.0.0, o.0.0.1)
             | inr x ↦ content-node t.history w.graph n (settling.held n x.1)
           ]
 
@@ -190,29 +170,27 @@ module _ (s t : ReplicaState) (change : ChangeValue) (v : IsValid s) (w : IsVali
       -- children tell of what was extinct before whether it is extinct now, but for those where the walk starts
       pub extinct-told : IsToldBut (changesets t.history) (HoldsNothing (content_of t)) (Contains extinct) starts
       extinct-told n k at free = (
-        λ h. let x = by.0 ((kept n).0 h) in
-            ((same-obsolete n calm).1 x.0, λ c parent. (kept c).1 (x.1 c (down c parent))),
-        λ h. (kept n).1
-            (by.1 ((same-obsolete n calm).0 h.0, λ c parent. (kept c).0 (h.1 c (up c parent)))),
+        λ h. let x = by.0 ((kept n).0 h) in (obsolete.1 x.0, λ c parent. (kept c).1 (x.1 c (down c parent))),
+        λ h. (kept n).1 (by.1 (obsolete.0 h.0, λ c parent. (kept c).0 (h.1 c (up c parent)))),
       )
         where
-          calm : ¬ (IsSeed t.markers change n)
-          calm = calm-there n k at free
+          untouched : ¬ (IsSeed t.markers change n)
+          untouched = untouched-there n k at free
+
+          obsolete : IsObsolete g n ↔ IsObsolete f n
+          obsolete = obsolete-untouched f g change t.markers follows n untouched
 
           by : IsExtinct (content_of s) n ↔ HoldsNothing (content_of s) (IsExtinct (content_of s)) n
           by = extinct-by_children s v n
 
-          up : (c : Node) → IsParentOf (content_of s) n c → IsParentOf (content_of t) n c
-          up c parent =
-              let g = follows.above c parent.0 parent.1 in
-              (g.0, g.1, subst (λ d. IsParent d n) (sym g.2) parent.2)
+          up : (c : Node) → IsParentOf f n c → IsParentOf g n c
+          up c parent = parent-after f g change t.markers follows n c parent
 
-          down : (c : Node) → IsParentOf (content_of t) n c → IsParentOf (content_of s) n c
+          down : (c : Node) → IsParentOf g n c → IsParentOf f n c
           down c parent =
               let j = placed-node t w c (parent.0, parent.1) in
-              let same = follows.same c (λ moved.
-              free (below k (c, given c (inl moved), (j.0, j.1, place-from_parent t w c n j.0 k j.1 at parent)))) in
-              (parent.0, sym same ∙ parent.1, parent.2)
+              parent-before f g change t.markers follows n c (λ moves. free
+              (below k (c, given c (inl moves), (j.0, j.1, place-from_parent t w c n j.0 k j.1 at parent)))) parent
 
       pub extinct-settled : (turned : List Node)
           → IsSettling (changesets t.history) (HoldsNothing (content_of t)) extinct starts turned [] → (n : Node)
@@ -221,7 +199,7 @@ module _ (s t : ReplicaState) (change : ChangeValue) (v : IsValid s) (w : IsVali
         where
           held : (n : Node) → IsNow extinct turned n → IsHeld (content_of t).0 n
           held n h = elim h [
-            | inl x ↦ let o = (kept n).0 x.0 in still-held n (o.0.0.0, o.0.0.1)
+            | inl x ↦ let o = (kept n).0 x.0 in held-after f g change t.markers follows n (o.0.0.0, o.0.0.1)
             | inr x ↦ content-node t.history w.graph n (settling.held n x.1)
           ]
 

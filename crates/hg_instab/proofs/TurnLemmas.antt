@@ -16,10 +16,9 @@ use Rattle.hg_changeset.proofs.ListLemmas.{Contains-none}
 use Rattle.hg_changeset.proofs.NodeLemmas.{node_cmp_total, node_cmp_exact}
 use Rattle.hg_obsstore.proofs.IndexLemmas.{among_or_not}
 use Rattle.hg_succ.proofs.SortedLemmas.{same_members}
-use Rattle.hg_instab.specs.Calm.{IsGrowth, IsRest}
 use Rattle.hg_instab.specs.Changed.{IsNow}
 use Rattle.hg_instab.specs.declared.turn.Turn.{Turn}
-use Rattle.hg_instab.specs.Turns.{IsTurn, IsThen, IsStage, HasCome, HasPut}
+use Rattle.hg_instab.specs.Turns.{IsTurn, IsThen, IsGrowth, IsStage, HasCome, HasPut}
 
 -- a node less
 pub node-removed : (s t : BTreeSet Node) (k : Node) → Updates node_cmp s t k false → (n : Node)
@@ -109,28 +108,11 @@ grown set nodes turn none come n =
       ],
     )
 
--- all of the nodes come, and nothing goes
-pub all-come : (set nodes : List Node) (turn : Turn) → turn.come.items ≡ nodes → turn.gone.items ≡ []
-    → IsGrowth set turn (Contains nodes)
-all-come set nodes turn come none n = (
-  λ h. elim h [ inl c ↦ inr (subst (λ ns. Contains ns n) come c) | inr was ↦ inl was.0 ],
-  λ h. elim h [
-    | inl there ↦ inr (there, λ gone. Contains-none n (subst (λ ns. Contains ns n) none gone))
-    | inr those ↦ inl (subst (λ ns. Contains ns n) (sym come) those)
-  ],
-)
-
 -- the same of an equal set, to which an equal list of nodes comes
 pub grown-to : (xs set ys nodes : List Node) (turn : Turn) → xs ≡ set → ys ≡ nodes → IsGrowth xs turn (Contains ys)
     → IsGrowth set turn (Contains nodes)
 grown-to xs set ys nodes turn same all grows =
     subst (λ zs. IsGrowth set turn (Contains zs)) all (subst (λ zs. IsGrowth zs turn (Contains ys)) same grows)
-
--- nothing comes or goes
-pub rested : (set : List Node) (turn : Turn) → turn.come.items ≡ [] → turn.gone.items ≡ [] → IsRest set turn
-rested set turn come gone n = others-then set turn n
-    (λ h. Contains-none n (subst (λ ns. Contains ns n) come h))
-    (λ h. Contains-none n (subst (λ ns. Contains ns n) gone h))
 
 -- what came is taken out again
 pub given_back : (turn : Turn) (before now after : List Node) → IsTurn before turn

@@ -1,14 +1,11 @@
 pub mod AfterPublic
 pub mod Amend
-pub mod Calm
 pub mod Changed
-pub mod Few
-pub mod FewKeys
-pub mod Glance
 pub mod Instabilities
 pub mod Local
 pub mod Near
 pub mod Turns
 pub mod Settling
 pub mod Region
+pub mod Quick
 pub mod Walk

@@ -6,7 +6,7 @@ use Rattle.hg_changeset.specs.Node.{node_cmp}
 use Rattle.hg_instab.specs.declared.turn.Turn.{Turn}
 use Rattle.hg_instab.specs.declared.turns.Turns.{Turns}
 use Rattle.hg_instab.specs.declared.turns.Turning.{Turning}
-use Rattle.hg_instab.specs.declared.turns.Turning.TheVariants.{Nothing, Retired, All}
+use Rattle.hg_instab.specs.declared.turns.Turning.TheVariants.{Nothing, NewlyExtinct, All}
 use Rattle.hg_replica.specs.Content.{Content}
 use Rattle.hg_replica.specs.Evolution.{IsObsolete, IsOrphan, IsSuspended, IsExtinct, IsPhaseDivergent}
 use Rattle.hg_instab.specs.Instabilities.{InstabilitySets, AreInstabilities, IsContentDivergent}
@@ -20,6 +20,10 @@ pub record IsTurn (set : List Node) (turn : Turn) : Type 0 where
 -- in the set that the turn leaves
 abbrev pub IsThen : List Node → Turn → Node → Type 0
 IsThen set turn n = Contains turn.come.items n ⊎ (Contains set n × ¬ (Contains turn.gone.items n))
+
+-- what is so comes to the set, and nothing goes
+abbrev pub IsGrowth : List Node → Turn → (Node → Type 0) → Type 0
+IsGrowth set turn P = (n : Node) → IsThen set turn n ↔ (Contains set n ⊎ P n)
 
 -- some of what comes has come; a list in order was in order before
 pub record IsStage (come before now : List Node) : Type 0 where
@@ -105,10 +109,10 @@ pub record AreTold (g : Content) (sets : InstabilitySets) (turns : Turns) : Type
 
 -- ---- what a change turns
 
--- the node has become obsolete and extinct, and nothing else has turned
-pub record IsRetired (before : InstabilitySets) (node : Node) (after : InstabilitySets) : Type 0 where
-  pub obsolete : (n : Node) → Contains after.obsolete n ↔ (Contains before.obsolete n ⊎ (n ≡ node))
-  pub extinct : (n : Node) → Contains after.extinct n ↔ (Contains before.extinct n ⊎ (n ≡ node))
+-- what is so has become obsolete and extinct, and nothing else has turned
+pub record GainsExtinct (before : InstabilitySets) (P : Node → Type 0) (after : InstabilitySets) : Type 0 where
+  pub obsolete : (n : Node) → Contains after.obsolete n ↔ (Contains before.obsolete n ⊎ P n)
+  pub extinct : (n : Node) → Contains after.extinct n ↔ (Contains before.extinct n ⊎ P n)
   pub orphan : after.orphan ≡ before.orphan
   pub suspended : after.suspended ≡ before.suspended
   pub phase_divergent : after.phase_divergent ≡ before.phase_divergent
@@ -119,11 +123,12 @@ pub record IsRetired (before : InstabilitySets) (node : Node) (after : Instabili
 -- the turns of the sets that it tells are turns of these
 abbrev pub MayTurn : InstabilitySets → Turning → Type 0
 MayTurn sets Nothing = Unit {0}
-MayTurn sets (Retired node) = Unit {0}
+MayTurn sets (NewlyExtinct node) = Unit {0}
 MayTurn sets (All turns) = AreTurns sets turns
 
 -- what it leaves of the sets is what those of g are to have
 abbrev pub IsTold : Content → InstabilitySets → Turning → Type 0
 IsTold g sets Nothing = AreInstabilities g sets
-IsTold g sets (Retired node) = (after : InstabilitySets) → IsRetired sets node after → AreInstabilities g after
+IsTold g sets (NewlyExtinct node) = (after : InstabilitySets) → GainsExtinct sets (λ n. n ≡ node) after
+    → AreInstabilities g after
 IsTold g sets (All turns) = AreTold g sets turns

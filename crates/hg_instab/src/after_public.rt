@@ -15,40 +15,35 @@ ghost use Rattle.hg_instab.specs.Changed.{Follows};
 ghost use Rattle.hg_instab.specs.Near.{IsAfterPublic};
 ghost use Rattle.hg_instab.specs.Walk.{IsReached, Adds};
 
-use crate::among::is_missing;
+use crate::among::{has, outside, set_of};
 use crate::query::has_phase;
 use crate::walk::{Followed, add_successors, follow};
 use hg_changeset::Node;
 use hg_marker::Marker;
-use hg_node_set::{IdKeys, NodeSet};
+use hg_node_set::NodeSet;
 use hg_obsstore::Store;
 use hg_phases::Phase;
 use hg_replica::{Change, Replica};
 use std::alloc::{AllocError, Global};
 use std::collections::BTreeSet;
 
-// What is after something public now and wasn't before, in the order in which it was met, where the set has what was
-// before the change.
+// What is after something public now and wasn't before, where the set has what was before the change.
 pub(crate) fn newly_after_public(
     alloc: Global,
     replica: &Replica,
     change: &Change,
     after_public: &BTreeSet<Node>,
-) -> Result<NodeSet, AllocError>
-    ensures exact { IfOk result (λ met. (s : ReplicaState) → IsValid s
+) -> Result<BTreeSet<Node>, AllocError>
+    ensures { IfOk result (λ met. (s : ReplicaState) → IsValid s
         → Follows (content_of s) (content_of replica.now) change.now replica.now.markers
         → ((n : Node) → Contains after_public.now.keys n ↔ IsAfterPublic (content_of s) n)
         → (n : Node) → IsAfterPublic (content_of replica.now) n
         ↔ (Contains after_public.now.keys n ⊎ Contains met.keys n)) }
-    ensures apart { IfOk result (λ met. (n : Node) → Contains met.keys n → ¬ (Contains after_public.now.keys n)) }
 {
     let starts = starts(alloc, replica, change, after_public)?;
-    if starts.len() == 0 {
-        // So it is with most changes, and no further set is made.
-        return Ok(starts);
-    }
     let seen = reached_beyond(replica.store(), after_public, starts)?;
-    unknown(alloc, replica.keys(), seen.as_slice(), after_public)
+    let met = outside(alloc, seen.as_slice(), after_public)?;
+    set_of(alloc, met)
 }
 
 // What the change puts right after something public: the successors of fresh markers, and of what is public now and was
@@ -107,13 +102,7 @@ fn hand_on(
 fn is_source(replica: &Replica, known: &BTreeSet<Node>, node: Node) -> bool
     ensures { IsTrue result ↔ IsSource (content_of replica.now) known.now.keys node }
 {
-    is_known(known, node) || has_phase(replica, node, Phase::Public)
-}
-
-fn is_known(known: &BTreeSet<Node>, node: Node) -> bool
-    ensures { IsTrue result ↔ Contains known.now.keys node }
-{
-    known.contains(&node)
+    has(known, node) || has_phase(replica, node, Phase::Public)
 }
 
 // Adds what comes next after those of the nodes that are public.
@@ -166,27 +155,8 @@ fn add_beyond(
 ) -> Result<(), AllocError>
     ensures { OnOk result (Adds (IsRewrittenBeyond known.now.keys store.now node) seen.old.keys seen.new.keys) }
 {
-    if is_known(known, node) {
+    if has(known, node) {
         return Ok(());
     }
     add_successors(store, Followed::NotBumpedFix, node, seen)
-}
-
-// Those of the nodes that aren't known.
-fn unknown(
-    alloc: Global,
-    keys: IdKeys,
-    nodes: &[Node],
-    known: &BTreeSet<Node>,
-) -> Result<NodeSet, AllocError>
-    ensures { IfOk result (λ found. (n : Node) → Contains found.keys n
-        ↔ (Contains nodes.now n × ¬ (Contains known.now.keys n))) }
-{
-    let mut found = NodeSet::with_keys(alloc, keys);
-    for node in nodes {
-        if is_missing(known, *node) {
-            found.insert(*node)?;
-        }
-    }
-    Ok(found)
 }

@@ -17,7 +17,6 @@ ghost use Rattle.hg_instab.specs.Walk.{IsFork};
 use crate::among::{has, one};
 use crate::divergence::is_fork;
 use crate::instabilities::Instabilities;
-use crate::near::is_near;
 use crate::query::{is_current, is_obsolete};
 use crate::turn::Turn;
 use hg_changeset::Node;
@@ -131,7 +130,7 @@ fn if_plain(replica: &Replica, near: &BTreeSet<Node>, amend: Amend) -> Option<Am
 fn is_plain(replica: &Replica, near: &BTreeSet<Node>, amend: Amend) -> bool
     ensures { IsTrue result → IsPlain replica.now near.now.keys amend }
 {
-    if is_near(amend.from, near) {
+    if has(near, amend.from) {
         return is_obsolete(replica, amend.from) && is_alone(replica.store(), amend);
     }
     false

@@ -13,7 +13,7 @@ use crate::among::current_among;
 use crate::walk::{Followed, Way, reached};
 use hg_changeset::Node;
 use hg_node_set::NodeSet;
-use hg_obsstore::{Hint, Store};
+use hg_obsstore::Store;
 use hg_replica::Replica;
 use hg_succ::several_among;
 use std::alloc::{AllocError, Global};
@@ -46,12 +46,5 @@ fn current_from(alloc: Global, replica: &Replica, starts: NodeSet) -> Result<Vec
 pub(crate) fn is_fork(store: &Store, node: Node) -> bool
     ensures { IsTrue result ↔ IsFork store.now node }
 {
-    is_fork_near(store, node, Hint::NOWHERE)
-}
-
-// The same, and sooner where the hint is of this node.
-pub(crate) fn is_fork_near(store: &Store, node: Node, hint: Hint) -> bool
-    ensures { IsTrue result ↔ IsFork store.now node }
-{
-    store.mentions_near(node, hint).as_predecessor().len() > 1
+    store.mentions(node).as_predecessor().len() > 1
 }

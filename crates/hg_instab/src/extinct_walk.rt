@@ -13,7 +13,6 @@ ghost use Rattle.hg_instab.specs.Changed.{Follows, IsSeed, IsNow};
 ghost use Rattle.hg_instab.specs.Local.{HoldsNothing};
 ghost use Rattle.hg_instab.specs.Settling.{IsSoAt, IsAtEach};
 
-use crate::few::Few;
 use crate::holders::Holders;
 use crate::query::is_obsolete_at;
 use crate::settling::{Kind, settle_all};
@@ -32,7 +31,7 @@ pub(crate) fn turned_extinct(
     extinct: &BTreeSet<Node>,
     holders: &mut Holders,
     seeds: &[Node],
-) -> Result<Few, AllocError>
+) -> Result<BTreeSet<Node>, AllocError>
     ensures { IfOk result (λ turned. (s : ReplicaState) (change : ChangeValue) → IsValid s
         → Follows (content_of s) (content_of replica.now) change replica.now.markers
         → ((n : Node) → IsSeed replica.now.markers change n → Contains seeds.now n)
@@ -51,7 +50,7 @@ pub(crate) fn is_extinct_now(
     replica: &Replica,
     extinct: &BTreeSet<Node>,
     holders: &mut Holders,
-    turned: &Few,
+    turned: &BTreeSet<Node>,
     place: usize,
     node: Node,
 ) -> bool
@@ -76,7 +75,7 @@ fn are_extinct(
     replica: &Replica,
     extinct: &BTreeSet<Node>,
     holders: &mut Holders,
-    turned: &Few,
+    turned: &BTreeSet<Node>,
     place: usize,
     places: &[usize],
 ) -> bool
@@ -104,7 +103,7 @@ fn are_extinct(
 fn holder(
     replica: &Replica,
     extinct: &BTreeSet<Node>,
-    turned: &Few,
+    turned: &BTreeSet<Node>,
     places: &[usize],
     first: usize,
 ) -> Option<usize>
@@ -123,7 +122,7 @@ fn holder(
 fn holder_between(
     replica: &Replica,
     extinct: &BTreeSet<Node>,
-    turned: &Few,
+    turned: &BTreeSet<Node>,
     places: &[usize],
     low: usize,
     high: usize,
@@ -144,7 +143,12 @@ fn holder_between(
 }
 
 // Whether what stands at the place is extinct now, if anything does.
-fn is_extinct_at(replica: &Replica, extinct: &BTreeSet<Node>, turned: &Few, place: usize) -> bool
+fn is_extinct_at(
+    replica: &Replica,
+    extinct: &BTreeSet<Node>,
+    turned: &BTreeSet<Node>,
+    place: usize,
+) -> bool
     ensures { IsTrue result
         ↔ IsSoAt (changesets replica.now.history) (IsNow extinct.now.keys turned.now.keys) place }
 {

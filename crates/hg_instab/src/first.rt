@@ -7,6 +7,7 @@ ghost use Rattle.hg_instab.specs.Changed.{IsFresh};
 ghost use Rattle.hg_instab.specs.Near.{IsAfterPublic, AreNearForks};
 
 use crate::after_public::newly_after_public;
+use crate::among::list_of;
 use crate::near::region;
 use hg_changeset::Node;
 use hg_history::AddedNodes;
@@ -19,11 +20,10 @@ use std::collections::BTreeSet;
 pub(crate) fn after_public_ids(alloc: Global, replica: &Replica) -> Result<Vec<Node>, AllocError>
     ensures { IfOk result (λ ids. (n : Node) → Contains ids.items n ↔ IsAfterPublic (content_of replica.now) n) }
 {
-    // It says that the replica is in a valid state.
-    let _graph = replica.graph();
+    replica.is_valid();
     let change = every_marker(alloc, replica)?;
     let met = newly_after_public(alloc, replica, &change, &BTreeSet::new(alloc))?;
-    met.as_slice().to_vec(alloc)
+    list_of(alloc, &met)
 }
 
 // The ids near forks.

@@ -2,7 +2,7 @@
 //! and never what it answers. So they are noted as far as there is memory, and no call is refused for want of it.
 //!
 //! Without them a changeset with many children that cease to hold it one after the other, the last first, would have
-//! all of these looked at again each time.
+//! all of these looked at again each time: what they cost grows with their number, and not with its square.
 ghost use Rattle.std.specs.Prelude.{◌≤◌};
 
 use std::alloc::Global;

@@ -4,12 +4,11 @@ ghost use Rattle.hg_replica.specs.State.{ReplicaState};
 ghost use Rattle.hg_replica.specs.Content.{content_of};
 ghost use Rattle.hg_instab.specs.Changed.{IsChangedTo};
 ghost use Rattle.hg_instab.specs.Instabilities.{AreInstabilities, InstabilitySets};
-ghost use Rattle.hg_instab.specs.Turns.{AreTurns, AreStages, HaveCome, AreThen, IsRetired, IsTold, MayTurn};
+ghost use Rattle.hg_instab.specs.Turns.{AreTurns, AreStages, HaveCome, AreThen, GainsExtinct, IsTold, MayTurn};
 
 use crate::among::{current_among, obsolete_nodes, outside, set_of};
 use crate::divergence::divergent_within;
 use crate::first::{after_public_ids, near_fork_ids};
-use crate::glance::{Glance, at_a_glance};
 use crate::holders::Holders;
 use crate::orphans::{orphan_nodes, suspended_nodes};
 use crate::turn::{put, take_back};
@@ -125,28 +124,14 @@ impl Instabilities {
             → AreInstabilities (content_of s) self.old → AreInstabilities (content_of replica.now) self.new) }
         ensures unchanged { OnErr result (self.new ≡ self.old) }
     {
-        // It says that the replica is in a valid state.
-        let _graph = replica.graph();
+        replica.is_valid();
         if replica.store().markers().is_empty() {
             // Nothing is unstable, and nothing was.
             return Ok(());
         }
-        match at_a_glance(self, replica, change) {
-            Glance::Nothing => Ok(()),
-            Glance::Retired(node) => self.retire(node),
-            Glance::Unknown => self.turn(replica, change),
-        }
-    }
-
-    // The same where a glance doesn't tell what turns.
-    fn turn(&mut self, replica: &Replica, change: &Change) -> Result<(), AllocError>
-        ensures kept { OnOk result ((s : ReplicaState) → IsChangedTo s change.now replica.now
-            → AreInstabilities (content_of s) self.old → AreInstabilities (content_of replica.now) self.new) }
-        ensures unchanged { OnErr result (self.new ≡ self.old) }
-    {
         match self.turning(replica, change)? {
             Turning::Nothing => Ok(()),
-            Turning::Retired(node) => self.retire(node),
+            Turning::NewlyExtinct(node) => self.make_extinct(node),
             Turning::All(turns) => self.apply(&turns),
         }
     }
@@ -165,8 +150,8 @@ impl Instabilities {
     }
 
     // Puts the node among the obsolete and the extinct ones, or leaves both sets as they are.
-    fn retire(&mut self, node: Node) -> Result<(), AllocError>
-        ensures retired { OnOk result (IsRetired self.old node self.new) }
+    fn make_extinct(&mut self, node: Node) -> Result<(), AllocError>
+        ensures gained { OnOk result (GainsExtinct self.old (λ n. n ≡ node) self.new) }
         ensures unchanged { OnErr result (self.new ≡ self.old) }
     {
         let came = put(&mut self.obsolete, node)?;
@@ -286,6 +271,10 @@ impl Instabilities {
         ensures { result.now.keys ≡ self.now.content_divergent }
     {
         &self.content_divergent
+    }
+
+    pub(crate) fn alloc(&self) -> Global {
+        self.alloc
     }
 
     // The ids that something public precedes over markers that aren't bumpedfix, held or not.

@@ -20,17 +20,29 @@
 //!     Ok(orphans)
 //! }
 //! ```
+//!
+//! # Modules
+//!
+//! Of one changeset: `query`, in which phase it is, and whether it is obsolete.
+//!
+//! From scratch: `orphans`, orphans and suspended changesets; `first`, ids after something public and near forks, all
+//! markers taken to be new; `divergence`, content-divergent changesets of a region; `among`, those of some nodes of
+//! which something holds; `walk`, steps over markers; `laws`, what the instabilities are a matter of.
+//!
+//! Kept from change to change: `instabilities`, the sets; `turns`, what a change turns in each; `quick`, the same by a
+//! few look-ups where these tell; `turn`, what comes to one set and goes from it. What else is asked: `seeds`, the ids
+//! that a change touched; `orphan_walk` and `extinct_walk`, by `settling`, which asks at places in the graph's order,
+//! `waiting`, the places that are still to be asked, `turned`, nodes whose answers differ, and `holders`, with which
+//! child a question begins; `after_public`, ids that newly come after something public; `near`, the region of ids that
+//! is asked again near forks, and `amend`, amends that need none.
 #![tactic(auto)]
 
 mod after_public;
 mod amend;
 mod among;
-mod calm;
 mod divergence;
 mod extinct_walk;
-mod few;
 mod first;
-mod glance;
 mod holders;
 mod instabilities;
 mod laws;
@@ -38,6 +50,7 @@ mod near;
 mod orphan_walk;
 mod orphans;
 mod query;
+mod quick;
 mod seeds;
 mod settling;
 mod turn;

@@ -2,16 +2,16 @@
 //!
 //! Nothing far from a fork became different changesets with the markers that are followed, so where a change comes near
 //! none nothing is asked.
-ghost use Rattle.std.specs.Prelude.{◌↔◌, List, Contains, IfOk, OnOk, IsTrue};
+ghost use Rattle.std.specs.Prelude.{◌↔◌, Contains, IfOk, OnOk, IsTrue};
 ghost use Rattle.hg_changeset.specs.declared.node.Node.{Node};
-ghost use Rattle.hg_replica.specs.Change.{ChangeValue};
 ghost use Rattle.hg_replica.specs.Content.{content_of};
 ghost use Rattle.hg_instab.specs.Near.{IsNamed, IsRegion};
 ghost use Rattle.hg_instab.specs.Region.{IsOneNear, IsTouched, IsStartOf, IsStart, AreStarts};
 ghost use Rattle.hg_instab.specs.Walk.{Adds};
 
+use crate::among::{has, inside};
 use crate::divergence::is_fork;
-use crate::walk::{Way, reached};
+use crate::walk::{Way, add_all, reached};
 use hg_changeset::Node;
 use hg_marker::Marker;
 use hg_node_set::NodeSet;
@@ -31,12 +31,12 @@ pub(crate) fn region(
         region.keys) }
 {
     let starts = region_starts(alloc, replica, change, near)?;
-    region_from(replica, starts)
+    reached(replica.store(), Way::Both, starts)
 }
 
 // Where the region begins: at what those new markers rewrote that make a fork, or name an id that was near one; and at
 // what was added and was near one.
-pub(crate) fn region_starts(
+fn region_starts(
     alloc: Global,
     replica: &Replica,
     change: &Change,
@@ -46,17 +46,9 @@ pub(crate) fn region_starts(
 {
     let mut starts = NodeSet::with_keys(alloc, replica.keys());
     add_rewritten(replica.store(), &change.markers, near, &mut starts)?;
-    add_near(&change.added, near, &mut starts)?;
+    let added = inside(alloc, &change.added, near)?;
+    add_all(&mut starts, &added)?;
     Ok(starts)
-}
-
-// The region that begins so.
-pub(crate) fn region_from(replica: &Replica, starts: NodeSet) -> Result<NodeSet, AllocError>
-    ensures { IfOk result (λ region. (change : ChangeValue) (near : List Node)
-        → AreStarts replica.now.markers change near starts.keys
-        → IsRegion (content_of replica.now) change replica.now.markers near region.keys) }
-{
-    reached(replica.store(), Way::Both, starts)
 }
 
 // Adds the predecessors of those markers at the places that make a fork, or name an id that was near one.
@@ -101,30 +93,11 @@ fn is_touched(store: &Store, marker: &Marker, near: &BTreeSet<Node>) -> bool
 pub(crate) fn names_near(marker: &Marker, near: &BTreeSet<Node>) -> bool
     ensures { IsTrue result ↔ IsOneNear (IsNamed marker.now) near.now.keys }
 {
-    is_near(marker.predecessor(), near) || is_one_near(marker.successors(), near)
+    has(near, marker.predecessor()) || is_one_near(marker.successors(), near)
 }
 
 fn is_one_near(nodes: &[Node], near: &BTreeSet<Node>) -> bool
     ensures { IsTrue result ↔ IsOneNear (Contains nodes.now) near.now.keys }
 {
     nodes.iter().any(|node| near.contains(node))
-}
-
-pub(crate) fn is_near(node: Node, near: &BTreeSet<Node>) -> bool
-    ensures { IsTrue result ↔ Contains near.now.keys node }
-{
-    near.contains(&node)
-}
-
-// Adds those of the nodes that were near forks.
-fn add_near(nodes: &[Node], near: &BTreeSet<Node>, starts: &mut NodeSet) -> Result<(), AllocError>
-    ensures { OnOk result (Adds (λ n. Contains nodes.now n × Contains near.now.keys n) starts.old.keys
-        starts.new.keys) }
-{
-    for node in nodes {
-        if is_near(*node, near) {
-            starts.insert(*node)?;
-        }
-    }
-    Ok(())
 }

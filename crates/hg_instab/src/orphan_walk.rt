@@ -12,7 +12,6 @@ ghost use Rattle.hg_replica.specs.Evolution.{IsObsolete, IsOrphan};
 ghost use Rattle.hg_instab.specs.Changed.{Follows, IsSeed, IsNow};
 ghost use Rattle.hg_instab.specs.Local.{IsParentOf, StandsUnstably};
 
-use crate::few::Few;
 use crate::holders::Holders;
 use crate::query::{is_current, is_obsolete_at};
 use crate::settling::{Kind, settle_all};
@@ -31,7 +30,7 @@ pub(crate) fn turned_orphans(
     orphan: &BTreeSet<Node>,
     seeds: &[Node],
     turned_obsolete: &[Node],
-) -> Result<Few, AllocError>
+) -> Result<BTreeSet<Node>, AllocError>
     ensures { IfOk result (λ turned. (s : ReplicaState) (change : ChangeValue) → IsValid s
         → Follows (content_of s) (content_of replica.now) change replica.now.markers
         → ((n : Node) → IsSeed replica.now.markers change n → Contains seeds.now n)
@@ -58,7 +57,7 @@ pub(crate) fn turned_orphans(
 pub(crate) fn is_orphan_now(
     replica: &Replica,
     orphan: &BTreeSet<Node>,
-    turned: &Few,
+    turned: &BTreeSet<Node>,
     place: usize,
     node: Node,
 ) -> bool
@@ -73,7 +72,7 @@ pub(crate) fn is_orphan_now(
 pub(crate) fn stands_on_unstable(
     replica: &Replica,
     orphan: &BTreeSet<Node>,
-    turned: &Few,
+    turned: &BTreeSet<Node>,
     place: usize,
     node: Node,
 ) -> bool
@@ -90,7 +89,7 @@ pub(crate) fn stands_on_unstable(
 fn is_unstable_at(
     replica: &Replica,
     orphan: &BTreeSet<Node>,
-    turned: &Few,
+    turned: &BTreeSet<Node>,
     place: Option<usize>,
 ) -> bool
     ensures { IsTrue result

@@ -9,7 +9,7 @@ ghost use Rattle.hg_replica.specs.Evolution.{HasPhase, IsMutable, IsPredecessor,
 
 use hg_changeset::Node;
 use hg_phases::Phase;
-use hg_replica::{Hint, Replica};
+use hg_replica::Replica;
 
 /// Whether a changeset is held with this phase.
 pub fn has_phase(replica: &Replica, node: Node, phase: Phase) -> bool
@@ -36,8 +36,7 @@ pub fn has_phase_at(replica: &Replica, place: usize, phase: Phase) -> bool
     ensures { (n : Node) → IsAt (changesets replica.now.history) n place
         → (IsTrue result ↔ HasPhase (content_of replica.now) n phase) }
 {
-    // It says that the replica is in a valid state.
-    let _graph = replica.graph();
+    replica.is_valid();
     match replica.phase_at(place) {
         Some(its) => is_same(its, phase),
         None => false,
@@ -50,8 +49,7 @@ fn is_same(its: Phase, phase: Phase) -> bool
     its == phase
 }
 
-/// Whether the changeset at a place of the graph is obsolete. It takes no look-up by a hash, unless it isn't public and
-/// no marker names it.
+/// Whether the changeset at a place of the graph is obsolete. It takes no look-up where it is public.
 #[inline(always)]
 pub fn is_obsolete_at(replica: &Replica, place: usize) -> bool
     ensures { (n : Node) → IsAt (changesets replica.now.history) n place
@@ -59,8 +57,7 @@ pub fn is_obsolete_at(replica: &Replica, place: usize) -> bool
 {
     match replica.graph().node_at(place) {
         Some(node) => {
-            !has_phase_at(replica, place, Phase::Public)
-                && is_predecessor_near(replica, node, replica.hint_at(place))
+            !has_phase_at(replica, place, Phase::Public) && is_predecessor(replica, node)
         }
         None => false,
     }
@@ -84,17 +81,10 @@ pub fn is_mutable(replica: &Replica, node: Node) -> bool
 }
 
 // Whether some marker has it as its predecessor.
-fn is_predecessor(replica: &Replica, node: Node) -> bool
+pub(crate) fn is_predecessor(replica: &Replica, node: Node) -> bool
     ensures { IsTrue result ↔ IsPredecessor (content_of replica.now) node }
 {
-    is_predecessor_near(replica, node, Hint::NOWHERE)
-}
-
-// The same, and sooner where the hint is of this node.
-pub(crate) fn is_predecessor_near(replica: &Replica, node: Node, hint: Hint) -> bool
-    ensures { IsTrue result ↔ IsPredecessor (content_of replica.now) node }
-{
-    let mentions = replica.store().mentions_near(node, hint);
+    let mentions = replica.store().mentions(node);
     !mentions.as_predecessor().is_empty()
 }
 

@@ -12,7 +12,6 @@ ghost use Rattle.hg_instab.specs.Changed.{IsNow};
 ghost use Rattle.hg_instab.specs.Settling.{IsTold, beside_of, TakesNext, IsSettling, SettlesAt};
 
 use crate::extinct_walk::is_extinct_now;
-use crate::few::Few;
 use crate::holders::Holders;
 use crate::orphan_walk::is_orphan_now;
 use crate::turned::{has_now, turn};
@@ -37,16 +36,15 @@ pub(crate) fn settle_all(
     set: &BTreeSet<Node>,
     holders: &mut Holders,
     starts: BTreeSet<usize>,
-) -> Result<Few, AllocError>
+) -> Result<BTreeSet<Node>, AllocError>
     requires { (k : ℕ) → Contains starts.keys k → k < length (changesets replica.now.history) }
     ensures { IfOk result (λ turned. IsSettling (changesets replica.now.history)
         (IsTold kind (content_of replica.now)) set.now.keys starts.keys turned.keys []) }
 {
-    let mut turned = Few::new();
+    let mut turned = BTreeSet::new(alloc);
     let mut waiting = starts;
     while let Some(place) = take_next(kind, &mut waiting) {
         settle_at(
-            alloc,
             replica,
             kind,
             set,
@@ -72,12 +70,11 @@ fn take_next(kind: Kind, waiting: &mut BTreeSet<usize>) -> Option<usize>
 
 // Asks at one place. Where the answer turned those wait to whom it tells something.
 fn settle_at(
-    alloc: Global,
     replica: &Replica,
     kind: Kind,
     set: &BTreeSet<Node>,
     holders: &mut Holders,
-    turned: &mut Few,
+    turned: &mut BTreeSet<Node>,
     waiting: &mut BTreeSet<usize>,
     place: usize,
 ) -> Result<(), AllocError>
@@ -94,7 +91,7 @@ fn settle_at(
             {
                 return Ok(());
             }
-            turn(alloc, turned, node)?;
+            turn(turned, node)?;
             wait_beside_place(graph, place, asked_beside(kind), waiting)
         }
         None => Ok(()),
@@ -107,7 +104,7 @@ fn is_so_now(
     kind: Kind,
     set: &BTreeSet<Node>,
     holders: &mut Holders,
-    turned: &Few,
+    turned: &BTreeSet<Node>,
     place: usize,
     node: Node,
 ) -> bool

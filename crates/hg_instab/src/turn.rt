@@ -6,11 +6,10 @@ ghost use Rattle.std.specs.Prelude.{◌≡◌, ◌↔◌, ◌⊎◌, List, Conta
 ghost use Rattle.std.specs.List.Sorted.{IsStrictlySortedBy};
 ghost use Rattle.hg_changeset.specs.declared.node.Node.{Node};
 ghost use Rattle.hg_changeset.specs.Node.{node_cmp};
-ghost use Rattle.hg_instab.specs.Calm.{IsGrowth, IsRest};
 ghost use Rattle.hg_instab.specs.Changed.{IsNow};
-ghost use Rattle.hg_instab.specs.Turns.{IsTurn, IsThen, IsStage, HasCome, HasPut};
+ghost use Rattle.hg_instab.specs.Turns.{IsTurn, IsThen, IsGrowth, IsStage, HasCome, HasPut};
 
-use crate::among::{among, has, inside, is_missing, outside, set_of};
+use crate::among::{among, has, inside, is_missing, list_of, outside, set_of};
 use hg_changeset::Node;
 use std::alloc::{AllocError, Global};
 use std::collections::BTreeSet;
@@ -44,13 +43,15 @@ impl Turn {
     pub(crate) fn of(
         alloc: Global,
         set: &BTreeSet<Node>,
-        turned: &[Node],
+        turned: &BTreeSet<Node>,
     ) -> Result<Turn, AllocError>
         ensures turn { IfOk result (IsTurn set.now.keys) }
-        ensures then { IfOk result (λ turn. (n : Node) → IsThen set.now.keys turn n ↔ IsNow set.now.keys turned.now n) }
+        ensures then { IfOk result (λ turn. (n : Node) → IsThen set.now.keys turn n
+            ↔ IsNow set.now.keys turned.now.keys n) }
     {
-        let come = outside(alloc, turned, set)?;
-        let gone = inside(alloc, turned, set)?;
+        let nodes = list_of(alloc, turned)?;
+        let come = outside(alloc, &nodes, set)?;
+        let gone = inside(alloc, &nodes, set)?;
         Ok(Turn { come, gone })
     }
 
@@ -68,29 +69,6 @@ impl Turn {
             come,
             gone: Vec::new(alloc),
         })
-    }
-
-    // All of the nodes come, and nothing goes.
-    pub(crate) fn coming(alloc: Global, nodes: Vec<Node>) -> Turn
-        ensures turn { (set : List Node) → ((n : Node) → Contains nodes.items n → ¬ (Contains set n))
-            → IsTurn set result }
-        ensures then { (set : List Node) → IsGrowth set result (Contains nodes.items) }
-    {
-        Turn {
-            come: nodes,
-            gone: Vec::new(alloc),
-        }
-    }
-
-    // Nothing comes, and nothing goes.
-    pub(crate) fn none(alloc: Global) -> Turn
-        ensures turn { (set : List Node) → IsTurn set result }
-        ensures then { (set : List Node) → IsRest set result }
-    {
-        Turn {
-            come: Vec::new(alloc),
-            gone: Vec::new(alloc),
-        }
     }
 
     // All that comes and all that goes.
@@ -155,13 +133,19 @@ fn goes(set: &BTreeSet<Node>, now: &BTreeSet<Node>, node: Node) -> bool
     has(set, node) && is_missing(now, node)
 }
 
+// It says that the set is in order.
+fn is_in_order(set: &BTreeSet<Node>)
+    ensures { IsStrictlySortedBy node_cmp set.now.keys }
+{
+    let _len = set.len();
+}
+
 // Inserts the nodes. Where memory is refused, some of them may be there.
 fn insert_all(set: &mut BTreeSet<Node>, nodes: &[Node]) -> Result<(), AllocError>
     ensures stage { IsStage nodes.now set.old.keys set.new.keys }
     ensures all { OnOk result ((n : Node) → Contains nodes.now n → Contains set.new.keys n) }
 {
-    // It says that the set is in order.
-    let _len = set.len();
+    is_in_order(set);
     for node in nodes {
         set.insert(*node)?;
     }
@@ -173,8 +157,7 @@ pub(crate) fn put(set: &mut BTreeSet<Node>, node: Node) -> Result<bool, AllocErr
     ensures ok { IfOk result (λ came. HasPut node came set.old.keys set.new.keys) }
     ensures unchanged { OnErr result (set.new.keys ≡ set.old.keys) }
 {
-    // It says that the set is in order.
-    let _len = set.len();
+    is_in_order(set);
     let came = set.insert(node)?;
     Ok(came)
 }
@@ -195,8 +178,7 @@ fn remove_all(set: &mut BTreeSet<Node>, nodes: &[Node])
     ensures members { (n : Node) → Contains set.new.keys n
         ↔ (Contains set.old.keys n × ¬ (Contains nodes.now n)) }
 {
-    // It says that the set is in order.
-    let _len = set.len();
+    is_in_order(set);
     for node in nodes {
         set.remove(node);
     }

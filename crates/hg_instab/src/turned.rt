@@ -3,28 +3,29 @@ ghost use Rattle.std.specs.Prelude.{◌↔◌, IsTrue, OnOk};
 ghost use Rattle.hg_instab.specs.Changed.{IsNow};
 ghost use Rattle.hg_instab.specs.Settling.{IsTurned};
 
-use crate::few::Few;
+use crate::among::{has, is_missing};
+use crate::turn::put;
 use hg_changeset::Node;
-use std::alloc::{AllocError, Global};
+use std::alloc::AllocError;
 use std::collections::BTreeSet;
 
 // Whether the node is in the set now.
-pub(crate) fn has_now(set: &BTreeSet<Node>, turned: &Few, node: Node) -> bool
+pub(crate) fn has_now(set: &BTreeSet<Node>, turned: &BTreeSet<Node>, node: Node) -> bool
     ensures { IsTrue result ↔ IsNow set.now.keys turned.now.keys node }
 {
-    if set.contains(&node) {
-        !turned.contains(node)
+    if has(set, node) {
+        is_missing(turned, node)
     } else {
-        turned.contains(node)
+        has(turned, node)
     }
 }
 
 // Turns the node. One that was turned is as it was again.
-pub(crate) fn turn(alloc: Global, turned: &mut Few, node: Node) -> Result<(), AllocError>
+pub(crate) fn turn(turned: &mut BTreeSet<Node>, node: Node) -> Result<(), AllocError>
     ensures { OnOk result (IsTurned node turned.old.keys turned.new.keys) }
 {
-    if !turned.insert(alloc, node)? {
-        turned.remove(node);
+    if !put(turned, node)? {
+        turned.remove(&node);
     }
     Ok(())
 }

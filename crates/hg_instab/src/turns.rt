@@ -7,23 +7,21 @@ ghost use Rattle.hg_replica.specs.Content.{Content, content_of};
 ghost use Rattle.hg_replica.specs.Evolution.{IsObsolete, IsCurrent, IsOrphan, IsSuspended, IsExtinct, IsPhaseDivergent};
 ghost use Rattle.hg_instab.specs.Changed.{Follows, IsChangedTo, IsSeed, IsNow};
 ghost use Rattle.hg_instab.specs.Instabilities.{AreInstabilities, IsContentDivergent};
-ghost use Rattle.hg_instab.specs.Near.{IsAfterPublic, IsClosed};
-ghost use Rattle.hg_instab.specs.Region.{AreStarts};
+ghost use Rattle.hg_instab.specs.Near.{IsClosed};
 ghost use Rattle.hg_instab.specs.Turns.{AreTurns, AreTold, IsTurn, IsThen, IsTold, MayTurn};
 ghost use Rattle.hg_instab.specs.Turns.{AreDivergenceTurns, IsDivergenceTold};
 
 use crate::after_public::newly_after_public;
 use crate::amend::{amend_of, turns_by_amend};
-use crate::among::{among, has, obsolete_among, set_of};
-use crate::calm::{are_calm, calm_turning, retired_among, stranded_among};
+use crate::among::{among, has, list_of, obsolete_among, set_of};
 use crate::divergence::divergent_within;
 use crate::extinct_walk::turned_extinct;
-use crate::few::Few;
 use crate::holders::Holders;
 use crate::instabilities::Instabilities;
-use crate::near::{region_from, region_starts};
+use crate::near::region;
 use crate::orphan_walk::turned_orphans;
 use crate::query::{is_current, is_obsolete};
+use crate::quick::quick_turning;
 use crate::seeds::seeds;
 use crate::turn::Turn;
 use crate::turned::has_now;
@@ -65,13 +63,14 @@ pub(crate) enum Turning {
     // Nothing.
     Nothing,
     // This node becomes obsolete and extinct, and nothing else turns.
-    Retired(Node),
+    NewlyExtinct(Node),
     // All that is told here.
     All(Turns),
 }
 
 impl Turning {
-    // What a change turns in the sets, which were those before it.
+    // What a change turns in the sets, which were those before it: by a few look-ups where these tell, and else by
+    // asking again whatever can have turned.
     pub(crate) fn of(
         alloc: Global,
         sets: &Instabilities,
@@ -83,20 +82,13 @@ impl Turning {
         ensures told { IfOk result (λ turning. (s : ReplicaState) → IsChangedTo s change.now replica.now
             → AreInstabilities (content_of s) sets.now → IsTold (content_of replica.now) sets.now turning) }
     {
-        // It says that the replica is in a valid state.
-        let _graph = replica.graph();
-        let seeds = seeds(alloc, replica, change)?;
-        let met = newly_after_public(alloc, replica, change, sets.after_public())?;
-        let starts = region_starts(alloc, replica, change, sets.near_forks())?;
-        if met.len() == 0 && starts.len() == 0 {
-            let retired = retired_among(alloc, replica, sets.extinct(), &seeds)?;
-            let stranded = stranded_among(alloc, replica, sets, &retired, &seeds)?;
-            if are_calm(replica, sets, holders, &retired, &stranded, &seeds) {
-                return calm_turning(alloc, sets, &retired, &stranded);
+        match quick_turning(sets, replica, change) {
+            Some(turning) => Ok(turning),
+            None => {
+                let turns = Turns::asked(alloc, sets, holders, replica, change)?;
+                Ok(Turning::All(turns))
             }
         }
-        let turns = Turns::asked(alloc, sets, holders, replica, change, &seeds, &met, starts)?;
-        Ok(Turning::All(turns))
     }
 }
 
@@ -108,28 +100,25 @@ impl Turns {
         holders: &mut Holders,
         replica: &Replica,
         change: &Change,
-        seeds: &[Node],
-        met: &NodeSet,
-        starts: NodeSet,
     ) -> Result<Turns, AllocError>
         ensures turns { IfOk result (AreTurns sets.now) }
-        ensures told { IfOk result (λ turns. (s : ReplicaState) → IsValid replica.now
-            → IsChangedTo s change.now replica.now → AreInstabilities (content_of s) sets.now
-            → ((n : Node) → IsSeed replica.now.markers change.now n → Contains seeds.now n)
-            → ((n : Node) → IsAfterPublic (content_of replica.now) n
-            ↔ (Contains sets.now.after_public n ⊎ Contains met.now.keys n))
-            → AreStarts replica.now.markers change.now sets.now.near_forks starts.keys
-            → AreTold (content_of replica.now) sets.now turns) }
+        ensures told { IfOk result (λ turns. (s : ReplicaState) → IsChangedTo s change.now replica.now
+            → AreInstabilities (content_of s) sets.now → AreTold (content_of replica.now) sets.now turns) }
     {
+        replica.is_valid();
+        let touched = seeds(alloc, replica, change)?;
+        let seeds = touched.as_slice();
+        let met = newly_after_public(alloc, replica, change, sets.after_public())?;
         let obsolete = obsolete_turn(alloc, replica, sets.obsolete(), seeds)?;
         let orphan = orphan_turn(alloc, replica, sets.orphan(), seeds, &obsolete)?;
         let held = turned_extinct(alloc, replica, sets.extinct(), holders, seeds)?;
-        let extinct = turn_of_set(alloc, sets.extinct(), &held)?;
+        let extinct = Turn::of(alloc, sets.extinct(), &held)?;
         let suspended = suspended_turn(alloc, replica, sets, seeds, &held)?;
-        let phase_divergent = phase_turn(alloc, replica, sets, seeds, met)?;
+        let phase_divergent = phase_turn(alloc, replica, sets, seeds, &met)?;
         let (content_divergent, near_forks) = divergence_turns(
-            alloc, replica, change, sets, seeds, starts,
+            alloc, replica, change, sets, seeds,
         )?;
+        let new = list_of(alloc, &met)?;
         Ok(Turns {
             obsolete,
             orphan,
@@ -137,7 +126,7 @@ impl Turns {
             extinct,
             phase_divergent,
             content_divergent,
-            after_public: Turn::growing(alloc, sets.after_public(), met.as_slice())?,
+            after_public: Turn::growing(alloc, sets.after_public(), &new)?,
             near_forks,
         })
     }
@@ -179,7 +168,7 @@ fn orphan_turn(
 {
     let turned = obsolete.nodes(alloc)?;
     let turned = turned_orphans(alloc, replica, set, seeds, &turned)?;
-    turn_of_set(alloc, set, &turned)
+    Turn::of(alloc, set, &turned)
 }
 
 // The suspended changesets: those of the seeds, and those that turned extinct or no longer are, are asked again.
@@ -188,7 +177,7 @@ fn suspended_turn(
     replica: &Replica,
     sets: &Instabilities,
     seeds: &[Node],
-    turned: &Few,
+    turned: &BTreeSet<Node>,
 ) -> Result<Turn, AllocError>
     ensures turn { IfOk result (IsTurn sets.now.suspended) }
     ensures told { IfOk result (λ turn. (f : Content)
@@ -198,7 +187,7 @@ fn suspended_turn(
         → (n : Node) → IsThen sets.now.suspended turn n
         ↔ (IsObsolete (content_of replica.now) n × ¬ (IsNow sets.now.extinct turned.now.keys n))) }
 {
-    let mut nodes = turned.list(alloc)?;
+    let mut nodes = list_of(alloc, turned)?;
     nodes.extend_from_slice(seeds)?;
     let now = still_kept(alloc, replica, sets.extinct(), turned, &nodes)?;
     Turn::to(alloc, sets.suspended(), &nodes, now)
@@ -209,7 +198,7 @@ fn still_kept(
     alloc: Global,
     replica: &Replica,
     extinct: &BTreeSet<Node>,
-    turned: &Few,
+    turned: &BTreeSet<Node>,
     nodes: &[Node],
 ) -> Result<Vec<Node>, AllocError>
     ensures { IfOk result (λ found. (n : Node) → Contains found.items n ↔ (Contains nodes.now n
@@ -225,7 +214,7 @@ fn still_kept(
     )
 }
 
-fn is_kept(replica: &Replica, extinct: &BTreeSet<Node>, turned: &Few, node: Node) -> bool
+fn is_kept(replica: &Replica, extinct: &BTreeSet<Node>, turned: &BTreeSet<Node>, node: Node) -> bool
     ensures { IsTrue result ↔ (IsObsolete (content_of replica.now) node
         × ¬ (IsNow extinct.now.keys turned.now.keys node)) }
 {
@@ -238,7 +227,7 @@ fn phase_turn(
     replica: &Replica,
     sets: &Instabilities,
     seeds: &[Node],
-    met: &NodeSet,
+    met: &BTreeSet<Node>,
 ) -> Result<Turn, AllocError>
     ensures turn { IfOk result (IsTurn sets.now.phase_divergent) }
     ensures told { IfOk result (λ turn. (f : Content)
@@ -248,7 +237,7 @@ fn phase_turn(
         → (n : Node) → IsThen sets.now.phase_divergent turn n ↔ (IsCurrent (content_of replica.now) n
         × (Contains sets.now.after_public n ⊎ Contains met.now.keys n))) }
 {
-    let mut nodes = met.as_slice().to_vec(alloc)?;
+    let mut nodes = list_of(alloc, met)?;
     nodes.extend_from_slice(seeds)?;
     let now = current_after(alloc, replica, sets.after_public(), met, &nodes)?;
     Turn::to(alloc, sets.phase_divergent(), &nodes, now)
@@ -259,7 +248,7 @@ fn current_after(
     alloc: Global,
     replica: &Replica,
     after_public: &BTreeSet<Node>,
-    met: &NodeSet,
+    met: &BTreeSet<Node>,
     nodes: &[Node],
 ) -> Result<Vec<Node>, AllocError>
     ensures { IfOk result (λ found. (n : Node) → Contains found.items n ↔ (Contains nodes.now n
@@ -278,34 +267,33 @@ fn current_after(
 fn is_current_after(
     replica: &Replica,
     after_public: &BTreeSet<Node>,
-    met: &NodeSet,
+    met: &BTreeSet<Node>,
     node: Node,
 ) -> bool
     ensures { IsTrue result ↔ (IsCurrent (content_of replica.now) node
         × (Contains after_public.now.keys node ⊎ Contains met.now.keys node)) }
 {
-    is_current(replica, node) && (has(after_public, node) || has_met(met, node))
+    is_current(replica, node) && (has(after_public, node) || has(met, node))
 }
 
-// The content-divergent changesets, and the ids near forks: an amend turns two ids, and any other change the region
-// that begins so.
+// The content-divergent changesets, and the ids near forks: an amend turns two ids, and any other change a region of
+// them.
 fn divergence_turns(
     alloc: Global,
     replica: &Replica,
     change: &Change,
     sets: &Instabilities,
     seeds: &[Node],
-    starts: NodeSet,
 ) -> Result<(Turn, Turn), AllocError>
     ensures turns { IfOk result (AreDivergenceTurns sets.now) }
     ensures told { IfOk result (λ turns. (s : ReplicaState) → IsValid replica.now
         → IsChangedTo s change.now replica.now → ((n : Node) → IsSeed replica.now.markers change.now n
-        → Contains seeds.now n) → AreStarts replica.now.markers change.now sets.now.near_forks starts.keys
-        → AreInstabilities (content_of s) sets.now → IsDivergenceTold (content_of replica.now) sets.now turns) }
+        → Contains seeds.now n) → AreInstabilities (content_of s) sets.now
+        → IsDivergenceTold (content_of replica.now) sets.now turns) }
 {
     match amend_of(replica, change, sets.near_forks()) {
         Some(amend) => turns_by_amend(alloc, replica, sets, amend),
-        None => turns_by_region(alloc, replica, sets, seeds, starts),
+        None => turns_by_region(alloc, replica, change, sets, seeds),
     }
 }
 
@@ -313,17 +301,17 @@ fn divergence_turns(
 fn turns_by_region(
     alloc: Global,
     replica: &Replica,
+    change: &Change,
     sets: &Instabilities,
     seeds: &[Node],
-    starts: NodeSet,
 ) -> Result<(Turn, Turn), AllocError>
     ensures turns { IfOk result (AreDivergenceTurns sets.now) }
-    ensures told { IfOk result (λ turns. (s : ReplicaState) (change : ChangeValue) → IsValid replica.now
-        → IsChangedTo s change replica.now → ((n : Node) → IsSeed replica.now.markers change n
-        → Contains seeds.now n) → AreStarts replica.now.markers change sets.now.near_forks starts.keys
-        → AreInstabilities (content_of s) sets.now → IsDivergenceTold (content_of replica.now) sets.now turns) }
+    ensures told { IfOk result (λ turns. (s : ReplicaState) → IsValid replica.now
+        → IsChangedTo s change.now replica.now → ((n : Node) → IsSeed replica.now.markers change.now n
+        → Contains seeds.now n) → AreInstabilities (content_of s) sets.now
+        → IsDivergenceTold (content_of replica.now) sets.now turns) }
 {
-    let region = region_from(replica, starts)?;
+    let region = region(alloc, replica, change, sets.near_forks())?;
     let content_divergent = content_turn(alloc, replica, sets, seeds, &region)?;
     let near_forks = Turn::growing(alloc, sets.near_forks(), region.as_slice())?;
     Ok((content_divergent, near_forks))
@@ -400,16 +388,6 @@ fn is_divergent_now(
         return has(found, node);
     }
     has(set, node) && is_current(replica, node)
-}
-
-// The turn of those that a walk found to turn.
-fn turn_of_set(alloc: Global, set: &BTreeSet<Node>, turned: &Few) -> Result<Turn, AllocError>
-    ensures turn { IfOk result (IsTurn set.now.keys) }
-    ensures told { IfOk result (λ turn. (n : Node) → IsThen set.now.keys turn n
-        ↔ IsNow set.now.keys turned.now.keys n) }
-{
-    let turned = turned.list(alloc)?;
-    Turn::of(alloc, set, &turned)
 }
 
 fn has_met(met: &NodeSet, node: Node) -> bool

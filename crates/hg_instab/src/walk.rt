@@ -127,7 +127,7 @@ fn is_bumped_fix(marker: &Marker) -> bool
 }
 
 // Adds the nodes.
-fn add_all(seen: &mut NodeSet, nodes: &[Node]) -> Result<(), AllocError>
+pub(crate) fn add_all(seen: &mut NodeSet, nodes: &[Node]) -> Result<(), AllocError>
     ensures { OnOk result (Adds (Contains nodes.now) seen.old.keys seen.new.keys) }
 {
     for node in nodes {

@@ -5,12 +5,12 @@ use Rattle.hg_instab.proofs.AfterPublicLemmas.{next-beyond}
 use Rattle.hg_instab.proofs.WalkLemmas.{adds-nothing, adds-same}
 use Rattle.hg_instab.proofs.after_public.add_beyond.Goals as goal
 
-pub returns-then-is_known : goal.returns-then-is_known
-returns-then-is_known c =
+pub returns-then-has : goal.returns-then-has
+returns-then-has c =
     let known = c.args.known.now.keys in
     adds-nothing (IsRewrittenBeyond known c.args.store.now c.args.node) c.args.seen.now.keys
     (λ n h. absurd (((next-beyond known c.args.store.now c.args.node n).0 h).0
-    (c.is_known.ensures.0 c.if-is_known.true)))
+    (c.has.ensures.0 c.if-has.true)))
 
 pub returns : goal.returns
 returns c =
@@ -23,6 +23,6 @@ returns c =
     (λ n. (
       λ h. ((next-beyond known ms node n).0 h).1,
       λ h. (next-beyond known ms node n).1
-          (λ at. true≢false (sym (c.is_known.ensures.1 at) ∙ c.if-is_known.false), h),
+          (λ at. true≢false (sym (c.has.ensures.1 at) ∙ c.if-has.false), h),
     )) adds)
     c.add_successors.ensures

@@ -10,7 +10,7 @@ returns-then-is_obsolete c t =
     let alone = subst (λ (ms : List Fields). (¬ (IsFork ms amend.from)) × IsNamedOnce ms amend.to) c.store.ensures
     (c.is_alone.ensures t) in
     record {
-      close = c.is_near.ensures.0 c.if-is_near.true;
+      close = c.has.ensures.0 c.if-has.true;
       obsolete = c.is_obsolete.ensures.0 c.if-is_obsolete.true;
       once = alone.0;
       named = alone.1;

@@ -1,4 +1,4 @@
-use Rattle.std.proofs.Common.{◌↔◌, inl, inr, List, Contains, sym, subst, ◌∙◌}
+use Rattle.std.proofs.Common.{◌↔◌, inl, inr, List, Contains, sym, subst}
 use Rattle.std.proofs.lemmas.Result.{IfOk-weaker}
 use Rattle.hg_changeset.specs.declared.node.Node.{Node}
 use Rattle.hg_changeset.proofs.ListLemmas.{Contains-none}
@@ -10,7 +10,7 @@ use Rattle.hg_instab.proofs.first.after_public_ids.Goals as goal
 pub returns : goal.returns
 returns c =
     let t = c.args.replica.now in
-    let exact = c.in_ok-met.ensures.exact (unmarked t) c.graph-graph.ensures.valid
+    let exact = c.in_ok-met.ensures (unmarked t) c.is_valid.ensures
     (first-follows t c.in_ok-change.change c.in_ok-change.ensures.markers)
     (none-after t c.new.result.keys c.new.ensures.empty) in
     let met : (n : Node) → Contains c.in_ok-met.met.keys n ↔ IsAfterPublic (content_of t) n = λ n. (
@@ -20,6 +20,5 @@ returns c =
         | inr new ↦ new
       ],
     ) in
-    IfOk-weaker c.to_vec.result _ _ (λ ids is n.
-    subst (λ (xs : List Node). Contains xs n ↔ IsAfterPublic (content_of t) n)
-    (sym (is (λ x y e. e) ∙ c.as_slice.ensures.keys)) (met n)) c.to_vec.ensures.items_if_clones_equal
+    IfOk-weaker c.list_of.result _ _ (λ ids is n.
+    subst (λ (xs : List Node). Contains xs n ↔ IsAfterPublic (content_of t) n) (sym is) (met n)) c.list_of.ensures

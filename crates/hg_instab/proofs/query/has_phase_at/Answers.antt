@@ -11,7 +11,7 @@ returns-in-Some c = λ n at.
     let f = content_of s in
     let told = c.in-Some.ensures in
     let its : HasPhase f n c.in-Some.its = subst (HasPhase f n) told.2
-    (phase_there s c.graph-graph.ensures.valid c.args.place n at told.0 told.1) in (
+    (phase_there s c.is_valid.ensures c.args.place n at told.0 told.1) in (
       λ t. subst (HasPhase f n) (c.is_same.ensures.0 t) its,
       λ h. c.is_same.ensures.1 (one_phase f n c.in-Some.its c.args.phase its h),
     )
@@ -19,6 +19,6 @@ returns-in-Some c = λ n at.
 pub returns-in-None : goal.returns-in-None
 returns-in-None c = λ n at.
     let s = c.args.replica.now in
-    let h = held_there s c.graph-graph.ensures.valid c.args.place n at in
+    let h = held_there s c.is_valid.ensures c.args.place n at in
     let beyond = c.in-None.ensures in
     absurd (omega (arith, slice_get_within s.history.held c.args.place h.0 h.1, beyond))

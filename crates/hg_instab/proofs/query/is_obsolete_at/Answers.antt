@@ -18,9 +18,9 @@ returns-then-not-has_phase_at c = λ n at.
       λ t. (
         mutable_there s c.graph.ensures.valid c.args.place n at
             (λ public. true≢false (sym ((c.has_phase_at.ensures n at).1 public) ∙ c.if-not-has_phase_at.true)),
-        subst (IsPredecessor f) node (c.is_predecessor_near.ensures.0 t),
+        subst (IsPredecessor f) node (c.is_predecessor.ensures.0 t),
       ),
-      λ h. c.is_predecessor_near.ensures.1 (subst (IsPredecessor f) (sym node) h.1),
+      λ h. c.is_predecessor.ensures.1 (subst (IsPredecessor f) (sym node) h.1),
     )
 
 pub returns-else-not-has_phase_at : goal.returns-else-not-has_phase_at

@@ -11,7 +11,7 @@ pub loop-place-init : goal.loop-place-init
 loop-place-init c =
     let s = c.args.replica.now in
     settling-start (changesets s.history) (IsTold c.args.kind (content_of s)) c.args.set.now.keys c.args.starts.keys
-    (faithful c.args.kind (content_of s)) c.requires c.new-turned.result.keys c.new-turned.ensures
+    (faithful c.args.kind (content_of s)) c.requires c.new-turned.result.keys c.new-turned.ensures.empty
 
 pub loop-place-preserved : goal.loop-place-preserved
 loop-place-preserved c =

@@ -29,7 +29,7 @@ pub returns-in_err-insert-clause-stage : goal.returns-in_err-insert-clause-stage
 returns-in_err-insert-clause-stage c =
     let same : c.insert.new.self.keys ≡ c.loop-node.set.keys = c.in_err-insert.ensures.err in
     record {
-      ordered = λ _. c.len-len.ensures.ordered;
+      ordered = λ _. c.is_in_order.ensures;
       kept = λ n h. subst (λ ns. Contains ns n) (sym same) ((c.loop-node.invariant n).1 (inl h));
       from = λ n h. elim ((c.loop-node.invariant n).0 (subst (λ ns. Contains ns n) same h)) [
         | inl old ↦ inl old
@@ -39,7 +39,7 @@ returns-in_err-insert-clause-stage c =
 
 pub returns-clause-stage : goal.returns-clause-stage
 returns-clause-stage c = record {
-  ordered = λ _. c.len-len.ensures.ordered;
+  ordered = λ _. c.is_in_order.ensures;
   kept = λ n h. (c.loop-node.invariant n).1 (inl h);
   from = λ n h. elim ((c.loop-node.invariant n).0 h) [
     | inl old ↦ inl old

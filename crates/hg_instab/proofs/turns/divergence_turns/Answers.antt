@@ -15,9 +15,5 @@ returns-in-Some-clause-told c =
     c.amend_of.ensures in
     let plain : IsPlainAmend t change c.args.sets.now.near_forks c.in-Some.amend =
     subst (λ (o : Option Amend). IfSome o (IsPlainAmend t change c.args.sets.now.near_forks)) c.in-Some.is some in
-    IfOk-weaker c.turns_by_amend.result _ _ (λ turns told s v is seeded starts at. told s change v is plain at)
+    IfOk-weaker c.turns_by_amend.result _ _ (λ turns told s v is seeded at. told s change v is plain at)
     c.turns_by_amend.ensures.told
-
-pub returns-in-None-clause-told : goal.returns-in-None-clause-told
-returns-in-None-clause-told c = IfOk-weaker c.turns_by_region.result _ _
-    (λ turns told s v is seeded begun at. told s c.args.change.now v is seeded begun at) c.turns_by_region.ensures.told

@@ -5,7 +5,7 @@ use Rattle.hg_instab.proofs.SetLemmas.{along}
 use Rattle.hg_instab.proofs.turns.orphan_turn.Goals as goal
 
 pub returns-clause-told : goal.returns-clause-told
-returns-clause-told c = IfOk-weaker c.turn_of_set.result _ _
+returns-clause-told c = IfOk-weaker c.of.result _ _
     (λ turn then s change was v follows seeds was_obsolete is_obsolete orphans n. along (then n)
     (c.in_ok-turned-2.ensures s change v follows seeds
     (λ m not.
@@ -14,4 +14,4 @@ returns-clause-told c = IfOk-weaker c.turn_of_set.result _ _
       λ h. (was_obsolete m).0 (same.0 ((is_obsolete m).1 h)),
       λ h. (is_obsolete m).0 (same.1 ((was_obsolete m).1 h)),
     ))
-    orphans n)) c.turn_of_set.ensures.told
+    orphans n)) c.of.ensures.then

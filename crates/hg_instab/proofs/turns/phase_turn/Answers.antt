@@ -13,8 +13,7 @@ returns-clause-told c =
     let seeds = c.args.seeds.now in
     let after = c.args.sets.now.after_public in
     let Is : Node → Type 0 = λ n. IsCurrent g n × (Contains after n ⊎ Contains met n) in
-    let nodes : c.in_ok-nodes.nodes.items ≡ met =
-    c.in_ok-nodes.ensures.items_if_clones_equal (λ x y e. e) ∙ c.as_slice.ensures.keys in
+    let nodes : c.in_ok-nodes.nodes.items ≡ met = c.in_ok-nodes.ensures in
     let all : c.deref-2.result.now ≡ met ++ seeds =
     c.deref-2.ensures.value ∙ c.in_ok-extend_from_slice.ensures.items ∙ ap (λ xs. xs ++ seeds) nodes in
     let asked : (n : Node) → Contains c.in_ok-now.now.items n ↔ (Contains c.deref.result.now n × Is n) =

@@ -12,12 +12,13 @@ use Rattle.hg_instab.proofs.turns.turns_by_region.Goals as goal
 pub returns-clause-turns : goal.returns-clause-turns
 returns-clause-turns c = (
   c.in_ok-content_divergent.ensures.turn,
-  subst (λ (xs : List Node). IsTurn xs c.in_ok-near_forks.near_forks) c.near_forks.ensures
+  subst (λ (xs : List Node). IsTurn xs c.in_ok-near_forks.near_forks) c.near_forks-2.ensures
       c.in_ok-near_forks.ensures.turn,
 )
 
 pub returns-clause-told : goal.returns-clause-told
-returns-clause-told c s change valid is seeded begun at =
+returns-clause-told c s valid is seeded at =
+    let change = c.args.change.now in
     let t = c.args.replica.now in
     let f = content_of s in
     let g = content_of t in
@@ -25,7 +26,7 @@ returns-clause-told c s change valid is seeded begun at =
     let follows = changed-follows s t change valid is in
     let region = c.in_ok-region.region.keys in
     let near : IsRegion g change t.markers sets.near_forks region =
-    c.in_ok-region.ensures change sets.near_forks begun in
+    subst (λ (xs : List Node). IsRegion g change t.markers xs region) c.near_forks.ensures c.in_ok-region.ensures in
     record {
       content_divergent = c.in_ok-content_divergent.ensures.told f near.closed
           (outside-divergent f g change t.markers sets.near_forks region follows at.near_forks near)
@@ -33,7 +34,7 @@ returns-clause-told c s change valid is seeded begun at =
           at.content_divergent;
       near_forks = near-same g (λ n. Contains sets.near_forks n ⊎ Contains region n)
           (IsThen sets.near_forks c.in_ok-near_forks.near_forks)
-          (grown-to c.near_forks.result.now.keys sets.near_forks c.as_slice.result.now region
-          c.in_ok-near_forks.near_forks c.near_forks.ensures c.as_slice.ensures.keys c.in_ok-near_forks.ensures.then)
+          (grown-to c.near_forks-2.result.now.keys sets.near_forks c.as_slice.result.now region
+          c.in_ok-near_forks.near_forks c.near_forks-2.ensures c.as_slice.ensures.keys c.in_ok-near_forks.ensures.then)
           (near-after f g change t.markers sets.near_forks region follows at.near_forks near);
     }

@@ -1,9 +1,10 @@
-use Rattle.std.proofs.Common.{◌↔◌, List, Contains, subst}
+use Rattle.std.proofs.Common.{◌↔◌, ◌⊎◌, List, Contains, sym, subst, ◌∙◌}
 use Rattle.hg_changeset.specs.declared.node.Node.{Node}
 use Rattle.hg_obsstore.proofs.IndexLemmas.{among_or_not}
 use Rattle.hg_replica.specs.Content.{content_of}
 use Rattle.hg_replica.specs.Evolution.{IsObsolete, IsOrphan, IsExtinct, IsSuspended, IsCurrent}
-use Rattle.hg_instab.specs.Changed.{IsNow}
+use Rattle.hg_instab.specs.Changed.{IsNow, IsSeed}
+use Rattle.hg_instab.specs.Near.{IsAfterPublic}
 use Rattle.hg_instab.specs.Turns.{IsTurn, IsThen}
 use Rattle.hg_instab.proofs.ChangedLemmas.{obsolete-untouched, current-untouched}
 use Rattle.hg_instab.proofs.KeptLemmas.{changed-follows, now-or, suspended-told, both-same, set-along}
@@ -22,13 +23,14 @@ returns-clause-turns c = record {
       c.in_ok-extinct.ensures.turn;
   phase_divergent = c.in_ok-phase_divergent.ensures.turn;
   content_divergent = c.in_ok-content_divergent.ensures.turns.0;
-  after_public = subst (λ (xs : List Node). IsTurn xs c.in_ok-growing.field-0) c.after_public.ensures
+  after_public = subst (λ (xs : List Node). IsTurn xs c.in_ok-growing.field-0) c.after_public-2.ensures
       c.in_ok-growing.ensures.turn;
   near_forks = c.in_ok-content_divergent.ensures.turns.1;
 }
 
 pub returns-clause-told : goal.returns-clause-told
-returns-clause-told c s valid is at seeded after begun =
+returns-clause-told c s is at =
+    let valid = c.is_valid.ensures in
     let t = c.args.replica.now in
     let f = content_of s in
     let g = content_of t in
@@ -36,10 +38,19 @@ returns-clause-told c s valid is at seeded after begun =
     let sets = c.args.sets.now in
     let follows = changed-follows s t change valid is in
     let held = c.in_ok-held.held.keys in
-    let met = c.args.met.now.keys in
-    let obsolete-as : (n : Node) → ¬ (Contains c.args.seeds.now n) → IsObsolete g n ↔ IsObsolete f n =
+    let met = c.in_ok-met.met.keys in
+    let seeds = c.as_slice-seeds.result.now in
+    let seeded : (n : Node) → IsSeed t.markers change n → Contains seeds n =
+    λ n h. subst (λ (xs : List Node). Contains xs n) (sym c.as_slice-seeds.ensures.value)
+    ((c.in_ok-touched.ensures n).1 h) in
+    let after : (n : Node) → IsAfterPublic g n ↔ (Contains sets.after_public n ⊎ Contains met n) =
+    λ n. subst (λ (xs : List Node). IsAfterPublic g n ↔ (Contains xs n ⊎ Contains met n)) c.after_public.ensures
+    (c.in_ok-met.ensures s is.valid follows
+    (set-along c.after_public.result.now.keys sets.after_public (IsAfterPublic f) c.after_public.ensures
+    at.after_public) n) in
+    let obsolete-as : (n : Node) → ¬ (Contains seeds n) → IsObsolete g n ↔ IsObsolete f n =
     λ n not. obsolete-untouched f g change t.markers follows n (λ h. not (seeded n h)) in
-    let current-as : (n : Node) → ¬ (Contains c.args.seeds.now n) → IsCurrent g n ↔ IsCurrent f n =
+    let current-as : (n : Node) → ¬ (Contains seeds n) → IsCurrent g n ↔ IsCurrent f n =
     λ n not. current-untouched f g change t.markers follows n (λ h. not (seeded n h)) in
     let obsolete : (n : Node) → IsThen sets.obsolete c.in_ok-obsolete.obsolete n ↔ IsObsolete g n =
     then-along c.obsolete.result.now.keys sets.obsolete c.in_ok-obsolete.obsolete (IsObsolete g) c.obsolete.ensures
@@ -55,13 +66,13 @@ returns-clause-told c s valid is at seeded after begun =
     (set-along c.extinct.result.now.keys sets.extinct (IsExtinct f) c.extinct.ensures at.extinct) n) in
     let extinct : (n : Node) → IsThen sets.extinct c.in_ok-extinct.extinct n ↔ IsExtinct g n =
     λ n. along (subst (λ (xs : List Node). IsThen xs c.in_ok-extinct.extinct n ↔ IsNow xs held n) c.extinct-2.ensures
-    (c.in_ok-extinct.ensures.told n)) (extinct_now n) in
+    (c.in_ok-extinct.ensures.then n)) (extinct_now n) in
     let suspended : (n : Node) → IsThen sets.suspended c.in_ok-suspended.suspended n ↔ IsSuspended g n =
     λ n. along (c.in_ok-suspended.ensures.told f obsolete-as
     (λ m. along (at.suspended m)
     (suspended-told s is.valid (Contains sets.extinct) (among_or_not sets.extinct) at.extinct m)) n)
     (flip (suspended-told t valid (IsNow sets.extinct held) (now-or sets.extinct held) extinct_now n)) in
-    let divergence = c.in_ok-content_divergent.ensures.told s valid is seeded begun at in
+    let divergence = c.in_ok-content_divergent.ensures.told s valid is seeded at in
     record {
       obsolete = obsolete;
       orphan = orphan;
@@ -72,8 +83,8 @@ returns-clause-told c s valid is at seeded after begun =
           (both-same (flip (after n)));
       content_divergent = divergence.content_divergent;
       after_public = λ n. along
-          (grown-to c.after_public.result.now.keys sets.after_public c.as_slice.result.now met c.in_ok-growing.field-0
-          c.after_public.ensures c.as_slice.ensures.keys c.in_ok-growing.ensures.then n)
+          (grown-to c.after_public-2.result.now.keys sets.after_public c.deref.result.now met c.in_ok-growing.field-0
+          c.after_public-2.ensures (c.deref.ensures.value ∙ c.in_ok-new.ensures) c.in_ok-growing.ensures.then n)
           (flip (after n));
       near_forks = divergence.near_forks;
     }

@@ -1,7 +1,0 @@
-use Rattle.std.proofs.lemmas.Map.Views.{btree_set_contains_iff}
-use Rattle.hg_changeset.proofs.NodeLemmas.{node_cmp_total, node_cmp_exact}
-use Rattle.hg_instab.proofs.after_public.is_known.Goals as goal
-
-pub returns : goal.returns
-returns c =
-    rw c.contains.ensures (btree_set_contains_iff node_cmp_total node_cmp_exact c.args.known.now c.args.node)
