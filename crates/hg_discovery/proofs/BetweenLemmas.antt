@@ -1,5 +1,5 @@
 -- A whole discovery, round by round.
-use Rattle.std.proofs.Common.{◌≡◌, ◌↔◌, Bool, List, [], ◌∷◌, ◌++◌, refl, subst}
+use Rattle.std.proofs.Common.{◌≡◌, Bool, List, [], ◌∷◌, ◌++◌, refl, subst}
 use Rattle.hg_changeset.specs.declared.node.Node.{Node}
 use Rattle.hg_replica.specs.State.{ReplicaState}
 use Rattle.hg_replica.specs.Content.{content_of}
@@ -9,7 +9,6 @@ use Rattle.hg_discovery.specs.Answers.{IsRound}
 use Rattle.hg_discovery.specs.Start.{IsStart}
 use Rattle.hg_discovery.specs.Rounds.{AreAnswers, AreAnsweredRounds, undecided}
 use Rattle.hg_discovery.specs.Between.{IsDiscovery}
-use Rattle.hg_discovery.proofs.KnownLemmas.{answers_along}
 
 -- one round more
 AreAnsweredRounds-push : (P : Node → Type 0) (s m t : Search) (rounds : List (List Bool)) (answers : List Bool)
@@ -23,17 +22,6 @@ AreAnsweredRounds-push P s m t [] answers before round are = (
 )
 AreAnsweredRounds-push P s m t (first ∷ rounds) answers before round are =
     (before.0, before.1, before.2, AreAnsweredRounds-push P before.0 m t rounds answers before.3 round are)
-
--- rounds whose answers say whether P holds say whether Q does, where that is the same
-AreAnsweredRounds-along : (P Q : Node → Type 0) (s t : Search) (rounds : List (List Bool)) → ((n : Node) → P n ↔ Q n)
-    → AreAnsweredRounds P s rounds t → AreAnsweredRounds Q s rounds t
-AreAnsweredRounds-along P Q s t [] same are = are
-AreAnsweredRounds-along P Q s t (answers ∷ rounds) same are = (
-  are.0,
-  are.1,
-  answers_along P Q (nodes_of s.asked) answers same are.2,
-  AreAnsweredRounds-along P Q are.0 t rounds same are.3,
-)
 
 -- what a discovery has come to, in which each answer says whether P holds
 pub record IsAskedSoFar (P : Node → Type 0) (ours : ReplicaState) (now : Search) : Type 0 where
@@ -56,15 +44,14 @@ IsAskedSoFar-round P ours now next answers before round are = record {
   answered = AreAnsweredRounds-push P before.start now next before.rounds answers before.answered round are;
 }
 
--- once nothing is undecided it is a whole one, with whoever serves that of which P holds
-pub IsAskedSoFar-done : (P : Node → Type 0) (ours theirs : ReplicaState) (pins : List Node) (end : Search)
-    → IsAskedSoFar P ours end → undecided end.decided ≡ 0
-    → ((n : Node) → P n ↔ IsServedUnder (content_of theirs) pins n)
+-- once nothing is undecided it is a whole one
+pub IsAskedSoFar-done : (ours theirs : ReplicaState) (pins : List Node) (end : Search)
+    → IsAskedSoFar (IsServedUnder (content_of theirs) pins) ours end → undecided end.decided ≡ 0
     → IsDiscovery ours theirs pins end
-IsAskedSoFar-done P ours theirs pins end so_far done same = record {
+IsAskedSoFar-done ours theirs pins end so_far done = record {
   start = so_far.start;
   rounds = so_far.rounds;
   starts = so_far.starts;
-  answered = AreAnsweredRounds-along P _ so_far.start end so_far.rounds same so_far.answered;
+  answered = so_far.answered;
   done = done;
 }

@@ -1,13 +1,20 @@
 -- Heads of what both have in common, where parents of that are in common.
-use Rattle.std.proofs.Common.{◌≡◌, ◌↔◌, ◌⊎◌, ℕ, inl, inr, Bool, List, length, Contains}
+use Rattle.std.proofs.Common.{◌≡◌, ◌≢◌, ◌↔◌, ◌⊎◌, ℕ, zero, suc, ◌<◌, inl, inr, List, [], ◌∷◌, ◌++◌, length}
+use Rattle.std.proofs.Common.{length-append, Some, Contains, refl, sym, ap, subst, ◌∙◌, arith}
 use Rattle.std.specs.List.Sorted.{IsStrictlySortedBy}
+use Rattle.std.proofs.lemmas.Bool.{cases_eq}
+use Rattle.std.proofs.lemmas.Option.{same_Some, slice_get_within}
 use Rattle.hg_changeset.specs.declared.node.Node.{Node}
 use Rattle.hg_changeset.specs.Contents.{Contents}
-use Rattle.hg_graph.specs.Graph.{Holds}
-use Rattle.hg_graph.specs.Marks.{IsMarkedNode}
-use Rattle.hg_graph.specs.Places.{IsAt, IsParentPlace}
+use Rattle.hg_changeset.proofs.ListLemmas.{Contains-from_place, slice_get-append, slice_get-append_seam}
+use Rattle.hg_changeset.proofs.ListLemmas.{slice_get-push_cases}
+use Rattle.hg_graph.specs.declared.graph.ParentPlaces.{ParentPlaces}
+use Rattle.hg_graph.specs.Graph.{nodes}
+use Rattle.hg_graph.specs.Places.{IsAt}
+use Rattle.hg_graph.proofs.PlaceLemmas.{IsAt-within}
+use Rattle.hg_phases.specs.declared.phase.Phase.TheVariants.{Secret}
 use Rattle.hg_phases.specs.State.{changesets}
-use Rattle.hg_history.proofs.ContentLemmas.{content-node, node_in_content}
+use Rattle.hg_history.proofs.ContentLemmas.{content-node}
 use Rattle.hg_replica.specs.State.{ReplicaState, IsValid}
 use Rattle.hg_replica.specs.Content.{content_of}
 use Rattle.hg_view.specs.Common.{IsCommonAt}
@@ -16,117 +23,199 @@ use Rattle.hg_view.specs.Kept.{KeptValue}
 use Rattle.hg_view.specs.Pins.{IsServedUnder}
 use Rattle.hg_view.specs.Share.{IsShared}
 use Rattle.hg_view.specs.Tops.{IsTop}
-use Rattle.hg_view.proofs.CommonLemmas.{served_held}
+use Rattle.hg_view.proofs.CommonLemmas.{common_within}
 use Rattle.hg_view.proofs.ShareLemmas.{shared-or}
-use Rattle.hg_discovery.specs.declared.status.Status.TheVariants.{Common}
+use Rattle.hg_discovery.specs.declared.status.Status.{Status}
+use Rattle.hg_discovery.specs.declared.status.Status.TheVariants.{Undecided, Common, Missing}
 use Rattle.hg_discovery.specs.declared.status.Spot.{Spot}
-use Rattle.hg_discovery.specs.Between.{AreHeadsInCommon, AreHeadsOfServed, AreSharedMarks}
-use Rattle.hg_discovery.specs.Heads.{IsMarkedHead, IsMarkedOnBoth}
+use Rattle.hg_discovery.specs.Between.{AreHeadsInCommon}
 use Rattle.hg_discovery.specs.Order.{spot_cmp}
-use Rattle.hg_discovery.specs.Search.{IsHead, Lists, nodes_of}
-use Rattle.hg_discovery.specs.Spread.{IsMarked}
-use Rattle.hg_discovery.proofs.GroundLemmas.{ground_exists}
-use Rattle.hg_discovery.proofs.KeptLemmas.{shared, shared-len, shared-are, told_marks, told-len, told-at, told-are}
-use Rattle.hg_discovery.proofs.KeptLemmas.{told-heads, IsSoAt}
-use Rattle.hg_discovery.proofs.SharedLemmas.{last, last_len, apart, all_closed, common_heads}
+use Rattle.hg_discovery.specs.Search.{Is, IsClosed, IsHead, nodes_of}
+use Rattle.hg_discovery.specs.Start.{IsGround}
+use Rattle.hg_discovery.proofs.GroundLemmas.{ground_exists, top_head}
 use Rattle.hg_discovery.proofs.SortLemmas.{sorted_lists}
-use Rattle.hg_discovery.proofs.WholeLemmas.{told_in_common}
+use Rattle.hg_discovery.proofs.StartLemmas.{one_spot, phase_in_content}
+use Rattle.hg_discovery.proofs.UnderLemmas.{under_common}
+use Rattle.hg_discovery.proofs.WholeLemmas.{AreToldApart, closed_told, told_in_common}
 
--- ---- by marks
+-- ---- what is so is common, and all else is missing
 
-module _ (ours theirs : ReplicaState) (valid : IsValid ours) (shared : List Bool)
-    (shared_len : length shared ≡ length (changesets ours.history)) (shared_are : AreSharedMarks ours shared)
-    (served marks : List Bool) (marks_len : length marks ≡ length (changesets ours.history))
-    (both : (n : Node) → IsMarkedNode (changesets ours.history) marks n
-    ↔ IsMarkedOnBoth (changesets ours.history) shared (changesets theirs.history) served n)
-    (closed : (j k : ℕ) → IsParentPlace (changesets ours.history) j k → IsMarked marks j → IsMarked marks k)
-    (new : List Spot) (sorted : IsStrictlySortedBy spot_cmp new)
-    (found : (x : Spot) → Contains new x ↔ IsMarkedHead (changesets ours.history) marks x) where
-  pub marked_in_common : AreHeadsOfServed ours theirs served (nodes_of new)
-  marked_in_common pins exact =
-      let there = changesets theirs.history in
-      let ground = ground_exists ours.history valid in
-      let ps = ground.0 in
-      let xs = ground.1 in
-      let ds = ground.2 in
-      let is = ground.3 in
-      let end = last ours valid shared shared_len shared_are ps xs ds is there served marks marks_len both
-      closed in
-      let told = common_heads ours valid shared shared_len shared_are ps xs ds is there served marks marks_len
-      both closed new in
-      let P = IsHead (record { parents = ps; spots = xs; decided = end; asked = new }) Common in
-      let heads_are : Lists P new = sorted_lists xs P is.spots.distinct new sorted
-      (λ x h. h.0.0)
-      (λ x. (λ h. (told x).0 ((found x).0 h), λ h. (found x).1 ((told x).1 h))) in
-      told_in_common ours theirs pins ps xs ds end is served
-      (apart ours valid shared shared_len shared_are ps xs ds is there served marks marks_len both closed)
-      (last_len ours valid shared shared_len shared_are ps xs ds is there served marks marks_len both closed)
-      (all_closed ours valid shared shared_len shared_are ps xs ds is there served marks marks_len both closed)
-      new heads_are exact
+module _ (Q : ℕ → Type 0) where
+  record IsDecidedBy (n : ℕ) (ds : List Status) : Type 0 where
+    pub len : length ds ≡ n
+    pub none_undecided : (k : ℕ) → ¬ (Is ds Undecided k)
+    pub common : (k : ℕ) → k < n → Is ds Common k ↔ Q k
 
--- ---- by a walk
+  one_more : (n : ℕ) (ds : List Status) (d : Status) → IsDecidedBy n ds → d ≢ Undecided → ((d ≡ Common) ↔ Q n)
+      → IsDecidedBy (suc n) (ds ++ d ∷ [])
+  one_more n ds d before decided last = record {
+    len = omega (arith, length-append ds (d ∷ []), before.len);
+    none_undecided = λ k u. elim (slice_get-push_cases ds d k Undecided u)
+        [ inl old ↦ before.none_undecided k old | inr new ↦ decided new.1 ];
+    common = λ k lt. elim (cases_eq k n) [
+      | inl e ↦ (
+        λ c. elim (slice_get-push_cases ds d k Common c) [
+          | inl old ↦ absurd (omega (arith, slice_get_within ds k Common old, before.len, e))
+          | inr new ↦ subst Q (sym e) (last.0 new.1)
+        ],
+        λ q. subst (Is (ds ++ d ∷ []) Common) (sym (e ∙ sym before.len))
+            (slice_get-append_seam ds d [] ∙ ap (λ x. Some x) (last.1 (subst Q e q))),
+      )
+      | inr ne ↦ (
+        λ c. elim (slice_get-push_cases ds d k Common c) [
+          | inl old ↦ (before.common k (omega (arith, lt, ne))).0 old
+          | inr new ↦ absurd (ne (new.0 ∙ before.len))
+        ],
+        λ q. slice_get-append ds (d ∷ []) k Common ((before.common k (omega (arith, lt, ne))).1 q),
+      )
+    ];
+  }
 
-module _ (ours : ReplicaState) (other : KeptValue) (valid : IsValid ours) (their_valid : IsValid other.replica)
+  decided_by : (n : ℕ) → ((k : ℕ) → k < n → Q k ⊎ ¬ (Q k)) → (ds : List Status) × IsDecidedBy n ds
+  decided_by zero tell = (
+    [],
+    record {
+      len = refl;
+      none_undecided = λ k u. omega (arith, slice_get_within [] k Undecided u);
+      common = λ k lt. absurd (omega (arith, lt));
+    },
+  )
+  decided_by (suc n) tell =
+      let before = decided_by n (λ k lt. tell k (omega (arith, lt))) in
+      elim (tell n (omega arith)) [
+        | inl so ↦ (
+          before.0 ++ Common ∷ [],
+          one_more n before.0 Common before.1 (λ e. let c : Common ≡ Undecided = e in cc) (λ e. so, λ q. refl),
+        )
+        | inr out ↦ (
+          before.0 ++ Missing ∷ [],
+          one_more n before.0 Missing before.1 (λ e. let c : Missing ≡ Undecided = e in cc)
+              (λ e. let c : Missing ≡ Common = e in cc, λ q. absurd (out q)),
+        )
+      ]
+
+-- ---- what a walk finds is what rounds end with
+
+module _ (ours : ReplicaState) (other : KeptValue) (valid : IsValid ours)
     (tell : (n : Node) → IsServedUnder (content_of other.replica) other.pins n
-    ⊎ (IsServedUnder (content_of other.replica) other.pins n → ⊥)) where
+    ⊎ ¬ (IsServedUnder (content_of other.replica) other.pins n)) where
   abbrev cs : List Contents
   cs = changesets ours.history
-
-  abbrev theirs : List Contents
-  theirs = changesets other.replica.history
 
   abbrev Served : Node → Type 0
   Served = IsServedUnder (content_of other.replica) other.pins
 
-  abbrev Both : Node → Type 0
-  Both n = IsShared (content_of ours) n × Served n
+  in_common-or : (k : ℕ) → k < length cs → IsCommonAt ours other k ⊎ ¬ (IsCommonAt ours other k)
+  in_common-or k lt =
+      let n = IsAt-within cs k lt in
+      let held = content-node ours.history valid.graph n.0 (Contains-from_place (nodes cs) k n.0 n.1) in
+      let same : (so : IsCommonAt ours other k) → so.0 ≡ n.0 = λ so. same_Some so.0 n.0 (sym so.1 ∙ n.1) in
+      elim (tell n.0) [
+        | inr out ↦ inr (λ so. out (subst Served (same so) so.3))
+        | inl served ↦ elim (shared-or (content_of ours) n.0 held) [
+          | inl shared ↦ inl (n.0, n.1, shared, served)
+          | inr secret ↦ inr (λ so. secret (subst (λ m. IsShared (content_of ours) m) (same so) so.2))
+        ]
+      ]
 
-  both-tell : (n : Node) → Holds cs n → Both n ⊎ (Both n → ⊥)
-  both-tell n held = elim (shared-or (content_of ours) n (content-node ours.history valid.graph n held)) [
-    | inr secret ↦ inr (λ so. secret so.0)
-    | inl here ↦ elim (tell n) [ inl there ↦ inl (here, there) | inr not ↦ inr (λ so. not so.1) ]
-  ]
+  -- what is in common is common, and all else is missing
+  abbrev told : (ds : List Status) × IsDecidedBy (IsCommonAt ours other) (length cs) ds
+  told = decided_by (IsCommonAt ours other) (length cs) in_common-or
 
-  abbrev served : List Bool
-  served = told_marks theirs their_valid.graph Served (λ n held. tell n)
+  last : List Status
+  last = told.0
 
-  abbrev common : List Bool
-  common = told_marks cs valid.graph Both both-tell
+  last_len : length last ≡ length cs
+  unfolding last
+  last_len = told.1.len
 
-  served-are : (n : Node) → IsMarkedNode theirs served n ↔ Served n
-  served-are = told-are theirs their_valid.graph Served (λ n held. tell n)
-      (served_held other.replica other.pins their_valid)
+  none_undecided : (k : ℕ) → ¬ (Is last Undecided k)
+  unfolding last
+  none_undecided = told.1.none_undecided
 
-  common-are : (n : Node) → IsMarkedNode cs common n ↔ Both n
-  common-are = told-are cs valid.graph Both both-tell (λ n so. node_in_content ours.history valid.graph n so.0.0)
-
-  both-marked : (n : Node) → IsMarkedNode cs common n ↔ IsMarkedOnBoth cs (shared ours valid) theirs served n
-  both-marked n = (
-    λ m. let so = (common-are n).0 m in ((shared-are ours valid n).1 so.0, (served-are n).1 so.1),
-    λ m. (common-are n).1 ((shared-are ours valid n).0 m.0, (served-are n).0 m.1),
+  common_at : (k : ℕ) → Is last Common k ↔ IsCommonAt ours other k
+  unfolding last
+  common_at k = (
+    λ c. (told.1.common k (omega (arith, slice_get_within last k Common c, last_len))).0 c,
+    λ so. (told.1.common k (common_within ours other k so)).1 so,
   )
 
-  -- what a walk finds at the top of what is common is what a discovery ends with
-  module _ (closed : IsClosedUnderParents cs (IsCommonAt ours other)) (places : List ℕ)
-      (tops : (k : ℕ) → Contains places k ↔ IsTop cs (IsCommonAt ours other) k) (new : List Spot)
-      (sorted : IsStrictlySortedBy spot_cmp new)
-      (same : (x : Spot) → Contains new x ↔ (Contains places x.place × IsAt cs x.node x.place)) where
-    is_common : (k : ℕ) → IsSoAt cs valid.graph Both both-tell k ↔ IsCommonAt ours other k
-    is_common k = (λ h. (h.0, h.1, h.2.0, h.2.1), λ h. (h.0, h.1, (h.2, h.3)))
+  module _ (closed : IsClosedUnderParents cs (IsCommonAt ours other)) (ps : List ParentPlaces) (xs : List Spot)
+      (ds : List Status) (ground : IsGround ours.history ps xs ds) where
+    apart : AreToldApart Served xs last
+    apart = record {
+      none_undecided = none_undecided;
+      common = λ k. (
+        λ c.
+            let so = (common_at k).0 c in
+            let phase = phase_in_content ours.history valid.graph so.0 Secret in
+            let x : Spot = record { node = so.0; place = k } in
+            (x, (ground.shared x).1 (so.1, λ secret. so.2.1 (phase.1 secret)), refl, so.3),
+        λ h.
+            let x = h.0 in
+            let at = (ground.shared x).0 h.1 in
+            let held = content-node ours.history valid.graph x.node
+            (Contains-from_place (nodes cs) x.place x.node at.0) in
+            let phase = phase_in_content ours.history valid.graph x.node Secret in
+            subst (Is last Common) h.2
+            ((common_at x.place).1 (x.node, at.0, (held, λ secret. at.1 (phase.0 secret)), h.3)),
+      );
+    }
 
-    tops_are : (k : ℕ) → Contains places k ↔ IsTop cs (IsSoAt cs valid.graph Both both-tell) k
-    tops_are k = (
-      λ h.
-          let top = (tops k).0 h in
-          ((is_common k).1 top.0, λ j parent so. top.1 j parent ((is_common j).0 so)),
-      λ top. (tops k).1 ((is_common k).0 top.0, λ j parent so. top.1 j parent ((is_common j).1 so)),
-    )
+    len : length last ≡ length ds
+    len = omega (arith, last_len, ground.shape.len, ground.len)
 
-    pub walked_in_common : AreHeadsInCommon ours other.replica other.pins (nodes_of new)
-    walked_in_common =
-        let at = told-at cs valid.graph Both both-tell in
-        let heads = told-heads cs valid.graph Both both-tell places tops_are in
-        marked_in_common ours other.replica valid (shared ours valid) (shared-len ours valid) (shared-are ours valid)
-        served common (told-len cs valid.graph Both both-tell) both-marked
-        (λ j k parent m. (at k).1 ((is_common k).1 (closed j k parent ((is_common j).0 ((at j).0 m))))) new sorted
-        (λ x. (λ h. (heads x).0 ((same x).0 h), λ h. (same x).1 ((heads x).1 h))) other.pins served-are
+    last_closed : IsClosed ps last
+    last_closed = closed_told Served xs ds last ground.spots apart len ps (len ∙ ground.len)
+        (λ j k parent c. (common_at k).1 (closed j k ((ground.shape.parents j k).0 parent) ((common_at j).0 c)))
+
+    -- what stands where one of the spots does is that spot
+    spot_at : (x : Spot) → Is last Common x.place → IsAt cs x.node x.place ↔ Contains xs x
+    spot_at x c =
+        let y = (apart.common x.place).0 c in (
+          λ at.
+              let at_y : IsAt cs y.0.node x.place = subst (IsAt cs y.0.node) y.2 ((ground.shared y.0).0 y.1).0 in
+              subst (Contains xs) (one_spot y.0 x (same_Some y.0.node x.node (sym at_y ∙ at)) y.2) y.1,
+          λ in_xs. ((ground.shared x).0 in_xs).0,
+        )
+
+    module _ (places : List ℕ) (tops : (k : ℕ) → Contains places k ↔ IsTop cs (IsCommonAt ours other) k)
+        (new : List Spot) (sorted : IsStrictlySortedBy spot_cmp new)
+        (same : (x : Spot) → Contains new x ↔ (Contains places x.place × IsAt cs x.node x.place)) where
+      abbrev Head : Spot → Type 0
+      Head = IsHead (record { parents = ps; spots = xs; decided = last; asked = new }) Common
+
+      found_heads : (x : Spot) → Contains new x ↔ Head x
+      found_heads x =
+          let head = top_head cs ps ground.shape ground.in_order xs last Common new spot_at
+          (λ k m j low high at_k at_j. under_common ps last last_closed m j high at_j) x in (
+            λ h.
+                let at = (same x).0 h in
+                let top = (tops x.place).0 at.0 in
+                head.0 (
+                  at.1,
+                  ((common_at x.place).1 top.0, λ j parent c. top.1 j parent ((common_at j).0 c)),
+                ),
+            λ h.
+                let top = head.1 h in
+                (same x).1 (
+                  (tops x.place).1 (
+                    (common_at x.place).0 top.1.0,
+                    λ j parent so. top.1.1 j parent ((common_at j).1 so),
+                  ),
+                  top.0,
+                ),
+          )
+
+      heads_in_common : AreHeadsInCommon ours other.replica other.pins (nodes_of new)
+      heads_in_common = told_in_common ours other.replica other.pins tell ps xs ds last ground apart len last_closed new
+          (sorted_lists xs Head ground.spots.distinct new sorted (λ x h. h.0.0) found_heads)
+
+  pub walked_in_common : IsClosedUnderParents cs (IsCommonAt ours other) → (places : List ℕ)
+      → ((k : ℕ) → Contains places k ↔ IsTop cs (IsCommonAt ours other) k) → (new : List Spot)
+      → IsStrictlySortedBy spot_cmp new
+      → ((x : Spot) → Contains new x ↔ (Contains places x.place × IsAt cs x.node x.place))
+      → AreHeadsInCommon ours other.replica other.pins (nodes_of new)
+  walked_in_common closed places tops new sorted same =
+      let ground = ground_exists ours.history valid in
+      heads_in_common closed ground.0 ground.1 ground.2 ground.3 places tops new sorted same

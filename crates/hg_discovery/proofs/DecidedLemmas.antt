@@ -1,6 +1,6 @@
 -- Tests of what is decided.
 use Rattle.std.proofs.Common.{◌≡◌, ℕ, ◌<◌, Bool, true, false, List, length, get_or, Some, refl, sym, ap, ◌∙◌}
-use Rattle.std.proofs.Common.{true≢false, subst}
+use Rattle.std.proofs.Common.{true≢false}
 use Rattle.std.proofs.lemmas.Option.{slice_get-get_or, get_or_from_slice_get}
 use mathlib.Core.Bool.{beq}
 use denote.Enum.Bare.{sameb}
@@ -45,6 +45,3 @@ same_bool false false h = refl
 pub same_bool_itself : (a : Bool) → beq a a ≡ true
 same_bool_itself true = refl
 same_bool_itself false = refl
-
-pub same_bool_from : (a b : Bool) → a ≡ b → beq a b ≡ true
-same_bool_from a b e = subst (λ c. beq a c ≡ true) e (same_bool_itself a)

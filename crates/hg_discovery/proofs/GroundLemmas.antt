@@ -1,6 +1,6 @@
 -- Whatever a history holds, there is what a discovery of it begins upon, and its heads are told by the history.
-use Rattle.std.proofs.Common.{◌≡◌, ◌≢◌, ◌↔◌, ◌⊎◌, ℕ, zero, suc, ◌<◌, ◌≤◌, ◌+◌, ◌-◌, inl, inr, List, [], ◌∷◌, ◌++◌, length}
-use Rattle.std.proofs.Common.{map, set, take, get_or, replicate, slice_get, Bool, true, Option, Some, None, MatchOption, Contains}
+use Rattle.std.proofs.Common.{◌≡◌, ◌≢◌, ◌↔◌, ◌⊎◌, ℕ, zero, suc, ◌<◌, ◌≤◌, ◌+◌, inl, inr, List, [], ◌∷◌, ◌++◌, length}
+use Rattle.std.proofs.Common.{map, set, take, get_or, replicate, slice_get, Option, Some, None, MatchOption, Contains}
 use Rattle.std.proofs.Common.{option_map, refl, sym, ap, subst, ◌∙◌, arith}
 use Rattle.std.specs.List.Sorted.{IsStrictlySortedBy}
 use Rattle.std.proofs.lemmas.List.{length-map, take_all}
@@ -13,22 +13,20 @@ use Rattle.hg_changeset.specs.Contents.{Contents}
 use Rattle.hg_changeset.proofs.ListLemmas.{Contains-from_place, slice_get_some}
 use Rattle.hg_changeset.proofs.NodeLemmas.{node_cases}
 use Rattle.hg_graph.specs.declared.graph.ParentPlaces.{ParentPlaces}
-use Rattle.hg_graph.specs.Graph.{nodes, Holds, IsGraph, IsParent}
-use Rattle.hg_graph.specs.Marks.{IsMarkedNode}
+use Rattle.hg_graph.specs.Graph.{nodes, Holds, IsParent}
 use Rattle.hg_graph.specs.Places.{IsAt, IsOnlyAt, IsParentPlace}
-use Rattle.hg_graph.proofs.PlaceLemmas.{IsAt-within, same_place, told_place}
+use Rattle.hg_graph.proofs.PlaceLemmas.{IsAt-within, told_place}
 use Rattle.hg_phases.specs.declared.phase.Phase.{Phase}
 use Rattle.hg_phases.specs.declared.phase.Phase.TheVariants.{Public, Draft, Secret}
 use Rattle.hg_phases.specs.State.{State, Held, changesets, IsPhaseOf, IsValid}
 use Rattle.hg_phases.specs.Content.{content_of}
+use Rattle.hg_view.specs.Tops.{IsTop}
 use Rattle.hg_discovery.specs.declared.status.Status.{Status}
 use Rattle.hg_discovery.specs.declared.status.Status.TheVariants.{Undecided, Common, Missing}
 use Rattle.hg_discovery.specs.declared.status.Spot.{Spot}
 use Rattle.hg_discovery.specs.Under.{IsOneOf, IsParentAt, IsUnder, IsInOrder, IsShapeOf}
 use Rattle.hg_discovery.specs.Search.{Is, IsHead}
-use Rattle.hg_discovery.specs.Spread.{IsMarked}
 use Rattle.hg_discovery.specs.Order.{spot_cmp}
-use Rattle.hg_discovery.specs.Heads.{IsMarkedHead}
 use Rattle.hg_discovery.specs.Start.{IsShared, IsGround}
 use Rattle.hg_discovery.proofs.UnderLemmas.{child_on_way, parent_under}
 use Rattle.hg_discovery.proofs.StartLemmas.{AreThoseTo, none_of_those, those_push, those_skip, all_those}
@@ -205,47 +203,34 @@ module _ (s : State) (valid : IsValid s) where
             (ordered_sorted found.0),
       )
 
--- ---- heads by marks
+-- ---- heads
 
 module _ (cs : List Contents) (ps : List ParentPlaces) (shape : IsShapeOf cs ps) (order : IsInOrder ps)
-    (xs : List Spot) (ds : List Status) (d : Status) (asked : List Spot) (marks : List Bool)
-    (same : (k : ℕ) → IsMarked marks k ↔ Is ds d k)
+    (xs : List Spot) (ds : List Status) (d : Status) (asked : List Spot)
     (there : (x : Spot) → Is ds d x.place → IsAt cs x.node x.place ↔ Contains xs x)
     (convex : (k m j : ℕ) → IsUnder ps k m → IsUnder ps m j → Is ds d k → Is ds d j → Is ds d m) where
-  pub marked_head : (x : Spot)
-      → IsMarkedHead cs marks x ↔ IsHead (record { parents = ps; spots = xs; decided = ds; asked = asked }) d x
-  marked_head x = (
+  -- a head is what is so, and no child of it
+  pub top_head : (x : Spot) → (IsAt cs x.node x.place × IsTop cs (Is ds d) x.place)
+      ↔ IsHead (record { parents = ps; spots = xs; decided = ds; asked = asked }) d x
+  top_head x = (
     λ h.
-        let so = (same x.place).0 h.1 in (
+        let so = h.1.0 in (
           ((there x so).0 h.0, so),
           λ j at_j under. elim (child_on_way ps x.place j under) [
             | inl e ↦ sym e
-            | inr c ↦ absurd (h.2 c.0 ((shape.parents c.0 x.place).0 c.1) ((same c.0).1
-                (convex x.place c.0 j (parent_under ps c.0 x.place c.1) c.2 so at_j)))
+            | inr c ↦ absurd (h.1.1 c.0 ((shape.parents c.0 x.place).0 c.1)
+                (convex x.place c.0 j (parent_under ps c.0 x.place c.1) c.2 so at_j))
           ],
         ),
     λ head. (
       (there x head.0.1).1 head.0.0,
-      (same x.place).1 head.0.1,
-      λ k parent mark.
-          let child : IsParentAt ps k x.place = (shape.parents k x.place).1 parent in
-          let again : k ≡ x.place = head.1 k ((same k).0 mark) (parent_under ps k x.place child) in
-          let before : x.place < k = order k x.place child in
-          omega arith,
+      (
+        head.0.1,
+        λ k parent so.
+            let child : IsParentAt ps k x.place = (shape.parents k x.place).1 parent in
+            let again : k ≡ x.place = head.1 k so (parent_under ps k x.place child) in
+            let before : x.place < k = order k x.place child in
+            omega arith,
+      ),
     ),
   )
-
--- marks of the whole graph by places
-module _ (cs : List Contents) (graph : IsGraph cs) (marks : List Bool) (len : length marks ≡ length cs) where
-  pub marked_at : (k : ℕ) (n : Node) → IsAt cs n k → IsMarked marks k ↔ IsMarkedNode cs marks n
-  marked_at k n at = (
-    λ m. (k, at, (omega arith, let e : k ≡ k - 0 = omega arith in subst (IsMarked marks) e m)),
-    λ h.
-        let e : h.0 - 0 ≡ k = omega (arith, same_place (nodes cs) n k h.0 graph.distinct at h.1) in
-        subst (IsMarked marks) e h.2.1,
-  )
-
-  pub node_marked : (k : ℕ) → IsMarked marks k → (n : Node) × IsAt cs n k × IsMarkedNode cs marks n
-  node_marked k m =
-      let n = IsAt-within cs k (omega (arith, len, slice_get_within marks k true m)) in
-      (n.0, n.1, (marked_at k n.0 n.1).0 m)

@@ -1,17 +1,11 @@
 -- The other side's answers, one more at a time.
 use Rattle.std.proofs.Common.{◌↔◌, ℕ, ◌+◌, ◌<◌, inl, inr, Bool, List, [], ◌∷◌, ◌++◌, length, length-append, take}
-use Rattle.std.proofs.Common.{get_or, IsTrue, refl, sym, subst, arith, ◌≡◌}
+use Rattle.std.proofs.Common.{get_or, IsTrue, refl, sym, subst, arith}
 use Rattle.std.proofs.lemmas.List.{take_more}
 use Rattle.std.proofs.lemmas.Option.{none-some, slice_get_within}
 use Rattle.hg_changeset.specs.declared.node.Node.{Node}
 use Rattle.hg_changeset.proofs.ListLemmas.{slice_get-push_cases}
 use Rattle.hg_discovery.specs.Rounds.{AreAnswers}
-use Rattle.hg_graph.specs.Marks.{IsMarkedNode}
-use Rattle.hg_phases.specs.State.{changesets}
-use Rattle.hg_replica.specs.State.{ReplicaState}
-use Rattle.hg_replica.specs.Content.{content_of}
-use Rattle.hg_instab.proofs.SetLemmas.{along}
-use Rattle.hg_view.specs.Pins.{IsServedUnder}
 
 pub known_none : (P : Node → Type 0) → AreAnswers P [] []
 known_none P = (refl, λ i n b at at_b. absurd (none-some n at))
@@ -34,16 +28,3 @@ known_more P ns answers i d b lt told before =
         ]
       ],
     )
-
--- answers that say whether P holds say whether Q does, where that is the same
-pub answers_along : (P Q : Node → Type 0) (ns : List Node) (answers : List Bool) → ((n : Node) → P n ↔ Q n)
-    → AreAnswers P ns answers → AreAnswers Q ns answers
-answers_along P Q ns answers same are =
-    (are.0, λ i n answer at_n at_answer. along (are.1 i n answer at_n at_answer) (same n))
-
--- marks that are the same mark what is served
-pub served_as : (s : ReplicaState) (pins : List Node) (marks same : List Bool) → same ≡ marks
-    → ((n : Node) → IsMarkedNode (changesets s.history) marks n ↔ IsServedUnder (content_of s) pins n)
-    → (n : Node) → IsMarkedNode (changesets s.history) same n ↔ IsServedUnder (content_of s) pins n
-served_as s pins marks same e h = subst (λ (ms : List Bool). (n : Node)
-    → IsMarkedNode (changesets s.history) ms n ↔ IsServedUnder (content_of s) pins n) (sym e) h

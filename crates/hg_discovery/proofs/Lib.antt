@@ -12,11 +12,10 @@ pub mod CountLemmas
 pub mod WalkLemmas
 pub mod WholeLemmas
 pub mod GroundLemmas
-pub mod SharedLemmas
 pub mod ChildrenLemmas
 pub mod SampleLemmas
 pub mod KnownLemmas
 pub mod ServedLemmas
-pub mod KeptLemmas
+pub mod SpotLemmas
 pub mod CommonLemmas
 pub mod ComparedLemmas

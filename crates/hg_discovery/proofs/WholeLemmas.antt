@@ -1,22 +1,15 @@
 -- Rounds that are all answered from one state, where what is served is closed under ancestors.
-use Rattle.std.proofs.Common.{◌≡◌, ◌≢◌, ◌↔◌, ◌⊎◌, ℕ, zero, suc, ◌<◌, ◌≤◌, ◌+◌, ◌-◌, inl, inr, Bool, true, false, List, []}
+use Rattle.std.proofs.Common.{◌≡◌, ◌≢◌, ◌↔◌, ◌⊎◌, ℕ, zero, suc, ◌<◌, ◌≤◌, ◌+◌, inl, inr, Bool, true, false, List, []}
 use Rattle.std.proofs.Common.{◌∷◌, length, set, slice_get, Option, Some, None}
-use Rattle.std.proofs.Common.{MatchOption, IfSome, Contains, IsTrue, refl, sym, ap, subst, ◌∙◌, arith, true≢false}
+use Rattle.std.proofs.Common.{Contains, IsTrue, refl, sym, ap, subst, ◌∙◌, arith, true≢false}
 use Rattle.std.proofs.lemmas.Bool.{cases_eq, cases_lt, cases_order}
 use Rattle.std.proofs.lemmas.List.{length-map, length-set}
 use Rattle.std.proofs.lemmas.Option.{none-some, same_Some, slice_get_within}
 use Rattle.hg_changeset.specs.declared.node.Node.{Node}
-use Rattle.hg_changeset.specs.Contents.{Contents}
 use Rattle.hg_changeset.proofs.ListLemmas.{slice_get_some}
-use Rattle.hg_changeset.proofs.NodeLemmas.{node_cases}
 use Rattle.hg_graph.specs.declared.graph.ParentPlaces.{ParentPlaces}
-use Rattle.hg_graph.specs.Graph.{nodes, Holds}
-use Rattle.hg_graph.specs.Marks.{IsMarked as IsMarkedPlace, IsMarkedNode}
-use Rattle.hg_graph.specs.Places.{IsAt, IsOnlyAt}
-use Rattle.hg_graph.proofs.GraphLemmas.{Contains-from_place}
-use Rattle.hg_graph.proofs.PlaceLemmas.{placed_within}
 use Rattle.hg_graph.proofs.MarkLemmas.{get-set_same, get-set_other}
-use Rattle.hg_phases.specs.State.{State, changesets}
+use Rattle.hg_phases.specs.State.{State}
 use Rattle.hg_replica.specs.State.{ReplicaState}
 use Rattle.hg_replica.specs.Content.{content_of}
 use Rattle.hg_view.specs.Pins.{IsServedUnder}
@@ -26,13 +19,11 @@ use Rattle.hg_discovery.specs.declared.status.Spot.{Spot}
 use Rattle.hg_discovery.specs.Under.{IsOneOf, IsParentAt, IsUnder, IsInOrder, itself, below}
 use Rattle.hg_discovery.specs.Search.{Search, Is, IsAscending, IsHead, IsSample, Lists, IsSearch, IsClosed, AreSpots}
 use Rattle.hg_discovery.specs.Search.{nodes_of}
-use Rattle.hg_discovery.specs.Spread.{AreCovered, IsMarked}
+use Rattle.hg_discovery.specs.Spread.{AreCovered}
 use Rattle.hg_discovery.specs.Answers.{IsDecided, AreTold, IsRound}
 use Rattle.hg_discovery.specs.Rounds.{AreAnswers, undecided}
 use Rattle.hg_discovery.specs.Start.{IsGround, IsStart}
 use Rattle.hg_discovery.specs.Between.{AreHeadsInCommon}
-use Rattle.hg_discovery.specs.Heads.{IsMarkedOnBoth}
-use Rattle.hg_discovery.specs.Whole.{AreToldApart}
 use Rattle.hg_discovery.proofs.UnderLemmas.{not_both_uc, not_both_um, not_both_cm, three, under_common, above_missing}
 use Rattle.hg_discovery.proofs.ToldLemmas.{told_length, all_closed, spots_after, all_common, all_missing}
 use Rattle.hg_discovery.proofs.CountLemmas.{some_undecided, round_count}
@@ -252,46 +243,6 @@ module _ (ps : List ParentPlaces) (order : IsInOrder ps) where
 
 -- ---- answers
 
-module _ (cs : List Contents) (marks : List Bool) (n : Node) where
-  at_or_not : (place : Option Node) → (place ≡ Some n) ⊎ (place ≡ Some n → ⊥)
-  at_or_not None = inr (λ e. none-some n e)
-  at_or_not (Some m) = elim (node_cases m n)
-      [ inl e ↦ inl (ap (λ x. Some x) e) | inr ne ↦ inr (λ e. ne (same_Some m n e)) ]
-
-  true_or_not : (mark : Option Bool) → (mark ≡ Some true) ⊎ (mark ≡ Some true → ⊥)
-  true_or_not None = inr (λ e. none-some true e)
-  true_or_not (Some true) = inl refl
-  true_or_not (Some false) = inr (λ e. true≢false (sym (same_Some false true e)))
-
-  here_or_not : (k : ℕ) → (IsAt cs n k × IsMarkedPlace 0 marks k) ⊎ (IsAt cs n k × IsMarkedPlace 0 marks k → ⊥)
-  here_or_not k = elim (at_or_not (slice_get (nodes cs) k)) [
-    | inr out ↦ inr (λ h. out h.0)
-    | inl at ↦ elim (true_or_not (slice_get marks (k - 0))) [
-      | inl mark ↦ inl (at, (omega arith, mark))
-      | inr out ↦ inr (λ h. out h.1.1)
-    ]
-  ]
-
-  marked_before : (m : ℕ) → ((k : ℕ) × IsAt cs n k × IsMarkedPlace 0 marks k)
-      ⊎ ((k : ℕ) → k < m → IsAt cs n k × IsMarkedPlace 0 marks k → ⊥)
-  marked_before zero = inr (λ k lt h. omega (arith, lt))
-  marked_before (suc m) = elim (marked_before m) [
-    | inl found ↦ inl found
-    | inr none ↦ elim (here_or_not m) [
-      | inl h ↦ inl (m, h.0, h.1)
-      | inr out ↦ inr (λ k lt h. elim (cases_eq k m) [
-        | inl e ↦ out (subst (λ j. IsAt cs n j × IsMarkedPlace 0 marks j) e h)
-        | inr ne ↦ none k (omega (arith, lt, ne)) h
-      ])
-    ]
-  ]
-
-  pub marked_or_not : IsMarkedNode cs marks n ⊎ (IsMarkedNode cs marks n → ⊥)
-  marked_or_not = elim (marked_before (length (nodes cs))) [
-    | inl found ↦ inl found
-    | inr none ↦ inr (λ h. none h.0 (slice_get_within (nodes cs) h.0 n h.1) (h.1, h.2))
-  ]
-
 module _ (P : Node → Type 0) where
   pub answers_cons : (n : Node) (ns : List Node) (b : Bool) (answers : List Bool) → (IsTrue b ↔ P n)
       → AreAnswers P ns answers → AreAnswers P (n ∷ ns) (b ∷ answers)
@@ -303,7 +254,8 @@ module _ (P : Node → Type 0) where
           (subst (λ x. IsTrue x ↔ P n) (same_Some b a at_a) first)
       each (suc i) m a at_m at_a = rest.1 i m a at_m at_a
 
-  pub answers_exist : ((n : Node) → P n ⊎ (P n → ⊥)) → (ns : List Node) → (answers : List Bool) × AreAnswers P ns answers
+  pub answers_exist : ((n : Node) → P n ⊎ (P n → ⊥)) → (ns : List Node)
+      → (answers : List Bool) × AreAnswers P ns answers
   answers_exist tell [] = ([], known_none P)
   answers_exist tell (n ∷ ns) =
       let rest = answers_exist tell ns in
@@ -423,11 +375,16 @@ module _ (P : Node → Type 0) (tell : (n : Node) → P n ⊎ (P n → ⊥)) whe
 
 -- ---- all at once
 
-module _ (theirs : List Contents) (served : List Bool) (xs : List Spot) (ds last : List Status)
-    (spots : AreSpots ds xs) (apart : AreToldApart theirs served xs last) (len : length last ≡ length ds) where
-  -- each spot is told by whether it is served
-  pub spot_told : (x : Spot) → Contains xs x → (IsMarkedNode theirs served x.node → Is last Common x.place)
-      × ((IsMarkedNode theirs served x.node → ⊥) → Is last Missing x.place)
+-- of the spots those are common of which P holds, and nothing is undecided
+pub record AreToldApart (P : Node → Type 0) (xs : List Spot) (ds : List Status) : Type 0 where
+  pub none_undecided : (k : ℕ) → ¬ (Is ds Undecided k)
+  pub common : (k : ℕ) → Is ds Common k ↔ ((x : Spot) × Contains xs x × (x.place ≡ k) × P x.node)
+
+module _ (P : Node → Type 0) (xs : List Spot) (ds last : List Status) (spots : AreSpots ds xs)
+    (apart : AreToldApart P xs last) (len : length last ≡ length ds) where
+  -- each spot is told by whether P holds of it
+  spot_told : (x : Spot) → Contains xs x → (P x.node → Is last Common x.place)
+      × ((P x.node → ⊥) → Is last Missing x.place)
   spot_told x h = (
     λ m. (apart.common x.place).1 (x, h, refl, m),
     λ out. elim (three last x.place (omega (arith, spots.within x h, len))) [
@@ -436,7 +393,7 @@ module _ (theirs : List Contents) (served : List Bool) (xs : List Spot) (ds last
         | inl c ↦
             let y = (apart.common x.place).0 c in
             let same : y.0 ≡ x = spots.apart y.0 x y.1 h y.2 in
-            absurd (out (subst (λ (z : Spot). IsMarkedNode theirs served z.node) same y.3))
+            absurd (out (subst (λ (z : Spot). P z.node) same y.3))
         | inr m ↦ m
       ]
     ],
@@ -475,17 +432,18 @@ started s ps xs ds ground asked sample = record {
   };
 }
 
-module _ (ours theirs : ReplicaState) (pins : List Node) (ps : List ParentPlaces) (xs : List Spot)
-    (ds last : List Status) (ground : IsGround ours.history ps xs ds) (served : List Bool)
-    (apart : AreToldApart (changesets theirs.history) served xs last) (len : length last ≡ length ds)
+module _ (ours theirs : ReplicaState) (pins : List Node)
+    (tell : (n : Node) → IsServedUnder (content_of theirs) pins n ⊎ (¬ (IsServedUnder (content_of theirs) pins n)))
+    (ps : List ParentPlaces) (xs : List Spot) (ds last : List Status) (ground : IsGround ours.history ps xs ds)
+    (apart : AreToldApart (IsServedUnder (content_of theirs) pins) xs last) (len : length last ≡ length ds)
     (closed : IsClosed ps last) (heads : List Spot)
     (heads_are : Lists (IsHead (record { parents = ps; spots = xs; decided = last; asked = heads }) Common) heads) where
   abbrev P : Node → Type 0
-  P = IsMarkedNode (changesets theirs.history) served
+  P = IsServedUnder (content_of theirs) pins
 
   told_apart : (x : Spot) → Contains xs x → (P x.node → Is last Common x.place)
       × ((P x.node → ⊥) → Is last Missing x.place)
-  told_apart = spot_told (changesets theirs.history) served xs ds last ground.spots apart len
+  told_apart = spot_told P xs ds last ground.spots apart len
 
   first_marks : (marks : List Bool) × AreCovered ps ds Undecided marks
   first_marks = marks_exist ps ds ground.len
@@ -510,10 +468,8 @@ module _ (ours theirs : ReplicaState) (pins : List Node) (ps : List ParentPlaces
     ]
   ]
 
-  pub told_in_common : ((n : Node) → P n ↔ IsServedUnder (content_of theirs) pins n)
-      → AreHeadsInCommon ours theirs pins (nodes_of heads)
-  told_in_common exact =
-      let tell : (n : Node) → P n ⊎ (P n → ⊥) = λ n. marked_or_not (changesets theirs.history) served n in
+  pub told_in_common : AreHeadsInCommon ours theirs pins (nodes_of heads)
+  told_in_common =
       let all = end_of P tell ps xs ground.ascending last closed told_apart (undecided ds) ours start (omega arith)
       (IsAskedSoFar-start P ours start starts)
       (record {
@@ -526,7 +482,7 @@ module _ (ours theirs : ReplicaState) (pins : List Node) (ps : List ParentPlaces
       let t = all.0 in
       let same = end_common P tell ps xs ground.ascending last closed told_apart t all.2 all.3 (len ∙ ground.len) in (
         t,
-        IsAskedSoFar-done P ours theirs pins t all.1 all.3 exact,
+        IsAskedSoFar-done ours theirs pins t all.1 all.3,
         (
           heads,
           (
@@ -554,32 +510,3 @@ module _ (ours theirs : ReplicaState) (pins : List Node) (ps : List ParentPlaces
           refl,
         ),
       )
-
--- ---- places
-
--- where the other side holds what is marked here
-module _ (ours : List Contents) (shared : List Bool) (theirs : List Contents) (served : List Bool) (n : Node) where
-  abbrev IsThere : Option ℕ → Type 0
-  IsThere place = MatchOption place (IsMarkedNode ours shared n → ¬ (Holds theirs n))
-      (λ p. IsMarkedNode ours shared n × IsOnlyAt theirs n p)
-
-  pub there_within : (place : Option ℕ) → length served ≡ length theirs → IsThere place
-      → IfSome place (λ p. p < length served)
-  there_within None len found = tt
-  there_within (Some p) len found = omega (arith, len, placed_within theirs n p ((found.1 p).1 refl))
-
-  -- it says whether it is marked on both sides
-  pub there_marked : (place : Option ℕ) → IsThere place
-      → ((p : ℕ) × (place ≡ Some p) × IsMarked served p) ↔ IsMarkedOnBoth ours shared theirs served n
-  there_marked None found = (
-    λ h. absurd (none-some h.0 h.1),
-    λ h. absurd (found h.0 (Contains-from_place (nodes theirs) h.1.0 n h.1.1)),
-  )
-  there_marked (Some p) found = (
-    λ h.
-        let e : h.0 ≡ p - 0 = let same = same_Some p h.0 h.1 in omega (arith, same) in
-        (found.0, (p, (found.1 p).1 refl, (omega arith, subst (IsMarked served) e h.2))),
-    λ h.
-        let e : h.1.0 - 0 ≡ p = let same = (found.1 h.1.0).0 h.1.1 in omega (arith, same) in
-        (p, refl, subst (IsMarked served) e h.1.2.1),
-  )

@@ -10,6 +10,4 @@ pub mod Children
 pub mod Between
 pub mod Refusals
 pub mod Order
-pub mod Heads
-pub mod Whole
 pub mod Compared

@@ -1,9 +1,7 @@
 //! The other side's answers.
-ghost use Rattle.std.specs.Prelude.{◌≡◌, IfOk, length};
-ghost use Rattle.hg_graph.specs.Marks.{IsMarkedNode};
-ghost use Rattle.hg_phases.specs.State.{changesets};
+ghost use Rattle.std.specs.Prelude.{IfOk};
 ghost use Rattle.hg_replica.specs.Content.{content_of};
-ghost use Rattle.hg_discovery.specs.Rounds.{AreAnswers, AreKnown};
+ghost use Rattle.hg_discovery.specs.Rounds.{AreKnown};
 
 use hg_changeset::Node;
 use hg_replica::Replica;
@@ -22,8 +20,13 @@ pub fn known(
 ) -> Result<Vec<bool>, AllocError>
     ensures { IfOk result (λ answers. AreKnown (content_of replica.now) pins.now nodes.now answers.items) }
 {
+    let graph = replica.graph();
     let served = served_marks(alloc, replica, pins)?;
-    known_by(alloc, replica, &served, nodes)
+    let mut answers = Vec::with_capacity(alloc, nodes.len())?;
+    for node in nodes {
+        answers.push(graph.is_marked(&served, *node))?;
+    }
+    Ok(answers)
 }
 
 /// Which of the nodes a kept replica serves under its pins, as [`known`] tells it.
@@ -36,26 +39,6 @@ pub fn known_kept(alloc: Global, kept: &Kept, nodes: &[Node]) -> Result<Vec<bool
     let mut answers = Vec::with_capacity(alloc, nodes.len())?;
     for node in nodes {
         answers.push(kept.is_served(*node))?;
-    }
-    Ok(answers)
-}
-
-/// Which of the nodes are marked, as [`known`] of a replica whose served changesets are: it costs one look-up for each
-/// node.
-pub(crate) fn known_by(
-    alloc: Global,
-    replica: &Replica,
-    served: &[bool],
-    nodes: &[Node],
-) -> Result<Vec<bool>, AllocError>
-    requires len { length served.now ≡ length (changesets replica.now.history) }
-    ensures { IfOk result (λ answers. AreAnswers
-        (IsMarkedNode (changesets replica.now.history) served.now) nodes.now answers.items) }
-{
-    let graph = replica.graph();
-    let mut answers = Vec::with_capacity(alloc, nodes.len())?;
-    for node in nodes {
-        answers.push(graph.is_marked(served, *node))?;
     }
     Ok(answers)
 }

@@ -11,8 +11,7 @@ ghost use Rattle.hg_graph.specs.Places.{IsOnlyAt};
 ghost use Rattle.hg_view.specs.Common.{AreFree, IsFree};
 ghost use Rattle.hg_discovery.specs.Compared.{AreCompared, AreFreeFrom};
 
-use crate::whole::{behind, place_near};
-use hg_changeset::Changeset;
+use hg_changeset::{Changeset, Node};
 use hg_graph::Graph;
 
 /// How many changesets of an asker, and how many of another replica, were compared, from the first on: none of these
@@ -84,5 +83,25 @@ fn is_free_at(changeset: &Changeset, other: &Graph, there: Option<usize>) -> boo
     match other.changeset_at(there) {
         Some(held) => changeset.is_same(held),
         None => true,
+    }
+}
+
+// Where the changeset with this id stands, which may be near.
+fn place_near(graph: &Graph, node: Node, near: usize) -> Option<usize>
+    ensures { MatchOption result (¬ (Holds graph.now node)) (IsOnlyAt graph.now node) }
+{
+    // It says that this is a graph.
+    let _count = graph.len();
+    match graph.node_at(near) {
+        Some(held) if held == node => Some(near),
+        _ => graph.place(node),
+    }
+}
+
+// The place behind this one, if there is one.
+fn behind(place: Option<usize>, near: usize) -> usize {
+    match place {
+        Some(place) => place.saturating_add(1),
+        None => near,
     }
 }

@@ -1,12 +1,10 @@
-//! Heads: by a walk, and by marks.
-ghost use Rattle.std.specs.Prelude.{◌≡◌, ◌↔◌, ℕ, ◌<◌, length, Contains, IsTrue, IfOk};
+//! Heads by a walk.
+ghost use Rattle.std.specs.Prelude.{◌↔◌, Contains, IfOk};
 ghost use Rattle.hg_phases.specs.State.{changesets};
 ghost use Rattle.hg_graph.specs.Places.{IsAt};
 ghost use Rattle.hg_view.specs.Common.{AreFree};
 ghost use Rattle.hg_discovery.specs.Between.{AreHeadsInCommon};
 ghost use Rattle.hg_discovery.specs.declared.status.Spot.{Spot};
-ghost use Rattle.hg_discovery.specs.Heads.{IsMarkedHead};
-ghost use Rattle.hg_discovery.specs.Spread.{IsMarked};
 
 use crate::discovery::nodes;
 use crate::order::ascending;
@@ -50,37 +48,4 @@ fn spots_at(alloc: Global, graph: &Graph, places: &[usize]) -> Result<Vec<Spot>,
         }
     }
     Ok(found)
-}
-
-// The marked changesets of which no child is marked, in the graph's order. It takes no look-up.
-pub(crate) fn heads_at(
-    alloc: Global,
-    graph: &Graph,
-    marks: &[bool],
-) -> Result<Vec<Spot>, AllocError>
-    requires { length marks.now ≡ length graph.now }
-    ensures { IfOk result (λ xs. (x : Spot) → Contains xs.items x ↔ IsMarkedHead graph.now marks.now x) }
-{
-    let mut found = Vec::new(alloc);
-    for place in 0..graph.len() {
-        if marks[place] && !has_marked(marks, graph.children(place)) {
-            if let Some(node) = graph.node_at(place) {
-                found.push(Spot { node, place })?;
-            }
-        }
-    }
-    Ok(found)
-}
-
-// Whether one of the places is marked.
-fn has_marked(marks: &[bool], places: &[usize]) -> bool
-    requires { (k : ℕ) → Contains places.now k → k < length marks.now }
-    ensures { IsTrue result ↔ ((k : ℕ) × Contains places.now k × IsMarked marks.now k) }
-{
-    for place in places {
-        if marks[*place] {
-            return true;
-        }
-    }
-    false
 }

@@ -6,13 +6,12 @@
 //! children. An answer is spread by a walk that stops at what is decided, so all answers together cost what they
 //! decide.
 //!
-//! Ids are put in order once, at the start. A round costs one sweep over what the asker holds, to mark what has an
-//! undecided child, and what its answers decide.
+//! Ids are put in order once, at the start. A round costs a copy of what is decided, a byte for each changeset that the
+//! asker holds, one sweep over these, to mark what has an undecided child, and what its answers decide.
 //!
 //! The asker calls [`Discovery`], and the other side answers by [`known`], under its pins. Both may go on in the
 //! meantime. Where both stand in one process, [`heads_in_common_compared`] does all of it by a walk down from the
-//! asker's changesets without a child; where that would be long, by a look-up of each of its changesets; and by rounds
-//! where one id stands for two changesets.
+//! asker's changesets without a child, and by rounds where one id stands for two changesets.
 //!
 //! # Example
 //!
@@ -49,7 +48,6 @@ mod order;
 mod spread;
 mod start;
 mod status;
-mod whole;
 
 pub use answers::{known, known_kept};
 pub use between::heads_in_common_compared;

@@ -1,9 +1,7 @@
 -- The heads of what has one phase, by the marks of what has a child with its phase.
-use Rattle.std.proofs.Common.{◌≡◌, ◌↔◌, ◌⊎◌, ℕ, ◌+◌, ◌-◌, ◌<◌, ◌≤◌, Bool, true, false, List, length, replicate}
+use Rattle.std.proofs.Common.{◌≡◌, ◌↔◌, ◌⊎◌, ℕ, ◌-◌, ◌<◌, Bool, false, List, length, replicate}
 use Rattle.std.proofs.Common.{slice_get, Some, Contains, inl, inr, refl, sym, ap, subst, ◌∙◌, arith}
-use Rattle.std.specs.BTreeSet.{BTreeSet, Updates}
 use Rattle.std.specs.List.Sorted.{IsStrictlySortedBy}
-use Rattle.std.proofs.lemmas.Bool.{cases_eq}
 use Rattle.std.proofs.lemmas.List.{length-replicate, length-map}
 use Rattle.std.proofs.lemmas.Option.{same_Some, slice_get-map}
 use Rattle.std.specs.Option.{option_map}
@@ -18,7 +16,7 @@ use Rattle.hg_graph.specs.Marks.{IsMarked, IsMarkedNode, MarksAlso}
 use Rattle.hg_graph.proofs.GraphLemmas.{Contains-from_place}
 use Rattle.hg_graph.proofs.PlaceLemmas.{same_place, IsAt-from, parent_first, place_from_Holds, placed_within}
 use Rattle.hg_graph.proofs.MarkLemmas.{MarksAlso-then, MarksAlso-same, IsMarked-within, unmarked}
-use Rattle.hg_graph.proofs.HeadLemmas.{AreUnmarked, unmarked_same, unmarked_push}
+use Rattle.hg_obsstore.specs.Places.{ListsAll}
 use Rattle.hg_phases.specs.declared.phase.Phase.{Phase}
 use Rattle.hg_phases.specs.State.{State, Held, IsValid, changesets, rank}
 use Rattle.hg_phases.specs.Content.{content_of}
@@ -33,7 +31,7 @@ use Rattle.hg_replica.specs.Content.{content_of as replica_content}
 use Rattle.hg_message.specs.declared.scope.Scope.{Scope}
 use Rattle.hg_message.specs.Offer.{IsNamed, IsOneWith, AreHeads}
 use Rattle.hg_message.specs.Outgoing.{AreMarksOf}
-use Rattle.hg_message.specs.Covered.{HasPhaseAt, IsCovered, AreCovered, IsUncovered}
+use Rattle.hg_message.specs.Covered.{HasPhaseAt, IsAtOneIn, IsCovered, AreCovered}
 use Rattle.hg_message.proofs.NamedLemmas.{named-above}
 
 -- ---- the marks of those that are covered
@@ -71,47 +69,6 @@ covered_all s graph marks covered len also =
             (inr so),
       );
     }
-
--- ---- those of one phase that have no second mark
-
--- the place is marked and has this phase, and is before the end
-abbrev pub IsBefore : State → List Bool → Phase → ℕ → ℕ → Type 0
-IsBefore s marks phase end k = (IsMarked 0 marks k × HasPhaseAt s phase k) × (k < end)
-
-module _ (s : State) (marks covered : List Bool) (phase : Phase) (p : ℕ) where
-  pub uncovered_push : (old new : BTreeSet Node) (n : Node)
-      → (IsMarked 0 marks p × HasPhaseAt s phase p) × ¬ (IsMarked 0 covered p) → IsAt (changesets s) n p
-      → Updates node_cmp old new n true → AreUnmarked (changesets s) 0 covered (IsBefore s marks phase p) old.keys
-      → AreUnmarked (changesets s) 0 covered (IsBefore s marks phase (p + 1)) new.keys
-  uncovered_push old new n so at up before = unmarked_push (changesets s) 0 covered (IsBefore s marks phase p)
-      (IsBefore s marks phase (p + 1)) p old new n at so.1 up (λ k. (
-        λ h. elim (cases_eq k p) [ inl e ↦ inr e | inr ne ↦ inl (h.0, omega (arith, h.1, ne)) ],
-        λ h. elim h [
-          | inl early ↦ (early.0, omega (arith, early.1))
-          | inr e ↦ (subst (λ i. IsMarked 0 marks i × HasPhaseAt s phase i) (sym e) so.0, omega (arith, e))
-        ],
-      )) before
-
-  pub uncovered_skip : (found : List Node)
-      → ¬ ((IsMarked 0 marks p × HasPhaseAt s phase p) × ¬ (IsMarked 0 covered p))
-      → AreUnmarked (changesets s) 0 covered (IsBefore s marks phase p) found
-      → AreUnmarked (changesets s) 0 covered (IsBefore s marks phase (p + 1)) found
-  uncovered_skip found never before = unmarked_same (changesets s) 0 covered (IsBefore s marks phase p)
-      (IsBefore s marks phase (p + 1)) found (λ k clear. (
-        λ h. elim (cases_eq k p) [
-          | inl e ↦ absurd (never (subst (λ i. (IsMarked 0 marks i × HasPhaseAt s phase i) × ¬ (IsMarked 0 covered i)) e
-              (h.0, clear)))
-          | inr ne ↦ (h.0, omega (arith, h.1, ne))
-        ],
-        λ old. (old.0, omega (arith, old.1)),
-      )) before
-
-  pub uncovered_all : (found : List Node) → length marks ≤ p
-      → AreUnmarked (changesets s) 0 covered (IsBefore s marks phase p) found → (n : Node) → Contains found n
-      ↔ IsUncovered s marks covered phase n
-  uncovered_all found ended before = unmarked_same (changesets s) 0 covered (IsBefore s marks phase p)
-      (λ k. IsMarked 0 marks k × HasPhaseAt s phase k) found
-      (λ k clear. (λ h. (h, omega (arith, ended, IsMarked-within 0 marks k h.0)), λ old. old.0)) before
 
 -- ---- heads
 
@@ -220,51 +177,58 @@ module _ (s : State) (valid : IsValid s) (P : Node → Type 0)
         let m = (are n).1 p in
         subst (IsMarked 0 marks) (same_place (nodes (changesets s)) n k m.0 valid.graph.distinct at m.1) m.2
 
-    pub heads_uncovered : (n : Node) → IsUncovered s marks covered phase n
+    heads-at : (places : List ℕ) → ((k : ℕ) → Contains places k ↔ (IsMarked 0 marks k × ¬ (IsMarked 0 covered k)))
+        → (n : Node) → IsAtOneIn s places phase n
         ↔ (IsOne n × ((d : Node) → IsOne d → Leads (content_of s) n d → d ≡ n))
-    heads_uncovered n = (
-      λ u. (heads-by-children n u.0 u.1).0 (
-        one_at u.0 n u.1 ((are n).0 (u.0, u.1, u.2.0)) u.2.1,
-        λ j parent one. u.3 ((told.exact u.0).1 (
-          j,
-          marked_at j one.0 one.1 one.2.0,
-          (parent, (phase, phase_at j one.0 one.1 one.2, u.2.1)),
-        )),
-      ),
+    heads-at places tops n = (
+      λ u.
+          let m = (tops u.0).0 u.1 in
+          (heads-by-children n u.0 u.2).0 (
+            one_at u.0 n u.2 ((are n).0 (u.0, u.2, m.0)) u.3,
+            λ j parent one. m.1 ((told.exact u.0).1 (
+              j,
+              marked_at j one.0 one.1 one.2.0,
+              (parent, (phase, phase_at j one.0 one.1 one.2, u.3)),
+            )),
+          ),
       λ h.
           let m = (are n).1 h.0.0 in
           let so = phase_at m.0 n m.1 h.0 in
           let top = (heads-by-children n m.0 m.1).1 h in (
             m.0,
+            (tops m.0).1 (
+              m.2,
+              λ marked.
+                  let cover = (told.exact m.0).0 marked in
+                  let j = cover.0 in
+                  let parent = cover.2.0 in
+                  let alike = cover.2.1 in
+                  let at : IsAt (changesets s) (node_of parent.0) j =
+                  IsAt-from (changesets s) j parent.0 (node_of parent.0) parent.2 refl in
+                  let same : alike.0 ≡ phase =
+                  sym alike.2.2 ∙ ap (λ (h : Held). h.phase) (same_Some alike.2.0 so.0 (sym alike.2.1 ∙ so.1)) ∙ so.2 in
+                  let one = one_at j (node_of parent.0) at ((are (node_of parent.0)).0 (j, at, cover.1))
+                  (subst (λ p. HasPhaseAt s p j) same alike.1) in
+                  top.1 j parent (node_of parent.0, at, one),
+            ),
             m.1,
-            (m.2, so),
-            λ marked.
-                let cover = (told.exact m.0).0 marked in
-                let j = cover.0 in
-                let parent = cover.2.0 in
-                let alike = cover.2.1 in
-                let at : IsAt (changesets s) (node_of parent.0) j =
-                IsAt-from (changesets s) j parent.0 (node_of parent.0) parent.2 refl in
-                let same : alike.0 ≡ phase =
-                sym alike.2.2 ∙ ap (λ (h : Held). h.phase) (same_Some alike.2.0 so.0 (sym alike.2.1 ∙ so.1)) ∙ so.2 in
-                let one = one_at j (node_of parent.0) at ((are (node_of parent.0)).0 (j, at, cover.1))
-                (subst (λ p. HasPhaseAt s p j) same alike.1) in
-                top.1 j parent (node_of parent.0, at, one),
+            so,
           ),
     )
 
--- of what a scope names
+-- of what a scope names, by the places of what is named and has no child of its phase
 pub heads-named : (s : ReplicaState) → IsValidReplica s → (pins : List Node) (scope : Scope) (marks covered : List Bool)
     → AreMarksOf s (IsNamed (replica_content s) pins scope) marks → AreCovered s.history marks covered
+    → (places : List ℕ) → ListsAll (λ k. IsMarked 0 marks k × ¬ (IsMarked 0 covered k)) places
     → (phase : Phase) (heads : List Node)
-    → ((n : Node) → Contains heads n ↔ IsUncovered s.history marks covered phase n)
+    → ((n : Node) → Contains heads n ↔ IsAtOneIn s.history places phase n)
     → IsStrictlySortedBy node_cmp heads
     → AreHeads (replica_content s) (IsOneWith (replica_content s) (IsNamed (replica_content s) pins scope) phase) heads
-heads-named s valid pins scope marks covered are told phase heads exact ascending = record {
+heads-named s valid pins scope marks covered are told places tops phase heads exact ascending = record {
   exact = λ n.
-      let same = heads_uncovered s.history valid (IsNamed (replica_content s) pins scope)
+      let same = heads-at s.history valid (IsNamed (replica_content s) pins scope)
       (λ a m named leads. named-above (replica_content s) pins scope a m (content-valid s.history valid) named leads)
-      phase marks covered are.exact told n in
+      phase marks covered are.exact told places tops.exact n in
       (λ h. same.0 ((exact n).0 h), λ h. (exact n).1 (same.1 h));
   ascending = ascending;
 }

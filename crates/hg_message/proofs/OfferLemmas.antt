@@ -14,9 +14,10 @@ use Rattle.hg_changeset.specs.Contents.{Contents}
 use Rattle.hg_changeset.specs.Changeset.{node_of}
 use Rattle.hg_changeset.proofs.ListLemmas.{Contains-map, Contains-map_from, Contains-none}
 use Rattle.hg_graph.specs.Graph.{IsAncestorOfOne, nodes}
-use Rattle.hg_graph.specs.Marks.{IsMarkedNode}
+use Rattle.hg_graph.specs.Marks.{IsMarked, IsMarkedNode}
 use Rattle.hg_graph.proofs.GraphLemmas.{Contains-from_place}
-use Rattle.hg_graph.proofs.MarkLemmas.{IsAt-from, mark_at}
+use Rattle.hg_graph.proofs.MarkLemmas.{IsAt-from}
+use Rattle.hg_graph.proofs.PlaceLemmas.{same_place}
 use Rattle.hg_phases.specs.declared.phase.Phase.{Phase}
 use Rattle.hg_phases.specs.declared.phase.Phase.TheVariants.{Public, Draft, Secret}
 use Rattle.hg_phases.specs.State.{changesets}
@@ -39,7 +40,7 @@ use Rattle.hg_view.specs.Pins.{IsServedUnder}
 use Rattle.hg_message.specs.declared.refusal.OfferRefusal.{OfferRefusal}
 use Rattle.hg_message.specs.declared.refusal.OfferRefusal.TheVariants.{UnknownCommon, TooLarge, NoMemory}
 use Rattle.hg_message.specs.Value.{MessageValue, IsMessage, count_limit, is_too_large}
-use Rattle.hg_message.specs.Outgoing.{ArePlacesOf, CopyAnswer, FindAnswer}
+use Rattle.hg_message.specs.Outgoing.{ArePlacesOf, FindAnswer}
 use Rattle.hg_message.specs.Those.{AreThose}
 use Rattle.hg_message.specs.Touched.{IsTouchedByOne}
 use Rattle.hg_message.specs.declared.scope.Scope.{Scope}
@@ -345,18 +346,22 @@ pub outgoing-marked : (s : ReplicaState) → IsValid s → (P : Node → Type 0)
     → AreHeld (content_of s) common → (marks known : List Bool)
     → ((n : Node) → IsMarkedNode (changesets s.history) marks n ↔ P n)
     → ((n : Node) → IsMarkedNode (changesets s.history) known n ↔ IsAncestorOfOne (changesets s.history) common n)
-    → (i : ℕ) → i < length marks → i < length known → (c : Contents) → slice_get (changesets s.history) i ≡ Some c
-    → ((get_or marks i false ≡ true) × ¬ (get_or known i false ≡ true)) ↔ IsOutgoing (content_of s) P common c
-outgoing-marked s valid P common held marks known is_marked is_known i l k c at =
+    → (i : ℕ) (c : Contents) → slice_get (changesets s.history) i ≡ Some c
+    → (IsMarked 0 marks i × ¬ (IsMarked 0 known i)) ↔ IsOutgoing (content_of s) P common c
+outgoing-marked s valid P common held marks known is_marked is_known i c at =
     let cs = changesets s.history in
     let n = node_of c in
     let here = IsAt-from cs i c n at refl in
-    let one = mark_at cs valid.graph marks i n l here in
-    let two = mark_at cs valid.graph known i n k here in
+    let mark : (ms : List Bool) → IsMarked 0 ms i ↔ IsMarkedNode cs ms n = λ ms. (
+      λ m. (i, here, m),
+      λ h. subst (IsMarked 0 ms) (same_place (nodes cs) n i h.0 valid.graph.distinct here h.1) h.2,
+    ) in
     let out = outgoing-at s valid P common i c at in
     let same = common-are s valid common held n in (
-      λ h. out.0 ((is_marked n).0 (one.0 h.0), λ x. h.1 (two.1 ((is_known n).1 (same.1 x)))),
-      λ h. let x = out.1 h in (one.1 ((is_marked n).1 x.0), λ m. x.1 (same.0 ((is_known n).0 (two.0 m)))),
+      λ h. out.0 ((is_marked n).0 ((mark marks).0 h.0), λ x. h.1 ((mark known).1 ((is_known n).1 (same.1 x)))),
+      λ h.
+          let x = out.1 h in
+          ((mark marks).1 ((is_marked n).1 x.0), λ m. x.1 (same.0 ((is_known n).0 ((mark known).0 m)))),
     )
 
 -- ---- answers
@@ -392,16 +397,6 @@ small-or-large m h e =
       le-ltb count_limit (length (store_spelling m.markers)) h.store,
     )
     refl)
-
--- to find and to copy is to offer, where there is something that may be offered
-pub find-then-copy : (s : ReplicaState) (pins common : List Node) (scope : Scope) (found : MessageValue)
-    (r : Result MessageValue OfferRefusal) → ¬ (HasNothing s scope)
-    → FindAnswer s pins common scope (Ok found) → CopyAnswer found r → OfferAnswer s pins common scope r
-find-then-copy s pins common scope found (Ok m) some h k =
-    (h.0, subst (IsOfferOf s pins common scope) (sym k.1) h.1)
-find-then-copy s pins common scope found (Err (UnknownCommon n)) some h k = absurd k
-find-then-copy s pins common scope found (Err TooLarge) some h k = (h.0, (found, h.1, k))
-find-then-copy s pins common scope found (Err NoMemory) some h k = (h.0, some)
 
 pub find-refused : (s : ReplicaState) (pins common : List Node) (scope : Scope) (refusal : OfferRefusal)
     → FindAnswer s pins common scope (Err refusal) → OfferAnswer s pins common scope (Err refusal)

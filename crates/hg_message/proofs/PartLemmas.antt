@@ -1,10 +1,8 @@
 -- What is read of a message at a replica.
-use Rattle.std.proofs.Common.{◌≡◌, ◌<◌, ℕ, Bool, true, false, ◌&&◌, List, [], ◌∷◌, ◌++◌, length, slice_get, Some}
+use Rattle.std.proofs.Common.{◌≡◌, ◌<◌, ℕ, Bool, true, false, ◌&&◌, List, [], ◌∷◌, ◌++◌, length, Some}
 use Rattle.std.proofs.Common.{Option, Result, Ok, Err, inl, inr, refl, sym, ap, subst, ◌∙◌, arith}
-use Rattle.std.specs.Option.{option_map}
 use Rattle.std.proofs.lemmas.Bool.{true≢false}
 use Rattle.std.specs.Prelude.{IsTrue, IfErr, IsErrOf}
-use Rattle.std.proofs.lemmas.Option.{same_Some, slice_get-map}
 use Rattle.std.proofs.lemmas.List.Elements.{Contains-append_cases}
 use Rattle.hg_changeset.specs.declared.node.Node.{Node}
 use Rattle.hg_changeset.specs.Contents.{Contents}
@@ -14,10 +12,8 @@ use Rattle.hg_marker.specs.declared.error.ReadError.{ReadError}
 use Rattle.hg_marker.specs.declared.error.ReadError.TheVariants as reading
 use Rattle.hg_marker.specs.Reading.{IsRead, Fails}
 use Rattle.hg_marker.proofs.Formats.{ok_is}
-use Rattle.hg_graph.proofs.GraphLemmas.{Contains-from_place}
 use Rattle.hg_phases.specs.declared.phase.Phase.{Phase}
-use Rattle.hg_phases.specs.declared.phase.Phase.TheVariants.{Secret}
-use Rattle.hg_phases.specs.State.{Held, changesets}
+use Rattle.hg_phases.specs.State.{changesets}
 use Rattle.hg_replica.specs.State.{ReplicaState}
 use Rattle.hg_replica.specs.Least.{PartValue}
 use Rattle.hg_message.specs.declared.error.MessageFault.{MessageFault}
@@ -27,7 +23,7 @@ use Rattle.hg_message.specs.Value.{MessageValue}
 use Rattle.hg_message.specs.Counted.{first_of}
 use Rattle.hg_message.specs.Record.{RecordFields, IsItsRecord, contents_of, fields_at, record_at}
 use Rattle.hg_message.specs.Message.{message_at}
-use Rattle.hg_message.specs.Known.{IsKnown, IsKnownAt, AreKnownAt, PartAnswer, rest_of}
+use Rattle.hg_message.specs.Known.{IsKnownAt, AreKnownAt, PartAnswer, rest_of}
 use Rattle.hg_message.specs.Layout.{records_in, bounds_in, markers_in, with_read, with_markers, said, KnowsRecords}
 use Rattle.hg_message.specs.Layout.{GivesPart}
 use Rattle.hg_message.proofs.LayoutLemmas.{counted_long}
@@ -40,16 +36,6 @@ unfolding record_at
 read_once total index bytes rest after f c e its r =
     let one : record_at total index bytes ≡ Ok (contents_of f, rest) = rw (e, its.differ, its.named) refl in
     ap (λ (x : Contents × List ℕ). x.0) (ok_is MessageFault (contents_of f, rest) (c, after) (sym one ∙ r))
-
--- what is held at a place, and isn't secret there, is known
-pub known_at : (s : ReplicaState) (place : ℕ) (c : Contents) (h : Held)
-    → slice_get (changesets s.history) place ≡ Some c → slice_get s.history.held place ≡ Some h
-    → (h.phase ≡ Secret → ⊥) → IsKnown s c
-known_at s place c h at_c at_h shared =
-    let is = same_Some h.changeset c
-    (sym (slice_get-map (λ (g : Held). g.changeset) s.history.held place
-    ∙ ap (option_map (λ (g : Held). g.changeset)) at_h) ∙ at_c) in
-    (h, Contains-from_place s.history.held place h at_h, is, shared)
 
 -- where all so far are known, and the next is
 pub both_known : (a b : Bool) → IsTrue (a && b) → IsTrue a × IsTrue b
@@ -116,11 +102,6 @@ fails_together scope (Ok x) (Ok y) (Err fault) (reading.Fault f) read also fails
 pub store_fails : (l : Layout) (e : ReadError MessageFault) → IsRead (records_in l) → IsRead (bounds_in l)
     → Fails e (markers_in l) → Fails e (said l)
 store_fails l e read also fails = fails_together l.scope (records_in l) (bounds_in l) (markers_in l) e read also fails
-
-pub memory_fails : (l : Layout) (markers : List Fields) → IsRead (records_in l) → IsRead (bounds_in l)
-    → markers_in l ≡ Ok markers → Fails reading.NoMemory (said l)
-memory_fails l markers read also e =
-    store_fails l reading.NoMemory read also (subst (λ (r : Read (List Fields)). IsRead r) (sym e) tt)
 
 rest_together : (scope : Scope) (r : Records) (b : Bounds) (k : Read (List Fields)) (bounds : List (Node × Phase))
     (markers : List Fields) → IsRead r → first_of b ≡ Ok bounds → k ≡ Ok markers

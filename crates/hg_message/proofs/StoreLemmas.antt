@@ -6,7 +6,6 @@ use Rattle.std.specs.List.{flat_map}
 use Rattle.std.proofs.lemmas.List.{append-nil, take_at}
 use Rattle.hex.specs.Hex.{IsBytes}
 use Rattle.hg_marker.specs.Fields.{Fields}
-use Rattle.hg_marker.specs.declared.error.MarkerFault.{MarkerFault}
 use Rattle.hg_marker.specs.Metadata.{written}
 use Rattle.hg_marker.specs.Reading.{IsRead}
 use Rattle.hg_marker.specs.Grammar.{IsSpelling, spelling, layout, ids}
@@ -162,16 +161,3 @@ read_long bytes fits read lt = by (store_at bytes) (store_told bytes fits) read
         → IsRead r → 26 < length bytes
     by (Ok ms) h read = spelled_long ms bytes h lt
     by (Err fault) h read = absurd read
-
--- ---- where a fault is
-
--- the faulty marker begins in the store
-pub fault_within : (bytes : List ℕ) (place : ℕ) (cause : MarkerFault) → IsStoreFault bytes (faults.Bad place cause)
-    → place ≤ length bytes
-fault_within [] place cause h = absurd h
-fault_within (version ∷ bytes) place cause h = omega (
-  arith,
-  h.1.place_is,
-  ap length h.1.parts,
-  length-append h.1.front h.1.rest,
-)

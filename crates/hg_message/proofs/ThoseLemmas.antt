@@ -107,9 +107,3 @@ those-front P (x ∷ xs) ys (suc i) y (inl t) at =
 those-front P (x ∷ xs) ys i y (inr t) at =
     let r = those-front P xs ys i y t.1 at in
     (suc r.0, r.1, inr (t.0, r.2))
-
-pub those-same : {X : Type 0} (P Q : X → Type 0) → ((x : X) → P x ↔ Q x) → (xs ys : List X) → AreThose P xs ys
-    → AreThose Q xs ys
-those-same P Q same [] ys are = are
-those-same P Q same (x ∷ xs) ys (inl t) = inl ((same x).0 t.0, (t.1.0, t.1.1, those-same P Q same xs t.1.0 t.1.2))
-those-same P Q same (x ∷ xs) ys (inr t) = inr ((λ q. t.0 ((same x).1 q)), those-same P Q same xs ys t.1)

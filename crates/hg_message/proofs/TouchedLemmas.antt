@@ -92,6 +92,3 @@ module _ (P : Node → Type 0) (ns : List Node) (i : ℕ) (x : Node) (l : i < le
       | inr e ↦ absurd (not (subst P (sym e) h.1))
     ],
   )
-
-pub some-none : (P : Node → Type 0) → AreSome P [] []
-some-none P n = (λ h. absurd (Contains-none n h), λ h. absurd (Contains-none n h.0))

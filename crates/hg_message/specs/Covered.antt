@@ -27,11 +27,6 @@ pub record AreCovered (s : State) (marks covered : List Bool) : Type 0 where
   pub len : length covered ≡ length (changesets s)
   pub exact : (k : ℕ) → IsMarked 0 covered k ↔ IsCovered s marks k
 
--- the node stands at a place that is marked and has no second mark, with this phase
-abbrev pub IsUncovered : State → List Bool → List Bool → Phase → Node → Type 0
-IsUncovered s marks covered phase n = (k : ℕ) × IsAt (changesets s) n k × (IsMarked 0 marks k × HasPhaseAt s phase k)
-    × ¬ (IsMarked 0 covered k)
-
 -- the node stands at one of the places, with this phase
 abbrev pub IsAtOneIn : State → List ℕ → Phase → Node → Type 0
 IsAtOneIn s places phase n = (k : ℕ) × Contains places k × IsAt (changesets s) n k × HasPhaseAt s phase k

@@ -14,12 +14,13 @@ ghost use Rattle.hg_message.specs.Outgoing.{ArePlacesOf, AreMarksOf, AreServedHe
 ghost use Rattle.hg_message.specs.declared.scope.Scope.{Scope};
 ghost use Rattle.hg_message.specs.declared.scope.Scope.TheVariants.{Served as served_scope};
 
+use crate::marks::marked_but;
 use crate::scope::Scope;
-use crate::touched::{marked_among, name_little, served_among, touched};
+use crate::touched::{served_among, touched};
 use hg_changeset::Node;
 use hg_graph::Graph;
-use hg_relevant::{relevant, relevant_near};
-use hg_replica::{Hint, Replica};
+use hg_relevant::relevant;
+use hg_replica::Replica;
 use hg_view::{Kept, places_above};
 use std::alloc::{AllocError, Global};
 
@@ -54,13 +55,7 @@ pub(crate) fn outgoing_places(
 {
     let graph = replica.graph();
     let known = graph.ancestor_marks(common)?;
-    let mut found = Vec::new(alloc);
-    for place in 0..named.len() {
-        if named[place] && !known[place] {
-            found.push(place)?;
-        }
-    }
-    Ok(found)
+    marked_but(alloc, named, &known)
 }
 
 /// The places of the markers that the scope names, ascending. The marks tell which changesets it names.
@@ -81,8 +76,7 @@ pub(crate) fn named_marker_places(
     }
 }
 
-// The places of the markers that are relevant to what is served, ascending. Where markers name little, it costs what
-// they name, and otherwise a look near its hint for each changeset that is served.
+// The places of the markers that are relevant to what is served, ascending, by a look-up of each changeset that is.
 fn relevant_places(
     alloc: Global,
     replica: &Replica,
@@ -93,46 +87,13 @@ fn relevant_places(
         → AreMarksOf replica.now (IsNamed (content_of replica.now) pins served_scope) served.now
         → ArePlaces (IsNamedMarker (content_of replica.now) pins served_scope) replica.now.markers found.items) }
 {
-    if name_little(replica.store().markers(), served.len()) {
-        return relevant_to_touched(alloc, replica, served);
-    }
     let nodes = replica.graph().marked(served)?;
-    let hints = marked_hints(alloc, replica, served)?;
-    relevant_near(alloc, replica.store(), &nodes, &hints)
-}
-
-// The same, by those of the served changesets of which a marker tells: no marker is relevant for the others.
-fn relevant_to_touched(
-    alloc: Global,
-    replica: &Replica,
-    served: &[bool],
-) -> Result<Vec<usize>, AllocError>
-    requires { length served.now ≡ length (changesets replica.now.history) }
-    ensures { IfOk result (λ found. (pins : List Node)
-        → AreMarksOf replica.now (IsNamed (content_of replica.now) pins served_scope) served.now
-        → ArePlaces (IsNamedMarker (content_of replica.now) pins served_scope) replica.now.markers found.items) }
-{
-    let nodes = touched(alloc, replica.keys(), replica.store().markers())?;
-    let nodes = marked_among(alloc, replica.graph(), served, nodes.as_slice())?;
     relevant(alloc, replica.store(), &nodes)
 }
 
-/// The places of the markers that are relevant to what is served, ascending, where that is told by what is kept. Where
-/// markers name little it costs what they name, and otherwise a look near its hint for each changeset.
+/// The same, where that is told by what is kept. It costs what markers name: they are relevant to no changeset of which
+/// none tells.
 pub(crate) fn served_marker_places(alloc: Global, kept: &Kept) -> Result<Vec<usize>, AllocError>
-    ensures { IfOk result (λ found. ArePlaces
-        (IsNamedMarker (content_of kept.now.replica) kept.now.pins served_scope) kept.now.replica.markers found.items) }
-{
-    let replica = kept.replica();
-    if name_little(replica.store().markers(), replica.graph().len()) {
-        return relevant_to_served(alloc, kept);
-    }
-    let served = kept.served_marks()?;
-    relevant_places(alloc, replica, &served)
-}
-
-// The same, by those of the served changesets of which a marker tells.
-fn relevant_to_served(alloc: Global, kept: &Kept) -> Result<Vec<usize>, AllocError>
     ensures { IfOk result (λ found. ArePlaces
         (IsNamedMarker (content_of kept.now.replica) kept.now.pins served_scope) kept.now.replica.markers found.items) }
 {
@@ -172,17 +133,6 @@ fn places_of(alloc: Global, graph: &Graph, nodes: &[Node]) -> Result<Vec<usize>,
         }
     }
     Ok(found)
-}
-
-// The hints that are of the changesets at the marked places, in their order.
-fn marked_hints(alloc: Global, replica: &Replica, marks: &[bool]) -> Result<Vec<Hint>, AllocError> {
-    let mut hints = Vec::with_capacity(alloc, marks.len())?;
-    for (place, marked) in marks.iter().enumerate() {
-        if *marked {
-            hints.push(replica.hint_at(place))?;
-        }
-    }
-    Ok(hints)
 }
 
 // The places of all markers, ascending.

@@ -13,12 +13,13 @@ ghost use Rattle.hg_phases.specs.State.{changesets};
 ghost use Rattle.hg_replica.specs.State.{IsValid};
 ghost use Rattle.hg_replica.specs.Content.{content_of};
 ghost use Rattle.hg_view.specs.Pins.{IsServedUnder};
-ghost use Rattle.hg_message.specs.Covered.{HasPhaseAt, AreAlike, IsParentAlike, IsCovered, AreCovered, IsUncovered};
+ghost use Rattle.hg_message.specs.Covered.{HasPhaseAt, AreAlike, IsParentAlike, IsCovered, AreCovered};
 ghost use Rattle.hg_message.specs.Covered.{IsAtOneIn};
 ghost use Rattle.hg_message.specs.Offer.{AreOfferedBounds, IsNamed, bounds_in};
 ghost use Rattle.hg_message.specs.Outgoing.{AreMarksOf, AreServedHeads};
 ghost use Rattle.hg_message.specs.declared.scope.Scope.{Scope};
 
+use crate::marks::marked_but;
 use hg_changeset::Node;
 use hg_phases::Phase;
 use hg_replica::Replica;
@@ -38,8 +39,9 @@ pub(crate) fn head_bounds(
         → AreOfferedBounds (content_of replica.now) (IsNamed (content_of replica.now) pins scope) bounds.items) }
 {
     let covered = covered(alloc, replica, named)?;
-    let public = heads_in(alloc, replica, named, &covered, Phase::Public)?;
-    let draft = heads_in(alloc, replica, named, &covered, Phase::Draft)?;
+    let heads = marked_but(alloc, named, &covered)?;
+    let public = nodes_in(alloc, replica, &heads, Phase::Public)?;
+    let draft = nodes_in(alloc, replica, &heads, Phase::Draft)?;
     bounds_on(alloc, &public, &draft)
 }
 
@@ -174,69 +176,6 @@ fn is_in(replica: &Replica, place: usize, phase: Phase) -> bool
         Some(its) => its == phase,
         None => false,
     }
-}
-
-// The named changesets with this phase that nothing covers, ascending.
-fn heads_in(
-    alloc: Global,
-    replica: &Replica,
-    named: &[bool],
-    covered: &[bool],
-    phase: Phase,
-) -> Result<Vec<Node>, AllocError>
-    requires named { length named.now ≡ length (changesets replica.now.history) }
-    requires covered { length covered.now ≡ length (changesets replica.now.history) }
-    ensures exact { IfOk result
-        (λ heads. (n : Node) → Contains heads.items n ↔ IsUncovered replica.now.history named.now covered.now phase n) }
-    ensures ascending { IfOk result (λ heads. IsStrictlySortedBy node_cmp heads.items) }
-{
-    let heads = uncovered_in(alloc, replica, named, covered, phase)?;
-    listed(alloc, heads)
-}
-
-// The same, as a set.
-fn uncovered_in(
-    alloc: Global,
-    replica: &Replica,
-    named: &[bool],
-    covered: &[bool],
-    phase: Phase,
-) -> Result<BTreeSet<Node>, AllocError>
-    requires named { length named.now ≡ length (changesets replica.now.history) }
-    requires covered { length covered.now ≡ length (changesets replica.now.history) }
-    ensures { IfOk result
-        (λ heads. (n : Node) → Contains heads.keys n ↔ IsUncovered replica.now.history named.now covered.now phase n) }
-{
-    let graph = replica.graph();
-    let mut found = BTreeSet::new(alloc);
-    for place in 0..named.len() {
-        if is_uncovered(replica, named, covered, place, phase) {
-            if let Some(node) = graph.node_at(place) {
-                found.insert(node)?;
-            }
-        }
-    }
-    Ok(found)
-}
-
-// Whether the changeset at a place is named, nothing covers it, and it has this phase. The phase is looked at last.
-fn is_uncovered(
-    replica: &Replica,
-    named: &[bool],
-    covered: &[bool],
-    place: usize,
-    phase: Phase,
-) -> bool
-    requires named { length named.now ≡ length (changesets replica.now.history) }
-    requires covered { length covered.now ≡ length (changesets replica.now.history) }
-    requires place { place < length named.now }
-    ensures { IsTrue result ↔ ((IsMarked 0 named.now place × HasPhaseAt replica.now.history phase place)
-        × ¬ (IsMarked 0 covered.now place)) }
-{
-    if !named[place] || covered[place] {
-        return false;
-    }
-    is_in(replica, place, phase)
 }
 
 // The nodes of a set, ascending.

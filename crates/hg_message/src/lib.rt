@@ -37,6 +37,7 @@ mod finding;
 mod heads;
 mod laws;
 mod layout;
+mod marks;
 mod message;
 mod offer_laws;
 mod offers;

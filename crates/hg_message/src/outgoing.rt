@@ -103,9 +103,9 @@ impl<'a> Outgoing<'a> {
     }
 
     /// What goes out above the common nodes, as [`above`](Outgoing::above) finds it, of a replica whose instabilities
-    /// are kept up to date, under its pins. Where few changesets have no child, what is served goes out at the cost of
-    /// what is found, the heads of what is served, the common nodes and what stands between them, and what markers
-    /// name: not of all that is held.
+    /// are kept up to date, under its pins. What is served goes out at the cost of what has no child, what is secret or
+    /// hidden, what is found, the common nodes and what stands between them, and what markers name: not of all that is
+    /// held.
     ///
     /// Refuses [`OfferRefusal::UnknownCommon`] alone, for the first that isn't held.
     pub fn above_kept(
@@ -116,7 +116,12 @@ impl<'a> Outgoing<'a> {
     ) -> Result<Outgoing<'a>, OfferRefusal>
         ensures { FindAnswer kept.now.replica kept.now.pins common.now scope result }
     {
-        above_by(alloc, kept, kept.replica(), common, scope)
+        match scope {
+            Scope::Served => above_served(alloc, kept, kept.replica(), common),
+            Scope::Whole => {
+                Outgoing::above(alloc, kept.replica(), kept.pins(), common, Scope::Whole)
+            }
+        }
     }
 
     /// Whether it is more than a message can hold: see [`MessageError::TooLarge`](crate::MessageError::TooLarge).
@@ -244,53 +249,20 @@ fn named_marks(
     }
 }
 
-// What goes out above the common nodes of a replica that is kept.
-fn above_by<'a>(
+// What goes out of what is served above the common nodes, of a replica that is kept.
+fn above_served<'a>(
     alloc: Global,
     kept: &Kept,
     replica: &'a Replica,
     common: &[Node],
-    scope: Scope,
 ) -> Result<Outgoing<'a>, OfferRefusal>
     requires { replica.now ≡ kept.now.replica }
-    ensures { FindAnswer replica.now kept.now.pins common.now scope result }
+    ensures { FindAnswer replica.now kept.now.pins common.now served_scope result }
 {
     match first_unknown(replica, common) {
         Some(node) => Err(OfferRefusal::UnknownCommon(node)),
-        None if has_nothing(replica, scope) => Ok(nothing(alloc, replica, scope)),
-        None => Ok(find_by(alloc, kept, replica, common, scope)?),
-    }
-}
-
-// What goes out of a replica that is kept, where each common node is held.
-fn find_by<'a>(
-    alloc: Global,
-    kept: &Kept,
-    replica: &'a Replica,
-    common: &[Node],
-    scope: Scope,
-) -> Result<Outgoing<'a>, AllocError>
-    requires replica { replica.now ≡ kept.now.replica }
-    requires common { AreHeld (content_of replica.now) common.now }
-    ensures { IfOk result (IsOfferOf replica.now kept.now.pins common.now scope) }
-{
-    match scope {
-        Scope::Served if kept.has_few_tops() => find_served(alloc, kept, replica, common),
-        _ => {
-            let named = kept_marks(alloc, kept, scope)?;
-            find(alloc, replica, &named, common, scope)
-        }
-    }
-}
-
-// A mark for each place of the graph: whether the scope names the changeset there.
-fn kept_marks(alloc: Global, kept: &Kept, scope: Scope) -> Result<Vec<bool>, AllocError>
-    ensures { IfOk result (λ marks. AreMarksOf kept.now.replica
-        (IsNamed (content_of kept.now.replica) kept.now.pins scope) marks.items) }
-{
-    match scope {
-        Scope::Served => kept.served_marks(),
-        Scope::Whole => shared_marks(alloc, kept.replica()),
+        None if has_nothing(replica, Scope::Served) => Ok(nothing(alloc, replica, Scope::Served)),
+        None => Ok(find_served(alloc, kept, replica, common)?),
     }
 }
 

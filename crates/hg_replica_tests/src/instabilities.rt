@@ -99,12 +99,6 @@ fn heads_that_are_kept_follow_what_is_absorbed(rt: HostRuntime) {
             &[1, 2, 4, 5, 6, 8, 9]
         )
     );
-    assert!(rt;
-        has_places(
-            &kept.shared_heads().expect(&rt, "memory"),
-            &[1, 2, 3, 4, 5, 6, 8, 9]
-        )
-    );
     assert!(rt; has_places(kept.public_heads(), &[4, 8]));
 
     // A child of `g` is there, `b` is public, and `v` and `x` are pruned.
@@ -205,9 +199,7 @@ fn refused_growth_of_pins_changes_nothing(rt: HostRuntime) {
     assert!(rt; kept.is_visible(pruned));
     assert!(rt; kept.pins().copy().is_ok() || kept.pins().copy().is_ok());
     assert!(rt; kept.visible().is_ok() || kept.visible().is_ok());
-    assert!(rt; kept.served_marks().is_ok() || kept.served_marks().is_ok());
     assert!(rt; kept.served_heads().is_ok() || kept.served_heads().is_ok());
-    assert!(rt; kept.shared_heads().is_ok() || kept.shared_heads().is_ok());
     assert!(rt; kept.unpin(pruned).is_ok() || kept.unpin(pruned).is_ok());
     assert!(rt; !kept.is_visible(pruned));
 }

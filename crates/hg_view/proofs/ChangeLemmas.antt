@@ -237,13 +237,3 @@ tops-all cs Q old new long updated = record {
       (λ k out q. absurd (out (inl (omega arith)))) (λ k none. absurd none) (λ j k parent none. none) 0 [] old new
       (λ k le. inl le) refl (λ k. ((λ up. absurd (none-some true up)), (λ top. absurd top.0))) updated;
 }
-
--- nothing has no tops
-pub tops-none : (Q : ℕ → Type 0) (flags : List Bool) → flags ≡ [] → ((k : ℕ) → ¬ (Q k)) → AreFlags 0 (IsTop [] Q) flags
-tops-none Q flags e none = record {
-  len = ap length e;
-  exact = λ k. (
-    λ up. absurd (none-some true (ap (λ fs. slice_get fs k) (sym e) ∙ up)),
-    λ top. absurd (none k top.0),
-  );
-}

@@ -1,16 +1,15 @@
 -- What two replicas have in common, where no changeset of the one collides with one of the other.
-use Rattle.std.proofs.Common.{◌≡◌, ◌∙◌, List, Contains, refl, sym, subst}
+use Rattle.std.proofs.Common.{◌≡◌, ◌∙◌, ◌↔◌, ◌<◌, ℕ, List, Contains, length, refl, sym, subst}
 use Rattle.std.proofs.lemmas.Option.{same_Some}
 use Rattle.hg_changeset.specs.declared.node.Node.{Node}
 use Rattle.hg_changeset.specs.Contents.{Contents}
 use Rattle.hg_changeset.specs.Changeset.{node_of}
 use Rattle.hg_graph.specs.Graph.{Holds, IsParent}
-use Rattle.hg_graph.specs.Places.{IsAt}
 use Rattle.hg_graph.proofs.GraphLemmas.{Contains-from_place, Holds-changeset}
-use Rattle.hg_graph.proofs.PlaceLemmas.{Holds-reaching, IsAt-from}
+use Rattle.hg_graph.proofs.PlaceLemmas.{Holds-reaching, IsAt-from, placed_within}
 use Rattle.hg_phases.specs.State.{changesets}
 use Rattle.hg_history.specs.Content.Leads.{itself, below}
-use Rattle.hg_history.proofs.ContentLemmas.{content-changeset, node_in_content, reach_from_leads}
+use Rattle.hg_history.proofs.ContentLemmas.{content-changeset, content-node, node_in_content, reach_from_leads}
 use Rattle.hg_replica.specs.State.{ReplicaState, IsValid}
 use Rattle.hg_replica.specs.Content.{content_of}
 use Rattle.hg_replica.proofs.ContentLemmas.{content-valid}
@@ -18,8 +17,9 @@ use Rattle.hg_view.specs.Common.{AreFree, IsCommonAt}
 use Rattle.hg_view.specs.Descent.{IsClosedUnderParents}
 use Rattle.hg_view.specs.Kept.{KeptValue}
 use Rattle.hg_view.specs.Pins.{IsServedUnder}
+use Rattle.hg_view.specs.Tops.{IsServedAt}
 use Rattle.hg_view.proofs.PinLemmas.{served_under-above}
-use Rattle.hg_view.proofs.ViewHeadLemmas.{shared-closed}
+use Rattle.hg_view.proofs.ViewHeadLemmas.{served-closed, shared-closed}
 
 pub served_held : (s : ReplicaState) (pins : List Node) → IsValid s → (n : Node)
     → IsServedUnder (content_of s) pins n → Holds (changesets s.history) n
@@ -58,3 +58,25 @@ common-closed s other valid their_valid free j k parent so =
       up.2,
       subst Served (same_Some parent.1 up.0 (sym parent.4 ∙ up.1)) served,
     )
+
+-- what is in common stands at a place of the graph
+pub common_within : (s : ReplicaState) (other : KeptValue) (k : ℕ) → IsCommonAt s other k
+    → k < length (changesets s.history)
+common_within s other k so = placed_within (changesets s.history) so.0 k so.1
+
+module _ (kept : KeptValue) (valid : IsValid kept.replica) where
+  -- what a replica has in common with itself is what it serves
+  pub own-common : (k : ℕ) → IsCommonAt kept.replica kept k ↔ IsServedAt kept.replica kept.pins k
+  own-common k = (
+    λ so. (so.0, so.1, so.3),
+    λ so. (
+      so.0,
+      so.1,
+      (content-node kept.replica.history valid.graph so.0 (served_held kept.replica kept.pins valid so.0 so.2), so.2.1),
+      so.2,
+    ),
+  )
+
+  pub own-closed : IsClosedUnderParents (changesets kept.replica.history) (IsCommonAt kept.replica kept)
+  own-closed j k parent so =
+      (own-common k).1 (served-closed kept.replica valid kept.pins j k parent ((own-common j).0 so))

@@ -1,6 +1,6 @@
 -- Flags of places: steps that settle them and take some out, and tops after such steps.
 use Rattle.std.proofs.Common.{◌≡◌, ℕ, ◌+◌, ◌<◌, ◌≤◌, true, false, Bool, List, length, take, set, get_or}
-use Rattle.std.proofs.Common.{slice_get, Option, Some, ◌↔◌, ◌⊎◌, inl, inr, refl, sym, ap}
+use Rattle.std.proofs.Common.{slice_get, ◌↔◌, ◌⊎◌, inl, inr, refl, sym}
 use Rattle.std.proofs.Common.{subst, ◌∙◌, arith, true≢false}
 use Rattle.std.proofs.lemmas.Bool.{cases_eq, cases_lt}
 use Rattle.std.proofs.lemmas.List.{length-set}
@@ -105,23 +105,6 @@ module _ (Q : ℕ → Type 0) where
   }
 
 -- ---- taking out
-
-pub take-one : (flags : List Bool) (place : ℕ) (r : Option ℕ) → r ≡ Some place → place < length flags
-    → (new : List Bool) → new ≡ set flags place false → AreTakenOut (λ k. r ≡ Some k) flags new
-take-one flags place r r_is l new is = subst (AreTakenOut (λ k. r ≡ Some k) flags) (sym is) (record {
-  len = length-set flags place false;
-  each = λ k. elim (cases_eq k place) [
-    | inl e ↦ (
-      λ at. absurd (true≢false (same_Some true false (sym (ap (slice_get (set flags place false)) (sym e) ∙ at)
-          ∙ get-set_same flags place false l))),
-      λ h. absurd (h.1 (r_is ∙ ap Some (sym e))),
-    )
-    | inr ne ↦ (
-      λ at. (sym (get-set_other flags place k false ne) ∙ at, λ x. ne (sym (same_Some place k (sym r_is ∙ x)))),
-      λ h. get-set_other flags place k false ne ∙ h.0,
-    )
-  ];
-})
 
 pub taken-none : (N : ℕ → Type 0) (flags : List Bool) → ((k : ℕ) → ¬ (N k)) → AreTakenOut N flags flags
 taken-none N flags none = record { len = refl; each = λ k. ((λ at. (at, none k)), (λ h. h.0)) }

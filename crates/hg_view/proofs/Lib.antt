@@ -7,7 +7,6 @@ mod StatusLemmas
 mod HiddenLemmas
 mod KeptLemmas
 mod UpheldLemmas
-mod UnmarkLemmas
 mod ReleasedLemmas
 mod FlagLemmas
 mod ChangeLemmas

@@ -146,17 +146,6 @@ module _ (s : ReplicaState) (valid : IsValid s) (pins : List Node) (start : Node
         leads_from_reach s.history valid.graph start x reach,
       )
 
-  -- what was met has a child that doesn't count as obsolete
-  pub search-child : (met : List Node) (i : ℕ) → IsSearched s pins start met i → (p x : Node) → Contains met p
-      → IsChild (changesets s.history) p x → ¬ (CountsAsObsolete (content_of s) pins x)
-      → IsVisibleUnder (content_of s) pins start
-  search-child met i w p x h child not =
-      let reach = below (w.sound p h) child.3 child.1 child.2 in (
-        x,
-        (content-node s.history valid.graph x (Holds-reached (changesets s.history) reach), not),
-        leads_from_reach s.history valid.graph start x reach,
-      )
-
   -- all that was met counts as obsolete, and that is all that there is
   pub search-end : (met : List Node) (i : ℕ) → IsSearched s pins start met i
       → length met ≤ i → ¬ (IsVisibleUnder (content_of s) pins start)

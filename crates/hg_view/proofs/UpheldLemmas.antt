@@ -1,32 +1,29 @@
 -- What pins uphold is what of the extinct changesets they show, and more that is in view anyway.
 use Rattle.std.proofs.Common.{◌≡◌, ℕ, zero, suc, ◌+◌, ◌<◌, ◌≤◌, List, [], ◌∷◌, ◌++◌, length, take, get_or}
-use Rattle.std.proofs.Common.{Contains, Bool, Option, Some, None, Result, Ok, Err, slice_get, ◌↔◌, ◌⊎◌, inl, inr}
+use Rattle.std.proofs.Common.{Contains, Option, Some, Result, Ok, Err, slice_get, ◌↔◌, ◌⊎◌, inl, inr}
 use Rattle.std.proofs.Common.{refl, sym, ap, subst, ◌∙◌, arith}
-use Rattle.std.proofs.Common.{◌-◌, true, false, replicate, append_assoc, append-nil}
+use Rattle.std.proofs.Common.{append_assoc}
 use Rattle.std.specs.List.{IsDistinct}
-use Rattle.std.proofs.lemmas.List.{take_all, get_or-replicate, length-replicate}
+use Rattle.std.proofs.lemmas.List.{take_all}
 use Rattle.std.proofs.lemmas.List.Elements.{Contains-get_or, Contains-append_left, Contains-append_right}
 use Rattle.std.proofs.lemmas.List.Elements.{Contains-append_cases}
 use Rattle.std.proofs.lemmas.Map.Made.{length-le_from_is_member}
 use Rattle.std.proofs.lemmas.Map.Views.{Contains-from_any, list_any-from_Contains}
-use Rattle.std.proofs.lemmas.Option.{same_Some, none-some, slice_get-get_or}
+use Rattle.std.proofs.lemmas.Option.{same_Some}
 use Rattle.hg_changeset.specs.declared.node.Node.{Node}
 use Rattle.hg_changeset.specs.Node.{node_eq}
-use Rattle.hg_changeset.specs.Contents.{Contents}
-use Rattle.hg_changeset.proofs.ListLemmas.{Contains-none, Contains-taken}
+use Rattle.hg_changeset.proofs.ListLemmas.{Contains-taken}
 use Rattle.hg_changeset.proofs.NodeLemmas.{same_node, node_eq_laws}
 use Rattle.hg_graph.specs.Graph.{nodes, Holds, IsParent}
-use Rattle.hg_graph.specs.Marks.{IsMarkedNode}
 use Rattle.hg_graph.specs.Places.{IsAt, IsParentPlace}
-use Rattle.hg_graph.proofs.GraphLemmas.{Contains-from_place}
-use Rattle.hg_graph.proofs.PlaceLemmas.{Holds-reaching, place_from_Holds, placed_within, parent_first}
+use Rattle.hg_graph.proofs.PlaceLemmas.{Holds-reaching, placed_within, parent_first}
 use Rattle.hg_phases.specs.declared.phase.Phase.TheVariants.{Public}
 use Rattle.hg_phases.specs.State.{changesets, rank}
 use Rattle.hg_phases.proofs.RankLemmas.{rank-apart}
 use Rattle.hg_history.specs.declared.fault.Fault.{Fault}
 use Rattle.hg_history.specs.Content.{IsHeld, Leads}
 use Rattle.hg_history.specs.Content.Leads.{itself, below as leads-below}
-use Rattle.hg_history.proofs.ContentLemmas.{content-node, node_in_content, reach_from_leads}
+use Rattle.hg_history.proofs.ContentLemmas.{node_in_content, reach_from_leads}
 use Rattle.hg_replica.specs.State.{ReplicaState, IsValid, Below}
 use Rattle.hg_replica.specs.Least.{PartValue}
 use Rattle.hg_replica.specs.Change.{ChangeValue}
@@ -47,9 +44,8 @@ use Rattle.hg_view.specs.declared.refusal.PinRefusal.{PinRefusal}
 use Rattle.hg_view.specs.declared.refusal.PinRefusal.TheVariants.{Unknown, NotPinned}
 use Rattle.hg_view.specs.declared.refusal.PinRefusal.TheVariants as pin
 use Rattle.hg_view.specs.Kept.{KeptUnpinAnswer}
-use Rattle.hg_view.specs.Pins.{IsServedUnder, IsVisibleUnder, PinAnswer, UnpinAnswer}
+use Rattle.hg_view.specs.Pins.{IsVisibleUnder, PinAnswer, UnpinAnswer}
 use Rattle.hg_view.specs.Released.{IsLeft, IsPinnedBut}
-use Rattle.hg_view.specs.Share.{IsShared}
 use Rattle.hg_view.specs.Upheld.{AreApart, AreUpheld, IsUpholding, IsMutableParent}
 use Rattle.hg_view.proofs.HiddenLemmas.{obsolete-or, visible-not_extinct}
 use Rattle.hg_view.proofs.KeptLemmas.{visible-outside}
@@ -201,9 +197,6 @@ module _ (s after : ReplicaState) (v : IsValid s) (pins upheld : List Node)
 abbrev pub Extends : List Node → List Node → Type 0
 Extends old new = (more : List Node) × (new ≡ old ++ more)
 
-pub extends-same : (xs : List Node) → Extends xs xs
-extends-same xs = ([], sym (append-nil xs))
-
 pub extends-then : (xs ys zs : List Node) → Extends xs ys → Extends ys zs → Extends xs zs
 extends-then xs ys zs a b =
     (a.0 ++ b.0, b.1 ∙ ap (λ l. l ++ b.0) a.1 ∙ append_assoc xs a.0 b.0)
@@ -298,16 +291,6 @@ upheld-within s v now held distinct =
     (λ q e. list_any-from_Contains node_eq_laws q (nodes (changesets s.history))
     (node_in_content s.history v.graph q (held q (Contains-from_any same_node q now e))))
 
--- without pins nothing is upheld
-pub upheld-none : (f : Content) → AreUpheld f [] []
-upheld-none f = record {
-  pinned = λ n h. absurd (Contains-none n h);
-  held = λ n h. absurd (Contains-none n h);
-  stands = λ n h. absurd (Contains-none n h);
-  begun = λ n h m. absurd (Contains-none n h);
-  closed = λ n child m. absurd (Contains-none child.0 child.1);
-}
-
 -- ---- what one step adds
 
 -- what is added is added behind a front as well
@@ -399,12 +382,6 @@ adds-at s old new k node at adds =
       λ h. (k, refl, subst (λ x. IsAt (changesets s.history) x k) h.0 at, h.1),
     )) adds
 
-pub adds-nowhere : (s : ReplicaState) (old : List Node) (k : ℕ) → slice_get (nodes (changesets s.history)) k ≡ None
-    → Adds (IsMutableAt s (Some k)) old old
-adds-nowhere s old k none = adds-nothing (IsMutableAt s (Some k)) old
-    (λ n h. absurd (none-some n
-    (sym none ∙ ap (slice_get (nodes (changesets s.history))) (same_Some k h.0 h.1) ∙ h.2)))
-
 -- the parents of one that is held are what stands at two places
 pub parents-added : (s : ReplicaState) → IsValid s → (node : Node) (k : ℕ) → IsAt (changesets s.history) node k
     → (first second : Option ℕ)
@@ -430,58 +407,6 @@ pub parents-none : (s : ReplicaState) → IsValid s → (node : Node) → ¬ (Ho
     → (old : List Node) → Adds (IsMutableParent (content_of s) node) old old
 parents-none s v node out old = adds-nothing (IsMutableParent (content_of s) node) old
     (λ n h. absurd (out (node_in_content s.history v.graph node (h.0.0, h.0.1))))
-
--- ---- marks
-
--- where all is marked, each changeset that is held is
-pub marked-all : (cs : List Contents) (n : Node) → IsMarkedNode cs (replicate (length cs) true) n ↔ Holds cs n
-marked-all cs n = (
-  λ m. Contains-from_place (nodes cs) m.0 n m.1,
-  λ held.
-      let place = place_from_Holds cs n held in
-      let within = placed_within cs n place.0 place.1 in
-      let inside : place.0 < length (replicate (length cs) true) =
-      omega (arith, within, length-replicate (length cs) true) in
-      let at_zero : place.0 - 0 ≡ place.0 = omega arith in (
-        place.0,
-        place.1,
-        (
-          omega arith,
-          ap (slice_get (replicate (length cs) true)) at_zero
-              ∙ slice_get-get_or (replicate (length cs) true) place.0 false inside
-              ∙ ap Some (get_or-replicate (length cs) place.0 true false within),
-        ),
-      ),
-)
-
-module _ (s : ReplicaState) (v : IsValid s) (pins upheld : List Node) (are : AreUpheld (content_of s) pins upheld)
-    (sets : InstabilitySets) (kept : AreInstabilities (content_of s) sets) (marks new : List Bool)
-    (hides : (n : Node) → IsMarkedNode (changesets s.history) new n
-    ↔ (IsMarkedNode (changesets s.history) marks n × (¬ (Contains sets.extinct n) ⊎ Contains upheld n))) where
-  -- of all marks those are left of what is visible under the pins
-  pub marks-visible : marks ≡ replicate (length (changesets s.history)) true → (n : Node)
-      → IsMarkedNode (changesets s.history) new n ↔ IsVisibleUnder (content_of s) pins n
-  marks-visible all n =
-      let cs = changesets s.history in
-      let were : IsMarkedNode cs marks n ↔ Holds cs n = rw all (marked-all cs n) in
-      let seen = visible-upheld s v pins upheld are sets kept n in (
-        λ m. let x = (hides n).0 m in seen.0 (were.0 x.0, x.1),
-        λ h. let x = seen.1 h in (hides n).1 (were.1 x.0, x.1),
-      )
-
-  -- of the marks of what isn't secret those are left of what is served under the pins
-  pub marks-served : ((n : Node) → IsMarkedNode (changesets s.history) marks n ↔ IsShared (content_of s) n)
-      → (n : Node) → IsMarkedNode (changesets s.history) new n ↔ IsServedUnder (content_of s) pins n
-  marks-served shared n =
-      let seen = visible-upheld s v pins upheld are sets kept n in (
-        λ m.
-            let x = (hides n).0 m in
-            let so = (shared n).0 x.0 in
-            (seen.0 (node_in_content s.history v.graph n so.0, x.1), so.1),
-        λ h.
-            let x = seen.1 h.0 in
-            (hides n).1 ((shared n).1 (content-node s.history v.graph n x.0, h.1), x.1),
-      )
 
 -- ---- answers
 

@@ -1,12 +1,12 @@
--- What is in view, place by place.
-use Rattle.std.proofs.Common.{◌↔◌, ◌⊎◌, ℕ, ◌<◌, List, length, Contains, inl, inr, refl, sym, subst, ◌∙◌}
+-- What isn't secret, and what is served, place by place.
+use Rattle.std.proofs.Common.{◌↔◌, ◌⊎◌, ℕ, List, Contains, inl, inr, refl, sym, subst, ◌∙◌}
 use Rattle.std.proofs.lemmas.Option.{same_Some}
 use Rattle.hg_changeset.specs.declared.node.Node.{Node}
 use Rattle.hg_changeset.specs.Contents.{Contents}
 use Rattle.hg_graph.specs.Graph.{IsParent}
 use Rattle.hg_graph.specs.Places.{IsAt, IsParentPlace}
 use Rattle.hg_graph.proofs.GraphLemmas.{Contains-from_place}
-use Rattle.hg_graph.proofs.PlaceLemmas.{IsAt-from, placed_within}
+use Rattle.hg_graph.proofs.PlaceLemmas.{IsAt-from}
 use Rattle.hg_phases.specs.State.{changesets}
 use Rattle.hg_history.specs.Content.{Leads}
 use Rattle.hg_history.specs.Content.Leads.{itself, below}
@@ -14,21 +14,16 @@ use Rattle.hg_history.proofs.ContentLemmas.{content-valid, content-changeset, co
 use Rattle.hg_history.proofs.FirstFaultLemmas.{held_or_not}
 use Rattle.hg_replica.specs.State.{ReplicaState, IsValid}
 use Rattle.hg_replica.specs.Content.{content_of}
-use Rattle.hg_view.specs.declared.heads.View.{View}
-use Rattle.hg_view.specs.Descent.{IsInView, IsClosedUnderParents}
+use Rattle.hg_view.specs.Descent.{IsClosedUnderParents}
 use Rattle.hg_instab.specs.Instabilities.{AreInstabilities, InstabilitySets}
 use Rattle.hg_instab.proofs.TurnedLemmas.{contains-or}
 use Rattle.hg_view.specs.Pins.{IsServedUnder}
 use Rattle.hg_view.specs.Share.{IsShared}
 use Rattle.hg_view.specs.Upheld.{AreUpheld}
-use Rattle.hg_view.specs.Tops.{IsServedAt, IsSharedAt, IsTop}
+use Rattle.hg_view.specs.Tops.{IsServedAt, IsTop}
 use Rattle.hg_view.proofs.UpheldLemmas.{visible-upheld}
 use Rattle.hg_view.proofs.PinLemmas.{served_under-above}
 use Rattle.hg_view.proofs.ShareLemmas.{shared-above, shared-or}
-
--- what is in view stands at a place of the graph
-pub in_view_within : (s : ReplicaState) (view : View) (k : ℕ) → IsInView view s k → k < length (changesets s.history)
-in_view_within s view k h = placed_within (changesets s.history) h.0 k h.1
 
 -- where it is so of the same places, these have the same tops
 pub same-tops : (cs : List Contents) (P Q : ℕ → Type 0) → ((k : ℕ) → P k ↔ Q k) → (k : ℕ) → IsTop cs P k ↔ IsTop cs Q k
@@ -48,14 +43,11 @@ module _ (s : ReplicaState) (valid : IsValid s) where
       (same_Some _ n (sym (IsAt-from (changesets s.history) j c _ parent.2 refl) ∙ at)) in
       (parent.1, parent.4, below itself x.1 (subst (λ (d : Contents). IsParent d parent.1) (sym x.2) parent.3))
 
-  pub shared-closed : IsClosedUnderParents (changesets s.history) (IsSharedAt s)
+  pub shared-closed : IsClosedUnderParents (changesets s.history)
+      (λ k. (n : Node) × IsAt (changesets s.history) n k × IsShared (content_of s) n)
   shared-closed j k parent so =
       let p = leads-parent j k parent so.0 so.1 in
       (p.0, p.1, shared-above (content_of s) p.0 so.0 (content-valid s.history valid) so.2 p.2)
-
-  pub shared-in_view : (k : ℕ) → ((n : Node) × IsAt (changesets s.history) n k × IsShared (content_of s) n × Unit {0})
-      ↔ IsSharedAt s k
-  shared-in_view k = (λ h. (h.0, h.1, h.2), λ so. (so.0, so.1, so.2, tt))
 
   pub served-closed : (pins : List Node) → IsClosedUnderParents (changesets s.history) (IsServedAt s pins)
   served-closed pins j k parent so =
@@ -85,14 +77,6 @@ module _ (s : ReplicaState) (valid : IsValid s) where
               let there = seen.1 so.0 in
               ((content-node s.history valid.graph n there.0, so.1), there.1),
         )
-
-    -- so what is in view is what is served
-    pub served-in_view : (k : ℕ) → ((n : Node) × IsAt (changesets s.history) n k × IsShared (content_of s) n
-        × IsShownNow n) ↔ IsServedAt s pins k
-    served-in_view k = (
-      λ h. (h.0, h.1, (served-shown h.0).0 (h.2, h.3)),
-      λ so. let x = (served-shown so.0).1 so.2 in (so.0, so.1, x.0, x.1),
-    )
 
     -- of each id it can be told whether it is served
     pub served-or : (n : Node) → IsServedUnder (content_of s) pins n ⊎ (¬ (IsServedUnder (content_of s) pins n))

@@ -12,7 +12,6 @@ use Rattle.hg_replica.specs.State.{ReplicaState}
 use Rattle.hg_replica.specs.Content.{content_of}
 use Rattle.hg_view.specs.Flags.{AreFlags}
 use Rattle.hg_view.specs.Pins.{IsServedUnder}
-use Rattle.hg_view.specs.Share.{IsShared}
 
 -- the changeset at this place is so, and no child of it is
 abbrev pub IsTop : List Contents → (ℕ → Type 0) → ℕ → Type 0
@@ -51,7 +50,3 @@ pub record AreGrown (before grown : Tops) : Type 0 where
 -- the changeset at this place is served under the pins
 abbrev pub IsServedAt : ReplicaState → List Node → ℕ → Type 0
 IsServedAt s pins k = (n : Node) × IsAt (changesets s.history) n k × IsServedUnder (content_of s) pins n
-
--- the changeset at this place isn't secret
-abbrev pub IsSharedAt : ReplicaState → ℕ → Type 0
-IsSharedAt s k = (n : Node) × IsAt (changesets s.history) n k × IsShared (content_of s) n

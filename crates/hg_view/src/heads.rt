@@ -1,16 +1,18 @@
-//! The heads of what is in view, by a walk down from the changesets without children.
+//! The heads of what two replicas have in common, by a walk down from the changesets without children.
 //!
-//! A view is closed under parents: with a changeset its parents are in view. So what isn't in view stands at the top
-//! of the graph. What isn't in view sends the walk on to its parents; what is in view ends it, and is a head if none
-//! of its children is in view. Nothing below the heads is visited but other parents of what isn't in view.
+//! What is in common is closed under parents: with a changeset its parents are. So what isn't stands at the top of the
+//! graph. What isn't in common sends the walk on to its parents; what is ends it, and is a head if none of its children
+//! is in common. Nothing below the heads is visited but other parents of what isn't in common.
+//!
+//! What has no child is nobody's parent, so it is visited first, in any order, and never waits.
 ghost use Rattle.std.specs.Prelude.{◌≡◌, ◌↔◌, ◌⊎◌, ◌<◌, ℕ, length, Contains, IsTrue, IfOk, OnOk};
 ghost use Rattle.hg_phases.specs.State.{changesets};
-ghost use Rattle.hg_view.specs.Descent.{GoesOn, HasChildIn, IsChildless, IsClosedUnderParents, IsCovered};
-ghost use Rattle.hg_view.specs.Descent.{IsInView, IsShownIn};
+ghost use Rattle.hg_view.specs.Common.{IsCommonAt};
+ghost use Rattle.hg_view.specs.Descent.{Finds, GoesOn, HasChildIn, IsChildless, IsClosedUnderParents, IsCovered};
 ghost use Rattle.hg_view.specs.Tops.{IsTop};
 
 use crate::kept::Kept;
-use crate::waiting::{await_parents, set_of};
+use crate::waiting::await_parents;
 use hg_changeset::Node;
 use hg_instab::{Instabilities, has_phase_at};
 use hg_phases::Phase;
@@ -18,98 +20,100 @@ use hg_replica::Replica;
 use std::alloc::{AllocError, Global};
 use std::collections::BTreeSet;
 
-/// What is looked at of a replica.
-#[derive(Clone, Copy)]
-pub(crate) enum View<'a> {
-    /// What isn't secret.
-    Shared,
-    /// What of that isn't extinct, or is upheld.
-    Served(&'a Instabilities, &'a BTreeSet<Node>),
-    /// What of that another replica serves.
-    Common(&'a Kept),
-}
-
-/// The places in view without a child in view, from the last to the first, where these are the places of the changesets
-/// without children.
+/// The places of the changesets that aren't secret here and that the other serves, without a child that is so, in no
+/// promised order, where these are the places of the changesets without children.
 ///
-/// It costs what isn't in view, and the children of the places in view at which the walk ends.
-pub(crate) fn heads_in(
+/// It costs these, what isn't in common, and the children of the places in common at which the walk ends.
+pub(crate) fn heads_in_common(
     alloc: Global,
     replica: &Replica,
-    view: View,
+    other: &Kept,
     childless: &[usize],
 ) -> Result<Vec<usize>, AllocError>
     requires childless { (k : ℕ) → Contains childless.now k ↔ IsChildless (changesets replica.now.history) k }
-    requires closed { IsClosedUnderParents (changesets replica.now.history) (IsInView view replica.now) }
+    requires closed { IsClosedUnderParents (changesets replica.now.history) (IsCommonAt replica.now other.now) }
     ensures exact { IfOk result (λ found. (k : ℕ) → Contains found.items k
-        ↔ IsTop (changesets replica.now.history) (IsInView view.entry replica.now) k) }
-    ensures covers { IfOk result (λ found. (k : ℕ) → IsInView view.entry replica.now k
+        ↔ IsTop (changesets replica.now.history) (IsCommonAt replica.now other.now) k) }
+    ensures covers { IfOk result (λ found. (k : ℕ) → IsCommonAt replica.now other.now k
         → IsCovered (changesets replica.now.history) found.items k) }
 {
     // It says that the replica is valid.
     let _graph = replica.graph();
-    let mut waiting = set_of(alloc, childless)?;
+    let mut waiting = BTreeSet::new(alloc);
     let mut found = Vec::new(alloc);
+    visit_each(replica, other, childless, &mut waiting, &mut found)?;
     while let Some(place) = waiting.pop_last() {
-        let is_head = visit(replica, view, place, &mut waiting)?;
-        if is_head {
-            found.push(place)?;
-        }
+        visit(replica, other, place, &mut waiting, &mut found)?;
     }
     Ok(found)
 }
 
-// Whether the place is in view and no child's is. Where it isn't in view, its parents' places wait besides.
-fn visit(
+// Visits each of the places, in their order.
+fn visit_each(
     replica: &Replica,
-    view: View,
-    place: usize,
+    other: &Kept,
+    places: &[usize],
     waiting: &mut BTreeSet<usize>,
-) -> Result<bool, AllocError>
-    requires { place < length (changesets replica.now.history) }
-    ensures head { IfOk result
-        (λ answer. IsTrue answer ↔ IsTop (changesets replica.now.history) (IsInView view.entry replica.now) place) }
-    ensures waits { OnOk result (GoesOn (changesets replica.now.history) (IsInView view.entry replica.now) place
-        waiting.old.keys waiting.new.keys) }
+    found: &mut Vec<usize>,
+) -> Result<(), AllocError>
+    requires { (k : ℕ) → Contains places.now k → k < length (changesets replica.now.history) }
+    ensures waits { OnOk result (GoesOn (changesets replica.now.history) (IsCommonAt replica.now other.now)
+        (Contains places.now) waiting.old.keys waiting.new.keys) }
+    ensures finds { OnOk result (Finds (changesets replica.now.history) (IsCommonAt replica.now other.now)
+        (Contains places.now) found.old.items found.new.items) }
 {
-    if is_in_view(replica, view, place) {
-        return Ok(!has_child_in_view(replica, view, place));
+    for place in places {
+        visit(replica, other, *place, waiting, found)?;
     }
-    await_parents(replica.graph(), place, waiting)?;
-    Ok(false)
+    Ok(())
 }
 
-// Whether a child of the changeset at the place is in view.
-fn has_child_in_view(replica: &Replica, view: View, place: usize) -> bool
+// Finds the place where it is in common and no child's is. Where it isn't in common, its parents' places wait besides.
+fn visit(
+    replica: &Replica,
+    other: &Kept,
+    place: usize,
+    waiting: &mut BTreeSet<usize>,
+    found: &mut Vec<usize>,
+) -> Result<(), AllocError>
     requires { place < length (changesets replica.now.history) }
-    ensures { IsTrue result ↔ HasChildIn (changesets replica.now.history) (IsInView view.entry replica.now) place }
+    ensures waits { OnOk result (GoesOn (changesets replica.now.history) (IsCommonAt replica.now other.now)
+        (λ j. place ≡ j) waiting.old.keys waiting.new.keys) }
+    ensures finds { OnOk result (Finds (changesets replica.now.history) (IsCommonAt replica.now other.now)
+        (λ j. place ≡ j) found.old.items found.new.items) }
+{
+    if !is_in_common(replica, other, place) {
+        await_parents(replica.graph(), place, waiting)?;
+        return Ok(());
+    }
+    if has_child_in_common(replica, other, place) {
+        return Ok(());
+    }
+    found.push(place)?;
+    Ok(())
+}
+
+// Whether a child of the changeset at the place is in common.
+fn has_child_in_common(replica: &Replica, other: &Kept, place: usize) -> bool
+    requires { place < length (changesets replica.now.history) }
+    ensures { IsTrue result
+        ↔ HasChildIn (changesets replica.now.history) (IsCommonAt replica.now other.now) place }
 {
     for child in replica.graph().children(place) {
-        if is_in_view(replica, view, *child) {
+        if is_in_common(replica, other, *child) {
             return true;
         }
     }
     false
 }
 
-// Whether the changeset at the place is in view.
-fn is_in_view(replica: &Replica, view: View, place: usize) -> bool
-    ensures { IsTrue result ↔ IsInView view.entry replica.now place }
+// Whether the changeset at the place isn't secret, and the other serves it.
+fn is_in_common(replica: &Replica, other: &Kept, place: usize) -> bool
+    ensures { IsTrue result ↔ IsCommonAt replica.now other.now place }
 {
     match replica.graph().node_at(place) {
-        Some(node) => !has_phase_at(replica, place, Phase::Secret) && is_shown_in(view, node),
+        Some(node) => !has_phase_at(replica, place, Phase::Secret) && other.is_served(node),
         None => false,
-    }
-}
-
-// Whether a changeset that isn't secret is in view.
-fn is_shown_in(view: View, node: Node) -> bool
-    ensures { IsTrue result ↔ IsShownIn view.entry node }
-{
-    match view {
-        View::Shared => true,
-        View::Served(instabilities, upheld) => is_shown(instabilities, upheld, node),
-        View::Common(other) => other.is_served(node),
     }
 }
 

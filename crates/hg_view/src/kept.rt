@@ -1,7 +1,6 @@
 //! A replica whose instabilities are kept up to date, with the pins of its node.
 ghost use Rattle.std.specs.Prelude.{◌≡◌, ◌↔◌, ◌⊎◌, ℕ, [], Contains, IfOk, OnOk, OnErr, IsErrOf, IsTrue, length};
 ghost use Rattle.hg_changeset.specs.declared.node.Node.{Node};
-ghost use Rattle.hg_graph.specs.Marks.{IsMarkedNode};
 ghost use Rattle.hg_phases.specs.State.{changesets};
 ghost use Rattle.hg_history.specs.Content.{IsHeld};
 ghost use Rattle.hg_replica.specs.State.{ReplicaState, IsValid};
@@ -15,17 +14,15 @@ ghost use Rattle.hg_view.specs.Kept.{FindsAgain, FindsTopsAgain, KeepsTops, Keep
 ghost use Rattle.hg_view.specs.Common.{AreFree, IsCommonAt};
 ghost use Rattle.hg_view.specs.Descent.{IsClosedUnderParents, IsCovered};
 ghost use Rattle.hg_view.specs.Pins.{IsServedUnder, IsVisibleUnder, PinAnswer};
-ghost use Rattle.hg_view.specs.Tops.{AreTops, IsPublicAt, IsServedAt, IsSharedAt, IsTop};
+ghost use Rattle.hg_view.specs.Tops.{AreTops, IsPublicAt, IsServedAt, IsTop};
 
-use crate::heads::{View, heads_in, is_shown};
-use crate::hidden::unmark_hidden;
+use crate::heads::{heads_in_common, is_shown};
 use crate::pins::Pins;
 use crate::refusal::PinRefusal;
 use crate::released::{released, take_out};
-use crate::shared::shared_marks;
 use crate::tops::Tops;
 use crate::upheld::{put_in, upheld_besides};
-use crate::view::set_at;
+use crate::view::visible;
 use hg_changeset::Node;
 use hg_history::Fault;
 use hg_instab::{Instabilities, has_phase};
@@ -34,9 +31,6 @@ use hg_replica::{Absorbed, Change, NoMemory, Part, Replica, Undo};
 use std::alloc::{AllocError, Global};
 use std::collections::BTreeSet;
 use std::marker::Model;
-
-// To visit one place in a walk down costs as much as to look at so many marks.
-const PLACES_PER_TOP: usize = 16;
 
 /// A replica with its instabilities and its heads, which are kept up to date with each part that it absorbs, and with
 /// what its node pins. Contracts see it as its replica and its pins.
@@ -274,62 +268,30 @@ impl Kept {
         self.is_visible(node) && !has_phase(&self.replica, node, Phase::Secret)
     }
 
-    /// The visible changesets under the pins. Mercurial's view `visible`. Only what is extinct is looked up.
+    /// The visible changesets under the pins. Mercurial's view `visible`. It looks at each changeset, as
+    /// [`visible`](crate::visible()) does.
     pub fn visible(&self) -> Result<BTreeSet<Node>, AllocError>
         ensures { IfOk result (λ set. (n : Node) → Contains set.keys n
             ↔ IsVisibleUnder (content_of self.now.replica) self.now.pins n) }
     {
-        let graph = self.replica.graph();
-        let mut marks = vec![in self.alloc; true; graph.len()]?;
-        unmark_hidden(graph, &self.instabilities, &self.upheld, &mut marks);
-        set_at(self.alloc, &self.replica, &marks)
+        visible(self.alloc, &self.replica, &self.pins)
     }
 
-    /// A mark for each place of the graph: whether the changeset there is [served](Kept::is_served). Only
-    /// what is extinct is looked up.
-    pub fn served_marks(&self) -> Result<Vec<bool>, AllocError>
-        ensures len { IfOk result
-            (λ marks. length marks.items ≡ length (changesets self.now.replica.history)) }
-        ensures exact { IfOk result (λ marks. (n : Node)
-            → IsMarkedNode (changesets self.now.replica.history) marks.items n
-            ↔ IsServedUnder (content_of self.now.replica) self.now.pins n) }
-    {
-        let mut marks = shared_marks(self.alloc, &self.replica)?;
-        let graph = self.replica.graph();
-        unmark_hidden(graph, &self.instabilities, &self.upheld, &mut marks);
-        Ok(marks)
-    }
-
-    /// The places of the heads of what is [served](Kept::is_served), from the last to the first: what is served
-    /// without a served child. What else is served is an ancestor of one of them. It costs what is secret or hidden,
-    /// and the children of the heads, whatever else is held.
+    /// The places of the heads of what is [served](Kept::is_served), in no promised order: what is served without a
+    /// served child. What else is served is an ancestor of one of them. It costs what has no child, what is secret or
+    /// hidden, and the children of the heads, whatever else is held.
     pub fn served_heads(&self) -> Result<Vec<usize>, AllocError>
         ensures exact { IfOk result (λ heads. (k : ℕ) → Contains heads.items k
             ↔ IsTop (changesets self.now.replica.history) (IsServedAt self.now.replica self.now.pins) k) }
         ensures covers { IfOk result (λ heads. (k : ℕ) → IsServedAt self.now.replica self.now.pins k
             → IsCovered (changesets self.now.replica.history) heads.items k) }
     {
-        let view = View::Served(&self.instabilities, &self.upheld);
-        heads_in(self.alloc, &self.replica, view, self.tops.childless())
+        heads_in_common(self.alloc, &self.replica, self, self.tops.childless())
     }
 
-    /// The places of the heads of what isn't secret, from the last to the first: what isn't, without a child that
-    /// isn't. It costs what is secret, and the children of the heads, whatever else is held.
-    pub fn shared_heads(&self) -> Result<Vec<usize>, AllocError>
-        ensures { IfOk result (λ heads. (k : ℕ) → Contains heads.items k
-            ↔ IsTop (changesets self.now.replica.history) (IsSharedAt self.now.replica) k) }
-    {
-        heads_in(
-            self.alloc,
-            &self.replica,
-            View::Shared,
-            self.tops.childless(),
-        )
-    }
-
-    /// The places of the heads of what isn't secret here and the other [serves](Kept::is_served), from the last to the
-    /// first: what is so, without a child that is. It costs what is secret here or isn't served there, other parents of
-    /// that, and the children of the heads, whatever else both hold.
+    /// The places of the heads of what isn't secret here and the other [serves](Kept::is_served), in no promised order:
+    /// what is so, without a child that is. It costs what has no child, what is secret here or isn't served there,
+    /// other parents of that, and the children of the heads, whatever else both hold.
     ///
     /// No changeset of the one collides with one of the other, so what both hold has the same parents there and here.
     pub fn common_heads(&self, other: &Kept) -> Result<Vec<usize>, AllocError>
@@ -341,12 +303,7 @@ impl Kept {
     {
         // It says that the other's replica is valid.
         let _ = other.replica();
-        heads_in(
-            self.alloc,
-            &self.replica,
-            View::Common(other),
-            self.tops.childless(),
-        )
+        heads_in_common(self.alloc, &self.replica, other, self.tops.childless())
     }
 
     /// The places of the heads of what is public, in no promised order: what is, without a public child. It takes no
@@ -356,12 +313,6 @@ impl Kept {
             ↔ IsTop (changesets self.now.replica.history) (IsPublicAt self.now.replica.history) k }
     {
         self.tops.public()
-    }
-
-    /// Whether a walk down from the changesets without a child costs less than to go through all that is held, since
-    /// they are few. It tells what is cheaper alone: what is served, or isn't secret, has the same heads either way.
-    pub fn has_few_tops(&self) -> bool {
-        self.tops.childless().len() < self.replica.graph().len() / PLACES_PER_TOP
     }
 
     /// It can be told of each id whether it is served. Says so to proofs, and does nothing.

@@ -26,7 +26,6 @@
 
 mod above;
 mod heads;
-mod hidden;
 mod kept;
 mod laws;
 mod pins;

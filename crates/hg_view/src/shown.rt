@@ -49,47 +49,10 @@ fn has_shown(alloc: Global, replica: &Replica, pins: &Pins, node: Node) -> Resul
         if !counts_as_obsolete(replica, pins, node) {
             return Ok(true);
         }
-        if has_shown_child(replica, pins, node) {
-            return Ok(true);
-        }
         add_children(graph, node, &mut met)?;
         next += 1;
     }
     Ok(false)
-}
-
-// Whether some child of a changeset doesn't count as obsolete. The walk would come to it anyway; a look ahead spares it
-// the other children, of which there may be many.
-fn has_shown_child(replica: &Replica, pins: &Pins, node: Node) -> bool
-    ensures { IsTrue result
-        → ((n : Node) × IsChild (changesets replica.now.history) node n
-        × ¬ (CountsAsObsolete (content_of replica.now) pins.now n)) }
-{
-    let graph = replica.graph();
-    match graph.place(node) {
-        Some(place) => has_shown_at(replica, pins, graph.children(place)),
-        None => false,
-    }
-}
-
-// Whether some changeset at the places doesn't count as obsolete.
-fn has_shown_at(replica: &Replica, pins: &Pins, places: &[usize]) -> bool
-    ensures { IsTrue result
-        → ((n : Node) × IsAtOne (changesets replica.now.history) places.now n
-        × ¬ (CountsAsObsolete (content_of replica.now) pins.now n)) }
-{
-    let graph = replica.graph();
-    for place in places {
-        match graph.node_at(*place) {
-            Some(node) => {
-                if !counts_as_obsolete(replica, pins, node) {
-                    return true;
-                }
-            }
-            None => {}
-        }
-    }
-    false
 }
 
 // Adds the children of a changeset.

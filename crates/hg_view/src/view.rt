@@ -36,11 +36,7 @@ pub fn served(alloc: Global, replica: &Replica, pins: &Pins) -> Result<BTreeSet<
 }
 
 // The changesets at the marked places.
-pub(crate) fn set_at(
-    alloc: Global,
-    replica: &Replica,
-    marks: &[bool],
-) -> Result<BTreeSet<Node>, AllocError>
+fn set_at(alloc: Global, replica: &Replica, marks: &[bool]) -> Result<BTreeSet<Node>, AllocError>
     requires { length marks.now ≡ length (changesets replica.now.history) }
     ensures { IfOk result (λ set. (n : Node) → Contains set.keys n
         ↔ IsMarkedNode (changesets replica.now.history) marks.now n) }

@@ -28,8 +28,8 @@ returns c =
     subst (λ (ds : List Contents). (x : Spot) → Contains c.in_ok-found.found.items x ↔ (Contains places x.place
     × IsAt ds x.node x.place)) here c.in_ok-found.ensures in
     let new = c.ascending.result.items in
-    let heads = walked_in_common ours other c.replica-2.ensures.valid c.replica.ensures.valid
-    c.tells_what_is_served.ensures c.common_heads.ensures.closed places tops new c.ascending.ensures.sorted
+    let heads = walked_in_common ours other c.replica-2.ensures.valid c.tells_what_is_served.ensures
+    c.common_heads.ensures.closed places tops new c.ascending.ensures.sorted
     (λ x. (
       λ h. (found x).0 ((c.ascending.ensures.same x).0 h),
       λ h. (c.ascending.ensures.same x).1 ((found x).1 h),

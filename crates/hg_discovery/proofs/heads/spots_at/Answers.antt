@@ -3,7 +3,7 @@ use Rattle.std.proofs.lemmas.List.{take_all}
 use Rattle.std.proofs.lemmas.Option.{none-some}
 use Rattle.hg_graph.specs.Places.{IsAt}
 use Rattle.hg_discovery.specs.declared.status.Spot.{Spot}
-use Rattle.hg_discovery.proofs.KeptLemmas.{spots-push, spots-skip}
+use Rattle.hg_discovery.proofs.SpotLemmas.{spots-push, spots-skip}
 use Rattle.hg_discovery.proofs.heads.spots_at.Goals as goal
 use Rattle.hg_discovery.proofs.heads.spots_at.Goals.{in-Some+in_ok-push, in_default}
 

@@ -21,12 +21,12 @@ returns c =
     let nodes = c.in_ok-nodes.nodes.items in
     let select = subst (λ (ds : List Contents). Selects ds (IsMarkedNode ds c.args.served.now) nodes)
     c.graph.ensures.graph c.in_ok-nodes.ensures in
-    IfOk-weaker c.relevant_near.result _ _
+    IfOk-weaker c.relevant.result _ _
     (λ places all pins served.
     let are : (n : Node) → Contains nodes n ↔ IsServedUnder (content_of s) pins n =
     λ n. along (marked-are cs c.args.served.now nodes select n) (served.exact n) in
-    places-offered s pins nodes c.store-2.result.now places.items (λ n. (are n).0) (λ n one touched. (are n).1 one)
-    c.store-2.ensures
-    (subst (λ (ns : List Node). ArePlaces (IsRelevant (Contains c.store-2.result.now) (Contains ns))
-    c.store-2.result.now places.items) c.deref.ensures.value all))
-    c.relevant_near.ensures
+    places-offered s pins nodes c.store.result.now places.items (λ n. (are n).0) (λ n one touched. (are n).1 one)
+    c.store.ensures
+    (subst (λ (ns : List Node). ArePlaces (IsRelevant (Contains c.store.result.now) (Contains ns))
+    c.store.result.now places.items) c.deref.ensures.value all))
+    c.relevant.ensures

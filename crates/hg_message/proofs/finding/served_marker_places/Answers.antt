@@ -1,23 +1,30 @@
-use Rattle.std.proofs.Common.{List, IfOk, sym, subst}
+use Rattle.std.proofs.Common.{◌≡◌, ◌↔◌, List, Contains, sym, subst, ap, ◌∙◌}
 use Rattle.std.proofs.lemmas.Result.{IfOk-weaker}
 use Rattle.hg_changeset.specs.declared.node.Node.{Node}
-use Rattle.hg_obsstore.specs.Markers.{ArePlaces}
+use Rattle.hg_marker.specs.Fields.{Fields}
 use Rattle.hg_replica.specs.State.{ReplicaState}
-use Rattle.hg_replica.specs.Content.{content_of}
-use Rattle.hg_message.specs.declared.scope.Scope.TheVariants.{Served}
-use Rattle.hg_message.specs.Offer.{IsNamed, IsNamedMarker}
-use Rattle.hg_message.specs.Outgoing.{AreMarksOf}
+use Rattle.hg_obsstore.specs.Markers.{ArePlaces}
+use Rattle.hg_relevant.specs.Relevant.{IsRelevant}
+use Rattle.hg_message.specs.Touched.{IsTouchedByOne}
+use Rattle.hg_message.proofs.OfferLemmas.{places-offered}
 use Rattle.hg_message.proofs.finding.served_marker_places.Goals as goal
 
 pub returns : goal.returns
 returns c =
     let s = c.args.kept.now.replica in
     let pins = c.args.kept.now.pins in
-    let told = subst (λ (t : ReplicaState). IfOk c.relevant_places.result (λ found. (ps : List Node)
-    → AreMarksOf t (IsNamed (content_of t) ps Served) c.deref.result.now
-    → ArePlaces (IsNamedMarker (content_of t) ps Served) t.markers found.items)) c.replica-replica.ensures.replica
-    c.relevant_places.ensures in
-    IfOk-weaker c.relevant_places.result _ _
-    (λ found all. all pins (subst (AreMarksOf s (IsNamed (content_of s) pins Served)) (sym c.deref.ensures.value)
-    (record { len = c.in_ok-served.ensures.len; exact = c.in_ok-served.ensures.exact })))
-    told
+    let nodes = c.in_ok-nodes-2.nodes.items in
+    let store : c.store-store.result.now ≡ s.markers =
+    c.store-store.ensures ∙ ap (λ (r : ReplicaState). r.markers) c.replica.ensures.replica in
+    let here = c.markers.ensures.markers ∙ store in
+    let touched : (n : Node) → Contains c.as_slice.result.now n ↔ IsTouchedByOne s.markers n =
+    subst (λ (ns : List Node). (n : Node) → Contains ns n ↔ IsTouchedByOne s.markers n) (sym c.as_slice.ensures.keys)
+    (subst (λ (ms : List Fields). (n : Node) → Contains c.in_ok-nodes.nodes.keys n ↔ IsTouchedByOne ms n) here
+    c.in_ok-nodes.ensures) in
+    let told = c.in_ok-nodes-2.ensures in
+    IfOk-weaker c.relevant.result _ _
+    (λ places all. places-offered s pins nodes c.store-store.result.now places.items
+    (λ n h. ((told n).0 h).1) (λ n one is. (told n).1 ((touched n).1 is, one)) store
+    (subst (λ (ns : List Node). ArePlaces (IsRelevant (Contains c.store-store.result.now) (Contains ns))
+    c.store-store.result.now places.items) c.deref.ensures.value all))
+    c.relevant.ensures

@@ -1,31 +1,50 @@
-use Rattle.std.proofs.Common.{◌↔◌, ◌⊎◌, List, Contains, inl, inr, not, ap, subst, sym, true≢false, ◌∙◌}
-use Rattle.std.proofs.lemmas.Bool.{false_from_ne_true}
+use Rattle.std.proofs.Common.{◌≡◌, ◌↔◌, ◌⊎◌, ℕ, Contains, List, sym, subst, true≢false, ◌∙◌}
 use Rattle.hg_changeset.specs.Contents.{Contents}
 use Rattle.hg_graph.specs.Places.{IsParentPlace}
 use Rattle.hg_phases.specs.State.{changesets}
-use Rattle.hg_instab.proofs.QueryLemmas.{not_true}
+use Rattle.hg_view.specs.Common.{IsCommonAt}
+use Rattle.hg_view.specs.Descent.{Finds}
+use Rattle.hg_view.proofs.DescentLemmas.{goes-nowhere, goes-up, finds-nothing, finds-top}
 use Rattle.hg_view.proofs.heads.visit.Goals as goal
 
-pub returns-then-is_in_view-clause-head : goal.returns-then-is_in_view-clause-head
-returns-then-is_in_view-clause-head c =
-    let there = c.is_in_view.ensures.0 c.if-is_in_view.true in (
-      λ t. (
-        there,
-        λ j parent so. not_true c.has_child_in_view.result t (c.has_child_in_view.ensures.1 (j, parent, so)),
-      ),
-      λ top. ap not (false_from_ne_true c.has_child_in_view.result
-          (λ t. let h = c.has_child_in_view.ensures.0 t in top.1 h.0 h.1 h.2)),
-    )
+pub returns-then-not-is_in_common-clause-waits : goal.returns-then-not-is_in_common-clause-waits
+returns-then-not-is_in_common-clause-waits c =
+    let place = c.args.place in
+    let old = c.args.waiting.now.keys in
+    let new = c.await_parents.new.waiting.keys in
+    goes-up (changesets c.args.replica.now.history) (IsCommonAt c.args.replica.now c.args.other.now) place
+    (λ so. true≢false (sym (c.is_in_common.ensures.1 so) ∙ c.if-not-is_in_common.true)) old new
+    (subst (λ (cs : List Contents). (k : ℕ) → Contains new k ↔ (Contains old k ⊎ IsParentPlace cs place k))
+    c.graph.ensures.graph c.in_ok-await_parents.ensures)
+
+pub returns-then-not-is_in_common-clause-finds : goal.returns-then-not-is_in_common-clause-finds
+returns-then-not-is_in_common-clause-finds c =
+    finds-nothing (changesets c.args.replica.now.history) (IsCommonAt c.args.replica.now c.args.other.now) c.args.place
+    (λ top. true≢false (sym (c.is_in_common.ensures.1 top.0) ∙ c.if-not-is_in_common.true)) c.args.found.now.items
+
+pub returns-then-has_child_in_common-clause-waits : goal.returns-then-has_child_in_common-clause-waits
+returns-then-has_child_in_common-clause-waits c =
+    goes-nowhere (changesets c.args.replica.now.history) (IsCommonAt c.args.replica.now c.args.other.now) c.args.place
+    (c.is_in_common.ensures.0 c.if-not-is_in_common.false) c.args.waiting.now.keys
+
+pub returns-then-has_child_in_common-clause-finds : goal.returns-then-has_child_in_common-clause-finds
+returns-then-has_child_in_common-clause-finds c =
+    let child = c.has_child_in_common.ensures.0 c.if-has_child_in_common.true in
+    finds-nothing (changesets c.args.replica.now.history) (IsCommonAt c.args.replica.now c.args.other.now) c.args.place
+    (λ top. top.1 child.0 child.1 child.2) c.args.found.now.items
 
 pub returns-clause-waits : goal.returns-clause-waits
-returns-clause-waits c k =
-    let told : Contains c.await_parents.new.waiting.keys k ↔ (Contains c.args.waiting.now.keys k
-    ⊎ IsParentPlace (changesets c.args.replica.now.history) c.args.place k) =
-    subst (λ (cs : List Contents). Contains c.await_parents.new.waiting.keys k ↔ (Contains c.args.waiting.now.keys k
-    ⊎ IsParentPlace cs c.args.place k)) c.graph.ensures.graph (c.in_ok-await_parents.ensures k) in (
-      λ h. elim (told.0 h) [
-        | inl old ↦ inl old
-        | inr parent ↦ inr (λ is. true≢false (sym (c.is_in_view.ensures.1 is) ∙ c.if-is_in_view.false), parent)
-      ],
-      λ h. told.1 (elim h [ inl old ↦ inl old | inr new ↦ inr new.1 ]),
-    )
+returns-clause-waits c =
+    goes-nowhere (changesets c.args.replica.now.history) (IsCommonAt c.args.replica.now c.args.other.now) c.args.place
+    (c.is_in_common.ensures.0 c.if-not-is_in_common.false) c.args.waiting.now.keys
+
+pub returns-clause-finds : goal.returns-clause-finds
+returns-clause-finds c =
+    let cs = changesets c.args.replica.now.history in
+    let P = IsCommonAt c.args.replica.now c.args.other.now in
+    subst (Finds cs P (λ j. c.args.place ≡ j) c.args.found.now.items) (sym c.in_ok-push.ensures.items)
+    (finds-top cs P c.args.place (
+      c.is_in_common.ensures.0 c.if-not-is_in_common.false,
+      λ j parent so. true≢false (sym (c.has_child_in_common.ensures.1 (j, parent, so))
+          ∙ c.if-has_child_in_common.false),
+    ) c.args.found.now.items)

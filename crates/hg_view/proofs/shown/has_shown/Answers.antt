@@ -3,13 +3,12 @@ use Rattle.std.proofs.lemmas.List.{get_or_default}
 use Rattle.std.proofs.lemmas.List.Elements.{Contains-get_or}
 use Rattle.hg_changeset.specs.declared.node.Node.{Node}
 use Rattle.hg_changeset.specs.Contents.{Contents}
-use Rattle.hg_phases.specs.State.{changesets}
 use Rattle.hg_replica.specs.Content.{content_of}
 use Rattle.hg_instab.specs.Walk.{Adds}
 use Rattle.hg_instab.proofs.WalkLemmas.{adds-one}
 use Rattle.hg_view.specs.Pins.{CountsAsObsolete}
 use Rattle.hg_view.specs.Shown.{IsChild}
-use Rattle.hg_view.proofs.ShownLemmas.{search-start, search-step, search-within, search-found, search-child, search-end}
+use Rattle.hg_view.proofs.ShownLemmas.{search-start, search-step, search-within, search-found, search-end}
 use Rattle.hg_view.proofs.shown.has_shown.Goals as goal
 
 pub loop-next-init : goal.loop-next-init
@@ -61,23 +60,6 @@ returns-then-not-counts_as_obsolete c =
     (sym c.as_slice.ensures.keys) o)) ∙ c.if-not-counts_as_obsolete.true) in (
       λ t. search-found s c.graph-graph.ensures.valid pins c.args.node met i c.loop-next.invariant node
           (Contains-get_or met i first l) not,
-      λ v. refl,
-    )
-
-pub returns-then-has_shown_child : goal.returns-then-has_shown_child
-returns-then-has_shown_child c =
-    let s = c.args.replica.now in
-    let pins = c.args.pins.now in
-    let met = c.loop-next.met.keys in
-    let i = c.loop-next.next in
-    let first : Node = record { 0 = [] } in
-    let node = get_or met i first in
-    let l : i < length met = omega (arith, c.loop-next-test.true, c.len.ensures.len) in
-    let child = c.has_shown_child.ensures c.if-has_shown_child.true in (
-      λ t. search-child s c.graph-graph.ensures.valid pins c.args.node met i c.loop-next.invariant node child.0
-          (Contains-get_or met i first l)
-          (subst (λ (ns : List Node). IsChild (changesets s.history) (get_or ns i first) child.0)
-          c.as_slice.ensures.keys child.1) child.2,
       λ v. refl,
     )
 

@@ -9,19 +9,19 @@ use Rattle.hg_view.specs.Tops.{IsTop}
 use Rattle.hg_view.proofs.CommonLemmas.{common-closed}
 use Rattle.hg_view.proofs.kept.Kept.common_heads.Goals as goal
 
-pub heads_in-requires-clause-childless : goal.heads_in-requires-clause-childless
-heads_in-requires-clause-childless c k = along (c.childless.ensures k) (c.self.invariant.3.childless.exact k)
+pub heads_in_common-requires-clause-childless : goal.heads_in_common-requires-clause-childless
+heads_in_common-requires-clause-childless c k = along (c.childless.ensures k) (c.self.invariant.3.childless.exact k)
 
-pub heads_in-requires-clause-closed : goal.heads_in-requires-clause-closed
-heads_in-requires-clause-closed c = common-closed c.self.inside.replica c.args.other.now c.self.invariant.1
+pub heads_in_common-requires-clause-closed : goal.heads_in_common-requires-clause-closed
+heads_in_common-requires-clause-closed c = common-closed c.self.inside.replica c.args.other.now c.self.invariant.1
     c.replica.ensures.valid (subst (λ (v : KeptValue). AreFree (changesets v.replica.history)
     (changesets c.args.other.now.replica.history)) (sym c.self.view_is) c.requires)
 
 pub returns-clause-exact : goal.returns-clause-exact
-returns-clause-exact c = IfOk-weaker c.heads_in.result _ _
+returns-clause-exact c = IfOk-weaker c.heads_in_common.result _ _
     (λ heads exact k. subst (λ (v : KeptValue). Contains heads.items k
     ↔ IsTop (changesets v.replica.history) (IsCommonAt v.replica c.args.other.now) k) c.self.view_is (exact k))
-    c.heads_in.ensures.exact
+    c.heads_in_common.ensures.exact
 
 pub returns-clause-closed : goal.returns-clause-closed
 returns-clause-closed c = subst (λ (v : KeptValue). IsClosedUnderParents (changesets v.replica.history)

@@ -1,41 +1,44 @@
-use Rattle.std.proofs.Common.{◌↔◌, Contains, subst}
+use Rattle.std.proofs.Common.{◌↔◌, ℕ, Contains, subst, sym}
 use Rattle.std.proofs.lemmas.Result.{IfOk-weaker}
 use Rattle.hg_phases.specs.State.{changesets}
 use Rattle.hg_instab.proofs.SetLemmas.{along}
+use Rattle.hg_view.specs.Common.{IsCommonAt}
+use Rattle.hg_view.specs.Descent.{IsClosedUnderParents, IsCovered}
 use Rattle.hg_view.specs.Kept.{KeptValue}
-use Rattle.hg_view.specs.Descent.{IsCovered}
 use Rattle.hg_view.specs.Tops.{IsServedAt, IsTop}
-use Rattle.hg_view.proofs.ViewHeadLemmas.{same-tops, served-closed, served-in_view}
+use Rattle.hg_view.proofs.CommonLemmas.{own-closed, own-common}
+use Rattle.hg_view.proofs.ViewHeadLemmas.{same-tops}
 use Rattle.hg_view.proofs.kept.Kept.served_heads.Goals as goal
 
-pub heads_in-requires-clause-childless : goal.heads_in-requires-clause-childless
-heads_in-requires-clause-childless c k = along (c.childless.ensures k) (c.self.invariant.3.childless.exact k)
+pub heads_in_common-requires-clause-childless : goal.heads_in_common-requires-clause-childless
+heads_in_common-requires-clause-childless c k =
+    along (c.childless.ensures k) (c.self.invariant.3.childless.exact k)
 
-pub heads_in-requires-clause-closed : goal.heads_in-requires-clause-closed
-heads_in-requires-clause-closed c j k parent so =
+pub heads_in_common-requires-clause-closed : goal.heads_in_common-requires-clause-closed
+heads_in_common-requires-clause-closed c =
     let s = c.self.inside.replica in
-    let same = served-in_view s c.self.invariant.1 c.self.inside.pins c.self.inside.upheld.keys c.self.invariant.2
-    c.self.inside.instabilities c.self.invariant.0 in
-    (same k).1 (served-closed s c.self.invariant.1 c.self.inside.pins j k parent ((same j).0 so))
+    subst (λ (v : KeptValue). IsClosedUnderParents (changesets s.history) (IsCommonAt s v)) c.self.view_is
+    (own-closed (record { replica = s; pins = c.self.inside.pins }) c.self.invariant.1)
 
 pub returns-clause-exact : goal.returns-clause-exact
 returns-clause-exact c =
     let s = c.self.inside.replica in
-    let same = served-in_view s c.self.invariant.1 c.self.inside.pins c.self.inside.upheld.keys c.self.invariant.2
-    c.self.inside.instabilities c.self.invariant.0 in
-    IfOk-weaker c.heads_in.result _ _
+    IfOk-weaker c.heads_in_common.result _ _
     (λ heads exact k. subst (λ (v : KeptValue). Contains heads.items k
     ↔ IsTop (changesets v.replica.history) (IsServedAt v.replica v.pins) k) c.self.view_is
-    (along (exact k) (same-tops (changesets s.history) _ _ same k)))
-    c.heads_in.ensures.exact
+    (along (subst (λ (v : KeptValue). (i : ℕ) → Contains heads.items i
+    ↔ IsTop (changesets s.history) (IsCommonAt s v) i) (sym c.self.view_is) exact k)
+    (same-tops (changesets s.history) _ _
+    (own-common (record { replica = s; pins = c.self.inside.pins }) c.self.invariant.1) k)))
+    c.heads_in_common.ensures.exact
 
 pub returns-clause-covers : goal.returns-clause-covers
 returns-clause-covers c =
     let s = c.self.inside.replica in
-    let same = served-in_view s c.self.invariant.1 c.self.inside.pins c.self.inside.upheld.keys c.self.invariant.2
-    c.self.inside.instabilities c.self.invariant.0 in
-    IfOk-weaker c.heads_in.result _ _
+    IfOk-weaker c.heads_in_common.result _ _
     (λ heads covers k. subst (λ (v : KeptValue). IsServedAt v.replica v.pins k
     → IsCovered (changesets v.replica.history) heads.items k) c.self.view_is
-    (λ so. covers k ((same k).1 so)))
-    c.heads_in.ensures.covers
+    (λ so. subst (λ (v : KeptValue). (i : ℕ) → IsCommonAt s v i → IsCovered (changesets s.history) heads.items i)
+    (sym c.self.view_is) covers k
+    ((own-common (record { replica = s; pins = c.self.inside.pins }) c.self.invariant.1 k).1 so)))
+    c.heads_in_common.ensures.covers
