@@ -214,6 +214,18 @@ pub refused-writing : (m : MessageValue) (r : OfferRefusal) (told : PeerRefusal)
 refused-writing m r told is h =
     subst (λ (x : PeerRefusal). IsAgainstWriting m x ⊎ IsMemory x) (sym is) (one-unwritten m r h)
 
+-- what is too large is never told as want of memory
+one-writable : (m : MessageValue) (r : OfferRefusal) → WriteAnswer {A = Vec ℕ Global} (λ v. v.items) m (Err r) →
+    offer_refusal r ≡ NoMemory → is_too_large m ≡ false
+one-writable m (offer.UnknownCommon node) h e = absurd h
+one-writable m offer.TooLarge h e = absurd cc
+one-writable m offer.NoMemory h e = h
+
+pub writing-wants : (m : MessageValue) (r : OfferRefusal) (told : PeerRefusal) → told ≡ offer_refusal r →
+    WriteAnswer {A = Vec ℕ Global} (λ v. v.items) m (Err r) → IsErrOf {T = Vec ℕ Global} (Err told) NoMemory →
+    is_too_large m ≡ false
+writing-wants m r told is h wants = one-writable m r h (sym is ∙ same_error told NoMemory wants)
+
 -- ---- marks
 
 pub pinned : (s t : KeptValue) (n : Node) (r : Result (Unit {0}) PinRefusal) → t.replica ≡ s.replica →

@@ -1,4 +1,7 @@
 //! What holds of every run of peers.
+ghost use Rattle.hg_world.specs.Laws.{NoNodeIsExact, NoMessageIsExact, AcceptedIsExact, OfferedIsExact, MarkedIsExact};
+ghost use Rattle.hg_world.specs.Laws.{AlikeStayAlike, AlikeAcceptAlike, NewAreAlike};
+ghost use Rattle.hg_peer.specs.Words.{peer_state, peer_words};
 ghost use Rattle.hg_peer.specs.Laws.{CoveringPeersAgree, CoveringPeersSeeTheSame};
 ghost use Rattle.hg_peer.specs.Laws.{CoveringPeersAreInOneState};
 ghost use Rattle.hg_peer.specs.Laws.{EachPeerIsLeast, EachPeerIsLeastOfAll};
@@ -10,7 +13,8 @@ ghost use Rattle.hg_peer.specs.Sharing.{WholeOffersWithoutSecretsAreAll};
 
 use crate::peer::Peer;
 use hg_world::{
-    covering_nodes_agree, marks_say_nothing, messages_are_offers, runs_compose, states_are_least,
+    answers_are_exact, covering_nodes_agree, events_and_answers_tell, marks_say_nothing,
+    messages_are_offers, runs_compose, states_are_least,
 };
 
 /// After any run from a new world, peers that cover each other's accepted parts agree: on changesets, phases and
@@ -61,6 +65,29 @@ pub fn marks_change_pins_of_one_peer_alone()
     ensures { MarksChangePinsOfOnePeerAlone }
 {
     marks_say_nothing::<Peer>();
+}
+
+/// A missing peer and then a missing message are told exactly where they are missing. What a peer may accept, offer or
+/// let be marked, it refuses for want of memory alone.
+pub fn answers_of_peers_are_exact()
+    ensures no_node { NoNodeIsExact peer_state peer_words }
+    ensures no_message { NoMessageIsExact peer_state peer_words }
+    ensures accepted { AcceptedIsExact peer_state peer_words }
+    ensures offered { OfferedIsExact peer_state peer_words }
+    ensures marked { MarkedIsExact peer_state peer_words }
+{
+    answers_are_exact::<Peer>();
+}
+
+/// Events and answers alone tell what became of peers: worlds of peers that can't be told apart, where the same events
+/// had the same answers, can't be told apart afterwards, and each peer accepted the same in both. New worlds of as many
+/// peers can't be told apart.
+pub fn events_and_answers_tell_of_peers()
+    ensures alike { AlikeStayAlike peer_state peer_words }
+    ensures accepted { AlikeAcceptAlike peer_state peer_words }
+    ensures new { NewAreAlike peer_state peer_words }
+{
+    events_and_answers_tell::<Peer>();
 }
 
 /// Two whole offers, one each way, make two peers share one history. The first offers its whole scope and the second

@@ -86,9 +86,9 @@ mod world;
 pub use ask::Ask;
 pub use hg_message::Scope;
 pub use laws::{
-    covering_peers_agree, marks_change_pins_of_one_peer_alone,
-    messages_above_what_is_held_are_taken, no_message_holds_a_secret, peers_are_least,
-    whole_offers_share_one_history,
+    answers_of_peers_are_exact, covering_peers_agree, events_and_answers_tell_of_peers,
+    marks_change_pins_of_one_peer_alone, messages_above_what_is_held_are_taken,
+    no_message_holds_a_secret, peers_are_least, whole_offers_share_one_history,
 };
 pub use mark::Mark;
 pub use peer::Peer;

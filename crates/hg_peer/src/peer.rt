@@ -17,7 +17,7 @@ ghost use Rattle.hg_replica.specs.Least.{PartValue, part_of as part_of_replica};
 ghost use Rattle.hg_replica.specs.State.{IsValid};
 ghost use Rattle.hg_replica.specs.Words.{replica_words};
 ghost use Rattle.hg_rewrite.specs.Memory.{MayWantMemory};
-ghost use Rattle.hg_message.specs.Value.{MessageValue};
+ghost use Rattle.hg_message.specs.Value.{MessageValue, is_too_large};
 ghost use Rattle.hg_message.specs.Message.{message_at};
 ghost use Rattle.hg_message.specs.Offer.{AreHeld};
 ghost use Rattle.hg_message.specs.Part.{part_of as message_part};
@@ -464,6 +464,9 @@ fn unpin(kept: &mut Kept, node: Node) -> Result<(), PeerRefusal>
 fn written(found: &Outgoing<'_>) -> Result<Vec<u8>, PeerRefusal>
     ensures ok { IfOk result (λ bytes. CanBeWritten found.now × (bytes.items ≡ message_spelling found.now)) }
     ensures err { IfErr result (λ refusal. IsAgainstWriting found.now refusal ⊎ IsMemory refusal) }
+
+    // Want of memory is told only of what isn't too large.
+    ensures memory { IsErrOf result OutOfMemory → is_too_large found.now ≡ false }
 {
     match found.to_bytes() {
         Ok(bytes) => Ok(bytes),

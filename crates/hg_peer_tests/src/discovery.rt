@@ -1,5 +1,5 @@
 //! Rounds that are worked out by hand, most with each growth refused in turn.
-use crate::scene::{ascending, chain, commit, many_roots, prune, stack};
+use crate::scene::{ascending, chain, commit, many_roots, prune};
 use hg_changeset::Node;
 use hg_discovery::{
     Compared, Discovery, DiscoveryError, heads_in_common_compared, known, known_kept,
@@ -127,25 +127,6 @@ fn refused_growth_of_a_whole_discovery_is_told(rt: HostRuntime) {
     assert!(rt; heads.as_slice() == [b].as_slice());
     let heads = common_heads(alloc, &other, &asker).expect(&rt, "memory");
     assert!(rt; heads.as_slice() == [c].as_slice());
-}
-
-// The other side pruned the tip of a stack.
-#[test]
-fn refused_growth_of_a_discovery_by_a_walk_is_told(rt: HostRuntime) {
-    let alloc = rt.alloc();
-    let (mut asker, mut other) = (Replica::new(alloc), Replica::new(alloc));
-    let Some(last) = stack(alloc, &mut asker, 40) else {
-        return;
-    };
-    let [below, tip] = last;
-    if stack(alloc, &mut other, 40).is_none() || prune(alloc, &mut other, tip, below).is_none() {
-        return;
-    }
-    let (Ok(asker), Ok(other)) = (Kept::new(alloc, asker), Kept::new(alloc, other)) else {
-        return;
-    };
-    let heads = common_heads(alloc, &asker, &other).expect(&rt, "memory");
-    assert!(rt; heads.as_slice() == [below].as_slice());
 }
 
 #[test]

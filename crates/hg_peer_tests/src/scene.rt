@@ -94,17 +94,6 @@ pub fn chain(alloc: Global, replica: &mut Replica) -> Option<[Node; 3]> {
     Some([a, b, c])
 }
 
-/// Takes in a draft stack of so many, each on the one before, and tells the last two ids.
-pub fn stack(alloc: Global, replica: &mut Replica, count: u32) -> Option<[Node; 2]> {
-    let mut last = [Node::NULL, Node::NULL];
-    for number in 0..count {
-        let [_, tip] = last;
-        let next = commit(alloc, replica, tip, &number.to_be_bytes(), Phase::Draft)?;
-        last = [tip, next];
-    }
-    Some(last)
-}
-
 /// The two, the lesser first.
 pub fn ascending(one: Node, other: Node) -> [Node; 2] {
     if one.0 < other.0 {

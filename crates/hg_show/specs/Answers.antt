@@ -1,6 +1,6 @@
 -- What showing bytes answers: the fault that reading them tells, and otherwise what was in the way of printing, if
 -- anything.
-use Rattle.std.specs.Prelude.{ℕ, List, ◌≡◌, ◌⊎◌, ◌≤◌, Option, Some, None, IfSome, Result, Ok, Err, IsErrOf, length}
+use Rattle.std.specs.Prelude.{ℕ, List, ◌≡◌, ◌⊎◌, ◌≤◌, ◌<◌, Option, Some, None, IfSome, Result, Ok, Err, IsErrOf, length}
 use Rattle.hg_message.specs.Message.{message_at}
 use Rattle.hg_obsstore.specs.Faults.{store_at}
 use Rattle.hg_phaseroots.specs.Reading.{roots_of}
@@ -51,10 +51,15 @@ input_limit = 67108864
 abbrev pub IsInput : Option (List ℕ) → List ℕ → Type 0
 IsInput known bytes = (length bytes ≤ input_limit) × IfSome known (λ all. all ≡ bytes)
 
--- what can end the reading of bytes
-abbrev pub IsInputFault : ShowFault → Type 0
-IsInputFault fault = (fault ≡ Read) ⊎ ((fault ≡ TooLong) ⊎ (fault ≡ NoMemory))
+-- of what is known, more is left
+abbrev pub IsMoreLeft : Option (List ℕ) → Option (List ℕ) → Type 0
+IsMoreLeft known left = IfSome known (λ _. IfSome left (λ bytes. 0 < length bytes))
+
+-- what can end the reading of bytes: want of memory only before all is read
+abbrev pub IsInputFault : Option (List ℕ) → Option (List ℕ) → ShowFault → Type 0
+IsInputFault known left fault = (fault ≡ Read) ⊎ ((fault ≡ TooLong) ⊎ ((fault ≡ NoMemory) × IsMoreLeft known left))
 
 -- the bytes weren't read
-abbrev pub EndsInput : {A : Type 0} → Result A ShowFault → Type 0
-EndsInput answer = IsErrOf answer Read ⊎ (IsErrOf answer TooLong ⊎ IsErrOf answer NoMemory)
+abbrev pub EndsInput : {A : Type 0} → Option (List ℕ) → Option (List ℕ) → Result A ShowFault → Type 0
+EndsInput known left answer =
+    IsErrOf answer Read ⊎ (IsErrOf answer TooLong ⊎ (IsErrOf answer NoMemory × IsMoreLeft known left))

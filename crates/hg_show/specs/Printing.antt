@@ -15,7 +15,7 @@ use Rattle.hg_marker.specs.Parents.{parents_of}
 use Rattle.hg_changeset.specs.Contents.{Contents}
 use Rattle.hg_changeset.specs.Changeset.{node_of}
 use Rattle.hg_phases.specs.declared.phase.Phase.{Phase}
-use Rattle.hg_phases.specs.declared.phase.Phase.TheVariants.{Public, Draft, Secret}
+use Rattle.hg_phases.specs.Words.{phase_word}
 use Rattle.hg_phaseroots.specs.Reading.{Root, roots_of}
 use Rattle.hg_obsstore.specs.Faults.{store_at}
 use Rattle.hg_message.specs.declared.scope.Scope.{Scope}
@@ -115,11 +115,6 @@ abbrev pub IsMarkerText : Fields → Text → Type 0
 IsMarkerText m text = (date : Text) × (text ≡ marker_text date m)
 
 -- ---- roots and bounds
-
-abbrev pub phase_word : Phase → Text
-phase_word Public = codes "public"
-phase_word Draft = codes "draft"
-phase_word Secret = codes "secret"
 
 abbrev pub root_text : Root → Text
 root_text root = phase_word root.0 ++ codes " " ++ encode_lower root.1.0

@@ -5,7 +5,7 @@
 //! predecessor where they are recorded, the date in Mercurial's default form, and the other metadata. Bytes that aren't
 //! printable ASCII are escaped. What bytes are at fault is told as the library of their format tells it.
 //!
-//! [`write_store`], [`write_roots`] and [`write_message`] write the bytes of these formats.
+//! [`write_store`] and [`write_roots`] write the bytes of these formats, and [`write_bytes`] those of a message.
 //!
 //! # Example
 //!
@@ -40,4 +40,4 @@ pub use fault::{ShowFault, WriteFault};
 pub use form::Form;
 pub use input::INPUT_LIMIT;
 pub use showing::{show, show_bytes};
-pub use writing::{write_message, write_roots, write_store};
+pub use writing::{write_bytes, write_roots, write_store};

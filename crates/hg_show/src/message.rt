@@ -1,5 +1,5 @@
 //! Messages as text.
-ghost use Rattle.std.specs.Prelude.{◌≡◌, ◌⊎◌, ◌++◌, IfErr, OnOk};
+ghost use Rattle.std.specs.Prelude.{◌≡◌, ◌⊎◌, ◌++◌, IfErr, IfSome, OnOk};
 ghost use Rattle.std.specs.Io.KnownBytes.{Appends};
 ghost use Rattle.hg_show.specs.Answers.{ShowAnswer, message_fault_in};
 ghost use Rattle.hg_show.specs.Printing.{AreLines, IsBoundText, IsChangesetText, IsMessageShown, IsMessageText, Text};
@@ -23,6 +23,7 @@ pub(crate) fn show_message<W: Write>(
     writer: &mut W,
 ) -> Result<(), ShowFault>
     ensures answer { ShowAnswer (message_fault_in bytes.now) result }
+    ensures unprinted { IfSome (message_fault_in bytes.now) (λ _. W.contents writer.new ≡ W.contents writer.old) }
     ensures printed { OnOk result ((text : Text) × IsMessageShown bytes.now text
         × Appends (W.contents writer.old) (W.contents writer.new) text) }
 {

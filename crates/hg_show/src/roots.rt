@@ -1,8 +1,8 @@
 //! Texts of roots as text.
-ghost use Rattle.std.specs.Prelude.{◌≡◌, ◌⊎◌, ◌++◌, IfErr, OnOk};
+ghost use Rattle.std.specs.Prelude.{◌≡◌, ◌⊎◌, ◌++◌, IfErr, IfSome, OnOk};
 ghost use Rattle.std.specs.Io.KnownBytes.{Appends};
 ghost use Rattle.hg_show.specs.Answers.{ShowAnswer, roots_fault_in};
-ghost use Rattle.hg_show.specs.Printing.{AreLines, AreRootsShown, IsRootText, Text, phase_word, root_text};
+ghost use Rattle.hg_show.specs.Printing.{AreLines, AreRootsShown, IsRootText, Text, root_text};
 
 use crate::fault::ShowFault;
 use crate::line::{print_line, push_node};
@@ -20,6 +20,7 @@ pub(crate) fn show_roots<W: Write>(
     writer: &mut W,
 ) -> Result<(), ShowFault>
     ensures answer { ShowAnswer (roots_fault_in text.now) result }
+    ensures unprinted { IfSome (roots_fault_in text.now) (λ _. W.contents writer.new ≡ W.contents writer.old) }
     ensures printed { OnOk result ((lines : Text) × AreRootsShown text.now lines
         × Appends (W.contents writer.old) (W.contents writer.new) lines) }
 {
@@ -51,17 +52,7 @@ fn print_roots<W: Write>(
 pub(crate) fn push_root(line: &mut Vec<u8>, phase: Phase, node: Node) -> Result<(), AllocError>
     ensures { OnOk result (line.new.items ≡ line.old.items ++ root_text (phase, node)) }
 {
-    line.extend_from_slice(phase_word(phase))?;
+    line.extend_from_slice(phase.word().as_bytes())?;
     line.push(b' ')?;
     push_node(line, node)
-}
-
-fn phase_word(phase: Phase) -> &'static [u8]
-    ensures { result.now ≡ phase_word phase }
-{
-    match phase {
-        Phase::Public => b"public",
-        Phase::Draft => b"draft",
-        Phase::Secret => b"secret",
-    }
 }

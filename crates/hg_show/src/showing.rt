@@ -11,20 +11,21 @@ use crate::message::show_message;
 use crate::roots::show_roots;
 use crate::store::show_store;
 use std::alloc::Global;
-use std::io::{Read, Write};
+use std::io::{BufRead, Write};
 
 /// Reads bytes to their end and prints what they say, with one write for each line.
 ///
 /// Refuses [`ShowFault::TooLong`] where there are more than [`INPUT_LIMIT`](crate::INPUT_LIMIT) of them, and otherwise
-/// as [`show_bytes`] does. [`ShowFault::Read`] is told where a read fails; an interrupted one is tried again.
-pub fn show<R: Read, W: Write>(
+/// as [`show_bytes`] does. [`ShowFault::Read`] is told where a read fails; an interrupted one is tried again. Want of
+/// memory never stands for a fault of bytes that are all read: while they are read, it is told only where more is left.
+pub fn show<R: BufRead, W: Write>(
     alloc: Global,
     form: Form,
     reader: &mut R,
     writer: &mut W,
 ) -> Result<(), ShowFault>
     // Either reading ended early, or what is told is so of bytes that are what the reader had, where that is known.
-    ensures answer { EndsInput result
+    ensures answer { EndsInput (R.remaining reader.old) (R.remaining reader.new) result
         ⊎ ((bytes : List ℕ) × IsInput (R.remaining reader.old) bytes × ShowAnswer (fault_in form bytes) result) }
     ensures printed { OnOk result ((bytes : List ℕ) × (text : Text) × IsInput (R.remaining reader.old) bytes
         × IsShown form bytes text × Appends (W.contents writer.old) (W.contents writer.new) text) }
@@ -46,6 +47,9 @@ pub fn show_bytes<W: Write>(
     writer: &mut W,
 ) -> Result<(), ShowFault>
     ensures answer { ShowAnswer (fault_in form bytes.now) result }
+
+    // Nothing is printed of bytes at fault.
+    ensures unprinted { IfSome (fault_in form bytes.now) (λ _. W.contents writer.new ≡ W.contents writer.old) }
 
     // What is printed is what the bytes say: only the text of a date, and of a changeset all but its id, is left open.
     ensures printed { OnOk result ((text : Text) × IsShown form bytes.now text

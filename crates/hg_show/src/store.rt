@@ -1,5 +1,5 @@
 //! Stores of markers as text.
-ghost use Rattle.std.specs.Prelude.{◌≡◌, ◌⊎◌, IfErr, OnOk};
+ghost use Rattle.std.specs.Prelude.{◌≡◌, ◌⊎◌, IfErr, IfSome, OnOk};
 ghost use Rattle.std.specs.Io.KnownBytes.{Appends};
 ghost use Rattle.hg_show.specs.Answers.{ShowAnswer, store_fault_in};
 ghost use Rattle.hg_show.specs.Printing.{AreLines, IsMarkerText, IsStoreShown, Text};
@@ -19,6 +19,7 @@ pub(crate) fn show_store<W: Write>(
     writer: &mut W,
 ) -> Result<(), ShowFault>
     ensures answer { ShowAnswer (store_fault_in bytes.now) result }
+    ensures unprinted { IfSome (store_fault_in bytes.now) (λ _. W.contents writer.new ≡ W.contents writer.old) }
     ensures printed { OnOk result ((text : Text) × IsStoreShown bytes.now text
         × Appends (W.contents writer.old) (W.contents writer.new) text) }
 {

@@ -1,14 +1,12 @@
-//! Writing what a node holds, and messages.
-ghost use Rattle.std.specs.Prelude.{◌≡◌, List, ℕ, OnOk};
+//! Writing what a node holds.
+ghost use Rattle.std.specs.Prelude.{◌≡◌, List, ℕ, IfErr, OnOk};
 ghost use Rattle.std.specs.Io.KnownBytes.{Appends};
-ghost use Rattle.hg_message.specs.Spelling.{message_spelling};
 ghost use Rattle.hg_obsstore.specs.Spelling.{store_spelling};
 ghost use Rattle.hg_phaseroots.specs.Writing.{IsWritten};
 ghost use Rattle.hg_phaseroots.specs.Reading.{Root};
 ghost use Rattle.hg_phases.specs.Roots.{AreRoots};
 
 use crate::fault::WriteFault;
-use hg_message::Message;
 use hg_obsstore::store_bytes;
 use hg_phaseroots::roots_text;
 use hg_view::Kept;
@@ -37,18 +35,12 @@ pub fn write_roots<W: Write>(kept: &Kept, writer: &mut W) -> Result<(), WriteFau
     write_bytes(&text, writer)
 }
 
-/// Writes a message, in version 2 of its format.
+/// Writes bytes as they are.
 ///
-/// After a fault a front of the bytes may be written.
-pub fn write_message<W: Write>(message: &Message, writer: &mut W) -> Result<(), WriteFault>
-    ensures { OnOk result (Appends (W.contents writer.old) (W.contents writer.new) (message_spelling message.now)) }
-{
-    let bytes = message.to_bytes()?;
-    write_bytes(&bytes, writer)
-}
-
-fn write_bytes<W: Write>(bytes: &[u8], writer: &mut W) -> Result<(), WriteFault>
-    ensures { OnOk result (Appends (W.contents writer.old) (W.contents writer.new) bytes.now) }
+/// After a fault a front of them may be written.
+pub fn write_bytes<W: Write>(bytes: &[u8], writer: &mut W) -> Result<(), WriteFault>
+    ensures ok { OnOk result (Appends (W.contents writer.old) (W.contents writer.new) bytes.now) }
+    ensures err { IfErr result (λ fault. fault ≡ WriteFault.Write) }
 {
     match writer.write_all(bytes) {
         Ok(()) => Ok(()),
