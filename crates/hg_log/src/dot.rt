@@ -2,7 +2,7 @@
 ghost use Rattle.std.specs.Prelude.{◌<◌, length};
 ghost use Rattle.hg_phases.specs.State.{changesets};
 
-use crate::described::{label_of, push_short_id};
+use crate::described::push_short_id;
 use crate::fate::{fates, is_pruned};
 use crate::fault::DrawFault;
 use crate::kind::{Kind, kind_of};
@@ -91,7 +91,7 @@ fn draw_changeset<W: Write>(
     let kind = kind_of(kept, node);
     push_box(line, node, Some(changeset))?;
     line.extend_from_slice(colour(kind, replica.phase_at(place).unwrap()))?;
-    if is_pruned(replica, fates(replica, place, node, kind)) {
+    if is_pruned(replica, fates(replica, node, kind)) {
         line.extend_from_slice(b", style=diagonals")?;
     }
     line.extend_from_slice(b"];")?;
@@ -200,7 +200,7 @@ fn push_box(
     push_short_id(line, node)?;
     if let Some(changeset) = changeset {
         line.extend_from_slice(b"\\n")?;
-        push_quoted(line, label_of(changeset))?;
+        push_quoted(line, changeset.last_line())?;
     }
     line.extend_from_slice(b"\", ")
 }

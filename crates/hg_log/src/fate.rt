@@ -7,16 +7,11 @@ use hg_replica::Replica;
 use std::alloc::AllocError;
 
 /// The places of the markers that rewrote a changeset, in the order in which they came, where it is obsolete. Of others
-/// it gives none: what is public isn't rewritten, whatever markers say. It takes no look-up by a hash where this is the
-/// changeset at the place.
-pub(crate) fn fates(replica: &Replica, place: usize, node: Node, kind: Kind) -> &[usize] {
+/// it gives none: what is public isn't rewritten, whatever markers say.
+pub(crate) fn fates(replica: &Replica, node: Node, kind: Kind) -> &[usize] {
     match kind {
         Kind::Ordinary | Kind::Unstable => &[],
-        Kind::Obsolete | Kind::Hidden => {
-            let hint = replica.hint_at(place);
-            let mentions = replica.store().mentions_near(node, hint);
-            mentions.as_predecessor()
-        }
+        Kind::Obsolete | Kind::Hidden => replica.store().with_predecessor(node),
     }
 }
 

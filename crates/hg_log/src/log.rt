@@ -4,7 +4,7 @@ ghost use Rattle.hg_phases.specs.State.{changesets};
 
 use crate::cells::{Line, needs_padding, push_columns};
 use crate::columns::{Columns, Row};
-use crate::described::{label_of, phase_word, push_label, push_short_id, push_unstable};
+use crate::described::{push_label, push_short_id, push_unstable};
 use crate::fate::{fates, push_fate};
 use crate::fault::DrawFault;
 use crate::kind::kind_of;
@@ -73,7 +73,7 @@ fn draw_changeset<W: Write>(
     let replica = kept.replica();
     let node = replica.graph().node_at(place).unwrap();
     let kind = kind_of(kept, node);
-    let fates = fates(replica, place, node, kind);
+    let fates = fates(replica, node, kind);
     let mark = kind.mark();
     let is_tall = fates.len() > 1;
     push_columns(row, Line::Changeset { mark, is_tall }, line)?;
@@ -91,8 +91,9 @@ fn push_description(kept: &Kept, place: usize, line: &mut Vec<u8>) -> Result<(),
     let phase = replica.phase_at(place).unwrap();
     push_short_id(line, changeset.node())?;
     line.push(b' ')?;
-    push_label(line, label_of(changeset))?;
-    line.extend_from_slice(phase_word(phase))?;
+    push_label(line, changeset.last_line())?;
+    line.push(b' ')?;
+    line.extend_from_slice(phase.word().as_bytes())?;
     push_unstable(line, kept.status(changeset.node()))
 }
 

@@ -10,7 +10,7 @@ use Rattle.std.proofs.lemmas.List.Sorted.{IsPermutation-map, All-permutation}
 use Rattle.std.proofs.lemmas.Option.{slice_get_within, get_or_from_slice_get, slice_get-map, same_Some}
 use Rattle.hg_changeset.specs.declared.node.Node.{Node}
 use Rattle.hg_changeset.specs.Contents.{Contents}
-use Rattle.hg_changeset.specs.Changeset.{node_of}
+use Rattle.hg_changeset.specs.Changeset.{last_line, node_of}
 use Rattle.hg_graph.specs.Graph.{nodes}
 use Rattle.hg_phases.specs.declared.phase.Phase.{Phase}
 use Rattle.hg_phases.specs.State.{Held, changesets}
@@ -19,23 +19,23 @@ use Rattle.hg_view.specs.Kept.{KeptValue}
 use Rattle.hg_view.specs.declared.status.Status.{Status}
 use Rattle.hg_view.specs.Status.{IsStatus}
 use Rattle.hg_script.specs.Commands.{Text, Word}
-use Rattle.hg_script.specs.Reports.{AreRowLines, AreRows, IsRowLine, RowValue, label_of, row_cmp, row_line}
+use Rattle.hg_script.specs.Reports.{AreRowLines, AreRows, IsRowLine, RowValue, row_cmp, row_line}
 use Rattle.hg_script.specs.Reports.{row_values, rows_from}
 
 -- ---- rows
 
 -- one changeset more
 rows_from-push : (place : ℕ) (cs : List Contents) (c : Contents)
-    → rows_from place (cs ++ c ∷ []) ≡ rows_from place cs ++ (label_of c, place + length cs) ∷ []
-rows_from-push place [] c = ap (λ (n : ℕ). (label_of c, n) ∷ []) (sym (add-zero place))
+    → rows_from place (cs ++ c ∷ []) ≡ rows_from place cs ++ (last_line c, place + length cs) ∷ []
+rows_from-push place [] c = ap (λ (n : ℕ). (last_line c, n) ∷ []) (sym (add-zero place))
 rows_from-push place (d ∷ cs) c =
     let e : place + 1 + length cs ≡ place + length (d ∷ cs) = omega arith in
-    ap (λ (rs : List RowValue). (label_of d, place) ∷ rs)
-    (rows_from-push (place + 1) cs c ∙ ap (λ (n : ℕ). rows_from (place + 1) cs ++ (label_of c, n) ∷ []) e)
+    ap (λ (rs : List RowValue). (last_line d, place) ∷ rs)
+    (rows_from-push (place + 1) cs c ∙ ap (λ (n : ℕ). rows_from (place + 1) cs ++ (last_line c, n) ∷ []) e)
 
 -- the rows so far, and that of the next changeset
 pub rows_more : (cs : List Contents) (c : Contents) (rows more : List (Word × ℕ)) (label : Word) (place : ℕ)
-    → slice_get cs place ≡ Some c → label.now ≡ label_of c → more ≡ rows ++ (label, place) ∷ []
+    → slice_get cs place ≡ Some c → label.now ≡ last_line c → more ≡ rows ++ (label, place) ∷ []
     → row_values rows ≡ rows_from 0 (take place cs) → row_values more ≡ rows_from 0 (take (place + 1) cs)
 rows_more cs c rows more label place at is grown so_far =
     let within = slice_get_within cs place c at in
@@ -46,7 +46,7 @@ rows_more cs c rows more label place at is grown so_far =
     ap row_values grown ∙ map-append _ rows ((label, place) ∷ [])
     ∙ ap (λ (rs : List RowValue). rs ++ (label.now, place) ∷ []) so_far
     ∙ ap (λ (l : Text). rows_from 0 (take place cs) ++ (l, place) ∷ []) is
-    ∙ ap (λ (n : ℕ). rows_from 0 (take place cs) ++ (label_of c, n) ∷ []) (sym count)
+    ∙ ap (λ (n : ℕ). rows_from 0 (take place cs) ++ (last_line c, n) ∷ []) (sym count)
     ∙ sym (rows_from-push 0 (take place cs) c) ∙ ap (rows_from 0) (sym taken)
 
 -- ---- order

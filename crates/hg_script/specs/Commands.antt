@@ -4,7 +4,7 @@ use Rattle.std.specs.Prelude.{IfSome, Bool, if◌then◌else◌, Option, Some, N
 use denote.Bor.{Bor}
 use Rattle.std.specs.List.{AllPass}
 use Rattle.hg_phases.specs.declared.phase.Phase.{Phase}
-use Rattle.hg_phases.specs.declared.phase.Phase.TheVariants.{Public, Draft, Secret}
+use Rattle.hg_phases.specs.Words.{phase_word}
 use Rattle.hg_script.specs.Words.{is_name}
 use Rattle.hg_script.specs.declared.command.Command.{Command}
 use Rattle.hg_message.specs.declared.scope.Scope.{Scope}
@@ -32,11 +32,6 @@ abbrev pub texts : List Word → List Text
 texts words = map (λ w. w.now) words
 
 -- ---- what each command is spelled as
-
-abbrev pub phase_word : Phase → Text
-phase_word Public = codes "public"
-phase_word Draft = codes "draft"
-phase_word Secret = codes "secret"
 
 abbrev pub asked_word : Bool → Text
 asked_word is_secret = if is_secret then codes "secret" else codes "draft"

@@ -3,29 +3,25 @@ use Rattle.std.specs.Prelude.{ℕ, ◌≡◌, ◌+◌, ◌==◌, ◌↔◌, List
 use Rattle.std.specs.Prelude.{IsTrue, Some, if◌then◌else◌, not}
 use Rattle.std.specs.declared.cmp.Ordering.{Ordering}
 use Rattle.std.specs.Cmp.Lexicographic.{slice_cmp}
-use Rattle.std.specs.List.{after_last}
 use Rattle.std.specs.List.Sorted.{IsPermutation, IsSorted}
 use Rattle.std.specs.Ordering.{nat_cmp, ordering_then}
 use Rattle.hg_changeset.specs.declared.node.Node.{Node}
 use Rattle.hg_changeset.specs.Contents.{Contents}
-use Rattle.hg_changeset.specs.Changeset.{node_of}
+use Rattle.hg_changeset.specs.Changeset.{last_line, node_of}
 use Rattle.hg_phases.specs.declared.phase.Phase.{Phase}
 use Rattle.hg_phases.specs.State.{Held, changesets}
+use Rattle.hg_phases.specs.Words.{phase_word}
 use Rattle.hg_replica.specs.State.{ReplicaState}
 use Rattle.hg_view.specs.Kept.{KeptValue}
 use Rattle.hg_view.specs.declared.status.Status.{Status}
 use Rattle.hg_view.specs.Status.{IsStatus}
-use Rattle.hg_script.specs.Commands.{Text, Word, phase_word}
+use Rattle.hg_script.specs.Commands.{Text, Word}
 
 -- the text and an LF
 abbrev pub line_of : Text → Text
 line_of text = text ++ 10 ∷ []
 
 -- ---- the changesets of a replica, in the order of a report
-
--- what follows the last LF of the changeset's text: its description
-abbrev pub label_of : Contents → Text
-label_of c = after_last (λ b. b == 10) c.text
 
 -- a changeset by its label and its place
 abbrev pub RowValue : Type 0
@@ -34,7 +30,7 @@ RowValue = Text × ℕ
 -- the changesets, the first of which stands at this place
 abbrev pub rows_from : ℕ → List Contents → List RowValue
 rows_from place [] = []
-rows_from place (c ∷ cs) = (label_of c, place) ∷ rows_from (place + 1) cs
+rows_from place (c ∷ cs) = (last_line c, place) ∷ rows_from (place + 1) cs
 
 -- by label, byte by byte, and then by place
 abbrev pub row_cmp : RowValue → RowValue → Ordering

@@ -23,7 +23,7 @@ use crate::marking::Marking;
 use crate::operation::{Names, Operation};
 use crate::output::print_line;
 use crate::peers::Peers;
-use crate::report::{label_of, print_report};
+use crate::report::print_report;
 use crate::spare::Spare;
 use crate::told::Told;
 use hg_changeset::{Changeset, Node};
@@ -138,7 +138,7 @@ impl Fleet {
     pub(crate) fn label_of(&self, node: Node) -> Option<&[u8]> {
         for place in 0..self.nodes.len() {
             match self.changeset_at(place, node) {
-                Some(changeset) => return Some(label_of(changeset)),
+                Some(changeset) => return Some(changeset.last_line()),
                 None => {}
             }
         }

@@ -1,17 +1,16 @@
 //! The report of a replica: its changesets, what each is, and how many there are.
-ghost use Rattle.std.specs.Prelude.{◌≡◌, ◌≤◌, ◌<◌, ◌-◌, ◌==◌, ◌↔◌, ◌⊎◌, ◌++◌, [], List, IfOk, IfErr, OnOk, IsTrue, All};
-ghost use Rattle.std.specs.Prelude.{Contains, codes, length, not};
-ghost use Rattle.std.specs.List.{suffix_len};
+ghost use Rattle.std.specs.Prelude.{◌≡◌, ◌≤◌, ◌<◌, ◌↔◌, ◌⊎◌, ◌++◌, [], List, IfOk, IfErr, OnOk, IsTrue, All};
+ghost use Rattle.std.specs.Prelude.{Contains, codes, length};
 ghost use Rattle.hg_phases.specs.State.{changesets};
-ghost use Rattle.hg_script.specs.Commands.{Text, phase_word};
+ghost use Rattle.hg_phases.specs.Words.{phase_word};
+ghost use Rattle.hg_script.specs.Commands.{Text};
 ghost use Rattle.hg_script.specs.Outputs.{Printed};
 ghost use Rattle.hg_script.specs.Reports.{AreRowLines, AreRows, IsReport, IsRowLine};
-ghost use Rattle.hg_script.specs.Reports.{RowValue, heading, label_of, row_values, rows_from, text_where, totals};
+ghost use Rattle.hg_script.specs.Reports.{RowValue, heading, row_values, rows_from, text_where, totals};
 ghost use Rattle.hg_script.specs.Reports.{with_words};
 
 use crate::fault::RunFault;
 use crate::output::print_line;
-use hg_changeset::Changeset;
 use hg_phases::Phase;
 use hg_replica::Replica;
 use hg_view::{Kept, Status};
@@ -43,26 +42,6 @@ fn push_where(line: &mut Vec<u8>, is_so: bool, word: &[u8]) -> Result<(), AllocE
 // A changeset of a replica: its label and its place.
 type Row<'a> = (&'a [u8], usize);
 
-/// The label of a changeset: its description, which is the last line of its text.
-pub fn label_of(changeset: &Changeset) -> &[u8]
-    ensures { result.now ≡ label_of changeset.now }
-{
-    let text = changeset.text();
-    &text[start_of_last_line(text)..]
-}
-
-// Where what follows the last LF begins.
-fn start_of_last_line(text: &[u8]) -> usize
-    ensures start { result ≡ length text.now - suffix_len (λ b. not (b == 10)) text.now }
-    ensures within { result ≤ length text.now }
-{
-    let mut start = text.len();
-    while start > 0 && text[start - 1] != b'\n' {
-        start -= 1;
-    }
-    start
-}
-
 // The replica's changesets in byte order of their labels.
 fn rows<'a>(alloc: Global, replica: &'a Replica) -> Result<Vec<Row<'a>>, AllocError>
     ensures { IfOk result (λ rows. AreRows replica.now (row_values rows.items)) }
@@ -80,7 +59,7 @@ fn rows_by_place<'a>(alloc: Global, replica: &'a Replica) -> Result<Vec<Row<'a>>
     let mut rows = Vec::with_capacity(alloc, graph.len())?;
     for place in 0..graph.len() {
         match graph.changeset_at(place) {
-            Some(changeset) => rows.push((label_of(changeset), place))?,
+            Some(changeset) => rows.push((changeset.last_line(), place))?,
             None => {}
         }
     }
@@ -196,18 +175,16 @@ fn print_row<W: Write>(
     let node = replica.graph().node_at(place).unwrap();
     let phase = replica.phase_at(place).unwrap();
     line.extend_from_slice(label)?;
-    line.extend_from_slice(phase_word(phase))?;
+    push_phase(line, phase)?;
     push_words(line, kept.status(node))?;
     print_line(writer, line)?;
     Ok(())
 }
 
-fn phase_word(phase: Phase) -> &'static [u8]
-    ensures { result.now ≡ codes " " ++ phase_word phase }
+// Appends a blank and the word for the phase.
+fn push_phase(line: &mut Vec<u8>, phase: Phase) -> Result<(), AllocError>
+    ensures { OnOk result (line.new.items ≡ line.old.items ++ (codes " " ++ phase_word phase)) }
 {
-    match phase {
-        Phase::Public => b" public",
-        Phase::Draft => b" draft",
-        Phase::Secret => b" secret",
-    }
+    line.push(b' ')?;
+    line.extend_from_slice(phase.word().as_bytes())
 }

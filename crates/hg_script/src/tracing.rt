@@ -4,7 +4,6 @@ use crate::event::PeerAnswer;
 use crate::explaining::push_node;
 use crate::fleet::Fleet;
 use crate::marking::Marking;
-use crate::report::label_of;
 use crate::told::Told;
 use hg_changeset::Node;
 use hg_discovery::{Discovery, known_kept};
@@ -290,7 +289,7 @@ fn push_node_at(
 // The description of a changeset that the node of a place holds, where that is a label of it.
 fn label_at(fleet: &Fleet, at: usize, node: Node) -> Option<&[u8]> {
     let changeset = fleet.kept_at(at)?.replica().graph().changeset(node)?;
-    let label = label_of(changeset);
+    let label = changeset.last_line();
     if fleet.node_of(label)? == node {
         Some(label)
     } else {

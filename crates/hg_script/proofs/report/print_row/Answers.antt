@@ -1,9 +1,10 @@
-use Rattle.std.proofs.Common.{◌≡◌, ◌≤◌, List, ◌++◌, length, slice_get, Option, Some, MatchOption, sym, ap}
+use Rattle.std.proofs.Common.{◌≡◌, ◌≤◌, List, ◌++◌, codes, length, slice_get, Option, Some, MatchOption, sym, ap}
 use Rattle.std.proofs.Common.{subst, ◌∙◌}
 use Rattle.hg_changeset.specs.Contents.{Contents}
 use Rattle.hg_graph.specs.Graph.{nodes}
 use Rattle.hg_phases.specs.declared.phase.Phase.{Phase}
 use Rattle.hg_phases.specs.State.{Held, changesets}
+use Rattle.hg_phases.specs.Words.{phase_word}
 use Rattle.hg_replica.specs.State.{ReplicaState}
 use Rattle.hg_script.specs.Commands.{Text}
 use Rattle.hg_script.specs.Reports.{line_of, with_words}
@@ -26,10 +27,9 @@ returns-clause-printed g c =
     let held = subst (λ (o : Option Phase). MatchOption o (length s.replica.history.held ≤ place)
     (λ k. (h : Held) × (slice_get s.replica.history.held place ≡ Some h) × (h.phase ≡ k))) c.unwrap-phase.ensures
     phase_at in
-    let front = c.in_ok-extend_from_slice-2.ensures.items
-    ∙ ap (λ (l : Text). l ++ c.phase_word.result.now)
-    (c.in_ok-extend_from_slice.ensures.items ∙ ap (λ (l : Text). l ++ label) c.requires.empty)
-    ∙ ap (λ (w : Text). label ++ w) c.phase_word.ensures in
+    let front = c.in_ok-push_phase.ensures
+    ∙ ap (λ (l : Text). l ++ (codes " " ++ phase_word phase))
+    (c.in_ok-extend_from_slice.ensures.items ∙ ap (λ (l : Text). l ++ label) c.requires.empty) in
     let whole = ap line_of (c.in_ok-push_words.ensures ∙ ap (λ (l : Text). with_words l status) front) in (
       line_of c.push_words.new.line.items,
       row_of s place c.unwrap-node.result phase label _ status at held

@@ -11,7 +11,7 @@ loop-place-preserved c =
     elim c.match-changeset_at.branch [
       | in-Some+in_ok-push-in-Some w ↦
           rows_more cs w.in-Some.changeset.now c.loop-place.rows.items c.match-changeset_at.rows.items
-          w.label_of.result place (sym w.in-Some.ensures) w.label_of.ensures
+          w.last_line.result place (sym w.in-Some.ensures) w.last_line.ensures
           (ap (λ v. v.items) w.rows-is ∙ w.in_ok-push-in-Some.ensures.items) c.loop-place.invariant
       | in-None w ↦
           let within = subst (λ (n : ℕ). place < n) c.len-place-end.ensures.len c.loop-place-test.true in
