@@ -1,115 +1,102 @@
 -- A walk up from a changeset, by the places that wait.
-use Rattle.std.proofs.Common.{◌≡◌, ℕ, ◌<◌, ◌≤◌, true, List, [], ◌∷◌, ◌++◌, length, Option, Some, None, is_some, IfSome}
-use Rattle.std.proofs.Common.{Contains, All, ◌↔◌, ◌⊎◌, inl, inr, refl, sym, subst, arith, true≢false}
-use Rattle.std.specs.Ordering.{nat_cmp}
-use Rattle.std.specs.declared.cmp.Ordering.TheVariants.{Less}
+use Rattle.std.proofs.Common.{◌≡◌, ℕ, ◌<◌, ◌≤◌, List, [], length, Option, Some, None}
+use Rattle.std.proofs.Common.{Contains, ◌↔◌, ◌⊎◌, inl, inr, refl, sym, ap, subst, arith}
 use Rattle.std.proofs.lemmas.Bool.{cases_lt}
-use Rattle.std.proofs.lemmas.List.Elements.{Contains-push, Contains-push_cases, Contains-append_left, All-contains}
 use Rattle.std.proofs.lemmas.Option.{none-some, same_Some}
 use Rattle.hg_changeset.specs.declared.node.Node.{Node}
 use Rattle.hg_changeset.specs.Contents.{Contents}
 use Rattle.hg_graph.specs.Graph.{nodes, IsGraph, Reaches}
 use Rattle.hg_graph.specs.Graph.Reaches.{itself, below}
 use Rattle.hg_graph.specs.Places.{IsAt, IsParentPlace, IsAncestorPlace}
-use Rattle.hg_graph.specs.Waiting.{Waits, IsNextOf}
+use Rattle.hg_graph.specs.Waiting.{Waits, IsLast, TakesLast}
 use Rattle.hg_graph.proofs.GraphLemmas.{place_from_Contains}
 use Rattle.hg_graph.proofs.PlaceLemmas.{same_place, place_from_Holds, Holds-reached, parent_first, ancestor_first}
 use Rattle.hg_graph.proofs.PlaceLemmas.{ancestor_by_parent, ancestor_through_parent, ancestor_itself}
-use Rattle.hg_graph.proofs.WalkLemmas.{contains_none, emptied, less_from_cmp}
+use Rattle.hg_graph.proofs.WalkLemmas.{contains_none}
 
 -- nothing waited but the next one, if there is one
 pub next_alone : (Waited : ℕ → Type 0) (waiting : List ℕ) (next : Option ℕ)
-    → waiting ≡ [] → ((k : ℕ) → Waited k ↔ (next ≡ Some k)) → IsNextOf Waited waiting next
+    → waiting ≡ [] → ((k : ℕ) → Waited k ↔ (next ≡ Some k)) → TakesLast Waited waiting next
 next_alone Waited waiting None empty is = λ k w. none-some k ((is k).0 w)
-next_alone Waited waiting (Some g) empty is =
-    ((is g).1 refl, λ k c. absurd (contains_none waiting k empty c), λ k w. inl (sym (same_Some g k ((is k).0 w))))
-
--- the next one is the greatest of those that waited
-pub next_popped : (Waited : ℕ → Type 0) (all left : List ℕ) (next : Option ℕ) → ((k : ℕ) → Waited k ↔ Contains all k)
-    → (0 < length all → is_some next ≡ true) → IfSome next (λ k. all ≡ left ++ k ∷ [])
-    → IfSome next (λ k. All (λ q. nat_cmp q k ≡ Less) left) → IsNextOf Waited left next
-next_popped Waited all left None is any removal under = λ k w.
-    contains_none all k (emptied all (λ l. absurd (true≢false (sym (any l))))) ((is k).0 w)
-next_popped Waited all left (Some g) is any removal under = (
-  (is g).1 (subst (λ ks. Contains ks g) (sym removal) (Contains-push left g)),
-  λ k c. (
-    less_from_cmp k g (All-contains (λ q. nat_cmp q g ≡ Less) left k under c),
-    (is k).1 (subst (λ ks. Contains ks k) (sym removal) (Contains-append_left left (g ∷ []) k c)),
+next_alone Waited waiting (Some g) empty is = (
+  λ k. (
+    λ w. inl (same_Some g k ((is k).0 w)),
+    λ h. elim h [ inl e ↦ (is k).1 (ap (λ j. Some j) e) | inr c ↦ absurd (contains_none waiting k empty c) ],
   ),
-  λ k w. elim (Contains-push_cases left g k (subst (λ ks. Contains ks k) removal ((is k).0 w)))
-      [ inl c ↦ inr c | inr e ↦ inl (sym e) ],
+  λ k c. absurd (contains_none waiting k empty c),
 )
+
+-- what waited said in another way
+pub next_alike : (P Q : ℕ → Type 0) (waiting : List ℕ) (next : Option ℕ) → ((k : ℕ) → Q k ↔ P k)
+    → TakesLast Q waiting next → TakesLast P waiting next
+next_alike P Q waiting None same is = λ k p. is k ((same k).1 p)
+next_alike P Q waiting (Some g) same is =
+    (λ k. (λ p. (is.0 k).0 ((same k).1 p), λ h. (same k).0 ((is.0 k).1 h)), is.1)
 
 -- the changeset at `low` is an ancestor of the one at `high` exactly where it is one of the one at `place` or at a
 -- place that waits
 pub record IsClimbed (cs : List Contents) (low high : ℕ) (waiting : List ℕ) (place : ℕ) : Type 0 where
-  pub from : low ≤ place
   pub within : place < length cs
-  pub waits : (k : ℕ) → Contains waiting k → (low ≤ k) × (k < place)
-  pub sound : (k : ℕ) → (k ≡ place) ⊎ Contains waiting k → IsAncestorPlace cs low k → IsAncestorPlace cs low high
-  pub complete : IsAncestorPlace cs low high → (k : ℕ) × ((k ≡ place) ⊎ Contains waiting k) × IsAncestorPlace cs low k
+  pub waits : (k : ℕ) → Contains waiting k → k < place
+  pub sound : (k : ℕ) → (place ≡ k) ⊎ Contains waiting k → IsAncestorPlace cs low k → IsAncestorPlace cs low high
+  pub complete : IsAncestorPlace cs low high → (k : ℕ) × ((place ≡ k) ⊎ Contains waiting k) × IsAncestorPlace cs low k
 
 module _ (cs : List Contents) (graph : IsGraph cs) (low high : ℕ) where
-  pub IsClimbed-start : (waiting : List ℕ) → waiting ≡ [] → low ≤ high → high < length cs
-      → IsClimbed cs low high waiting high
-  IsClimbed-start waiting empty from within = record {
-    from = from;
+  pub IsClimbed-start : (waiting : List ℕ) → waiting ≡ [] → high < length cs → IsClimbed cs low high waiting high
+  IsClimbed-start waiting empty within = record {
     within = within;
     waits = λ k c. absurd (contains_none waiting k empty c);
     sound = λ k is h. elim is
-        [ inl e ↦ subst (IsAncestorPlace cs low) e h | inr c ↦ absurd (contains_none waiting k empty c) ];
+        [ inl e ↦ subst (IsAncestorPlace cs low) (sym e) h | inr c ↦ absurd (contains_none waiting k empty c) ];
     complete = λ h. (high, inl refl, h);
   }
 
-  module _ (waiting : List ℕ) (place : ℕ) (s : IsClimbed cs low high waiting place) (later : low < place) where
-    one_waits : IsAncestorPlace cs low high → (k : ℕ) × Waits cs low place waiting k × IsAncestorPlace cs low k
-    one_waits h =
+  module _ (waiting : List ℕ) (place : ℕ) (s : IsClimbed cs low high waiting place) where
+    one_waits : low < place → IsAncestorPlace cs low high → (k : ℕ) × Waits cs place waiting k × IsAncestorPlace cs low k
+    one_waits later h =
         let c = s.complete h in
         elim c.1 [
           | inl e ↦
-              let up = ancestor_by_parent cs graph low place later (subst (IsAncestorPlace cs low) e c.2) in
-              (up.0, inr (ancestor_first cs graph low up.0 up.2, up.1), up.2)
+              let up = ancestor_by_parent cs graph low place later (subst (IsAncestorPlace cs low) (sym e) c.2) in
+              (up.0, inr up.1, up.2)
           | inr w ↦ (c.0, inl w, c.2)
         ]
 
-    pub IsClimbed-end : (next : List ℕ) → IsNextOf (Waits cs low place waiting) next None
+    pub IsClimbed-end : low < place → (next : List ℕ) → TakesLast (Waits cs place waiting) next None
         → ¬ (IsAncestorPlace cs low high)
-    IsClimbed-end next none h = let w = one_waits h in none w.0 w.1
+    IsClimbed-end later next none h = let w = one_waits later h in none w.0 w.1
 
-    pub IsClimbed-step : (next : List ℕ) (g : ℕ) → IsNextOf (Waits cs low place waiting) next (Some g)
+    pub IsClimbed-step : low < place → (next : List ℕ) (g : ℕ) → IsLast (Waits cs place waiting) next g
         → IsClimbed cs low high next g × (g < place)
-    IsClimbed-step next g is = (
+    IsClimbed-step later next g is = (
       record {
-        from = (bounds g is.0).0;
-        within = omega (arith, s.within, (bounds g is.0).1);
-        waits = λ k c. let w = is.1 k c in ((bounds k w.1).0, w.0);
-        sound = λ k here h. elim here [
-          | inl e ↦ up k (subst (Waits cs low place waiting) (sym e) is.0) h
-          | inr c ↦
-              up k (is.1 k c).1 h
+        within = omega (arith, s.within, before);
+        waits = is.1;
+        sound = λ k here h. elim ((is.0 k).1 here) [
+          | inl c ↦ s.sound k (inr c) h
+          | inr p ↦ s.sound place (inl refl) (ancestor_through_parent cs low k place p h)
         ];
-        complete = λ h. let w = one_waits h in (w.0, is.2 w.0 w.1, w.2);
+        complete = λ h. let w = one_waits later h in (w.0, (is.0 w.0).0 w.1, w.2);
       },
-      (bounds g is.0).1,
+      before,
     )
       where
-        bounds : (k : ℕ) → Waits cs low place waiting k → (low ≤ k) × (k < place)
-        bounds k w = elim w [ inl c ↦ s.waits k c | inr p ↦ (p.0, parent_first cs graph place k p.1) ]
+        before : g < place
+        before = elim ((is.0 g).1 (inl refl)) [ inl c ↦ s.waits g c | inr p ↦ parent_first cs graph place g p ]
 
-        up : (k : ℕ) → Waits cs low place waiting k → IsAncestorPlace cs low k → IsAncestorPlace cs low high
-        up k w h = elim w [
-          | inl c ↦ s.sound k (inr c) h
-          | inr p ↦
-              s.sound place (inl refl) (ancestor_through_parent cs low k place p.1 h)
-        ]
-
-  -- at the end of the walk
-  pub IsClimbed-found : (waiting : List ℕ) (place : ℕ) → IsClimbed cs low high waiting place
-      → place ≤ low → IsAncestorPlace cs low high
-  IsClimbed-found waiting place s not_later =
-      let e : low ≡ place = omega (arith, s.from, not_later) in
-      s.sound place (inl refl)
-      (subst (IsAncestorPlace cs low) e (ancestor_itself cs graph low (omega (arith, s.within, e))))
+    -- at the end of the walk
+    pub IsClimbed-found : place ≤ low → (low ≡ place) ↔ IsAncestorPlace cs low high
+    IsClimbed-found not_later = (
+      λ e. s.sound place (inl refl)
+          (subst (IsAncestorPlace cs low) e (ancestor_itself cs graph low (omega (arith, s.within, e)))),
+      λ h.
+          let c = s.complete h in
+          let first = ancestor_first cs graph low c.0 c.2 in
+          elim c.1 [
+            | inl e ↦ omega (arith, e, first, not_later)
+            | inr w ↦ let l = s.waits c.0 w in omega (arith, l, first, not_later)
+          ],
+    )
 
   -- one that has no children is an ancestor of no other
   pub childless : low < high → ((k : ℕ) → ¬ (IsParentPlace cs k low)) → ¬ (IsAncestorPlace cs low high)

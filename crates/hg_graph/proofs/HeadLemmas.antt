@@ -1,5 +1,5 @@
 -- Heads, by marks on the places of those that are asked about.
-use Rattle.std.proofs.Common.{◌≡◌, ◌≢◌, ℕ, ◌<◌, ◌≤◌, ◌+◌, ◌-◌, min, max, Bool, true, false, List, [], ◌∷◌}
+use Rattle.std.proofs.Common.{◌≡◌, ◌≢◌, ℕ, ◌<◌, ◌≤◌, ◌+◌, ◌-◌, min, max, Bool, true, false, List, []}
 use Rattle.std.proofs.Common.{length, take}
 use Rattle.std.proofs.Common.{get_or, replicate, slice_get, Option, None, Some, MatchOption, Contains, ◌↔◌, ◌⊎◌, inl}
 use Rattle.std.proofs.Common.{inr, refl, sym, ap, subst, ◌∙◌, arith, true≢false}

@@ -238,13 +238,6 @@ module _ (p : ParentPlaces) (f : List ℕ → List ℕ) (lists : List (List ℕ)
     ]
   ]
 
-pub AreChildren-nil : AreChildren [] []
-AreChildren-nil = record {
-  len = refl;
-  linkable = λ j places at. absurd (none-some places at);
-  each = λ k places at. absurd (none-some places at);
-}
-
 module _ (ps : List ParentPlaces) (p : ParentPlaces) (lists : List (List ℕ)) where
   pub AreChildren-push : AreChildren ps lists → IsLinkable (length ps) p
       → AreChildren (ps ++ p ∷ []) (both p (put_last (length ps)) lists ++ [] ∷ [])

@@ -1,6 +1,6 @@
 -- A walk down from some nodes.
-use Rattle.std.proofs.Common.{◌≡◌, ℕ, zero, suc, ◌<◌, ◌≤◌, ◌+◌, Bool, true, List, [], ◌∷◌, ◌++◌, length, take, drop}
-use Rattle.std.proofs.Common.{get_or, slice_get, Option, Some, None, Contains, All, MatchOption, ◌↔◌, ◌⊎◌, inl, inr}
+use Rattle.std.proofs.Common.{◌≡◌, ℕ, suc, ◌<◌, ◌≤◌, ◌+◌, Bool, true, List, [], ◌∷◌, ◌++◌, length, take, drop}
+use Rattle.std.proofs.Common.{get_or, slice_get, Option, Some, None, Contains, MatchOption, ◌↔◌, ◌⊎◌, inl, inr}
 use Rattle.std.proofs.Common.{refl, sym, ap, subst, ◌∙◌, arith, filter, cond, true≢false}
 use Rattle.std.specs.List.{IsDistinct, list_any}
 use Rattle.std.specs.Cmp.{IsTotalOrder, Equal-is, nat_cmp_is}
@@ -12,38 +12,25 @@ use Rattle.std.specs.BTreeSet.{BTreeSet, Updates, contains}
 use Rattle.std.proofs.lemmas.Bool.{cases_lt, cases_order, cases_Bool}
 use Rattle.std.proofs.lemmas.List.{take_more, take-take, take-append-drop, length-take, length-map}
 use Rattle.std.proofs.lemmas.List.Elements.{Contains-push, Contains-push_cases, Contains-append_left, Contains-get_or}
-use Rattle.std.proofs.lemmas.List.Elements.{All-contains}
-use Rattle.std.proofs.lemmas.Map.Lookups.{CmpEqualImpliesEq, exact_unsigned}
-use Rattle.std.proofs.lemmas.Cmp.{nat_cmp_total}
+use Rattle.std.proofs.lemmas.Map.Lookups.{CmpEqualImpliesEq}
 use Rattle.std.proofs.lemmas.Map.Views.{btree_set_contains_iff, Contains-from_any, list_any-from_Contains}
 use Rattle.std.proofs.lemmas.Option.{slice_get_within, get_or_from_slice_get, none-some, same_Some}
 use Rattle.hg_changeset.specs.declared.node.Node.{Node}
 use Rattle.hg_changeset.specs.Node.{node_eq}
 use Rattle.hg_changeset.specs.Contents.{Contents}
 use Rattle.hg_changeset.specs.Changeset.{node_of}
+use Rattle.hg_changeset.proofs.ListLemmas.{Contains-first, Contains-later, Contains-cons_cases}
 use Rattle.hg_changeset.proofs.NodeLemmas.{node_eq_laws, same_node}
 use Rattle.hg_graph.specs.Graph.{nodes, Holds, IsGraph, Reaches, IsDescendantOfOne, Selects}
 use Rattle.hg_graph.specs.Graph.Reaches.{itself, below}
 use Rattle.hg_graph.specs.Places.{IsAt, IsOnlyAt, IsParentPlace, IsPlaceOfOne}
+use Rattle.hg_graph.specs.Waiting.{Widens, IsFirst}
 use Rattle.hg_graph.proofs.GraphLemmas.{Contains-from_place, place_from_Contains}
 use Rattle.hg_graph.proofs.PlaceLemmas.{same_place, IsAt-from, place_from_Holds, Holds-reached, Holds-reaching}
 use Rattle.hg_graph.proofs.PlaceLemmas.{parent_first}
 use Rattle.hg_graph.proofs.MarkLemmas.{other_node, taken_more}
 
 -- ---- lists
-
-pub contains_first : {X : Type 0} (x : X) (xs : List X) → Contains (x ∷ xs) x
-contains_first x xs = Contains-from_place (x ∷ xs) 0 x refl
-
-pub contains_later : {X : Type 0} (x y : X) (xs : List X) → Contains xs y → Contains (x ∷ xs) y
-contains_later x y xs h = let p = place_from_Contains xs y h in Contains-from_place (x ∷ xs) (suc p.0) y p.1
-
-pub contains_cases : {X : Type 0} (x y : X) (xs : List X) → Contains (x ∷ xs) y → (x ≡ y) ⊎ Contains xs y
-contains_cases x y xs h = let p = place_from_Contains (x ∷ xs) y h in by p.0 p.1
-  where
-    by : (i : ℕ) → slice_get (x ∷ xs) i ≡ Some y → (x ≡ y) ⊎ Contains xs y
-    by zero at = inl (same_Some x y at)
-    by (suc i) at = inr (Contains-from_place xs i y at)
 
 -- the first list is the second without some elements
 abbrev pub IsPart : List Node → List Node → Type 0
@@ -78,11 +65,11 @@ part_contains : (ns ms : List Node) (k : Node) → IsPart ns ms → Contains ns 
 part_contains [] ms k h c = absurd (omega (arith, c.1))
 part_contains (n ∷ ns) [] k h c = absurd h
 part_contains (n ∷ ns) (m ∷ ms) k h c = elim h [
-  | inl p ↦ elim (contains_cases n k ns c) [
-    | inl e ↦ subst (Contains (m ∷ ms)) (sym p.0 ∙ e) (contains_first m ms)
-    | inr later ↦ contains_later m k ms (part_contains ns ms k p.1 later)
+  | inl p ↦ elim (Contains-cons_cases n ns k c) [
+    | inl e ↦ subst (Contains (m ∷ ms)) (sym p.0 ∙ e) (Contains-first m ms)
+    | inr later ↦ Contains-later m ms k (part_contains ns ms k p.1 later)
   ]
-  | inr p ↦ contains_later m k ms (part_contains (n ∷ ns) ms k p c)
+  | inr p ↦ Contains-later m ms k (part_contains (n ∷ ns) ms k p c)
 ]
 
 -- an element stands once
@@ -102,24 +89,24 @@ part_filter : (test : Node → Bool) (ns ms : List Node) → IsDistinct node_eq 
     → filter test ms ≡ ns
 part_filter test [] [] d h passes only = refl
 part_filter test [] (m ∷ ms) d h passes only = elim (cases_Bool (test m)) [
-  | inl t ↦ absurd (let c = only m (contains_first m ms) t in omega (arith, c.1))
+  | inl t ↦ absurd (let c = only m (Contains-first m ms) t in omega (arith, c.1))
   | inr f ↦ ap (λ b. cond b (m ∷ filter test ms) (filter test ms)) f ∙ part_filter test [] ms (distinct_rest m ms d) tt
-      (λ k c. absurd (omega (arith, c.1))) (λ k c t. only k (contains_later m k ms c) t)
+      (λ k c. absurd (omega (arith, c.1))) (λ k c t. only k (Contains-later m ms k c) t)
 ]
 part_filter test (n ∷ ns) [] d h passes only = absurd h
 part_filter test (n ∷ ns) (m ∷ ms) d h passes only = elim h [
   | inl p ↦
-      let t : test m ≡ true = subst (λ k. test k ≡ true) p.0 (passes n (contains_first n ns)) in
-      let rest = part_filter test ns ms (distinct_rest m ms d) p.1 (λ k c. passes k (contains_later n k ns c))
-      (λ k c t. elim (contains_cases n k ns (only k (contains_later m k ms c) t)) [
+      let t : test m ≡ true = subst (λ k. test k ≡ true) p.0 (passes n (Contains-first n ns)) in
+      let rest = part_filter test ns ms (distinct_rest m ms d) p.1 (λ k c. passes k (Contains-later n ns k c))
+      (λ k c t. elim (Contains-cons_cases n ns k (only k (Contains-later m ms k c) t)) [
         | inl e ↦ absurd (once m ms d (subst (Contains ms) (sym e ∙ p.0) c))
         | inr later ↦ later
       ]) in
       ap (λ b. cond b (m ∷ filter test ms) (filter test ms)) t ∙ (λ i. (sym p.0) i ∷ rest i)
   | inr p ↦ elim (cases_Bool (test m)) [
-    | inl t ↦ absurd (once m ms d (part_contains (n ∷ ns) ms m p (only m (contains_first m ms) t)))
+    | inl t ↦ absurd (once m ms d (part_contains (n ∷ ns) ms m p (only m (Contains-first m ms) t)))
     | inr f ↦ ap (λ b. cond b (m ∷ filter test ms) (filter test ms)) f
-        ∙ part_filter test (n ∷ ns) ms (distinct_rest m ms d) p passes (λ k c t. only k (contains_later m k ms c) t)
+        ∙ part_filter test (n ∷ ns) ms (distinct_rest m ms d) p passes (λ k c t. only k (Contains-later m ms k c) t)
   ]
 ]
 
@@ -179,20 +166,20 @@ taken_one xs i d x l =
 -- the places of the nodes so far
 module _ (cs : List Contents) (ns : List Node) (i : ℕ) (d : Node) (l : i < length ns) (r : Option ℕ)
     (told : MatchOption r (¬ (Holds cs (get_or ns i d))) (IsOnlyAt cs (get_or ns i d))) where
-  pub place_more : (s t : BTreeSet ℕ) (place : ℕ) → r ≡ Some place → Updates nat_cmp s t place true
-      → ((k : ℕ) → Contains s.keys k ↔ IsPlaceOfOne cs (take i ns) k) → (k : ℕ) → Contains t.keys k
+  pub place_more : (old new : List ℕ) (place : ℕ) → r ≡ Some place → Widens (λ k. place ≡ k) old new
+      → ((k : ℕ) → Contains old k ↔ IsPlaceOfOne cs (take i ns) k) → (k : ℕ) → Contains new k
       ↔ IsPlaceOfOne cs (take (i + 1) ns) k
-  place_more s t place r_is up before k =
-      let added = inserted nat_cmp_total exact_unsigned s t place up k in
+  place_more old new place r_is widens before k =
       let more = taken_more cs ns i d l r told k in (
-        λ h. more.1 (elim (added.0 h) [ inl old ↦ inl ((before k).0 old) | inr e ↦ inr (r_is ∙ ap (λ j. Some j) e) ]),
-        λ h. added.1
+        λ h. more.1 (elim ((widens k).0 h)
+            [ inl old ↦ inl ((before k).0 old) | inr e ↦ inr (r_is ∙ ap (λ j. Some j) e) ]),
+        λ h. (widens k).1
             (elim (more.0 h) [ inl old ↦ inl ((before k).1 old) | inr e ↦ inr (same_Some place k (sym r_is ∙ e)) ]),
       )
 
-  pub place_none : r ≡ None → (s : BTreeSet ℕ) → ((k : ℕ) → Contains s.keys k ↔ IsPlaceOfOne cs (take i ns) k) → (k : ℕ)
-      → Contains s.keys k ↔ IsPlaceOfOne cs (take (i + 1) ns) k
-  place_none r_is s before k =
+  pub place_none : r ≡ None → (old : List ℕ) → ((k : ℕ) → Contains old k ↔ IsPlaceOfOne cs (take i ns) k) → (k : ℕ)
+      → Contains old k ↔ IsPlaceOfOne cs (take (i + 1) ns) k
+  place_none r_is old before k =
       let more = taken_more cs ns i d l r told k in (
         λ h. more.1 (inl ((before k).0 h)),
         λ h. elim (more.0 h) [ inl old ↦ (before k).1 old | inr e ↦ absurd (none-some k (sym r_is ∙ e)) ],
@@ -258,7 +245,7 @@ module _ (cs : List Contents) (graph : IsGraph cs) (ns : List Node) where
           | inr ge ↦ let rest : w ≤ up.0 = no_gap w least a p up.0 named r up.1 ge in omega (arith, rest, before)
         ]
 
-    pub IsWalked-end : waiting ≡ [] → Selects cs (IsDescendantOfOne cs ns) found
+    pub IsWalked-end : ((k : ℕ) → ¬ (Contains waiting k)) → Selects cs (IsDescendantOfOne cs ns) found
     IsWalked-end empty = Selects-part cs (IsDescendantOfOne cs ns) found graph whole
         (λ n held. (λ c. s.sound n c, λ d. complete n held d))
       where
@@ -272,27 +259,20 @@ module _ (cs : List Contents) (graph : IsGraph cs) (ns : List Node) where
             elim (cases_lt p.0 b) [
               | inl l ↦ s.complete p.0 n l p.1 d
               | inr ge ↦ absurd (
-                  let none_waits : (k : ℕ) → Contains waiting k
-                  → suc p.0 ≤ k = λ k c. absurd (let c' : Contains [] k = subst (λ ks. Contains ks k) empty c in
-                  omega (arith, c'.1)) in
-                  let past = no_gap (suc p.0) none_waits d.0 n p.0 d.1 d.2 p.1 ge in
+                  let past = no_gap (suc p.0) (λ k c. absurd (empty k c)) d.0 n p.0 d.1 d.2 p.1 ge in
                   omega (arith, past))
             ]
 
-    module _ (w : ℕ) (rest : List ℕ) (popped : waiting ≡ w ∷ rest) (above : All (λ k. nat_cmp w k ≡ Less) rest) where
-      after : (k : ℕ) → Contains rest k → w < k
-      after k c = less_from_cmp w k (All-contains (λ k. nat_cmp w k ≡ Less) rest k above c)
-
+    module _ (w : ℕ) (rest : List ℕ) (first : IsFirst (Contains waiting) rest w) where
       least : (k : ℕ) → Contains waiting k → w ≤ k
-      least k c = elim (contains_cases w k rest (subst (λ ks. Contains ks k) popped c))
-          [ inl e ↦ omega (arith, e) | inr later ↦ let l = after k later in omega (arith, l) ]
+      least k c = elim ((first.0 k).0 c)
+          [ inl e ↦ omega (arith, e) | inr later ↦ let l = first.1 k later in omega (arith, l) ]
 
       left : (k : ℕ) → w < k → Contains waiting k → Contains rest k
-      left k l c = elim (contains_cases w k rest (subst (λ ks. Contains ks k) popped c))
-          [ inl e ↦ absurd (omega (arith, e, l)) | inr later ↦ later ]
+      left k l c = elim ((first.0 k).0 c) [ inl e ↦ absurd (omega (arith, e, l)) | inr later ↦ later ]
 
       taken : (b ≤ w) × IsDescendantPlace cs ns w
-      taken = s.waits w (subst (λ ks. Contains ks w) (sym popped) (contains_first w rest))
+      taken = s.waits w ((first.0 w).1 (inl refl))
 
       pub taken_at : (n : Node) × IsAt cs n w
       taken_at = (taken.1.0, taken.1.1)
@@ -332,10 +312,7 @@ module _ (cs : List Contents) (graph : IsGraph cs) (ns : List Node) where
               (Contains-push found n)
         ];
         waits = λ k c. elim ((adds k).0 c) [
-          | inl later ↦ let l = after k later in (
-            omega (arith, l),
-            (s.waits k (subst (λ ks. Contains ks k) (sym popped) (contains_later w k rest later))).1,
-          )
+          | inl later ↦ let l = first.1 k later in (omega (arith, l), (s.waits k ((first.0 k).1 (inr later))).1)
           | inr parent ↦
               let l : w < k = parent_first cs graph k w parent in
               let child = node_of parent.0 in

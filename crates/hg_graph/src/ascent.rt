@@ -1,17 +1,16 @@
 //! Whether one changeset is an ancestor of another, by a walk from parents to parents.
 //!
-//! The places that the walk still has to visit wait in a set, and the greatest is visited next. A parent's place is
-//! before its child's, so each place is visited once, and none that stands before the changeset that is looked for.
-//! Along a line of sole parents nothing waits, and no memory is taken.
-ghost use Rattle.std.specs.Prelude.{◌≡◌, ◌↔◌, ◌⊎◌, ◌≤◌, ◌<◌, ℕ, Some, length, Contains, IsTrue, IfOk, OnOk, OnErr};
+//! The walk takes the last of the places that wait, so it visits each once, and none that stands before the changeset
+//! that is looked for. Along a line of sole parents nothing waits, and no memory is taken.
+ghost use Rattle.std.specs.Prelude.{◌↔◌, ◌<◌, ℕ, length, IsTrue, IfOk, OnErr};
 ghost use Rattle.hg_graph.specs.Graph.{IsGraph, Reaches};
 ghost use Rattle.hg_graph.specs.Places.{IsAt, IsAncestorPlace};
-ghost use Rattle.hg_graph.specs.Waiting.{Waits, IsNextOf};
+ghost use Rattle.hg_graph.specs.Waiting.{Waits, TakesLast};
 
 use crate::graph::Graph;
+use crate::place_queue::PlaceQueue;
 use hg_changeset::Node;
 use std::alloc::AllocError;
-use std::collections::BTreeSet;
 
 impl Graph {
     /// Whether zero or more parent steps lead from `node` to `ancestor`. False where either isn't held. It costs what a
@@ -44,55 +43,31 @@ impl Graph {
         if high <= low || self.children(low).is_empty() {
             return Ok(low == high);
         }
-        let mut waiting = BTreeSet::new(self.alloc());
+        let mut waiting = PlaceQueue::new(self.alloc());
         let mut place = high;
         while low < place {
-            match self.next_place(place, low, &mut waiting)? {
+            match self.next_place(place, &mut waiting)? {
                 Some(next) => place = next,
                 None => return Ok(false),
             }
         }
-        Ok(true)
+        Ok(low == place)
     }
 
-    // The greatest of the places that wait and of the parents' that aren't before `low`. The others wait afterwards.
+    // The last of the places that wait and of the parents'. The others wait afterwards.
     fn next_place(
         &self,
         place: usize,
-        low: usize,
-        waiting: &mut BTreeSet<usize>,
+        waiting: &mut PlaceQueue,
     ) -> Result<Option<usize>, AllocError>
         requires { place < length self.now }
-        ensures { IfOk result (IsNextOf (Waits self.now low place waiting.old.keys) waiting.new.keys) }
+        ensures { IfOk result (TakesLast (Waits self.now place waiting.old) waiting.new) }
     {
         let parents = self.parent_places(place);
-        let first = not_before(low, parents.first);
-        let second = not_before(low, parents.second);
-        if second.is_none() && waiting.is_empty() {
-            return Ok(first);
+        if parents.second.is_none() && waiting.is_empty() {
+            return Ok(parents.first);
         }
-        wait(first, waiting)?;
-        wait(second, waiting)?;
+        waiting.insert_parents(self, place)?;
         Ok(waiting.pop_last())
     }
-}
-
-// The place, unless it is before `low`.
-fn not_before(low: usize, place: Option<usize>) -> Option<usize>
-    ensures { (k : ℕ) → (result ≡ Some k) ↔ ((low ≤ k) × (place ≡ Some k)) }
-{
-    match place {
-        Some(place) if low <= place => Some(place),
-        _ => None,
-    }
-}
-
-// The place waits, if there is one.
-fn wait(place: Option<usize>, waiting: &mut BTreeSet<usize>) -> Result<(), AllocError>
-    ensures { OnOk result ((k : ℕ) → Contains waiting.new.keys k ↔ (Contains waiting.old.keys k ⊎ (place ≡ Some k))) }
-{
-    if let Some(place) = place {
-        waiting.insert(place)?;
-    }
-    Ok(())
 }

@@ -3,7 +3,7 @@ use Rattle.std.proofs.Common.{◌≡◌, ℕ, zero, suc, ◌+◌, ◌<◌, ◌�
 use Rattle.std.proofs.Common.{slice_set, Option, Some, None, Contains, IfSome, MatchOption, ◌↔◌, ◌⊎◌, inl, inr, refl}
 use Rattle.std.proofs.Common.{sym, ap, subst, ◌∙◌, arith}
 use Rattle.std.proofs.lemmas.Bool.{cases_eq}
-use Rattle.std.proofs.lemmas.List.{length-append, length-replicate, length-set}
+use Rattle.std.proofs.lemmas.List.{length-append, length-set}
 use Rattle.std.proofs.lemmas.List.Elements.{Contains-append_left, Contains-push, Contains-push_cases}
 use Rattle.std.proofs.lemmas.Option.{none-some, same_Some, slice_get_within}
 use Rattle.hg_changeset.specs.declared.node.Node.{Node}
@@ -29,21 +29,6 @@ all_public : (n i : ℕ) (k : Phase) → slice_get (replicate n Public) i ≡ So
 all_public zero i k at = absurd (none-some k at)
 all_public (suc n) zero k at = sym (same_Some Public k at)
 all_public (suc n) (suc i) k at = all_public n i k at
-
-pub marked-none : (cs : List Contents) (marks : List Phase) → marks ≡ replicate (length cs) Public
-    → AreMarked cs [] marks
-marked-none cs marks is = record {
-  len = ap length is ∙ length-replicate (length cs) Public;
-  each = λ i k at.
-      let e = all_public (length cs) i k (ap (λ ms. slice_get ms i) (sym is) ∙ at) in (
-        inl e,
-        λ j may. elim may [
-          | inl z ↦ let l = ap rank z in
-              omega (arith, l)
-          | inr r ↦ absurd (omega (arith, r.1.1))
-        ],
-      );
-}
 
 module _ (cs : List Contents) (roots : List (Phase × Node)) (root : Phase × Node) (marks : List Phase)
     (are : AreMarked cs roots marks) where

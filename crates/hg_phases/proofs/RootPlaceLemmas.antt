@@ -6,7 +6,7 @@ use Rattle.std.specs.Prelude.{not}
 use Rattle.std.specs.List.Sorted.{IsStrictlySortedBy}
 use Rattle.std.specs.Ordering.{nat_cmp}
 use Rattle.std.proofs.lemmas.Bool.{cases_eq, cases_lt}
-use Rattle.std.proofs.lemmas.List.{take_all, take_at, take-map, length-set, length-take-le}
+use Rattle.std.proofs.lemmas.List.{take-map, length-set, length-take-le}
 use Rattle.std.proofs.lemmas.Map.Keys.{below_from_sorted}
 use Rattle.std.proofs.lemmas.Option.{none-some, same_Some, slice_get_within, get_or_from_slice_get}
 use Rattle.hg_changeset.specs.declared.node.Node.{Node}
@@ -21,9 +21,8 @@ use Rattle.hg_graph.proofs.PlaceLemmas.{parent_first, placed_within, IsAt-from, 
 use Rattle.hg_graph.proofs.MarkLemmas.{get-set_same, get-set_other}
 use Rattle.hg_graph.proofs.WalkLemmas.{taken_one}
 use Rattle.hg_phases.specs.declared.phase.Phase.{Phase}
-use Rattle.hg_phases.specs.declared.phase.Phase.TheVariants.{Secret}
 use Rattle.hg_phases.specs.declared.lowered.LoweredPlace.{LoweredPlace}
-use Rattle.hg_phases.specs.Log.{IsLog, restored}
+use Rattle.hg_phases.specs.Log.{IsLog}
 use Rattle.hg_phases.specs.State.{Held, held_of, state_of}
 use Rattle.hg_phases.specs.Roots.{IsRoot, AreRootsAmong, AreRoots}
 use Rattle.hg_phases.specs.RootPlaces.{HasParentIn, IsRootPlace, AreRootPlaces, IsFamily, IsTouched, IsSettled}
@@ -70,45 +69,6 @@ module _ (cs : List Contents) (graph : IsGraph cs) (ks : List Phase) (n : ℕ) w
       )
 
 -- ---- flags of a graph's first places
-
--- all places are the first ones
-pub roots-whole : (cs : List Contents) (ks : List Phase) (n : ℕ) (flags : List Bool) → length ks ≡ length cs
-    → n ≡ length cs → AreRootPlaces (take n cs) (take n ks) flags → AreRootPlaces cs ks flags
-roots-whole cs ks n flags len all =
-    subst (λ ds. AreRootPlaces ds (take n ks) flags → AreRootPlaces cs ks flags)
-    (sym (take_all n cs (omega (arith, all))))
-    (subst (λ ls. AreRootPlaces cs ls flags → AreRootPlaces cs ks flags)
-    (sym (take_all n ks (omega (arith, all, len)))) (λ are. are))
-
-pub roots-all : (cs : List Contents) (ks : List Phase) (n : ℕ) (flags : List Bool) → length ks ≡ length cs
-    → n ≡ length cs → AreRootPlaces cs ks flags → AreRootPlaces (take n cs) (take n ks) flags
-roots-all cs ks n flags len all =
-    subst (λ ds. AreRootPlaces cs ks flags → AreRootPlaces ds (take n ks) flags)
-    (sym (take_all n cs (omega (arith, all))))
-    (subst (λ ls. AreRootPlaces cs ks flags → AreRootPlaces cs ls flags)
-    (sym (take_all n ks (omega (arith, all, len)))) (λ are. are))
-
--- before what was logged, where all changesets were there
-pub roots-logged : (cs : List Contents) (old before : List Phase) (n : ℕ) (flags : List Bool) → length old ≡ length cs
-    → n ≡ length cs → before ≡ old → AreRootPlaces cs old flags → AreRootPlaces (take n cs) (take n before) flags
-roots-logged cs old before n flags len all e are =
-    subst (λ ks. AreRootPlaces (take n cs) (take n ks) flags) (sym e) (roots-all cs old n flags len all are)
-
--- before the last changeset was made secret
-pub front-admitted : (old ks : List Phase) (log : List LoweredPlace) (n : ℕ) → log ≡ [] → ks ≡ old ++ Secret ∷ []
-    → length old ≡ n → take n (restored ks log) ≡ old
-front-admitted old ks log n fresh e all =
-    ap (λ es. take n (restored ks es)) fresh ∙ ap (take n) e ∙ take_at old (Secret ∷ []) n all
-
--- no roots among no changesets
-pub roots-none : (flags : List Bool) → flags ≡ [] → AreRootPlaces [] [] flags
-roots-none flags e = record {
-  len = ap length e;
-  settled = λ p. (
-    λ at. absurd (none-some true (subst (λ xs. slice_get xs p ≡ Some true) e at)),
-    λ root. absurd (none-some root.0 root.1),
-  );
-}
 
 -- the first flags are those of the first places
 pub roots-taken : (cs : List Contents) → IsGraph cs → (ks : List Phase) (n : ℕ) (flags : List Bool) → n ≤ length cs

@@ -1,10 +1,11 @@
 -- Places and their seats: two seats are changed, and places come and go at the end.
 use Rattle.std.proofs.Common.{◌≡◌, ◌≢◌, ℕ, zero, suc, ◌+◌, ◌-◌, ◌<◌, ◌≤◌, ◌↔◌, inl, inr, Bool, true, false}
-use Rattle.std.proofs.Common.{nat_lt, get_or, List, [], ◌∷◌, ◌++◌, length, map, set, take, slice_get, Some, None, Contains}
+use Rattle.std.proofs.Common.{nat_lt, get_or, List, [], ◌∷◌, ◌++◌, length, map, set, take, replicate, slice_get, Some, None, Contains}
 use Rattle.std.proofs.Common.{refl, sym, ap, subst, ◌∙◌, arith, true≢false, append-nil, append_assoc}
 use Rattle.std.specs.Option.{option_map}
 use Rattle.std.proofs.lemmas.Bool.{cases_eq, cases_lt}
 use Rattle.std.proofs.lemmas.List.{length-set, length-map, length-append, length-take-le, take-map, take_at}
+use Rattle.std.proofs.lemmas.List.{map-append, replicate_more}
 use Rattle.std.proofs.lemmas.Option.{none-some, same_Some, slice_get-map, slice_get_within, slice_get_past, slice_get_cases}
 use Rattle.std.proofs.lemmas.Option.{slice_get-get_or}
 use Rattle.hg_changeset.proofs.ListLemmas.{slice_get-take, slice_get-push_cases, slice_get-append}
@@ -399,6 +400,15 @@ seated-forget order seats seated n long last = record {
 -- the flags of the first places
 pub flags-taken : (seats : List ℕ) (count n : ℕ) → flags_of (take n seats) count ≡ take n (flags_of seats count)
 flags-taken seats count n = sym (take-map (λ seat. nat_lt seat count) n seats)
+
+-- a place more behind the border isn't in the set
+pub flags-push : (seats : List ℕ) (count place n : ℕ) (old : List Bool) → count ≤ place
+    → flags_of seats count ≡ old ++ replicate n false
+    → flags_of (seats ++ place ∷ []) count ≡ old ++ replicate (n + 1) false
+flags-push seats count place n old le is =
+    map-append (λ seat. nat_lt seat count) seats (place ∷ [])
+    ∙ ap (λ b. flags_of seats count ++ b ∷ []) (not_less place count le) ∙ ap (λ fs. fs ++ false ∷ []) is
+    ∙ append_assoc old (replicate n false) (false ∷ []) ∙ ap (λ fs. old ++ fs) (replicate_more n false)
 
 -- two seats behind the border are changed
 pub flags-behind : (order seats : List ℕ) (count : ℕ) → AreSeated order seats → (one other : ℕ) → count ≤ one

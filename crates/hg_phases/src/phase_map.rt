@@ -122,6 +122,7 @@ impl PhaseMap {
         ensures valid { OnOk result (IsValid (kept_state graph.now self.new)) }
         ensures lowered { IfOk result (λ lowered. ListsLowered (kept_state graph.now self.old)
             (kept_state graph.now self.new) lowered.nodes.items) }
+        ensures len { length (phases_at graph.now self.new) ≡ length graph.now }
         ensures unchanged { OnErr result (self.new ≡ self.old) }
         ensures memory { OnErr result (IsAbove (kept_state graph.now self.old) node phase) }
     {
@@ -154,6 +155,7 @@ impl PhaseMap {
             (kept_state graph.now self.new) lowered.nodes.items) }
         ensures logged { IsLog phase (phases_at graph.now self.old) (phases_at graph.now self.new) log.new }
         ensures undoes { phases_before graph.now self.new log.new ≡ phases_at graph.now self.old }
+        ensures len { length (phases_at graph.now self.new) ≡ length graph.now }
         ensures memory { OnErr result (IsAbove (kept_state graph.now self.old) node phase) }
     {
         self.lower_logged(graph, log, node, phase)?;

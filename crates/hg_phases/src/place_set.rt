@@ -3,9 +3,9 @@
 //! All places are listed, those in the set first, and the seat of each in that list is known. A place comes in, or goes
 //! out, by changing seats with the one at the border. So neither takes memory, and what is in the set is listed without
 //! a look at the other places. The form is Briggs' and Torczon's ("An Efficient Representation for Sparse Sets", 1993).
-ghost use Rattle.std.specs.Prelude.{◌≡◌, ◌<◌, ◌≤◌, ◌-◌, ◌↔◌, [], Some, true, false, ℕ, List, Contains, length, map};
-ghost use Rattle.std.specs.Prelude.{take, slice_get, slice_set, IfOk, OnOk, OnErr};
-ghost use Rattle.hg_phases.specs.Seats.{AreSeated, swapped};
+ghost use Rattle.std.specs.Prelude.{◌≡◌, ◌<◌, ◌≤◌, ◌-◌, ◌↔◌, ◌++◌, [], Some, true, false, ℕ, List, Contains};
+ghost use Rattle.std.specs.Prelude.{length, map, replicate, take, slice_get, slice_set, IfOk, OnOk, OnErr};
+ghost use Rattle.hg_phases.specs.Seats.{AreSeated, flags_of, swapped};
 
 use hg_node_set::give_back_list;
 use std::alloc::{AllocError, Global};
@@ -66,7 +66,7 @@ impl PlaceSet {
     /// Moves the bound up. The places that come aren't in the set. It takes no memory where none come.
     pub fn grow(&mut self, bound: usize) -> Result<(), AllocError>
         requires { length self.old ≤ bound }
-        ensures grown { OnOk result ((length self.new ≡ bound) × (take (length self.old) self.new ≡ self.old)) }
+        ensures grown { OnOk result (self.new ≡ self.old ++ replicate (bound - length self.old) false) }
         ensures unchanged { OnErr result (self.new ≡ self.old) }
         ensures memory { OnErr result (length self.old < bound) }
     {
@@ -140,7 +140,8 @@ fn seat_places(
     requires seated { AreSeated order.old.items seats.old.items }
     requires within { length order.old.items ≤ bound }
     ensures seated { OnOk result (AreSeated order.new.items seats.new.items) }
-    ensures grown { OnOk result (length order.new.items ≡ bound) }
+    ensures flags { OnOk result ((count : ℕ) → count ≤ length seats.old.items → flags_of seats.new.items count
+        ≡ flags_of seats.old.items count ++ replicate (bound - length seats.old.items) false) }
     ensures order { take (length order.old.items) order.new.items ≡ order.old.items }
     ensures seats { take (length seats.old.items) seats.new.items ≡ seats.old.items }
     ensures memory { OnErr result (length order.old.items < bound) }

@@ -15,7 +15,7 @@ use crate::phase::Phase;
 use crate::phase_map::PhaseMap;
 use crate::place_set::PlaceSet;
 use crate::roots::Roots;
-use hg_graph::Graph;
+use hg_graph::{Graph, PlaceQueue};
 use std::alloc::{AllocError, Global};
 use std::collections::BTreeSet;
 
@@ -127,9 +127,9 @@ pub(crate) fn roots_at(
     requires rooted { AreRootPlaces graph.now phases.now roots.now }
     ensures { IfOk result (AreRoots (state_of graph.now phases.now)) }
 {
-    let mut places = BTreeSet::new(alloc);
-    insert_all(&mut places, roots.places())?;
-    roots_listed(graph, phases, &places, alloc)
+    let mut queue = PlaceQueue::new(alloc);
+    queue.insert_each(roots.places())?;
+    roots_listed(graph, phases, queue.as_set(), alloc)
 }
 
 // The nodes of the roots at these places, which are all, with their phases.
@@ -187,14 +187,4 @@ fn has_phase(graph: &Graph, phases: &PhaseMap, place: Option<usize>, phase: Phas
         Some(place) => phases.at(graph, place) == phase,
         None => false,
     }
-}
-
-// Adds the places.
-fn insert_all(set: &mut BTreeSet<usize>, places: &[usize]) -> Result<(), AllocError>
-    ensures { OnOk result ((p : ℕ) → Contains set.new.keys p ↔ (Contains set.old.keys p ⊎ Contains places.now p)) }
-{
-    for place in places {
-        set.insert(*place)?;
-    }
-    Ok(())
 }

@@ -1,13 +1,13 @@
-use Rattle.std.proofs.Common.{inl, inr, Contains, subst}
-use Rattle.hg_changeset.proofs.ListLemmas.{Contains-none}
+use Rattle.std.proofs.Common.{◌↔◌, ℕ, List, Contains, sym, subst}
+use Rattle.hg_graph.proofs.QueueLemmas.{widens-alone}
+use Rattle.hg_phases.specs.RootPlaces.{IsRootPlace}
 use Rattle.hg_phases.proofs.root_places.roots_at.Goals as goal
 
 pub roots_listed-requires-clause-all : goal.roots_listed-requires-clause-all
 roots_listed-requires-clause-all c p =
-    let added = c.in_ok-insert_all.ensures p in (
-      λ h. (c.requires.rooted.settled p).0 (elim (added.0 h) [
-        | inl old ↦ absurd (Contains-none p (subst (λ ks. Contains ks p) c.new-places.ensures.empty old))
-        | inr new ↦ (c.places.ensures p).0 new
-      ]),
-      λ root. added.1 (inr ((c.places.ensures p).1 ((c.requires.rooted.settled p).1 root))),
-    )
+    let waits = widens-alone (Contains c.places.result.now) c.new-queue.result c.insert_each.new.self
+    c.new-queue.ensures c.in_ok-insert_each.ensures p in
+    let root = c.requires.rooted.settled p in
+    let told = c.places.ensures p in
+    subst (λ (ks : List ℕ). Contains ks p ↔ IsRootPlace c.args.graph.now c.args.phases.now p) (sym c.as_set.ensures)
+    (λ h. root.0 (told.0 (waits.0 h)), λ is. waits.1 (told.1 (root.1 is)))

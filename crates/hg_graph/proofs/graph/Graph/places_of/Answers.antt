@@ -7,7 +7,7 @@ use Rattle.hg_graph.proofs.graph.Graph.places_of.Goals.{in-Some+in_ok-insert, in
 
 pub loop-node-init : goal.loop-node-init
 loop-node-init c k = (
-  λ h. absurd (contains_none c.new-places.result.keys k c.new-places.ensures.empty h),
+  λ h. absurd (contains_none c.new-places.result k c.new-places.ensures h),
   λ h. absurd (omega (arith, h.1.1)),
 )
 
@@ -20,7 +20,7 @@ loop-node-preserved c =
       | in-Some+in_ok-insert w ↦
           rw w.places-is
           (place_more cs ns i (record { 0 = [] }) c.loop-node-test.true c.place.result c.place.ensures.place
-          c.loop-node.places w.insert.new.self w.in-Some.place w.in-Some.is w.in_ok-insert.ensures.updates
+          c.loop-node.places w.insert.new.self w.in-Some.place w.in-Some.is w.in_ok-insert.ensures
           c.loop-node.invariant)
       | in_default w ↦
           rw w.places-is
