@@ -2,7 +2,8 @@
 use crate::nodes::{NEW, OLD};
 use hg_changeset::Node;
 use hg_marker::{
-    Marker, MarkerError, MarkerFault, Metadata, Parents, ReadError, decode, encode, write_marker,
+    Marker, MarkerError, MarkerFault, Metadata, Note, Parents, ReadError, TextMap, decode, encode,
+    write_marker,
 };
 use std::alloc::{AllocError, Global};
 
@@ -61,30 +62,51 @@ fn refused_growth_reads_copies_and_writes_the_same(rt: HostRuntime) {
     assert!(rt; written.len() == 148 && written.ends_with(&bytes));
 }
 
+// A note of an operation at the beginning of 1970 by bob, and on which parents what it prunes stood.
+fn note(operation: &[u8], parents: Option<(Node, Node)>) -> Note<'_> {
+    Note {
+        operation,
+        user: b"bob",
+        secs: 0,
+        offset: 0,
+        parents,
+    }
+}
+
+// Whether the marker of the note to so many of its two successors has this metadata, as it is written.
+fn is_spelled(alloc: Global, count: u8, note: &Note<'_>, text: &[u8]) -> Option<bool> {
+    let successors = [NEW, OTHER];
+    let marker = Marker::of_operation(alloc, OLD, successors.get(..count as usize)?, note).ok()?;
+    let written = encode(&marker).ok()?;
+    Some(written == bytes_with(alloc, count, text).ok()?)
+}
+
 #[test]
 fn what_is_noted_of_an_operation_is_spelled(rt: HostRuntime) {
     let alloc = rt.alloc();
-    let noted = Metadata::of_operation(alloc, 0, 0, b"amend", b"bob").expect(&rt, "memory");
-    let marker = Marker::to_one(OLD, NEW, 0, noted).expect(&rt, "a marker");
     let text = b"date:0 0\0operation:amend\0user:bob";
-    let bytes = bytes_with(alloc, 1, text).expect(&rt, "memory");
-    let written = encode(&marker).expect(&rt, "memory");
-    assert!(rt; written.as_slice() == bytes.as_slice());
-    let noted = Metadata::of_operation(alloc, 0, 0, b"a\0d", b"bob").expect(&rt, "memory");
-    assert!(rt; noted.get(b"operation") == Some(b"a\0d".as_slice()));
-    assert!(rt;
-        matches!(
-            &Marker::to_one(OLD, NEW, 0, noted),
-            Err(MarkerError::BadValue)
-        )
-    );
-    let none = Metadata::new(alloc);
-    assert!(rt;
-        matches!(
-            &Marker::to_one(OLD, OLD, 0, none),
-            Err(MarkerError::SelfSuccessor)
-        )
-    );
+    assert!(rt; is_spelled(alloc, 1, &note(b"amend", None), text) == Some(true));
+    let text = b"date:0 0\0operation:split\0user:bob";
+    assert!(rt; is_spelled(alloc, 2, &note(b"split", None), text) == Some(true));
+    let text = b"date:0 0\0operation:prune\0p1:2222222222222222222222222222222222222222\0user:bob";
+    let parents = Some((NEW, Node::NULL));
+    assert!(rt; is_spelled(alloc, 0, &note(b"prune", parents), text) == Some(true));
+    let text = b"date:0 0\0operation:prune\0p1:2222222222222222222222222222222222222222\0\
+p2:3333333333333333333333333333333333333333\0user:bob";
+    let parents = Some((NEW, OTHER));
+    assert!(rt; is_spelled(alloc, 0, &note(b"prune", parents), text) == Some(true));
+}
+
+#[test]
+fn what_is_noted_of_an_operation_is_refused(rt: HostRuntime) {
+    let alloc = rt.alloc();
+    for (successor, operation, refusal) in [
+        (OLD, b"a\0d".as_slice(), MarkerError::SelfSuccessor),
+        (NEW, b"a\0d", MarkerError::BadValue),
+    ] {
+        let answer = Marker::of_operation(alloc, OLD, &[successor], &note(operation, None));
+        assert!(rt; answer.err() == Some(ReadError::Fault(refusal)));
+    }
 }
 
 #[test]
@@ -160,8 +182,12 @@ fn refusal_of(
     value: &[u8],
 ) -> Option<MarkerError> {
     let successors = vec![in alloc; successor; count].ok()?;
-    let metadata = Metadata::from_entries(alloc, &[(key, value)]).ok()?;
-    Marker::new(OLD, successors, 0, metadata).err()
+    let mut texts = TextMap::new(alloc);
+    texts.insert(key, value).ok()?;
+    match Marker::new(OLD, &successors, 0, &texts) {
+        Err(ReadError::Fault(refusal)) => Some(refusal),
+        _ => None,
+    }
 }
 
 // A row has the successor, how many there are, and the key and the value of an entry.
@@ -199,25 +225,25 @@ fn lists(metadata: &Metadata, wanted: &[(&[u8], &[u8])]) -> bool {
     left.is_empty()
 }
 
+// Sets the value of a key, where one growth may be refused.
+fn set(texts: &mut TextMap, key: &[u8], value: &[u8]) -> bool {
+    texts.insert(key, value).is_ok() || texts.insert(key, value).is_ok()
+}
+
 // A value with a NUL, which no marker can have, is kept all the same, until it is set anew.
 #[test]
-fn refused_growth_keeps_metadata_as_it_was_and_passes_again(rt: HostRuntime) {
+fn refused_growth_keeps_texts_as_they_were_and_passes_again(rt: HostRuntime) {
     let alloc = rt.alloc();
-    let texts: [(&[u8], &[u8]); 2] = [(b"date", b"0 0"), (b"user", b"eve")];
-    let mut metadata = match Metadata::from_entries(alloc, &texts) {
-        Ok(metadata) => metadata,
-        Err(AllocError) => Metadata::from_entries(alloc, &texts).expect(&rt, "memory"),
+    let mut texts = TextMap::new(alloc);
+    assert!(rt; set(&mut texts, b"user", b"\0") && set(&mut texts, b"date", b"0 0"));
+    let refused = Marker::new(OLD, &[NEW], 0, &texts).err();
+    assert!(rt; refused == Some(ReadError::Fault(MarkerError::BadValue)));
+    assert!(rt; set(&mut texts, b"user", b"eve"));
+    let marker = match Marker::new(OLD, &[NEW, OTHER], 1, &texts) {
+        Err(ReadError::NoMemory) => Marker::new(OLD, &[NEW, OTHER], 1, &texts),
+        answer => answer,
     };
-    assert!(rt; lists(&metadata, &texts));
-    for value in [b"\0".as_slice(), b"bob"] {
-        if metadata.insert(alloc, b"user", value).is_err() {
-            assert!(rt; metadata.get(b"user") != Some(value));
-            assert!(rt; metadata.insert(alloc, b"user", value).is_ok());
-        }
-        let copy = match metadata.copy() {
-            Ok(copy) => copy,
-            Err(AllocError) => metadata.copy().expect(&rt, "memory"),
-        };
-        assert!(rt; copy == metadata && copy.get(b"user") == Some(value));
-    }
+    let marker = marker.expect(&rt, "a marker");
+    assert!(rt; marker.successors() == [NEW, OTHER].as_slice() && marker.flags() == 1);
+    assert!(rt; lists(marker.meta(), &[(b"date", b"0 0"), (b"user", b"eve")]));
 }

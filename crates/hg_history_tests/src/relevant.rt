@@ -1,6 +1,6 @@
 //! Values from outside: which of a few markers are told, a long line of prunes, and each growth refused.
 use hg_changeset::Node;
-use hg_marker::{Marker, Metadata};
+use hg_marker::{Marker, TextMap};
 use hg_obsstore::Store;
 use hg_relevant::relevant;
 use std::alloc::{AllocError, Global};
@@ -20,12 +20,11 @@ fn add(
     successors: &[Node],
     parent: Option<u32>,
 ) -> Option<()> {
-    let mut metadata = Metadata::new(alloc);
+    let mut texts = TextMap::new(alloc);
     if let Some(parent) = parent {
-        metadata.insert(alloc, b"p1", &node(parent).to_hex()).ok()?;
+        texts.insert(b"p1", &node(parent).to_hex()).ok()?;
     }
-    let successors = Vec::from_slice(alloc, successors).ok()?;
-    let marker = Marker::new(node(predecessor), successors, 0, metadata).ok()?;
+    let marker = Marker::new(node(predecessor), successors, 0, &texts).ok()?;
     store.add(marker).ok()?;
     Some(())
 }

@@ -2,25 +2,25 @@
 use crate::nodes::{NEW, OLD};
 use hg_changeset::Node;
 use hg_join::NoMemory;
-use hg_marker::{Marker, Metadata, ReadError};
+use hg_marker::{Marker, ReadError, TextMap};
 use hg_obsstore::{
     Added, Store, StoreFault, check_markers, markers_bytes, markers_len_at, read_markers,
     read_store, store_bytes,
 };
 use std::alloc::{AllocError, Global};
+use std::borrow::CowSlice;
 
 // A marker without metadata.
 fn marker(alloc: Global, predecessor: Node, successors: &[Node]) -> Option<Marker> {
-    let successors = Vec::from_slice(alloc, successors).ok()?;
-    Marker::new(predecessor, successors, 0, Metadata::new(alloc)).ok()
+    Marker::new(predecessor, successors, 0, &TextMap::new(alloc)).ok()
 }
 
 // A prune of OLD that records NEW as its first parent, and an id of threes as its second.
 fn prune(alloc: Global) -> Option<Marker> {
-    let mut metadata = Metadata::new(alloc);
-    metadata.insert(alloc, b"p1", &[b'2'; 40]).ok()?;
-    metadata.insert(alloc, b"p2", &[b'3'; 40]).ok()?;
-    Marker::new(OLD, Vec::new(alloc), 0, metadata).ok()
+    let mut texts = TextMap::new(alloc);
+    texts.insert(b"p1", &[b'2'; 40]).ok()?;
+    texts.insert(b"p2", &[b'3'; 40]).ok()?;
+    Marker::new(OLD, &[], 0, &texts).ok()
 }
 
 // A version byte 0, and so many times the 54 bytes of one marker from OLD to NEW.
@@ -127,11 +127,13 @@ fn refused_growth_takes_nothing_in_and_passes_again(rt: HostRuntime) {
         Ok(copy) => copy,
         Err(NoMemory) => store.copy().expect(&rt, "memory"),
     };
-    let places = match store.absorb(&part) {
+    let places = match store.absorb(CowSlice::Borrowed(&part)) {
         Ok(places) => places,
         Err(NoMemory) => {
             assert!(rt; is_the_pruned(&store));
-            store.absorb(&part).expect(&rt, "memory")
+            store
+                .absorb(CowSlice::Borrowed(&part))
+                .expect(&rt, "memory")
         }
     };
     assert!(rt;
@@ -152,9 +154,9 @@ fn refused_growth_moves_nothing_in_and_passes_again(rt: HostRuntime) {
         return;
     };
     let mut store = Store::new(alloc);
-    let places = match store.absorb_owned(part) {
+    let places = match store.absorb(CowSlice::Owned(part)) {
         Ok(places) => places,
-        Err(NoMemory) => store.absorb_owned(same).expect(&rt, "memory"),
+        Err(NoMemory) => store.absorb(CowSlice::Owned(same)).expect(&rt, "memory"),
     };
     assert!(rt; places.len() == 9 && store.with_predecessor(OLD).len() == 9);
 }

@@ -15,12 +15,12 @@ use Rattle.std.proofs.Math.Seq.{drop-cons}
 use Rattle.std.proofs.lemmas.List.Splits.{join_with_byte-slice_split}
 use Rattle.hg_marker.specs.Texts.{bytes_cmp}
 use Rattle.hg_marker.specs.Metadata.{is_nul, is_colon, nonempty, has_colon, piece, pieces, entry, texts, written}
-use Rattle.hg_marker.specs.Making.{has_bad_key, has_bad_value, is_writable}
-use Rattle.hg_marker.specs.Written.{IsWritten, AreWrittenSo, ascends, with_pieces}
+use Rattle.hg_marker.specs.Making.{is_writable}
+use Rattle.hg_marker.specs.Written.{IsWritten, ascends, with_pieces}
 use Rattle.hg_marker.proofs.ReadLemmas.{read_is_clean, weight, span, weight_entries, span-nonempty, span-slice_split}
 use Rattle.hg_marker.proofs.ReadLemmas.{past_colon}
 use Rattle.hg_marker.proofs.WrittenLemmas.{same_entries, any_order}
-use Rattle.hg_marker.proofs.FormLemmas.{clean_is_writable, pushed_joined, writable_from}
+use Rattle.hg_marker.proofs.FormLemmas.{clean_is_writable, pushed_joined}
 
 -- ---- keys that ascend
 
@@ -77,7 +77,7 @@ pieces_again (p ∷ ps) h =
     ∙ ap (λ (r : List (List ℕ)). p ∷ r) (pieces_again ps c.1)
 
 -- the texts that bytes spell can be written
-writable : (bytes : List ℕ) → list_all has_colon (pieces bytes) ≡ true → is_writable (texts (pieces bytes)) ≡ true
+pub writable : (bytes : List ℕ) → list_all has_colon (pieces bytes) ≡ true → is_writable (texts (pieces bytes)) ≡ true
 writable bytes colons =
     clean_is_writable (texts (pieces bytes))
     (read_is_clean (texts (pieces bytes)) bytes (record { colons = colons; texts = refl }))
@@ -102,28 +102,17 @@ in_order bytes colons sorted joined =
     ∙ ap (join_with_byte 0) (pieces_again (pieces bytes) colons) ∙ joined)
 
 -- entries that ascend are those of their map
-pub listed_so : (es : List (List ℕ × List ℕ)) → AreWrittenSo es
+pub listed_so : (es : List (List ℕ × List ℕ)) → ascends None es ≡ true
     → entries (from_entries {R = bytes_cmp} (reverse es)) ≡ es
-listed_so es h = let sorted = sorted_all es h.ascent in ap entries (any_order es sorted) ∙ same_entries es sorted
+listed_so es ascent = let sorted = sorted_all es ascent in ap entries (any_order es sorted) ∙ same_entries es sorted
 
--- entries that ascend and can be written are the written spelling of their map, one behind the other
-pub laid : (es : List (List ℕ × List ℕ)) → AreWrittenSo es
-    → (with_pieces [] es ≡ written (from_entries {R = bytes_cmp} (reverse es)))
-    × (is_writable (from_entries {R = bytes_cmp} (reverse es)) ≡ true)
+-- one behind the other they are the written spelling of their map
+pub laid : (es : List (List ℕ × List ℕ)) → ascends None es ≡ true
+    → with_pieces [] es ≡ written (from_entries {R = bytes_cmp} (reverse es))
 unfolding written
-laid es h =
-    let m = from_entries {R = bytes_cmp} (reverse es) in
-    let listed = listed_so es h in (
-      pushed_joined [] es
-          ∙ ap (λ (xs : List (List ℕ × List ℕ)). join_with_byte 0 (map piece xs)) (sym listed),
-      writable_from m (ap has_bad_key listed ∙ h.keys) (ap has_bad_value listed ∙ h.values),
-    )
-
--- pushed until nothing is left
-pub all_laid : (bytes : List ℕ) (es rest : List (List ℕ × List ℕ)) → AreWrittenSo es
-    → with_pieces bytes rest ≡ with_pieces [] es → rest ≡ []
-    → bytes ≡ written (from_entries {R = bytes_cmp} (reverse es))
-all_laid bytes es rest h pushed none = ap (with_pieces bytes) (sym none) ∙ pushed ∙ (laid es h).0
+laid es ascent =
+    pushed_joined [] es
+    ∙ ap (λ (xs : List (List ℕ × List ℕ)). join_with_byte 0 (map piece xs)) (sym (listed_so es ascent))
 
 -- what the walk over the pieces found
 pub ascending_is_written : (bytes : List ℕ) (len : ℕ) → list_all has_colon (pieces bytes) ≡ true

@@ -2,13 +2,13 @@
 use Rattle.std.proofs.Common.{◌≡◌, ℕ, suc, ◌+◌, Bool, true, false, cond, eqb, List, [], ◌∷◌, ◌++◌, length, map, Some}
 use Rattle.std.proofs.Common.{refl, sym, ap, subst, ◌∙◌, arith, append_assoc}
 use Rattle.std.specs.Prelude.{nat_eq}
-use Rattle.std.specs.List.{list_any, join_with_byte, AllByRecursion}
+use Rattle.std.specs.List.{join_with_byte, AllByRecursion}
 use Rattle.std.specs.Ordering.{is_eq}
 use Rattle.std.specs.declared.cmp.Ordering.{Ordering}
 use Rattle.std.specs.declared.cmp.Ordering.TheVariants.{Less, Equal, Greater}
-use Rattle.std.specs.FinMap.{put, find, get, insert, entries, empty, from_entries, entries-insert, entries_sorted}
+use Rattle.std.specs.FinMap.{find, get, entries, from_entries, entries_sorted}
 use Rattle.std.specs.FinMap.{get-from_entries, same_entries_map, slice_cmp-IsAntisymmetric, nat_cmp-IsAntisymmetric}
-use Rattle.std.proofs.lemmas.Bool.{or_parts, or_from, not-true, not_from_false, false≢true}
+use Rattle.std.proofs.lemmas.Bool.{or_parts, or_from, not-true, not_from_false}
 use Rattle.std.proofs.lemmas.Cmp.{nat_list_cmp_total, tied_itself}
 use Rattle.std.specs.Cmp.Lexicographic.{pointwise, bytes_decides}
 use Rattle.std.proofs.lemmas.List.{append-nil, length-append}
@@ -17,12 +17,9 @@ use Rattle.hg_marker.specs.Texts.{Texts, bytes_cmp}
 use Rattle.hg_marker.specs.Same.{same_texts, texts_decides}
 use Rattle.hg_marker.specs.Making.{ends_key, has_bad_key, has_bad_value, is_writable}
 use Rattle.hg_marker.specs.Metadata.{is_nul, piece, pieces, entry, texts, written, IsClean}
-use Rattle.hg_marker.specs.declared.metadata.Form.{Form}
-use Rattle.hg_marker.specs.declared.metadata.Form.TheVariants.{Written, Unwritable}
-use Rattle.hg_marker.specs.Forms.{form_texts, IsForm}
 use Rattle.hg_marker.specs.Written.{IsWritten, with_piece, with_pieces}
 use Rattle.hg_marker.proofs.TextsLemmas.{to_true}
-use Rattle.hg_marker.proofs.ReadLemmas.{tested_is_clean, no_entries, clean-put}
+use Rattle.hg_marker.proofs.ReadLemmas.{tested_is_clean}
 use Rattle.hg_marker.proofs.WrittenLemmas.{is_written, pieces_joined, entries_again, same_entries}
 use Rattle.hg_marker.proofs.WritingLemmas.{further, joined-cons}
 
@@ -67,45 +64,6 @@ written_so m bytes e h = subst IsWritten (sym e) (written_form m h)
 
 pub spelled_so : (m : Texts) (bytes : List ℕ) → bytes ≡ written m → is_writable m ≡ true → texts (pieces bytes) ≡ m
 spelled_so m bytes e h = ap (λ (b : List ℕ). texts (pieces b)) e ∙ spelled_again m h
-
-no_bad_key : has_bad_key (entries (empty {K = List ℕ} {X = List ℕ} {R = bytes_cmp})) ≡ false
-no_bad_key = ap has_bad_key no_entries
-
-no_bad_value : has_bad_value (entries (empty {K = List ℕ} {X = List ℕ} {R = bytes_cmp})) ≡ false
-no_bad_value = ap has_bad_value no_entries
-
-pub none_writable : is_writable (empty {K = List ℕ} {X = List ℕ} {R = bytes_cmp}) ≡ true
-none_writable = writable_from empty no_bad_key no_bad_value
-
-pub none_written : written (empty {K = List ℕ} {X = List ℕ} {R = bytes_cmp}) ≡ []
-unfolding written
-none_written = ap (λ (es : List (List ℕ × List ℕ)). join_with_byte 0 (map piece es)) no_entries
-
--- ---- texts of different forms differ
-
-apart : (a b : Texts) → is_writable a ≡ true → is_writable b ≡ false → same_texts a b ≡ false
-apart a b h k = elim (same_texts a b) as (λ s. same_texts a b ≡ s → s ≡ false) [
-  | true ↦ λ e. absurd (false≢true (sym k ∙ ap is_writable (sym ((texts_decides a b).0 e)) ∙ h))
-  | false ↦ λ e. refl
-] refl
-
-apart_too : (a b : Texts) → is_writable a ≡ false → is_writable b ≡ true → same_texts a b ≡ false
-apart_too a b h k = elim (same_texts a b) as (λ s. same_texts a b ≡ s → s ≡ false) [
-  | true ↦ λ e. absurd (false≢true (sym h ∙ ap is_writable ((texts_decides a b).0 e) ∙ k))
-  | false ↦ λ e. refl
-] refl
-
-pub forms_apart : (f g : Form) (a b : Texts) → f ≡ Written a → g ≡ Unwritable b → IsForm f → IsForm g
-    → same_texts (form_texts f) (form_texts g) ≡ false
-forms_apart f g a b e d h k =
-    ap (λ (x : Form). same_texts (form_texts x) (form_texts g)) e ∙ ap (λ (x : Form). same_texts a (form_texts x)) d
-    ∙ apart a b (subst IsForm e h) (subst IsForm d k)
-
-pub forms_apart_too : (f g : Form) (a b : Texts) → f ≡ Unwritable a → g ≡ Written b → IsForm f → IsForm g
-    → same_texts (form_texts f) (form_texts g) ≡ false
-forms_apart_too f g a b e d h k =
-    ap (λ (x : Form). same_texts (form_texts x) (form_texts g)) e ∙ ap (λ (x : Form). same_texts a (form_texts x)) d
-    ∙ apart_too a b (subst IsForm e h) (subst IsForm d k)
 
 -- ---- the pieces of the written spelling
 
@@ -187,19 +145,3 @@ pushed_joined es [] = ap (λ (xs : List (List ℕ × List ℕ)). join_with_byte 
 pushed_joined es (f ∷ fs) =
     ap (λ (t : List ℕ). with_pieces t fs) (sym (joined_last es f)) ∙ pushed_joined (es ++ f ∷ []) fs
     ∙ ap (λ (xs : List (List ℕ × List ℕ)). join_with_byte 0 (map piece xs)) (append_assoc es (f ∷ []) fs)
-
-pub pushed_written : (m : Texts) (k v : List ℕ)
-    → with_pieces [] (put bytes_cmp k v (entries m)) ≡ written (insert m k v)
-unfolding written
-pushed_written m k v =
-    pushed_joined [] (put bytes_cmp k v (entries m))
-    ∙ ap (λ (xs : List (List ℕ × List ℕ)). join_with_byte 0 (map piece xs))
-    (sym (entries-insert nat_list_cmp_total m k v))
-
-pub writable_with : (m : Texts) (k v : List ℕ) → is_writable m ≡ true → list_any ends_key k ≡ false
-    → list_any is_nul v ≡ false → is_writable (insert m k v) ≡ true
-writable_with m k v h key value =
-    let one = tested_is_clean ((k, v) ∷ []) (or_from _ _ key refl) (or_from _ _ value refl) in
-    clean_is_writable (insert m k v)
-    (subst (AllByRecursion IsClean) (sym (entries-insert nat_list_cmp_total m k v))
-    (clean-put k v (entries m) one.0 (writable_is_clean m h)))

@@ -8,10 +8,8 @@ pub mod Metadata
 pub mod Grammar
 pub mod Making
 pub mod Written
-pub mod Forms
-pub mod Kept
-pub mod Listing
 pub mod Faults
 pub mod Laid
 pub mod ReadErrors
 pub mod Operation
+pub mod Source

@@ -97,17 +97,17 @@ impl fmt::Display for MarkerFault {
 
 impl Error for MarkerFault {}
 
-/// Why something was not read. Its text is that of the fault.
+/// Why something was not read from bytes, or not made of its fields. Its text is that of the fault.
 #[derive(PartialEq, Eq, Debug, Drop)]
 pub enum ReadError<F> {
     /// Memory ran out.
     NoMemory,
-    /// The bytes have this fault.
+    /// The bytes or the fields have this fault.
     Fault(F),
 }
 
 impl<F: Copy> ReadError<F> {
-    /// The fault of the bytes; none where memory ran out. Its number is the fault's.
+    /// The fault; none where memory ran out. Its number is the fault's.
     pub fn fault(&self) -> Option<F>
         ensures { result ≡ fault_of self.now }
     {

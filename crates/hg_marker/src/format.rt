@@ -20,9 +20,8 @@ use crate::marker::{METADATA_LIMIT, Marker};
 use crate::metadata::Metadata;
 use crate::pieces::have_colons;
 use crate::reading::{
-    holds_null, read_byte, read_field, read_ids, read_node, read_number, write_number,
+    copy_ids, holds_null, read_byte, read_field, read_ids, read_node, read_number, write_number,
 };
-use crate::successors::Successors;
 use hg_changeset::Node;
 use std::alloc::{AllocError, Global};
 
@@ -56,11 +55,11 @@ fn push_marker(out: &mut Vec<u8>, marker: &Marker)
 {
     let predecessor = marker.predecessor();
     out.push(marker.successors().len() as u8).unwrap();
-    write_number(out, marker.meta().written_len() as u32).unwrap();
+    write_number(out, marker.meta().as_bytes().len() as u32).unwrap();
     out.push(marker.flags()).unwrap();
     out.extend_from_slice(&predecessor.0).unwrap();
     push_ids(out, marker.successors());
-    marker.meta().write_onto(out).unwrap();
+    out.extend_from_slice(marker.meta().as_bytes()).unwrap();
 }
 
 // Appends the ids, for which there is room, one after the other.
@@ -92,7 +91,7 @@ impl<'a> FieldBytes<'a> {
         requires marker { IsMarker (fields_of self.now) }
         ensures { IfOk result (λ marker. marker ≡ fields_of self.now) }
     {
-        let successors = Successors::read(alloc, self.ids, self.count)?;
+        let successors = copy_ids(alloc, self.ids, self.count)?;
         let metadata = Metadata::read(alloc, self.metadata)?;
         Ok(Marker::of_fields(self.predecessor, successors, self.flags, metadata))
     }

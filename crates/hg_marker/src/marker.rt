@@ -2,26 +2,34 @@
 //!
 //! A marker says that its predecessor was rewritten to its successors, in their order. Two markers are equal where
 //! their fields are, the metadata as a map, whatever bytes they were read from.
-ghost use Rattle.std.specs.Prelude.{◌≡◌, ◌∷◌, [], IfOk, false, length, nat_eq};
+ghost use Rattle.std.specs.Prelude.{◌≡◌, IfOk, false, length, nat_eq};
 ghost use Rattle.std.specs.List.{list_any, AllByRecursion};
 ghost use Rattle.hex.specs.Hex.{IsBytes};
 ghost use lib.Pointwise.{pointwise};
 ghost use Rattle.hg_changeset.specs.Node.{IsNode, null_node, node_eq};
 ghost use Rattle.hg_marker.specs.Grammar.{IsMarker, spelling};
-ghost use Rattle.hg_marker.specs.Kept.{kept_nodes};
 ghost use Rattle.hg_marker.specs.Making.{marker_of};
+ghost use Rattle.hg_marker.specs.Operation.{note_texts};
 ghost use Rattle.hg_marker.specs.Parents.{parents_of};
+ghost use Rattle.hg_marker.specs.Reading.{Gives};
+ghost use Rattle.hg_marker.specs.Source.{source_texts};
 
-use crate::error::MarkerError;
+use crate::error::{MarkerError, ReadError};
 use crate::metadata::Metadata;
+use crate::note::Note;
 use crate::parents::{Parents, parents_of};
-use crate::successors::Successors;
+use crate::source::Source;
+use crate::text_map::TextMap;
 use hg_changeset::Node;
+use smallvec::SmallVec;
 use std::alloc::{AllocError, Global};
 use std::marker::Model;
 
 /// The most bytes that the metadata of a marker may take.
 pub const METADATA_LIMIT: u32 = 1_048_576;
+
+// The successors of a marker, in their order. Most markers have one, whose id takes no memory of its own.
+pub(crate) type Successors = SmallVec<Node, 1>;
 
 /// A marker: its predecessor was rewritten to its successors.
 #[derive(Debug)]
@@ -46,7 +54,6 @@ impl Drop for Marker {
 
 impl Model for Marker {
     ghost use Rattle.hg_marker.specs.Fields.{Fields, fields_code};
-    ghost use Rattle.hg_marker.specs.Kept.{kept_nodes};
 
     ghost Value = { Fields };
 
@@ -54,7 +61,7 @@ impl Model for Marker {
 
     ghost view = { λ m. record {
       predecessor = m.predecessor;
-      successors = kept_nodes m.successors;
+      successors = m.successors.items;
       flags = m.flags;
       metadata = m.metadata;
     } };
@@ -63,7 +70,7 @@ impl Model for Marker {
 
     ghost invariant = { λ m. IsMarker (record {
       predecessor = m.predecessor;
-      successors = kept_nodes m.successors;
+      successors = m.successors.items;
       flags = m.flags;
       metadata = m.metadata;
     }) };
@@ -95,78 +102,84 @@ impl Eq for Marker {
 impl Marker {
     /// The marker of these fields.
     ///
-    /// Refuses with the first [`MarkerError`] that applies, in the order in which they are numbered.
-    #[inline(always)]
+    /// Refuses with the first [`MarkerError`] that applies, in the order in which they are numbered, before any memory
+    /// is taken.
     pub fn new(
         predecessor: Node,
-        successors: Vec<Node>,
+        successors: &[Node],
         flags: u8,
-        metadata: Metadata,
-    ) -> Result<Marker, MarkerError>
-        ensures { result ≡ marker_of (record {
+        texts: &TextMap,
+    ) -> Result<Marker, ReadError<MarkerError>>
+        ensures { Gives (λ marker. marker) result (marker_of (record {
           predecessor = predecessor;
-          successors = successors.items;
+          successors = successors.now;
           flags = flags;
-          metadata = metadata;
-        }) }
+          metadata = texts.now;
+        })) }
     {
-        Marker::of_kept(predecessor, Successors::of(successors), flags, metadata)
+        Marker::of_source(
+            texts.allocator(),
+            predecessor,
+            successors,
+            flags,
+            Source::Map(texts),
+        )
     }
 
-    /// The marker of these fields, which has one successor. It takes no memory, not even for a list.
-    ///
-    /// Refuses as [`new`](Marker::new) does.
-    #[inline(always)]
-    pub fn to_one(
+    /// The marker of an operation, which has no flags, and whose metadata is what is noted of it: what
+    /// [`new`](Marker::new) makes of these entries, with the same refusals.
+    pub fn of_operation(
+        alloc: Global,
         predecessor: Node,
-        successor: Node,
-        flags: u8,
-        metadata: Metadata,
-    ) -> Result<Marker, MarkerError>
-        ensures { result ≡ marker_of (record {
+        successors: &[Node],
+        note: &Note<'_>,
+    ) -> Result<Marker, ReadError<MarkerError>>
+        ensures { Gives (λ marker. marker) result (marker_of (record {
           predecessor = predecessor;
-          successors = successor ∷ [];
-          flags = flags;
-          metadata = metadata;
-        }) }
+          successors = successors.now;
+          flags = 0;
+          metadata = note_texts note.now;
+        })) }
     {
-        Marker::of_kept(predecessor, Successors::One([successor]), flags, metadata)
+        Marker::of_source(alloc, predecessor, successors, 0, Source::Note(note))
     }
 
     // The marker of these fields, if it is one.
     #[inline(always)]
-    fn of_kept(
+    fn of_source(
+        alloc: Global,
         predecessor: Node,
-        successors: Successors,
+        successors: &[Node],
         flags: u8,
-        metadata: Metadata,
-    ) -> Result<Marker, MarkerError>
-        ensures { result ≡ marker_of (record {
+        source: Source<'_>,
+    ) -> Result<Marker, ReadError<MarkerError>>
+        ensures { Gives (λ marker. marker) result (marker_of (record {
           predecessor = predecessor;
-          successors = kept_nodes successors;
+          successors = successors.now;
           flags = flags;
-          metadata = metadata;
-        }) }
+          metadata = source_texts source.entry;
+        })) }
     {
-        let nodes = successors.as_slice();
-        if holds(nodes, &predecessor.0) {
-            return Err(MarkerError::SelfSuccessor);
+        if holds(successors, &predecessor.0) {
+            return Err(ReadError::Fault(MarkerError::SelfSuccessor));
         }
-        if has_null(nodes) {
-            return Err(MarkerError::NullSuccessor);
+        if has_null(successors) {
+            return Err(ReadError::Fault(MarkerError::NullSuccessor));
         }
-        if metadata.has_bad_key() {
-            return Err(MarkerError::BadKey);
+        if source.has_bad_key() {
+            return Err(ReadError::Fault(MarkerError::BadKey));
         }
-        if metadata.has_bad_value() {
-            return Err(MarkerError::BadValue);
+        if source.has_bad_value() {
+            return Err(ReadError::Fault(MarkerError::BadValue));
         }
-        if nodes.len() > 255 {
-            return Err(MarkerError::TooManySuccessors);
+        if successors.len() > 255 {
+            return Err(ReadError::Fault(MarkerError::TooManySuccessors));
         }
-        if metadata.written_len() > METADATA_LIMIT as usize {
-            return Err(MarkerError::MetaTooLong);
+        if source.written_len() > METADATA_LIMIT as usize {
+            return Err(ReadError::Fault(MarkerError::MetaTooLong));
         }
+        let metadata = source.to_metadata(alloc)?;
+        let successors = SmallVec::from_slice(alloc, successors)?;
         Ok(Marker {
             predecessor,
             successors,
@@ -184,13 +197,13 @@ impl Marker {
     ) -> Marker
         requires { IsMarker (record {
           predecessor = predecessor;
-          successors = kept_nodes successors;
+          successors = successors.items;
           flags = flags;
           metadata = metadata;
         }) }
         ensures { result ≡ record {
           predecessor = predecessor;
-          successors = kept_nodes successors;
+          successors = successors.items;
           flags = flags;
           metadata = metadata;
         } }
@@ -243,7 +256,8 @@ impl Marker {
     pub fn copy(&self) -> Result<Marker, AllocError>
         ensures { IfOk result (λ copy. copy ≡ self.now) }
     {
-        let successors = self.successors.copy()?;
+        let alloc = *self.successors.allocator();
+        let successors = SmallVec::from_slice(alloc, self.successors.as_slice())?;
         let metadata = self.metadata.copy()?;
         Ok(Marker {
             predecessor: self.predecessor,
@@ -258,7 +272,7 @@ impl Marker {
         ensures len { result ≡ length (spelling self.now) }
         ensures marker { IsMarker self.now }
     {
-        26 + 20 * self.successors.as_slice().len() + self.metadata.written_len()
+        26 + 20 * self.successors.as_slice().len() + self.metadata.as_bytes().len()
     }
 
     // Where the marker's memory comes from.

@@ -2,13 +2,11 @@
 //!
 //! They stand in the metadata as hexadecimal digits, at the keys `p1` and `p2`; the key `p0` says that there are none.
 ghost use Rattle.std.specs.Prelude.{◌≡◌};
-ghost use Rattle.std.specs.List.{list_any};
 ghost use Rattle.std.specs.Option.{option_and_then};
 ghost use Rattle.std.specs.FinMap as finite;
 ghost use Rattle.hg_changeset.specs.Node.{id_value};
 ghost use Rattle.hg_marker.specs.Parents.{is_parents_key, parents_of, one_parent};
 
-use crate::entries::Entries;
 use crate::metadata::Metadata;
 use hg_changeset::Node;
 
@@ -29,7 +27,8 @@ pub enum Parents {
 pub(crate) fn parents_of(metadata: &Metadata) -> Parents
     ensures { result ≡ parents_of metadata.now }
 {
-    if !names_parents(metadata) {
+    // Few markers have one of these keys, and one walk tells.
+    if !metadata.names_parents() {
         return Parents::Unrecorded;
     }
     if let Some(second) = metadata.get(b"p2") {
@@ -45,27 +44,6 @@ pub(crate) fn parents_of(metadata: &Metadata) -> Parents
         Some(_) => Parents::Empty,
         None => Parents::Unrecorded,
     }
-}
-
-// Whether one of the keys is one of these three. Few markers have one, and one walk tells.
-fn names_parents(metadata: &Metadata) -> bool
-    ensures { result ≡ list_any (λ e. is_parents_key e.0) (finite.entries metadata.now) }
-{
-    match metadata.as_written() {
-        Some(texts) => texts.names_parents(),
-        None => has_parents_key(metadata.iter()),
-    }
-}
-
-fn has_parents_key(entries: Entries<'_>) -> bool
-    ensures { result ≡ list_any (λ e. is_parents_key e.0) entries.entry }
-{
-    for (key, _) in entries {
-        if is_parents_key(key) {
-            return true;
-        }
-    }
-    false
 }
 
 pub(crate) fn is_parents_key(key: &[u8]) -> bool

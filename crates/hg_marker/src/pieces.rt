@@ -16,13 +16,13 @@ use memchr::memchr;
 use std::alloc::{AllocError, Global};
 use std::marker::Model;
 
-// The entries that the pieces of bytes say, from the front.
+/// The keys and values of [`Metadata`](crate::Metadata), ascending by key, seen as the list of those that are left.
 #[derive(Drop)]
-pub(crate) struct Pieces<'a> {
+pub struct Entries<'a> {
     rest: &'a [u8],
 }
 
-impl<'a> Model for Pieces<'a> {
+impl<'a> Model for Entries<'a> {
     ghost use Rattle.std.specs.Prelude.{ℕ, List, map};
     ghost use Rattle.hg_marker.specs.Metadata.{pieces, entry};
 
@@ -31,15 +31,16 @@ impl<'a> Model for Pieces<'a> {
     ghost view = { λ it. map entry (pieces it.rest.now) };
 }
 
-impl<'a> Pieces<'a> {
-    pub(crate) fn new(bytes: &'a [u8]) -> Pieces<'a>
+impl<'a> Entries<'a> {
+    // The entries that the pieces of bytes say, from the front.
+    pub(crate) fn new(bytes: &'a [u8]) -> Entries<'a>
         ensures { result ≡ map entry (pieces bytes.now) }
     {
-        Pieces { rest: bytes }
+        Entries { rest: bytes }
     }
 }
 
-impl<'a> Iterator for Pieces<'a> {
+impl<'a> Iterator for Entries<'a> {
     ghost use Rattle.std.specs.Iterator.{YieldsFirstBy, item_count};
     ghost use Rattle.hg_marker.specs.Texts.{entry_seen};
 
@@ -49,6 +50,7 @@ impl<'a> Iterator for Pieces<'a> {
 
     ghost remaining = { item_count (λ rest. rest) };
 
+    #[inline(always)]
     fn next(&mut self) -> Option<(&'a [u8], &'a [u8])> {
         match first_piece(self.rest) {
             Some((piece, rest)) => {
@@ -137,7 +139,7 @@ pub(crate) fn is_written(bytes: &[u8]) -> bool
 {
     let mut len: usize = 0;
     let mut last: Option<&[u8]> = None;
-    for (key, value) in Pieces::new(bytes) {
+    for (key, value) in Entries::new(bytes) {
         if !is_behind(key, last) {
             return false;
         }
@@ -148,7 +150,7 @@ pub(crate) fn is_written(bytes: &[u8]) -> bool
 }
 
 // Whether the key stands behind the last one.
-pub(crate) fn is_behind(key: &[u8], last: Option<&[u8]>) -> bool
+fn is_behind(key: &[u8], last: Option<&[u8]>) -> bool
     ensures { result ≡ is_behind (option_copied last.entry) key.now }
 {
     match last {
@@ -167,8 +169,6 @@ pub(crate) fn read_texts(alloc: Global, bytes: &[u8]) -> Result<TextMap, AllocEr
         let (piece, after) = next_piece(rest);
         if !piece.is_empty() {
             let (key, value) = split_piece(piece);
-            let key = Vec::from_slice(alloc, key)?;
-            let value = Vec::from_slice(alloc, value)?;
             texts.insert(key, value)?;
         }
         rest = after;

@@ -12,6 +12,7 @@ ghost use Rattle.std.specs.Int.{w32, to_be_bytes};
 
 use byteorder::{BigEndian, ByteOrder};
 use hg_changeset::Node;
+use smallvec::SmallVec;
 use std::alloc::{AllocError, Global};
 
 const ID_LEN: usize = 20;
@@ -93,12 +94,16 @@ pub(crate) fn holds_null(ids: &[u8], count: u8) -> bool
     false
 }
 
-/// So many ids.
-pub(crate) fn copy_ids(alloc: Global, ids: &[u8], count: u8) -> Result<Vec<Node>, AllocError>
+/// So many ids. Of one no list is made.
+pub(crate) fn copy_ids(
+    alloc: Global,
+    ids: &[u8],
+    count: u8,
+) -> Result<SmallVec<Node, 1>, AllocError>
     requires { 20 * count ≤ length ids.now }
     ensures { IfOk result (λ nodes. nodes.items ≡ ids_in count ids.now) }
 {
-    let mut nodes = Vec::with_capacity(alloc, count as usize)?;
+    let mut nodes = SmallVec::with_capacity(alloc, count as usize)?;
     let mut rest = ids;
     for _ in 0..count {
         let (id, after) = split_id(rest);

@@ -1,19 +1,20 @@
-//! Texts by key, as a map: what second spellings are read into, and what holds texts that can't be written.
-ghost use Rattle.std.specs.Prelude.{◌≡◌, ◌++◌, ◌^◌, ◌-◌, OnOk, OnErr, IfOk, option_copied, length, min};
+//! Texts by key, as a map: what the metadata of a marker is made of.
+//!
+//! Any byte string may be a key or a value here; which of them a marker can have is asked when the marker is made.
+ghost use Rattle.std.specs.Prelude.{◌≡◌, ◌++◌, ◌^◌, ◌-◌, OnOk, OnErr, length, min};
 ghost use Rattle.std.specs.FinMap as finite;
 ghost use Rattle.std.specs.List.{list_any};
-ghost use Rattle.hg_marker.specs.Texts.{entry_bytes};
-ghost use Rattle.hg_changeset.specs.Same.{same_pairs};
 ghost use Rattle.hg_marker.specs.Metadata.{written, piece, is_nul};
 ghost use Rattle.hg_marker.specs.Making.{has_bad_key, has_bad_value, ends_key};
+ghost use Rattle.hg_marker.specs.Written.{with_piece};
 
 use std::alloc::{AllocError, Global};
-use std::collections::{BTreeMap, btree_map};
+use std::collections::BTreeMap;
 use std::marker::Model;
 
-// Values by key, both byte strings.
+/// Values by key, both byte strings.
 #[derive(Drop, Debug)]
-pub(crate) struct TextMap {
+pub struct TextMap {
     alloc: Global,
     texts: BTreeMap<Vec<u8>, Vec<u8>>,
 }
@@ -33,28 +34,9 @@ impl Model for TextMap {
     ghost invariant = { λ a. IsTrue (map.is_sorted bytes_cmp (entry_bytes a.texts.entries)) };
 }
 
-impl PartialEq for TextMap {
-    ghost use Rattle.std.specs.Cmp.{partial_equiv_from_equiv};
-    ghost use Rattle.hg_marker.specs.Same.{same_texts, texts_equivalence};
-
-    ghost eq = { same_texts };
-
-    ghost laws = { partial_equiv_from_equiv texts_equivalence };
-
-    fn eq(&self, other: &TextMap) -> bool {
-        are_same(&self.texts, &other.texts)
-    }
-}
-
-impl Eq for TextMap {
-    ghost use Rattle.hg_marker.specs.Same.{texts_equivalence};
-
-    ghost laws = { texts_equivalence };
-}
-
 impl TextMap {
-    // No keys.
-    pub(crate) fn new(alloc: Global) -> TextMap
+    /// No keys.
+    pub fn new(alloc: Global) -> TextMap
         ensures { result ≡ finite.empty }
     {
         TextMap {
@@ -63,46 +45,20 @@ impl TextMap {
         }
     }
 
-    // The value of a key.
-    pub(crate) fn get(&self, key: &[u8]) -> Option<&[u8]>
-        ensures { option_copied result ≡ finite.get self.now key.now }
-    {
-        match self.texts.get(key) {
-            Some(value) => Some(value.as_slice()),
-            None => None,
-        }
-    }
-
-    // Sets the value of a key. Without memory nothing changes.
-    pub(crate) fn insert(&mut self, key: Vec<u8>, value: Vec<u8>) -> Result<(), AllocError>
-        ensures ok { OnOk result (self.new ≡ finite.insert self.old key.items value.items) }
+    /// Sets the value of a key. Without memory nothing changes.
+    pub fn insert(&mut self, key: &[u8], value: &[u8]) -> Result<(), AllocError>
+        ensures ok { OnOk result (self.new ≡ finite.insert self.old key.now value.now) }
         ensures err { OnErr result (self.new ≡ self.old) }
     {
+        let key = Vec::from_slice(self.alloc, key)?;
+        let value = Vec::from_slice(self.alloc, value)?;
         self.texts.insert(key, value)?;
         Ok(())
-    }
-
-    // Equal texts.
-    pub(crate) fn copy(&self) -> Result<TextMap, AllocError>
-        ensures { IfOk result (λ copy. copy ≡ self.now) }
-    {
-        let texts = self.texts.clone()?;
-        Ok(TextMap {
-            alloc: self.alloc,
-            texts,
-        })
     }
 
     // Where the memory comes from.
     pub(crate) fn allocator(&self) -> Global {
         self.alloc
-    }
-
-    // The keys and their values, ascending by key.
-    pub(crate) fn iter(&self) -> btree_map::Iter<'_, Vec<u8>, Vec<u8>>
-        ensures { entry_bytes result ≡ finite.entries self.now }
-    {
-        self.texts.iter()
     }
 
     // Whether a key holds a colon or a NUL.
@@ -159,15 +115,8 @@ impl TextMap {
     }
 }
 
-// Whether the same values stand at the same keys.
-fn are_same(a: &BTreeMap<Vec<u8>, Vec<u8>>, b: &BTreeMap<Vec<u8>, Vec<u8>>) -> bool
-    ensures { result ≡ same_pairs (entry_bytes a.now.entries) (entry_bytes b.now.entries) }
-{
-    a == b
-}
-
 // Appends a key and its value, with a colon between them.
-pub(crate) fn write_piece(out: &mut Vec<u8>, key: &[u8], value: &[u8]) -> Result<(), AllocError>
+fn write_piece(out: &mut Vec<u8>, key: &[u8], value: &[u8]) -> Result<(), AllocError>
     ensures { OnOk result (out.new.items ≡ out.old.items ++ piece (key.now, value.now)) }
 {
     out.extend_from_slice(key)?;
@@ -175,8 +124,18 @@ pub(crate) fn write_piece(out: &mut Vec<u8>, key: &[u8], value: &[u8]) -> Result
     out.extend_from_slice(value)
 }
 
+// Appends an entry, behind a NUL where something stands before it.
+pub(crate) fn push_entry(out: &mut Vec<u8>, key: &[u8], value: &[u8]) -> Result<(), AllocError>
+    ensures { OnOk result (out.new.items ≡ with_piece out.old.items (key.now, value.now)) }
+{
+    if !out.is_empty() {
+        out.push(0)?;
+    }
+    write_piece(out, key, value)
+}
+
 // Whether the bytes hold a colon or a NUL.
-pub(crate) fn ends_key(bytes: &[u8]) -> bool
+fn ends_key(bytes: &[u8]) -> bool
     ensures { result ≡ list_any ends_key bytes.now }
 {
     bytes.iter().any(|byte| *byte == 0 || *byte == b':')

@@ -1,6 +1,6 @@
 //! Changesets and markers for a replica to take in. `None` where memory ran out.
 use hg_changeset::{Changeset, Entry, Node};
-use hg_marker::{Marker, Metadata};
+use hg_marker::{Marker, TextMap};
 use hg_phases::Phase;
 use hg_replica::{Bounds, Part, Replica};
 use std::alloc::Global;
@@ -58,10 +58,9 @@ pub fn rewrite(
     new: &[Node],
     pair: (&[u8], &[u8]),
 ) -> Option<()> {
-    let mut metadata = Metadata::new(alloc);
-    metadata.insert(alloc, pair.0, pair.1).ok()?;
-    let new = Vec::from_slice(alloc, new).ok()?;
-    let marker = Marker::new(old, new, 0, metadata).ok()?;
+    let mut texts = TextMap::new(alloc);
+    texts.insert(pair.0, pair.1).ok()?;
+    let marker = Marker::new(old, new, 0, &texts).ok()?;
     let mut part = empty(alloc);
     part.markers.push(marker).ok()?;
     replica.absorb_owned(part).ok()?;

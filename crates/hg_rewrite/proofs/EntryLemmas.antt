@@ -5,7 +5,8 @@ use Rattle.std.specs.Prelude.{◌==◌, ◌||◌, if◌then◌else◌}
 use Rattle.std.proofs.lemmas.Bool.{false≢true, or_right}
 use Rattle.std.proofs.lemmas.Option.{none-some}
 use Rattle.std.proofs.lemmas.Bool.Decides.{nat_tests}
-use Rattle.std.specs.List.{list_any}
+use Rattle.std.specs.List.{AllZip, each_same, list_any}
+use Rattle.std.specs.Vec.{vec_len}
 use Rattle.std.specs.Option.{option_or}
 use Rattle.std.specs.declared.cmp.Ordering.TheVariants.{Less, Equal, Greater}
 use Rattle.std.specs.declared.vec.Vec.{Vec}
@@ -44,6 +45,20 @@ put-extra (e ∷ es) k v =
     ]
 
 -- the extras, copied, with one put among them
+abbrev pub IsCopy : Vec ℕ Global → Vec ℕ Global → Type 0
+IsCopy x y = AllZip (λ a b. b ≡ a) x.items y.items × (vec_len y ≡ vec_len x)
+
+-- copies of extras hold the same bytes
+pub same_bytes : (es fs : List (Vec ℕ Global × Vec ℕ Global)) → AllZip (λ p q. IsCopy p.0 q.0 × IsCopy p.1 q.1) es fs
+    → extra_bytes fs ≡ extra_bytes es
+same_bytes [] [] h = refl
+same_bytes [] (f ∷ fs) h = absurd h
+same_bytes (e ∷ es) [] h = absurd h
+same_bytes (e ∷ es) (f ∷ fs) h =
+    let key : f.0.items ≡ e.0.items = each_same e.0.items f.0.items h.0.0.0 in
+    let value : f.1.items ≡ e.1.items = each_same e.1.items f.1.items h.0.1.0 in
+    λ i. (key i, value i) ∷ same_bytes es fs h.1 i
+
 pub extra_put : (es copies fs : List (Vec ℕ Global × Vec ℕ Global)) (k v : Vec ℕ Global) (key value : List ℕ)
     → extra_bytes copies ≡ extra_bytes es → fs ≡ insert_entry vec_cmp copies k v → k.items ≡ key → v.items ≡ value
     → extra_bytes fs ≡ put bytes_cmp key value (extra_bytes es)

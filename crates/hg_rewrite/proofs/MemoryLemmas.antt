@@ -1,5 +1,6 @@
 -- Where memory may be wanting.
-use Rattle.std.proofs.Common.{◌≡◌, ◌⊎◌, inl, inr, List, [], ◌∷◌, ◌++◌, Result, Err, sym, subst, ◌∙◌}
+use Rattle.std.proofs.Common.{◌≡◌, ◌<◌, ◌⊎◌, inl, inr, List, [], ◌∷◌, ◌++◌, length, map, take, Result, Err, sym, subst}
+use Rattle.std.proofs.Common.{◌∙◌, arith}
 use Rattle.hg_changeset.specs.declared.node.Node.{Node}
 use Rattle.hg_replica.specs.State.{ReplicaState}
 use Rattle.hg_replica.specs.Content.{content_of}
@@ -10,9 +11,10 @@ use Rattle.hg_rewrite.specs.declared.refusal.Refusal.{Refusal}
 use Rattle.hg_rewrite.specs.declared.refusal.Refusal.TheVariants.{NoMemory}
 use Rattle.hg_rewrite.specs.Refusals.{Row, NoneApplies, IsFirstRefusal, new_parents, unknown_nodes, hidden_parents}
 use Rattle.hg_rewrite.specs.Refusals.{public_nodes, obsolete_nodes, not_linear, wrong_count, raise, bad_entries}
-use Rattle.hg_rewrite.specs.Refusals.{bad_users}
+use Rattle.hg_rewrite.specs.Refusals.{bad_users, marker_refused}
 use Rattle.hg_rewrite.specs.Memory.{WalksForHidden, WalksForDescendants, rows_before_descendants, MayWantMemory}
-use Rattle.hg_rewrite.specs.Memory.{MayWantMemoryLater}
+use Rattle.hg_rewrite.specs.Memory.{MayWantMemoryLater, bad_prune}
+use Rattle.hg_rewrite.specs.Parts.{made, marker, markers, metadata, new_ids, rewritten, chain}
 use Rattle.hg_rewrite.proofs.RowLemmas.{none_both}
 use Rattle.hg_rewrite.proofs.TableLemmas.{AreTelling, no_memory}
 
@@ -58,12 +60,50 @@ module _ (s : ReplicaState) (pins : List Node) (op : Op) (known : NoneApplies (u
     wanting_descendants walks = inl (before, walks)
 
     pub wanting_later : NoneApplies (not_linear s op) → NoneApplies (wrong_count op) → NoneApplies (raise s op)
-        → NoneApplies (bad_entries op) → NoneApplies (bad_users op) → MayWantMemoryLater s pins op
-    wanting_later linear counted lowered entered named =
+        → NoneApplies (bad_entries op) → NoneApplies (bad_users op) → NoneApplies (bad_prune s op)
+        → MayWantMemoryLater s pins op
+    wanting_later linear counted lowered entered named pruned =
+        let written = bad_entries op ++ (bad_users op ++ bad_prune s op) in
         inr (
           before,
-          none_both (not_linear s op) (wrong_count op ++ (raise s op ++ (bad_entries op ++ bad_users op))) linear
-              (none_both (wrong_count op) (raise s op ++ (bad_entries op ++ bad_users op)) counted
-              (none_both (raise s op) (bad_entries op ++ bad_users op) lowered
-              (none_both (bad_entries op) (bad_users op) entered named))),
+          none_both (not_linear s op) (wrong_count op ++ (raise s op ++ written)) linear
+              (none_both (wrong_count op) (raise s op ++ written) counted
+              (none_both (raise s op) written lowered
+              (none_both (bad_entries op) (bad_users op ++ bad_prune s op) entered
+              (none_both (bad_users op) (bad_prune s op) named pruned)))),
         )
+
+-- ---- the marker of a prune
+
+-- an operation that makes changesets is none
+pub no_prune : (s : ReplicaState) (op : Op) → 1 < length (made s.history op) → NoneApplies (bad_prune s op)
+unfolding chain
+no_prune s (Commit p q entry secret) some = tt
+no_prune s (Amend node entry) some = tt
+no_prune s (Split node es) some = tt
+no_prune s (Fold nodes entry) some = tt
+no_prune s (Prune node user secs offset) some = absurd (omega (arith, some))
+no_prune s (Relocate node p q entry) some = tt
+no_prune s (Advance node phase) some = tt
+
+-- it has one marker
+pub prune_marked : (s : ReplicaState) (op : Op)
+    → NoneApplies (map marker_refused (map (marker (metadata s.history op) (new_ids s.history op)) (take 1 (rewritten op))))
+    → NoneApplies (bad_prune s op)
+prune_marked s (Commit p q entry secret) h = tt
+prune_marked s (Amend node entry) h = tt
+prune_marked s (Split node es) h = tt
+prune_marked s (Fold nodes entry) h = tt
+prune_marked s (Prune node user secs offset) h = h
+prune_marked s (Relocate node p q entry) h = tt
+prune_marked s (Advance node phase) h = tt
+
+pub all_marked : (s : ReplicaState) (op : Op) → NoneApplies (map marker_refused (markers s.history op))
+    → NoneApplies (bad_prune s op)
+all_marked s (Commit p q entry secret) h = tt
+all_marked s (Amend node entry) h = tt
+all_marked s (Split node es) h = tt
+all_marked s (Fold nodes entry) h = tt
+all_marked s (Prune node user secs offset) h = h
+all_marked s (Relocate node p q entry) h = tt
+all_marked s (Advance node phase) h = tt

@@ -7,12 +7,15 @@ use Rattle.hg_changeset.specs.declared.entry.EntryError.{EntryError}
 use Rattle.hg_changeset.specs.declared.entry.EntryError.TheVariants as error
 use Rattle.hg_changeset.specs.EntryValue.{EntryValue}
 use Rattle.hg_changeset.specs.EntryText.{entry_text}
+use Rattle.hg_marker.specs.declared.error.MarkerError.{MarkerError}
+use Rattle.hg_marker.specs.declared.error.ReadError.{ReadError}
+use Rattle.hg_marker.specs.declared.error.ReadError.TheVariants as marking
 use Rattle.hg_replica.specs.State.{ReplicaState}
 use Rattle.hg_replica.specs.Least.{PartValue, IsAdmitted}
 use Rattle.hg_rewrite.specs.declared.op.Op.{Op}
 use Rattle.hg_rewrite.specs.declared.refusal.Refusal.{Refusal}
 use Rattle.hg_rewrite.specs.declared.refusal.Refusal.TheVariants.{Fault, NoMemory}
-use Rattle.hg_rewrite.specs.declared.refusal.Cause.TheVariants.{Entry}
+use Rattle.hg_rewrite.specs.declared.refusal.Cause.TheVariants.{Entry, Marker}
 use Rattle.hg_rewrite.specs.Parts.{part_of}
 use Rattle.hg_rewrite.specs.Refusals.{Row, refusals, entry_refused, NoneApplies, IsFirstRefusal}
 
@@ -52,3 +55,8 @@ entry_refusal error.EmptyUser = Fault (Entry error.EmptyUser)
 entry_refusal error.NewlineInUser = Fault (Entry error.NewlineInUser)
 entry_refusal error.BadExtraKey = Fault (Entry error.BadExtraKey)
 entry_refusal error.NoMemory = NoMemory
+
+-- the refusal that tells why a marker wasn't made; want of memory is no fault of it
+abbrev pub mark_refusal : ReadError MarkerError → Refusal
+mark_refusal (marking.Fault fault) = Fault (Marker fault)
+mark_refusal marking.NoMemory = NoMemory

@@ -3,6 +3,5 @@ pub mod Reading
 pub mod Parts
 pub mod Refusals
 pub mod Answer
-pub mod Ids
 pub mod Memory
 pub mod Names

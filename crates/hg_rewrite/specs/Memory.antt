@@ -1,10 +1,10 @@
 -- Where memory may be wanting.
 --
--- Whether nodes are held, public or obsolete, whether they are a line, how many there are, which phase they have, and
--- whether each entry has a text, is seen by look-ups and comparisons. Three steps take memory, in this order: a walk
--- that tells whether a new parent is hidden, one that tells whether a new parent is a descendant, and what is written
--- in the end.
-use Rattle.std.specs.Prelude.{◌≢◌, ℕ, ◌<◌, ◌⊎◌, List, ◌++◌}
+-- Whether nodes are held, public or obsolete, whether they are a line, how many there are, which phase they have,
+-- whether each entry has a text, and whether what is pruned can be marked, is seen by look-ups and comparisons. Three
+-- steps take memory, in this order: a walk that tells whether a new parent is hidden, one that tells whether a new
+-- parent is a descendant, and what is written in the end.
+use Rattle.std.specs.Prelude.{◌≢◌, ℕ, ◌<◌, ◌⊎◌, List, [], ◌++◌, map}
 use Rattle.hg_changeset.specs.declared.node.Node.{Node}
 use Rattle.hg_graph.specs.Places.{IsAt}
 use Rattle.hg_phases.specs.State.{State, changesets}
@@ -14,7 +14,8 @@ use Rattle.hg_replica.specs.Evolution.{IsObsolete}
 use Rattle.hg_rewrite.specs.declared.op.Op.{Op}
 use Rattle.hg_rewrite.specs.declared.op.Op.TheVariants.{Commit, Amend, Split, Fold, Prune, Relocate, Advance}
 use Rattle.hg_rewrite.specs.Refusals.{Row, NoneApplies, unknown_nodes, hidden_parents, public_nodes, obsolete_nodes}
-use Rattle.hg_rewrite.specs.Refusals.{not_linear, wrong_count, raise, bad_entries, bad_users}
+use Rattle.hg_rewrite.specs.Refusals.{not_linear, wrong_count, raise, bad_entries, bad_users, marker_refused}
+use Rattle.hg_rewrite.specs.Parts.{markers}
 
 -- whether a new parent is hidden, where it is obsolete; any other isn't
 abbrev pub WalksForHidden : ReplicaState → Op → Type 0
@@ -49,9 +50,20 @@ abbrev pub rows_before_descendants : ReplicaState → List Node → Op → List 
 rows_before_descendants s pins op =
     unknown_nodes s op ++ (hidden_parents s pins op ++ (public_nodes s op ++ obsolete_nodes s op))
 
+-- the marker of a prune, which names no changeset that would have to be made first
+abbrev pub bad_prune : ReplicaState → Op → List Row
+bad_prune s (Commit p q entry secret) = []
+bad_prune s (Amend node entry) = []
+bad_prune s (Split node es) = []
+bad_prune s (Fold nodes entry) = []
+bad_prune s (Prune node user secs offset) = map marker_refused (markers s.history (Prune node user secs offset))
+bad_prune s (Relocate node p q entry) = []
+bad_prune s (Advance node phase) = []
+
 -- the rows that are tried after it, before anything is written
 abbrev pub rows_before_writing : ReplicaState → Op → List Row
-rows_before_writing s op = not_linear s op ++ (wrong_count op ++ (raise s op ++ (bad_entries op ++ bad_users op)))
+rows_before_writing s op =
+    not_linear s op ++ (wrong_count op ++ (raise s op ++ (bad_entries op ++ (bad_users op ++ bad_prune s op))))
 
 -- memory may be wanting at one of the two later steps, and no row that is tried before it applies
 abbrev pub MayWantMemoryLater : ReplicaState → List Node → Op → Type 0

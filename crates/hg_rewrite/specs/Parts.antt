@@ -2,12 +2,12 @@
 --
 -- The first column is the new changesets: on which parents, of which entries. The second is the bounds, and the third
 -- the markers: which nodes are rewritten to the new changesets, and what is noted of it.
-use Rattle.std.specs.Prelude.{ℕ, ℤ, List, [], ◌∷◌, ◌-◌, length, slice_get, map, if◌then◌else◌, codes, option_to_list}
-use Rattle.std.specs.Prelude.{option_map}
-use Rattle.std.specs.FinMap.{empty, insert, put}
+use Rattle.std.specs.Prelude.{ℕ, ℤ, List, [], ◌∷◌, ◌-◌, length, slice_get, map, reverse, codes, Option, Some, None}
+use Rattle.std.specs.Prelude.{option_to_list, option_map}
+use Rattle.std.specs.FinMap.{empty, from_entries, put}
 use Rattle.hex.specs.Hex.{encode_lower}
 use Rattle.hg_changeset.specs.declared.node.Node.{Node}
-use Rattle.hg_changeset.specs.Node.{node_eq, null_node}
+use Rattle.hg_changeset.specs.Node.{null_node}
 use Rattle.hg_changeset.specs.Contents.{Contents}
 use Rattle.hg_changeset.specs.Changeset.{changeset_of, node_of}
 use Rattle.hg_changeset.specs.EntryValue.{EntryValue}
@@ -17,6 +17,7 @@ use Rattle.hg_phases.specs.declared.phase.Phase.{Phase}
 use Rattle.hg_phases.specs.State.{State}
 use Rattle.hg_marker.specs.Texts.{Texts, bytes_cmp}
 use Rattle.hg_marker.specs.Fields.{Fields}
+use Rattle.hg_marker.specs.Operation.{operation_entries}
 use Rattle.hg_replica.specs.State.{ReplicaState}
 use Rattle.hg_replica.specs.Least.{PartValue}
 use Rattle.hg_rewrite.specs.declared.op.Op.{Op}
@@ -119,27 +120,19 @@ rewritten (Prune node user secs offset) = node ∷ []
 rewritten (Relocate node p q entry) = node ∷ []
 rewritten (Advance node phase) = []
 
--- a date, an operation and a user
-abbrev pub noted_texts : List ℕ → List ℕ → List ℕ → Texts
-noted_texts date operation user =
-    insert (insert (insert empty (codes "date") date) (codes "operation") operation) (codes "user") user
-
--- when, by which operation and by whom
-unfoldable pub noted : List ℕ → List ℕ → ℤ → ℤ → Texts
-noted operation user secs offset = noted_texts (date_text secs offset) operation (trimmed_user user)
+-- when, by which operation and by whom, and the parents of what is pruned: `p1`, which is the null id for a root, and
+-- `p2` where there are two
+unfoldable pub noted : List ℕ → Option (Node × Node) → List ℕ → ℤ → ℤ → Texts
+noted operation parents user secs offset =
+    from_entries {R = bytes_cmp}
+    (reverse (operation_entries (date_text secs offset) operation parents (trimmed_user user)))
 
 abbrev pub noted_of : List ℕ → EntryValue → Texts
-noted_of operation e = noted operation e.user e.secs e.offset
+noted_of operation e = noted operation None e.user e.secs e.offset
 
 abbrev pub noted_of_first : List ℕ → List EntryValue → Texts
 noted_of_first operation [] = empty
 noted_of_first operation (e ∷ es) = noted_of operation e
-
--- and the parents of what is pruned: `p1`, which is the null id for a root, and `p2` where there are two
-unfoldable pub with_parents : Node × Node → Texts → Texts
-with_parents ps texts =
-    if node_eq ps.1 null_node then insert texts (codes "p1") (encode_lower ps.0.0)
-    else insert (insert texts (codes "p1") (encode_lower ps.0.0)) (codes "p2") (encode_lower ps.1.0)
 
 -- what is noted of it
 abbrev pub metadata : State → Op → Texts
@@ -147,8 +140,7 @@ metadata s (Commit p q entry secret) = empty
 metadata s (Amend node entry) = noted_of (codes "amend") entry
 metadata s (Split node es) = noted_of_first (codes "split") es.items
 metadata s (Fold nodes entry) = noted_of (codes "fold") entry
-metadata s (Prune node user secs offset) = with_parents (parents_in s node)
-    (noted (codes "prune") user.items secs offset)
+metadata s (Prune node user secs offset) = noted (codes "prune") (Some (parents_in s node)) user.items secs offset
 metadata s (Relocate node p q entry) = noted_of (codes "relocate") entry
 metadata s (Advance node phase) = empty
 

@@ -3,16 +3,16 @@
 //! Memory is taken only where each entry has a text: a sole entry is looked at as it is written, which comes first, and
 //! several are looked at before the first of them is. All are written before the first changeset is made, since the
 //! refusals of entries come first. Each changeset after the first stands on the one before.
-ghost use Rattle.std.specs.Prelude.{◌≡◌, ◌==◌, ◌∷◌, [], Contains, IfOk, IsErrOf, length, map};
+ghost use Rattle.std.specs.Prelude.{◌≡◌, ◌==◌, ◌<◌, ◌∷◌, [], Contains, IfOk, OnErr, IsErrOf, length, map};
 ghost use Rattle.hg_changeset.specs.Contents.{Contents};
 ghost use Rattle.hg_changeset.specs.Changeset.{IsChangeset};
 ghost use Rattle.hg_changeset.specs.EntryAnswer.{EntryAnswer};
 ghost use Rattle.hg_rewrite.specs.Parts.{with_extra, parents_of_first, made, chain, contents_of, on_parents, written};
+ghost use Rattle.hg_rewrite.specs.Memory.{bad_prune};
 ghost use Rattle.hg_rewrite.specs.Refusals.{NoneApplies, bad_entries, entry_refused, changeset_refused, unwritten};
 ghost use Rattle.hg_rewrite.specs.Refusals.{not_written};
 ghost use Rattle.hg_rewrite.specs.Answer.{Gives, TextsAnswer, entry_refusal};
 ghost use Rattle.hg_graph.specs.Graph.{nodes};
-ghost use Rattle.hg_rewrite.specs.Ids.{listed};
 
 use crate::check::check_entries;
 use crate::op::Op;
@@ -20,6 +20,7 @@ use crate::query::parents_in;
 use crate::refusal::{Cause, Refusal};
 use hg_changeset::{Changeset, Entry, EntryError, Node, entry_text, noted_text};
 use hg_replica::Replica;
+use smallvec::SmallVec;
 use std::alloc::{AllocError, Global};
 use std::slice;
 
@@ -32,6 +33,7 @@ pub(crate) fn new_changesets(
 ) -> Result<Vec<Changeset>, Refusal>
     ensures answer { Gives (not_written replica.now op.now) (made replica.now.history op.now) result }
     ensures memory { IsErrOf result Refusal.NoMemory → NoneApplies (bad_entries op.now) }
+    ensures prune { IsErrOf result Refusal.NoMemory → NoneApplies (bad_prune replica.now op.now) }
     ensures each { IfOk result (λ made. (c : Contents) → Contains made.items c → IsChangeset c) }
 {
     match op {
@@ -45,8 +47,8 @@ pub(crate) fn new_changesets(
         Op::Relocate { node, p, q, entry } => {
             write_noting(alloc, (*p, *q), b"rebase_source", *node, entry)
         }
-        Op::Prune { .. } => write(alloc, (Node::NULL, Node::NULL), &[]),
-        Op::Advance { .. } => write(alloc, (Node::NULL, Node::NULL), &[]),
+        Op::Prune { .. } => Ok(Vec::new(alloc)),
+        Op::Advance { .. } => Ok(Vec::new(alloc)),
     }
 }
 
@@ -165,10 +167,12 @@ fn write_one(alloc: Global, parents: (Node, Node), entry: &Entry) -> Result<Vec<
     }
 }
 
-// The changeset with this text.
+// The changeset with this text. Want of memory is told only where there is one.
 fn chain_one(alloc: Global, parents: (Node, Node), text: Vec<u8>) -> Result<Vec<Changeset>, Refusal>
     ensures answer { Gives (changeset_refused (on_parents parents text.items) ∷ [])
         (contents_of (on_parents parents text.items) ∷ []) result }
+    ensures memory { IsErrOf result Refusal.NoMemory
+        → NoneApplies (changeset_refused (on_parents parents text.items) ∷ []) }
     ensures each { IfOk result (λ made. (c : Contents) → Contains made.items c → IsChangeset c) }
 {
     let (p, q) = parents;
@@ -230,41 +234,17 @@ fn chain(
     Ok(changesets)
 }
 
-/// The ids of new changesets. Of one, as most operations make, no list is made.
-#[derive(Drop)]
-pub(crate) enum Ids {
-    One(Node),
-    Listed(Vec<Node>),
-}
-
-impl Ids {
-    /// The ids of the changesets.
-    #[inline(always)]
-    pub(crate) fn of(alloc: Global, changesets: &[Changeset]) -> Result<Ids, AllocError>
-        ensures { IfOk result (λ ids. listed ids ≡ nodes changesets.now) }
-    {
-        match changesets {
-            [changeset] => Ok(Ids::One(changeset.node())),
-            _ => Ok(Ids::Listed(nodes_of(alloc, changesets)?)),
-        }
-    }
-
-    /// They, in order.
-    pub(crate) fn as_slice(&self) -> &[Node]
-        ensures { result.now ≡ listed self.now }
-    {
-        match self {
-            Ids::One(node) => slice::from_ref(node),
-            Ids::Listed(nodes) => nodes,
-        }
-    }
-}
-
-fn nodes_of(alloc: Global, changesets: &[Changeset]) -> Result<Vec<Node>, AllocError>
-    ensures { IfOk result (λ found. found.items ≡ nodes changesets.now) }
+// The ids of new changesets, in order. Of one no list is made.
+pub(crate) fn ids_of(
+    alloc: Global,
+    changesets: &[Changeset],
+) -> Result<SmallVec<Node, 1>, AllocError>
+    ensures ids { IfOk result (λ ids. ids.items ≡ nodes changesets.now) }
+    ensures memory { OnErr result (1 < length changesets.now) }
 {
-    changesets
-        .iter()
-        .map(|changeset| changeset.node())
-        .collect(alloc)
+    let mut ids = SmallVec::with_capacity(alloc, changesets.len())?;
+    for changeset in changesets {
+        ids.push(changeset.node())?;
+    }
+    Ok(ids)
 }

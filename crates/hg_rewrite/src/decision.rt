@@ -9,7 +9,7 @@ ghost use Rattle.hg_rewrite.specs.Memory.{MayWantMemory, MayWantMemoryLater};
 ghost use Rattle.hg_rewrite.specs.Refusals.{NoneApplies, unknown_nodes, hidden_parents, not_linear};
 
 use crate::bounds::bounds;
-use crate::changesets::{Ids, new_changesets};
+use crate::changesets::{ids_of, new_changesets};
 use crate::check::{
     check_count, check_known, check_linear, check_new, check_not_obsolete, check_not_public,
     check_pruner, check_raise, check_shown, check_visible, is_apart,
@@ -81,7 +81,7 @@ fn decide_shown(alloc: Global, replica: &Replica, op: &Op, is_apart: bool) -> Re
     check_raise(replica, op)?;
     check_pruner(op)?;
     let changesets = new_changesets(alloc, replica, op)?;
-    let made = Ids::of(alloc, &changesets)?;
+    let made = ids_of(alloc, &changesets)?;
     let ids = made.as_slice();
     let markers = markers(alloc, replica, op, ids)?;
     check_new(replica, ids)?;

@@ -9,6 +9,7 @@ use hg_phases::Phase;
 use hg_replica::{Part, Replica};
 use hg_view::{PinRefusal, Pins};
 use std::alloc::Global;
+use std::borrow::CowSlice;
 
 // The history that holds the root without a text, in this phase.
 fn history_of_empty(alloc: Global, phase: Phase) -> Option<History> {
@@ -47,7 +48,7 @@ fn part_of_marker(alloc: Global, old: Node, new: Node) -> Option<Part> {
 fn store_of_marker(alloc: Global, old: Node, new: Node) -> Option<Store> {
     let part = part_of_marker(alloc, old, new)?;
     let mut store = Store::new(alloc);
-    let places = store.absorb(&part.markers).ok()?;
+    let places = store.absorb(CowSlice::Borrowed(&part.markers)).ok()?;
     if places.as_slice() == [0usize].as_slice() {
         Some(store)
     } else {

@@ -1,7 +1,7 @@
 //! Markers byte for byte, alone and in a store, and what makes none.
 use crate::making::{EMPTY, ONES, TWOS, empty, prune, replica_of_empty, text_at};
 use hg_changeset::Node;
-use hg_marker::{Marker, MarkerError, MarkerFault, Metadata, Parents, ReadError, decode, encode};
+use hg_marker::{Marker, MarkerError, MarkerFault, Parents, ReadError, TextMap, decode, encode};
 use hg_obsstore::{StoreFault, read_store, store_bytes};
 use hg_phases::Phase;
 use hg_replica::{Change, Part, Replica};
@@ -103,8 +103,12 @@ fn refusal_of(alloc: Global, successors: &[u8], key: &[u8], value: &[u8]) -> Opt
         };
         nodes.push(node).ok()?;
     }
-    let metadata = Metadata::from_entries(alloc, &[(key, value)]).ok()?;
-    Marker::new(ONES, nodes, 0, metadata).err()
+    let mut texts = TextMap::new(alloc);
+    texts.insert(key, value).ok()?;
+    match Marker::new(ONES, &nodes, 0, &texts) {
+        Err(ReadError::Fault(refusal)) => Some(refusal),
+        _ => None,
+    }
 }
 
 // The same of a row, which has the successors, a key and its value.

@@ -2,7 +2,7 @@
 use crate::making::{EMPTY, empty, mark, push, replica_of, replica_of_empty};
 use hg_changeset::Node;
 use hg_instab::Instabilities;
-use hg_marker::{Marker, Metadata};
+use hg_marker::{Marker, TextMap};
 use hg_phases::Phase;
 use hg_relevant::relevant;
 use hg_replica::{Part, Replica};
@@ -47,9 +47,9 @@ fn an_answer_to_what_is_public_is_not_phase_divergent(rt: HostRuntime) {
 
 // Adds to the part that a node was pruned, which stood on another.
 fn prune(alloc: Global, part: &mut Part, node: Node, parent: Node) -> Option<()> {
-    let mut metadata = Metadata::new(alloc);
-    metadata.insert(alloc, b"p1", &parent.to_hex()).ok()?;
-    let marker = Marker::new(node, Vec::new(alloc), 0, metadata).ok()?;
+    let mut texts = TextMap::new(alloc);
+    texts.insert(b"p1", &parent.to_hex()).ok()?;
+    let marker = Marker::new(node, &[], 0, &texts).ok()?;
     part.markers.push(marker).ok()
 }
 

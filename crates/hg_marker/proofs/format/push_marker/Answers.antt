@@ -1,20 +1,16 @@
 use Rattle.std.proofs.Common.{◌++◌, length, ap, ◌∙◌, arith}
 use Rattle.std.proofs.lemmas.List.{length-append}
 use Rattle.hg_marker.specs.Grammar.{ids}
-use Rattle.hg_marker.specs.Making.{is_writable}
 use Rattle.hg_marker.specs.Metadata.{written}
-use Rattle.hg_marker.proofs.FormLemmas.{clean_is_writable}
 use Rattle.hg_marker.proofs.format.push_marker.Goals as goal
 
 pub unwrap-requires-5 : goal.unwrap-requires-5
 unwrap-requires-5 c =
     let m = c.args.marker.now in
-    let writable =
-    ap is_writable c.meta-2.ensures ∙ clean_is_writable m.metadata c.predecessor-predecessor.ensures.marker.clean in
-    c.write_onto.ensures.succeeds writable (omega (
+    c.extend_from_slice-2.ensures.succeeds (omega (
       arith,
       c.requires.room,
-      ap (λ texts. length (written texts)) c.meta-2.ensures,
+      ap length (c.as_bytes-2.ensures ∙ ap written c.meta-2.ensures),
       length-append m.predecessor.0 (ids m.successors),
       length-append (m.predecessor.0 ++ ids m.successors) (written m.metadata),
       c.push.ensures.capacity,

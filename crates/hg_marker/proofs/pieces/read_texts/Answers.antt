@@ -13,5 +13,5 @@ loop-rest-preserved-in_ok-insert c =
     (keeps c.args.bytes.now c.loop-rest.rest.now c.next_piece.result.0.now c.next_piece.result.1.now
     c.loop-rest.texts _ _
     (sym c.is_empty-in-loop-rest.ensures ∙ c.if-not-is_empty.true)
-    ((λ i. (c.in_ok-key.ensures.items i, c.in_ok-value.ensures.items i)) ∙ c.split_piece.ensures)
+    c.split_piece.ensures
     c.next_piece.ensures.pieces c.loop-rest.invariant)

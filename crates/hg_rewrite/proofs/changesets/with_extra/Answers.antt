@@ -4,8 +4,7 @@ use Rattle.std.specs.FinMap.{put}
 use Rattle.hex.specs.Hex.{encode_lower}
 use Rattle.hg_marker.specs.Texts.{bytes_cmp}
 use Rattle.std.proofs.lemmas.Int.{to_z-of_z}
-use Rattle.hg_marker.proofs.TextsLemmas.{same_bytes}
-use Rattle.hg_rewrite.proofs.EntryLemmas.{extra_put, noted_entry}
+use Rattle.hg_rewrite.proofs.EntryLemmas.{extra_put, noted_entry, same_bytes}
 use Rattle.hg_rewrite.proofs.changesets.with_extra.Goals as goal
 
 pub returns : goal.returns

@@ -1,4 +1,4 @@
-use Rattle.std.proofs.Common.{◌≡◌, Err, inr, ap, subst, ◌∙◌}
+use Rattle.std.proofs.Common.{◌≡◌, ◌<◌, Err, inr, length, ap, subst, ◌∙◌}
 use Rattle.std.proofs.lemmas.Result.{err_from_is_err_and}
 use Rattle.hg_graph.specs.Graph.{nodes}
 use Rattle.hg_rewrite.specs.Parts.{new_ids}
@@ -12,6 +12,7 @@ use Rattle.hg_rewrite.proofs.DecideLemmas.{entries_written, none_unmarked, marks
 use Rattle.hg_rewrite.proofs.TableLemmas.{public_tells, obsolete_tells, count_tells, raise_tells}
 use Rattle.hg_rewrite.proofs.TableLemmas.{users_tell}
 use Rattle.hg_rewrite.proofs.MemoryLemmas.{told, never, wanting_descendants, wanting_later}
+use Rattle.hg_rewrite.proofs.MemoryLemmas.{no_prune, prune_marked, all_marked}
 use Rattle.hg_rewrite.proofs.decision.decide_shown.Goals as goal
 
 pub returns-in_err-check_not_public-clause-answer : goal.returns-in_err-check_not_public-clause-answer
@@ -79,20 +80,20 @@ returns-in_err-markers-clause-answer c = λ pins shown.
     c.in_ok-check_not_obsolete.ensures c.in_ok-check_linear.ensures.answer c.in_ok-check_count.ensures
     c.in_ok-check_raise.ensures c.in_ok-changesets.ensures.answer.0
     (marks_refused c.args.replica.now c.args.op.now c.in_err-markers.field-0.0
-    c.in_ok-check_pruner.ensures c.in_err-markers.ensures))
+    c.in_ok-check_pruner.ensures c.in_err-markers.ensures.answer))
 
 pub returns-in_err-check_new-clause-answer : goal.returns-in_err-check_new-clause-answer
 returns-in_err-check_new-clause-answer c = λ pins shown.
     let p = err_from_is_err_and c.from_residual-in_err-check_new.result c.from_residual-in_err-check_new.ensures.1 in
     let ids : c.as_slice-ids.result.now ≡ new_ids c.args.replica.now.history c.args.op.now =
-    c.as_slice-ids.ensures ∙ c.in_ok-made.ensures ∙ ap nodes (c.deref.ensures.value
+    c.as_slice-ids.ensures ∙ c.in_ok-made.ensures.ids ∙ ap nodes (c.deref.ensures.value
     ∙ c.in_ok-changesets.ensures.answer.1) in
     rw (p.1, p.2) (refused_existing c.args.replica.now pins c.args.op.now c.in_err-check_new.field-0.0
     c.requires.known shown c.in_ok-check_not_public.ensures
     c.in_ok-check_not_obsolete.ensures c.in_ok-check_linear.ensures.answer c.in_ok-check_count.ensures
     c.in_ok-check_raise.ensures c.in_ok-changesets.ensures.answer.0
     (none_unmarked c.args.replica.now c.args.op.now c.in_ok-check_pruner.ensures
-    c.in_ok-markers.ensures.0)
+    c.in_ok-markers.ensures.answer.0)
     (inr (subst (λ ns. IsFirstRefusal
     (existing c.args.replica.now.history ns) c.in_err-check_new.field-0.0) ids
     c.in_err-check_new.ensures)))
@@ -100,14 +101,14 @@ returns-in_err-check_new-clause-answer c = λ pins shown.
 pub returns-clause-answer : goal.returns-clause-answer
 returns-clause-answer c = λ pins shown.
     let ids : c.as_slice-ids.result.now ≡ new_ids c.args.replica.now.history c.args.op.now =
-    c.as_slice-ids.ensures ∙ c.in_ok-made.ensures ∙ ap nodes (c.deref.ensures.value
+    c.as_slice-ids.ensures ∙ c.in_ok-made.ensures.ids ∙ ap nodes (c.deref.ensures.value
     ∙ c.in_ok-changesets.ensures.answer.1) in
     decided c.args.replica.now pins c.args.op.now c.requires.valid c.requires.known
     shown c.in_ok-check_not_public.ensures c.in_ok-check_not_obsolete.ensures
     c.in_ok-check_linear.ensures.answer c.in_ok-check_count.ensures c.in_ok-check_raise.ensures
     c.in_ok-changesets.ensures.answer.0
     (none_unmarked c.args.replica.now c.args.op.now c.in_ok-check_pruner.ensures
-    c.in_ok-markers.ensures.0)
+    c.in_ok-markers.ensures.answer.0)
     (subst (λ ns. NoneApplies (existing c.args.replica.now.history ns)) ids
     c.in_ok-check_new.ensures)
     (record {
@@ -118,7 +119,7 @@ returns-clause-answer c = λ pins shown.
       markers = c.in_ok-markers.markers.items;
     })
     (part_is c.args.replica.now c.args.op.now _ _ _ c.in_ok-changesets.ensures.answer.1 c.in_ok-bounds.ensures
-    c.in_ok-markers.ensures.1)
+    c.in_ok-markers.ensures.answer.1)
 
 pub returns-in_err-check_not_public-clause-later : goal.returns-in_err-check_not_public-clause-later
 returns-in_err-check_not_public-clause-later c = λ pins shown.
@@ -177,28 +178,42 @@ returns-in_err-check_linear-clause-later c = λ pins shown.
 
 pub returns-in_err-changesets-clause-later : goal.returns-in_err-changesets-clause-later
 returns-in_err-changesets-clause-later c = λ pins shown.
+    let s = c.args.replica.now in
+    let op = c.args.op.now in
     let p = err_from_is_err_and c.from_residual-in_err-changesets.result c.from_residual-in_err-changesets.ensures.1 in
-    λ e. wanting_later c.args.replica.now pins c.args.op.now
+    λ e.
+    let memory = ap (λ x. Err x)
+    (told c.from_residual-in_err-changesets.result _ c.in_err-changesets.field-0.0 p.1 p.2 e) in
+    wanting_later s pins op
     c.requires.known shown c.in_ok-check_not_public.ensures
     c.in_ok-check_not_obsolete.ensures c.in_ok-check_linear.ensures.answer c.in_ok-check_count.ensures
-    c.in_ok-check_raise.ensures
-    (c.in_err-changesets.ensures.memory (ap (λ x. Err x)
-    (told c.from_residual-in_err-changesets.result _ c.in_err-changesets.field-0.0 p.1 p.2 e)))
-    c.in_ok-check_pruner.ensures
+    c.in_ok-check_raise.ensures (c.in_err-changesets.ensures.memory memory) c.in_ok-check_pruner.ensures
+    (c.in_err-changesets.ensures.prune memory)
 
 pub returns-in_err-made-clause-later : goal.returns-in_err-made-clause-later
-returns-in_err-made-clause-later c = λ pins shown e. wanting_later c.args.replica.now pins c.args.op.now
+returns-in_err-made-clause-later c = λ pins shown e.
+    let s = c.args.replica.now in
+    let op = c.args.op.now in
+    wanting_later s pins op
     c.requires.known shown c.in_ok-check_not_public.ensures
     c.in_ok-check_not_obsolete.ensures c.in_ok-check_linear.ensures.answer c.in_ok-check_count.ensures
     c.in_ok-check_raise.ensures
-    (entries_written c.args.replica.now c.args.op.now c.in_ok-changesets.ensures.answer.0) c.in_ok-check_pruner.ensures
+    (entries_written s op c.in_ok-changesets.ensures.answer.0) c.in_ok-check_pruner.ensures
+    (no_prune s op (subst (λ cs. 1 < length cs)
+    (c.deref.ensures.value ∙ c.in_ok-changesets.ensures.answer.1) c.in_err-made.ensures.memory))
 
 pub returns-in_err-markers-clause-later : goal.returns-in_err-markers-clause-later
-returns-in_err-markers-clause-later c = λ pins shown e. wanting_later c.args.replica.now pins c.args.op.now
+returns-in_err-markers-clause-later c = λ pins shown.
+    let s = c.args.replica.now in
+    let op = c.args.op.now in
+    let p = err_from_is_err_and c.from_residual-in_err-markers.result c.from_residual-in_err-markers.ensures.1 in
+    λ e. wanting_later s pins op
     c.requires.known shown c.in_ok-check_not_public.ensures
     c.in_ok-check_not_obsolete.ensures c.in_ok-check_linear.ensures.answer c.in_ok-check_count.ensures
     c.in_ok-check_raise.ensures
-    (entries_written c.args.replica.now c.args.op.now c.in_ok-changesets.ensures.answer.0) c.in_ok-check_pruner.ensures
+    (entries_written s op c.in_ok-changesets.ensures.answer.0) c.in_ok-check_pruner.ensures
+    (prune_marked s op (c.in_err-markers.ensures.memory (ap (λ x. Err x)
+    (told c.from_residual-in_err-markers.result _ c.in_err-markers.field-0.0 p.1 p.2 e))))
 
 pub returns-in_err-check_new-clause-later : goal.returns-in_err-check_new-clause-later
 returns-in_err-check_new-clause-later c = λ pins shown e. wanting_later c.args.replica.now pins c.args.op.now
@@ -206,6 +221,7 @@ returns-in_err-check_new-clause-later c = λ pins shown e. wanting_later c.args.
     c.in_ok-check_not_obsolete.ensures c.in_ok-check_linear.ensures.answer c.in_ok-check_count.ensures
     c.in_ok-check_raise.ensures
     (entries_written c.args.replica.now c.args.op.now c.in_ok-changesets.ensures.answer.0) c.in_ok-check_pruner.ensures
+    (all_marked c.args.replica.now c.args.op.now c.in_ok-markers.ensures.answer.0)
 
 pub returns-in_err-bounds-clause-later : goal.returns-in_err-bounds-clause-later
 returns-in_err-bounds-clause-later c = λ pins shown e. wanting_later c.args.replica.now pins c.args.op.now
@@ -213,3 +229,4 @@ returns-in_err-bounds-clause-later c = λ pins shown e. wanting_later c.args.rep
     c.in_ok-check_not_obsolete.ensures c.in_ok-check_linear.ensures.answer c.in_ok-check_count.ensures
     c.in_ok-check_raise.ensures
     (entries_written c.args.replica.now c.args.op.now c.in_ok-changesets.ensures.answer.0) c.in_ok-check_pruner.ensures
+    (all_marked c.args.replica.now c.args.op.now c.in_ok-markers.ensures.answer.0)

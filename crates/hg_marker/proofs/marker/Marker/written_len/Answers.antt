@@ -1,7 +1,6 @@
 use Rattle.std.proofs.Common.{◌≡◌, ◌+◌, ◌*◌, length, ap, subst}
 use Rattle.hg_marker.specs.Fields.{Fields}
 use Rattle.hg_marker.specs.Grammar.{spelling}
-use Rattle.hg_marker.specs.Kept.{kept_nodes}
 use Rattle.hg_marker.proofs.WritingLemmas.{spelling_length}
 use Rattle.hg_marker.proofs.marker.Marker.written_len.Goals as goal
 
@@ -11,12 +10,12 @@ returns-clause-len c =
     let m : Fields =
     record {
       predecessor = inside.predecessor;
-      successors = kept_nodes inside.successors;
+      successors = inside.successors.items;
       flags =
           inside.flags;
       metadata = inside.metadata;
     } in
-    subst (λ (x : Fields). 26 + 20 * length c.as_slice.result.now + c.written_len.result ≡ length (spelling x))
+    subst (λ (x : Fields). 26 + 20 * length c.as_slice.result.now + length c.as_bytes.result.now ≡ length (spelling x))
     c.self.view_is
-    (spelling_length m (length c.as_slice.result.now) c.written_len.result c.self.invariant
-    (ap length c.as_slice.ensures) c.written_len.ensures)
+    (spelling_length m (length c.as_slice.result.now) (length c.as_bytes.result.now) c.self.invariant
+    (ap length c.as_slice.ensures) (ap length c.as_bytes.ensures))

@@ -1,0 +1,36 @@
+use Rattle.std.proofs.Common.{◌≡◌, ◌≤◌, length, sym, ◌∙◌, arith, subst, rules}
+use Rattle.hg_marker.specs.Source.{source_texts}
+use Rattle.hg_marker.specs.Metadata.{written}
+use Rattle.hg_marker.specs.Grammar.{IsMarker, metadata_limit}
+use Rattle.hg_marker.proofs.FormLemmas.{writable_from}
+use Rattle.hg_marker.proofs.ReadLemmas.{tested_is_clean}
+use Rattle.hg_marker.proofs.marker.Marker.of_source.Goals as goal
+
+pub to_metadata-requires : goal.to_metadata-requires
+to_metadata-requires c =
+    writable_from _ (sym c.has_bad_key.ensures ∙ c.if-has_bad_key.false)
+    (sym c.has_bad_value.ensures ∙ c.if-has_bad_value.false)
+
+pub invariant_of-result : goal.invariant_of-result
+invariant_of-result c =
+    let nodes : c.args.successors.now ≡ c.in_ok-successors.successors.items = sym c.in_ok-successors.ensures.ok in
+    let texts : source_texts c.args.source ≡ c.in_ok-metadata.metadata = sym c.in_ok-metadata.ensures in
+    let short : length (written (source_texts c.args.source)) ≤ metadata_limit =
+    omega (arith, c.written_len.ensures, c.if-written_len.false) in
+    subst IsMarker (λ i. record {
+      predecessor = c.args.predecessor;
+      successors = nodes i;
+      flags = c.args.flags;
+      metadata = texts i;
+    }) (record {
+      fits = record {
+        predecessor = (search rules, c.holds.ensures.bytes);
+        successors = c.has_null.ensures.nodes c.if-has_null.false;
+        present = sym c.has_null.ensures.null ∙ c.if-has_null.false;
+        few = omega (arith, c.if-successors-gt255.false);
+        flags = c.ranges.flags.fits;
+      };
+      clean = tested_is_clean _ (sym c.has_bad_key.ensures ∙ c.if-has_bad_key.false)
+          (sym c.has_bad_value.ensures ∙ c.if-has_bad_value.false);
+      short = short;
+    })

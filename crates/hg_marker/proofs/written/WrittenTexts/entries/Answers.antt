@@ -1,9 +1,0 @@
-use Rattle.std.proofs.Common.{ap, map, ◌∙◌}
-use Rattle.std.specs.FinMap.{entries}
-use Rattle.hg_marker.specs.Metadata.{pieces, entry}
-use Rattle.hg_marker.proofs.FormLemmas.{written_entries}
-use Rattle.hg_marker.proofs.written.WrittenTexts.entries.Goals as goal
-
-pub returns : goal.returns
-returns c = c.new.ensures ∙ ap (λ bytes. map entry (pieces bytes)) c.deref.ensures.value
-    ∙ written_entries c.self.inside.bytes.items c.self.invariant.written ∙ ap entries c.self.view_is
