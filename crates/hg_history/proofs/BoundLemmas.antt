@@ -60,9 +60,6 @@ held-more cs bounds i b at before here j d l at_d = elim (cases_eq j i) [
   | inl e ↦ subst (λ x. Holds cs x.0) (same_Some b d (sym at ∙ ap (slice_get bounds) (sym e) ∙ at_d)) here
 ]
 
-pub IsLoweredTo-start : (cs : List Contents) (phase : Phase) (old : List Phase) → IsLoweredTo cs [] phase old old
-IsLoweredTo-start cs phase old s p bs l = (bs, l, λ b x. inl x, λ b x. x, λ b x e. absurd (omega (arith, x.1)))
-
 -- one more bound
 pub IsLoweredTo-step : (cs : List Contents) (bounds : List (Node × Phase)) (i : ℕ) (b : Node × Phase) (phase : Phase)
     (old now new : List Phase) → slice_get bounds i ≡ Some b

@@ -18,7 +18,6 @@ use Rattle.hg_changeset.proofs.NodeLemmas.{node_eq_laws, same_node}
 use Rattle.hg_graph.specs.Graph.{IsGraph, nodes, Holds as GraphHolds}
 use Rattle.hg_graph.specs.Graph.Reaches.{itself}
 use Rattle.hg_graph.specs.Places.{IsAt, IsOnlyAt}
-use Rattle.hg_graph.specs.Answers.{Collides}
 use Rattle.hg_graph.proofs.GraphLemmas.{Contains-from_place, place_from_Contains, Holds-from, Holds-changeset}
 use Rattle.hg_graph.proofs.MarkLemmas.{get-take, IsAt-from}
 use Rattle.hg_phases.specs.declared.phase.Phase.{Phase}
@@ -117,13 +116,6 @@ at-node : (cs : List Contents) (p : ℕ) (n : Node) → IsAt cs n p
 at-node [] p n at = absurd (none-some n at)
 at-node (d ∷ cs) zero n at = (d, refl, same_Some (node_of d) n at)
 at-node (d ∷ cs) (suc p) n at = at-node cs p n at
-
--- another changeset at its id's place collides
-pub other-collides : (cs : List Contents) (c : Contents) (p : ℕ) (n : Node) → n ≡ node_of c → IsOnlyAt cs n p
-    → ¬ (slice_get cs p ≡ Some c) → Collides cs c
-other-collides cs c p n n_is only other =
-    let d = at-node cs p n ((only p).1 refl) in
-    (d.0, Contains-from_place cs p d.0 d.1, d.2 ∙ n_is, λ e. other (d.1 ∙ ap (λ x. Some x) e))
 
 module _ (cs : List Contents) (ks : List Phase) (c : Contents) (k : Phase) (n : Node) (n_is : n ≡ node_of c) where
   -- where what is held as low stands

@@ -17,8 +17,8 @@ use Rattle.hg_phases.specs.Lowered.{WentDown}
 use Rattle.hg_phases.proofs.FormLemmas.{rank-apart}
 use Rattle.hg_phases.proofs.LeastLemmas.{least-above, same_held}
 use Rattle.hg_history.specs.declared.fault.Fault.{Fault}
-use Rattle.hg_history.specs.declared.undo.Absorbed.{Absorbed}
-use Rattle.hg_history.specs.Absorbed.{without_undo}
+use Rattle.hg_join.specs.declared.absorbed.Absorbed.{Absorbed}
+use Rattle.hg_join.specs.Absorbed.{without_undo}
 use Rattle.hg_history.specs.Answer.{AbsorbAnswer, IsAbsorbed, IsGrowthBeforeFault}
 use Rattle.hg_history.specs.Change.{ChangeValue, IsNothing, unheld}
 use Rattle.hg_history.specs.Steps.{CanTakeBack}
@@ -82,7 +82,7 @@ nothing_changed s t k change a none =
               absurd (omega (arith, at.1, l))
         ]
 
-pub nothing_answered : (s t : State) (k : PartValue) (answer : Result Absorbed Fault)
+pub nothing_answered : (s t : State) (k : PartValue) {U : Type 0} (answer : Result (Absorbed ChangeValue U) Fault)
     → AbsorbAnswer s k (without_undo answer) t → IfOk answer (λ absorbed. IsNothing absorbed.change → t ≡ s)
 nothing_answered s t k (Ok absorbed) a = λ none_told. nothing_changed s t k absorbed.change a none_told
 nothing_answered s t k (Err fault) a = tt

@@ -1,5 +1,5 @@
 -- What leads back, in the words of what is kept.
-use Rattle.std.proofs.Common.{◌≡◌, ◌∙◌, ◌≤◌, List, [], ◌∷◌, length, map, take, Result, Ok, Err, refl, sym, ap, subst}
+use Rattle.std.proofs.Common.{◌≡◌, ◌∙◌, ◌≤◌, List, [], ◌∷◌, length, map, take, refl, sym, ap, subst}
 use Rattle.std.proofs.Common.{arith}
 use Rattle.std.proofs.lemmas.List.{length-map}
 use Rattle.hg_changeset.specs.Contents.{Contents}
@@ -8,16 +8,7 @@ use Rattle.hg_phases.specs.State.{State, Held, IsValid, held_of, state_of}
 use Rattle.hg_phases.specs.Log.{restored}
 use Rattle.hg_phases.specs.Kept.{IsLogOf}
 use Rattle.hg_phases.proofs.PlaceLemmas.{changesets-held_of}
-use Rattle.hg_history.specs.declared.fault.Fault.{Fault}
-use Rattle.hg_history.specs.declared.undo.Absorbed.{Absorbed}
-use Rattle.hg_history.specs.Absorbed.{without_undo}
 use Rattle.hg_history.specs.Undo.{UndoValue, LeadsBack}
-
--- an answer is refused where it is without its undo
-pub refused_with_undo : (answer : Result Absorbed Fault) (fault : Fault) → without_undo answer ≡ Err fault
-    → answer ≡ Err fault
-refused_with_undo (Ok absorbed) fault is = absurd cc
-refused_with_undo (Err other) fault is = let same : other ≡ fault = cc in ap (λ f. Err f) same
 
 -- the phases of a state are those of which it was made
 pub phases-held_of : (cs : List Contents) (ks : List Phase) → length ks ≡ length cs

@@ -1,6 +1,8 @@
 -- What `absorb` answers.
 use Rattle.std.specs.Prelude.{◌≡◌, ◌≢◌, ◌<◌, ℕ, List, [], ◌∷◌, ◌++◌, take, length, slice_get, Some, Contains, Result}
 use Rattle.std.specs.Prelude.{Ok, Err, ◌⊎◌}
+use Rattle.std.specs.Cow.{cow_slice_items}
+use Rattle.std.specs.declared.borrow.CowSlice.{CowSlice}
 use Rattle.hg_changeset.specs.declared.node.Node.{Node}
 use Rattle.hg_changeset.specs.Node.{null_node}
 use Rattle.hg_changeset.specs.Contents.{Contents}
@@ -15,6 +17,10 @@ use Rattle.hg_history.specs.declared.fault.Fault.{Fault}
 use Rattle.hg_history.specs.declared.fault.Fault.TheVariants.{UnknownParent, Collision, UnknownBound, NullBound}
 use Rattle.hg_history.specs.declared.fault.Fault.TheVariants.{NoMemory}
 use Rattle.hg_history.specs.Change.{ChangeValue, unheld, ListsLowered}
+
+-- the part of changesets, lent or moved in, and of bounds
+abbrev pub part_with : {A : Type 0} → CowSlice Contents A → List (Node × Phase) → PartValue
+part_with changesets bounds = record { changesets = cow_slice_items changesets; bounds = bounds }
 
 -- each changeset of the part before the place i has its parents held, or before it, and collides with none
 abbrev pub IsFineUpTo : List Contents → List Contents → ℕ → Type 0

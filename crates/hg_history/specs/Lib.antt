@@ -1,10 +1,8 @@
 pub mod Fault
-pub mod Arriving
 pub mod Change
 pub mod Answer
 pub mod Steps
 pub mod Undo
-pub mod Absorbed
 pub mod Content
 pub mod ContentLaws
 pub mod JoinedLaws

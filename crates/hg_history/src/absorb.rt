@@ -7,6 +7,7 @@
 //! stands last, so it is cut off; the roots haven't moved yet. Nothing costs more than the part and what it lowers.
 ghost use Rattle.std.specs.Prelude.{Ok, OnOk, OnErr, IfOk, IfErr, IsErrOf, MatchResult, length, take, drop, [], ◌∷◌};
 ghost use Rattle.std.specs.Prelude.{◌++◌, ◌+◌, ◌-◌, ◌≤◌, ◌<◌, ◌⊎◌, List, ◌≡◌};
+ghost use Rattle.std.specs.Cow.{cow_slice_items};
 ghost use Rattle.hg_changeset.specs.declared.node.Node.{Node};
 ghost use Rattle.hg_changeset.specs.Contents.{Contents};
 ghost use Rattle.hg_graph.specs.Graph.{Holds, nodes};
@@ -18,23 +19,23 @@ ghost use Rattle.hg_phases.specs.Log.{IsLog};
 ghost use Rattle.hg_phases.specs.Lowered.{IsAbove};
 ghost use Rattle.hg_phases.specs.RootPlaces.{AreKept};
 ghost use Rattle.hg_history.specs.Answer.{AbsorbAnswer, AreHeldUpTo, IsAbsorbed, IsGrowthBeforeFault, HasHigher};
-ghost use Rattle.hg_history.specs.Answer.{IsRefusal};
-ghost use Rattle.hg_history.specs.Arriving.{arrived, part_with};
+ghost use Rattle.hg_history.specs.Answer.{IsRefusal, part_with};
 ghost use Rattle.hg_history.specs.Change.{IsNothing};
 ghost use Rattle.hg_history.specs.Undo.{LeadsBack};
-ghost use Rattle.hg_history.specs.Absorbed.{without_undo};
+ghost use Rattle.hg_join.specs.Absorbed.{without_undo};
 ghost use Rattle.hg_history.specs.Steps.{AddAllAnswer, IsAnswered, CanTakeBack, OneAdded, IsBoundFault};
 ghost use Rattle.hg_history.specs.Steps.{IsBoundAt, OneLowered, IsLoweredTo};
 
-use crate::arriving::Arriving;
 use crate::change::{AddedNodes, Change};
 use crate::fault::Fault;
-use crate::undo::{Absorbed, Undo};
+use crate::undo::Undo;
 use hg_changeset::{Changeset, Node};
 use hg_graph::{Added, Graph, GraphError};
+use hg_join::Absorbed;
 use hg_phases::{LoweringLog, Phase, PhaseMap, PhaseRoots};
 use smallvec::SmallVec;
 use std::alloc::{AllocError, Global};
+use std::borrow::CowSlice;
 
 /// Takes the part in and gives out what takes it back, or leaves everything as it was.
 #[inline(always)]
@@ -42,9 +43,9 @@ pub(crate) fn absorb_or_undo(
     graph: &mut Graph,
     kept: &mut PhaseRoots,
     alloc: Global,
-    changesets: Arriving<'_>,
+    changesets: CowSlice<'_, Changeset>,
     bounds: &[(Node, Phase)],
-) -> Result<Absorbed, Fault>
+) -> Result<Absorbed<Change, Undo>, Fault>
     requires kept { AreKept graph.old kept.old }
     requires valid { IsValid (kept_state graph.old kept.old.phases) }
     ensures inside { AreKept graph.new kept.new × IsValid (kept_state graph.new kept.new.phases) }
@@ -79,7 +80,7 @@ fn absorb_and_update(
     kept: &mut PhaseRoots,
     log: &mut LoweringLog,
     alloc: Global,
-    changesets: Arriving<'_>,
+    changesets: CowSlice<'_, Changeset>,
     bounds: &[(Node, Phase)],
 ) -> Result<Change, Fault>
     requires kept { AreKept graph.old kept.old }
@@ -131,7 +132,7 @@ fn absorb_logged(
     phases: &mut PhaseMap,
     log: &mut LoweringLog,
     alloc: Global,
-    changesets: Arriving<'_>,
+    changesets: CowSlice<'_, Changeset>,
     bounds: &[(Node, Phase)],
 ) -> Result<Change, Fault>
     requires len { length (phases_at graph.old phases.old) ≡ length graph.old }
@@ -168,16 +169,16 @@ fn absorb_logged(
 fn add_arriving(
     graph: &mut Graph,
     phases: &mut PhaseMap,
-    changesets: Arriving<'_>,
+    changesets: CowSlice<'_, Changeset>,
 ) -> Result<(), Fault>
     requires len { length (phases_at graph.old phases.old) ≡ length graph.old }
     requires valid { IsValid (kept_state graph.old phases.old) }
-    ensures { AddAllAnswer graph.old (phases_at graph.old phases.old) (arrived changesets.entry) result graph.new
+    ensures { AddAllAnswer graph.old (phases_at graph.old phases.old) (cow_slice_items changesets.entry) result graph.new
         (phases_at graph.new phases.new) }
 {
     match changesets {
-        Arriving::Lent(changesets) => add_changesets(graph, phases, changesets),
-        Arriving::Moved(changesets) => add_owned_changesets(graph, phases, changesets),
+        CowSlice::Borrowed(changesets) => add_changesets(graph, phases, changesets),
+        CowSlice::Owned(changesets) => add_owned_changesets(graph, phases, changesets),
     }
 }
 

@@ -4,26 +4,26 @@ ghost use Rattle.std.specs.Prelude.{◌↔◌, ◌⊎◌, OnOk};
 ghost use Rattle.hg_phases.specs.State.{State, Held, changesets, state_of, Holds, IsPhaseOf, IsValid};
 ghost use Rattle.hg_phases.specs.Least.{part_of};
 ghost use Rattle.hg_phases.specs.Order.{Below};
-ghost use Rattle.hg_history.specs.Answer.{AbsorbAnswer, IsGrowthBeforeFault};
+ghost use Rattle.hg_history.specs.Answer.{AbsorbAnswer, IsGrowthBeforeFault, part_with};
 ghost use Rattle.hg_phases.specs.Roots.{AreRoots};
 ghost use Rattle.hg_history.specs.Join.{JoinAnswer};
 ghost use Rattle.hg_history.specs.Open.{OpenAnswer, MayWantMemory};
 ghost use Rattle.hg_history.specs.Undo.{LeadsBack};
-ghost use Rattle.hg_history.specs.Absorbed.{without_undo, join_without_undo};
-ghost use Rattle.hg_history.specs.Arriving.{part_with};
+ghost use Rattle.hg_join.specs.Absorbed.{without_undo, join_without_undo};
 ghost use Rattle.hg_history.specs.Change.{IsNothing};
 
 use crate::absorb::absorb_or_undo;
-use crate::arriving::Arriving;
 use crate::change::Change;
 use crate::fault::Fault;
 use crate::join::{is_below, join_or_undo};
-use crate::undo::{Absorbed, Undo, without_undo};
+use crate::undo::Undo;
 use hg_changeset::{Changeset, Node};
 use hg_graph::Graph;
+use hg_join::Absorbed;
 use hg_node_set::IdKeys;
 use hg_phases::{Phase, PhaseRoots, Roots};
 use std::alloc::{AllocError, Global};
+use std::borrow::CowSlice;
 use std::marker::Model;
 
 /// The history of one repository: its changesets and their phases. No changeset has a lower phase than a parent of it.
@@ -171,7 +171,10 @@ impl History {
         ensures memory { IsErrOf result Fault.NoMemory
             → IsGrowthBeforeFault self.old (record { changesets = changesets.now; bounds = bounds.now }) }
     {
-        without_undo(self.absorb_with_undo(Arriving::Lent(changesets), bounds))
+        match self.absorb_with_undo(CowSlice::Borrowed(changesets), bounds) {
+            Ok(absorbed) => Ok(absorbed.change),
+            Err(fault) => Err(fault),
+        }
     }
 
     /// Takes in changesets and bounds on phases as [`absorb`](History::absorb) does, and gives out what takes them
@@ -179,9 +182,9 @@ impl History {
     #[inline(always)]
     pub fn absorb_with_undo(
         &mut self,
-        changesets: Arriving<'_>,
+        changesets: CowSlice<'_, Changeset>,
         bounds: &[(Node, Phase)],
-    ) -> Result<Absorbed, Fault>
+    ) -> Result<Absorbed<Change, Undo>, Fault>
         ensures answer { AbsorbAnswer self.old (part_with changesets.entry bounds.now) (without_undo result) self.new }
         ensures back { IfOk result (λ absorbed. LeadsBack self.new absorbed.undo self.old) }
         ensures nothing { IfOk result (λ absorbed. IsNothing absorbed.change → self.new ≡ self.old) }

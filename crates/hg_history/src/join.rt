@@ -14,7 +14,7 @@ ghost use Rattle.hg_phases.specs.Least.{IsLeast, part_of};
 ghost use Rattle.hg_phases.specs.Log.{IsLog};
 ghost use Rattle.hg_phases.specs.Order.{Below};
 ghost use Rattle.hg_phases.specs.RootPlaces.{AreKept};
-ghost use Rattle.hg_history.specs.Absorbed.{join_without_undo};
+ghost use Rattle.hg_join.specs.Absorbed.{join_without_undo};
 ghost use Rattle.hg_history.specs.Answer.{AreHeldUpTo, HasHigher, IsGrowthBeforeFault};
 ghost use Rattle.hg_history.specs.Join.{IsJoinFault, JoinAnswer, IsHeldAsLow};
 ghost use Rattle.hg_history.specs.Steps.{AddAllAnswer, CanTakeBack, IsLoweredTo};

@@ -30,7 +30,6 @@
 #![tactic(auto)]
 
 mod absorb;
-mod arriving;
 mod change;
 mod fault;
 mod history;
@@ -38,7 +37,6 @@ mod join;
 mod laws;
 mod undo;
 
-pub use arriving::Arriving;
 pub use change::{AddedNodes, Change};
 pub use fault::Fault;
 pub use hg_changeset::{Changeset, Node};
@@ -49,4 +47,4 @@ pub use laws::{
     absorbed_is_valid_above_and_covers, contents_say_what_histories_say, first_fault_is_one,
     opened_with_its_own_is_the_same,
 };
-pub use undo::{Absorbed, Undo};
+pub use undo::Undo;

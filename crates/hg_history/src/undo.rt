@@ -2,11 +2,7 @@
 //!
 //! What was taken in stands behind what was held before, and has left a log of what it lowered. So an undo is the
 //! number of changesets before, and the log: it takes this back later, as long as nothing else was changed.
-ghost use Rattle.std.specs.Prelude.{IsErrOf, ◌≡◌};
-ghost use Rattle.hg_history.specs.Absorbed.{without_undo};
 
-use crate::change::Change;
-use crate::fault::Fault;
 use hg_phases::LoweringLog;
 use std::marker::Model;
 
@@ -23,22 +19,4 @@ impl Model for Undo {
     ghost Value = { UndoValue };
 
     ghost view = { λ undo. record { before = undo.before; log = undo.log } };
-}
-
-/// What an absorption changed, and what takes it back.
-#[derive(Drop)]
-pub struct Absorbed {
-    pub change: Change,
-    pub undo: Undo,
-}
-
-/// The answer without the undo.
-pub(crate) fn without_undo(answer: Result<Absorbed, Fault>) -> Result<Change, Fault>
-    ensures answer { result ≡ without_undo answer }
-    ensures fault { (fault : Fault) → IsErrOf result fault → IsErrOf answer fault }
-{
-    match answer {
-        Ok(absorbed) => Ok(absorbed.change),
-        Err(fault) => Err(fault),
-    }
 }

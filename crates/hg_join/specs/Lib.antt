@@ -2,3 +2,4 @@ pub mod Order
 pub mod Lows
 pub mod LowLaws
 pub mod Pairs
+pub mod Absorbed

@@ -120,6 +120,7 @@
 //! ```
 #![tactic(auto)]
 
+mod absorbed;
 mod actor;
 mod both;
 mod laws;
@@ -127,6 +128,7 @@ mod low_map;
 mod memory;
 mod state;
 
+pub use absorbed::Absorbed;
 pub use actor::Actor;
 pub use both::{Both, BothFault};
 pub use laws::{

@@ -5,6 +5,7 @@ use Rattle.std.proofs.Common.{arith}
 use Rattle.std.proofs.lemmas.List.{append-nil, flat_map_more, take_more}
 use Rattle.std.proofs.lemmas.List.Concat.{flat_map-append, flat_map-cons}
 use Rattle.std.proofs.lemmas.Bool.{false_from_ne_true}
+use Rattle.std.proofs.Math.Seq.{take-append_seam}
 use Rattle.std.specs.Cmp.{unsigned_Decides}
 use Rattle.std.specs.List.{flat_map, AllByRecursion}
 use Rattle.std.specs.Result.{MatchResult, IfOk, IsErrOf}
@@ -295,6 +296,16 @@ pub written_on : (before : List ℕ) (ms : List Fields) (m : Fields)
     → (before ++ store_spelling ms) ++ spelling m ≡ before ++ store_spelling (ms ++ m ∷ [])
 written_on before ms m = append_assoc before (store_spelling ms) (spelling m)
     ∙ ap (λ (bytes : List ℕ). before ++ 0 ∷ bytes) (flat_map_more spelling [] ms m)
+
+-- the bytes of the first markers are a front of the bytes of all
+pub written_front : (before now : List ℕ) (ms more all : List Fields) → now ≡ before ++ store_spelling ms
+    → ms ++ more ≡ all → (n : ℕ) × (now ≡ before ++ take n (store_spelling all))
+written_front before now ms more all written split =
+    let rest = flat_map spelling more in
+    let bytes : store_spelling all ≡ store_spelling ms ++ rest =
+    ap store_spelling (sym split) ∙ ap (λ (xs : List ℕ). 0 ∷ xs) (flat_map-append spelling ms more) in
+    let n = length (store_spelling ms) in
+    (n, written ∙ ap (λ xs. before ++ xs) (sym (ap (take n) bytes ∙ take-append_seam (store_spelling ms) rest)))
 
 pub length_more : (ms : List Fields) (i : ℕ) (m : Fields) → i < length ms → m ≡ get_or ms i m
     → length (store_spelling (take (i + 1) ms)) ≡ length (store_spelling (take i ms)) + length (spelling m)

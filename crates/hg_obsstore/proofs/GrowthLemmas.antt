@@ -3,7 +3,7 @@ use Rattle.std.proofs.Common.{suc, ◌≡◌, ◌<◌, ◌≤◌, ◌+◌, ◌-�
 use Rattle.std.proofs.Common.{ap, subst, ℕ, List, Bool, true, false, cond, refl, length, get_or, Contains, All}
 use Rattle.std.proofs.Common.{append_assoc}
 use Rattle.std.specs.declared.alloc.AllocError.{AllocError}
-use Rattle.std.specs.Prelude.{Result, Ok, Err, IfOk, OnOk, Option}
+use Rattle.std.specs.Prelude.{Result, Ok, Err, IfOk, Option}
 use Rattle.std.specs.Iterator.{DrainsIf}
 use Rattle.std.proofs.lemmas.Iterator.{YieldsList, items_from_drains}
 use Rattle.std.specs.List.{range_with_len}
@@ -45,13 +45,6 @@ with_starts ms m = elim (holds ms m) as (λ b. StartsWith ms (cond b ms (ms ++ m
 
 pub starts_more : (old mid new : List Fields) → StartsWith old mid → StartsWith mid new → StartsWith old new
 starts_more old mid new h k = (h.0 ++ k.0, k.1 ∙ ap (λ ms. ms ++ k.0) h.1 ∙ append_assoc old h.0 k.0)
-
-pub starts_same : (ms : List Fields) → StartsWith ms ms
-starts_same ms = ([], sym (append-nil ms))
-
--- markers in turn
-pub united_none : (ms : List Fields) → united ms [] ≡ ms
-united_none ms = append-nil ms
 
 pub united_step : (ms : List Fields) (m : Fields) (more : List Fields)
     → united (with_marker ms m) more ≡ united ms (m ∷ more)
@@ -107,16 +100,8 @@ holds_united ms (m ∷ more) k =
     ∙ ap (λ b. b || holds more k) (holds_with ms m k)
     ∙ or_assoc (holds ms k) (same_fields k m) (holds more k)
 
-union_of_united : (ms more all : List Fields) → all ≡ united ms more → IsUnion (holds ms) (holds more) (holds all)
+pub union_of_united : (ms more all : List Fields) → all ≡ united ms more → IsUnion (holds ms) (holds more) (holds all)
 union_of_united ms more all e = ap holds e ∙ (λ i k. holds_united ms more k i)
-
--- what was added is kept where it is answered
-pub union_kept : {A E : Type 0} (r added : Result A E) (ms more mid new : List Fields)
-    → r ≡ added → OnOk added (mid ≡ united ms more) → OnOk r (new ≡ mid)
-    → OnOk r (IsUnion (holds ms) (holds more) (holds new))
-union_kept (Ok x) added ms more mid new same done kept = union_of_united ms more new
-    (kept ∙ subst (λ t. OnOk t (mid ≡ united ms more)) (sym same) done)
-union_kept (Err e) added ms more mid new same done kept = tt
 
 -- each of the first is among the second
 pub below_is_within : (ms other : List Fields) → All (Contains other) ms → IsWithin (holds ms) (holds other)

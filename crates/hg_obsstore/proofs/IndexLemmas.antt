@@ -128,12 +128,6 @@ takes_more ns all node place before mid new below takes here others =
           (node_cases n node);
     }
 
-pub all_taken : (ns : List Node) (place : ℕ) (before now : Lists) → TakesFrom ns before now place ns → (n : Node)
-    → now n ≡ before n
-all_taken ns place before now takes n =
-    ⊎_elim (λ (same : now n ≡ before n). same)
-    (λ (m : Contains ns n × (now n ≡ before n ++ place ∷ [])). takes.done n m.0) (takes.may n)
-
 pub take_one_more : (ns : List Node) (k : ℕ) (node : Node) → k < length ns → node ≡ get_or ns k node
     → take (k + 1) ns ≡ take k ns ++ node ∷ []
 take_one_more ns k node within read = take_more ns k node within ∙ ap (λ x. take k ns ++ x ∷ []) (sym read)
@@ -149,10 +143,6 @@ pub adds_all : (ns : List Node) (k : ℕ) (node : Node) (place : ℕ) (old mid n
 adds_all ns k node place old mid new within read below adds here others =
     subst (λ ms. AddsPlace ms place old new) (sym (take_one_more ns k node within read))
     (adds_more (take k ns) node place old mid new below adds here others)
-
-pub takes_none : (ns : List Node) (place : ℕ) (before old : Lists) → MayAddPlace ns place before old
-    → TakesFrom [] before old place ns
-takes_none ns place before old may = record { done = λ n h. absurd (omega (arith, h.1)); may = may }
 
 pub takes_all : (ns : List Node) (k : ℕ) (node : Node) (place : ℕ) (before mid new : Lists) → k < length ns
     → node ≡ get_or ns k node → AreBelow before place → TakesFrom (take k ns) before mid place ns

@@ -7,6 +7,7 @@ ghost use Rattle.std.specs.Prelude.{◌≡◌, ◌≤◌, ◌++◌, ℕ, List, [
 ghost use Rattle.sha1.specs.Sha1.{Holds};
 ghost use Rattle.hg_obsstore.specs.Digests.{nodes_bytes, texts_bytes, digest_of, few, under};
 ghost use Rattle.hg_obsstore.specs.Digests.{KeepsOtherDigests, stands_among, stands_at};
+ghost use Rattle.hg_obsstore.specs.Index.{without_last};
 
 use crate::places::Places;
 use hg_changeset::Node;
@@ -64,9 +65,11 @@ impl Digests {
         Ok(())
     }
 
-    /// Takes the place of a marker away that was put under its digest.
+    /// Takes the place of a marker away that was put under its digest, where it stands last there.
     pub fn remove(&mut self, marker: &Marker, before: usize, place: usize)
-        ensures { KeepsOtherDigests place self.old self.new }
+        ensures taken { few ≤ before → under self.new (digest_of marker.now)
+            ≡ without_last (under self.old (digest_of marker.now)) place }
+        ensures kept { KeepsOtherDigests place self.old self.new }
     {
         if before >= FEW {
             self.take(digest_of(marker), place);
@@ -99,7 +102,8 @@ impl Digests {
 
     // Takes the place away from the digest, where it stands last. A digest without a place is forgotten.
     fn take(&mut self, digest: Node, place: usize)
-        ensures { KeepsOtherDigests place self.old self.new }
+        ensures taken { under self.new digest ≡ without_last (under self.old digest) place }
+        ensures kept { KeepsOtherDigests place self.old self.new }
     {
         match self.by_digest.get_mut(&digest) {
             Some(places) => {

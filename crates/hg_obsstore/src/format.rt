@@ -3,7 +3,7 @@
 //! A store is a version byte 0 and then its markers, one after the other. Lists of markers with repeats are written and
 //! read in the same way; a store that is read holds each marker once, at its first standing.
 ghost use Rattle.std.specs.Prelude.{◌≡◌, ◌<◌, ◌+◌, ◌-◌, ◌^◌, ◌++◌, ℕ, List, [], length, IfOk, IfSome, OnOk, OnErr};
-ghost use Rattle.std.specs.Prelude.{IsErrOf, MatchResult, Ok, Err, None};
+ghost use Rattle.std.specs.Prelude.{IsErrOf, MatchResult, Ok, Err, None, take};
 ghost use Rattle.hg_marker.specs.declared.error.ReadError.TheVariants.{Fault};
 ghost use Rattle.hg_marker.specs.Fields.{Fields};
 ghost use Rattle.hg_marker.specs.Faults.{marker_at, left};
@@ -43,7 +43,8 @@ pub fn markers_bytes(alloc: Global, markers: &[Marker]) -> Result<Vec<u8>, Alloc
 
 /// Appends the bytes of markers, with their repeats. After an error a front of them may stand there.
 pub fn write_markers(out: &mut Vec<u8>, markers: &[Marker]) -> Result<(), AllocError>
-    ensures { OnOk result (out.new.items ≡ out.old.items ++ store_spelling markers.now) }
+    ensures ok { OnOk result (out.new.items ≡ out.old.items ++ store_spelling markers.now) }
+    ensures err { OnErr result ((n : ℕ) × (out.new.items ≡ out.old.items ++ take n (store_spelling markers.now))) }
 {
     out.push(0)?;
     for marker in markers {
@@ -59,7 +60,9 @@ pub fn write_markers_at(
     store: &Store,
     places: &[usize],
 ) -> Result<(), AllocError>
-    ensures { OnOk result (out.new.items ≡ out.old.items ++ store_spelling (picked store.now places.now)) }
+    ensures ok { OnOk result (out.new.items ≡ out.old.items ++ store_spelling (picked store.now places.now)) }
+    ensures err { OnErr result
+        ((n : ℕ) × (out.new.items ≡ out.old.items ++ take n (store_spelling (picked store.now places.now)))) }
 {
     out.push(0)?;
     for place in places {

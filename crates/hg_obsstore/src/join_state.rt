@@ -12,6 +12,7 @@ ghost use Rattle.hg_obsstore.specs.Sets.{union_swap};
 use crate::store::{NewPlaces, Store};
 use hg_join::{JoinState, NoMemory};
 use hg_marker::Marker;
+use std::borrow::CowSlice;
 
 impl JoinState for Store {
     type Part = Vec<Marker>;
@@ -92,11 +93,11 @@ impl JoinState for Store {
     }
 
     fn absorb(&mut self, part: &Vec<Marker>) -> Result<NewPlaces, NoMemory> {
-        Store::absorb(self, part)
+        Store::absorb(self, CowSlice::Borrowed(part))
     }
 
     fn absorb_owned(&mut self, part: Vec<Marker>) -> Result<NewPlaces, NoMemory> {
-        Store::absorb_owned(self, part)
+        Store::absorb(self, CowSlice::Owned(part))
     }
 
     fn join(&mut self, other: &Store) -> Result<(), NoMemory> {

@@ -5,6 +5,7 @@
 //! that is refused half way is taken back by cutting off what it added.
 ghost use Rattle.std.specs.Prelude.{◌≡◌, ◌≢◌, ◌+◌, ◌<◌, ◌≤◌, ◌↔◌, [], length, take, All, IsTrue, IfOk, OnOk, OnErr};
 ghost use Rattle.std.specs.Prelude.{Contains, slice_get};
+ghost use Rattle.std.specs.Cow.{cow_slice_items};
 ghost use Rattle.std.specs.Option.{option_copied};
 ghost use Rattle.std.specs.List.{IsDistinct};
 ghost use Rattle.hg_changeset.specs.Node.{node_eq};
@@ -27,6 +28,7 @@ use hg_marker::Marker;
 use hg_node_set::{IdKeys, give_back_list};
 use smallvec::SmallVec;
 use std::alloc::{AllocError, Global};
+use std::borrow::CowSlice;
 use std::fmt;
 use std::marker::Model;
 
@@ -292,36 +294,26 @@ impl Store {
         Ok(copy)
     }
 
-    /// Adds copies of the markers that aren't held, each once, in their order, and tells their places, ascending.
-    pub fn absorb(&mut self, part: &[Marker]) -> Result<NewPlaces, NoMemory>
-        ensures ok { OnOk result (self.new ≡ united self.old part.now) }
-        ensures places { IfOk result (λ places. AreNewPlaces self.old self.new places.items) }
-        ensures union { OnOk result (IsUnion (holds self.old) (holds part.now) (holds self.new)) }
-        ensures err { OnErr result (self.new ≡ self.old) }
-
-        // Where nothing is new no memory is taken.
-        ensures memory { OnErr result (new_among self.old part.now ≢ []) }
-    {
-        let before = self.len();
-        let added = self.add_and_tell(part);
-        self.keep_or_undo(before, added)
-    }
-
-    /// Moves in the markers that aren't held, each once, in their order, and tells their places, ascending. The others
-    /// are dropped.
+    /// Takes in the markers that aren't held, each once, in their order, and tells their places, ascending. Lent ones
+    /// are copied; of those that are moved in, the others are dropped.
     #[inline(always)]
-    pub fn absorb_owned(&mut self, part: Vec<Marker>) -> Result<NewPlaces, NoMemory>
-        ensures ok { OnOk result (self.new ≡ united self.old part.items) }
+    pub fn absorb(&mut self, part: CowSlice<'_, Marker>) -> Result<NewPlaces, NoMemory>
+        ensures ok { OnOk result (self.new ≡ united self.old (cow_slice_items part.entry)) }
         ensures places { IfOk result (λ places. AreNewPlaces self.old self.new places.items) }
-        ensures union { OnOk result (IsUnion (holds self.old) (holds part.items) (holds self.new)) }
+        ensures union { OnOk result (IsUnion (holds self.old) (holds (cow_slice_items part.entry)) (holds self.new)) }
         ensures err { OnErr result (self.new ≡ self.old) }
 
         // Where nothing is new no memory is taken.
-        ensures memory { OnErr result (new_among self.old part.items ≢ []) }
+        ensures memory { OnErr result (new_among self.old (cow_slice_items part.entry) ≢ []) }
     {
         let before = self.len();
-        let added = self.add_owned_and_tell(part);
-        self.keep_or_undo(before, added)
+        match self.add_and_tell(part) {
+            Ok(places) => Ok(places),
+            Err(NoMemory) => {
+                self.truncate(before);
+                Err(NoMemory)
+            }
+        }
     }
 
     /// Adds copies of the other's markers that aren't held, in their order.
@@ -333,9 +325,8 @@ impl Store {
         // Where nothing is new no memory is taken.
         ensures memory { OnErr result (new_among self.old other.now ≢ []) }
     {
-        let before = self.len();
-        let added = self.add_copies(other.markers());
-        self.keep_or_undo(before, added)
+        self.absorb(CowSlice::Borrowed(other.markers()))?;
+        Ok(())
     }
 
     /// Whether the other holds each marker of this store. It takes no memory.
@@ -355,57 +346,21 @@ impl Store {
         self.alloc
     }
 
-    // Keeps what was added from a place on or, where memory ran out, forgets it.
+    // Adds the markers that aren't held, and tells their places. After an error some of them stay.
     #[inline(always)]
-    fn keep_or_undo<T: Drop>(
-        &mut self,
-        before: usize,
-        added: Result<T, NoMemory>,
-    ) -> Result<T, NoMemory>
-        ensures same { result ≡ added }
-        ensures ok { OnOk result (self.new ≡ self.old) }
-        ensures err { OnErr result (self.new ≡ take before self.old) }
+    fn add_and_tell(&mut self, part: CowSlice<'_, Marker>) -> Result<NewPlaces, NoMemory>
+        ensures ok { OnOk result (self.new ≡ united self.old (cow_slice_items part.entry)) }
+        ensures places { IfOk result (λ places. AreNewPlaces self.old self.new places.items) }
+        ensures kept { StartsWith self.old self.new }
+        ensures memory { OnErr result (new_among self.old (cow_slice_items part.entry) ≢ []) }
     {
-        if added.is_err() {
-            self.truncate(before);
+        let before = self.len();
+        match part {
+            CowSlice::Borrowed(markers) => self.add_copies(markers)?,
+            CowSlice::Owned(markers) => self.add_owned(markers)?,
         }
-        added
-    }
-
-    // Adds copies of the markers that aren't held, and tells their places. After an error some of them stay.
-    fn add_and_tell(&mut self, part: &[Marker]) -> Result<NewPlaces, NoMemory>
-        ensures ok { OnOk result (self.new ≡ united self.old part.now) }
-        ensures places { IfOk result (λ places. AreNewPlaces self.old self.new places.items) }
-        ensures kept { StartsWith self.old self.new }
-        ensures memory { OnErr result (new_among self.old part.now ≢ []) }
-    {
-        let before = self.len();
-        self.add_copies(part)?;
-        let places = self.places_from(before)?;
+        let places = places_between(self.allocator(), before, self.len())?;
         Ok(places)
-    }
-
-    // Moves in the markers that aren't held, and tells their places. After an error some of them stay.
-    #[inline(always)]
-    fn add_owned_and_tell(&mut self, part: Vec<Marker>) -> Result<NewPlaces, NoMemory>
-        ensures ok { OnOk result (self.new ≡ united self.old part.items) }
-        ensures places { IfOk result (λ places. AreNewPlaces self.old self.new places.items) }
-        ensures kept { StartsWith self.old self.new }
-        ensures memory { OnErr result (new_among self.old part.items ≢ []) }
-    {
-        let before = self.len();
-        self.add_owned(part)?;
-        let places = self.places_from(before)?;
-        Ok(places)
-    }
-
-    // The places from one on. No memory is taken where there is none.
-    #[inline(always)]
-    fn places_from(&self, start: usize) -> Result<NewPlaces, AllocError>
-        ensures places { IfOk result (λ places. ListsAll (λ i. (start ≤ i) × (i < length self.now)) places.items) }
-        ensures memory { OnErr result (start < length self.now) }
-    {
-        places_between(self.alloc, start, self.len())
     }
 
     // Moves in the markers that aren't held. After an error some of them stay.

@@ -64,15 +64,6 @@ finds-nothing P s never = record {
   marks = refl;
 }
 
-pub finds-known : (place : ℕ) (s : Search) → IsFound s place → Finds (λ i. place ≡ i) s s
-finds-known place s known = record {
-  found = λ i. (λ h. inl h, λ h. elim h [ inl old ↦ old | inr e ↦ subst (IsFound s) e known ]);
-  kept = ([], sym (append-nil s.queue.items));
-  queued = λ q. q;
-  expanded = refl;
-  marks = refl;
-}
-
 pub finds-same : (P Q : ℕ → Type 0) (s t : Search) → ((i : ℕ) → Q i ↔ P i) → Finds P s t → Finds Q s t
 finds-same P Q s t same v = record {
   found = λ i. (

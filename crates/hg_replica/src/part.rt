@@ -1,5 +1,6 @@
 //! What a replica takes in, and what that changes.
 ghost use Rattle.std.specs.Prelude.{IsTrue, ◌≡◌, ◌↔◌};
+ghost use Rattle.std.specs.Cow.{cow_slice_items, cow_value};
 ghost use Rattle.hg_replica.specs.Change.{IsNothing};
 
 use hg_changeset::{Changeset, Node};
@@ -8,6 +9,7 @@ use hg_marker::Marker;
 use hg_obsstore::NewPlaces;
 use hg_phases::Phase;
 use smallvec::SmallVec;
+use std::borrow::{Cow, CowSlice};
 use std::marker::Model;
 use std::mem;
 
@@ -60,6 +62,28 @@ impl Part {
         let changesets = mem::replace(&mut self.changesets, Vec::new(alloc));
         let markers = mem::replace(&mut self.markers, Vec::new(alloc));
         (changesets, markers)
+    }
+}
+
+// Takes the changesets and the markers of a part out, which is lent or moved in, and leaves its bounds.
+#[inline(always)]
+pub(crate) fn take_lists<'a>(
+    part: &mut Cow<'a, Part>,
+) -> (CowSlice<'a, Changeset>, CowSlice<'a, Marker>)
+    ensures changesets { cow_slice_items result.0 ≡ (cow_value part.old).history.changesets }
+    ensures markers { cow_slice_items result.1 ≡ (cow_value part.old).markers }
+    ensures bounds { (cow_value part.new).history.bounds ≡ (cow_value part.old).history.bounds }
+{
+    match part {
+        Cow::Borrowed(part) => {
+            let part: &'a Part = *part;
+            let changesets = CowSlice::Borrowed(&part.changesets);
+            (changesets, CowSlice::Borrowed(&part.markers))
+        }
+        Cow::Owned(part) => {
+            let (changesets, markers) = part.take_lists();
+            (CowSlice::Owned(changesets), CowSlice::Owned(markers))
+        }
     }
 }
 

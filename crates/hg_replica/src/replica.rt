@@ -4,28 +4,29 @@
 //! refuses. So a refusal costs what was taken in, and never a copy.
 ghost use Rattle.std.specs.Prelude.{IfOk, IsErrOf, IsOkAnd, MatchOption, IsTrue, Some, [], length, slice_get, ◌≡◌, ◌≤◌};
 ghost use Rattle.std.specs.Prelude.{◌↔◌, ◌⊎◌, OnOk};
+ghost use Rattle.std.specs.Cow.{cow_value};
+ghost use Rattle.hg_join.specs.Absorbed.{without_undo, join_without_undo};
 ghost use Rattle.hg_phases.specs.State.{Held, changesets, state_of, Holds, IsPhaseOf};
 ghost use Rattle.hg_phases.specs.Roots.{AreRoots};
 ghost use Rattle.hg_obsstore.specs.Markers.{AreApart};
-ghost use Rattle.hg_history.specs.Absorbed.{without_undo as history_without_undo};
 ghost use Rattle.hg_history.specs.Open.{MayWantMemory};
 ghost use Rattle.hg_replica.specs.State.{ReplicaState, IsValid, Below};
 ghost use Rattle.hg_replica.specs.Least.{part_of};
 ghost use Rattle.hg_replica.specs.Answer.{AbsorbAnswer, KeepAnswer, IsGrowthBeforeFault, JoinAnswer, OpenAnswer};
-ghost use Rattle.hg_replica.specs.Absorbed.{without_undo, join_without_undo, KeepsUndo};
 ghost use Rattle.hg_replica.specs.Change.{IsNothing};
 ghost use Rattle.hg_replica.specs.Undo.{LeadsBack};
 
-use crate::part::{Change, Part};
-use crate::undo::{Absorbed, Undo, without_undo};
+use crate::part::{Change, Part, take_lists};
+use crate::undo::Undo;
 use hg_changeset::{Changeset, Node};
 use hg_graph::Graph;
-use hg_history::{Arriving, Fault, History};
-use hg_join::NoMemory;
+use hg_history::{Fault, History};
+use hg_join::{Absorbed, NoMemory};
 use hg_node_set::IdKeys;
 use hg_obsstore::{NewPlaces, Store};
 use hg_phases::{Phase, Roots};
 use std::alloc::{AllocError, Global};
+use std::borrow::Cow;
 use std::marker::Model;
 
 /// A replica of one repository: its changesets, their phases, and its markers. No changeset has a lower phase than a
@@ -171,7 +172,10 @@ impl Replica {
         ensures valid { IsValid self.old }
         ensures still_valid { IsValid self.new }
     {
-        without_undo(self.absorb_with_undo(part))
+        match self.absorb_with_undo(Cow::Borrowed(part)) {
+            Ok(absorbed) => Ok(absorbed.change),
+            Err(fault) => Err(fault),
+        }
     }
 
     /// Takes in a part as [`absorb`](Replica::absorb) does, but moves the changesets and the markers that aren't held
@@ -182,48 +186,32 @@ impl Replica {
         ensures valid { IsValid self.old }
         ensures still_valid { IsValid self.new }
     {
-        without_undo(self.absorb_owned_with_undo(part))
+        match self.absorb_with_undo(Cow::Owned(part)) {
+            Ok(absorbed) => Ok(absorbed.change),
+            Err(fault) => Err(fault),
+        }
     }
 
-    /// Takes in a part as [`absorb`](Replica::absorb) does, and gives out what takes that back.
-    pub fn absorb_with_undo(&mut self, part: &Part) -> Result<Absorbed, Fault>
-        ensures answer { AbsorbAnswer self.old part.now (without_undo result) self.new }
-        ensures back { IfOk result (λ absorbed. LeadsBack self.new absorbed.undo self.old) }
-        ensures nothing { IfOk result (λ absorbed. IsNothing absorbed.change → self.new ≡ self.old) }
-        ensures growth { IfOk result (λ absorbed. IsNothing absorbed.change ⊎ IsGrowthBeforeFault self.old part.now) }
-        ensures memory { IsErrOf result Fault.NoMemory → IsGrowthBeforeFault self.old part.now }
-        ensures valid { IsValid self.old }
-        ensures still_valid { IsValid self.new }
-    {
-        let before = self.store.len();
-        let markers = match self.store.absorb(&part.markers) {
-            Ok(markers) => markers,
-            Err(NoMemory) => return Err(Fault::NoMemory),
-        };
-        let changesets = Arriving::Lent(&part.changesets);
-        let absorbed = self.history.absorb_with_undo(changesets, &part.bounds);
-        keep_or_forget(&mut self.store, before, markers, absorbed)
-    }
-
-    /// Takes in a part as [`absorb_owned`](Replica::absorb_owned) does, and gives out what takes that back.
+    /// Takes in a part, which is lent or moved in, as [`absorb`](Replica::absorb) and
+    /// [`absorb_owned`](Replica::absorb_owned) do, and gives out what takes that back.
     #[inline(always)]
-    pub fn absorb_owned_with_undo(&mut self, part: Part) -> Result<Absorbed, Fault>
-        ensures answer { AbsorbAnswer self.old part (without_undo result) self.new }
+    pub fn absorb_with_undo(&mut self, part: Cow<'_, Part>) -> Result<Absorbed<Change, Undo>, Fault>
+        ensures answer { AbsorbAnswer self.old (cow_value part.entry) (without_undo result) self.new }
         ensures back { IfOk result (λ absorbed. LeadsBack self.new absorbed.undo self.old) }
         ensures nothing { IfOk result (λ absorbed. IsNothing absorbed.change → self.new ≡ self.old) }
-        ensures growth { IfOk result (λ absorbed. IsNothing absorbed.change ⊎ IsGrowthBeforeFault self.old part) }
-        ensures memory { IsErrOf result Fault.NoMemory → IsGrowthBeforeFault self.old part }
+        ensures growth { IfOk result (λ absorbed. IsNothing absorbed.change
+            ⊎ IsGrowthBeforeFault self.old (cow_value part.entry)) }
+        ensures memory { IsErrOf result Fault.NoMemory → IsGrowthBeforeFault self.old (cow_value part.entry) }
         ensures valid { IsValid self.old }
         ensures still_valid { IsValid self.new }
     {
         let mut part = part;
-        let (changesets, markers) = part.take_lists();
+        let (changesets, markers) = take_lists(&mut part);
         let before = self.store.len();
-        let markers = match self.store.absorb_owned(markers) {
+        let markers = match self.store.absorb(markers) {
             Ok(markers) => markers,
             Err(NoMemory) => return Err(Fault::NoMemory),
         };
-        let changesets = Arriving::Moved(changesets);
         let absorbed = self.history.absorb_with_undo(changesets, &part.bounds);
         keep_or_forget(&mut self.store, before, markers, absorbed)
     }
@@ -305,27 +293,22 @@ fn keep_or_forget(
     store: &mut Store,
     before: usize,
     markers: NewPlaces,
-    absorbed: Result<hg_history::Absorbed, Fault>,
-) -> Result<Absorbed, Fault>
-    ensures answer { KeepAnswer before markers.items (history_without_undo absorbed) store.old (without_undo result)
-        store.new }
-    ensures undo { KeepsUndo before absorbed result }
+    absorbed: Result<Absorbed<hg_history::Change, hg_history::Undo>, Fault>,
+) -> Result<Absorbed<Change, Undo>, Fault>
+    ensures { KeepAnswer before markers.items absorbed store.old result store.new }
 {
     match absorbed {
-        Ok(absorbed) => {
-            let hg_history::Absorbed { change, undo } = absorbed;
-            Ok(Absorbed {
-                change: Change {
-                    added: change.added,
-                    lowered: change.lowered,
-                    markers,
-                },
-                undo: Undo {
-                    history: undo,
-                    markers: before,
-                },
-            })
-        }
+        Ok(Absorbed { change, undo }) => Ok(Absorbed {
+            change: Change {
+                added: change.added,
+                lowered: change.lowered,
+                markers,
+            },
+            undo: Undo {
+                history: undo,
+                markers: before,
+            },
+        }),
         Err(fault) => {
             store.truncate(before);
             Err(fault)

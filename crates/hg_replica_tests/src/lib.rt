@@ -3,6 +3,8 @@
 #![tactic(auto)]
 
 #[cfg(test)]
+mod halves;
+#[cfg(test)]
 mod instabilities;
 #[cfg(test)]
 mod parts;

@@ -6,6 +6,7 @@ use hg_obsstore::Store;
 use hg_phases::{Phase, Roots};
 use hg_replica::{Fault, Part, Replica};
 use std::alloc::Global;
+use std::borrow::Cow;
 
 // The part of a root and two children of it, all secret.
 fn fork(alloc: Global) -> Option<(Part, [Node; 3])> {
@@ -37,7 +38,7 @@ fn are_equal(one: &Replica, other: &Replica) -> bool {
 
 // Whether the part was absorbed and taken back.
 fn is_taken_back(replica: &mut Replica, part: &Part) -> bool {
-    match replica.absorb_with_undo(part) {
+    match replica.absorb_with_undo(Cow::Borrowed(part)) {
         Ok(absorbed) => {
             replica.take_back(absorbed.undo);
             true

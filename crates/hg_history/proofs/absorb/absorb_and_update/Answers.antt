@@ -1,7 +1,7 @@
 use Rattle.std.proofs.Common.{length, take, sym, subst}
 use Rattle.hg_phases.specs.Log.{restored}
 use Rattle.hg_phases.specs.RootPlaces.{AreRootPlaces}
-use Rattle.hg_history.specs.Arriving.{part_with}
+use Rattle.hg_history.specs.Answer.{part_with}
 use Rattle.hg_history.proofs.NothingLemmas.{nothing_or_growth}
 use Rattle.hg_history.proofs.absorb.absorb_and_update.Goals as goal
 

@@ -4,7 +4,7 @@ use Rattle.hg_phases.specs.State.{IsValid, state_of}
 use Rattle.hg_phases.specs.Log.{restored}
 use Rattle.hg_phases.specs.RootPlaces.{AreRootPlaces}
 use Rattle.hg_phases.proofs.LawLemmas.{least-valid}
-use Rattle.hg_history.specs.Arriving.{part_with}
+use Rattle.hg_history.specs.Answer.{part_with}
 use Rattle.hg_history.proofs.AbsorbLemmas.{refusal_at_state}
 use Rattle.hg_history.proofs.UndoLemmas.{leads_back}
 use Rattle.hg_history.proofs.absorb.absorb_or_undo.Goals as goal

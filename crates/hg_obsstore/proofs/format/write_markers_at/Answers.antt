@@ -1,10 +1,13 @@
-use Rattle.std.proofs.Common.{◌++◌, ℕ, List, take, sym, ap, ◌∙◌}
+use Rattle.std.proofs.Common.{◌++◌, ℕ, List, take, drop, slice_get, sym, ap, ◌∙◌}
+use Rattle.std.proofs.lemmas.List.{take-append-drop}
+use Rattle.std.proofs.lemmas.List.Elements.{filter_map-append}
 use Rattle.std.specs.Option.{option_copied}
+use Rattle.hg_changeset.proofs.ListLemmas.{on_err_anyway}
 use Rattle.hg_marker.specs.Fields.{Fields}
 use Rattle.hg_marker.specs.Grammar.{spelling}
 use Rattle.hg_obsstore.specs.Places.{picked}
 use Rattle.hg_obsstore.specs.Spelling.{store_spelling}
-use Rattle.hg_obsstore.proofs.FormatLemmas.{written_on}
+use Rattle.hg_obsstore.proofs.FormatLemmas.{written_front, written_on}
 use Rattle.hg_obsstore.proofs.PlaceLemmas.{picked-some, picked-none}
 use Rattle.hg_obsstore.proofs.format.write_markers_at.Goals as goal
 use Rattle.hg_obsstore.proofs.format.write_markers_at.Goals.{in-Some+in_ok-write_marker-in-Some, in-None}
@@ -29,3 +32,15 @@ loop-place-preserved c =
           ∙ ap onto (sym
           (picked-none ms places i c.loop-place-test.true (sym c.get.ensures ∙ ap option_copied w.in-None.is)))
     ]
+
+pub returns-in_err-write_marker-in-Some-clause-err : goal.returns-in_err-write_marker-in-Some-clause-err
+returns-in_err-write_marker-in-Some-clause-err c =
+    let ms = c.args.store.now in
+    let places = c.args.places.now in
+    let i = c.loop-place.place-index in
+    on_err_anyway c.from_residual-in_err-write_marker-in-Some.result _
+    (written_front c.args.out.now.items c.write_marker.new.out.items (picked ms (take i places))
+    (picked ms (drop i places)) (picked ms places)
+    (c.in_err-write_marker-in-Some.ensures.unchanged ∙ c.loop-place.invariant)
+    (sym (filter_map-append (slice_get ms) (take i places) (drop i places))
+    ∙ ap (picked ms) (take-append-drop i places)))

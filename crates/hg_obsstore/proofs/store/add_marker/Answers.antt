@@ -13,4 +13,4 @@ returns-in-Ok-clause-digest c = λ d.
 
 pub returns-in-Err-clause-kept : goal.returns-in-Err-clause-kept
 returns-in-Err-clause-kept c = λ n i other there.
-    c.remove.ensures n i other (c.in_ok-add.ensures.kept n i other there)
+    c.remove.ensures.kept n i other (c.in_ok-add.ensures.kept n i other there)

@@ -1,13 +1,14 @@
-use Rattle.std.proofs.Common.{◌≡◌, ◌∙◌, ap, sym, subst, is_some, true, Contains, Some, None, arith, length}
-use Rattle.std.specs.BTreeMap.{get_by}
+use Rattle.std.proofs.Common.{◌≡◌, ◌∙◌, [], ap, sym, subst, is_some, true, Contains, Some, None, arith, length}
+use Rattle.std.specs.BTreeMap.{get, get_by}
 use Rattle.std.specs.Cmp.{unsigned_Decides}
 use Rattle.hg_changeset.specs.Node.{node_cmp}
-use Rattle.hg_obsstore.specs.Digests.{found_places}
+use Rattle.hg_obsstore.specs.Digests.{found_places, under}
+use Rattle.hg_obsstore.specs.Index.{without_last}
 use Rattle.hg_obsstore.proofs.DigestLemmas.{keeps, without_last_keeps}
 use Rattle.hg_obsstore.proofs.digests.Digests.take.Goals as goal
 
-pub returns-then-is_empty : goal.returns-then-is_empty
-returns-then-is_empty c =
+pub returns-then-is_empty-clause-kept : goal.returns-then-is_empty-clause-kept
+returns-then-is_empty-clause-kept c =
     let found : is_some (get_by (node_cmp c.args.digest) c.args.self.now.by_digest) ≡ true =
     ap is_some (sym c.in-Some.ensures.value) in
     let h = (c.get_mut.follows.holds c.take_last.new.self).3 found in
@@ -22,8 +23,8 @@ returns-then-is_empty c =
     (subst (λ o. Contains (found_places o) i) (sym c.in-Some.ensures.value) there)) in
     absurd (omega (arith, kept.1, none)))
 
-pub returns-else-is_empty : goal.returns-else-is_empty
-returns-else-is_empty c =
+pub returns-else-is_empty-clause-kept : goal.returns-else-is_empty-clause-kept
+returns-else-is_empty-clause-kept c =
     let found : is_some (get_by (node_cmp c.args.digest) c.args.self.now.by_digest) ≡ true =
     ap is_some (sym c.in-Some.ensures.value) in
     let h = (c.get_mut.follows.holds c.take_last.new.self).3 found in
@@ -32,3 +33,10 @@ returns-else-is_empty c =
     (λ i other there. subst (λ ps. Contains ps i) (sym c.take_last.ensures)
     (without_last_keeps _ c.args.place i other
     (subst (λ o. Contains (found_places o) i) (sym c.in-Some.ensures.value) there)))
+
+pub returns-in-None-clause-taken : goal.returns-in-None-clause-taken
+unfolding without_last
+returns-in-None-clause-taken c =
+    let none : under c.args.self.now c.args.digest ≡ [] = ap found_places (sym c.in-None.ensures.value) in
+    ap (λ m. found_places (get node_cmp m c.args.digest)) c.get_mut.follows.holds-at-none ∙ none
+    ∙ ap (λ ps. without_last ps c.args.place) (sym none)

@@ -1,7 +1,7 @@
-use Rattle.hg_obsstore.proofs.GrowthLemmas.{union_kept}
+use Rattle.std.specs.Cow.{cow_slice_items}
+use Rattle.hg_obsstore.proofs.GrowthLemmas.{union_of_united}
 use Rattle.hg_obsstore.proofs.store.Store.absorb.Goals as goal
 
-pub returns-clause-union : goal.returns-clause-union
-returns-clause-union c = union_kept c.keep_or_undo.result c.add_and_tell-added.result c.args.self.now c.args.part.now
-    c.add_and_tell-added.new.self c.keep_or_undo.new.self c.keep_or_undo.ensures.same c.add_and_tell-added.ensures.ok
-    c.keep_or_undo.ensures.ok
+pub returns-in-Ok-clause-union : goal.returns-in-Ok-clause-union
+returns-in-Ok-clause-union c =
+    union_of_united c.args.self.now (cow_slice_items c.args.part) c.add_and_tell.new.self c.in-Ok.ensures.ok

@@ -4,5 +4,7 @@ use Rattle.hg_obsstore.proofs.store.Store.add_and_tell.Goals as goal
 
 pub returns-clause-places : goal.returns-clause-places
 returns-clause-places c =
-    subst (λ a. ListsAll (λ i. (a ≤ i) × (i < length c.add_copies.new.self)) c.in_ok-places.places.items)
-    c.len-before.ensures c.in_ok-places.ensures.places
+    let places = c.in_ok-places.places.items in
+    subst (λ b. ListsAll (λ i. (length c.args.self.now ≤ i) × (i < b)) places) c.len.ensures
+    (subst (λ a. ListsAll (λ i. (a ≤ i) × (i < c.len.result)) places) c.len-before.ensures
+    c.in_ok-places.ensures.places)

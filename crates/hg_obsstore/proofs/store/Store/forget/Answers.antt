@@ -23,5 +23,5 @@ invariant_of-self c =
       subst (All IsMarker) cut (All-take IsMarker c.args.place xs c.self.invariant.2),
       subst (λ (ys : List Fields). AreDigested ys c.remove.new.self c.remove-2.new.self) cut
           (digested_forget xs x c.args.place c.self.inside.index c.remove.new.self c.self.inside.digests
-          c.remove-2.new.self at read c.self.invariant.1 c.remove.ensures c.self.invariant.3 c.remove-2.ensures),
+          c.remove-2.new.self at read c.self.invariant.1 c.remove.ensures c.self.invariant.3 c.remove-2.ensures.kept),
     )

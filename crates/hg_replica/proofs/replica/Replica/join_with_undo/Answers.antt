@@ -8,7 +8,7 @@ use Rattle.hg_obsstore.specs.Growth.{new_among}
 use Rattle.hg_replica.specs.State.{ReplicaState}
 use Rattle.hg_replica.specs.Answer.{IsJoin, IsGrowthBeforeFault, JoinAnswer}
 use Rattle.hg_replica.specs.Least.{part_of}
-use Rattle.hg_replica.proofs.NothingLemmas.{join_grown}
+use Rattle.hg_replica.proofs.TakenLemmas.{join_grown}
 use Rattle.hg_replica.proofs.ReplicaLemmas.{joined}
 use Rattle.hg_replica.proofs.replica.Replica.join_with_undo.Goals as goal
 
