@@ -182,9 +182,6 @@ module _ (s t : ReplicaState) (change : ChangeValue) (near : List Node) (amend :
   fresh-is : (m : Fields) → IsFresh t.markers change m → m ≡ Fresh
   fresh-is = single.fresh-is s t change v is Fresh plain.0.only
 
-  fresh-stands : IsAt (λ m. m.predecessor ≡ amend.from) t.markers place
-  fresh-stands = (Fresh, plain.0.only.2, plain.0.predecessor)
-
   not_rewritten : ¬ (IsPredecessor Before amend.from)
   not_rewritten = subst (λ n. ¬ (IsPredecessor Before n)) plain.0.predecessor
       (single.not_rewritten-before s t change v is Fresh plain.0.only

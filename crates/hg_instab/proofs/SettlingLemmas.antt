@@ -4,7 +4,7 @@ use Rattle.std.proofs.Common.{Option, Some, None, MatchOption, slice_get, Contai
 use Rattle.std.proofs.Common.{subst, ◌∙◌, arith}
 use Rattle.std.proofs.lemmas.Bool.{cases_order}
 use Rattle.std.proofs.lemmas.List.Elements.{Contains-get_or}
-use Rattle.std.proofs.lemmas.Option.{same_Some, none-some, get_or_from_slice_get, slice_get_within}
+use Rattle.std.proofs.lemmas.Option.{same_Some, get_or_from_slice_get, slice_get_within}
 use mathlib.Core.Bool.{beq}
 use Rattle.hg_changeset.specs.declared.node.Node.{Node}
 use Rattle.hg_changeset.specs.Contents.{Contents}
@@ -12,6 +12,7 @@ use Rattle.hg_changeset.specs.Changeset.{node_of}
 use Rattle.hg_changeset.proofs.ListLemmas.{Contains-none}
 use Rattle.hg_graph.specs.Graph.{nodes, Holds, IsParent, IsGraph}
 use Rattle.hg_graph.specs.Places.{IsAt, IsParentPlace}
+use Rattle.hg_graph.specs.Waiting.{Widens, IsOneOf}
 use Rattle.hg_graph.proofs.GraphLemmas.{Contains-from_place, place_from_Contains}
 use Rattle.hg_graph.proofs.PlaceLemmas.{same_place, IsAt-from, place_from_Holds, parent_first}
 use Rattle.hg_phases.specs.State.{changesets}
@@ -26,7 +27,7 @@ use Rattle.hg_instab.specs.declared.waiting.Beside.{Beside}
 use Rattle.hg_instab.specs.declared.waiting.Beside.TheVariants.{Children, Parents}
 use Rattle.hg_instab.specs.Changed.{IsNow}
 use Rattle.hg_instab.specs.Local.{IsParentOf, StandsUnstably, HoldsNothing}
-use Rattle.hg_instab.specs.Settling.{IsTurned, Widens, IsBeside, IsSoAt, IsAtEach, IsTold, beside_of, IsLater, IsOneOf}
+use Rattle.hg_instab.specs.Settling.{IsTurned, IsBeside, IsSoAt, IsAtEach, IsTold, beside_of, IsLater}
 use Rattle.hg_instab.specs.Settling.{IsSettling, SettlesAt}
 use Rattle.hg_instab.proofs.TurnedLemmas.{now-alike, now-none, now-turned, others-alike}
 use Rattle.hg_instab.proofs.WaitingLemmas.{beside-within}
@@ -191,14 +192,6 @@ beq-apart false false e = absurd (true≢false e)
 
 module _ (cs : List Contents) (beside : Beside) (Told : (Node → Type 0) → Node → Type 0) (set : List Node) (place : ℕ)
     (turned : List Node) (waiting : List ℕ) where
-  -- nothing stands there
-  pub settles-nowhere : slice_get (nodes cs) place ≡ None
-      → SettlesAt cs beside Told set place turned waiting turned waiting
-  settles-nowhere out = record {
-    here = λ n at. absurd (none-some n (sym out ∙ at));
-    spread = inl (refl, refl);
-  }
-
   module _ (node : Node) (at : IsAt cs node place) (is has : Bool) (tells : IsTrue is ↔ Told (IsNow set turned) node)
       (told : IsTrue has ↔ IsNow set turned node) where
     -- it is so already
@@ -268,12 +261,16 @@ module _ (cs : List Contents) (Told : (Node → Type 0) → Node → Type 0) (se
       both : (m : Node) → Contains set m ↔ IsNow set turned m
       both m = let x = now-none set turned m (clear m) in (x.1, x.0)
 
-  pub settling-end : (turned : List Node) (waiting : List ℕ) → waiting ≡ []
+  pub settling-end : (turned : List Node) (waiting : List ℕ) → ((k : ℕ) → ¬ (Contains waiting k))
       → IsSettling cs Told set starts turned waiting → IsSettling cs Told set starts turned []
-  settling-end turned waiting empty w = subst (IsSettling cs Told set starts turned) empty w
+  settling-end turned waiting none w = record {
+    within = λ k h. absurd (Contains-none k h);
+    held = w.held;
+    told = λ begun n k at free. w.told begun n k at (none k);
+  }
 
   module _ (beside : Beside) (graph : IsGraph cs) (by : GoesBy cs beside Told) (turned : List Node)
-      (waiting rest : List ℕ) (place : ℕ) (one : IsOneOf place rest waiting)
+      (waiting rest : List ℕ) (place : ℕ) (one : IsOneOf (Contains waiting) place rest)
       (w : IsSettling cs Told set starts turned waiting) (turned_now : List Node) (waiting_now : List ℕ)
       (settles : SettlesAt cs beside Told set place turned rest turned_now waiting_now) where
     -- what waits now did already, or is so beside

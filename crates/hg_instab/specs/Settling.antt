@@ -1,9 +1,10 @@
 -- Walks that ask at places, one after the other, until none waits.
-use Rattle.std.specs.Prelude.{◌≡◌, ◌≢◌, ◌↔◌, ◌⊎◌, ◌<◌, ℕ, List, length, Contains}
+use Rattle.std.specs.Prelude.{◌≡◌, ◌≢◌, ◌↔◌, ◌⊎◌, ◌<◌, ℕ, List, length, Option, MatchOption, Contains}
 use Rattle.hg_changeset.specs.declared.node.Node.{Node}
 use Rattle.hg_changeset.specs.Contents.{Contents}
 use Rattle.hg_graph.specs.Graph.{Holds}
 use Rattle.hg_graph.specs.Places.{IsAt, IsParentPlace}
+use Rattle.hg_graph.specs.Waiting.{Widens, IsOneOf}
 use Rattle.hg_replica.specs.Content.{Content}
 use Rattle.hg_instab.specs.declared.settling.Kind.{Kind}
 use Rattle.hg_instab.specs.declared.settling.Kind.TheVariants.{Orphan, Extinct}
@@ -16,10 +17,6 @@ use Rattle.hg_instab.specs.Local.{StandsUnstably, HoldsNothing}
 abbrev pub IsTurned : Node → List Node → List Node → Type 0
 IsTurned node old new = (n : Node)
     → Contains new n ↔ ((Contains old n × (n ≢ node)) ⊎ (¬ (Contains old n) × (n ≡ node)))
-
--- what was there, and what is so
-abbrev pub Widens : (ℕ → Type 0) → List ℕ → List ℕ → Type 0
-Widens P old new = (k : ℕ) → Contains new k ↔ (Contains old k ⊎ P k)
 
 -- the place k is j, or that of a child of what stands at j, or of a parent
 abbrev pub IsBeside : Beside → List Contents → ℕ → ℕ → Type 0
@@ -52,13 +49,11 @@ abbrev pub IsLater : Kind → ℕ → ℕ → Type 0
 IsLater Orphan j k = j < k
 IsLater Extinct j k = k < j
 
--- the places are one and the rest
-abbrev pub IsOneOf : ℕ → List ℕ → List ℕ → Type 0
-IsOneOf place rest waiting = (k : ℕ) → Contains waiting k ↔ ((place ≡ k) ⊎ Contains rest k)
-
--- of what waits one is taken, and the rest comes later
-abbrev pub TakesNext : Kind → ℕ → List ℕ → List ℕ → Type 0
-TakesNext kind place waiting rest = IsOneOf place rest waiting × ((k : ℕ) → Contains rest k → IsLater kind place k)
+-- of what waits one is taken, if any waits, and the rest comes later
+abbrev pub TakesNext : Kind → List ℕ → List ℕ → Option ℕ → Type 0
+TakesNext kind waiting rest taken = MatchOption taken
+    ((k : ℕ) → ¬ (Contains waiting k))
+    (λ place. IsOneOf (Contains waiting) place rest × ((k : ℕ) → Contains rest k → IsLater kind place k))
 
 -- ---- the walk
 

@@ -5,8 +5,8 @@ use Rattle.hg_changeset.specs.declared.node.Node.{Node}
 use Rattle.hg_changeset.specs.Node.{node_cmp}
 use Rattle.hg_instab.specs.declared.turn.Turn.{Turn}
 use Rattle.hg_instab.specs.declared.turns.Turns.{Turns}
-use Rattle.hg_instab.specs.declared.turns.Turning.{Turning}
-use Rattle.hg_instab.specs.declared.turns.Turning.TheVariants.{Nothing, NewlyExtinct, All}
+use Rattle.hg_instab.specs.declared.quick.Turning.{Turning}
+use Rattle.hg_instab.specs.declared.quick.Turning.TheVariants.{Nothing, NewlyExtinct}
 use Rattle.hg_replica.specs.Content.{Content}
 use Rattle.hg_replica.specs.Evolution.{IsObsolete, IsOrphan, IsSuspended, IsExtinct, IsPhaseDivergent}
 use Rattle.hg_instab.specs.Instabilities.{InstabilitySets, AreInstabilities, IsContentDivergent}
@@ -120,15 +120,8 @@ pub record GainsExtinct (before : InstabilitySets) (P : Node → Type 0) (after 
   pub after_public : after.after_public ≡ before.after_public
   pub near_forks : after.near_forks ≡ before.near_forks
 
--- the turns of the sets that it tells are turns of these
-abbrev pub MayTurn : InstabilitySets → Turning → Type 0
-MayTurn sets Nothing = Unit {0}
-MayTurn sets (NewlyExtinct node) = Unit {0}
-MayTurn sets (All turns) = AreTurns sets turns
-
 -- what it leaves of the sets is what those of g are to have
 abbrev pub IsTold : Content → InstabilitySets → Turning → Type 0
 IsTold g sets Nothing = AreInstabilities g sets
 IsTold g sets (NewlyExtinct node) = (after : InstabilitySets) → GainsExtinct sets (λ n. n ≡ node) after
     → AreInstabilities g after
-IsTold g sets (All turns) = AreTold g sets turns

@@ -2,7 +2,7 @@
 //!
 //! What became different changesets is the same after it as before, and in what came of that the new changeset stands
 //! in the place of the old one. So a chain of amends above a fork isn't asked again with each of them.
-ghost use Rattle.std.specs.Prelude.{◌≡◌, ◌≢◌, ◌↔◌, ◌⊎◌, [], ◌∷◌, List, Contains, IfOk, IfSome, IsTrue};
+ghost use Rattle.std.specs.Prelude.{◌≡◌, ◌≢◌, ◌↔◌, ◌⊎◌, [], ◌∷◌, Contains, IfOk, IfSome, IsTrue};
 ghost use Rattle.hg_changeset.specs.declared.node.Node.{Node};
 ghost use Rattle.hg_replica.specs.Change.{ChangeValue};
 ghost use Rattle.hg_replica.specs.Content.{content_of};

@@ -1,7 +1,7 @@
 //! What became different changesets with the markers that are followed, and what it leaves unstable.
 //!
 //! It is looked for from where it begins: from the ids of a region that are so, a walk goes on to successors.
-ghost use Rattle.std.specs.Prelude.{◌≡◌, ◌↔◌, Contains, IfOk, IsTrue};
+ghost use Rattle.std.specs.Prelude.{◌↔◌, Contains, IfOk, IsTrue};
 ghost use Rattle.hg_changeset.specs.declared.node.Node.{Node};
 ghost use Rattle.hg_replica.specs.Content.{content_of};
 ghost use Rattle.hg_replica.specs.Evolution.{IsCurrent};

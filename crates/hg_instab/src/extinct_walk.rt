@@ -19,6 +19,7 @@ use crate::settling::{Kind, settle_all};
 use crate::turned::has_now;
 use crate::waiting::{Beside, wait_beside};
 use hg_changeset::Node;
+use hg_graph::PlaceQueue;
 use hg_replica::Replica;
 use std::alloc::{AllocError, Global};
 use std::collections::BTreeSet;
@@ -39,7 +40,7 @@ pub(crate) fn turned_extinct(
         → (n : Node) → IsNow extinct.now.keys turned.keys n ↔ IsExtinct (content_of replica.now) n) }
 {
     let graph = replica.graph();
-    let mut waiting = BTreeSet::new(alloc);
+    let mut waiting = PlaceQueue::new(alloc);
     wait_beside(graph, seeds, Beside::Itself, &mut waiting)?;
     wait_beside(graph, seeds, Beside::Parents, &mut waiting)?;
     settle_all(alloc, replica, Kind::Extinct, extinct, holders, waiting)

@@ -4,15 +4,16 @@ ghost use Rattle.hg_replica.specs.State.{ReplicaState};
 ghost use Rattle.hg_replica.specs.Content.{content_of};
 ghost use Rattle.hg_instab.specs.Changed.{IsChangedTo};
 ghost use Rattle.hg_instab.specs.Instabilities.{AreInstabilities, InstabilitySets};
-ghost use Rattle.hg_instab.specs.Turns.{AreTurns, AreStages, HaveCome, AreThen, GainsExtinct, IsTold, MayTurn};
+ghost use Rattle.hg_instab.specs.Turns.{AreTurns, AreStages, HaveCome, AreThen, AreTold, GainsExtinct};
 
 use crate::among::{current_among, obsolete_nodes, outside, set_of};
 use crate::divergence::divergent_within;
 use crate::first::{after_public_ids, near_fork_ids};
 use crate::holders::Holders;
 use crate::orphans::{orphan_nodes, suspended_nodes};
+use crate::quick::{Turning, quick_turning};
 use crate::turn::{put, take_back};
-use crate::turns::{Turning, Turns};
+use crate::turns::Turns;
 use hg_changeset::Node;
 use hg_replica::{Change, Replica};
 use std::alloc::{AllocError, Global};
@@ -129,24 +130,28 @@ impl Instabilities {
             // Nothing is unstable, and nothing was.
             return Ok(());
         }
-        match self.turning(replica, change)? {
-            Turning::Nothing => Ok(()),
-            Turning::NewlyExtinct(node) => self.make_extinct(node),
-            Turning::All(turns) => self.apply(&turns),
+        match quick_turning(self, replica, change) {
+            Some(Turning::Nothing) => Ok(()),
+            Some(Turning::NewlyExtinct(node)) => self.make_extinct(node),
+            None => {
+                let turns = self.asked(replica, change)?;
+                self.apply(&turns)
+            }
         }
     }
 
-    // What the change turns. The hints are noted at once: they are no part of the sets.
-    fn turning(&mut self, replica: &Replica, change: &Change) -> Result<Turning, AllocError>
-        ensures turns { IfOk result (MayTurn self.old) }
-        ensures told { IfOk result (λ turning. (s : ReplicaState) → IsChangedTo s change.now replica.now
-            → AreInstabilities (content_of s) self.old → IsTold (content_of replica.now) self.old turning) }
+    // What the change turns, by asking again whatever can have turned. The hints are noted at once: they are no part of
+    // the sets.
+    fn asked(&mut self, replica: &Replica, change: &Change) -> Result<Turns, AllocError>
+        ensures turns { IfOk result (AreTurns self.old) }
+        ensures told { IfOk result (λ turns. (s : ReplicaState) → IsChangedTo s change.now replica.now
+            → AreInstabilities (content_of s) self.old → AreTold (content_of replica.now) self.old turns) }
         ensures unchanged { self.new ≡ self.old }
     {
         let mut holders = mem::replace(&mut self.holders, Holders::new(self.alloc));
-        let turning = Turning::of(self.alloc, self, &mut holders, replica, change);
+        let turns = Turns::asked(self.alloc, self, &mut holders, replica, change);
         self.holders = holders;
-        turning
+        turns
     }
 
     // Puts the node among the obsolete and the extinct ones, or leaves both sets as they are.

@@ -3,7 +3,7 @@
 //! Whether a changeset is an orphan its parents tell, and whether it is extinct its children. So where an answer turned
 //! those are asked again to whom it tells something, and no others. The walk to orphans goes up, and asks at the lowest
 //! place; that to extinct ones goes down, and asks at the highest. So each place is asked once.
-ghost use Rattle.std.specs.Prelude.{◌≡◌, ◌↔◌, ◌<◌, ℕ, [], length, Contains, MatchOption, IsTrue, IfOk, OnOk};
+ghost use Rattle.std.specs.Prelude.{◌≡◌, ◌↔◌, ◌<◌, ℕ, [], length, Contains, IsTrue, IfOk, OnOk};
 ghost use Rattle.hg_graph.specs.Places.{IsAt};
 ghost use Rattle.hg_phases.specs.State.{changesets};
 ghost use Rattle.hg_replica.specs.State.{IsValid};
@@ -17,6 +17,7 @@ use crate::orphan_walk::is_orphan_now;
 use crate::turned::{has_now, turn};
 use crate::waiting::{Beside, wait_beside_place};
 use hg_changeset::Node;
+use hg_graph::PlaceQueue;
 use hg_replica::Replica;
 use std::alloc::{AllocError, Global};
 use std::collections::BTreeSet;
@@ -35,11 +36,11 @@ pub(crate) fn settle_all(
     kind: Kind,
     set: &BTreeSet<Node>,
     holders: &mut Holders,
-    starts: BTreeSet<usize>,
+    starts: PlaceQueue,
 ) -> Result<BTreeSet<Node>, AllocError>
-    requires { (k : ℕ) → Contains starts.keys k → k < length (changesets replica.now.history) }
+    requires { (k : ℕ) → Contains starts k → k < length (changesets replica.now.history) }
     ensures { IfOk result (λ turned. IsSettling (changesets replica.now.history)
-        (IsTold kind (content_of replica.now)) set.now.keys starts.keys turned.keys []) }
+        (IsTold kind (content_of replica.now)) set.now.keys starts turned.keys []) }
 {
     let mut turned = BTreeSet::new(alloc);
     let mut waiting = starts;
@@ -58,9 +59,8 @@ pub(crate) fn settle_all(
 }
 
 // Takes out the place that is asked next.
-fn take_next(kind: Kind, waiting: &mut BTreeSet<usize>) -> Option<usize>
-    ensures { MatchOption result (waiting.old.keys ≡ [])
-        (λ place. TakesNext kind place waiting.old.keys waiting.new.keys) }
+fn take_next(kind: Kind, waiting: &mut PlaceQueue) -> Option<usize>
+    ensures { TakesNext kind waiting.old waiting.new result }
 {
     match kind {
         Kind::Orphan => waiting.pop_first(),
@@ -75,13 +75,13 @@ fn settle_at(
     set: &BTreeSet<Node>,
     holders: &mut Holders,
     turned: &mut BTreeSet<Node>,
-    waiting: &mut BTreeSet<usize>,
+    waiting: &mut PlaceQueue,
     place: usize,
 ) -> Result<(), AllocError>
     ensures valid { IsValid replica.now }
     ensures settled { OnOk result (SettlesAt (changesets replica.now.history) (beside_of kind)
-        (IsTold kind (content_of replica.now)) set.now.keys place turned.old.keys waiting.old.keys turned.new.keys
-        waiting.new.keys) }
+        (IsTold kind (content_of replica.now)) set.now.keys place turned.old.keys waiting.old turned.new.keys
+        waiting.new) }
 {
     let graph = replica.graph();
     match graph.node_at(place) {

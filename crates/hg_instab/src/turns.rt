@@ -4,11 +4,11 @@ ghost use Rattle.hg_changeset.specs.declared.node.Node.{Node};
 ghost use Rattle.hg_replica.specs.State.{ReplicaState, IsValid};
 ghost use Rattle.hg_replica.specs.Change.{ChangeValue};
 ghost use Rattle.hg_replica.specs.Content.{Content, content_of};
-ghost use Rattle.hg_replica.specs.Evolution.{IsObsolete, IsCurrent, IsOrphan, IsSuspended, IsExtinct, IsPhaseDivergent};
+ghost use Rattle.hg_replica.specs.Evolution.{IsObsolete, IsCurrent, IsOrphan};
 ghost use Rattle.hg_instab.specs.Changed.{Follows, IsChangedTo, IsSeed, IsNow};
 ghost use Rattle.hg_instab.specs.Instabilities.{AreInstabilities, IsContentDivergent};
 ghost use Rattle.hg_instab.specs.Near.{IsClosed};
-ghost use Rattle.hg_instab.specs.Turns.{AreTurns, AreTold, IsTurn, IsThen, IsTold, MayTurn};
+ghost use Rattle.hg_instab.specs.Turns.{AreTurns, AreTold, IsTurn, IsThen};
 ghost use Rattle.hg_instab.specs.Turns.{AreDivergenceTurns, IsDivergenceTold};
 
 use crate::after_public::newly_after_public;
@@ -21,7 +21,6 @@ use crate::instabilities::Instabilities;
 use crate::near::region;
 use crate::orphan_walk::turned_orphans;
 use crate::query::{is_current, is_obsolete};
-use crate::quick::quick_turning;
 use crate::seeds::seeds;
 use crate::turn::Turn;
 use crate::turned::has_now;
@@ -58,43 +57,9 @@ impl Drop for Turns {
     }
 }
 
-// What a change turns.
-pub(crate) enum Turning {
-    // Nothing.
-    Nothing,
-    // This node becomes obsolete and extinct, and nothing else turns.
-    NewlyExtinct(Node),
-    // All that is told here.
-    All(Turns),
-}
-
-impl Turning {
-    // What a change turns in the sets, which were those before it: by a few look-ups where these tell, and else by
-    // asking again whatever can have turned.
-    pub(crate) fn of(
-        alloc: Global,
-        sets: &Instabilities,
-        holders: &mut Holders,
-        replica: &Replica,
-        change: &Change,
-    ) -> Result<Turning, AllocError>
-        ensures turns { IfOk result (MayTurn sets.now) }
-        ensures told { IfOk result (λ turning. (s : ReplicaState) → IsChangedTo s change.now replica.now
-            → AreInstabilities (content_of s) sets.now → IsTold (content_of replica.now) sets.now turning) }
-    {
-        match quick_turning(sets, replica, change) {
-            Some(turning) => Ok(turning),
-            None => {
-                let turns = Turns::asked(alloc, sets, holders, replica, change)?;
-                Ok(Turning::All(turns))
-            }
-        }
-    }
-}
-
 impl Turns {
     // What a change turns, by asking again whatever can have turned.
-    fn asked(
+    pub(crate) fn asked(
         alloc: Global,
         sets: &Instabilities,
         holders: &mut Holders,

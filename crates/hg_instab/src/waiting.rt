@@ -1,11 +1,11 @@
 //! Places that wait for a walk to come to them.
-ghost use Rattle.std.specs.Prelude.{◌≡◌, ◌<◌, Some, length, Contains, OnOk};
-ghost use Rattle.hg_instab.specs.Settling.{Widens, IsBeside, IsBesideNode, IsBesideOne};
+ghost use Rattle.std.specs.Prelude.{◌<◌, length, OnOk};
+ghost use Rattle.hg_graph.specs.Waiting.{Widens};
+ghost use Rattle.hg_instab.specs.Settling.{IsBeside, IsBesideNode, IsBesideOne};
 
 use hg_changeset::Node;
-use hg_graph::Graph;
+use hg_graph::{Graph, PlaceQueue};
 use std::alloc::AllocError;
-use std::collections::BTreeSet;
 
 // Which places wait on account of one.
 #[derive(Clone, Copy)]
@@ -20,9 +20,9 @@ pub(crate) fn wait_beside(
     graph: &Graph,
     nodes: &[Node],
     beside: Beside,
-    waiting: &mut BTreeSet<usize>,
+    waiting: &mut PlaceQueue,
 ) -> Result<(), AllocError>
-    ensures { OnOk result (Widens (IsBesideOne beside graph.now nodes.now) waiting.old.keys waiting.new.keys) }
+    ensures { OnOk result (Widens (IsBesideOne beside graph.now nodes.now) waiting.old waiting.new) }
 {
     for node in nodes {
         wait_beside_node(graph, *node, beside, waiting)?;
@@ -35,9 +35,9 @@ fn wait_beside_node(
     graph: &Graph,
     node: Node,
     beside: Beside,
-    waiting: &mut BTreeSet<usize>,
+    waiting: &mut PlaceQueue,
 ) -> Result<(), AllocError>
-    ensures { OnOk result (Widens (IsBesideNode beside graph.now node) waiting.old.keys waiting.new.keys) }
+    ensures { OnOk result (Widens (IsBesideNode beside graph.now node) waiting.old waiting.new) }
 {
     match graph.place(node) {
         Some(place) => wait_beside_place(graph, place, beside, waiting),
@@ -50,38 +50,14 @@ pub(crate) fn wait_beside_place(
     graph: &Graph,
     place: usize,
     beside: Beside,
-    waiting: &mut BTreeSet<usize>,
+    waiting: &mut PlaceQueue,
 ) -> Result<(), AllocError>
     requires { place < length graph.now }
-    ensures { OnOk result (Widens (IsBeside beside graph.now place) waiting.old.keys waiting.new.keys) }
+    ensures { OnOk result (Widens (IsBeside beside graph.now place) waiting.old waiting.new) }
 {
     match beside {
-        Beside::Itself => wait_at(Some(place), waiting),
-        Beside::Children => wait_each(graph.children(place), waiting),
-        Beside::Parents => {
-            let parents = graph.parent_places(place);
-            wait_at(parents.first, waiting)?;
-            wait_at(parents.second, waiting)
-        }
+        Beside::Itself => waiting.insert(place),
+        Beside::Children => waiting.insert_each(graph.children(place)),
+        Beside::Parents => waiting.insert_parents(graph, place),
     }
-}
-
-// The places wait.
-fn wait_each(places: &[usize], waiting: &mut BTreeSet<usize>) -> Result<(), AllocError>
-    ensures { OnOk result (Widens (Contains places.now) waiting.old.keys waiting.new.keys) }
-{
-    for place in places {
-        waiting.insert(*place)?;
-    }
-    Ok(())
-}
-
-// The place waits, if there is one.
-fn wait_at(place: Option<usize>, waiting: &mut BTreeSet<usize>) -> Result<(), AllocError>
-    ensures { OnOk result (Widens (λ k. place ≡ Some k) waiting.old.keys waiting.new.keys) }
-{
-    if let Some(place) = place {
-        waiting.insert(place)?;
-    }
-    Ok(())
 }

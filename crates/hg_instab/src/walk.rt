@@ -2,7 +2,7 @@
 //!
 //! The ids that steps lead to need not be held. They are numbered in a set that is its own queue: each is looked at
 //! once, and so is each marker.
-ghost use Rattle.std.specs.Prelude.{◌≡◌, ◌↔◌, Contains, IfOk, OnOk, IsTrue};
+ghost use Rattle.std.specs.Prelude.{◌↔◌, Contains, IfOk, OnOk, IsTrue};
 ghost use Rattle.hg_changeset.specs.declared.node.Node.{Node};
 ghost use Rattle.hg_replica.specs.Evolution.{IsBumpedFix};
 ghost use Rattle.hg_instab.specs.Walk.{IsFollowed, IsReached, IsNext, IsBefore, IsStep, Adds};

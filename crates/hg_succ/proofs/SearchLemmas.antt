@@ -299,9 +299,6 @@ module _ (R : List (List ℕ)) (s : SearchState) (so : IsSearch R s) (t u : ℕ)
   joined_kept : (p q : ℕ) → AreJoined s.starts p q → AreJoined kept p q
   joined_kept p q j b h = j b (kept_in b h)
 
-  merged_state : SearchState
-  merged_state = record s { starts = kept }
-
   merged_followed : (p x l e z : ℕ) (row : List ℕ) → At s.waiting p x → At s.left x l → At R x row → l ≤ e → At row e z
       → IsAccounted (record s { starts = kept }) p z
   merged_followed p x l e z row h left_at row_at le edge' = elim (so.followed p x l e z row h left_at row_at le edge') [

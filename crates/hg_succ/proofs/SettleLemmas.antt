@@ -202,17 +202,6 @@ module _ (R : List (List ℕ)) (s : SearchState) (so : IsSearch R s) (t u : ℕ)
   front_start : (b : ℕ) → Contains front b → Contains s.starts b
   front_start b h = subst (λ (xs : List ℕ). Contains xs b) (sym starts_are) (Contains-append_left front (t ∷ []) b h)
 
-  -- the state that is left
-  settled_state : SearchState
-  settled_state = record {
-    left = s.left;
-    marks = new.marks;
-    waiting = take t s.waiting;
-    path = end.last.0;
-    starts = front;
-    order = s.order ++ st.more.0;
-  }
-
   settled_listed : (x : ℕ) → At new.marks x Done → IsListed (s.order ++ st.more.0) x
   settled_listed x h = elim (st.from x Done h) [
     | inl part ↦ subst (λ (o : List Settled). IsListed o x) st.more.1 (st.listed part.1 x part.2 part.3)

@@ -9,8 +9,8 @@ use Rattle.hg_instab.proofs.orphan_walk.turned_orphans.Goals as goal
 pub settle_all-requires : goal.settle_all-requires
 settle_all-requires c =
     starts-within Itself Children c.graph-graph.result.now (changesets c.args.replica.now.history)
-    c.graph-graph.ensures.graph c.args.seeds.now c.args.turned_obsolete.now c.new-waiting.result.keys
-    c.wait_beside.new.waiting.keys c.wait_beside-2.new.waiting.keys c.new-waiting.ensures.empty
+    c.graph-graph.ensures.graph c.args.seeds.now c.args.turned_obsolete.now c.new-waiting.result
+    c.wait_beside.new.waiting c.wait_beside-2.new.waiting c.new-waiting.ensures
     c.in_ok-wait_beside.ensures c.in_ok-wait_beside-2.ensures c.graph-graph.ensures.valid.graph
 
 pub returns : goal.returns
@@ -18,9 +18,9 @@ returns c =
     let t = c.args.replica.now in
     let seeds = c.args.seeds.now in
     let others = c.args.turned_obsolete.now in
-    let starts = c.wait_beside-2.new.waiting.keys in
+    let starts = c.wait_beside-2.new.waiting in
     let are = starts-are Itself Children c.graph-graph.result.now (changesets t.history) c.graph-graph.ensures.graph
-    seeds others c.new-waiting.result.keys c.wait_beside.new.waiting.keys starts c.new-waiting.ensures.empty
+    seeds others c.new-waiting.result c.wait_beside.new.waiting starts c.new-waiting.ensures
     c.in_ok-wait_beside.ensures c.in_ok-wait_beside-2.ensures in
     IfOk-weaker c.settle_all.result _ _
     (λ turned settling s change valid follows given same kept. orphans-settled s t change valid

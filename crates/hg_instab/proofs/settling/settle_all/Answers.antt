@@ -2,7 +2,8 @@ use Rattle.std.proofs.Common.{◌<◌, ℕ, length, Contains, inl, inr, refl}
 use Rattle.hg_phases.specs.State.{changesets}
 use Rattle.hg_replica.specs.Content.{content_of}
 use Rattle.hg_instab.specs.Settling.{IsTold, beside_of, IsLater}
-use Rattle.hg_instab.proofs.WaitingLemmas.{left_from, left-some, left-falls, most-falls}
+use Rattle.hg_graph.proofs.QueueLemmas.{most-falls}
+use Rattle.hg_instab.proofs.WaitingLemmas.{left_from, left-some, left-falls}
 use Rattle.hg_instab.proofs.SettlingLemmas.{settling-start, settling-step, settling-end, waits-from, place-within}
 use Rattle.hg_instab.proofs.SettlingLemmas.{faithful, local, beside-later}
 use Rattle.hg_instab.proofs.settling.settle_all.Goals as goal
@@ -10,7 +11,7 @@ use Rattle.hg_instab.proofs.settling.settle_all.Goals as goal
 pub loop-place-init : goal.loop-place-init
 loop-place-init c =
     let s = c.args.replica.now in
-    settling-start (changesets s.history) (IsTold c.args.kind (content_of s)) c.args.set.now.keys c.args.starts.keys
+    settling-start (changesets s.history) (IsTold c.args.kind (content_of s)) c.args.set.now.keys c.args.starts
     (faithful c.args.kind (content_of s)) c.requires c.new-turned.result.keys c.new-turned.ensures.empty
 
 pub loop-place-preserved : goal.loop-place-preserved
@@ -18,10 +19,10 @@ loop-place-preserved c =
     let s = c.args.replica.now in
     let kind = c.args.kind in
     let v = c.settle_at.ensures.valid in
-    settling-step (changesets s.history) (IsTold kind (content_of s)) c.args.set.now.keys c.args.starts.keys
-    (beside_of kind) v.graph (local kind s v) c.loop-place.turned.keys c.loop-place.waiting.keys
-    c.take_next.new.waiting.keys c.in-Some.place c.in-Some.ensures.0 c.loop-place.invariant
-    c.settle_at.new.turned.keys c.settle_at.new.waiting.keys c.in_ok-settle_at.ensures.settled
+    settling-step (changesets s.history) (IsTold kind (content_of s)) c.args.set.now.keys c.args.starts
+    (beside_of kind) v.graph (local kind s v) c.loop-place.turned.keys c.loop-place.waiting
+    c.take_next.new.waiting c.in-Some.place c.in-Some.ensures.0 c.loop-place.invariant
+    c.settle_at.new.turned.keys c.settle_at.new.waiting c.in_ok-settle_at.ensures.settled
 
 pub loop-place-smaller : goal.loop-place-smaller
 loop-place-smaller c =
@@ -29,16 +30,16 @@ loop-place-smaller c =
     let cs = changesets s.history in
     let kind = c.args.kind in
     let place = c.in-Some.place in
-    let waiting = c.loop-place.waiting.keys in
-    let rest = c.take_next.new.waiting.keys in
-    let now = c.settle_at.new.waiting.keys in
+    let waiting = c.loop-place.waiting in
+    let rest = c.take_next.new.waiting in
+    let now = c.settle_at.new.waiting in
     let v = c.settle_at.ensures.valid in
     let one = c.in-Some.ensures.0 in
     let within : place < length cs = place-within cs (IsTold kind (content_of s)) c.args.set.now.keys
-    c.args.starts.keys (beside_of kind) v.graph (local kind s v) c.loop-place.turned.keys waiting rest place one
+    c.args.starts (beside_of kind) v.graph (local kind s v) c.loop-place.turned.keys waiting rest place one
     c.loop-place.invariant c.settle_at.new.turned.keys now c.in_ok-settle_at.ensures.settled in
     let after : (k : ℕ) → Contains now k → IsLater kind place k =
-    λ k h. elim (waits-from cs (IsTold kind (content_of s)) c.args.set.now.keys c.args.starts.keys (beside_of kind)
+    λ k h. elim (waits-from cs (IsTold kind (content_of s)) c.args.set.now.keys c.args.starts (beside_of kind)
     v.graph (local kind s v) c.loop-place.turned.keys waiting rest place one c.loop-place.invariant
     c.settle_at.new.turned.keys now c.in_ok-settle_at.ensures.settled k h) [
       | inl later ↦ c.in-Some.ensures.1 k later
@@ -50,5 +51,5 @@ loop-place-smaller c =
 pub returns : goal.returns
 returns c =
     let s = c.args.replica.now in
-    settling-end (changesets s.history) (IsTold c.args.kind (content_of s)) c.args.set.now.keys c.args.starts.keys
-    c.loop-place.turned.keys c.loop-place.waiting.keys c.in_default.ensures c.loop-place.invariant
+    settling-end (changesets s.history) (IsTold c.args.kind (content_of s)) c.args.set.now.keys c.args.starts
+    c.loop-place.turned.keys c.loop-place.waiting c.in_default.ensures c.loop-place.invariant

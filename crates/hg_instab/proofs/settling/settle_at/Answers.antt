@@ -4,10 +4,11 @@ use Rattle.hg_changeset.specs.Contents.{Contents}
 use Rattle.hg_graph.specs.Graph.{nodes}
 use Rattle.hg_graph.specs.Places.{IsAt}
 use Rattle.hg_graph.proofs.PlaceLemmas.{placed_within}
+use Rattle.hg_graph.specs.Waiting.{Widens}
 use Rattle.hg_phases.specs.State.{changesets}
 use Rattle.hg_replica.specs.Content.{content_of}
 use Rattle.hg_instab.specs.declared.waiting.Beside.{Beside}
-use Rattle.hg_instab.specs.Settling.{Widens, IsBeside, IsTold, beside_of}
+use Rattle.hg_instab.specs.Settling.{IsBeside, IsTold, beside_of}
 use Rattle.hg_instab.proofs.SettlingLemmas.{settles-same, settles-turned, local, never-beside}
 use Rattle.hg_instab.proofs.settling.settle_at.Goals as goal
 
@@ -19,7 +20,7 @@ returns-then-is_so_now-has_now-clause-settled c =
     subst (λ (cs : List Contents). slice_get (nodes cs) c.args.place ≡ Some node) c.graph-graph.ensures.graph
     (sym c.node_at.ensures ∙ c.in-Some.is) in
     settles-same (changesets s.history) (beside_of c.args.kind) (IsTold c.args.kind (content_of s)) c.args.set.now.keys
-    c.args.place c.args.turned.now.keys c.args.waiting.now.keys node at c.is_so_now.result c.has_now.result
+    c.args.place c.args.turned.now.keys c.args.waiting.now node at c.is_so_now.result c.has_now.result
     c.is_so_now.ensures c.has_now.ensures c.if-is_so_now-has_now.true
 
 pub wait_beside_place-requires : goal.wait_beside_place-requires
@@ -33,8 +34,8 @@ returns-in_ok-turn-in-Some-clause-settled c =
     let v = c.graph-graph.ensures.valid in
     let node = c.in-Some.node in
     let place = c.args.place in
-    let waiting = c.args.waiting.now.keys in
-    let waiting_now = c.wait_beside_place.new.waiting.keys in
+    let waiting = c.args.waiting.now in
+    let waiting_now = c.wait_beside_place.new.waiting in
     let at : IsAt (changesets s.history) node place =
     subst (λ (cs : List Contents). slice_get (nodes cs) place ≡ Some node) c.graph-graph.ensures.graph
     (sym c.node_at.ensures ∙ c.in-Some.is) in
