@@ -1,7 +1,7 @@
 -- The children of each changeset, one changeset more at a time.
 use Rattle.std.proofs.Common.{◌≡◌, ◌↔◌, ℕ, ◌≤◌, ◌+◌, inl, inr, List, [], ◌∷◌, ◌++◌, length, length-append, slice_get, Some}
-use Rattle.std.proofs.Common.{Contains, refl, sym, ap, subst, ◌∙◌, arith}
-use Rattle.std.proofs.lemmas.Option.{none-some, slice_get_within}
+use Rattle.std.proofs.Common.{Contains, sym, ap, subst, ◌∙◌, arith}
+use Rattle.std.proofs.lemmas.Option.{slice_get_within}
 use Rattle.hg_changeset.specs.Contents.{Contents}
 use Rattle.hg_changeset.proofs.ListLemmas.{slice_get-append, slice_get-push_cases, slice_get_some}
 use Rattle.hg_graph.specs.declared.graph.ParentPlaces.{ParentPlaces}
@@ -20,13 +20,6 @@ pub record AreChildrenTo (cs : List Contents) (i : ℕ) (places : List ℕ) (str
       → Stands places s.from s.to j ↔ IsParentPlace cs j k
 
 module _ (cs : List Contents) where
-  pub AreChildrenTo-start : AreChildrenTo cs 0 [] []
-  AreChildrenTo-start = record {
-    len = refl;
-    within = λ k s h. absurd (none-some s h);
-    exact = λ k s j h. absurd (none-some s h);
-  }
-
   pub AreChildrenTo-push : (i : ℕ) (places : List ℕ) (stretches : List Stretch) (more : List ℕ) (one : Stretch)
       → AreChildrenTo cs i places stretches → ((j : ℕ) → Contains more j ↔ IsParentPlace cs j i)
       → one.from ≡ length places → one.to ≡ length (places ++ more)

@@ -1,14 +1,11 @@
 -- How far two lists of changesets were compared, and what that says of all of them.
-use Rattle.std.proofs.Common.{◌≡◌, ◌<◌, ◌++◌, ℕ, inl, inr, List, length, slice_get, Some, None}
+use Rattle.std.proofs.Common.{◌≡◌, ◌<◌, ◌++◌, ℕ, List, length, slice_get, Some, None}
 use Rattle.std.proofs.Common.{◌↔◌, length-append, refl, sym, subst, ◌∙◌, arith}
-use Rattle.std.proofs.lemmas.Bool.{cases_lt}
 use Rattle.std.proofs.lemmas.Option.{none-some, same_Some}
 use Rattle.hg_changeset.specs.Contents.{Contents}
 use Rattle.hg_changeset.specs.Changeset.{node_of}
 use Rattle.hg_changeset.proofs.ListLemmas.{Contains-from_place, place_from_Contains, slice_get_some, slice_get-append}
-use Rattle.hg_graph.specs.Graph.{Holds}
 use Rattle.hg_graph.specs.Places.{IsAt, IsOnlyAt}
-use Rattle.hg_graph.proofs.GraphLemmas.{Holds-from}
 use Rattle.hg_graph.proofs.PlaceLemmas.{IsAt-from, placed_within}
 use Rattle.hg_view.specs.Common.{AreFree, IsFree}
 use Rattle.hg_discovery.specs.declared.compared.Compared.{Compared}
@@ -21,35 +18,9 @@ module _ (cs ds : List Contents) where
   pub free-from : AreFree cs ds → (from : ℕ) → AreFreeFrom cs from ds
   free-from free from j c le at = free c (Contains-from_place cs j c at)
 
-  -- what was compared, and what came to either side since
-  pub free-all : (x : Compared) → AreCompared cs ds x → AreFreeFrom cs x.ours ds → AreFreeFrom ds x.theirs cs
-      → AreFree cs ds
-  free-all x so_far ours theirs c in_cs d in_ds e =
-      let j = place_from_Contains cs c in_cs in
-      let k = place_from_Contains ds d in_ds in
-      elim (cases_lt j.0 x.ours) [
-        | inr since ↦ ours j.0 c since j.1 d in_ds e
-        | inl before ↦ elim (cases_lt k.0 x.theirs) [
-          | inr since ↦ sym (theirs k.0 d since k.1 c in_cs (sym e))
-          | inl before' ↦ so_far.free j.0 k.0 c d before before' j.1 k.1 e
-        ]
-      ]
-
-  pub free-compared : AreFree cs ds → (x : Compared) → x.ours ≡ length cs → x.theirs ≡ length ds → AreCompared cs ds x
-  free-compared free x ours theirs = record {
-    ours = omega (arith, ours);
-    theirs = omega (arith, theirs);
-    free = λ j k c d _ _ at_j at_k e.
-        free c (Contains-from_place cs j c at_j) d (Contains-from_place ds k d at_k) e;
-  }
-
 -- ---- one changeset
 
 module _ (c : Contents) (ds : List Contents) where
-  -- an id that isn't held is no other's
-  pub unheld-free : ¬ (Holds ds (node_of c)) → IsFree c ds
-  unheld-free none d in_ds e = absurd (none (subst (Holds ds) (sym e) (Holds-from ds d in_ds)))
-
   -- where the id is held something stands
   pub none-held : (k : ℕ) → IsOnlyAt ds (node_of c) k → slice_get ds k ≡ None → ⊥
   none-held k only none =

@@ -90,8 +90,7 @@ fn is_free_at(changeset: &Changeset, other: &Graph, there: Option<usize>) -> boo
 fn place_near(graph: &Graph, node: Node, near: usize) -> Option<usize>
     ensures { MatchOption result (¬ (Holds graph.now node)) (IsOnlyAt graph.now node) }
 {
-    // It says that this is a graph.
-    let _count = graph.len();
+    graph.is_valid();
     match graph.node_at(near) {
         Some(held) if held == node => Some(near),
         _ => graph.place(node),

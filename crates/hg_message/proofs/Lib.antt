@@ -11,9 +11,9 @@ pub mod FirstFaultLemmas
 pub mod WritingLemmas
 pub mod HeldLemmas
 pub mod PartLemmas
+pub mod PickLemmas
 pub mod SpellingLemmas
 pub mod ThoseLemmas
-pub mod TouchedLemmas
 pub mod NamedLemmas
 pub mod CoveredLemmas
 pub mod OfferLemmas

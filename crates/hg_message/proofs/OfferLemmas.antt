@@ -25,7 +25,7 @@ use Rattle.hg_marker.specs.Fields.{Fields}
 use Rattle.hg_history.specs.Content.{IsHeld}
 use Rattle.hg_history.proofs.ContentLemmas.{content-changeset, changeset_in_content, node_in_content, leads_from_reach}
 use Rattle.hg_history.proofs.ContentLemmas.{reach_from_leads}
-use Rattle.hg_obsstore.specs.Markers.{ArePlaces}
+use Rattle.hg_obsstore.specs.Markers.{ArePlaces, IsNamed as IsNamedByOne, Names}
 use Rattle.hg_relevant.specs.Relevant.{IsRelevant, Touches}
 use Rattle.hg_relevant.specs.Relevant.IsRelevant.{direct, further}
 use Rattle.hg_replica.specs.State.{ReplicaState, IsValid}
@@ -42,7 +42,6 @@ use Rattle.hg_message.specs.declared.refusal.OfferRefusal.TheVariants.{UnknownCo
 use Rattle.hg_message.specs.Value.{MessageValue, IsMessage, count_limit, is_too_large}
 use Rattle.hg_message.specs.Outgoing.{ArePlacesOf, FindAnswer}
 use Rattle.hg_message.specs.Those.{AreThose}
-use Rattle.hg_message.specs.Touched.{IsTouchedByOne}
 use Rattle.hg_message.specs.declared.scope.Scope.{Scope}
 use Rattle.hg_message.specs.declared.scope.Scope.TheVariants.{Served, Whole}
 use Rattle.hg_message.specs.Offer.{AreHeld, IsCommon, IsNamed, IsNamedMarker, IsOutgoing, IsOneWith, IsHead}
@@ -59,22 +58,28 @@ relevant-along H K M N held named m (direct {n = n} one h touches) = direct (nam
 relevant-along H K M N held named m (further {before = b} r h touches) =
     further (relevant-along H K M N held named b r) (held m h) touches
 
--- what is relevant to a list of what is served, among the markers of the store; what no marker touches may be left out
+touched-named : (n : Node) (m : Fields) → Touches n m → Names m n
+touched-named n m touches = elim touches [
+  | inl one ↦ inr (inl one)
+  | inr prune ↦ elim prune.1 [ inl its ↦ inl its | inr parent ↦ inr (inr parent) ]
+]
+
+-- what is relevant to a list of what is served, among the markers of the store; what no marker names may be left out
 pub relevant-offered : (s : ReplicaState) (pins served : List Node)
     → ((n : Node) → Contains served n → IsServedUnder (content_of s) pins n)
-    → ((n : Node) → IsServedUnder (content_of s) pins n → IsTouchedByOne s.markers n → Contains served n) → (m : Fields)
+    → ((n : Node) → IsServedUnder (content_of s) pins n → IsNamedByOne s.markers n → Contains served n) → (m : Fields)
     → IsRelevant (Contains s.markers) (Contains served) m ↔ IsNamedMarker (content_of s) pins Served m
 relevant-offered s pins served sound complete m = (
   relevant-along (Contains s.markers) (IsMarker (content_of s)) (Contains served) (IsServedUnder (content_of s) pins)
       (holds-from s.markers) (λ n k h touches. sound n) m,
   relevant-along (IsMarker (content_of s)) (Contains s.markers) (IsServedUnder (content_of s) pins) (Contains served)
-      (in_from_holds s.markers) (λ n k h touches one. complete n one (k, in_from_holds s.markers k h, touches)) m,
+      (in_from_holds s.markers) (λ n k h touches one. complete n one (k, in_from_holds s.markers k h, touched-named n k touches)) m,
 )
 
 -- the places that are told of a store are those of what is offered
 pub places-offered : (s : ReplicaState) (pins served : List Node) (store : List Fields) (places : List ℕ)
     → ((n : Node) → Contains served n → IsServedUnder (content_of s) pins n)
-    → ((n : Node) → IsServedUnder (content_of s) pins n → IsTouchedByOne s.markers n → Contains served n)
+    → ((n : Node) → IsServedUnder (content_of s) pins n → IsNamedByOne s.markers n → Contains served n)
     → store ≡ s.markers → ArePlaces (IsRelevant (Contains store) (Contains served)) store places
     → ArePlaces (IsNamedMarker (content_of s) pins Served) s.markers places
 places-offered s pins served store places sound complete here all =

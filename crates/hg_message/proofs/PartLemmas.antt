@@ -85,24 +85,6 @@ some_records l m e some =
     let long = counted_long (record_at l.total) 0 l.count l.records.now x.0 x.1 in
     omega (arith, long, ap length x.2, some)
 
--- faults of the store are told where what stands before it is read
-fails_together : (scope : Scope) (r : Records) (b : Bounds) (k : Read (List Fields)) (e : ReadError MessageFault)
-    → IsRead r → IsRead b → Fails e k → Fails e (together scope r b k)
-fails_together scope (Ok x) (Ok y) (Ok markers) reading.NoMemory read also fails = tt
-fails_together scope (Ok x) (Ok y) (Err fault) reading.NoMemory read also fails = fails
-fails_together scope (Ok x) (Ok y) (Ok markers) (reading.Fault f) read also fails = absurd cc
-fails_together scope (Ok x) (Err fault) k e read also fails = elim also [ ]
-fails_together scope (Err fault) b k e read also fails = elim read [ ]
-fails_together scope (Ok x) (Ok y) (Err fault) (reading.Fault f) read also fails = told fault f fails
-  where
-    told : (fault f : MessageFault) → ◌≡◌ {A = Read (List Fields)} (Err fault) (Err f)
-        → ◌≡◌ {A = Read MessageValue} (Err fault) (Err f)
-    told fault f e = cc
-
-pub store_fails : (l : Layout) (e : ReadError MessageFault) → IsRead (records_in l) → IsRead (bounds_in l)
-    → Fails e (markers_in l) → Fails e (said l)
-store_fails l e read also fails = fails_together l.scope (records_in l) (bounds_in l) (markers_in l) e read also fails
-
 rest_together : (scope : Scope) (r : Records) (b : Bounds) (k : Read (List Fields)) (bounds : List (Node × Phase))
     (markers : List Fields) → IsRead r → first_of b ≡ Ok bounds → k ≡ Ok markers
     → (m : MessageValue) × (together scope r b k ≡ Ok m)

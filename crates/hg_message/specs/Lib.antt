@@ -20,4 +20,3 @@ pub mod Covered
 pub mod OfferRefusals
 pub mod Taken
 pub mod Shared
-pub mod Touched

@@ -16,7 +16,6 @@ ghost use Rattle.hg_message.specs.declared.scope.Scope.TheVariants.{Served as se
 
 use crate::marks::marked_but;
 use crate::scope::Scope;
-use crate::touched::{served_among, touched};
 use hg_changeset::Node;
 use hg_graph::Graph;
 use hg_relevant::relevant;
@@ -98,9 +97,22 @@ pub(crate) fn served_marker_places(alloc: Global, kept: &Kept) -> Result<Vec<usi
         (IsNamedMarker (content_of kept.now.replica) kept.now.pins served_scope) kept.now.replica.markers found.items) }
 {
     let store = kept.replica().store();
-    let nodes = touched(alloc, store.keys(), store.markers())?;
-    let nodes = served_among(alloc, kept, nodes.as_slice())?;
+    let nodes = served_among(alloc, kept, store.named())?;
     relevant(alloc, store, &nodes)
+}
+
+// Those of the nodes whose changeset is served.
+fn served_among(alloc: Global, kept: &Kept, nodes: &[Node]) -> Result<Vec<Node>, AllocError>
+    ensures { IfOk result (λ found. (n : Node) → Contains found.items n
+        ↔ (Contains nodes.now n × IsServedUnder (content_of kept.now.replica) kept.now.pins n)) }
+{
+    let mut found = Vec::new(alloc);
+    for node in nodes {
+        if kept.is_served(*node) {
+            found.push(*node)?;
+        }
+    }
+    Ok(found)
 }
 
 /// The places of what is served and isn't common, ascending, where the heads of what is served stand at these places.

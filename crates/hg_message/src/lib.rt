@@ -46,7 +46,6 @@ mod place;
 mod record;
 mod refusal;
 mod scope;
-mod touched;
 mod writing;
 
 pub use error::{MessageError, MessageFault};

@@ -278,8 +278,7 @@ fn find_served<'a>(
     requires common { AreHeld (content_of replica.now) common.now }
     ensures { IfOk result (IsOfferOf replica.now kept.now.pins common.now served_scope) }
 {
-    // It says that the replica is valid.
-    let _graph = replica.graph();
+    replica.is_valid();
     let heads = kept.served_heads()?;
     let changesets = served_outgoing(alloc, kept, &heads, common)?;
     let bounds = served_bounds(alloc, kept, &heads)?;

@@ -1,52 +1,25 @@
 -- A walk down from some places, without what is under others.
-use Rattle.std.proofs.Common.{◌≡◌, ℕ, zero, suc, ◌+◌, ◌<◌, ◌≤◌, max, List, [], ◌∷◌, ◌++◌, length, reverse, get_or, Some}
-use Rattle.std.proofs.Common.{None, Contains, All, ◌↔◌, ◌⊎◌, inl, inr, refl, sym, subst, ◌∙◌, arith}
-use Rattle.std.specs.Ordering.{nat_cmp}
-use Rattle.std.specs.declared.cmp.Ordering.TheVariants.{Less}
+use Rattle.std.proofs.Common.{◌≡◌, ℕ, zero, suc, ◌+◌, ◌<◌, ◌≤◌, List, [], ◌∷◌, ◌++◌, length, reverse, get_or, Some}
+use Rattle.std.proofs.Common.{None, Contains, ◌↔◌, ◌⊎◌, inl, inr, refl, sym, subst, ◌∙◌, arith}
 use Rattle.std.specs.List.Sorted.{IsStrictlyIncreasing}
 use Rattle.std.proofs.lemmas.Bool.{cases_lt}
 use Rattle.std.proofs.lemmas.List.{reverse-append, reverse-reverse}
-use Rattle.std.proofs.lemmas.List.Elements.{All-contains, Contains-get_or}
+use Rattle.std.proofs.lemmas.List.Elements.{Contains-get_or}
 use Rattle.std.proofs.lemmas.List.Sorted.{Contains-permutation, IsPermutation-reverse}
 use Rattle.std.proofs.lemmas.Option.{same_Some}
 use Rattle.hg_changeset.specs.declared.node.Node.{Node}
 use Rattle.hg_changeset.specs.Contents.{Contents}
-use Rattle.hg_changeset.proofs.ListLemmas.{Contains-none, Contains-first, Contains-later, Contains-cons_cases}
-use Rattle.hg_changeset.proofs.ListLemmas.{Contains-pushed}
+use Rattle.hg_changeset.proofs.ListLemmas.{Contains-none, Contains-pushed}
 use Rattle.hg_graph.specs.Graph.{IsGraph, Reaches}
 use Rattle.hg_graph.specs.Graph.Reaches.{itself, below}
 use Rattle.hg_graph.specs.Places.{IsParentPlace, IsAncestorPlace}
+use Rattle.hg_graph.specs.Waiting.{Widens, IsOneOf, IsLast, TakesAfter}
 use Rattle.hg_graph.proofs.PlaceLemmas.{placed_within, parent_first, ancestor_first, ancestor_by_parent}
 use Rattle.hg_graph.proofs.PlaceLemmas.{ancestor_through_parent, ancestor_itself}
-use Rattle.hg_graph.proofs.WalkLemmas.{less_from_cmp}
-use Rattle.hg_view.specs.Above.{IsUnderOne, IsAbove, TakesAfter}
+use Rattle.hg_graph.proofs.QueueLemmas.{past, past-falls, waits_before}
+use Rattle.hg_view.specs.Above.{IsUnderOne, IsAbove}
 
 -- ---- lists of places
-
--- a bound after each of the places
-abbrev pub bound_of : List ℕ → ℕ
-bound_of [] = zero
-bound_of (k ∷ ks) = max (suc k) (bound_of ks)
-
-bound_after : (ks : List ℕ) (k : ℕ) → Contains ks k → k < bound_of ks
-bound_after [] k h = absurd (Contains-none k h)
-bound_after (x ∷ ks) k h = elim (Contains-cons_cases x ks k h)
-    [ inl e ↦ omega (arith, e) | inr later ↦ let rest = bound_after ks k later in omega (arith, rest) ]
-
-bound_least : (ks : List ℕ) (n : ℕ) → ((k : ℕ) → Contains ks k → k < n) → bound_of ks ≤ n
-bound_least [] n h = omega arith
-bound_least (x ∷ ks) n h =
-    let first = h x (Contains-first x ks) in
-    let rest = bound_least ks n (λ k c. h k (Contains-later x ks k c)) in
-    omega (arith, first, rest)
-
--- where the new places are before one of the old, so is the bound
-pub bound_smaller : (old new : List ℕ) (g : ℕ) → Contains old g → ((k : ℕ) → Contains new k → k < g)
-    → bound_of new < bound_of old
-bound_smaller old new g there before =
-    let after = bound_after old g there in
-    let least = bound_least new g before in
-    omega (arith, after, least)
 
 pub Contains-reversed : (xs : List ℕ) (k : ℕ) → Contains (reverse xs) k ↔ Contains xs k
 Contains-reversed xs k = (
@@ -109,47 +82,42 @@ pub record IsSearched (cs : List Contents) (tops common fresh shared found : Lis
 
 module _ (cs : List Contents) (graph : IsGraph cs) where
   -- a place gives way to its parents: what is under those that wait, and before it, stays
-  module _ (g : ℕ) (old rest new : List ℕ) (parts : (k : ℕ) → Contains old k ↔ (Contains rest k ⊎ (g ≡ k)))
-      (adds : (k : ℕ) → Contains new k ↔ (Contains rest k ⊎ IsParentPlace cs g k)) where
+  module _ (g : ℕ) (old rest new : List ℕ) (parts : IsOneOf (Contains old) g rest)
+      (adds : Widens (IsParentPlace cs g) rest new) where
     under_parents : (k : ℕ) → k < g → IsUnderOne cs new k ↔ IsUnderOne cs old k
     under_parents k before = (
       λ h. elim ((adds h.0).0 h.1) [
-        | inl kept ↦ (h.0, (parts h.0).1 (inl kept), h.2)
-        | inr parent ↦ (g, (parts g).1 (inr refl), ancestor_through_parent cs k h.0 g parent h.2)
+        | inl kept ↦ (h.0, (parts h.0).1 (inr kept), h.2)
+        | inr parent ↦ (g, (parts g).1 (inl refl), ancestor_through_parent cs k h.0 g parent h.2)
       ],
       λ h. elim ((parts h.0).0 h.1) [
-        | inl kept ↦ (h.0, (adds h.0).1 (inl kept), h.2)
-        | inr e ↦
+        | inl e ↦
             let up = ancestor_by_parent cs graph k g before (subst (IsAncestorPlace cs k) (sym e) h.2) in
             (up.0, (adds up.0).1 (inr up.1), up.2)
+        | inr kept ↦ (h.0, (adds h.0).1 (inl kept), h.2)
       ],
     )
-
-    parents_before : ((k : ℕ) → Contains rest k → k < g) → (k : ℕ) → Contains new k → k < g
-    parents_before less k c = elim ((adds k).0 c)
-        [ inl kept ↦ less k kept | inr parent ↦ parent_first cs graph g k parent ]
 
   -- ---- what is common goes down
 
   module _ {place : ℕ} {first waiting : List ℕ} (rest : List ℕ) (s : IsLowered cs place first waiting) where
     module _ (g : ℕ) (taken : TakesAfter place waiting rest (Some g)) where
       pub later_within : g < length cs
-      later_within = s.within g ((taken.1 g).1 (inr refl))
+      later_within = s.within g ((taken.1.0 g).1 (inl refl))
 
-      module _ (new : List ℕ) (adds : (k : ℕ) → Contains new k ↔ (Contains rest k ⊎ IsParentPlace cs g k)) where
+      module _ (new : List ℕ) (adds : Widens (IsParentPlace cs g) rest new) where
         pub IsLowered-step : IsLowered cs place first new
         IsLowered-step = record {
-          within = λ k c. let before = parents_before g waiting rest new taken.1 adds taken.2 k c in
+          within = λ k c. let before = waits_before cs graph waiting rest new g taken.1 (λ j. (adds j).0) k c in
               omega (arith, before, later_within);
           under = λ k le.
-              let kept = under_parents g waiting rest new taken.1 adds k (omega (arith, le, taken.0)) in
+              let kept = under_parents g waiting rest new taken.1.0 adds k (omega (arith, le, taken.0)) in
               let old = s.under k le in
               (λ h. old.0 (kept.0 h), λ h. kept.1 (old.1 h));
         }
 
-        pub lowered_smaller : bound_of new < bound_of waiting
-        lowered_smaller = bound_smaller waiting new g ((taken.1 g).1 (inr refl))
-            (parents_before g waiting rest new taken.1 adds taken.2)
+        pub lowered_smaller : past new < past waiting
+        lowered_smaller = past-falls cs graph waiting rest new g taken.1 (λ k. (adds k).0)
 
     module _ (none : TakesAfter place waiting rest None) where
       pub IsLowered-end : IsLowered cs place first rest
@@ -194,7 +162,7 @@ module _ (cs : List Contents) (graph : IsGraph cs) where
 
     module _ {fresh shared found : List ℕ} {b : ℕ} (s : IsSearched cs tops common fresh shared found b) where
       -- nothing waits: what was found is all
-      pub found_all : fresh ≡ [] → (k : ℕ) → Contains (reverse found) k ↔ IsAbove cs tops common k
+      pub found_all : ((k : ℕ) → ¬ (Contains fresh k)) → (k : ℕ) → Contains (reverse found) k ↔ IsAbove cs tops common k
       found_all empty k = (
         λ c. ((s.exact k).0 ((Contains-reversed found k).0 c)).1,
         λ h. (Contains-reversed found k).1 ((s.exact k).1 (from h, h)),
@@ -204,94 +172,87 @@ module _ (cs : List Contents) (graph : IsGraph cs) where
           from h = elim (cases_lt k b) [
             | inl before ↦
                 let w = s.complete k before h in
-                absurd (Contains-none w.0 (subst (λ ks. Contains ks w.0) empty w.1))
+                absurd (empty w.0 w.1)
             | inr after ↦ omega (arith, after)
           ]
 
       -- the greatest that waited is taken
-      module _ (p : ℕ) (rest : List ℕ) (removal : fresh ≡ rest ++ p ∷ []) (all : All (λ q. nat_cmp q p ≡ Less) rest)
-        where
-          parts : (k : ℕ) → Contains fresh k ↔ (Contains rest k ⊎ (p ≡ k))
-          parts k = subst (λ ks. Contains ks k ↔ (Contains rest k ⊎ (p ≡ k))) (sym removal) (Contains-pushed rest p k)
+      module _ (p : ℕ) (rest : List ℕ) (last : IsLast (Contains fresh) rest p) where
+        there : Contains fresh p
+        there = (last.0 p).1 (inl refl)
 
-          before : (k : ℕ) → Contains rest k → k < p
-          before k c = less_from_cmp k p (All-contains (λ q. nat_cmp q p ≡ Less) rest k all c)
+        pub taken_within : p < length cs
+        taken_within = under_within cs tops p (s.waits p there).1
 
-          there : Contains fresh p
-          there = (parts p).1 (inr refl)
+        -- of those from it up to the places that are searched no other is wanted
+        only_here : (k : ℕ) → p ≤ k → IsAbove cs tops common k → (b ≤ k) ⊎ (k ≡ p)
+        only_here k from h = elim (cases_lt k b) [
+          | inl lower ↦
+              let w = s.complete k lower h in
+              let up : k ≤ w.0 = ancestor_first cs graph k w.0 w.2 in
+              elim ((last.0 w.0).0 w.1) [
+                | inl e ↦ inr (omega (arith, e, up, from))
+                | inr kept ↦ absurd (let less = last.1 w.0 kept in omega (arith, less, up, from))
+              ]
+          | inr after ↦ inl (omega (arith, after))
+        ]
 
-          pub taken_within : p < length cs
-          taken_within = under_within cs tops p (s.waits p there).1
+        module _ (lowered : List ℕ) (down : IsLowered cs p shared lowered) where
+          still : (k : ℕ) → k ≤ p → IsUnderOne cs lowered k ↔ IsUnderOne cs common k
+          still k le =
+              let new = down.under k le in
+              let old = s.under k (omega (arith, le, (s.waits p there).0)) in
+              (λ h. old.0 (new.0 h), λ h. new.1 (old.1 h))
 
-          -- of those from it up to the places that are searched no other is wanted
-          only_here : (k : ℕ) → p ≤ k → IsAbove cs tops common k → (b ≤ k) ⊎ (k ≡ p)
-          only_here k from h = elim (cases_lt k b) [
-            | inl lower ↦
-                let w = s.complete k lower h in
-                let up : k ≤ w.0 = ancestor_first cs graph k w.0 w.2 in
-                elim ((parts w.0).0 w.1) [
-                  | inl kept ↦ absurd (let less = before w.0 kept in omega (arith, less, up, from))
-                  | inr e ↦ inr (omega (arith, e, up, from))
-                ]
-            | inr after ↦ inl (omega (arith, after))
-          ]
+          -- it is common: it is dropped
+          module _ (is : IsUnderOne cs shared p) where
+            is_common : IsUnderOne cs common p
+            is_common = (s.under p (s.waits p there).0).0 is
 
-          module _ (lowered : List ℕ) (down : IsLowered cs p shared lowered) where
-            still : (k : ℕ) → k ≤ p → IsUnderOne cs lowered k ↔ IsUnderOne cs common k
-            still k le =
-                let new = down.under k le in
-                let old = s.under k (omega (arith, le, (s.waits p there).0)) in
-                (λ h. old.0 (new.0 h), λ h. new.1 (old.1 h))
+            pub IsSearched-dropped : IsSearched cs tops common rest lowered found p
+            IsSearched-dropped = record {
+              waits = λ k c. (last.1 k c, (s.waits k ((last.0 k).1 (inr c))).1);
+              complete = λ k l h.
+                  let w = s.complete k (omega (arith, l, (s.waits p there).0)) h in
+                  elim ((last.0 w.0).0 w.1) [
+                    | inl e ↦ absurd
+                        (h.1 (under_through cs common k p (subst (IsAncestorPlace cs k) (sym e) w.2) is_common))
+                    | inr kept ↦ (w.0, kept, w.2)
+                  ];
+              within = down.within;
+              under = λ k l. still k (omega (arith, l));
+              exact = λ k. (
+                λ c. let old = (s.exact k).0 c in (omega (arith, old.0, (s.waits p there).0), old.1),
+                λ h. elim (only_here k h.0 h.1) [
+                  | inl after ↦ (s.exact k).1 (after, h.1)
+                  | inr e ↦ absurd (h.1.1 (subst (IsUnderOne cs common) (sym e) is_common))
+                ],
+              );
+              descending = s.descending;
+            }
 
-            -- it is common: it is dropped
-            module _ (is : IsUnderOne cs shared p) where
-              is_common : IsUnderOne cs common p
-              is_common = (s.under p (s.waits p there).0).0 is
+            pub dropped_smaller : past rest < past fresh
+            dropped_smaller = past-falls cs graph fresh rest rest p last (λ k c. inl c)
 
-              pub IsSearched-dropped : IsSearched cs tops common rest lowered found p
-              IsSearched-dropped = record {
-                waits = λ k c. (before k c, (s.waits k ((parts k).1 (inl c))).1);
-                complete = λ k l h.
-                    let w = s.complete k (omega (arith, l, (s.waits p there).0)) h in
-                    elim ((parts w.0).0 w.1) [
-                      | inl kept ↦ (w.0, kept, w.2)
-                      | inr e ↦ absurd
-                          (h.1 (under_through cs common k p (subst (IsAncestorPlace cs k) (sym e) w.2) is_common))
-                    ];
-                within = down.within;
-                under = λ k l. still k (omega (arith, l));
-                exact = λ k. (
-                  λ c. let old = (s.exact k).0 c in (omega (arith, old.0, (s.waits p there).0), old.1),
-                  λ h. elim (only_here k h.0 h.1) [
-                    | inl after ↦ (s.exact k).1 (after, h.1)
-                    | inr e ↦ absurd (h.1.1 (subst (IsUnderOne cs common) (sym e) is_common))
-                  ],
-                );
-                descending = s.descending;
-              }
-
-              pub dropped_smaller : bound_of rest < bound_of fresh
-              dropped_smaller = bound_smaller fresh rest p there before
-
-            -- it is wanted: it is found, and its parents wait
-            module _ (is_not : ¬ (IsUnderOne cs shared p)) (next : List ℕ)
-                (adds : (k : ℕ) → Contains next k ↔ (Contains rest k ⊎ IsParentPlace cs p k)) where
+          -- it is wanted: it is found, and its parents wait
+          module _ (is_not : ¬ (IsUnderOne cs shared p)) (next : List ℕ) (adds : Widens (IsParentPlace cs p) rest next)
+            where
               wanted : IsAbove cs tops common p
               wanted = ((s.waits p there).1, λ h. is_not ((s.under p (s.waits p there).0).1 h))
 
               pub IsSearched-found : IsSearched cs tops common next lowered (found ++ p ∷ []) p
               IsSearched-found = record {
                 waits = λ k c. (
-                  parents_before p fresh rest next parts adds before k c,
+                  waits_before cs graph fresh rest next p last (λ j. (adds j).0) k c,
                   elim ((adds k).0 c) [
-                    | inl kept ↦ (s.waits k ((parts k).1 (inl kept))).1
+                    | inl kept ↦ (s.waits k ((last.0 k).1 (inr kept))).1
                     | inr parent ↦
                         let l = parent_first cs graph p k parent in
                         let itself_in = ancestor_itself cs graph k (omega (arith, l, taken_within)) in
                         under_through cs tops k p (ancestor_through_parent cs k k p parent itself_in) wanted.0
                   ],
                 );
-                complete = λ k l h. (under_parents p fresh rest next parts adds k l).1
+                complete = λ k l h. (under_parents p fresh rest next last.0 adds k l).1
                     (s.complete k (omega (arith, l, (s.waits p there).0)) h);
                 within = down.within;
                 under = λ k l. still k (omega (arith, l));
@@ -309,5 +270,5 @@ module _ (cs : List Contents) (graph : IsGraph cs) where
                     (λ k c. let old = (s.exact k).0 c in omega (arith, old.0, (s.waits p there).0));
               }
 
-              pub found_smaller : bound_of next < bound_of fresh
-              found_smaller = bound_smaller fresh next p there (parents_before p fresh rest next parts adds before)
+              pub found_smaller : past next < past fresh
+              found_smaller = past-falls cs graph fresh rest next p last (λ k. (adds k).0)

@@ -1,42 +1,19 @@
 -- A walk down from the places without children, by the places that wait.
-use Rattle.std.proofs.Common.{◌≡◌, ℕ, zero, suc, ◌<◌, ◌≤◌, ◌+◌, max, List, [], ◌∷◌, ◌++◌, length, Some}
-use Rattle.std.proofs.Common.{take, get_or, All, Contains, ◌↔◌, ◌⊎◌, inl, inr, refl, sym, subst, arith}
-use Rattle.std.specs.Ordering.{nat_cmp}
-use Rattle.std.specs.declared.cmp.Ordering.TheVariants.{Less}
+use Rattle.std.proofs.Common.{◌≡◌, ℕ, zero, suc, ◌<◌, ◌≤◌, ◌+◌, List, [], ◌∷◌, ◌++◌, length}
+use Rattle.std.proofs.Common.{take, get_or, Contains, ◌↔◌, ◌⊎◌, inl, inr, refl, sym, subst, arith}
 use Rattle.std.proofs.lemmas.Bool.{cases_lt, cases_eq}
 use Rattle.std.proofs.lemmas.List.Elements.{Contains-push, Contains-push_cases, Contains-append_left}
 use Rattle.std.proofs.lemmas.Option.{slice_get_within}
 use Rattle.hg_changeset.specs.Contents.{Contents}
+use Rattle.hg_changeset.proofs.ListLemmas.{Contains-none, Contains-first, Contains-later, Contains-cons_cases}
 use Rattle.hg_graph.specs.Graph.{IsGraph}
 use Rattle.hg_graph.specs.Places.{IsParentPlace}
-use Rattle.hg_graph.specs.Waiting.{IsNextOf}
+use Rattle.hg_graph.specs.Waiting.{IsLast}
 use Rattle.hg_graph.proofs.PlaceLemmas.{parent_first, placed_within}
-use Rattle.hg_graph.proofs.WalkLemmas.{contains_none, contains_first, contains_later, contains_cases, taken_one}
-use Rattle.hg_graph.proofs.AscentLemmas.{next_popped}
-use Rattle.hg_instab.proofs.WaitingLemmas.{widens-none, widens-same, widens-then}
+use Rattle.hg_graph.proofs.WalkLemmas.{contains_none, taken_one}
+use Rattle.hg_graph.proofs.QueueLemmas.{widens-none, widens-same, widens-then, past, past-falls, waits_before}
 use Rattle.hg_view.specs.Descent.{Finds, GoesOn, HasChildIn, IsChildless, IsClosedUnderParents}
 use Rattle.hg_view.specs.Tops.{IsTop}
-
--- the first place after all of them
-pub past : List ℕ → ℕ
-past [] = 0
-past (k ∷ ks) = max (suc k) (past ks)
-
-pub past_after : (ks : List ℕ) (k : ℕ) → Contains ks k → k < past ks
-unfolding past
-past_after [] k h = absurd (omega (arith, h.1))
-past_after (m ∷ ks) k h = elim (contains_cases m k ks h) [
-  | inl e ↦ omega (arith, e)
-  | inr later ↦ let l = past_after ks k later in omega (arith, l)
-]
-
-pub past_least : (ks : List ℕ) (b : ℕ) → ((k : ℕ) → Contains ks k → k < b) → past ks ≤ b
-unfolding past
-past_least [] b h = omega arith
-past_least (m ∷ ks) b h =
-    let l = past_least ks b (λ k c. h k (contains_later m k ks c)) in
-    let first = h m (contains_first m ks) in
-    omega (arith, l, first)
 
 -- a child's place is one of the graph, and so is its parent's
 pub child_within : (cs : List Contents) (j k : ℕ) → IsParentPlace cs j k → j < length cs
@@ -47,12 +24,12 @@ parent_within cs j k h = placed_within cs h.1 k h.4
 
 -- it can be told whether a place is one of these
 told_of : (ks : List ℕ) (k : ℕ) → Contains ks k ⊎ (¬ (Contains ks k))
-told_of [] k = inr (λ c. contains_none [] k refl c)
+told_of [] k = inr (Contains-none k)
 told_of (m ∷ ks) k = elim (cases_eq m k) [
-  | inl e ↦ inl (subst (Contains (m ∷ ks)) e (contains_first m ks))
+  | inl e ↦ inl (subst (Contains (m ∷ ks)) e (Contains-first m ks))
   | inr ne ↦ elim (told_of ks k) [
-    | inl later ↦ inl (contains_later m k ks later)
-    | inr out ↦ inr (λ c. elim (contains_cases m k ks c) [ inl e ↦ omega (arith, ne, e) | inr later ↦ out later ])
+    | inl later ↦ inl (Contains-later m ks k later)
+    | inr out ↦ inr (λ c. elim (Contains-cons_cases m ks k c) [ inl e ↦ omega (arith, ne, e) | inr later ↦ out later ])
   ]
 ]
 
@@ -127,24 +104,22 @@ module _ (cs : List Contents) (graph : IsGraph cs) (P : ℕ → Type 0) (within 
     ]
 
     -- what is a top has been found
-    pub IsDescended-end : waiting ≡ [] → (k : ℕ) → Contains found k ↔ IsTop cs P k
+    pub IsDescended-end : ((k : ℕ) → ¬ (Contains waiting k)) → (k : ℕ) → Contains found k ↔ IsTop cs P k
     IsDescended-end empty k = (
       λ c. ((s.tops k).0 c).1,
       λ top. (s.tops k).1 (
-        passed 0 (λ j c. absurd (contains_none waiting j empty c)) k (omega arith) (within k top.0)
+        passed 0 (λ j c. absurd (empty j c)) k (omega arith) (within k top.0)
             (λ h. top.1 h.0 h.1 h.2),
         top,
       ),
     )
 
-    module _ (place : ℕ) (rest : List ℕ) (removal : waiting ≡ rest ++ place ∷ [])
-        (under : All (λ q. nat_cmp q place ≡ Less) rest) where
-      -- the greatest that waits, and the others
-      next : IsNextOf (Contains waiting) rest (Some place)
-      next = next_popped (Contains waiting) waiting rest (Some place) (λ k. (λ h. h, λ h. h)) (λ l. refl) removal under
+    module _ (place : ℕ) (rest : List ℕ) (last : IsLast (Contains waiting) rest place) where
+      next_waits : (place < b) × (place < length cs)
+      next_waits = s.waits place ((last.0 place).1 (inl refl))
 
       pub next_within : place < length cs
-      next_within = (s.waits place next.0).1
+      next_within = next_waits.1
 
       -- after the visit of the greatest that waits
       pub IsDescended-step : (after more : List ℕ) → GoesOn cs P (λ j. place ≡ j) rest after
@@ -170,27 +145,29 @@ module _ (cs : List Contents) (graph : IsGraph cs) (P : ℕ → Type 0) (within 
                 (omega (arith, l_k, first)))
           ];
         },
-        let old = past_after waiting place next.0 in
-            let new = past_least after place before in
-            omega (arith, old, new),
+        past-falls cs graph waiting rest after place last from,
       )
         where
           first : place < b
-          first = (s.waits place next.0).0
+          first = next_waits.0
 
-          before : (k : ℕ) → Contains after k → k < place
-          before k c = elim ((goes_on k).0 c) [
-            | inl old ↦ (next.1 k old).0
-            | inr parent ↦ parent_first cs graph place k (subst (λ j. IsParentPlace cs j k) (sym parent.1) parent.3)
+          from : (k : ℕ) → Contains after k → Contains rest k ⊎ IsParentPlace cs place k
+          from k c = elim ((goes_on k).0 c) [
+            | inl old ↦ inl old
+            | inr parent ↦ inr (subst (λ j. IsParentPlace cs j k) (sym parent.1) parent.3)
           ]
 
+          before : (k : ℕ) → Contains after k → k < place
+          before = waits_before cs graph waiting rest after place last from
+
           still : (k : ℕ) → k < place → Contains waiting k → Contains after k
-          still k l c = elim (next.2 k c) [ inl e ↦ absurd (omega (arith, e, l)) | inr old ↦ (goes_on k).1 (inl old) ]
+          still k l c =
+              elim ((last.0 k).0 c) [ inl e ↦ absurd (omega (arith, e, l)) | inr old ↦ (goes_on k).1 (inl old) ]
 
           up_to : (k : ℕ) → Contains waiting k → k < suc place
-          up_to k c = elim (next.2 k c) [
+          up_to k c = elim ((last.0 k).0 c) [
             | inl e ↦ omega (arith, e)
-            | inr old ↦ let l = (next.1 k old).0 in omega (arith, l)
+            | inr old ↦ let l = last.1 k old in omega (arith, l)
           ]
 
           far : (k : ℕ) → (place ≤ k ⊎ Contains childless k) → ¬ (place ≡ k) → k < length cs

@@ -1,18 +1,17 @@
 -- Each changeset of what is in view is a head of it, or an ancestor of one.
 use Rattle.std.proofs.Common.{◌≡◌, ◌≢◌, ℕ, zero, suc, ◌<◌, ◌≤◌, ◌+◌, List, [], ◌∷◌, length, Contains, ◌↔◌, ◌⊎◌}
-use Rattle.std.proofs.Common.{inl, inr, refl, sym, ap, subst, arith, ◌∙◌}
+use Rattle.std.proofs.Common.{inl, inr, sym, ap, subst, arith, ◌∙◌}
 use Rattle.std.proofs.lemmas.Bool.{cases_eq}
 use Rattle.std.proofs.lemmas.Option.{same_Some}
 use Rattle.hg_changeset.specs.Node.{null_node}
 use Rattle.hg_changeset.specs.Contents.{Contents}
 use Rattle.hg_changeset.proofs.NodeLemmas.{node_cases}
-use Rattle.hg_changeset.proofs.ListLemmas.{slice_get_some}
+use Rattle.hg_changeset.proofs.ListLemmas.{slice_get_some, Contains-none, Contains-first, Contains-later, Contains-cons_cases}
 use Rattle.hg_graph.specs.Graph.{nodes, Holds, IsGraph}
 use Rattle.hg_graph.specs.Places.{IsParentPlace, IsAncestorPlace}
 use Rattle.hg_graph.proofs.GraphLemmas.{Contains-from_place, null_not_held}
 use Rattle.hg_graph.proofs.PlaceLemmas.{IsAt-within, parent_first, ancestor_first}
 use Rattle.hg_graph.proofs.PlaceLemmas.{ancestor_by_parent, ancestor_through_parent, ancestor_itself}
-use Rattle.hg_graph.proofs.WalkLemmas.{contains_none, contains_first, contains_later, contains_cases}
 use Rattle.hg_phases.proofs.LowerLemmas.{parent_of_ancestor}
 use Rattle.hg_view.specs.Descent.{IsCovered}
 use Rattle.hg_view.specs.Tops.{IsTop}
@@ -84,13 +83,13 @@ module _ (cs : List Contents) (graph : IsGraph cs) where
   -- whether one of the places covers another can be told
   covered_cases : (hs : List ℕ) → ((h : ℕ) → Contains hs h → h < length cs) → (k : ℕ) → k < length cs
       → IsCovered cs hs k ⊎ ¬ (IsCovered cs hs k)
-  covered_cases [] there k k_in = inr (λ c. contains_none [] c.0 refl c.1)
+  covered_cases [] there k k_in = inr (λ c. Contains-none c.0 c.1)
   covered_cases (h ∷ hs) there k k_in =
-      elim (ancestor_cases (length cs) k h (there h (contains_first h hs)) k_in (there h (contains_first h hs))) [
-        | inl reach ↦ inl (h, contains_first h hs, reach)
-        | inr not_here ↦ elim (covered_cases hs (λ m c. there m (contains_later h m hs c)) k k_in) [
-          | inl c ↦ inl (c.0, contains_later h c.0 hs c.1, c.2)
-          | inr none ↦ inr (λ c. elim (contains_cases h c.0 hs c.1) [
+      elim (ancestor_cases (length cs) k h (there h (Contains-first h hs)) k_in (there h (Contains-first h hs))) [
+        | inl reach ↦ inl (h, Contains-first h hs, reach)
+        | inr not_here ↦ elim (covered_cases hs (λ m c. there m (Contains-later h hs m c)) k k_in) [
+          | inl c ↦ inl (c.0, Contains-later h hs c.0 c.1, c.2)
+          | inr none ↦ inr (λ c. elim (Contains-cons_cases h hs c.0 c.1) [
             | inl e ↦ not_here (subst (IsAncestorPlace cs k) (sym e) c.2)
             | inr later ↦ none (c.0, later, c.2)
           ])

@@ -1,6 +1,8 @@
 -- What is kept beside a replica that absorbs, and what is in view by it.
 use Rattle.std.proofs.Common.{◌≡◌, [], ◌∷◌, Contains, Result}
 use Rattle.std.proofs.Common.{Ok, Err, IfOk, OnOk, ◌↔◌, ◌⊎◌, inl, inr, sym, subst, ◌∙◌}
+use Rattle.hg_join.specs.declared.absorbed.Absorbed.{Absorbed}
+use Rattle.hg_join.specs.Absorbed.{without_undo, join_without_undo}
 use Rattle.hg_changeset.specs.declared.node.Node.{Node}
 use Rattle.hg_graph.specs.Graph.{Holds}
 use Rattle.hg_graph.proofs.PlaceLemmas.{Holds-reaching}
@@ -16,11 +18,9 @@ use Rattle.hg_replica.specs.State.{ReplicaState, IsValid, Below}
 use Rattle.hg_replica.specs.Least.{PartValue, part_of}
 use Rattle.hg_replica.specs.Change.{ChangeValue, IsNothing}
 use Rattle.hg_replica.specs.Answer.{AbsorbAnswer, JoinAnswer, IsAbsorbed, IsJoin, IsGrowthBeforeFault}
-use Rattle.hg_replica.specs.Absorbed.{without_undo, join_without_undo}
 use Rattle.hg_replica.specs.Undo.{LeadsBack, UndoValue}
 use Rattle.hg_replica.specs.Content.{content_of}
 use Rattle.hg_replica.specs.Evolution.{IsVisible}
-use Rattle.hg_replica.specs.declared.undo.Absorbed.{Absorbed}
 use Rattle.hg_replica.proofs.LeastLemmas.{least-above, least-valid}
 use Rattle.hg_replica.proofs.ContentLemmas.{told-change}
 use Rattle.hg_instab.specs.Changed.{IsChangedTo}
@@ -86,7 +86,7 @@ within-joined s o valid below = (
 
 module _ (s : ReplicaState) (k : PartValue) (t after : ReplicaState) (sets sets_after : InstabilitySets) where
   -- the part is absorbed, or the replica is as it was
-  pub kept-answer : (answered : Result Absorbed Fault) (result : Result ChangeValue Fault)
+  pub kept-answer : (answered : Result (Absorbed ChangeValue UndoValue) Fault) (result : Result ChangeValue Fault)
       → AbsorbAnswer s k (without_undo answered) t → IfOk answered (λ absorbed. LeadsBack t absorbed.undo s)
       → KeepsUp answered t sets result after sets_after → AbsorbAnswer s k result after
   unfolding AbsorbAnswer
@@ -101,7 +101,7 @@ module _ (s : ReplicaState) (k : PartValue) (t after : ReplicaState) (sets sets_
       subst (λ (r : Result ChangeValue Fault). AbsorbAnswer s k r after) (sym keeps.0) (answer.0, keeps.1 ∙ answer.1)
 
   -- want of memory is told only where something grew
-  pub kept-memory : (answered : Result Absorbed Fault) (result : Result ChangeValue Fault)
+  pub kept-memory : (answered : Result (Absorbed ChangeValue UndoValue) Fault) (result : Result ChangeValue Fault)
       → (answered ≡ Err NoMemory → IsGrowthBeforeFault s k)
       → IfOk answered (λ absorbed. IsNothing absorbed.change ⊎ IsGrowthBeforeFault s k)
       → KeepsUp answered t sets result after sets_after → result ≡ Err NoMemory → IsGrowthBeforeFault s k
@@ -125,7 +125,7 @@ module _ (s : ReplicaState) (k : PartValue) (t after : ReplicaState) (sets sets_
     }
 
     -- the sets are those of the replica then, and it is valid
-    pub kept-sets : (answered : Result Absorbed Fault) (result : Result ChangeValue Fault)
+    pub kept-sets : (answered : Result (Absorbed ChangeValue UndoValue) Fault) (result : Result ChangeValue Fault)
         → AbsorbAnswer s k (without_undo answered) t → IfOk answered (λ absorbed. LeadsBack t absorbed.undo s)
         → IfOk answered (λ absorbed. IsNothing absorbed.change → t ≡ s)
         → KeepsUp answered t sets result after sets_after
@@ -149,7 +149,8 @@ module _ (s : ReplicaState) (k : PartValue) (t after : ReplicaState) (sets sets_
 module _ (s : ReplicaState) (k : PartValue) (t : ReplicaState) (tops : Tops) (valid : IsValid s)
     (are : AreTops s.history tops) where
   -- what is absorbed changes s, of which these are the tops
-  pub kept-changed : (answered : Result Absorbed Fault) → AbsorbAnswer s k (without_undo answered) t
+  pub kept-changed : (answered : Result (Absorbed ChangeValue UndoValue) Fault)
+      → AbsorbAnswer s k (without_undo answered) t
       → IfOk answered (λ absorbed. (u : ReplicaState) × IsChangedTo u absorbed.change t × AreTops u.history tops)
   unfolding AbsorbAnswer
   kept-changed (Ok absorbed) answer = (
@@ -173,7 +174,7 @@ same-tops s after tops tops_after are same same_tops =
 module _ (s : ReplicaState) (k : PartValue) (t after : ReplicaState) (sets sets_after : InstabilitySets)
     (tops tops_after : Tops) (are : AreTops s.history tops) where
   -- the tops are those of the replica then
-  pub kept-tops : (answered : Result Absorbed Fault) (result : Result ChangeValue Fault)
+  pub kept-tops : (answered : Result (Absorbed ChangeValue UndoValue) Fault) (result : Result ChangeValue Fault)
       → AbsorbAnswer s k (without_undo answered) t → IfOk answered (λ absorbed. LeadsBack t absorbed.undo s)
       → IfOk answered (λ absorbed. IsNothing absorbed.change → t ≡ s)
       → KeepsUp answered t sets result after sets_after → KeepsTops answered t tops result tops_after

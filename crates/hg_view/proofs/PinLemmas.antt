@@ -1,5 +1,5 @@
 -- Views under pins, beside the views without.
-use Rattle.std.proofs.Common.{◌≡◌, List, [], Contains, ◌↔◌, ◌⊎◌, inl, inr, sym, subst}
+use Rattle.std.proofs.Common.{List, [], Contains, ◌↔◌, ◌⊎◌, inl, inr}
 use Rattle.hg_changeset.specs.declared.node.Node.{Node}
 use Rattle.hg_changeset.proofs.ListLemmas.{Contains-none}
 use Rattle.hg_history.specs.Content.{Leads}
@@ -65,14 +65,6 @@ hidden-unpinned f n = others-alike (visible-unpinned f n)
 
 pub served-unpinned : (f : Content) (n : Node) → IsServedUnder f [] n ↔ IsServed f n
 served-unpinned f n = rest-alike (visible-unpinned f n)
-
--- the same where there turn out to be none
-module _ (f : Content) (pins : List Node) (none : pins ≡ []) (n : Node) where
-  pub visible-without : IsVisibleUnder f pins n ↔ IsVisible f n
-  visible-without = subst (λ (ns : List Node). IsVisibleUnder f ns n ↔ IsVisible f n) (sym none) (visible-unpinned f n)
-
-  pub served-without : IsServedUnder f pins n ↔ IsServed f n
-  served-without = subst (λ (ns : List Node). IsServedUnder f ns n ↔ IsServed f n) (sym none) (served-unpinned f n)
 
 -- ---- the same members
 

@@ -1,24 +1,21 @@
 -- What pins no longer uphold once one of them is taken away, and the walk that finds it.
 use Rattle.std.proofs.Common.{◌≡◌, ◌≢◌, ℕ, ◌+◌, ◌<◌, List, [], take, get_or, length, slice_get, Option, Some, None}
-use Rattle.std.proofs.Common.{MatchOption, Contains, ◌↔◌, ◌⊎◌, inl, inr, refl}
-use Rattle.std.proofs.Common.{sym, ap, subst, ◌∙◌, arith}
+use Rattle.std.proofs.Common.{MatchOption, Contains, ◌↔◌, inl, inr}
+use Rattle.std.proofs.Common.{sym, ap, subst, ◌∙◌}
 use Rattle.std.proofs.lemmas.Bool.{cases_eq}
 use Rattle.std.proofs.lemmas.Option.{same_Some}
 use Rattle.hg_changeset.specs.declared.node.Node.{Node}
-use Rattle.hg_changeset.specs.Contents.{Contents}
 use Rattle.hg_changeset.proofs.ListLemmas.{Contains-none, Contains-taken}
-use Rattle.hg_graph.specs.Graph.{nodes, Holds, IsGraph}
+use Rattle.hg_graph.specs.Graph.{nodes, Holds}
 use Rattle.hg_graph.specs.Places.{IsAt, IsOnlyAt, IsParentPlace}
+use Rattle.hg_graph.specs.Waiting.{Widens, IsLast}
 use Rattle.hg_graph.proofs.GraphLemmas.{Contains-from_place}
-use Rattle.hg_graph.proofs.PlaceLemmas.{parent_first}
 use Rattle.hg_phases.specs.State.{changesets}
 use Rattle.hg_replica.specs.State.{ReplicaState, IsValid}
 use Rattle.hg_replica.specs.Content.{Content, content_of}
 use Rattle.hg_instab.specs.Local.{IsParentOf}
-use Rattle.hg_instab.specs.Settling.{Widens, IsOneOf}
 use Rattle.hg_instab.specs.Walk.{Adds}
 use Rattle.hg_instab.proofs.SettlingLemmas.{parent-from_place, place-from_parent, placed-node}
-use Rattle.hg_instab.proofs.WaitingLemmas.{most, most-falls}
 use Rattle.hg_view.specs.Shown.{IsAtOne}
 use Rattle.hg_view.specs.Upheld.{AreUpheld}
 use Rattle.hg_view.specs.Released.{AreReleased, AreReleasing, IsUpheldStill, IsPinnedBut, IsLeft, IsLeftAt}
@@ -44,14 +41,6 @@ upheld-left f pins fewer upheld gone left but are r lefts fewers = record {
 }
 
 -- ---- the walk
-
--- of what waits the highest place is taken
-abbrev pub TakesHighest : ℕ → List ℕ → List ℕ → Type 0
-TakesHighest place waiting rest = IsOneOf place rest waiting × ((k : ℕ) → Contains rest k → k < place)
-
--- how much is left, by what waits
-abbrev pub left_of : List ℕ → ℕ
-left_of waiting = most (λ k. k + 1) waiting
 
 module _ (s : ReplicaState) (pins : List Node) (but : Node) (upheld : List Node) where
   -- nothing has gone, and the one waits
@@ -81,15 +70,16 @@ module _ (s : ReplicaState) (pins : List Node) (but : Node) (upheld : List Node)
 
   -- no place waits
   pub releasing-end : (v : IsValid s) (gone : List Node) (waiting : List ℕ) → AreUpheld (content_of s) pins upheld
-      → waiting ≡ [] → AreReleasing s pins but upheld gone waiting → AreReleased (content_of s) pins but upheld gone
-  releasing-end v gone waiting are ended w = record {
+      → ((k : ℕ) → ¬ (Contains waiting k)) → AreReleasing s pins but upheld gone waiting
+      → AreReleased (content_of s) pins but upheld gone
+  releasing-end v gone waiting are none w = record {
     loose = w.loose;
     firm = λ n left.
         let k = placed-node s v n (are.held n left.0) in
-        w.firm n k.0 k.1 left (λ h. Contains-none k.0 (subst (λ ks. Contains ks k.0) ended h));
+        w.firm n k.0 k.1 left (none k.0);
   }
 
-  module _ (gone : List Node) (waiting rest : List ℕ) (place : ℕ) (next : TakesHighest place waiting rest)
+  module _ (gone : List Node) (waiting rest : List ℕ) (place : ℕ) (next : IsLast (Contains waiting) rest place)
       (w : AreReleasing s pins but upheld gone waiting) where
     -- what stands at the place is upheld still, or nothing does
     pub releasing-stays : ((n : Node) → IsAt (changesets s.history) n place
@@ -148,17 +138,6 @@ module _ (s : ReplicaState) (pins : List Node) (but : Node) (upheld : List Node)
           | inr child ↦ inr
               (child.0, (child.1.0, λ old. child.1.1 ((adds.members child.0).1 (inl old))), child.2)
         ]
-
--- what waits then waits at lower places
-pub waiting-falls : (cs : List Contents) → IsGraph cs → (waiting rest now : List ℕ) (place : ℕ)
-    → TakesHighest place waiting rest → ((k : ℕ) → Contains now k → Contains rest k ⊎ IsParentPlace cs place k)
-    → left_of now < left_of waiting
-waiting-falls cs graph waiting rest now place next from =
-    most-falls (λ k. k + 1) waiting now place ((next.0 place).1 (inl refl)) (omega arith)
-    (λ k h. elim (from k h) [
-      | inl more ↦ let l = next.1 k more in omega (arith, l)
-      | inr parent ↦ let l = parent_first cs graph place k parent in omega (arith, l)
-    ])
 
 -- ---- one place
 

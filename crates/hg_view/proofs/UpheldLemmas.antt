@@ -23,7 +23,7 @@ use Rattle.hg_phases.proofs.RankLemmas.{rank-apart}
 use Rattle.hg_history.specs.declared.fault.Fault.{Fault}
 use Rattle.hg_history.specs.Content.{IsHeld, Leads}
 use Rattle.hg_history.specs.Content.Leads.{itself, below as leads-below}
-use Rattle.hg_history.proofs.ContentLemmas.{node_in_content, reach_from_leads}
+use Rattle.hg_history.proofs.ContentLemmas.{content-node, node_in_content, reach_from_leads}
 use Rattle.hg_replica.specs.State.{ReplicaState, IsValid, Below}
 use Rattle.hg_replica.specs.Least.{PartValue}
 use Rattle.hg_replica.specs.Change.{ChangeValue}
@@ -59,6 +59,11 @@ module _ (s : ReplicaState) (v : IsValid s) where
     | inl obsolete ↦ obsolete
     | inr none ↦ absurd (visible-not_extinct s v n (d, (held, none), down) x)
   ]
+
+  -- what is visible is held
+  pub visible-holds : (pins : List Node) (n : Node) → IsVisibleUnder (content_of s) pins n → Holds (changesets s.history) n
+  visible-holds pins n seen = Holds-reaching (changesets s.history)
+      (reach_from_leads s.history v.graph n seen.0 (node_in_content s.history v.graph seen.0 seen.1.0) seen.2)
 
   module _ (pins upheld : List Node) (are : AreUpheld (content_of s) pins upheld) where
     -- what is upheld is pinned, or an ancestor of what is
@@ -109,14 +114,42 @@ module _ (s : ReplicaState) (v : IsValid s) where
         | inr there ↦ (visible-pinned (content_of s) pins n).1 (inr (upheld-under n there))
       ],
       λ seen. (
-        Holds-reaching (changesets s.history)
-            (reach_from_leads s.history v.graph n seen.0 (node_in_content s.history v.graph seen.0 seen.1.0) seen.2),
+        visible-holds pins n seen,
         elim (contains-or sets.extinct n) [
           | inl extinct ↦ inr (upheld-visible n seen ((kept.extinct n).0 extinct))
           | inr out ↦ inl out
         ],
       ),
     )
+
+    -- what is held is visible under the pins where it isn't obsolete, or is suspended or upheld
+    pub visible-held : (sets : InstabilitySets) → AreInstabilities (content_of s) sets → (n : Node)
+        → Holds (changesets s.history) n
+        → (¬ (IsObsolete (content_of s) n) ⊎ (Contains sets.suspended n ⊎ Contains upheld n))
+        ↔ IsVisibleUnder (content_of s) pins n
+    visible-held sets kept n holds =
+        let are = visible-upheld sets kept n in (
+          λ h. are.0 (
+            holds,
+            elim h [
+              | inl current ↦ inl (λ x. current ((kept.extinct n).0 x).0)
+              | inr stays ↦ elim stays [
+                | inl suspended ↦ inl (λ x. ((kept.extinct n).0 x).1 ((kept.suspended n).0 suspended))
+                | inr there ↦ inr there
+              ]
+            ],
+          ),
+          λ seen. elim (are.1 seen).1 [
+            | inl out ↦ elim (obsolete-or s n (content-node s.history v.graph n holds)) [
+              | inl obsolete ↦ elim (contains-or sets.suspended n) [
+                | inl suspended ↦ inr (inl suspended)
+                | inr none ↦ absurd (out ((kept.extinct n).1 (obsolete, λ is. none ((kept.suspended n).1 is))))
+              ]
+              | inr current ↦ inl current
+            ]
+            | inr there ↦ inr (inr there)
+          ],
+        )
 
 -- ---- the replica grows
 

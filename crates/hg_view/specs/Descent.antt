@@ -2,7 +2,7 @@
 use Rattle.std.specs.Prelude.{ℕ, ◌<◌, List, length, Contains}
 use Rattle.hg_changeset.specs.Contents.{Contents}
 use Rattle.hg_graph.specs.Places.{IsParentPlace, IsAncestorPlace}
-use Rattle.hg_instab.specs.Settling.{Widens}
+use Rattle.hg_graph.specs.Waiting.{Widens}
 use Rattle.hg_view.specs.Tops.{IsTop}
 
 -- it is so of a child of the changeset at the place

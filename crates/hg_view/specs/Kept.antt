@@ -1,13 +1,13 @@
 -- What is kept beside a replica that absorbs.
 use Rattle.std.specs.Prelude.{◌≡◌, ◌⊎◌, List, Contains, Result, Ok, Err}
 use Rattle.hg_changeset.specs.declared.node.Node.{Node}
+use Rattle.hg_join.specs.declared.absorbed.Absorbed.{Absorbed}
 use Rattle.hg_history.specs.declared.fault.Fault.{Fault}
 use Rattle.hg_history.specs.declared.fault.Fault.TheVariants.{NoMemory}
 use Rattle.hg_replica.specs.State.{ReplicaState}
 use Rattle.hg_replica.specs.Change.{ChangeValue, IsNothing}
 use Rattle.hg_replica.specs.Content.{content_of}
 use Rattle.hg_replica.specs.Undo.{LeadsBack, UndoValue}
-use Rattle.hg_replica.specs.declared.undo.Absorbed.{Absorbed}
 use Rattle.hg_instab.specs.Changed.{IsChangedTo}
 use Rattle.hg_instab.specs.Instabilities.{AreInstabilities, InstabilitySets}
 use Rattle.hg_view.specs.declared.tops.Tops.{Tops}
@@ -32,8 +32,8 @@ KeptUnpinAnswer before node (Err pin.NoMemory) after = Contains before node × (
 -- where the replica, now t, answered so: it stays, and the sets follow the change that it told, or stay where that is
 -- nothing; or memory was refused, where it is something, and both are as they were before that. Where it refused,
 -- neither is touched
-abbrev pub KeepsUp : Result Absorbed Fault → ReplicaState → InstabilitySets → Result ChangeValue Fault → ReplicaState →
-    InstabilitySets → Type 0
+abbrev pub KeepsUp : Result (Absorbed ChangeValue UndoValue) Fault → ReplicaState → InstabilitySets →
+    Result ChangeValue Fault → ReplicaState → InstabilitySets → Type 0
 KeepsUp (Ok absorbed) t sets (Ok change) after sets_after =
     (change ≡ absorbed.change) × (after ≡ t)
     × ((IsNothing change × (sets_after ≡ sets)) ⊎ ((s : ReplicaState) → IsChangedTo s change t
@@ -54,7 +54,8 @@ FindsAgain (Err fault) t sets result after sets_after = (result ≡ Err fault) �
 
 -- where the replica, now t, answered so, the heads that were kept beside it: they follow the change that it told, or
 -- stay where that is nothing, or where it or they were refused
-abbrev pub KeepsTops : Result Absorbed Fault → ReplicaState → Tops → Result ChangeValue Fault → Tops → Type 0
+abbrev pub KeepsTops : Result (Absorbed ChangeValue UndoValue) Fault → ReplicaState → Tops → Result ChangeValue Fault →
+    Tops → Type 0
 KeepsTops (Ok absorbed) t tops (Ok change) after =
     (IsNothing change × (after ≡ tops)) ⊎ AreTops t.history after
 KeepsTops (Ok absorbed) t tops (Err fault) after = after ≡ tops

@@ -7,15 +7,13 @@
 //!
 //! The walk ends when no fresh one waits. It costs the tops, the common places, what it finds, and those ancestors of
 //! the common places that stand after the last fresh one that it visits, however large the graph is.
-ghost use Rattle.std.specs.Prelude.{◌≡◌, ◌↔◌, ◌⊎◌, ℕ, ◌<◌, ◌≤◌, Some, length, Contains, IsTrue, IfOk, OnOk};
+ghost use Rattle.std.specs.Prelude.{◌↔◌, ℕ, ◌<◌, ◌≤◌, length, Contains, IsTrue, IfOk, OnOk};
 ghost use Rattle.std.specs.List.Sorted.{IsStrictlyIncreasing};
 ghost use Rattle.hg_graph.specs.Graph.{IsGraph};
-ghost use Rattle.hg_view.specs.Above.{IsUnderOne, IsAbove, TakesAfter};
+ghost use Rattle.hg_view.specs.Above.{IsUnderOne, IsAbove};
 
-use crate::waiting::{await_parents, set_of};
-use hg_graph::Graph;
+use hg_graph::{Graph, PlaceQueue};
 use std::alloc::{AllocError, Global};
-use std::collections::BTreeSet;
 
 /// The places of the tops and their ancestors without those of the common places and theirs, ascending. Doubles change
 /// nothing.
@@ -30,15 +28,16 @@ pub fn places_above(
     ensures exact { IfOk result (λ found. (k : ℕ) → Contains found.items k ↔ IsAbove graph.now tops.now common.now k) }
     ensures ascending { IfOk result (λ found. IsStrictlyIncreasing found.items) }
 {
-    // It says that this is a graph.
-    let _count = graph.len();
-    let mut fresh = set_of(alloc, tops)?;
-    let mut shared = set_of(alloc, common)?;
+    graph.is_valid();
+    let mut fresh = PlaceQueue::new(alloc);
+    let mut shared = PlaceQueue::new(alloc);
     let mut found = Vec::new(alloc);
+    fresh.insert_each(tops)?;
+    shared.insert_each(common)?;
     while let Some(place) = fresh.pop_last() {
         if !is_under(graph, place, &mut shared)? {
             found.push(place)?;
-            await_parents(graph, place, &mut fresh)?;
+            fresh.insert_parents(graph, place)?;
         }
     }
     found.reverse();
@@ -47,26 +46,16 @@ pub fn places_above(
 
 // Whether the place is under one that waits. Those that wait after it give way to their parents, until none does. What
 // is under them, as far as the place, stays.
-fn is_under(graph: &Graph, place: usize, waiting: &mut BTreeSet<usize>) -> Result<bool, AllocError>
+fn is_under(graph: &Graph, place: usize, waiting: &mut PlaceQueue) -> Result<bool, AllocError>
     requires graph { IsGraph graph.now }
-    requires within { (k : ℕ) → Contains waiting.old.keys k → k < length graph.now }
-    ensures answer { IfOk result (λ answer. IsTrue answer ↔ IsUnderOne graph.now waiting.old.keys place) }
-    ensures within { OnOk result ((k : ℕ) → Contains waiting.new.keys k → k < length graph.now) }
+    requires within { (k : ℕ) → Contains waiting.old k → k < length graph.now }
+    ensures answer { IfOk result (λ answer. IsTrue answer ↔ IsUnderOne graph.now waiting.old place) }
+    ensures within { OnOk result ((k : ℕ) → Contains waiting.new k → k < length graph.now) }
     ensures under { OnOk result ((k : ℕ) → k ≤ place
-        → IsUnderOne graph.now waiting.new.keys k ↔ IsUnderOne graph.now waiting.old.keys k) }
+        → IsUnderOne graph.now waiting.new k ↔ IsUnderOne graph.now waiting.old k) }
 {
-    while let Some(later) = pop_after(place, waiting) {
-        await_parents(graph, later, waiting)?;
+    while let Some(later) = waiting.pop_after(place) {
+        waiting.insert_parents(graph, later)?;
     }
-    Ok(waiting.contains(&place))
-}
-
-// Takes the greatest of the places that wait, if it is after `low`.
-fn pop_after(low: usize, waiting: &mut BTreeSet<usize>) -> Option<usize>
-    ensures { TakesAfter low waiting.old.keys waiting.new.keys result }
-{
-    match waiting.last() {
-        Some(greatest) if low < *greatest => waiting.pop_last(),
-        _ => None,
-    }
+    Ok(waiting.contains(place))
 }

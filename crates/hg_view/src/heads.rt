@@ -12,8 +12,8 @@ ghost use Rattle.hg_view.specs.Descent.{Finds, GoesOn, HasChildIn, IsChildless, 
 ghost use Rattle.hg_view.specs.Tops.{IsTop};
 
 use crate::kept::Kept;
-use crate::waiting::await_parents;
 use hg_changeset::Node;
+use hg_graph::PlaceQueue;
 use hg_instab::{Instabilities, has_phase_at};
 use hg_phases::Phase;
 use hg_replica::Replica;
@@ -37,9 +37,8 @@ pub(crate) fn heads_in_common(
     ensures covers { IfOk result (λ found. (k : ℕ) → IsCommonAt replica.now other.now k
         → IsCovered (changesets replica.now.history) found.items k) }
 {
-    // It says that the replica is valid.
-    let _graph = replica.graph();
-    let mut waiting = BTreeSet::new(alloc);
+    replica.is_valid();
+    let mut waiting = PlaceQueue::new(alloc);
     let mut found = Vec::new(alloc);
     visit_each(replica, other, childless, &mut waiting, &mut found)?;
     while let Some(place) = waiting.pop_last() {
@@ -53,12 +52,12 @@ fn visit_each(
     replica: &Replica,
     other: &Kept,
     places: &[usize],
-    waiting: &mut BTreeSet<usize>,
+    waiting: &mut PlaceQueue,
     found: &mut Vec<usize>,
 ) -> Result<(), AllocError>
     requires { (k : ℕ) → Contains places.now k → k < length (changesets replica.now.history) }
     ensures waits { OnOk result (GoesOn (changesets replica.now.history) (IsCommonAt replica.now other.now)
-        (Contains places.now) waiting.old.keys waiting.new.keys) }
+        (Contains places.now) waiting.old waiting.new) }
     ensures finds { OnOk result (Finds (changesets replica.now.history) (IsCommonAt replica.now other.now)
         (Contains places.now) found.old.items found.new.items) }
 {
@@ -73,17 +72,17 @@ fn visit(
     replica: &Replica,
     other: &Kept,
     place: usize,
-    waiting: &mut BTreeSet<usize>,
+    waiting: &mut PlaceQueue,
     found: &mut Vec<usize>,
 ) -> Result<(), AllocError>
     requires { place < length (changesets replica.now.history) }
     ensures waits { OnOk result (GoesOn (changesets replica.now.history) (IsCommonAt replica.now other.now)
-        (λ j. place ≡ j) waiting.old.keys waiting.new.keys) }
+        (λ j. place ≡ j) waiting.old waiting.new) }
     ensures finds { OnOk result (Finds (changesets replica.now.history) (IsCommonAt replica.now other.now)
         (λ j. place ≡ j) found.old.items found.new.items) }
 {
     if !is_in_common(replica, other, place) {
-        await_parents(replica.graph(), place, waiting)?;
+        waiting.insert_parents(replica.graph(), place)?;
         return Ok(());
     }
     if has_child_in_common(replica, other, place) {
@@ -112,17 +111,22 @@ fn is_in_common(replica: &Replica, other: &Kept, place: usize) -> bool
     ensures { IsTrue result ↔ IsCommonAt replica.now other.now place }
 {
     match replica.graph().node_at(place) {
-        Some(node) => !has_phase_at(replica, place, Phase::Secret) && other.is_served(node),
+        Some(node) => !has_phase_at(replica, place, Phase::Secret)
+            && other.is_served_by_guess(place, node),
         None => false,
     }
 }
 
-/// Whether a changeset that is held isn't extinct or is upheld.
-pub(crate) fn is_shown(instabilities: &Instabilities, upheld: &BTreeSet<Node>, node: Node) -> bool
-    ensures { IsTrue result ↔ (¬ (Contains instabilities.now.extinct node) ⊎ Contains upheld.now.keys node) }
+/// Whether what is obsolete stays in view: it is suspended, or upheld.
+pub(crate) fn stays_in_view(
+    instabilities: &Instabilities,
+    upheld: &BTreeSet<Node>,
+    node: Node,
+) -> bool
+    ensures { IsTrue result ↔ (Contains instabilities.now.suspended node ⊎ Contains upheld.now.keys node) }
 {
-    if instabilities.extinct().contains(&node) {
-        return upheld.contains(&node);
+    if instabilities.suspended().contains(&node) {
+        return true;
     }
-    true
+    upheld.contains(&node)
 }

@@ -1,6 +1,8 @@
 //! A replica whose instabilities are kept up to date, with the pins of its node.
 ghost use Rattle.std.specs.Prelude.{◌≡◌, ◌↔◌, ◌⊎◌, ℕ, [], Contains, IfOk, OnOk, OnErr, IsErrOf, IsTrue, length};
+ghost use Rattle.std.specs.Cow.{cow_value};
 ghost use Rattle.hg_changeset.specs.declared.node.Node.{Node};
+ghost use Rattle.hg_graph.specs.Places.{IsAt};
 ghost use Rattle.hg_phases.specs.State.{changesets};
 ghost use Rattle.hg_history.specs.Content.{IsHeld};
 ghost use Rattle.hg_replica.specs.State.{ReplicaState, IsValid};
@@ -16,7 +18,7 @@ ghost use Rattle.hg_view.specs.Descent.{IsClosedUnderParents, IsCovered};
 ghost use Rattle.hg_view.specs.Pins.{IsServedUnder, IsVisibleUnder, PinAnswer};
 ghost use Rattle.hg_view.specs.Tops.{AreTops, IsPublicAt, IsServedAt, IsTop};
 
-use crate::heads::{heads_in_common, is_shown};
+use crate::heads::{heads_in_common, stays_in_view};
 use crate::pins::Pins;
 use crate::refusal::PinRefusal;
 use crate::released::{released, take_out};
@@ -25,10 +27,11 @@ use crate::upheld::{put_in, upheld_besides};
 use crate::view::visible;
 use hg_changeset::Node;
 use hg_history::Fault;
-use hg_instab::{Instabilities, has_phase};
+use hg_instab::{Instabilities, has_phase_at, is_obsolete_at};
 use hg_phases::Phase;
 use hg_replica::{Absorbed, Change, NoMemory, Part, Replica, Undo};
 use std::alloc::{AllocError, Global};
+use std::borrow::Cow;
 use std::collections::BTreeSet;
 use std::marker::Model;
 
@@ -201,13 +204,7 @@ impl Kept {
         ensures valid { IsValid self.old.replica }
         ensures still_valid { IsValid self.new.replica }
     {
-        let answer = self.replica.absorb_with_undo(part);
-        keep_up(
-            &mut self.replica,
-            &mut self.instabilities,
-            &mut self.tops,
-            answer,
-        )
+        self.take_in(Cow::Borrowed(part))
     }
 
     /// Takes in a part as [`absorb`](Kept::absorb) does, but moves what isn't held in place of copying it, as
@@ -219,7 +216,19 @@ impl Kept {
         ensures valid { IsValid self.old.replica }
         ensures still_valid { IsValid self.new.replica }
     {
-        let answer = self.replica.absorb_owned_with_undo(part);
+        self.take_in(Cow::Owned(part))
+    }
+
+    // Takes in a part, which is lent or moved in.
+    #[inline(always)]
+    fn take_in(&mut self, part: Cow<'_, Part>) -> Result<Change, Fault>
+        ensures answer { AbsorbAnswer self.old.replica (cow_value part.entry) result self.new.replica }
+        ensures memory { IsErrOf result Fault.NoMemory → IsGrowthBeforeFault self.old.replica (cow_value part.entry) }
+        ensures pins { self.new.pins ≡ self.old.pins }
+        ensures valid { IsValid self.old.replica }
+        ensures still_valid { IsValid self.new.replica }
+    {
+        let answer = self.replica.absorb_with_undo(part);
         keep_up(
             &mut self.replica,
             &mut self.instabilities,
@@ -253,19 +262,55 @@ impl Kept {
         )
     }
 
-    /// Whether a changeset is visible under the pins: held, and not extinct or upheld by a pin. It costs three look-ups
-    /// at most.
+    /// Whether a changeset is visible under the pins: held, and not obsolete, or suspended, or upheld by a pin. It
+    /// costs four look-ups at most.
     pub fn is_visible(&self, node: Node) -> bool
         ensures { IsTrue result ↔ IsVisibleUnder (content_of self.now.replica) self.now.pins node }
     {
-        self.replica.graph().contains(node) && is_shown(&self.instabilities, &self.upheld, node)
+        match self.replica.graph().place(node) {
+            Some(place) => self.is_visible_at(place, node),
+            None => false,
+        }
     }
 
-    /// Whether a changeset is served under the pins: visible and not secret. It costs a look-up more.
+    /// Whether a changeset is served under the pins: visible and not secret. It costs no look-up more.
     pub fn is_served(&self, node: Node) -> bool
         ensures { IsTrue result ↔ IsServedUnder (content_of self.now.replica) self.now.pins node }
     {
-        self.is_visible(node) && !has_phase(&self.replica, node, Phase::Secret)
+        match self.replica.graph().place(node) {
+            Some(place) => self.is_served_at(place, node),
+            None => false,
+        }
+    }
+
+    // The same, for a look-up less where the changeset stands at this place, as in a replica that took in the same.
+    pub(crate) fn is_served_by_guess(&self, place: usize, node: Node) -> bool
+        ensures { IsTrue result ↔ IsServedUnder (content_of self.now.replica) self.now.pins node }
+    {
+        match self.replica.graph().node_at(place) {
+            Some(there) if there == node => self.is_served_at(place, node),
+            _ => self.is_served(node),
+        }
+    }
+
+    // Whether the changeset at this place is served.
+    fn is_served_at(&self, place: usize, node: Node) -> bool
+        requires { IsAt (changesets self.now.replica.history) node place }
+        ensures { IsTrue result ↔ IsServedUnder (content_of self.now.replica) self.now.pins node }
+    {
+        !has_phase_at(&self.replica, place, Phase::Secret) && self.is_visible_at(place, node)
+    }
+
+    // Whether the changeset at this place is visible.
+    fn is_visible_at(&self, place: usize, node: Node) -> bool
+        requires { IsAt (changesets self.now.replica.history) node place }
+        ensures { IsTrue result ↔ IsVisibleUnder (content_of self.now.replica) self.now.pins node }
+    {
+        self.replica.is_valid();
+        if is_obsolete_at(&self.replica, place) {
+            return stays_in_view(&self.instabilities, &self.upheld, node);
+        }
+        true
     }
 
     /// The visible changesets under the pins. Mercurial's view `visible`. It looks at each changeset, as
@@ -332,7 +377,7 @@ fn keep_up(
     replica: &mut Replica,
     instabilities: &mut Instabilities,
     tops: &mut Tops,
-    answer: Result<Absorbed, Fault>,
+    answer: Result<Absorbed<Change, Undo>, Fault>,
 ) -> Result<Change, Fault>
     requires back { IfOk answer (λ absorbed. (s : ReplicaState) × LeadsBack replica.old absorbed.undo s) }
     requires tops { IfOk answer (λ absorbed. (s : ReplicaState) × IsChangedTo s absorbed.change replica.old

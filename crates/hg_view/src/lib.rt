@@ -38,7 +38,6 @@ mod top_places;
 mod tops;
 mod upheld;
 mod view;
-mod waiting;
 
 pub use above::places_above;
 pub use kept::Kept;

@@ -6,16 +6,16 @@
 ghost use Rattle.std.specs.Prelude.{◌≡◌, ◌↔◌, ◌<◌, Some, length, Contains, MatchOption, IsTrue, IfOk, OnOk};
 ghost use Rattle.hg_changeset.specs.declared.node.Node.{Node};
 ghost use Rattle.hg_graph.specs.Places.{IsAt, IsParentPlace};
+ghost use Rattle.hg_graph.specs.Waiting.{Widens};
 ghost use Rattle.hg_phases.specs.State.{changesets};
 ghost use Rattle.hg_replica.specs.Content.{content_of};
-ghost use Rattle.hg_instab.specs.Settling.{Widens};
 ghost use Rattle.hg_view.specs.Upheld.{AreUpheld};
 ghost use Rattle.hg_view.specs.Shown.{IsAtOne};
 ghost use Rattle.hg_view.specs.Released.{AreReleased, IsUpheldStill, IsPinnedBut, IsLeft, IsLeftAt};
 
 use crate::pins::Pins;
 use hg_changeset::Node;
-use hg_graph::Graph;
+use hg_graph::{Graph, PlaceQueue};
 use hg_node_set::NodeSet;
 use hg_replica::Replica;
 use std::alloc::{AllocError, Global};
@@ -36,7 +36,7 @@ pub(crate) fn released(
 {
     let graph = replica.graph();
     let mut gone = NodeSet::with_keys(alloc, replica.keys());
-    let mut waiting = BTreeSet::new(alloc);
+    let mut waiting = PlaceQueue::new(alloc);
     wait_at(graph, upheld, &gone, graph.place(node), &mut waiting)?;
     while let Some(place) = waiting.pop_last() {
         match released_at(replica, pins, upheld, node, &gone, place) {
@@ -133,11 +133,11 @@ fn wait_parents(
     upheld: &BTreeSet<Node>,
     gone: &NodeSet,
     place: usize,
-    waiting: &mut BTreeSet<usize>,
+    waiting: &mut PlaceQueue,
 ) -> Result<(), AllocError>
     requires { place < length graph.now }
     ensures { OnOk result (Widens (λ k. IsParentPlace graph.now place k
-        × IsLeftAt graph.now upheld.now.keys gone.now.keys k) waiting.old.keys waiting.new.keys) }
+        × IsLeftAt graph.now upheld.now.keys gone.now.keys k) waiting.old waiting.new) }
 {
     let parents = graph.parent_places(place);
     wait_at(graph, upheld, gone, parents.first, waiting)?;
@@ -150,10 +150,10 @@ fn wait_at(
     upheld: &BTreeSet<Node>,
     gone: &NodeSet,
     place: Option<usize>,
-    waiting: &mut BTreeSet<usize>,
+    waiting: &mut PlaceQueue,
 ) -> Result<(), AllocError>
     ensures { OnOk result (Widens (λ k. (place ≡ Some k)
-        × IsLeftAt graph.now upheld.now.keys gone.now.keys k) waiting.old.keys waiting.new.keys) }
+        × IsLeftAt graph.now upheld.now.keys gone.now.keys k) waiting.old waiting.new) }
 {
     let Some(place) = place else {
         return Ok(());
@@ -161,6 +161,5 @@ fn wait_at(
     if !is_left_at(graph, upheld, gone, place) {
         return Ok(());
     }
-    waiting.insert(place)?;
-    Ok(())
+    waiting.insert(place)
 }

@@ -1,7 +1,6 @@
 //! Whether one changeset is visible under pins, by a walk to what stands on it.
 ghost use Rattle.std.specs.Prelude.{◌↔◌, IfOk, OnOk, OnErr, IsTrue};
 ghost use Rattle.hg_changeset.specs.declared.node.Node.{Node};
-ghost use Rattle.hg_phases.specs.State.{changesets};
 ghost use Rattle.hg_replica.specs.Content.{content_of};
 ghost use Rattle.hg_instab.specs.Walk.{Adds};
 ghost use Rattle.hg_view.specs.Pins.{CountsAsObsolete, IsVisibleUnder};

@@ -3,8 +3,8 @@
 //! What is added is a top, and so is, among the public ones, what becomes public: none of its children was public
 //! before, since what has a public child is public. Their parents are tops no longer. Nothing else changes: these and
 //! their parents are looked at, and no other place. It takes no memory.
-ghost use Rattle.std.specs.Prelude.{◌≡◌, ◌<◌, ◌≤◌, ◌↔◌, ℕ, Some, IfSome, IsTrue, length};
-ghost use Rattle.hg_graph.specs.Places.{IsAt, IsParentPlace, IsPlaceOfOne};
+ghost use Rattle.std.specs.Prelude.{◌≡◌, ◌<◌, ◌≤◌, ◌↔◌, Some, IfSome, IsTrue, length};
+ghost use Rattle.hg_graph.specs.Places.{IsAt, IsPlaceOfOne};
 ghost use Rattle.hg_phases.specs.declared.phase.Phase.{Phase};
 ghost use Rattle.hg_phases.specs.State.{changesets};
 ghost use Rattle.hg_view.specs.Flags.{AreSettled, AreTakenOut, AreUpdated, IsParentOfOne, IsTouched};

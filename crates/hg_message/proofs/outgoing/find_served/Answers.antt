@@ -46,7 +46,7 @@ returns c =
     c.in_ok-bounds.bounds.items) back c.in_ok-bounds.ensures in
     let markers = subst (λ (t : ReplicaState). ArePlaces (IsNamedMarker (content_of t) pins Served) t.markers
     c.in_ok-markers.markers.items) back c.in_ok-markers.ensures in (
-      is-offer s c.graph-graph.ensures.valid pins common Served _ c.in_ok-bounds.bounds.items _
+      is-offer s c.is_valid.ensures pins common Served _ c.in_ok-bounds.bounds.items _
           (picked-those (IsOutgoing f (IsServedUnder f pins) common) (changesets s.history)
           c.in_ok-changesets.changesets.items out)
           bounds

@@ -1,10 +1,9 @@
-use Rattle.std.proofs.Common.{◌<◌, length, true≢false, sym}
-use Rattle.hg_graph.proofs.WalkLemmas.{emptied}
+use Rattle.std.proofs.Common.{◌<◌, length}
+use Rattle.hg_graph.proofs.QueueLemmas.{past}
 use Rattle.hg_phases.specs.State.{changesets}
 use Rattle.hg_view.specs.Common.{IsCommonAt}
 use Rattle.hg_view.proofs.CommonLemmas.{common_within}
 use Rattle.hg_view.proofs.DescentLemmas.{IsDescended, IsDescended-start, IsDescended-step, IsDescended-end, next_within}
-use Rattle.hg_view.proofs.DescentLemmas.{past}
 use Rattle.hg_view.proofs.HeadLemmas.{covered}
 use Rattle.hg_view.proofs.heads.heads_in_common.Goals as goal
 
@@ -15,31 +14,31 @@ pub loop-place-init : goal.loop-place-init
 loop-place-init c =
     let s = c.args.replica.now in (
       length (changesets s.history),
-      IsDescended-start (changesets s.history) c.graph-graph.ensures.valid.graph (IsCommonAt s c.args.other.now)
+      IsDescended-start (changesets s.history) c.is_valid.ensures.graph (IsCommonAt s c.args.other.now)
           (common_within s c.args.other.now) c.requires.closed c.args.childless.now c.requires.childless
-          c.new-waiting.result.keys c.visit_each.new.waiting.keys c.new-found.result.items c.visit_each.new.found.items
-          c.new-waiting.ensures.empty c.new-found.ensures.items c.in_ok-visit_each.ensures.waits
+          c.new-waiting.result c.visit_each.new.waiting c.new-found.result.items c.visit_each.new.found.items
+          c.new-waiting.ensures c.new-found.ensures.items c.in_ok-visit_each.ensures.waits
           c.in_ok-visit_each.ensures.finds,
     )
 
 pub visit-requires : goal.visit-requires
 visit-requires c =
     let s = c.args.replica.now in
-    next_within (changesets s.history) c.graph-graph.ensures.valid.graph (IsCommonAt s c.args.other.now)
+    next_within (changesets s.history) c.is_valid.ensures.graph (IsCommonAt s c.args.other.now)
     (common_within s c.args.other.now) c.requires.closed c.args.childless.now c.requires.childless
-    c.loop-place.waiting.keys c.loop-place.found.items c.loop-place.invariant.0 c.loop-place.invariant.1
-    c.in-Some.place c.pop_last.new.self.keys c.in-Some.ensures.removal c.in-Some.ensures.all_below
+    c.loop-place.waiting c.loop-place.found.items c.loop-place.invariant.0 c.loop-place.invariant.1
+    c.in-Some.place c.pop_last.new.self c.in-Some.ensures
 
 step : (c : goal.In_ok-visit) → IsDescended (changesets c.args.replica.now.history)
-    (IsCommonAt c.args.replica.now c.args.other.now) c.args.childless.now c.visit.new.waiting.keys
-    c.visit.new.found.items c.in-Some.place × (past c.visit.new.waiting.keys < past c.loop-place.waiting.keys)
+    (IsCommonAt c.args.replica.now c.args.other.now) c.args.childless.now c.visit.new.waiting
+    c.visit.new.found.items c.in-Some.place × (past c.visit.new.waiting < past c.loop-place.waiting)
 step c =
     let s = c.args.replica.now in
-    IsDescended-step (changesets s.history) c.graph-graph.ensures.valid.graph (IsCommonAt s c.args.other.now)
+    IsDescended-step (changesets s.history) c.is_valid.ensures.graph (IsCommonAt s c.args.other.now)
     (common_within s c.args.other.now) c.requires.closed c.args.childless.now c.requires.childless
-    c.loop-place.waiting.keys c.loop-place.found.items c.loop-place.invariant.0 c.loop-place.invariant.1
-    c.in-Some.place c.pop_last.new.self.keys c.in-Some.ensures.removal c.in-Some.ensures.all_below
-    c.visit.new.waiting.keys c.visit.new.found.items c.in_ok-visit.ensures.waits c.in_ok-visit.ensures.finds
+    c.loop-place.waiting c.loop-place.found.items c.loop-place.invariant.0 c.loop-place.invariant.1
+    c.in-Some.place c.pop_last.new.self c.in-Some.ensures
+    c.visit.new.waiting c.visit.new.found.items c.in_ok-visit.ensures.waits c.in_ok-visit.ensures.finds
 
 pub loop-place-preserved : goal.loop-place-preserved
 loop-place-preserved c = (c.in-Some.place, (step c).0)
@@ -50,13 +49,13 @@ loop-place-smaller c = (step c).1
 pub returns-clause-exact : goal.returns-clause-exact
 returns-clause-exact c =
     let s = c.args.replica.now in
-    IsDescended-end (changesets s.history) c.graph-graph.ensures.valid.graph (IsCommonAt s c.args.other.now)
+    IsDescended-end (changesets s.history) c.is_valid.ensures.graph (IsCommonAt s c.args.other.now)
     (common_within s c.args.other.now) c.requires.closed c.args.childless.now c.requires.childless
-    c.loop-place.waiting.keys c.loop-place.found.items c.loop-place.invariant.0 c.loop-place.invariant.1
-    (emptied c.loop-place.waiting.keys (λ l. true≢false (sym (c.in_default.ensures.variant.1 l))))
+    c.loop-place.waiting c.loop-place.found.items c.loop-place.invariant.0 c.loop-place.invariant.1
+    c.in_default.ensures
 
 pub returns-clause-covers : goal.returns-clause-covers
 returns-clause-covers c =
     let s = c.args.replica.now in
-    covered (changesets s.history) c.graph-graph.ensures.valid.graph (IsCommonAt s c.args.other.now)
+    covered (changesets s.history) c.is_valid.ensures.graph (IsCommonAt s c.args.other.now)
     (common_within s c.args.other.now) c.loop-place.found.items (returns-clause-exact c)

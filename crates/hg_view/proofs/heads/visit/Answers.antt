@@ -10,12 +10,12 @@ use Rattle.hg_view.proofs.heads.visit.Goals as goal
 pub returns-then-not-is_in_common-clause-waits : goal.returns-then-not-is_in_common-clause-waits
 returns-then-not-is_in_common-clause-waits c =
     let place = c.args.place in
-    let old = c.args.waiting.now.keys in
-    let new = c.await_parents.new.waiting.keys in
+    let old = c.args.waiting.now in
+    let new = c.insert_parents.new.self in
     goes-up (changesets c.args.replica.now.history) (IsCommonAt c.args.replica.now c.args.other.now) place
     (λ so. true≢false (sym (c.is_in_common.ensures.1 so) ∙ c.if-not-is_in_common.true)) old new
     (subst (λ (cs : List Contents). (k : ℕ) → Contains new k ↔ (Contains old k ⊎ IsParentPlace cs place k))
-    c.graph.ensures.graph c.in_ok-await_parents.ensures)
+    c.graph.ensures.graph c.in_ok-insert_parents.ensures)
 
 pub returns-then-not-is_in_common-clause-finds : goal.returns-then-not-is_in_common-clause-finds
 returns-then-not-is_in_common-clause-finds c =
@@ -25,7 +25,7 @@ returns-then-not-is_in_common-clause-finds c =
 pub returns-then-has_child_in_common-clause-waits : goal.returns-then-has_child_in_common-clause-waits
 returns-then-has_child_in_common-clause-waits c =
     goes-nowhere (changesets c.args.replica.now.history) (IsCommonAt c.args.replica.now c.args.other.now) c.args.place
-    (c.is_in_common.ensures.0 c.if-not-is_in_common.false) c.args.waiting.now.keys
+    (c.is_in_common.ensures.0 c.if-not-is_in_common.false) c.args.waiting.now
 
 pub returns-then-has_child_in_common-clause-finds : goal.returns-then-has_child_in_common-clause-finds
 returns-then-has_child_in_common-clause-finds c =
@@ -36,7 +36,7 @@ returns-then-has_child_in_common-clause-finds c =
 pub returns-clause-waits : goal.returns-clause-waits
 returns-clause-waits c =
     goes-nowhere (changesets c.args.replica.now.history) (IsCommonAt c.args.replica.now c.args.other.now) c.args.place
-    (c.is_in_common.ensures.0 c.if-not-is_in_common.false) c.args.waiting.now.keys
+    (c.is_in_common.ensures.0 c.if-not-is_in_common.false) c.args.waiting.now
 
 pub returns-clause-finds : goal.returns-clause-finds
 returns-clause-finds c =

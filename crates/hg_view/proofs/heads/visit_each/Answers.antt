@@ -3,14 +3,14 @@ use Rattle.std.proofs.lemmas.List.{take_all}
 use Rattle.std.proofs.lemmas.List.Elements.{Contains-get_or}
 use Rattle.hg_changeset.proofs.ListLemmas.{Contains-none}
 use Rattle.hg_phases.specs.State.{changesets}
-use Rattle.hg_instab.proofs.WaitingLemmas.{widens-none}
+use Rattle.hg_graph.proofs.QueueLemmas.{widens-none}
 use Rattle.hg_view.specs.Common.{IsCommonAt}
 use Rattle.hg_view.proofs.DescentLemmas.{goes-more, finds-more}
 use Rattle.hg_view.proofs.heads.visit_each.Goals as goal
 
 pub loop-place-init : goal.loop-place-init
 loop-place-init c = (
-  widens-none _ c.args.waiting.now.keys (λ k h. Contains-none h.0 h.1),
+  widens-none _ c.args.waiting.now (λ k h. Contains-none h.0 h.1),
   widens-none _ c.args.found.now.items (λ k h. Contains-none k h.0),
 )
 
@@ -23,8 +23,8 @@ loop-place-preserved c =
     let cs = changesets c.args.replica.now.history in
     let P = IsCommonAt c.args.replica.now c.args.other.now in
     let i = c.loop-place.place-index in (
-      goes-more cs P c.args.places.now i 0 c.loop-place-test.true c.args.waiting.now.keys c.loop-place.waiting.keys
-          c.visit.new.waiting.keys c.loop-place.invariant.0 c.in_ok-visit.ensures.waits,
+      goes-more cs P c.args.places.now i 0 c.loop-place-test.true c.args.waiting.now c.loop-place.waiting
+          c.visit.new.waiting c.loop-place.invariant.0 c.in_ok-visit.ensures.waits,
       finds-more cs P c.args.places.now i 0 c.loop-place-test.true c.args.found.now.items c.loop-place.found.items
           c.visit.new.found.items c.loop-place.invariant.1 c.in_ok-visit.ensures.finds,
     )

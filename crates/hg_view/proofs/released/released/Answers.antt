@@ -1,15 +1,14 @@
-use Rattle.std.proofs.Common.{◌≡◌, ◌<◌, List, length, Some, None, MatchOption, inl, inr, sym, subst}
+use Rattle.std.proofs.Common.{◌≡◌, ◌<◌, List, length, Some, MatchOption, inl, inr, sym, subst}
 use Rattle.hg_changeset.specs.Contents.{Contents}
 use Rattle.hg_graph.specs.Graph.{Holds}
 use Rattle.hg_graph.specs.Places.{IsOnlyAt, IsParentPlace}
+use Rattle.hg_graph.specs.Waiting.{Widens}
 use Rattle.hg_graph.proofs.PlaceLemmas.{placed_within}
+use Rattle.hg_graph.proofs.QueueLemmas.{past-falls}
 use Rattle.hg_phases.specs.State.{changesets}
-use Rattle.hg_instab.specs.Settling.{Widens}
-use Rattle.hg_instab.proofs.WaitingLemmas.{took-last}
 use Rattle.hg_instab.proofs.WalkLemmas.{adds-one}
 use Rattle.hg_view.specs.Released.{IsLeftAt}
 use Rattle.hg_view.proofs.ReleasedLemmas.{releasing-start, releasing-stays, releasing-goes, releasing-end}
-use Rattle.hg_view.proofs.ReleasedLemmas.{waiting-falls}
 use Rattle.hg_view.proofs.released.released.Goals as goal
 
 pub loop-place-init : goal.loop-place-init
@@ -18,8 +17,8 @@ loop-place-init c =
     let node = c.args.node in
     let upheld = c.args.upheld.now.keys in
     let gone = c.with_keys-gone.result.keys in
-    let old = c.new-waiting.result.keys in
-    let waiting = c.wait_at.new.waiting.keys in
+    let old = c.new-waiting.result in
+    let waiting = c.wait_at.new.waiting in
     let place = c.place.result in
     let there : MatchOption place (¬ (Holds (changesets s.history) node)) (IsOnlyAt (changesets s.history) node) =
     subst (λ (cs : List Contents). MatchOption place (¬ (Holds cs node)) (IsOnlyAt cs node))
@@ -38,28 +37,26 @@ wait_parents-requires c =
 pub loop-place-smaller-in-Continue-branch-3 : goal.loop-place-smaller-in-Continue-branch-3
 loop-place-smaller-in-Continue-branch-3 c =
     let cs = changesets c.args.replica.now.history in
-    let waiting = c.loop-place.waiting.keys in
-    let rest = c.pop_last.new.self.keys in
+    let waiting = c.loop-place.waiting in
+    let rest = c.pop_last.new.self in
     let place = c.in-Some.place in
-    let now = c.wait_parents.new.waiting.keys in
+    let now = c.wait_parents.new.waiting in
     let left = IsLeftAt c.graph-graph.result.now c.args.upheld.now.keys c.insert.new.self.keys in
     let widens : Widens (λ k. IsParentPlace c.graph-graph.result.now place k × left k) rest now =
     c.in_ok-wait_parents-in-Some-released_at.ensures in
-    waiting-falls cs c.graph-graph.ensures.valid.graph waiting rest now place
-    (took-last (Some place) waiting rest c.in-Some.ensures.variant c.in-Some.ensures.removal
-    c.in-Some.ensures.all_below) (λ k h. elim ((widens k).0 h) [
+    past-falls cs c.graph-graph.ensures.valid.graph waiting rest now place
+    c.in-Some.ensures (λ k h. elim ((widens k).0 h) [
       | inl more ↦ inl more
       | inr parent ↦ inr (subst (λ (ds : List Contents). IsParentPlace ds place k) c.graph-graph.ensures.graph parent.0)
     ])
 
 pub loop-place-smaller : goal.loop-place-smaller
 loop-place-smaller c =
-    let waiting = c.loop-place.waiting.keys in
-    let rest = c.pop_last.new.self.keys in
+    let waiting = c.loop-place.waiting in
+    let rest = c.pop_last.new.self in
     let place = c.in-Some.place in
-    waiting-falls (changesets c.args.replica.now.history) c.graph-graph.ensures.valid.graph waiting rest rest place
-    (took-last (Some place) waiting rest c.in-Some.ensures.variant c.in-Some.ensures.removal
-    c.in-Some.ensures.all_below) (λ k h. inl h)
+    past-falls (changesets c.args.replica.now.history) c.graph-graph.ensures.valid.graph waiting rest rest place
+    c.in-Some.ensures (λ k h. inl h)
 
 pub loop-place-preserved-in-Continue-branch-3 : goal.loop-place-preserved-in-Continue-branch-3
 loop-place-preserved-in-Continue-branch-3 c =
@@ -67,14 +64,13 @@ loop-place-preserved-in-Continue-branch-3 c =
     let upheld = c.args.upheld.now.keys in
     let gone = c.loop-place.gone.keys in
     let gone_now = c.insert.new.self.keys in
-    let waiting = c.loop-place.waiting.keys in
-    let rest = c.pop_last.new.self.keys in
-    let now = c.wait_parents.new.waiting.keys in
+    let waiting = c.loop-place.waiting in
+    let rest = c.pop_last.new.self in
+    let now = c.wait_parents.new.waiting in
     let place = c.in-Some.place in
     let one = c.in-Some-released_at.one in
     releasing-goes s c.args.pins.now c.args.node upheld gone waiting rest place
-    (took-last (Some place) waiting rest c.in-Some.ensures.variant c.in-Some.ensures.removal
-    c.in-Some.ensures.all_below) c.loop-place.invariant c.graph-graph.ensures.valid one gone_now now
+    c.in-Some.ensures c.loop-place.invariant c.graph-graph.ensures.valid one gone_now now
     c.in-Some-released_at.ensures.0 c.in-Some-released_at.ensures.1
     (adds-one gone gone_now one c.in_ok-insert-in-Some-released_at.ensures.keys)
     (subst (λ (cs : List Contents). Widens (λ k. IsParentPlace cs place k × IsLeftAt cs upheld gone_now k) rest now)
@@ -82,16 +78,14 @@ loop-place-preserved-in-Continue-branch-3 c =
 
 pub loop-place-preserved : goal.loop-place-preserved
 loop-place-preserved c =
-    let waiting = c.loop-place.waiting.keys in
-    let rest = c.pop_last.new.self.keys in
+    let waiting = c.loop-place.waiting in
+    let rest = c.pop_last.new.self in
     let place = c.in-Some.place in
     releasing-stays c.args.replica.now c.args.pins.now c.args.node c.args.upheld.now.keys c.loop-place.gone.keys
-    waiting rest place (took-last (Some place) waiting rest c.in-Some.ensures.variant c.in-Some.ensures.removal
-    c.in-Some.ensures.all_below) c.loop-place.invariant c.in-None.ensures
+    waiting rest place c.in-Some.ensures c.loop-place.invariant c.in-None.ensures
 
 pub returns : goal.returns
 returns c =
-    let waiting = c.loop-place.waiting.keys in
+    let waiting = c.loop-place.waiting in
     releasing-end c.args.replica.now c.args.pins.now c.args.node c.args.upheld.now.keys c.graph-graph.ensures.valid
-    c.loop-place.gone.keys waiting c.requires (took-last None waiting c.pop_last.new.self.keys
-    c.in_default.ensures.variant c.in_default.ensures.removal c.in_default.ensures.all_below) c.loop-place.invariant
+    c.loop-place.gone.keys waiting c.requires c.in_default.ensures c.loop-place.invariant

@@ -1,9 +1,9 @@
 use Rattle.hg_view.specs.Released.{AreReleasing}
-use Rattle.hg_view.proofs.ReleasedLemmas.{left_of}
+use Rattle.hg_graph.proofs.QueueLemmas.{past}
 use Rattle.hg_view.proofs.released.released.Given as goal
 
 abbrev pub invariant-loop-place : goal.invariant-loop-place
-invariant-loop-place l = AreReleasing l.replica l.pins l.node l.upheld.keys l.gone.keys l.waiting.keys
+invariant-loop-place l = AreReleasing l.replica l.pins l.node l.upheld.keys l.gone.keys l.waiting
 
 abbrev pub decreases-loop-place : goal.decreases-loop-place
-decreases-loop-place l = left_of l.waiting.keys
+decreases-loop-place l = past l.waiting

@@ -1,7 +1,7 @@
 use Rattle.std.proofs.Common.{◌≡◌, Some, inl, inr}
 use Rattle.std.proofs.lemmas.Result.{on_ok_weaker}
 use Rattle.hg_graph.specs.Places.{IsParentPlace}
-use Rattle.hg_instab.proofs.WaitingLemmas.{widens-then}
+use Rattle.hg_graph.proofs.QueueLemmas.{widens-then}
 use Rattle.hg_view.specs.Released.{IsLeftAt}
 use Rattle.hg_view.proofs.released.wait_parents.Goals as goal
 
@@ -12,8 +12,8 @@ returns c =
     let parents = c.parent_places-parents.result in
     on_ok_weaker c.wait_at-2.result
     (λ w. widens-then (λ k. (parents.first ≡ Some k) × left k) (λ k. (parents.second ≡ Some k) × left k)
-    (λ k. IsParentPlace cs c.args.place k × left k) c.args.waiting.now.keys c.wait_at.new.waiting.keys
-    c.wait_at-2.new.waiting.keys
+    (λ k. IsParentPlace cs c.args.place k × left k) c.args.waiting.now c.wait_at.new.waiting
+    c.wait_at-2.new.waiting
     (λ k. let are = c.parent_places-parents.ensures.places k in (
       λ h. elim (are.0 h.0) [ inl e ↦ inl (e, h.1) | inr e ↦ inr (e, h.1) ],
       λ h. elim h [ inl x ↦ (are.1 (inl x.0), x.1) | inr x ↦ (are.1 (inr x.0), x.1) ],

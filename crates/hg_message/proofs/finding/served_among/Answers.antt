@@ -3,9 +3,9 @@ use Rattle.std.proofs.lemmas.List.{get_or_default, take_all}
 use Rattle.hg_changeset.specs.declared.node.Node.{Node}
 use Rattle.hg_replica.specs.Content.{content_of}
 use Rattle.hg_view.specs.Pins.{IsServedUnder}
-use Rattle.hg_message.proofs.TouchedLemmas.{AreSome, some-push, some-skip}
-use Rattle.hg_message.proofs.touched.served_among.Goals as goal
-use Rattle.hg_message.proofs.touched.served_among.Goals.{then-is_served+in_ok-push, else-is_served}
+use Rattle.hg_message.proofs.PickLemmas.{AreSome, some-push, some-skip}
+use Rattle.hg_message.proofs.finding.served_among.Goals as goal
+use Rattle.hg_message.proofs.finding.served_among.Goals.{then-is_served+in_ok-push, else-is_served}
 
 pub loop-node-preserved : goal.loop-node-preserved
 loop-node-preserved c =

@@ -1,47 +1,52 @@
 use Rattle.std.proofs.Common.{subst}
+use Rattle.std.specs.Cow.{cow_value}
 use Rattle.hg_view.specs.Kept.{KeptValue}
 use Rattle.hg_replica.specs.Answer.{AbsorbAnswer, IsGrowthBeforeFault}
 use Rattle.hg_view.proofs.KeptLemmas.{kept-answer, kept-changed, kept-memory, kept-sets, kept-tops}
 use Rattle.hg_view.proofs.UpheldLemmas.{upheld-absorbed}
-use Rattle.hg_view.proofs.kept.Kept.absorb.Goals as goal
+use Rattle.hg_view.proofs.kept.Kept.take_in.Goals as goal
 
 pub invariant_of-self : goal.invariant_of-self
 invariant_of-self c =
+    let part = cow_value c.args.part in
     let told = c.absorb_with_undo-answer in
     let kept = c.keep_up in
     let s = c.self.inside.replica in
-    let sets = kept-sets s c.args.part.now told.new.self kept.new.replica c.self.inside.instabilities
+    let sets = kept-sets s part told.new.self kept.new.replica c.self.inside.instabilities
     kept.new.instabilities told.ensures.valid c.self.invariant.0 told.result kept.result told.ensures.answer
     told.ensures.back told.ensures.nothing kept.ensures.kept in
-    let answer = kept-answer s c.args.part.now told.new.self kept.new.replica c.self.inside.instabilities
+    let answer = kept-answer s part told.new.self kept.new.replica c.self.inside.instabilities
     kept.new.instabilities told.result kept.result told.ensures.answer told.ensures.back kept.ensures.kept in (
       sets.0,
       sets.1,
       upheld-absorbed s kept.new.replica told.ensures.valid c.self.inside.pins c.self.inside.upheld.keys
-          c.self.invariant.2 c.args.part.now kept.result answer,
-      kept-tops s c.args.part.now told.new.self kept.new.replica c.self.inside.instabilities kept.new.instabilities
+          c.self.invariant.2 part kept.result answer,
+      kept-tops s part told.new.self kept.new.replica c.self.inside.instabilities kept.new.instabilities
           c.self.inside.tops kept.new.tops c.self.invariant.3 told.result kept.result told.ensures.answer
           told.ensures.back told.ensures.nothing kept.ensures.kept kept.ensures.tops,
     )
 
 pub returns-clause-answer : goal.returns-clause-answer
 returns-clause-answer c =
+    let part = cow_value c.args.part in
     let told = c.absorb_with_undo-answer in
     let kept = c.keep_up in
-    subst (λ (k : KeptValue). AbsorbAnswer k.replica c.args.part.now kept.result kept.new.replica) c.self.view_is
-    (kept-answer c.self.inside.replica c.args.part.now told.new.self kept.new.replica c.self.inside.instabilities
+    subst (λ (k : KeptValue). AbsorbAnswer k.replica part kept.result kept.new.replica) c.self.view_is
+    (kept-answer c.self.inside.replica part told.new.self kept.new.replica c.self.inside.instabilities
     kept.new.instabilities told.result kept.result told.ensures.answer told.ensures.back kept.ensures.kept)
 
 pub returns-clause-memory : goal.returns-clause-memory
 returns-clause-memory c is =
+    let part = cow_value c.args.part in
     let told = c.absorb_with_undo-answer in
     let kept = c.keep_up in
-    subst (λ (k : KeptValue). IsGrowthBeforeFault k.replica c.args.part.now) c.self.view_is
-    (kept-memory c.self.inside.replica c.args.part.now told.new.self kept.new.replica c.self.inside.instabilities
+    subst (λ (k : KeptValue). IsGrowthBeforeFault k.replica part) c.self.view_is
+    (kept-memory c.self.inside.replica part told.new.self kept.new.replica c.self.inside.instabilities
     kept.new.instabilities told.result kept.result told.ensures.memory told.ensures.growth kept.ensures.kept is)
 
 pub keep_up-requires-clause-tops : goal.keep_up-requires-clause-tops
 keep_up-requires-clause-tops c =
+    let part = cow_value c.args.part in
     let told = c.absorb_with_undo-answer in
-    kept-changed c.self.inside.replica c.args.part.now told.new.self c.self.inside.tops told.ensures.valid c.self.invariant.3
+    kept-changed c.self.inside.replica part told.new.self c.self.inside.tops told.ensures.valid c.self.invariant.3
     told.result told.ensures.answer
