@@ -3,4 +3,5 @@ pub mod CallLemmas
 pub mod LookLemmas
 pub mod OfferLemmas
 pub mod PassLemmas
+pub mod StepLemmas
 pub mod WaitLemmas

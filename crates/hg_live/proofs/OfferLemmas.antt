@@ -1,5 +1,5 @@
 -- What a node tells of an offer.
-use Rattle.std.proofs.Common.{ℕ, List, Result, Ok, Err, refl, sym, subst}
+use Rattle.std.proofs.Common.{ℕ, List, Result, Ok, Err, sym, subst}
 use Rattle.std.specs.declared.vec.Vec.{Vec}
 use Rattle.std.specs.declared.alloc.Global.{Global}
 use Rattle.hg_changeset.specs.declared.node.Node.{Node}
@@ -8,19 +8,12 @@ use Rattle.hg_message.specs.declared.scope.Scope.{Scope}
 use Rattle.hg_message.specs.declared.refusal.OfferRefusal.{OfferRefusal}
 use Rattle.hg_message.specs.declared.refusal.OfferRefusal.TheVariants as message
 use Rattle.hg_message.specs.Value.{MessageValue}
-use Rattle.hg_message.specs.Outgoing.{FindAnswer, WriteAnswer}
+use Rattle.hg_message.specs.Outgoing.{FindAnswer}
 use Rattle.hg_view.specs.Kept.{KeptValue}
 use Rattle.hg_live.specs.declared.answer.NotOffered.{NotOffered}
 use Rattle.hg_live.specs.declared.answer.NotOffered.TheVariants as offer
 use Rattle.hg_live.specs.NodeRefusals.{not_offered}
 use Rattle.hg_live.specs.Looks.{StateOffers, IsAgainstOffering, Writes}
-
--- what isn't written is too large, or memory was wanting
-pub unwritten_told : (m : MessageValue) (r : OfferRefusal) →
-    WriteAnswer {A = Vec ℕ Global} (λ v. v.items) m (Err r) → Writes m (Err (not_offered r))
-unwritten_told m (message.UnknownCommon node) h = absurd h
-unwritten_told m message.TooLarge h = (refl, h)
-unwritten_told m message.NoMemory h = tt
 
 -- what was found is written, or not
 pub found_told : (s : KeptValue) (common : List Node) (scope : Scope) (m : MessageValue)

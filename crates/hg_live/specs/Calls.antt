@@ -1,7 +1,9 @@
 -- What calls answer that would change a node.
-use Rattle.std.specs.Prelude.{◌≡◌, ◌+◌, ◌≤◌, ◌^◌, ◌⊎◌, ℕ, List, [], ◌∷◌, ◌++◌, length, Ok}
+use Rattle.std.specs.Prelude.{◌≡◌, ◌+◌, ◌≤◌, ◌^◌, ◌⊎◌, ℕ, List, [], ◌∷◌, ◌++◌, length, All, Ok}
+use Rattle.std.specs.List.{sum_by}
 use mathlib.Core.List.{IsPrefix}
 use Rattle.hg_replica.specs.Least.{PartValue}
+use Rattle.hg_replica.specs.Answer.{IsGrowthBeforeFault}
 use Rattle.hg_replica.specs.Content.{content_of, IsContentFault}
 use Rattle.hg_view.specs.Kept.{KeptValue}
 use Rattle.hg_rewrite.specs.declared.op.Op.{Op}
@@ -9,7 +11,7 @@ use Rattle.hg_rewrite.specs.Memory.{MayWantMemory}
 use Rattle.hg_message.specs.Value.{MessageValue}
 use Rattle.hg_message.specs.Message.{message_at}
 use Rattle.hg_peer.specs.declared.mark.Mark.{Mark as MarkValue}
-use Rattle.hg_peer.specs.Marks.{IsAgainstMark}
+use Rattle.hg_peer.specs.Marks.{IsAgainstMark, ChangesPins}
 use Rattle.hg_peer.specs.Peers.{Decides, IsAgainstOperation, SpellsPart, IsAgainstBytes}
 use Rattle.hg_live.specs.declared.answer.Accepted.{Accepted}
 use Rattle.hg_live.specs.declared.answer.Accepted.TheVariants.{Shown, Later}
@@ -24,16 +26,25 @@ abbrev pub MatchAccepted : Accepted → Type 0 → Type 0 → Type 0
 MatchAccepted Shown p q = p
 MatchAccepted Later p q = q
 
--- why the state doesn't take an entry in
+-- why the state doesn't take an entry in. Want of memory is told only where something grows before a fault of the part
+-- is met, or where the mark has something to change
 abbrev pub IsAgainstEntry : KeptValue → Entry → CallRefusal → Type 0
 IsAgainstEntry s (Part k) JournalFull = ⊥
 IsAgainstEntry s (Part k) (Refused refusal) = ⊥
 IsAgainstEntry s (Part k) (Fault fault) = IsContentFault (content_of s.replica) k fault
-IsAgainstEntry s (Part k) NoMemory = Unit {0}
+IsAgainstEntry s (Part k) NoMemory = IsGrowthBeforeFault s.replica k
 IsAgainstEntry s (Mark m) JournalFull = ⊥
 IsAgainstEntry s (Mark m) (Refused refusal) = IsAgainstMark s m refusal
 IsAgainstEntry s (Mark m) (Fault fault) = ⊥
-IsAgainstEntry s (Mark m) NoMemory = Unit {0}
+IsAgainstEntry s (Mark m) NoMemory = ChangesPins s m
+
+-- something waits to be published
+abbrev pub HasWaiting : DeskView → Type 0
+HasWaiting d = ¬ (d.waiting ≡ [])
+
+-- why the desk doesn't: its state doesn't; or there was no room behind what waits
+abbrev pub IsNotEntered : DeskView → Entry → CallRefusal → Type 0
+IsNotEntered d entry refusal = IsAgainstEntry d.working entry refusal ⊎ ((refusal ≡ NoMemory) × HasWaiting d)
 
 -- ---- why a call at this desk is refused: want of memory never stands for an operation's refusal that is tried before
 -- the first growth, nor for a fault of the bytes
@@ -55,12 +66,12 @@ IsAgainstTake d bytes (Fault fault) =
 IsAgainstTake d bytes NoMemory = (m : MessageValue) × (message_at bytes ≡ Ok m)
 
 -- the journal is full; or what is to be pinned isn't held, or what is to be unpinned isn't pinned; or memory was
--- wanting
+-- wanting, where the mark has something to change, or for room behind what waits
 abbrev pub IsAgainstMarking : DeskView → MarkValue → CallRefusal → Type 0
 IsAgainstMarking d m JournalFull = 2 ^ 62 ≤ length d.journal
 IsAgainstMarking d m (Refused refusal) = IsAgainstMark d.working m refusal
 IsAgainstMarking d m (Fault fault) = ⊥
-IsAgainstMarking d m NoMemory = Unit {0}
+IsAgainstMarking d m NoMemory = ChangesPins d.working m ⊎ HasWaiting d
 
 -- ---- what an accepted call does
 
@@ -80,6 +91,13 @@ pub record IsTold (answer : Accepted) (before after : List Entry) (old new : Pas
   pub told : new.told ≡ after
   pub seen : MatchAccepted answer (new.seen ≡ after) (new.seen ≡ old.seen)
   pub calls : new.calls ≡ old.calls + 1
+
+-- the passes are all whose calls entered the journal: it begins with what each has seen and was told, and has as many
+-- entries as they have accepted calls
+abbrev pub AreAllOf : List Entry → List PassView → Type 0
+AreAllOf journal passes =
+    (length journal ≡ sum_by (λ p. p.calls) passes)
+    × All (λ p. IsPrefix p.seen journal × IsPrefix p.told journal) passes
 
 -- to a desk whose entry is such that P holds of it at the state before
 abbrev pub IsEnteredAt : (KeptValue → Entry → Type 0) → Accepted → DeskView → DeskView → PassView → PassView → Type 0
@@ -112,6 +130,7 @@ EntersBytes bytes s (Mark m) = ⊥
 abbrev pub EntersMark : MarkValue → KeptValue → Entry → Type 0
 EntersMark mark s entry = entry ≡ Mark mark
 
--- the refusal is that of a desk whose journal leads from o to its state
+-- the refusal is that of a desk whose journal leads from o to its state: it is what is published, and then what waits
 abbrev pub IsRefusedAt : KeptValue → (DeskView → CallRefusal → Type 0) → CallRefusal → Type 0
-IsRefusedAt o P refusal = (d : DeskView) × IsAfter o d.journal d.working × P d refusal
+IsRefusedAt o P refusal =
+    (d : DeskView) × IsAfter o d.journal d.working × (d.journal ≡ d.published ++ d.waiting) × P d refusal

@@ -1,5 +1,5 @@
 -- What looks at the published state tell.
-use Rattle.std.specs.Prelude.{◌≡◌, ℕ, List, Result, Ok, Err}
+use Rattle.std.specs.Prelude.{◌≡◌, ℕ, List, false, Result, Ok, Err}
 use Rattle.std.specs.declared.vec.Vec.{Vec}
 use Rattle.std.specs.declared.alloc.Global.{Global}
 use mathlib.Core.List.{IsPrefix}
@@ -8,7 +8,7 @@ use Rattle.hg_replica.specs.State.{IsValid}
 use Rattle.hg_replica.specs.Content.{content_of}
 use Rattle.hg_message.specs.declared.scope.Scope.{Scope}
 use Rattle.hg_message.specs.declared.refusal.OfferRefusal.TheVariants as message
-use Rattle.hg_message.specs.Value.{MessageValue}
+use Rattle.hg_message.specs.Value.{MessageValue, is_too_large}
 use Rattle.hg_message.specs.Spelling.{message_spelling}
 use Rattle.hg_message.specs.Offer.{AreHeld, OfferAnswer}
 use Rattle.hg_view.specs.Kept.{KeptValue}
@@ -76,9 +76,9 @@ StateOffers s common scope (Err offer.NotEntered) = ⊥
 StateOffers s common scope (Err (offer.Refused refusal)) = IsAgainstOffering s common scope refusal
 StateOffers s common scope (Err offer.NoMemory) = AreHeld (content_of s.replica) common
 
--- what is written of a message, which can be too large, or memory wanting
+-- what is written of a message, which can be too large; memory can be wanting only where it isn't
 abbrev pub Writes : MessageValue → Result (Vec ℕ Global) NotOffered → Type 0
 Writes m (Ok bytes) = CanBeWritten m × (bytes.items ≡ message_spelling m)
 Writes m (Err offer.NotEntered) = ⊥
 Writes m (Err (offer.Refused refusal)) = IsAgainstWriting m refusal
-Writes m (Err offer.NoMemory) = Unit {0}
+Writes m (Err offer.NoMemory) = is_too_large m ≡ false

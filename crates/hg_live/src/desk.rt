@@ -3,14 +3,16 @@ ghost use Rattle.std.specs.Prelude.{◌≡◌, ◌+◌, ◌<◌, ◌≤◌, ◌^
 ghost use Rattle.std.specs.Prelude.{IfOk, IfErr, IsErrOf, OnOk, OnErr, IsTrue, IfSome, MatchOption};
 ghost use Rattle.std.specs.List.{sum_by};
 ghost use mathlib.Core.List.{IsPrefix};
+ghost use Rattle.std.specs.VecDeque.{deque_capacity};
 ghost use Rattle.left_right.specs.Handles.{published, pending};
 ghost use Rattle.hg_peer.specs.declared.mark.Mark.TheVariants as mark;
 ghost use Rattle.hg_live.specs.declared.answer.CallRefusal.TheVariants.{JournalFull};
+ghost use Rattle.hg_live.specs.declared.answer.CloseRefusal.TheVariants.{PassesOut};
 ghost use Rattle.hg_live.specs.declared.entry.Entry.{Entry as EntryValue};
 ghost use Rattle.hg_live.specs.After.{IsAfter};
 ghost use Rattle.hg_live.specs.NodeViews.{new_pass};
-ghost use Rattle.hg_live.specs.Calls.{IsAgainstEntry, IsAgainstLocal, IsAgainstTake, IsAgainstMarking, IsEnteredAt};
-ghost use Rattle.hg_live.specs.Calls.{IsNoted, IsTold, EntersLocal, EntersBytes, EntersMark};
+ghost use Rattle.hg_live.specs.Calls.{IsNotEntered, IsAgainstLocal, IsAgainstTake, IsAgainstMarking, IsEnteredAt};
+ghost use Rattle.hg_live.specs.Calls.{AreAllOf, IsNoted, IsTold, EntersLocal, EntersBytes, EntersMark};
 
 use crate::answer::{Accepted, CallRefusal, CloseRefusal, NoPass};
 use crate::entry::{Entry, accept};
@@ -65,7 +67,8 @@ impl<K: NodeName, S: Publisher + Drop> Drop for Desk<K, S> {
 }
 
 impl<K: NodeName, S: Publisher> Model for Desk<K, S> {
-    ghost use Rattle.std.specs.Prelude.{◌≡◌, ◌+◌, ◌++◌, length, map, []};
+    ghost use Rattle.std.specs.Prelude.{◌≡◌, ◌+◌, ◌≤◌, ◌++◌, length, map, []};
+    ghost use Rattle.std.specs.VecDeque.{deque_capacity};
     ghost use Rattle.std.specs.Coded.{codes};
     ghost use Rattle.hg_marker.specs.Fields.{fields_code};
     ghost use Rattle.hg_live.specs.After.{IsAfter};
@@ -88,6 +91,7 @@ impl<K: NodeName, S: Publisher> Model for Desk<K, S> {
       counted : d.book.total ≡ length d.journal;
       unasked : d.rest.amount ≡ 0;
       start : d.start ≡ [];
+      room : 1 ≤ deque_capacity d.waiting;
       parts : d.rest.parts ≡ d.left + 1;
     } };
 }
@@ -98,12 +102,14 @@ impl<K: NodeName, R: Wait + Drop> Desk<K, Writer<K, R>> {
         working: Peer,
         journal: History<K, Entry>,
         writer: Writer<K, R>,
+        waiting: VecDeque<Step<K>>,
         book: Book<K>,
         rest: Share<K>,
     ) -> Desk<K, Writer<K, R>>
         requires working { working ≡ K.opening }
         requires journal { journal ≡ [] }
         requires writer { ((published writer).entries ≡ []) × (pending writer ≡ []) }
+        requires waiting { (waiting.items ≡ []) × (1 ≤ deque_capacity waiting) }
         requires book { book.total ≡ 0 }
         requires rest { (rest.amount ≡ 0) × (rest.parts ≡ 2 ^ 62 + 1) }
         ensures { result ≡ record { journal = []; published = []; waiting = []; working = K.opening } }
@@ -114,7 +120,7 @@ impl<K: NodeName, R: Wait + Drop> Desk<K, Writer<K, R>> {
             working,
             journal,
             start,
-            waiting: VecDeque::new(alloc),
+            waiting,
             writer,
             book,
             rest,
@@ -242,7 +248,8 @@ impl<K: NodeName, R: Wait + Drop> Desk<K, Writer<K, R>> {
     }
 
     // An entry is taken in, goes to the end of the journal, and is published where memory allows it. The room comes
-    // first and the absorption second; from there on nothing can fail, so the working replica absorbs in place.
+    // first, and is there already where nothing waits; then the absorption. From there on nothing can fail, so the
+    // working replica absorbs in place.
     fn enter<G: Gate>(
         &mut self,
         pass: &mut Pass<K>,
@@ -253,7 +260,7 @@ impl<K: NodeName, R: Wait + Drop> Desk<K, Writer<K, R>> {
         ensures noted { IfOk result (λ answer. IsNoted entry answer self.old self.new) }
         ensures told { IfOk result
             (λ answer. IsTold answer self.old.journal self.new.journal pass.old pass.new) }
-        ensures refused { IfErr result (IsAgainstEntry self.old.working entry) }
+        ensures refused { IfErr result (IsNotEntered self.old entry) }
         ensures err { OnErr result ((self.new ≡ self.old) × (pass.new ≡ pass.old)) }
         ensures after { IsAfter K.opening self.old.journal self.old.working }
         ensures rest { self.old.journal ≡ self.old.published ++ self.old.waiting }
@@ -296,18 +303,18 @@ impl<K: NodeName, R: Wait + Drop> Desk<K, Writer<K, R>> {
     pub(crate) fn closing(&self, passes: &[Pass<K>]) -> Result<Replica, CloseRefusal>
         ensures state { IfOk result (λ replica. replica ≡ self.now.working.replica) }
         ensures after { IsAfter K.opening self.now.journal self.now.working }
-        ensures count { OnOk result (length self.now.journal ≡ sum_by (λ p. p.calls) passes.now) }
-        ensures begins { OnOk result
-            (All (λ p. IsPrefix p.seen self.now.journal × IsPrefix p.told self.now.journal) passes.now) }
+        ensures all { OnOk result (AreAllOf self.now.journal passes.now) }
+        ensures out { IsErrOf result PassesOut → ¬ (AreAllOf self.now.journal passes.now) }
     {
         let front = self.journal.front();
         if !are_within(passes, &front) {
             return Err(CloseRefusal::PassesOut);
         }
+        let accepted = self.journal.len();
         let Some(calls) = all_calls(passes) else {
             return Err(CloseRefusal::PassesOut);
         };
-        if calls != self.journal.len() {
+        if calls != accepted {
             return Err(CloseRefusal::PassesOut);
         }
         match self.working.replica().copy() {
@@ -325,6 +332,7 @@ fn hand_over<K: NodeName, R: Wait + Drop>(
     ensures same { published writer.new ≡ published writer.old }
     ensures rest { pending writer.new ++ waiting.new.items ≡ pending writer.old ++ waiting.old.items }
     ensures all { IsTrue result → waiting.new.items ≡ [] }
+    ensures capacity { deque_capacity waiting.new ≡ deque_capacity waiting.old }
 {
     let mut left = waiting.len();
     while left > 0 {
@@ -352,6 +360,7 @@ fn publish<K: NodeName, R: Wait + Drop, G: Gate>(
     ensures rest { MatchOption result
         (pending writer.new ++ waiting.new.items ≡ pending writer.old ++ waiting.old.items)
         (λ _. (pending writer.new ≡ []) × (waiting.new.items ≡ [])) }
+    ensures capacity { deque_capacity waiting.new ≡ deque_capacity waiting.old }
 {
     if !hand_over(writer, waiting) {
         return None;
@@ -364,15 +373,16 @@ fn publish<K: NodeName, R: Wait + Drop, G: Gate>(
 }
 
 // Whether what the pass has seen and was told begins the journal.
+#[tactic(auto, using(hg_journal::proofs::Prefixes::prefix_length))]
 fn is_within<K: NodeName>(pass: &Pass<K>, front: &Front<K, Entry>) -> bool
-    ensures { IsTrue result → IsPrefix pass.now.seen front.now × IsPrefix pass.now.told front.now }
+    ensures { IsTrue result ↔ (IsPrefix pass.now.seen front.now × IsPrefix pass.now.told front.now) }
 {
     pass.seen().begins(front) && pass.told().begins(front)
 }
 
 // Whether that of all passes does.
 fn are_within<K: NodeName>(passes: &[Pass<K>], front: &Front<K, Entry>) -> bool
-    ensures { IsTrue result → All (λ p. IsPrefix p.seen front.now × IsPrefix p.told front.now) passes.now }
+    ensures { IsTrue result ↔ All (λ p. IsPrefix p.seen front.now × IsPrefix p.told front.now) passes.now }
 {
     for pass in passes {
         if !is_within(pass, front) {
@@ -384,7 +394,8 @@ fn are_within<K: NodeName>(passes: &[Pass<K>], front: &Front<K, Entry>) -> bool
 
 // How many calls of all passes were accepted, where the number fits.
 fn all_calls<K: NodeName>(passes: &[Pass<K>]) -> Option<u64>
-    ensures { IfSome result (λ n. n ≡ sum_by (λ p. p.calls) passes.now) }
+    ensures { MatchOption result (2 ^ 64 ≤ sum_by (λ p. p.calls) passes.now)
+        (λ n. n ≡ sum_by (λ p. p.calls) passes.now) }
 {
     let mut all: u64 = 0;
     for pass in passes {

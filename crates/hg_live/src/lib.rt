@@ -37,8 +37,8 @@
 //!
 //! Messages go from node to node by any means. An [`Inbox`], which threads share too, is one.
 //!
-//! The state that entries lead to is the least one, part after part, above what the node opened with
-//! ([`states_are_least`]).
+//! The state that entries lead to is the least one above what the node opened with that covers their parts
+//! ([`states_are_least`]), and an accepted call is a step of a world of one peer ([`calls_are_steps_of_a_peer`]).
 //!
 //! # What is not promised
 //!
@@ -65,7 +65,7 @@ pub use entry::Entry;
 pub use gate::{Gate, OpenGate};
 pub use hg_inbox::{Full, Inbox, InboxRefusal, Seat, Unclosed as UnclosedInbox};
 pub use hg_view::Status;
-pub use laws::states_are_least;
+pub use laws::{calls_are_steps_of_a_peer, states_are_least};
 pub use name::NodeName;
 pub use node::{Blank, Node, Unclosed as UnclosedNode};
 pub use pass::Pass;

@@ -6,6 +6,7 @@ ghost use Rattle.hg_replica.specs.Content.{content_of};
 ghost use Rattle.hg_view.specs.Kept.{KeptValue};
 ghost use Rattle.hg_discovery.specs.Rounds.{AreKnown};
 ghost use Rattle.hg_peer.specs.declared.mark.Mark.TheVariants as mark;
+ghost use Rattle.hg_live.specs.declared.answer.CloseRefusal.TheVariants as close;
 ghost use Rattle.hg_live.specs.declared.answer.LookRefusal.TheVariants as look;
 ghost use Rattle.hg_live.specs.declared.entry.Entry.{Entry as EntryValue};
 ghost use Rattle.hg_live.specs.After.{IsAfter};
@@ -13,7 +14,7 @@ ghost use Rattle.hg_live.specs.NodeViews.{new_pass};
 ghost use Rattle.hg_view.specs.Status.{IsStatus};
 ghost use Rattle.hg_live.specs.Looks.{LookAnswer, OfferLookAnswer};
 ghost use Rattle.hg_live.specs.Calls.{IsEntered, IsRefusedAt, IsAgainstLocal, IsAgainstTake, IsAgainstMarking};
-ghost use Rattle.hg_live.specs.Calls.{EntersLocal, EntersBytes, EntersMark};
+ghost use Rattle.hg_live.specs.Calls.{AreAllOf, EntersLocal, EntersBytes, EntersMark};
 
 use crate::answer::{Accepted, CallRefusal, CloseRefusal, LookRefusal, NoPass, NotOffered};
 use crate::desk::{Desk, MOST};
@@ -30,6 +31,7 @@ use hg_replica::Replica;
 use hg_rewrite::Op;
 use hg_view::{Kept, Status};
 use std::alloc::Global;
+use std::collections::VecDeque;
 use std::sync::{Mutex, Wait, ledger};
 
 /// A node that has no name yet, which a replica was handed to.
@@ -107,9 +109,10 @@ impl<K: NodeName, G: Gate + Drop, R: Wait + Drop> Node<K, G, Writer<K, R>> {
         let (book, rest) = tokens.open::<K>();
         let first = Published::new(opening.copy()?, journal.front());
         let second = Published::new(opening.copy()?, journal.front());
+        let waiting = VecDeque::with_capacity(alloc, 1)?;
         let writer = Writer::<K, R>::new(alloc, rt, first, second, 16)?;
         Ok(Node {
-            desk: Mutex::new(Desk::new(alloc, opening, journal, writer, book, rest)),
+            desk: Mutex::new(Desk::new(alloc, opening, journal, writer, waiting, book, rest)),
             gate,
         })
     }
@@ -196,9 +199,10 @@ impl<K: NodeName, G: Gate + Drop, R: Wait + Drop> Node<K, G, Writer<K, R>> {
     /// succeeds it waits, as dropping a node does, for whoever is inside a look by a pass that isn't back.
     pub fn close(self, passes: Vec<Pass<K>>) -> Result<Replica, Unclosed<K, G, Writer<K, R>>>
         ensures ok { IfOk result (λ replica. (l : List EntryValue) × (s : KeptValue) × IsAfter K.opening l s
-            × (replica ≡ s.replica) × (length l ≡ sum_by (λ p. p.calls) passes.items)
-            × All (λ p. IsPrefix p.seen l × IsPrefix p.told l) passes.items) }
+            × (replica ≡ s.replica) × AreAllOf l passes.items) }
         ensures err { IfErr result (λ unclosed. unclosed.passes ≡ passes) }
+        ensures out { IfErr result (λ unclosed. unclosed.why ≡ close.PassesOut → (l : List EntryValue)
+            × (s : KeptValue) × IsAfter K.opening l s × ¬ (AreAllOf l passes.items)) }
     {
         let Node { desk, gate } = self;
         let desk = desk.into_inner();

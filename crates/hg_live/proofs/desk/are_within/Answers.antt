@@ -1,4 +1,4 @@
-use Rattle.std.proofs.Common.{◌∙◌, ℕ, ◌<◌, length, slice_index_or, below_more, subst, arith}
+use Rattle.std.proofs.Common.{◌∙◌, ℕ, ◌<◌, length, slice_index_or, below_more, subst, sym, refl, arith}
 use mathlib.Core.List.{IsPrefix}
 use Rattle.hg_live.proofs.PassLemmas.{any_default}
 use Rattle.hg_live.specs.NodeViews.{PassView}
@@ -14,7 +14,18 @@ loop-pass-preserved g c k d below =
     below_more P c.loop-pass.pass-index (λ k h d. c.loop-pass.invariant k d h)
     (λ d. subst (λ (p : PassView). IsPrefix p.seen f × IsPrefix p.told f)
     (c.pass-item.is ∙ any_default xs c.loop-pass.pass-index c.pass-item.result d within)
-    (c.is_within.ensures c.if-not-is_within.false)) k below d
+    (c.is_within.ensures.0 c.if-not-is_within.false)) k below d
+
+pub returns-then-not-is_within : goal.returns-then-not-is_within
+returns-then-not-is_within g c =
+    let f = c.args.front.now in (
+      λ h. absurd (cc (h)),
+      λ all. absurd (cc (
+        c.is_within.ensures.1 (subst (λ (p : PassView). IsPrefix p.seen f × IsPrefix p.told f) (sym c.pass-item.is)
+            (all c.loop-pass.pass-index c.pass-item.result (omega arith))),
+        c.if-not-is_within.true,
+      )),
+    )
 
 pub returns : goal.returns
-returns g c true' k d below = c.loop-pass.invariant k d (omega arith)
+returns g c = (λ yes k d below. c.loop-pass.invariant k d (omega arith), λ all. refl)

@@ -1,4 +1,4 @@
-use Rattle.std.proofs.Common.{◌∙◌, ap}
+use Rattle.std.proofs.Common.{◌∙◌, ap, arith}
 use Rattle.hg_live.specs.NodeViews.{PublishedView}
 use Rattle.hg_live.proofs.AfterLemmas.{after_grown, counted_grown}
 use Rattle.hg_live.proofs.WaitLemmas.{waits_behind, rest_behind, none_behind}
@@ -18,6 +18,7 @@ invariant_of-self-in-Some g c =
           v.counted grown;
       unasked = v.unasked;
       start = v.start;
+      room = omega arith;
       parts = v.parts;
     }
 
@@ -37,6 +38,7 @@ invariant_of-self-2 g c =
           v.counted grown;
       unasked = v.unasked;
       start = v.start;
+      room = omega arith;
       parts = v.parts;
     }
 

@@ -6,7 +6,7 @@ use Rattle.hg_peer.specs.declared.refusal.PeerRefusal.TheVariants.{NoMemory}
 use Rattle.hg_peer.specs.Peers.{Decides, IsAgainstOperation, IsMemory}
 use Rattle.hg_live.specs.declared.entry.Entry.TheVariants.{Part}
 use Rattle.hg_live.specs.NodeViews.{DeskView}
-use Rattle.hg_live.specs.Calls.{IsAgainstEntry, IsAgainstLocal}
+use Rattle.hg_live.specs.Calls.{IsNotEntered, IsAgainstLocal}
 use Rattle.hg_live.proofs.CallLemmas.{operation_told, decided_told, refused_by}
 use Rattle.hg_live.proofs.desk.Desk+K+Writer+K+R.local.Goals as goal
 
@@ -20,7 +20,7 @@ returns-in-Ok-clause-refused g c =
     let admitted : ContentAdmits (content_of d.working.replica) k =
     subst (λ (d : DeskView). ContentAdmits (content_of d.working.replica) k) c.self.view_is
     c.in-Ok.ensures.admitted in
-    refused_by (IsAgainstEntry d.working (Part k)) (IsAgainstLocal d op) c.enter.result
+    refused_by (IsNotEntered d (Part k)) (IsAgainstLocal d op) c.enter.result
     (λ e h. decided_told d op k e (content-valid d.working.replica so.0) so admitted h) c.enter.ensures.refused
 
 pub returns-in-Err-clause-refused : goal.returns-in-Err-clause-refused

@@ -12,5 +12,6 @@ invariant_of-result g c =
       counted = c.requires.book ∙ sym (ap length c.requires.journal);
       unasked = c.requires.rest.0;
       start = c.front-start.ensures ∙ c.requires.journal;
+      room = c.requires.waiting.1;
       parts = c.requires.rest.1;
     }
