@@ -1,1 +1,2 @@
+mod DrawingLemmas
 mod KindLemmas

@@ -1,2 +1,3 @@
 pub mod Columns
+pub mod Drawings
 pub mod Kinds

@@ -1,13 +1,16 @@
 //! The history as a graph for Graphviz.
-ghost use Rattle.std.specs.Prelude.{◌<◌, length};
+ghost use Rattle.std.specs.Prelude.{◌<◌, OnOk, length};
+ghost use Rattle.std.specs.Io.KnownBytes.{Appends};
+ghost use Rattle.hg_changeset.specs.declared.node.Node.{Node as NodeValue};
 ghost use Rattle.hg_phases.specs.State.{changesets};
+ghost use Rattle.hg_log.specs.Drawings.{AreAllDrawn, Extends, Grows, HasId, IsDrawnText, IsGraph, StandsAt, Text};
 
 use crate::described::push_short_id;
 use crate::fate::{fates, is_pruned};
 use crate::fault::DrawFault;
 use crate::kind::{Kind, kind_of};
 use crate::line::write_line;
-use crate::shown::Shown;
+use crate::shown::{Shown, node_at};
 use hg_changeset::{Changeset, Node};
 use hg_marker::Marker;
 use hg_phases::Phase;
@@ -48,7 +51,10 @@ pub fn draw_graph<W: Write>(
     kept: &Kept,
     shows_hidden: bool,
     writer: &mut W,
-) -> Result<(), DrawFault> {
+) -> Result<(), DrawFault>
+    ensures { OnOk result ((text : Text) × IsGraph kept.now shows_hidden text
+        × Appends (W.contents writer.old) (W.contents writer.new) text) }
+{
     let shown = Shown { kept, shows_hidden };
     let mut line = Vec::new(alloc);
     line.extend_from_slice(b"digraph \"")?;
@@ -58,7 +64,8 @@ pub fn draw_graph<W: Write>(
     draw_changesets(&shown, &mut line, writer)?;
     draw_markers(alloc, &shown, &mut line, writer)?;
     line.push(b'}')?;
-    write_line(&mut line, writer)
+    write_line(&mut line, writer)?;
+    Ok(())
 }
 
 // Draws the boxes of the changesets with the edges to their parents, from the last place to the first.
@@ -66,7 +73,10 @@ fn draw_changesets<W: Write>(
     shown: &Shown<'_>,
     line: &mut Vec<u8>,
     writer: &mut W,
-) -> Result<(), DrawFault> {
+) -> Result<(), DrawFault>
+    ensures { OnOk result ((text : Text) × AreAllDrawn shown.now.kept.now shown.now.shows_hidden text
+        × Appends (W.contents writer.old) (W.contents writer.new) text) }
+{
     let len = shown.kept.replica().graph().len();
     for place in (0..len).rev() {
         if shown.has_place(place) {
@@ -84,21 +94,40 @@ fn draw_changeset<W: Write>(
     writer: &mut W,
 ) -> Result<(), DrawFault>
     requires { place < length (changesets kept.now.replica.history) }
+    ensures { OnOk result ((n : NodeValue) × (text : Text) × StandsAt kept.now place n × IsDrawnText n text
+        × Appends (W.contents writer.old) (W.contents writer.new) text) }
 {
     let replica = kept.replica();
     let changeset = replica.graph().changeset_at(place).unwrap();
-    let node = changeset.node();
-    let kind = kind_of(kept, node);
+    let node = node_at(kept, place);
     push_box(line, node, Some(changeset))?;
-    line.extend_from_slice(colour(kind, replica.phase_at(place).unwrap()))?;
-    if is_pruned(replica, fates(replica, node, kind)) {
-        line.extend_from_slice(b", style=diagonals")?;
-    }
-    line.extend_from_slice(b"];")?;
+    push_style(kept, place, node, line)?;
     write_line(line, writer)?;
     let (first, second) = changeset.parents();
     draw_parent_edge(node, first, line, writer)?;
-    draw_parent_edge(node, second, line, writer)
+    draw_parent_edge(node, second, line, writer)?;
+    Ok(())
+}
+
+// Appends how a changeset's box looks.
+fn push_style(kept: &Kept, place: usize, node: Node, line: &mut Vec<u8>) -> Result<(), AllocError>
+    requires { place < length (changesets kept.now.replica.history) }
+    ensures { OnOk result (Extends line.old.items line.new.items) }
+{
+    let replica = kept.replica();
+    let kind = kind_of(kept, node);
+    line.extend_from_slice(colour(kind, replica.phase_at(place).unwrap()))?;
+    line.extend_from_slice(corners(is_pruned(replica, fates(replica, node, kind))))?;
+    Ok(())
+}
+
+// How a box ends: that of what was pruned has its corners cut.
+fn corners(is_pruned: bool) -> &'static [u8] {
+    if is_pruned {
+        b", style=diagonals];"
+    } else {
+        b"];"
+    }
 }
 
 // The colour of a changeset's box.
@@ -117,13 +146,16 @@ fn draw_parent_edge<W: Write>(
     parent: Node,
     line: &mut Vec<u8>,
     writer: &mut W,
-) -> Result<(), DrawFault> {
+) -> Result<(), DrawFault>
+    ensures { OnOk result (Grows (W.contents writer.old) (W.contents writer.new)) }
+{
     if parent.is_null() {
         return Ok(());
     }
     push_edge(line, node, parent)?;
     line.push(b';')?;
-    write_line(line, writer)
+    write_line(line, writer)?;
+    Ok(())
 }
 
 // Draws what markers say, with a box for each id that isn't drawn.
@@ -132,25 +164,31 @@ fn draw_markers<W: Write>(
     shown: &Shown<'_>,
     line: &mut Vec<u8>,
     writer: &mut W,
-) -> Result<(), DrawFault> {
+) -> Result<(), DrawFault>
+    ensures { OnOk result (Grows (W.contents writer.old) (W.contents writer.new)) }
+{
     let mut others = BTreeSet::new(alloc);
     for marker in shown.kept.replica().store().markers() {
-        if shown.shows_hidden || shown.has(marker.predecessor()) {
-            draw_marker(shown, marker, &mut others, line, writer)?;
-        }
+        draw_marker(shown, marker, &mut others, line, writer)?;
     }
     Ok(())
 }
 
-// Draws what a marker says. The others are those that have a box already, though they aren't drawn as changesets.
+// Draws what a marker says that rewrote what is drawn, or any where all is. The others are those that have a box
+// already, though they aren't drawn as changesets.
 fn draw_marker<W: Write>(
     shown: &Shown<'_>,
     marker: &Marker,
     others: &mut BTreeSet<Node>,
     line: &mut Vec<u8>,
     writer: &mut W,
-) -> Result<(), DrawFault> {
+) -> Result<(), DrawFault>
+    ensures { OnOk result (Grows (W.contents writer.old) (W.contents writer.new)) }
+{
     let old = marker.predecessor();
+    if !shown.has_rewritten(old) {
+        return Ok(());
+    }
     draw_other(shown, old, others, line, writer)?;
     for new in marker.successors() {
         draw_other(shown, *new, others, line, writer)?;
@@ -168,7 +206,9 @@ fn draw_other<W: Write>(
     others: &mut BTreeSet<Node>,
     line: &mut Vec<u8>,
     writer: &mut W,
-) -> Result<(), DrawFault> {
+) -> Result<(), DrawFault>
+    ensures { OnOk result (Grows (W.contents writer.old) (W.contents writer.new)) }
+{
     if shown.has(node) || !others.insert(node)? {
         return Ok(());
     }
@@ -176,7 +216,8 @@ fn draw_other<W: Write>(
     push_box(line, node, replica.graph().changeset(node))?;
     line.extend_from_slice(other_style(replica, node))?;
     line.extend_from_slice(b"];")?;
-    write_line(line, writer)
+    write_line(line, writer)?;
+    Ok(())
 }
 
 // The style of the box of an id that isn't drawn as a changeset.
@@ -189,20 +230,30 @@ fn other_style(replica: &Replica, node: Node) -> &'static [u8] {
 }
 
 // Appends the beginning of a box with its label: the short id and, where the changeset is held, what it is called.
-fn push_box(
-    line: &mut Vec<u8>,
-    node: Node,
-    changeset: Option<&Changeset>,
-) -> Result<(), AllocError> {
+fn push_box(line: &mut Vec<u8>, node: Node, changeset: Option<&Changeset>) -> Result<(), AllocError>
+    ensures { OnOk result (HasId node line.new.items) }
+{
     line.extend_from_slice(b"    \"")?;
     push_short_id(line, node)?;
     line.extend_from_slice(b"\" [label=\"")?;
     push_short_id(line, node)?;
-    if let Some(changeset) = changeset {
-        line.extend_from_slice(b"\\n")?;
-        push_quoted(line, changeset.last_line())?;
+    push_last_line(line, changeset)?;
+    line.extend_from_slice(b"\", ")?;
+    Ok(())
+}
+
+// Appends what a changeset is called below its id, where it is held.
+fn push_last_line(line: &mut Vec<u8>, changeset: Option<&Changeset>) -> Result<(), AllocError>
+    ensures { OnOk result (Extends line.old.items line.new.items) }
+{
+    match changeset {
+        Some(changeset) => {
+            line.extend_from_slice(b"\\n")?;
+            push_quoted(line, changeset.last_line())?;
+            Ok(())
+        }
+        None => Ok(()),
     }
-    line.extend_from_slice(b"\", ")
 }
 
 // Appends an edge from one box to another.
@@ -216,7 +267,9 @@ fn push_edge(line: &mut Vec<u8>, from: Node, to: Node) -> Result<(), AllocError>
 }
 
 // Appends a text as it stands between quotes: Graphviz shows what `escape_ascii` makes of it.
-fn push_quoted(line: &mut Vec<u8>, text: &[u8]) -> Result<(), AllocError> {
+fn push_quoted(line: &mut Vec<u8>, text: &[u8]) -> Result<(), AllocError>
+    ensures { OnOk result (Extends line.old.items line.new.items) }
+{
     for byte in text.escape_ascii() {
         if byte == b'\\' || byte == b'"' {
             line.push(b'\\')?;

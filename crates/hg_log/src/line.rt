@@ -1,5 +1,7 @@
 //! Lines of a drawing, each of which is one write.
 ghost use Rattle.std.specs.Prelude.{◌≡◌, [], IfErr, OnOk};
+ghost use Rattle.std.specs.Io.KnownBytes.{Appends};
+ghost use Rattle.hg_log.specs.Drawings.{IsLine, Text};
 
 use crate::fault::DrawFault;
 use std::alloc::AllocError;
@@ -7,7 +9,9 @@ use std::io::Write;
 
 /// Writes a line without the blanks at its end, and empties it for the next one.
 pub(crate) fn write_line<W: Write>(line: &mut Vec<u8>, writer: &mut W) -> Result<(), DrawFault>
-    ensures { OnOk result (line.new.items ≡ []) }
+    ensures written { OnOk result ((text : Text) × IsLine line.old.items text
+        × Appends (W.contents writer.old) (W.contents writer.new) text) }
+    ensures emptied { OnOk result (line.new.items ≡ []) }
 {
     end_line(line)?;
     write_bytes(line, writer)?;
@@ -16,7 +20,9 @@ pub(crate) fn write_line<W: Write>(line: &mut Vec<u8>, writer: &mut W) -> Result
 }
 
 // Takes the blanks at the end off the line, and ends it.
-fn end_line(line: &mut Vec<u8>) -> Result<(), AllocError> {
+fn end_line(line: &mut Vec<u8>) -> Result<(), AllocError>
+    ensures { OnOk result (IsLine line.old.items line.new.items) }
+{
     let len = line.trim_ascii_end().len();
     line.truncate(len);
     line.push(b'\n')?;
@@ -25,7 +31,8 @@ fn end_line(line: &mut Vec<u8>) -> Result<(), AllocError> {
 
 // Writes bytes: only what the writer refuses is a fault here.
 fn write_bytes<W: Write>(bytes: &[u8], writer: &mut W) -> Result<(), DrawFault>
-    ensures { IfErr result (λ fault. fault ≡ DrawFault.Write) }
+    ensures ok { OnOk result (Appends (W.contents writer.old) (W.contents writer.new) bytes.now) }
+    ensures err { IfErr result (λ fault. fault ≡ DrawFault.Write) }
 {
     match writer.write_all(bytes) {
         Ok(()) => Ok(()),

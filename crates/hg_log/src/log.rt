@@ -1,6 +1,9 @@
 //! The history as a text, with its changesets in columns.
-ghost use Rattle.std.specs.Prelude.{◌<◌, length};
+ghost use Rattle.std.specs.Prelude.{◌<◌, OnOk, length};
+ghost use Rattle.std.specs.Io.KnownBytes.{Appends};
+ghost use Rattle.hg_changeset.specs.declared.node.Node.{Node as NodeValue};
 ghost use Rattle.hg_phases.specs.State.{changesets};
+ghost use Rattle.hg_log.specs.Drawings.{AreAllDrawn, Grows, HasId, IsDrawnText, StandsAt, Text};
 
 use crate::cells::{Line, needs_padding, push_columns};
 use crate::columns::{Columns, Row};
@@ -9,7 +12,8 @@ use crate::fate::{fates, push_fate};
 use crate::fault::DrawFault;
 use crate::kind::kind_of;
 use crate::line::write_line;
-use crate::shown::Shown;
+use crate::shown::{Shown, node_at};
+use hg_changeset::Node;
 use hg_replica::Replica;
 use hg_view::Kept;
 use std::alloc::{AllocError, Global};
@@ -46,15 +50,17 @@ pub fn draw_log<W: Write>(
     kept: &Kept,
     shows_hidden: bool,
     writer: &mut W,
-) -> Result<(), DrawFault> {
+) -> Result<(), DrawFault>
+    ensures { OnOk result ((text : Text) × AreAllDrawn kept.now shows_hidden text
+        × Appends (W.contents writer.old) (W.contents writer.new) text) }
+{
     let mut columns = Columns::new(alloc);
     let mut line = Vec::new(alloc);
     let shown = Shown { kept, shows_hidden };
-    let graph = kept.replica().graph();
-    for place in (0..graph.len()).rev() {
+    let len = kept.replica().graph().len();
+    for place in (0..len).rev() {
         if shown.has_place(place) {
-            let row = columns.next_row(place, graph.parent_places(place))?;
-            draw_changeset(kept, place, &row, &mut line, writer)?;
+            draw_changeset(kept, place, &mut columns, &mut line, writer)?;
         }
     }
     Ok(())
@@ -64,37 +70,48 @@ pub fn draw_log<W: Write>(
 fn draw_changeset<W: Write>(
     kept: &Kept,
     place: usize,
-    row: &Row,
+    columns: &mut Columns,
     line: &mut Vec<u8>,
     writer: &mut W,
 ) -> Result<(), DrawFault>
     requires { place < length (changesets kept.now.replica.history) }
+    ensures { OnOk result ((n : NodeValue) × (text : Text) × StandsAt kept.now place n × IsDrawnText n text
+        × Appends (W.contents writer.old) (W.contents writer.new) text) }
 {
     let replica = kept.replica();
-    let node = replica.graph().node_at(place).unwrap();
+    let row = columns.next_row(place, replica.graph().parent_places(place))?;
+    let node = node_at(kept, place);
     let kind = kind_of(kept, node);
     let fates = fates(replica, node, kind);
     let mark = kind.mark();
     let is_tall = fates.len() > 1;
-    push_columns(row, Line::Changeset { mark, is_tall }, line)?;
-    push_description(kept, place, line)?;
+    push_columns(&row, Line::Changeset { mark, is_tall }, line)?;
+    push_description(kept, place, node, line)?;
     write_line(line, writer)?;
-    draw_below(replica, row, fates, line, writer)
+    draw_below(replica, &row, fates, line, writer)?;
+    Ok(())
 }
 
 // Appends what a changeset is called, its phase, and what is unstable about it.
-fn push_description(kept: &Kept, place: usize, line: &mut Vec<u8>) -> Result<(), AllocError>
+fn push_description(
+    kept: &Kept,
+    place: usize,
+    node: Node,
+    line: &mut Vec<u8>,
+) -> Result<(), AllocError>
     requires { place < length (changesets kept.now.replica.history) }
+    ensures { OnOk result (HasId node line.new.items) }
 {
     let replica = kept.replica();
     let changeset = replica.graph().changeset_at(place).unwrap();
     let phase = replica.phase_at(place).unwrap();
-    push_short_id(line, changeset.node())?;
+    push_short_id(line, node)?;
     line.push(b' ')?;
     push_label(line, changeset.last_line())?;
     line.push(b' ')?;
     line.extend_from_slice(phase.word().as_bytes())?;
-    push_unstable(line, kept.status(changeset.node()))
+    push_unstable(line, kept.status(node))?;
+    Ok(())
 }
 
 // Draws the lines below a changeset's own, with what became of it beside them.
@@ -104,19 +121,34 @@ fn draw_below<W: Write>(
     fates: &[usize],
     line: &mut Vec<u8>,
     writer: &mut W,
-) -> Result<(), DrawFault> {
-    let mut rest = fates;
-    if fates.len() > 1 && needs_padding(row) {
-        let (fate, others) = next_fate(rest);
-        draw_beside(replica, row, Line::Padding, fate, line, writer)?;
-        rest = others;
-    }
+) -> Result<(), DrawFault>
+    ensures { OnOk result (Grows (W.contents writer.old) (W.contents writer.new)) }
+{
+    let rest = draw_padding(replica, row, fates, line, writer)?;
     let (fate, others) = next_fate(rest);
     draw_beside(replica, row, Line::Edges, fate, line, writer)?;
     for fate in others {
         draw_beside(replica, row, Line::Below, Some(*fate), line, writer)?;
     }
     Ok(())
+}
+
+// Draws a line of padding where the row has one, and gives the markers that are left for other lines.
+fn draw_padding<'a, W: Write>(
+    replica: &Replica,
+    row: &Row,
+    fates: &'a [usize],
+    line: &mut Vec<u8>,
+    writer: &mut W,
+) -> Result<&'a [usize], DrawFault>
+    ensures { OnOk result (Grows (W.contents writer.old) (W.contents writer.new)) }
+{
+    if fates.len() > 1 && needs_padding(row) {
+        let (fate, others) = next_fate(fates);
+        draw_beside(replica, row, Line::Padding, fate, line, writer)?;
+        return Ok(others);
+    }
+    Ok(fates)
 }
 
 // The first marker, where there is one, and the others.
@@ -135,10 +167,13 @@ fn draw_beside<W: Write>(
     fate: Option<usize>,
     line: &mut Vec<u8>,
     writer: &mut W,
-) -> Result<(), DrawFault> {
+) -> Result<(), DrawFault>
+    ensures { OnOk result (Grows (W.contents writer.old) (W.contents writer.new)) }
+{
     push_columns(row, columns, line)?;
     if let Some(fate) = fate {
         push_fate(line, replica, fate)?;
     }
-    write_line(line, writer)
+    write_line(line, writer)?;
+    Ok(())
 }

@@ -8,6 +8,7 @@ abbrev pub invariant-loop-changeset : goal.invariant-loop-changeset
 invariant-loop-changeset g l = record {
   printed : (rest : Text) (holds : Option Text) → AreLines IsChangesetText (drop l.changeset-index l.changesets) rest
       → Appends (g.W.Write.contents l.writer) holds rest
-      → (text : Text) × AreLines IsChangesetText l.changesets text × Appends (g.W.Write.contents l.initial.writer) holds text;
+      → (text : Text) × AreLines IsChangesetText l.changesets text
+      × Appends (g.W.Write.contents l.initial.writer) holds text;
   empty : l.line.items ≡ [];
 }
