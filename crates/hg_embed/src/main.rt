@@ -1,22 +1,22 @@
-//! How to use these crates: two peers of a world commit, pull and amend, and what is unstable then is printed.
+//! How to use these crates: two peers of a fleet commit, pull and amend, and what is unstable then is printed.
 //!
-//! Alice commits `a` and, on it, `b`. Bob takes in what she offers and commits `c` on `b`, while Alice amends `b`. Then
-//! Bob takes in what she offers now: his `c` stands on what was rewritten, so it is an orphan.
+//! Alice commits `a` and, on it, `b`. Bob pulls from her and commits `c` on `b`, while Alice amends `b`. Then Bob pulls
+//! what is new: his `c` stands on what was rewritten, so it is an orphan.
 #![tactic(auto)]
 
 use hg_changeset::{Entry, Node};
+use hg_fleet::{Fleet, Scope};
 use hg_join::NoMemory;
-use hg_peer::{Ask, Peer, Scope, world_with_keys};
 use hg_replica::IdKeys;
 use hg_rewrite::Op;
-use hg_world::{Answer, Event, World};
+use hg_world::{Answer, Event};
 use std::alloc::{AllocError, AllocFailed, Global};
 use std::collections::{BTreeMap, BTreeSet};
 use std::io;
 use std::process::ExitCode;
 use std::random::RandomSource;
 
-// The places of the two peers in their world.
+// The places of the two peers in their fleet.
 const ALICE: usize = 0;
 
 const BOB: usize = 1;
@@ -71,16 +71,16 @@ fn exchange(rt: &(impl Print + RandomSource + AllocGlobal)) -> Result<(), Stop> 
         Ok(keys) => keys,
         Err(_) => return Err(Stop::Input),
     };
-    let mut world = world_with_keys(alloc, keys, 2)?;
-    let a = commit(alloc, &mut world, ALICE, Node::NULL, b"a")?;
-    let b = commit(alloc, &mut world, ALICE, a, b"b")?;
-    pull(alloc, &mut world, BOB, ALICE)?;
-    amend(alloc, &mut world, ALICE, b, b"b2")?;
-    commit(alloc, &mut world, BOB, b, b"c")?;
-    pull(alloc, &mut world, BOB, ALICE)?;
-    match world.state(BOB) {
+    let mut fleet = Fleet::new(alloc, keys, 2)?;
+    let a = commit(alloc, &mut fleet, ALICE, Node::NULL, b"a")?;
+    let b = commit(alloc, &mut fleet, ALICE, a, b"b")?;
+    pull(&mut fleet, BOB, ALICE)?;
+    amend(alloc, &mut fleet, ALICE, b, b"b2")?;
+    commit(alloc, &mut fleet, BOB, b, b"c")?;
+    pull(&mut fleet, BOB, ALICE)?;
+    match fleet.kept(BOB) {
         Some(bob) => {
-            let sets = bob.kept().instabilities();
+            let sets = bob.instabilities();
             print_set(rt, "obsolete", sets.obsolete())?;
             print_set(rt, "orphan", sets.orphan())
         }
@@ -90,7 +90,7 @@ fn exchange(rt: &(impl Print + RandomSource + AllocGlobal)) -> Result<(), Stop> 
 
 fn commit(
     alloc: Global,
-    world: &mut World<Peer>,
+    fleet: &mut Fleet,
     at: usize,
     parent: Node,
     description: &[u8],
@@ -101,41 +101,36 @@ fn commit(
         entry: entry(alloc, description)?,
         secret: false,
     };
-    operate(world, at, op)
+    operate(fleet, at, op)
 }
 
 fn amend(
     alloc: Global,
-    world: &mut World<Peer>,
+    fleet: &mut Fleet,
     at: usize,
     node: Node,
     description: &[u8],
 ) -> Result<Node, Stop> {
     let entry = entry(alloc, description)?;
-    operate(world, at, Op::Amend { node, entry })
+    operate(fleet, at, Op::Amend { node, entry })
 }
 
 // A peer decides an operation and absorbs its part. The new changeset's id.
-fn operate(world: &mut World<Peer>, at: usize, op: Op) -> Result<Node, Stop> {
-    match world.run(&[Event::Local { at, op }])?.pop() {
-        Some(Answer::Accepted(change)) => change.added.first().copied().ok_or(Stop::Refused),
+fn operate(fleet: &mut Fleet, at: usize, op: Op) -> Result<Node, Stop> {
+    match fleet.run_one(&Event::Local { at, op })? {
+        Answer::Accepted(change) => change.added.first().copied().ok_or(Stop::Refused),
         _ => Err(Stop::Refused),
     }
 }
 
-// One peer offers all that it serves, and another takes the message.
-fn pull(alloc: Global, world: &mut World<Peer>, to: usize, from: usize) -> Result<(), Stop> {
-    let ask = Ask {
-        common: Vec::new(alloc),
-        scope: Scope::Served,
-    };
-    let message = match world.run(&[Event::Offer { at: from, ask }])?.pop() {
-        Some(Answer::Offered(number)) => number,
-        _ => return Err(Stop::Refused),
-    };
-    match world.run(&[Event::Take { at: to, message }])?.pop() {
-        Some(Answer::Accepted(_)) => Ok(()),
-        _ => Err(Stop::Refused),
+// One peer takes in what the other serves and it lacks.
+fn pull(fleet: &mut Fleet, taker: usize, giver: usize) -> Result<(), Stop> {
+    match fleet.pull(taker, giver, Scope::Served)? {
+        Some(pulled) => match pulled.taken {
+            Some(Answer::Accepted(_)) => Ok(()),
+            _ => Err(Stop::Refused),
+        },
+        None => Err(Stop::Refused),
     }
 }
 

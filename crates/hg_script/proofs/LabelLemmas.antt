@@ -38,7 +38,7 @@ use Rattle.hg_script.specs.declared.operation.Operation.TheVariants.{Commit, Ame
 use Rattle.hg_script.specs.declared.operation.Operation.TheVariants.{Advance}
 use Rattle.hg_script.specs.Commands.{Text, Word, texts}
 use Rattle.hg_script.specs.declared.fault.LineFault.TheVariants.{NameTaken}
-use Rattle.hg_script.specs.declared.fault.RunFault.TheVariants.{Line}
+use Rattle.hg_script.specs.declared.command_fault.CommandFault.TheVariants.{Name}
 use Rattle.hg_script.specs.Endings.{AreLabelsFree, IsTakenFault}
 use mathlib.Core.Logic.{⊎_elim}
 use Rattle.hg_script.specs.Entries.{entry_of, IsPruneOf}
@@ -311,13 +311,12 @@ free_made names words state op made distinct leads d free part e =
     subst (λ (k : PartValue). may_be_bound names (texts words) (nodes k.history.changesets) ≡ true)
     (one_part state op made part d e) at_made
 
-pub taken_made : (number : ℕ) (names : Meaning Node) (words : List Word) (state : KeptValue) (op : Op)
+pub taken_made : (names : Meaning Node) (words : List Word) (state : KeptValue) (op : Op)
     (made : PartValue) (distinct : Bool) → IsTrue distinct ↔ AreDistinct words → Decides state op made
     → (distinct && each_may_name names (texts words) (nodes made.history.changesets)) ≡ false
-    → IsTakenFault number names words state op (Line number NameTaken)
-taken_made number names words state op made distinct leads d taken =
+    → IsTakenFault names words state op (Name NameTaken)
+taken_made names words state op made distinct leads d taken =
     let free = each_may_name names (texts words) (nodes made.history.changesets) in (
-      refl,
       refl,
       (
         made,

@@ -4,7 +4,7 @@ pub mod InputLemmas
 pub mod LabelLemmas
 pub mod LineLemmas
 pub mod NameLemmas
-pub mod PeerLemmas
+pub mod NoteLemmas
 pub mod ReportLemmas
 pub mod ScriptLemmas
 pub mod WordLemmas

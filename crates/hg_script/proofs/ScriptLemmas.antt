@@ -1,15 +1,13 @@
 -- Single events, single commands, and whole scripts as one run.
 use Rattle.std.proofs.Common.{◌≡◌, ◌↔◌, ℕ, ◌+◌, List, [], ◌∷◌, ◌++◌, Option, Some, None, Bool, IsTrue, count_by}
-use Rattle.std.proofs.Common.{is_some, ◌≢◌, inl, inr}
+use Rattle.std.proofs.Common.{is_some, ◌≢◌, ◌≤◌, inl, inr, length, map}
 use Rattle.std.proofs.Common.{Result, Ok, Err, OnOk, IfOk, IsOkAnd}
 use Rattle.std.proofs.Common.{refl, sym, ap, subst, ◌∙◌}
 use Rattle.std.specs.Str.Lines.{lines}
 use Rattle.std.proofs.KnownBytes.{Appends-nil, Appends-trans}
 use Rattle.std.proofs.lemmas.List.{append-nil}
-use Rattle.std.specs.declared.vec.Vec.{Vec}
-use Rattle.std.specs.declared.alloc.Global.{Global}
+use Rattle.std.proofs.lemmas.Result.{on_ok_weaker}
 use mathlib.Core.Logic.{⊎_elim}
-use Rattle.hg_changeset.specs.declared.node.Node.{Node}
 use Rattle.hg_replica.specs.State.{ReplicaState, IsValid, Below, IsSameState}
 use Rattle.hg_replica.specs.Content.{ContentBelow, content_of}
 use Rattle.hg_replica.proofs.ContentLemmas.{below_from_content, content-below}
@@ -17,24 +15,31 @@ use Rattle.hg_replica.specs.Least.{PartValue}
 use Rattle.hg_history.specs.declared.fault.Fault.{Fault}
 use Rattle.hg_view.specs.Kept.{KeptValue}
 use Rattle.hg_world.specs.Runs.{Snapshot, Happens}
-use Rattle.hg_world.specs.declared.event.Event.TheVariants.{Offer, Take}
 use Rattle.hg_world.specs.declared.event.EventRefusal.{EventRefusal}
-use Rattle.hg_world.specs.declared.event.Answer.TheVariants.{Accepted, Offered, Marked, Refused}
+use Rattle.hg_world.specs.declared.event.Answer.TheVariants.{Refused}
 use Rattle.hg_peer.specs.declared.refusal.PeerRefusal.{PeerRefusal}
 use Rattle.hg_peer.specs.Words.{peer_state, peer_words}
 use Rattle.hg_message.specs.declared.scope.Scope.{Scope}
+use Rattle.hg_fleet.specs.Pulls.{Pulls, asking, taken}
+use Rattle.hg_world.specs.declared.event.Event.TheVariants as event
 use Rattle.hg_script.specs.declared.command.Command.{Command}
-use Rattle.hg_script.specs.declared.command.Command.TheVariants.{Node as node, Pull, Report, Agree}
+use Rattle.hg_script.specs.declared.command.Command.TheVariants.{Node as node, Operation as operation, Mark, Offer}
+use Rattle.hg_script.specs.declared.command.Command.TheVariants.{Take, Pull, Report, Agree}
 use Rattle.hg_script.specs.declared.fleet.Fleet.{Fleet}
+use Rattle.hg_script.specs.declared.telling.Notes.{Notes}
+use Rattle.hg_script.specs.declared.told.Told.{Told}
+use Rattle.hg_script.specs.declared.told.Told.TheVariants.{Nothing}
 use Rattle.hg_script.specs.Commands.{Text, Word}
 use Rattle.hg_script.specs.Endings.{Says}
-use Rattle.hg_script.specs.Events.{Trace, PeerEvent, PeerAnswer, no_trace, joined, Ran, IsTold, AreLeftOutAt, taken}
-use Rattle.hg_script.specs.Events.{asking}
+use Rattle.hg_script.specs.Limits.{line_limit}
+use Rattle.hg_script.specs.Events.{Trace, PeerEvent, PeerAnswer, AreTold, no_trace, joined, Ran}
 use Rattle.hg_script.specs.Outputs.{Printed}
-use Rattle.hg_script.specs.Printing.{answer_line, answer_lines, agree_line, IsDone, PrintsTaken, PrintsLines, PrintsRun}
-use Rattle.hg_script.specs.Printing.{PrintsLine}
+use Rattle.hg_script.specs.Printing.{answer_line, answer_lines, agree_line, IsDone, Prints, PrintsLine}
+use Rattle.hg_script.specs.Printing.{WritesLine, WritesLines, WritesRun, no_notes}
+use Rattle.hg_script.proofs.NoteLemmas.{same_explained, same_traced}
 use Rattle.hg_script.specs.Reports.{IsReport}
-use Rattle.hg_script.specs.Scripts.{places, node_named, Does, DoesWords, DoesLines, IsNewFleet, IsRunTo}
+use Rattle.hg_script.specs.Scripts.{places, node_named, Does, DoesWords, DoesLine, DoesLines, IsNewFleet, IsRunTo}
+use Rattle.hg_script.specs.Told.{IsAnswered, IsAskedOf, Shows, told_answers}
 use Rattle.hg_script.specs.Words.{has_node, words_of}
 
 -- two runs, one after the other, are one
@@ -66,11 +71,6 @@ does_lines_ran compose old (line ∷ lines) t new (mid, here, later, did, more, 
 abbrev pub one : PeerEvent → PeerAnswer → Option PartValue → Trace
 one event answer part = record { events = event ∷ []; answers = answer ∷ []; parts = part ∷ [] }
 
-pub one_ran : (old : Snapshot KeptValue) (event : PeerEvent) (answer : PeerAnswer) (part : Option PartValue)
-    (new : Snapshot KeptValue) → Happens peer_state peer_words old event answer part new
-    → Ran old (one event answer part) new
-one_ran old event answer part new h = (new, h, refl)
-
 -- what is refused changes nothing
 pub refused_stays : (old : Snapshot KeptValue) (event : PeerEvent) (answer : PeerAnswer)
     (refusal : EventRefusal PeerRefusal Fault) (new : Snapshot KeptValue) → answer ≡ Refused refusal
@@ -82,103 +82,111 @@ refused_stays old event answer refusal new e (part, h) =
     by None h = h.1
     by (Some part) h = absurd h
 
--- what the taker takes is the message that was offered, whatever came after
-taken_first : (taker : ℕ) (answer : PeerAnswer) (answers : List PeerAnswer)
-    → taken taker (answer ∷ []) ≡ taken taker (answer ∷ answers)
-taken_first taker (Accepted change) answers = refl
-taken_first taker (Offered number) answers = refl
-taken_first taker Marked answers = refl
-taken_first taker (Refused refusal) answers = refl
-
--- what is printed of an answer is what is printed of it alone
-pub one_line : (line : ℕ) (answer : PeerAnswer) → answer_line line answer ≡ answer_lines line (answer ∷ [])
-one_line line answer = sym (append-nil (answer_line line answer))
-
--- what was printed of what an answer is was printed of the answer
-pub printed_answer : {V : Type 0} (contents : V → Option Text) (line : ℕ) (answer told : PeerAnswer)
-    (held : Option Text) (v w : V) → v ≡ w → answer ≡ told → Printed held (answer_line line told) (contents w)
-    → Printed held (answer_line line answer) (contents v)
-printed_answer {V} contents line answer told held v w same is grew =
-    subst (λ (u : V). Printed held (answer_line line answer) (contents u)) (sym same)
-    (subst (λ (a : PeerAnswer). Printed held (answer_line line a) (contents w)) (sym is) grew)
-
-pub has_taken : (line : ℕ) (old : Snapshot KeptValue) (at number : ℕ) (offered answer : PeerAnswer)
-    (new : Snapshot KeptValue) (held holds : Option Text) → offered ≡ Offered number → IsTold answer
-    → (part : Option PartValue) × Happens peer_state peer_words old (Take at number) answer part new
-    → Printed held (answer_line line answer) holds → PrintsTaken line old at offered new held holds
-has_taken line old at number offered answer new held holds e told (part, h) grew =
-    subst (λ (a : PeerAnswer). PrintsTaken line old at a new held holds) (sym e) (
-      one (Take at number) answer part,
-      refl,
-      one_ran old (Take at number) answer part new h,
-      (told, tt),
-      subst (λ (text : Text). Printed held text holds) (one_line line answer) grew,
-    )
-
-pub takes_nothing : (line : ℕ) (old : Snapshot KeptValue) (at : ℕ) (answer : PeerAnswer) (held : Option Text)
-    → taken at (answer ∷ []) ≡ [] → PrintsTaken line old at answer old held held
-takes_nothing line old at answer held e = (no_trace, sym e, refl, tt, Appends-nil held)
-
--- an event and what came of it, before others
-abbrev before : PeerEvent → PeerAnswer → Option PartValue → Trace → Trace
-before event answer part t = record { events = event ∷ t.events; answers = answer ∷ t.answers; parts = part ∷ t.parts }
-
--- an offer, and then what the taker takes of it
-pub pulled : (line : ℕ) (old : Fleet) (scope : Scope) (to from : Word) (giver taker : ℕ) (common : Vec Node Global)
-    (answer : PeerAnswer) (mid : Snapshot KeptValue) (new : Fleet) (held between holds : Option Text)
-    → places old from.now ≡ Some giver → places old to.now ≡ Some taker
-    → AreLeftOutAt scope old.world taker giver common.items → IsTold answer
-    → (part : Option PartValue)
-    × Happens peer_state peer_words old.world (Offer giver (asking scope common)) answer part mid
-    → Printed held (answer_line line answer) between → PrintsTaken line mid taker answer new.world between holds
-    → new.nodes ≡ old.nodes → new.labels ≡ old.labels → new.messages ≡ old.messages
-    → IsDone line old (Pull scope to from) new held holds
-pulled line old scope to from giver taker common answer mid new held between holds at_from at_to heads told (part, h)
-    first (t, events, ran, others, more) nodes labels messages = (
-      before (Offer giver (asking scope common)) answer part t,
-      answer_line line answer ++ answer_lines line t.answers,
-      record {
-        asked = (
-          giver,
-          taker,
-          common,
-          at_from,
-          at_to,
-          heads,
-          ap (λ (es : List PeerEvent). Offer giver (asking scope common) ∷ es)
-              (events ∙ taken_first taker answer t.answers),
-        );
-        ran = (mid, h, ran);
-        told = (told, others);
-        named = (nodes, labels, messages);
-      },
-      refl,
-      Appends-trans held between holds (answer_line line answer) (answer_lines line t.answers) first more,
-    )
-
 -- an event, and then what came after it without an event
 pub ran_after : (old mid new : Snapshot KeptValue) (event : PeerEvent) (answer : PeerAnswer)
     → (part : Option PartValue) × Happens peer_state peer_words old event answer part mid → new ≡ mid
     → (t : Trace) × Ran old t new
 ran_after old mid new event answer (part, h) same = (one event answer part, (mid, h, same))
 
--- ---- commands that ask for no event
+-- a pull, by its answers
+pub pulls : (old : Fleet) (scope : Scope) (to from : Word) (giver taker : ℕ) (answers : List PeerAnswer) (new : Fleet)
+    → places old from.now ≡ Some giver → places old to.now ≡ Some taker
+    → Pulls old.world taker giver scope answers new.world → AreTold answers
+    → new.nodes ≡ old.nodes → new.labels ≡ old.labels → new.messages ≡ old.messages
+    → (t : Trace) × (answers ≡ t.answers) × Does old (Pull scope to from) t new
+pulls old scope to from giver taker answers new at_from at_to p told nodes labels messages = (
+  record {
+    events = event.Offer giver (asking scope p.common) ∷ taken taker answers;
+    answers = answers;
+    parts = p.parts;
+  },
+  refl,
+  record {
+    asked = (giver, taker, p.common, at_from, at_to, p.left_out, refl);
+    ran = p.ran;
+    told = told;
+    named = (nodes, labels, messages);
+  },
+)
 
--- a new node prints nothing
-pub added : {T E : Type 0} (line : ℕ) (old : Fleet) (at : Word) (new : Fleet) (held : Option Text)
-    (r : Result T E) → OnOk r (Does old (node at) no_trace new)
-    → OnOk r (IsDone line old (node at) new held held)
-added line old at new held (Ok x) does = (no_trace, [], does, refl, Appends-nil held)
-added line old at new held (Err e) does = tt
+-- the same, where it ends the script
+pub pulls_ran : (old : Snapshot KeptValue) (taker giver : ℕ) (scope : Scope) (answers : List PeerAnswer)
+    (new : Snapshot KeptValue) → Pulls old taker giver scope answers new → (t : Trace) × Ran old t new
+pulls_ran old taker giver scope answers new p = (
+  record {
+    events = event.Offer giver (asking scope p.common) ∷ taken taker answers;
+    answers = answers;
+    parts = p.parts;
+  },
+  p.ran,
+)
 
-pub reported : (line : ℕ) (f : Fleet) (at : Word) (state : KeptValue) (held holds : Option Text)
+-- ---- what a command shows
+
+-- the line of an answer alone
+pub one_line : {T E : Type 0} (line : ℕ) (answer : PeerAnswer) (held holds : Option Text) (r : Result T E)
+    → OnOk r (Printed held (answer_line line answer) holds)
+    → OnOk r (Printed held (answer_lines line (answer ∷ [])) holds)
+one_line line answer held holds r h =
+    on_ok_weaker r (subst (λ (u : Text). Printed held u holds) (sym (append-nil (answer_line line answer)))) h
+
+-- and after another
+pub next_line : {T E : Type 0} (line : ℕ) (first answer : PeerAnswer) (held between holds : Option Text)
+    (r : Result T E) → Printed held (answer_line line first) between
+    → OnOk r (Printed between (answer_line line answer) holds)
+    → OnOk r (Printed held (answer_lines line (first ∷ answer ∷ [])) holds)
+next_line line first answer held between holds r grew h =
+    on_ok_weaker r
+    (λ (more : Printed between (answer_lines line (answer ∷ [])) holds).
+    Appends-trans held between holds (answer_line line first) (answer_lines line (answer ∷ [])) grew more)
+    (one_line line answer between holds r h)
+
+-- what was shown, where nothing was answered
+alone : (line : ℕ) (t : Trace) (text : Text) → t.answers ≡ [] → text ++ answer_lines line t.answers ≡ text
+alone line t text none = ap (λ (answers : List PeerAnswer). text ++ answer_lines line answers) none ∙ append-nil text
+
+-- a command that shows nothing
+pub quiet : {E : Type 0} (old : Fleet) (command : Command) (new : Fleet) (held : Option Text) (r : Result Told E)
+    → ((t : Trace) → Shows old command t []) → IfOk r (λ told. IsAskedOf old command told new)
+    → IfOk r (λ told. IsAnswered old command told new held held)
+quiet old command new held (Ok told) shows (t, is, does) = (t, [], is, does, shows t, Appends-nil held)
+quiet old command new held (Err e) shows h = tt
+
+-- what a command shows, and then the refusals of its events, are what it prints
+prints_shown : (line : ℕ) (f : Fleet) (command : Command) (t : Trace) (text : Text) → Shows f command t text
+    → Prints line f command t (text ++ answer_lines line t.answers)
+prints_shown line f (node at) t text e = ap (λ (u : Text). u ++ answer_lines line t.answers) e
+prints_shown line f (operation at op) t text e = ap (λ (u : Text). u ++ answer_lines line t.answers) e
+prints_shown line f (Mark at marking) t text e = ap (λ (u : Text). u ++ answer_lines line t.answers) e
+prints_shown line f (Offer scope at message labels) t text e = ap (λ (u : Text). u ++ answer_lines line t.answers) e
+prints_shown line f (Take at message) t text e = ap (λ (u : Text). u ++ answer_lines line t.answers) e
+prints_shown line f (Pull scope to from) t text e = ap (λ (u : Text). u ++ answer_lines line t.answers) e
+prints_shown line f (Report at) t text (none, (state, there, report)) =
+    (state, there, subst (IsReport at.now state) (sym (alone line t text none)) report)
+prints_shown line f (Agree one other) t text (none, (first, second, answer, there, too, same, is)) =
+    (first, second, answer, there, too, same, alone line t text none ∙ is)
+
+pub done : (line : ℕ) (old : Fleet) (command : Command) (told : Told) (new : Fleet) (held between holds : Option Text)
+    → IsAnswered old command told new held between → Printed between (answer_lines line (told_answers told)) holds
+    → IsDone line old command new held holds
+done line old command told new held between holds (t, text, is, does, shows, grew) more = (
+  t,
+  text ++ answer_lines line t.answers,
+  does,
+  prints_shown line old command t text shows,
+  Appends-trans held between holds text (answer_lines line t.answers) grew
+      (subst (λ (answers : List PeerAnswer). Printed between (answer_lines line answers) holds) is more),
+)
+
+pub reported : (f : Fleet) (at : Word) (state : KeptValue) (held holds : Option Text)
     → node_named f at.now ≡ Some state → (text : Text) × IsReport at.now state text × Printed held text holds
-    → IsDone line f (Report at) f held holds
-reported line f at state held holds there (text, report, grew) = (
+    → IsAnswered f (Report at) Nothing f held holds
+reported f at state held holds there (text, report, grew) = (
   no_trace,
   text,
+  refl,
   record { asked = (ap is_some there, refl); ran = refl; told = tt; named = (refl, refl, refl) },
-  (state, there, report),
+  (refl, (state, there, report)),
   grew,
 )
 
@@ -190,32 +198,51 @@ below_told s t (Ok answer) v w told =
     (λ h. below_from_content s t v (told.0 h), λ below. told.1 (content-below s t w below))
 below_told s t (Err e) v w told = tt
 
-pub agreed : (line : ℕ) (f : Fleet) (one other : Word) (first second : KeptValue) (answer : Bool)
+pub agreed : (f : Fleet) (one other : Word) (first second : KeptValue) (answer : Bool)
     (held holds : Option Text) → node_named f one.now ≡ Some first → node_named f other.now ≡ Some second
     → IsTrue answer ↔ IsSameState first.replica second.replica
     → Printed held (agree_line one.now other.now answer) holds
-    → IsDone line f (Agree one other) f held holds
-agreed line f one other first second answer held holds there too same grew = (
+    → IsAnswered f (Agree one other) Nothing f held holds
+agreed f one other first second answer held holds there too same grew = (
   no_trace,
   agree_line one.now other.now answer,
+  refl,
   record {
     asked = (ap is_some there, ap is_some too, refl);
     ran = refl;
     told = tt;
     named = (refl, refl, refl);
   },
-  (first, second, answer, there, too, same, refl),
+  (refl, (first, second, answer, there, too, same, refl)),
   grew,
 )
 
 -- ---- what lines print
 
--- lines that print this are done
-pub does_printed : (number : ℕ) (old : Fleet) (ls : List Text) (t : Trace) (new : Fleet) (text : Text)
-    → PrintsLines number old ls t new text → DoesLines old ls t new
-does_printed number old [] t new text h = (h.0, h.1)
-does_printed number old (line ∷ ls) t new text (mid, here, later, first, rest, did, prints, more, e, same) =
-    (mid, here, later, did, does_printed (number + 1) mid ls later new rest more, e)
+-- a line without notes is written as it is printed
+pub bare_line : (number : ℕ) (old : Fleet) (line : Text) (t : Trace) (new : Fleet) (text : Text) → DoesLine old line t new
+    → PrintsLine number old line t text → WritesLine no_notes number old line t new text
+bare_line number old line t new text does prints = (does, (text, prints, (text, refl, refl)))
+
+-- a line of no words is written as nothing
+pub wordless_line : (notes : Notes) (number : ℕ) (old : Fleet) (line : Text) (words : List Word)
+    → length line ≤ line_limit → map (λ (w : Word). w.now) words ≡ words_of line → words ≡ []
+    → WritesLine notes number old line no_trace old []
+wordless_line notes number old line words short mapped none = (
+  (short, (words, mapped, inl (none, refl, refl))),
+  (
+    [],
+    inl (sym mapped ∙ ap (map (λ (w : Word). w.now)) none, refl),
+    ([], same_explained notes.explains [], same_traced notes.traces []),
+  ),
+)
+
+-- lines that are written are done
+pub does_written : (notes : Notes) (number : ℕ) (old : Fleet) (ls : List Text) (t : Trace) (new : Fleet) (text : Text)
+    → WritesLines notes number old ls t new text → DoesLines old ls t new
+does_written notes number old [] t new text h = (h.0, h.1)
+does_written notes number old (line ∷ ls) t new text (mid, here, later, first, rest, wrote, more, e, same) =
+    (mid, here, later, wrote.0, does_written notes (number + 1) mid ls later new rest more, e)
 
 -- a line with words says a command
 pub says_some : (number : ℕ) (f : Fleet) (line : Text) (t : Trace) (text : Text) → words_of line ≢ []
@@ -223,14 +250,13 @@ pub says_some : (number : ℕ) (f : Fleet) (line : Text) (t : Trace) (text : Tex
 says_some number f line t text some (inl (none, empty)) = absurd (some none)
 says_some number f line t text some (inr (command, says, prints)) = (command, says)
 
--- what the lines of a script print, from a new fleet on, is what its run prints
-pub printed_run : Compose → (text : Text) (start : Fleet) (t : Trace) (end : Fleet) (output : Text)
-    (held holds : Option Text) → IsNewFleet (count_by has_node (lines text)) start
-    → PrintsLines 1 start (lines text) t end output → Printed held output holds → PrintsRun text end.world held holds
-printed_run compose text start t end output held holds new prints grew =
-    let did = does_printed 1 start (lines text) t end output prints in
-    record {
-      run = record {
+-- the lines of a script, done from a new fleet on, are a run that leaves the last fleet
+pub run_to : Compose → (notes : Notes) (text : Text) (start : Fleet) (t : Trace) (end : Fleet) (output : Text)
+    → IsNewFleet (count_by has_node (lines text)) start → WritesLines notes 1 start (lines text) t end output
+    → IsRunTo text end
+run_to compose notes text start t end output new writes =
+    let did = does_written notes 1 start (lines text) t end output writes in (
+      record {
         start = start;
         is_new = new;
         trace = t;
@@ -238,29 +264,19 @@ printed_run compose text start t end output held holds new prints grew =
         did = did;
         ended = refl;
         ran = does_lines_ran compose start (lines text) t end did;
-      };
-      output = output;
-      prints = prints;
-      printed = grew;
-    }
+      },
+      refl,
+    )
 
--- the lines of a script, done from a new fleet on, are a run that leaves the last fleet
-pub run_done : Compose → (text : Text) (start : Fleet) (t : Trace) (end : Fleet)
-    → IsNewFleet (count_by has_node (lines text)) start → DoesLines start (lines text) t end → IsRunTo text end
-run_done compose text start t end new did = (
-  record {
-    start = start;
-    is_new = new;
-    trace = t;
-    end = end;
-    did = did;
-    ended = refl;
-    ran = does_lines_ran compose start (lines text) t end did;
-  },
-  refl,
-)
-
-pub run_to : Compose → (text : Text) (start : Fleet) (t : Trace) (end : Fleet) (output : Text)
-    → IsNewFleet (count_by has_node (lines text)) start → PrintsLines 1 start (lines text) t end output → IsRunTo text end
-run_to compose text start t end output new prints =
-    run_done compose text start t end new (does_printed 1 start (lines text) t end output prints)
+-- what is written of them is what is written of that run
+pub written_run : Compose → (notes : Notes) (text : Text) (start : Fleet) (t : Trace) (end : Fleet) (output : Text)
+    (held holds : Option Text) → IsNewFleet (count_by has_node (lines text)) start
+    → WritesLines notes 1 start (lines text) t end output → Printed held output holds
+    → WritesRun notes text end.world held holds
+unfolding run_to
+written_run compose notes text start t end output held holds new writes grew = record {
+  run = (run_to compose notes text start t end output new writes).0;
+  output = output;
+  writes = writes;
+  printed = grew;
+}

@@ -1,7 +1,6 @@
--- What ends a script before its last line is done: at which line, and by which fault.
-use Rattle.std.specs.Prelude.{ℕ, ◌≡◌, ◌⊎◌, ◌≤◌, ◌<◌, ◌+◌, List, [], ◌∷◌, ◌++◌, length, map, count_by, slice_get, false}
-use Rattle.std.specs.Prelude.{IsTrue, Option, Some, None, IsSome, IfSome, Ok, Err}
-use Rattle.std.specs.Str.Lines.{lines}
+-- What ends a script at a line, and by which fault.
+use Rattle.std.specs.Prelude.{ℕ, ◌≡◌, ◌⊎◌, ◌≤◌, ◌<◌, List, [], ◌∷◌, length, map, slice_get, false}
+use Rattle.std.specs.Prelude.{IsTrue, Option, Some, None, IsSome, Result, Ok, Err, IsErrOf}
 use Rattle.hg_changeset.specs.declared.node.Node.{Node}
 use Rattle.hg_graph.specs.Graph.{nodes}
 use Rattle.hg_view.specs.Kept.{KeptValue}
@@ -13,6 +12,9 @@ use Rattle.hg_script.specs.declared.command.Command.{Command}
 use Rattle.hg_script.specs.declared.command.Command.TheVariants.{Node as node, Operation as operation, Mark, Offer}
 use Rattle.hg_script.specs.declared.command.Command.TheVariants.{Take, Pull, Report, Agree}
 use Rattle.hg_script.specs.declared.operation.Operation.{Operation}
+use Rattle.hg_script.specs.declared.command_fault.CommandFault.{CommandFault}
+use Rattle.hg_script.specs.declared.command_fault.CommandFault.TheVariants as ends
+use Rattle.hg_script.specs.declared.command_fault.CommandFault.TheVariants.{Name}
 use Rattle.hg_script.specs.declared.fault.LineFault.{LineFault}
 use Rattle.hg_script.specs.declared.fault.LineFault.TheVariants.{TooLong}
 use Rattle.hg_script.specs.declared.fault.LineFault.TheVariants.{UnknownName, NameTaken}
@@ -22,11 +24,10 @@ use Rattle.hg_script.specs.declared.fleet.Fleet.{Fleet}
 use Rattle.hg_script.specs.Commands.{Text, Word, texts, CommandAnswer}
 use Rattle.hg_script.specs.Events.{Trace, Ran, Meaning, HasUnknown, AreIds, IsOperation, old_labels, new_labels}
 use Rattle.hg_script.specs.Events.{marked_label}
-use Rattle.hg_script.specs.Limits.{line_limit, script_limit}
+use Rattle.hg_script.specs.Limits.{line_limit}
 use Rattle.hg_names.specs.Names.{AreDistinct}
-use Rattle.hg_script.specs.Scripts.{places, ids, numbers, node_named, message_named, may_be_bound, DoesLines}
-use Rattle.hg_script.specs.Scripts.{IsNewFleet, IsRunOf, IsRunTo}
-use Rattle.hg_script.specs.Words.{has_node, words_of}
+use Rattle.hg_script.specs.Scripts.{places, ids, numbers, node_named, message_named, may_be_bound}
+use Rattle.hg_script.specs.Words.{words_in_place, words_of}
 
 -- ---- faults of names
 
@@ -73,19 +74,17 @@ AreLabelsFree names labels state op =
 
 -- the operation isn't refused, and the labels aren't free to name what it makes, or one of them comes twice; or want of
 -- memory
-abbrev pub IsTakenFault : ℕ → Meaning Node → List Word → KeptValue → Op → RunFault → Type 0
-IsTakenFault number names labels state op (Line told fault) =
-    (told ≡ number) × (fault ≡ NameTaken)
+abbrev pub IsTakenFault : Meaning Node → List Word → KeptValue → Op → CommandFault → Type 0
+IsTakenFault names labels state op (Name fault) =
+    (fault ≡ NameTaken)
     × ((part : PartValue) × Decides state op part
     × ((may_be_bound names (texts labels) (nodes part.history.changesets) ≡ false) ⊎ ¬ (AreDistinct labels)))
-IsTakenFault number names labels state op ScriptTooLong = ⊥
-IsTakenFault number names labels state op Read = ⊥
-IsTakenFault number names labels state op Write = ⊥
-IsTakenFault number names labels state op NoMemory = Unit {0}
+IsTakenFault names labels state op ends.Write = ⊥
+IsTakenFault names labels state op ends.NoMemory = Unit {0}
 
 -- there is no node at the place
-abbrev pub IsNodeFault : ℕ → Snapshot KeptValue → ℕ → RunFault → Type 0
-IsNodeFault number world place fault = (fault ≡ Line number UnknownName) × (slice_get world.nodes place ≡ None)
+abbrev pub IsNodeFault : Snapshot KeptValue → ℕ → CommandFault → Type 0
+IsNodeFault world place fault = (fault ≡ Name UnknownName) × (slice_get world.nodes place ≡ None)
 
 -- which fault the names of a command show
 abbrev pub IsNameFault : Fleet → Command → LineFault → Type 0
@@ -93,7 +92,13 @@ IsNameFault f command UnknownName = UsesUnknown f command
 IsNameFault f command NameTaken = GivesTaken f command
 IsNameFault f command _ = ⊥
 
--- how the command of the line with this number can end the script
+-- how a command can end the script
+abbrev pub IsFaultOf : Fleet → Command → CommandFault → Type 0
+IsFaultOf f command (Name fault) = IsNameFault f command fault
+IsFaultOf f command ends.Write = Unit {0}
+IsFaultOf f command ends.NoMemory = Unit {0}
+
+-- the same of the command of the line with this number
 abbrev pub IsCommandFault : ℕ → Fleet → Command → RunFault → Type 0
 IsCommandFault number f command (Line told fault) = (told ≡ number) × IsNameFault f command fault
 IsCommandFault number f command ScriptTooLong = ⊥
@@ -105,6 +110,10 @@ IsCommandFault number f command NoMemory = Unit {0}
 abbrev pub IsLeftBy : ℕ → Fleet → Command → RunFault → Fleet → Type 0
 IsLeftBy number old command fault new =
     IsCommandFault number old command fault × ((t : Trace) × Ran old.world t new.world)
+
+-- where a name of the command ended the script, what the writer holds stays
+abbrev pub StaysAtName : {T : Type 0} → Result T CommandFault → Option Text → Option Text → Type 0
+StaysAtName r held holds = (fault : LineFault) → IsErrOf r (Name fault) → holds ≡ held
 
 -- ---- faults of lines
 
@@ -123,51 +132,22 @@ IsLineFault f line UnknownName = (command : Command) × Says line command × Use
 IsLineFault f line NameTaken = (command : Command) × Says line command × GivesTaken f command
 IsLineFault f line fault = (words : List Word) × HasWords line words × CommandAnswer words (Err fault)
 
+-- the fault is a line's own
+abbrev pub IsOfLine : RunFault → Type 0
+IsOfLine (Line number fault) = Unit {0}
+IsOfLine _ = ⊥
+
+-- where a line's own fault ended the script, what the writer holds stays
+abbrev pub StaysAtLine : {T : Type 0} → Result T RunFault → Option Text → Option Text → Type 0
+StaysAtLine r held holds = (number : ℕ) (fault : LineFault) → IsErrOf r (Line number fault) → holds ≡ held
+
 -- how the line with this number can end the script: by a fault of its own, by a write fault of its command, or for want
--- of memory
+-- of memory, for its command or for more words than stand in place
 abbrev pub EndsAt : ℕ → Fleet → Text → RunFault → Type 0
 EndsAt number f line (Line told fault) = (told ≡ number) × IsLineFault f line fault
 EndsAt number f line ScriptTooLong = ⊥
 EndsAt number f line Read = ⊥
 EndsAt number f line Write = (command : Command) × Says line command
-EndsAt number f line NoMemory = length line ≤ line_limit
-
--- ---- whole scripts
-
--- the lines before one were done, and this one ended the script; lines count from 1
-pub record StopsAmong (old : Fleet) (all : List Text) (fault : RunFault) : Type 0 where
-  pub before : List Text
-  pub line : Text
-  pub after : List Text
-  pub divided : all ≡ before ++ line ∷ after
-  pub trace : Trace
-  pub mid : Fleet
-  pub did : DoesLines old before trace mid
-  pub ends : EndsAt (length before + 1) mid line fault
-
--- the script was stopped at a line by this fault, from a new fleet on, with a peer for each line whose first word is
--- `node`
-pub record IsStoppedBy (text : Text) (fault : RunFault) : Type 0 where
-  pub start : Fleet
-  pub is_new : IsNewFleet (count_by has_node (lines text)) start
-  pub stops : StopsAmong start (lines text) fault
-
--- the script that was read: no longer than a script may be, and what the reader had where that is known
-abbrev pub IsScriptOf : Option Text → Text → Type 0
-IsScriptOf known text = (length text ≤ script_limit) × IfSome known (λ bytes. bytes ≡ text)
-
--- the world is as the script leaves it
-abbrev pub IsLeftWorld : Option Text → Snapshot KeptValue → Type 0
-IsLeftWorld known world = (text : Text) × IsScriptOf known text × IsRunOf text world
-
--- the fleet is as the script leaves it
-abbrev pub IsLeftFleet : Option Text → Fleet → Type 0
-IsLeftFleet known fleet = (text : Text) × IsScriptOf known text × IsRunTo text fleet
-
--- the script was stopped by this fault: at a line, or while it was read
-abbrev pub IsStop : Option Text → RunFault → Type 0
-IsStop known (Line number fault) = (text : Text) × IsScriptOf known text × IsStoppedBy text (Line number fault)
-IsStop known ScriptTooLong = IfSome known (λ bytes. script_limit < length bytes)
-IsStop known Read = Unit {0}
-IsStop known Write = (text : Text) × IsScriptOf known text × IsStoppedBy text Write
-IsStop known NoMemory = Unit {0}
+EndsAt number f line NoMemory =
+    (length line ≤ line_limit)
+    × ((words_in_place < length (words_of line)) ⊎ ((command : Command) × Says line command))

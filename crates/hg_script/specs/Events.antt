@@ -14,7 +14,7 @@ use Rattle.hg_replica.specs.Least.{PartValue}
 use Rattle.hg_view.specs.Kept.{KeptValue}
 use Rattle.hg_rewrite.specs.declared.op.Op.{Op}
 use Rattle.hg_rewrite.specs.declared.op.Op.TheVariants as asks
-use Rattle.hg_world.specs.Runs.{Snapshot, place_of}
+use Rattle.hg_world.specs.Runs.{Snapshot}
 use Rattle.hg_world.specs.Runs as worlds
 use Rattle.hg_world.specs.declared.event.Event.TheVariants as event
 use Rattle.hg_world.specs.declared.event.EventRefusal.{EventRefusal}
@@ -25,14 +25,11 @@ use Rattle.hg_peer.specs.declared.mark.Mark.TheVariants as marks
 use Rattle.hg_peer.specs.declared.refusal.PeerRefusal.{PeerRefusal}
 use Rattle.hg_peer.specs.Refusals.{peer_refusal_number}
 use Rattle.hg_peer.specs.Words as peers
-use Rattle.hg_discovery.specs.Between.{AreHeadsInCommon}
+use Rattle.hg_fleet.specs.Pulls.{AreLeftOutAt, TellsAbsence, asking, taken}
 use Rattle.hg_script.specs.declared.fault.LineFault.TheVariants.{UnknownName}
-use Rattle.hg_script.specs.declared.fault.RunFault.{RunFault}
-use Rattle.hg_script.specs.declared.fault.RunFault.TheVariants.{Line, ScriptTooLong, Read, Write, NoMemory}
+use Rattle.hg_script.specs.declared.command_fault.CommandFault.{CommandFault}
+use Rattle.hg_script.specs.declared.command_fault.CommandFault.TheVariants.{Name, Write, NoMemory}
 use Rattle.hg_script.specs.declared.command.Command.{Command}
-use Rattle.hg_message.specs.declared.scope.Scope.{Scope}
-use Rattle.hg_message.specs.declared.scope.Scope.TheVariants.{Served, Whole}
-use Rattle.hg_peer.specs.declared.ask.Ask.{Ask}
 use Rattle.hg_script.specs.declared.command.Command.TheVariants.{Node as node, Operation as operation, Mark, Offer}
 use Rattle.hg_script.specs.declared.command.Command.TheVariants.{Take, Pull, Report, Agree}
 use Rattle.hg_script.specs.declared.marking.Marking.{Marking}
@@ -94,31 +91,16 @@ brought (Some part ∷ parts) = nodes part.history.changesets ++ brought parts
 
 -- ---- what can end a script at an event
 
--- there is no such node, or no such message
-abbrev pub IsAbsence : EventRefusal PeerRefusal Fault → Type 0
-IsAbsence NoNode = Unit {0}
-IsAbsence NoMessage = Unit {0}
-IsAbsence (ByActor refusal) = ⊥
-IsAbsence (ByState fault) = ⊥
+-- one of the answers tells of an absence
+abbrev pub TellAbsence : List PeerAnswer → Type 0
+TellAbsence [] = ⊥
+TellAbsence (answer ∷ answers) = TellsAbsence answer ⊎ TellAbsence answers
 
--- the message that the event takes isn't there
-abbrev pub LacksMessage : Snapshot KeptValue → PeerEvent → Type 0
-LacksMessage world (event.Local at op) = ⊥
-LacksMessage world (event.Offer at ask) = ⊥
-LacksMessage world (event.Take at message) = slice_get world.messages message ≡ None
-LacksMessage world (event.Mark at mark) = ⊥
-
--- there is no node at the event's place, or no message that it takes
-abbrev pub IsNowhere : Snapshot KeptValue → PeerEvent → Type 0
-IsNowhere world asked = (slice_get world.nodes (place_of asked) ≡ None) ⊎ LacksMessage world asked
-
--- `unknown name` at the line with this number, where this is so; or a write fault, or want of memory
-abbrev pub IsUnknownWhere : ℕ → Type 0 → RunFault → Type 0
-IsUnknownWhere number P (Line told fault) = (told ≡ number) × (fault ≡ UnknownName) × P
-IsUnknownWhere number P ScriptTooLong = ⊥
-IsUnknownWhere number P Read = ⊥
-IsUnknownWhere number P Write = Unit {0}
-IsUnknownWhere number P NoMemory = Unit {0}
+-- an unknown name, where this is so; or a write fault, or want of memory
+abbrev pub IsUnknownWhere : Type 0 → CommandFault → Type 0
+IsUnknownWhere P (Name fault) = (fault ≡ UnknownName) × P
+IsUnknownWhere P Write = Unit {0}
+IsUnknownWhere P NoMemory = Unit {0}
 
 -- ---- operations
 
@@ -176,8 +158,8 @@ old_labels (Relocate old new parents) = old.now ∷ parent_words parents
 old_labels (Advance label phase) = label.now ∷ []
 
 -- one of the labels stands for nothing: so they can end the script
-abbrev pub IsUnresolved : Names → List Text → RunFault → Type 0
-IsUnresolved names labels = IsUnknownWhere names.number (HasUnknown (labelled names.labels.now) labels)
+abbrev pub IsUnresolved : Names → List Text → CommandFault → Type 0
+IsUnresolved names labels = IsUnknownWhere (HasUnknown (labelled names.labels.now) labels)
 
 -- the new labels, in the order in which the operation makes their changesets
 abbrev pub new_labels : Operation → List Text
@@ -202,36 +184,6 @@ marked_label (Pin label) = label.now
 marked_label (Unpin label) = label.now
 
 -- ---- commands
-
--- what the taker of a pull takes: the message that was offered, if one was
-abbrev pub taken : ℕ → List PeerAnswer → List PeerEvent
-taken taker [] = []
-taken taker (Accepted change ∷ answers) = []
-taken taker (Offered number ∷ answers) = event.Take taker number ∷ []
-taken taker (Marked ∷ answers) = []
-taken taker (Refused refusal ∷ answers) = []
-
--- how what the taker takes of an offer can end the script
-abbrev pub IsTakeFault : ℕ → Snapshot KeptValue → ℕ → PeerAnswer → RunFault → Type 0
-IsTakeFault number world taker answer fault =
-    (message : ℕ) × (answer ≡ Offered message)
-    × IsUnknownWhere number (IsNowhere world (event.Take taker message)) fault
-
--- what a pull of this scope leaves out: what both have in common by its heads, under the pins of the giver, where it is
--- of what is served, and nothing, where it is of the whole
-abbrev pub AreLeftOut : Scope → KeptValue → KeptValue → List Node → Type 0
-AreLeftOut Served ours theirs heads = AreHeadsInCommon ours.replica theirs.replica theirs.pins heads
-AreLeftOut Whole ours theirs heads = heads ≡ []
-
--- what the peer at one place leaves out of what it asks of the peer at another
-abbrev pub AreLeftOutAt : Scope → Snapshot KeptValue → ℕ → ℕ → List Node → Type 0
-AreLeftOutAt scope world taker giver heads =
-    (ours : KeptValue) × (theirs : KeptValue) × (slice_get world.nodes taker ≡ Some ours)
-    × (slice_get world.nodes giver ≡ Some theirs) × AreLeftOut scope ours theirs heads
-
--- what is asked of a scope above common nodes
-abbrev pub asking : Scope → Vec Node Global → Ask
-asking scope common = record { common = common; scope = scope }
 
 -- the events of a command in a world, where names stand for these places, ids and numbers: a pull asks for what is
 -- offered above what it leaves out, and what it takes hangs on the answer

@@ -1,5 +1,8 @@
 -- The texts and the exit statuses of what ends a script.
 use Rattle.std.specs.Prelude.{ℕ, List, ◌++◌, ◌≡◌, ◌⊎◌, codes, decimal}
+use Rattle.hg_script.specs.declared.command_fault.CommandFault.{CommandFault}
+use Rattle.hg_script.specs.declared.command_fault.CommandFault.TheVariants as ends
+use Rattle.hg_script.specs.declared.command_fault.CommandFault.TheVariants.{Name}
 use Rattle.hg_script.specs.declared.fault.LineFault.{LineFault}
 use Rattle.hg_script.specs.declared.fault.LineFault.TheVariants.{TooLong, UnknownCommand, WordCount, BadName, BadPhase}
 use Rattle.hg_script.specs.declared.fault.LineFault.TheVariants.{UnknownName, NameTaken}
@@ -22,6 +25,12 @@ fault_text ScriptTooLong = codes "script is too long"
 fault_text Read = codes "read fault"
 fault_text Write = codes "write fault"
 fault_text NoMemory = codes "no memory"
+
+-- what ends the script at a command of the line with this number
+abbrev pub at_line : ℕ → CommandFault → RunFault
+at_line number (Name fault) = Line number fault
+at_line number ends.Write = Write
+at_line number ends.NoMemory = NoMemory
 
 -- 3 for want of memory, otherwise 1
 abbrev pub status_of : RunFault → ℕ

@@ -5,8 +5,9 @@ pub mod Events
 pub mod Faults
 pub mod Limits
 pub mod Outputs
-pub mod Peers
 pub mod Printing
 pub mod Reports
 pub mod Scripts
+pub mod Stops
+pub mod Told
 pub mod Words

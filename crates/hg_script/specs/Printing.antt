@@ -1,6 +1,6 @@
 -- What the commands and the lines of a script print.
 use Rattle.std.specs.Prelude.{ℕ, ◌≡◌, ◌⊎◌, ◌+◌, ◌↔◌, List, [], ◌∷◌, ◌++◌, codes, decimal, Bool, IsTrue}
-use Rattle.std.specs.Prelude.{Option, Some, None, if◌then◌else◌}
+use Rattle.std.specs.Prelude.{Option, Some, None, true, false, if◌then◌else◌}
 use Rattle.std.specs.List.{flat_map}
 use Rattle.std.specs.Str.Lines.{lines}
 use Rattle.hg_history.specs.declared.fault.Fault.{Fault}
@@ -17,12 +17,13 @@ use Rattle.hg_peer.specs.Refusals.{peer_refusal_number, peer_refusal_text}
 use Rattle.hg_script.specs.declared.command.Command.{Command}
 use Rattle.hg_script.specs.declared.command.Command.TheVariants.{Report, Agree}
 use Rattle.hg_script.specs.declared.fleet.Fleet.{Fleet}
+use Rattle.hg_script.specs.declared.telling.Notes.{Notes}
 use Rattle.hg_script.specs.Commands.{Text}
-use Rattle.hg_script.specs.Endings.{Says, IsScriptOf}
-use Rattle.hg_script.specs.Events.{Trace, PeerAnswer, Ran, AreTold, no_trace, joined, taken}
+use Rattle.hg_script.specs.Endings.{Says}
+use Rattle.hg_script.specs.Events.{Trace, PeerAnswer, no_trace, joined}
 use Rattle.hg_script.specs.Outputs.{Printed}
 use Rattle.hg_script.specs.Reports.{line_of, IsReport}
-use Rattle.hg_script.specs.Scripts.{node_named, Does, DoesLine, IsRunOf}
+use Rattle.hg_script.specs.Scripts.{node_named, Does, DoesLine, IsRunOf, IsScriptOf}
 use Rattle.hg_script.specs.Words.{words_of}
 
 -- ---- refusals
@@ -83,13 +84,6 @@ abbrev pub IsDone : ℕ → Fleet → Command → Fleet → Option Text → Opti
 IsDone line old command new held holds =
     (t : Trace) × (text : Text) × Does old command t new × Prints line old command t text × Printed held text holds
 
--- the world ran what the taker takes of an offer, and what the writer holds grew by its refusal, if it is refused
-abbrev pub PrintsTaken : ℕ → Snapshot KeptValue → ℕ → PeerAnswer → Snapshot KeptValue → Option Text
-    → Option Text → Type 0
-PrintsTaken line old taker answer new held holds =
-    (t : Trace) × (t.events ≡ taken taker (answer ∷ [])) × Ran old t new × AreTold t.answers
-    × Printed held (answer_lines line t.answers) holds
-
 -- ---- lines
 
 -- a line of no words prints nothing, and any other what its command prints
@@ -98,23 +92,50 @@ PrintsLine number old line t text =
     ((words_of line ≡ []) × (text ≡ []))
     ⊎ ((command : Command) × Says line command × Prints number old command t text)
 
--- the lines, the first of which has this number, are done one after another, and print this
-abbrev pub PrintsLines : ℕ → Fleet → List Text → Trace → Fleet → Text → Type 0
-PrintsLines number old [] t new text = (t ≡ no_trace) × (new ≡ old) × (text ≡ [])
-PrintsLines number old (line ∷ lines) t new text =
-    (mid : Fleet) × (here : Trace) × (later : Trace) × (first : Text) × (rest : Text) × DoesLine old line here mid
-    × PrintsLine number old line here first × PrintsLines (number + 1) mid lines later new rest
-    × (t ≡ joined here later) × (text ≡ first ++ rest)
+-- where lines are explained, a reason may stand behind the last one that is printed
+abbrev pub IsExplained : Bool → Text → Text → Type 0
+IsExplained false text explained = explained ≡ text
+IsExplained true text explained =
+    (explained ≡ text)
+    ⊎ ((line : Text) × (reason : Text) × (text ≡ line_of line) × (explained ≡ line_of (line ++ reason)))
+
+-- where lines are traced, one more may follow
+abbrev pub IsTraced : Bool → Text → Text → Type 0
+IsTraced false text traced = traced ≡ text
+IsTraced true text traced = (traced ≡ text) ⊎ ((note : Text) × (traced ≡ text ++ line_of note))
+
+-- what a line prints is written so with these notes
+abbrev pub IsAnnotated : Notes → Text → Text → Type 0
+IsAnnotated notes text written =
+    (explained : Text) × IsExplained notes.explains text explained × IsTraced notes.traces explained written
+
+-- the line with this number is done, and what it prints is written so
+abbrev pub WritesLine : Notes → ℕ → Fleet → Text → Trace → Fleet → Text → Type 0
+WritesLine notes number old line t new written =
+    DoesLine old line t new × ((text : Text) × PrintsLine number old line t text × IsAnnotated notes text written)
+
+-- the lines, the first of which has this number, are done one after another, and what they print is written so
+abbrev pub WritesLines : Notes → ℕ → Fleet → List Text → Trace → Fleet → Text → Type 0
+WritesLines notes number old [] t new written = (t ≡ no_trace) × (new ≡ old) × (written ≡ [])
+WritesLines notes number old (line ∷ lines) t new written =
+    (mid : Fleet) × (here : Trace) × (later : Trace) × (first : Text) × (rest : Text)
+    × WritesLine notes number old line here mid first × WritesLines notes (number + 1) mid lines later new rest
+    × (t ≡ joined here later) × (written ≡ first ++ rest)
 
 -- ---- whole scripts
 
--- the script leaves the world so, and what the writer holds grew by what its lines print, which count from 1
-pub record PrintsRun (text : Text) (world : Snapshot KeptValue) (held holds : Option Text) : Type 0 where
+-- the script leaves the world so, and what the writer holds grew by what is written of its lines, which count from 1
+pub record WritesRun (notes : Notes) (text : Text) (world : Snapshot KeptValue) (held holds : Option Text) : Type 0 where
   pub run : IsRunOf text world
   pub output : Text
-  pub prints : PrintsLines 1 run.start (lines text) run.trace run.end output
+  pub writes : WritesLines notes 1 run.start (lines text) run.trace run.end output
   pub printed : Printed held output holds
 
 -- the same of the script that was read
-abbrev pub PrintsScript : Option Text → Snapshot KeptValue → Option Text → Option Text → Type 0
-PrintsScript known world held holds = (text : Text) × IsScriptOf known text × PrintsRun text world held holds
+abbrev pub WritesScript : Notes → Option Text → Snapshot KeptValue → Option Text → Option Text → Type 0
+WritesScript notes known world held holds =
+    (text : Text) × IsScriptOf known text × WritesRun notes text world held holds
+
+-- nothing is explained or traced, so what is written of a line is what it prints
+abbrev pub no_notes : Notes
+no_notes = record { explains = false; traces = false }

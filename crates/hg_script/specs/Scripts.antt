@@ -1,6 +1,6 @@
 -- What the lines of a script do to a fleet: to its world, and to the names.
 use Rattle.std.specs.Prelude.{ℕ, ◌≡◌, ◌⊎◌, ◌≤◌, List, [], ◌∷◌, length, map, count_by, Bool, true, ◌&&◌, IsTrue, Option}
-use Rattle.std.specs.Prelude.{Some, None, Ok}
+use Rattle.std.specs.Prelude.{Some, None, IfSome, Ok}
 use Rattle.std.specs.declared.vec.Vec.{Vec}
 use Rattle.std.specs.declared.alloc.Global.{Global}
 use Rattle.std.specs.BTreeMap.{BTreeMap, btree_map_len, keys}
@@ -21,7 +21,7 @@ use Rattle.hg_script.specs.declared.fleet.Fleet.{Fleet}
 use Rattle.hg_script.specs.Commands.{Text, Word, CommandAnswer}
 use Rattle.hg_script.specs.Events.{Trace, no_trace, joined, Ran, AreTold, PeerAnswer, Meaning, brought, node_at}
 use Rattle.hg_script.specs.Events.{message_at, new_labels, AreEventsOf}
-use Rattle.hg_script.specs.Limits.{line_limit}
+use Rattle.hg_script.specs.Limits.{line_limit, script_limit}
 use Rattle.hg_names.specs.declared.labels.Labels.{Labels}
 use Rattle.hg_names.specs.Labels.{labelled}
 use Rattle.hg_names.specs.Names.{value_of, Binds}
@@ -171,3 +171,15 @@ pub record IsRunOf (text : Text) (world : Snapshot KeptValue) : Type 0 where
 -- the script leaves the fleet so: its world, and what its names stand for
 abbrev pub IsRunTo : Text → Fleet → Type 0
 IsRunTo text fleet = (run : IsRunOf text fleet.world) × (run.end ≡ fleet)
+
+-- the script that was read: no longer than a script may be, and what the reader had where that is known
+abbrev pub IsScriptOf : Option Text → Text → Type 0
+IsScriptOf known text = (length text ≤ script_limit) × IfSome known (λ bytes. bytes ≡ text)
+
+-- the world is as the script leaves it
+abbrev pub IsLeftWorld : Option Text → Snapshot KeptValue → Type 0
+IsLeftWorld known world = (text : Text) × IsScriptOf known text × IsRunOf text world
+
+-- the fleet is as the script leaves it
+abbrev pub IsLeftFleet : Option Text → Fleet → Type 0
+IsLeftFleet known fleet = (text : Text) × IsScriptOf known text × IsRunTo text fleet

@@ -16,6 +16,10 @@ abbrev pub words_of : List ℕ → List (List ℕ)
 words_of [] = []
 words_of (b ∷ rest) = if b == 35 then [] else spaced (b ∷ rest)
 
+-- so many words of a line stand in place, and only more of them want memory
+abbrev pub words_in_place : ℕ
+words_in_place = 8
+
 -- the first of what stands between spaces
 abbrev pub first_word : List ℕ → Option (List ℕ)
 first_word line = find (λ word. not (length word == 0)) (slice_split (λ b. b == 32) line)

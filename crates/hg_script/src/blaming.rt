@@ -1,6 +1,7 @@
 //! The word of a line that ends a script.
 use crate::command::Command;
-use crate::fault::{LineFault, RunFault};
+use crate::command_fault::CommandFault;
+use crate::fault::LineFault;
 use crate::fleet::Fleet;
 use crate::marking::Marking;
 use crate::operation::{Operation, Parents};
@@ -9,15 +10,14 @@ use hg_changeset::Changeset;
 use hg_names::are_distinct;
 use std::alloc::Global;
 
-/// The word that the fault of the line with this number is about, if it is about one: the word that is unknown, taken
+/// The word that the fault of a line is about, if it is about one: the word that is unknown, taken
 /// or bad, or the command whose number of words is wrong. The fleet is as it was before the line.
 pub fn word_at_fault<'a>(
     alloc: Global,
     fleet: &Fleet,
-    number: usize,
     words: &'a [&'a [u8]],
     fault: LineFault,
-) -> Result<Option<&'a [u8]>, RunFault> {
+) -> Result<Option<&'a [u8]>, CommandFault> {
     match fault {
         LineFault::TooLong => Ok(None),
         LineFault::UnknownCommand | LineFault::WordCount => Ok(word_at(words, 0)),
@@ -28,7 +28,7 @@ pub fn word_at_fault<'a>(
             Ok(None) | Err(_) => Ok(None),
         },
         LineFault::NameTaken => match read_command(words) {
-            Ok(Some(command)) => taken_name(alloc, fleet, number, command),
+            Ok(Some(command)) => taken_name(alloc, fleet, command),
             Ok(None) | Err(_) => Ok(None),
         },
     }
@@ -144,9 +144,8 @@ fn unknown_old<'a>(fleet: &Fleet, operation: Operation<'a>) -> Option<&'a [u8]> 
 fn taken_name<'a>(
     alloc: Global,
     fleet: &Fleet,
-    number: usize,
     command: Command<'a>,
-) -> Result<Option<&'a [u8]>, RunFault> {
+) -> Result<Option<&'a [u8]>, CommandFault> {
     match command {
         Command::Node(at) => Ok(Some(at)),
         Command::Offer(_, _, message, _) => Ok(Some(message)),
@@ -154,7 +153,7 @@ fn taken_name<'a>(
             let labels = operation.new_labels();
             match twice(alloc, labels)? {
                 Some(label) => Ok(Some(label)),
-                None => match fleet.part_of(number, at, operation)? {
+                None => match fleet.part_of(at, operation)? {
                     Some(part) => Ok(first_taken(fleet, labels, &part.changesets)),
                     None => Ok(None),
                 },
@@ -165,7 +164,7 @@ fn taken_name<'a>(
 }
 
 // The first label that stands among those before it, too.
-fn twice<'a>(alloc: Global, labels: &[&'a [u8]]) -> Result<Option<&'a [u8]>, RunFault> {
+fn twice<'a>(alloc: Global, labels: &[&'a [u8]]) -> Result<Option<&'a [u8]>, CommandFault> {
     for end in 0..labels.len() {
         if !are_distinct(alloc, &labels[..end + 1])? {
             return Ok(Some(labels[end]));

@@ -1,51 +1,80 @@
 //! Events of a script's world, one at a time.
-ghost use Rattle.std.specs.Prelude.{◌≡◌, Option, IfOk, IfErr, OnErr};
+ghost use Rattle.std.specs.Prelude.{◌≡◌, Option, IfOk, IfErr, IsSome, OnOk, OnErr};
 ghost use Rattle.hg_replica.specs.Least.{PartValue};
+ghost use Rattle.hg_history.specs.declared.fault.Fault.{Fault};
 ghost use Rattle.hg_world.specs.Runs.{Happens};
+ghost use Rattle.hg_world.specs.declared.event.EventRefusal.{EventRefusal};
+ghost use Rattle.hg_peer.specs.declared.refusal.PeerRefusal.{PeerRefusal};
 ghost use Rattle.hg_peer.specs.Words.{peer_state, peer_words};
-ghost use Rattle.hg_script.specs.Events.{IsTold, IsNowhere, IsUnknownWhere};
-ghost use Rattle.hg_script.specs.Outputs.{Printed};
-ghost use Rattle.hg_script.specs.Printing.{answer_line};
+ghost use Rattle.hg_fleet.specs.Pulls.{IsAbsence, IsNowhere, TellsAbsence, answers_of};
+ghost use Rattle.hg_script.specs.Events.{AreTold, HasNumber, IsTold, IsUnknownWhere, TellAbsence};
 
-use crate::fault::RunFault;
-use crate::output::print_refused;
-use crate::peers::Peers;
+use crate::command_fault::CommandFault;
+use crate::fault::LineFault;
+use hg_fleet::{Fleet, PeerAnswer, PeerEvent, Pulled};
 use hg_history::Fault;
-use hg_peer::{Ask, Mark, PeerRefusal};
-use hg_replica::Change;
-use hg_rewrite::Op;
-use hg_world::{Answer, Event};
-use std::alloc::Global;
-use std::io::Write;
+use hg_peer::PeerRefusal;
+use hg_world::{Answer, EventRefusal};
 
-/// What may be asked of a world of peers.
-pub type PeerEvent = Event<Op, Ask, Mark>;
-
-/// What it answers.
-pub type PeerAnswer = Answer<Change, PeerRefusal, Fault>;
-
-/// Runs an event that the line with this number asks for, and gives its answer. Why it was refused is printed.
-pub fn run_event<W: Write>(
-    alloc: Global,
-    number: usize,
-    world: &mut Peers,
-    event: &PeerEvent,
-    writer: &mut W,
-) -> Result<PeerAnswer, RunFault>
+/// Runs an event, and gives its answer where a script goes on from it.
+pub fn run_event(world: &mut Fleet, event: &PeerEvent) -> Result<PeerAnswer, CommandFault>
     ensures told { IfOk result IsTold }
     ensures happens { IfOk result (λ answer. (part : Option PartValue)
         × Happens peer_state peer_words world.old event.now answer part world.new) }
-    ensures printed { IfOk result (λ answer.
-        Printed (W.contents writer.old) (answer_line number answer) (W.contents writer.new)) }
-    ensures fault { IfErr result (IsUnknownWhere number (IsNowhere world.old event.now)) }
+    ensures fault { IfErr result (IsUnknownWhere (IsNowhere world.old event.now)) }
     ensures unchanged { OnErr result (world.new ≡ world.old) }
 {
     let answer = world.run_one(event)?;
-    match &answer {
-        Answer::Refused(refusal) => print_refused(alloc, writer, number, refusal)?,
-        Answer::Accepted(_) => {}
-        Answer::Offered(_) => {}
-        Answer::Marked => {}
-    }
+    check_told(&answer)?;
     Ok(answer)
+}
+
+/// Lets a script go on from what a pull was answered.
+pub fn check_pulled(pulled: &Pulled) -> Result<(), CommandFault>
+    ensures told { OnOk result (AreTold (answers_of pulled.now)) }
+    ensures fault { IfErr result (IsUnknownWhere (TellAbsence (answers_of pulled.now))) }
+{
+    check_told(&pulled.offered)?;
+    match &pulled.taken {
+        Some(answer) => check_told(answer),
+        None => Ok(()),
+    }
+}
+
+// Lets a script go on from an answer: the event was done, or refused for a reason that is printed.
+fn check_told(answer: &PeerAnswer) -> Result<(), CommandFault>
+    ensures told { OnOk result (IsTold answer.now) }
+    ensures fault { IfErr result (IsUnknownWhere (TellsAbsence answer.now)) }
+    ensures refused { OnErr result
+        ((refusal : EventRefusal PeerRefusal Fault) × (answer.now ≡ Answer.Refused refusal)) }
+{
+    match answer {
+        Answer::Refused(refusal) => check_numbered(refusal),
+        Answer::Accepted(_) => Ok(()),
+        Answer::Offered(_) => Ok(()),
+        Answer::Marked => Ok(()),
+    }
+}
+
+// What is absent ends the script as an unknown name, and want of memory as itself. Any other refusal has a number.
+fn check_numbered(refusal: &EventRefusal<PeerRefusal, Fault>) -> Result<(), CommandFault>
+    ensures ok { OnOk result (HasNumber refusal.now) }
+    ensures err { IfErr result (IsUnknownWhere (IsAbsence refusal.now)) }
+{
+    match refusal {
+        EventRefusal::ByActor(refusal) => check_number(refusal.number()),
+        EventRefusal::ByState(fault) => check_number(fault.number()),
+        EventRefusal::NoNode => Err(CommandFault::Name(LineFault::UnknownName)),
+        EventRefusal::NoMessage => Err(CommandFault::Name(LineFault::UnknownName)),
+    }
+}
+
+fn check_number(number: Option<u8>) -> Result<(), CommandFault>
+    ensures ok { OnOk result (IsSome number) }
+    ensures err { IfErr result (λ fault. fault ≡ CommandFault.NoMemory) }
+{
+    match number {
+        Some(_) => Ok(()),
+        None => Err(CommandFault::NoMemory),
+    }
 }

@@ -1,8 +1,11 @@
 //! What a refusal is about, in words that are put behind it.
-use crate::event::PeerAnswer;
+ghost use Rattle.std.specs.Prelude.{OnOk, true};
+ghost use Rattle.hg_script.specs.Printing.{IsExplained};
+
 use crate::fleet::Fleet;
 use crate::told::Told;
 use hg_changeset::{Changeset, ChangesetError, EntryError, Node};
+use hg_fleet::PeerAnswer;
 use hg_history::Fault;
 use hg_marker::{MarkerError, ReadError};
 use hg_message::{Message, OfferRefusal};
@@ -12,35 +15,58 @@ use hg_view::PinRefusal;
 use hg_world::{Answer, EventRefusal};
 use std::alloc::{AllocError, Global};
 
-/// Puts behind the line of a refusal, where the line was refused, what the refusal is about. The text ends with that
-/// line.
+/// Puts behind the line of a refusal, with which the text ends, what the refusal is about, where lines are explained,
+/// and the line was refused.
 pub fn explain(
     alloc: Global,
     fleet: &Fleet,
     told: &Told,
+    explains: bool,
     text: &mut Vec<u8>,
-) -> Result<(), AllocError> {
+) -> Result<(), AllocError>
+    ensures { OnOk result (IsExplained explains text.old.items text.new.items) }
+{
+    if !explains {
+        return Ok(());
+    }
+    match reason_of(alloc, fleet, told)? {
+        Some(reason) => put_behind(&reason, text),
+        None => Ok(()),
+    }
+}
+
+// Puts the reason behind the last line of the text, if it ends with a line.
+fn put_behind(reason: &[u8], text: &mut Vec<u8>) -> Result<(), AllocError>
+    ensures { OnOk result (IsExplained true text.old.items text.new.items) }
+{
+    match text.pop() {
+        Some(b'\n') => {
+            text.extend_from_slice(reason)?;
+            text.extend_from_slice(b"\n")
+        }
+        Some(byte) => {
+            text.push(byte)?;
+            Ok(())
+        }
+        None => Ok(()),
+    }
+}
+
+// What the refusal of a line is about, where it was refused.
+fn reason_of(alloc: Global, fleet: &Fleet, told: &Told) -> Result<Option<Vec<u8>>, AllocError> {
     match told {
-        Told::Nothing => Ok(()),
-        Told::Event { at: _, answer } => explain_answer(alloc, fleet, answer, None, text),
+        Told::Nothing => Ok(None),
+        Told::Event { at: _, answer } => reason_in(alloc, fleet, answer, None),
         Told::Taken {
             at: _,
             message,
             answer,
-        } => explain_answer(alloc, fleet, answer, fleet.message_at(*message), text),
-        Told::Pulled {
-            at: _,
-            offered,
-            taken,
-        } => match taken {
-            Some(answer) => explain_answer(
-                alloc,
-                fleet,
-                answer,
-                offered_bytes(fleet, offered),
-                text,
-            ),
-            None => explain_answer(alloc, fleet, offered, None, text),
+        } => reason_in(alloc, fleet, answer, fleet.message_at(*message)),
+        Told::Pulled { at: _, pulled } => match &pulled.taken {
+            Some(answer) => {
+                reason_in(alloc, fleet, answer, offered_bytes(fleet, &pulled.offered))
+            }
+            None => reason_in(alloc, fleet, &pulled.offered, None),
         },
     }
 }
@@ -54,20 +80,19 @@ fn offered_bytes<'a>(fleet: &'a Fleet, answer: &PeerAnswer) -> Option<&'a [u8]> 
 }
 
 // The same of an answer, which was given to these bytes if it was one of taking a message.
-fn explain_answer(
+fn reason_in(
     alloc: Global,
     fleet: &Fleet,
     answer: &PeerAnswer,
     bytes: Option<&[u8]>,
-    text: &mut Vec<u8>,
-) -> Result<(), AllocError> {
+) -> Result<Option<Vec<u8>>, AllocError> {
     match answer {
         Answer::Refused(refusal) => {
-            text.pop();
-            push_reason(alloc, fleet, refusal, bytes, text)?;
-            text.extend_from_slice(b"\n")
+            let mut reason = Vec::new(alloc);
+            push_reason(alloc, fleet, refusal, bytes, &mut reason)?;
+            Ok(Some(reason))
         }
-        Answer::Accepted(_) | Answer::Offered(_) | Answer::Marked => Ok(()),
+        Answer::Accepted(_) | Answer::Offered(_) | Answer::Marked => Ok(None),
     }
 }
 

@@ -6,35 +6,36 @@ ghost use Rattle.std.specs.Option.{option_copied};
 ghost use Rattle.hg_graph.specs.Graph.{nodes};
 ghost use Rattle.hg_replica.specs.State.{Below, IsSameState};
 ghost use Rattle.hg_script.specs.Commands.{texts};
-ghost use Rattle.hg_script.specs.Endings.{AreLabelsFree, IsCommandFault, IsDecided, IsLeftBy, IsNodeFault};
-ghost use Rattle.hg_script.specs.Endings.{IsTakenFault};
-ghost use Rattle.hg_script.specs.Events.{IsTakeFault, no_trace};
+ghost use Rattle.hg_script.specs.Endings.{AreLabelsFree, IsDecided, IsFaultOf, IsLeftBy, IsNodeFault, IsTakenFault};
+ghost use Rattle.hg_script.specs.Endings.{StaysAtLine, StaysAtName};
 ghost use Rattle.hg_names.specs.Labels.{labelled};
 ghost use Rattle.hg_script.specs.Outputs.{Printed};
-ghost use Rattle.hg_script.specs.Printing.{IsDone, PrintsTaken, agree_line};
-ghost use Rattle.hg_script.specs.Scripts.{AreLabelled, Does, IsKept, IsNewFleet, bound_to, each_may_name, ids};
+ghost use Rattle.hg_script.specs.Printing.{IsDone, agree_line};
+ghost use Rattle.hg_script.specs.Scripts.{AreLabelled, IsKept, IsNewFleet, bound_to, each_may_name, ids};
 ghost use Rattle.hg_script.specs.Scripts.{may_name, message_named, node_named, node_names};
 ghost use Rattle.hg_script.specs.Scripts.{places};
+ghost use Rattle.hg_script.specs.Told.{IsAnswered, IsAskedOf, IsEndedBy};
 
 use crate::command::Command;
-use crate::event::{PeerAnswer, run_event};
+use crate::command_fault::CommandFault;
+use crate::event::{check_pulled, run_event};
 use crate::fault::{LineFault, RunFault};
 use crate::marking::Marking;
 use crate::operation::{Names, Operation};
 use crate::output::print_line;
-use crate::peers::Peers;
 use crate::report::print_report;
 use crate::spare::Spare;
-use crate::told::Told;
+use crate::told::{Told, print_told};
 use hg_changeset::{Changeset, Node};
+use hg_fleet::PeerAnswer;
 use hg_join::{JoinState, NoMemory};
 use hg_names::{Labels, are_distinct, bind, bound};
 use hg_node_set::IdKeys;
-use hg_peer::{Ask, Peer, Scope};
+use hg_peer::{Ask, Scope};
 use hg_replica::{Part, Replica};
 use hg_rewrite::{Op, decide_kept};
 use hg_view::Kept;
-use hg_world::{Answer, Event, World};
+use hg_world::{Answer, Event};
 use std::alloc::{AllocError, Global};
 use std::collections::BTreeMap;
 use std::io::Write;
@@ -42,7 +43,7 @@ use std::io::Write;
 /// What a script has made so far.
 pub struct Fleet {
     alloc: Global,
-    world: Peers,
+    world: hg_fleet::Fleet,
     // The place of each node in the world.
     nodes: BTreeMap<Vec<u8>, usize>,
     labels: Labels,
@@ -71,7 +72,7 @@ impl Fleet {
     {
         Ok(Fleet {
             alloc,
-            world: Peers::new(alloc, keys, count)?,
+            world: hg_fleet::Fleet::new(alloc, keys, count)?,
             nodes: BTreeMap::new(alloc),
             labels: Labels::with_keys(alloc, keys),
             messages: BTreeMap::new(alloc),
@@ -153,21 +154,20 @@ impl Fleet {
     /// The part of the operation at the node of this name, if all is known that it names and it isn't refused.
     pub(crate) fn part_of(
         &self,
-        number: usize,
         at: &[u8],
         operation: Operation<'_>,
-    ) -> Result<Option<Part>, RunFault> {
+    ) -> Result<Option<Part>, CommandFault> {
         let names = Names {
             alloc: self.alloc,
-            number,
             labels: &self.labels,
         };
         let op = operation.resolve(&names, &mut Spare::new(self.alloc))?;
-        let kept = self.kept(number, self.place(number, at)?)?;
+        let kept = self.kept(self.place(at)?)?;
         decided(self.alloc, kept, &op)
     }
 
-    /// Does the command of the line with this number. It gives what the events of the command were answered.
+    /// Does the command of the line with this number, and prints what it says and why its events were refused, if they
+    /// were. It gives what they were answered.
     #[inline(always)]
     pub(crate) fn execute<W: Write>(
         &mut self,
@@ -179,63 +179,80 @@ impl Fleet {
         ensures ok { OnOk result (IsDone number self.old command.entry self.new
             (W.contents writer.old) (W.contents writer.new)) }
         ensures err { IfErr result (λ fault. IsLeftBy number self.old command.entry fault self.new) }
+        ensures unprinted { StaysAtLine result (W.contents writer.old) (W.contents writer.new) }
+    {
+        match self.answer(command, spare, writer) {
+            Ok(told) => match print_told(self.alloc, writer, number, &told) {
+                Ok(()) => Ok(told),
+                Err(fault) => Err(fault.at_line(number)),
+            },
+            Err(fault) => Err(fault.at_line(number)),
+        }
+    }
+
+    // Does a command, and prints what it says.
+    #[inline(always)]
+    fn answer<W: Write>(
+        &mut self,
+        command: Command<'_>,
+        spare: &mut Spare,
+        writer: &mut W,
+    ) -> Result<Told, CommandFault>
+        ensures ok { IfOk result (λ told. IsAnswered self.old command.entry told self.new
+            (W.contents writer.old) (W.contents writer.new)) }
+        ensures err { IfErr result (λ fault. IsEndedBy self.old command.entry fault self.new) }
+        ensures unprinted { StaysAtName result (W.contents writer.old) (W.contents writer.new) }
     {
         match command {
-            Command::Node(at) => self.add_node(number, at),
-            Command::Operation(at, operation) => {
-                self.operate(number, at, operation, spare, writer)
-            }
-            Command::Mark(at, marking) => self.mark(number, at, marking, writer),
+            Command::Node(at) => self.add_node(at),
+            Command::Operation(at, operation) => self.operate(at, operation, spare),
+            Command::Mark(at, marking) => self.mark(at, marking),
             Command::Offer(scope, at, message, labels) => {
-                self.keep_offer(number, scope, at, message, labels, writer)
+                self.keep_offer(scope, at, message, labels)
             }
-            Command::Take(at, message) => self.take(number, at, message, writer),
-            Command::Pull(scope, to, from) => self.pull(number, scope, to, from, writer),
-            Command::Report(at) => self.report(number, at, writer),
-            Command::Agree(one, other) => self.agree(number, one, other, writer),
+            Command::Take(at, message) => self.take(at, message),
+            Command::Pull(scope, to, from) => self.pull(scope, to, from),
+            Command::Report(at) => self.report(at, writer),
+            Command::Agree(one, other) => self.agree(one, other, writer),
         }
     }
 
     // A new node has the next place.
-    fn add_node(&mut self, number: usize, at: &[u8]) -> Result<Told, RunFault>
-        ensures ok { OnOk result (Does self.old (Command.Node at.entry) no_trace self.new) }
-        ensures err { IfErr result (λ fault. IsLeftBy number self.old (Command.Node at.entry) fault self.new) }
+    fn add_node(&mut self, at: &[u8]) -> Result<Told, CommandFault>
+        ensures ok { IfOk result (λ told. IsAskedOf self.old (Command.Node at.entry) told self.new) }
+        ensures err { IfErr result (λ fault. IsEndedBy self.old (Command.Node at.entry) fault self.new) }
     {
         let place = self.nodes.len();
         if bound(&self.nodes, at).is_some() {
-            return Err(RunFault::Line(number, LineFault::NameTaken));
+            return Err(CommandFault::Name(LineFault::NameTaken));
         }
         bind(self.alloc, &mut self.nodes, at, place)?;
         Ok(Told::Nothing)
     }
 
-    // The new labels are looked at before the operation is done, but only where it isn't refused. A refusal is printed,
-    // and the script goes on.
-    fn operate<W: Write>(
+    // The new labels are looked at before the operation is done, but only where it isn't refused.
+    fn operate(
         &mut self,
-        number: usize,
         at: &[u8],
         operation: Operation<'_>,
         spare: &mut Spare,
-        writer: &mut W,
-    ) -> Result<Told, RunFault>
-        ensures ok { OnOk result (IsDone number self.old (Command.Operation at.entry operation.entry) self.new
-            (W.contents writer.old) (W.contents writer.new)) }
+    ) -> Result<Told, CommandFault>
+        ensures ok { IfOk result
+            (λ told. IsAskedOf self.old (Command.Operation at.entry operation.entry) told self.new) }
         ensures err { IfErr result
-            (λ fault. IsLeftBy number self.old (Command.Operation at.entry operation.entry) fault self.new) }
+            (λ fault. IsEndedBy self.old (Command.Operation at.entry operation.entry) fault self.new) }
     {
         let names = Names {
             alloc: self.alloc,
-            number,
             labels: &self.labels,
         };
         let op = operation.resolve(&names, spare)?;
-        let place = self.place(number, at)?;
+        let place = self.place(at)?;
         let labels = operation.new_labels();
-        let kept = self.kept(number, place)?;
-        self.check_labels(number, kept, &op, labels)?;
+        let kept = self.kept(place)?;
+        self.check_labels(kept, &op, labels)?;
         let mut event = Event::Local { at: place, op };
-        let answer = run_event(self.alloc, number, &mut self.world, &event, writer)?;
+        let answer = run_event(&mut self.world, &event)?;
         spare.keep(&mut event);
         label(&mut self.labels, labels, &answer)?;
         Ok(Told::Event { at: place, answer })
@@ -244,15 +261,9 @@ impl Fleet {
     // Whether the labels may name what the operation is to make. Where they are new, whatever it makes; otherwise it is
     // decided first, and what is refused makes nothing.
     #[inline(always)]
-    fn check_labels(
-        &self,
-        number: usize,
-        kept: &Kept,
-        op: &Op,
-        labels: &[&[u8]],
-    ) -> Result<(), RunFault>
+    fn check_labels(&self, kept: &Kept, op: &Op, labels: &[&[u8]]) -> Result<(), CommandFault>
         ensures free { OnOk result (AreLabelsFree (ids self.now) (texts labels.now) kept.now op.now) }
-        ensures err { IfErr result (IsTakenFault number (ids self.now) labels.now kept.now op.now) }
+        ensures err { IfErr result (IsTakenFault (ids self.now) labels.now kept.now op.now) }
     {
         let are_distinct = are_distinct(self.alloc, labels)?;
         if are_distinct && are_unbound(&self.labels, labels) {
@@ -262,7 +273,7 @@ impl Fleet {
         match made {
             Some(part) => {
                 if !are_free(&self.labels, labels, are_distinct, &part) {
-                    return Err(RunFault::Line(number, LineFault::NameTaken));
+                    return Err(CommandFault::Name(LineFault::NameTaken));
                 }
                 Ok(())
             }
@@ -270,86 +281,65 @@ impl Fleet {
         }
     }
 
-    // Marks what is a node's own. A refusal is printed, and the script goes on.
-    fn mark<W: Write>(
-        &mut self,
-        number: usize,
-        at: &[u8],
-        marking: Marking<'_>,
-        writer: &mut W,
-    ) -> Result<Told, RunFault>
-        ensures ok { OnOk result (IsDone number self.old (Command.Mark at.entry marking.entry) self.new
-            (W.contents writer.old) (W.contents writer.new)) }
-        ensures err { IfErr result
-            (λ fault. IsLeftBy number self.old (Command.Mark at.entry marking.entry) fault self.new) }
+    // Marks what is a node's own.
+    fn mark(&mut self, at: &[u8], marking: Marking<'_>) -> Result<Told, CommandFault>
+        ensures ok { IfOk result (λ told. IsAskedOf self.old (Command.Mark at.entry marking.entry) told self.new) }
+        ensures err { IfErr result (λ fault. IsEndedBy self.old (Command.Mark at.entry marking.entry) fault self.new) }
     {
         let names = Names {
             alloc: self.alloc,
-            number,
             labels: &self.labels,
         };
         let mark = marking.resolve(&names)?;
-        let place = self.place(number, at)?;
+        let place = self.place(at)?;
         let event = Event::Mark { at: place, mark };
-        let answer = run_event(self.alloc, number, &mut self.world, &event, writer)?;
+        let answer = run_event(&mut self.world, &event)?;
         Ok(Told::Event { at: place, answer })
     }
 
     // Keeps what a node offers of a scope above the changesets of these labels under the name of a message. A refused
     // offer binds no name.
-    fn keep_offer<W: Write>(
+    fn keep_offer(
         &mut self,
-        number: usize,
         scope: Scope,
         at: &[u8],
         message: &[u8],
         labels: &[&[u8]],
-        writer: &mut W,
-    ) -> Result<Told, RunFault>
-        ensures ok { OnOk result (IsDone number self.old
-            (Command.Offer scope at.entry message.entry labels.entry) self.new (W.contents writer.old)
-            (W.contents writer.new)) }
+    ) -> Result<Told, CommandFault>
+        ensures ok { IfOk result (λ told.
+            IsAskedOf self.old (Command.Offer scope at.entry message.entry labels.entry) told self.new) }
         ensures err { IfErr result (λ fault.
-            IsLeftBy number self.old (Command.Offer scope at.entry message.entry labels.entry) fault self.new) }
+            IsEndedBy self.old (Command.Offer scope at.entry message.entry labels.entry) fault self.new) }
     {
         let names = Names {
             alloc: self.alloc,
-            number,
             labels: &self.labels,
         };
         let common = names.nodes(labels)?;
-        let place = self.place(number, at)?;
+        let place = self.place(at)?;
         if bound(&self.messages, message).is_some() {
-            return Err(RunFault::Line(number, LineFault::NameTaken));
+            return Err(CommandFault::Name(LineFault::NameTaken));
         }
         let event = Event::Offer {
             at: place,
             ask: Ask { common, scope },
         };
-        let answer = run_event(self.alloc, number, &mut self.world, &event, writer)?;
+        let answer = run_event(&mut self.world, &event)?;
         keep(self.alloc, &mut self.messages, message, &answer)?;
         Ok(Told::Event { at: place, answer })
     }
 
-    fn take<W: Write>(
-        &mut self,
-        number: usize,
-        at: &[u8],
-        message: &[u8],
-        writer: &mut W,
-    ) -> Result<Told, RunFault>
-        ensures ok { OnOk result (IsDone number self.old (Command.Take at.entry message.entry) self.new
-            (W.contents writer.old) (W.contents writer.new)) }
-        ensures err { IfErr result
-            (λ fault. IsLeftBy number self.old (Command.Take at.entry message.entry) fault self.new) }
+    fn take(&mut self, at: &[u8], message: &[u8]) -> Result<Told, CommandFault>
+        ensures ok { IfOk result (λ told. IsAskedOf self.old (Command.Take at.entry message.entry) told self.new) }
+        ensures err { IfErr result (λ fault. IsEndedBy self.old (Command.Take at.entry message.entry) fault self.new) }
     {
-        let at = self.place(number, at)?;
+        let at = self.place(at)?;
         let message = match bound(&self.messages, message) {
             Some(message) => message,
-            None => return Err(RunFault::Line(number, LineFault::UnknownName)),
+            None => return Err(CommandFault::Name(LineFault::UnknownName)),
         };
         let event = Event::Take { at, message };
-        let answer = run_event(self.alloc, number, &mut self.world, &event, writer)?;
+        let answer = run_event(&mut self.world, &event)?;
         Ok(Told::Taken {
             at,
             message,
@@ -357,84 +347,74 @@ impl Fleet {
         })
     }
 
-    // One node takes in what the other offers of a scope: what it serves above the changesets that they have in common,
-    // or the whole of it.
-    fn pull<W: Write>(
-        &mut self,
-        number: usize,
-        scope: Scope,
-        to: &[u8],
-        from: &[u8],
-        writer: &mut W,
-    ) -> Result<Told, RunFault>
-        ensures ok { OnOk result (IsDone number self.old (Command.Pull scope to.entry from.entry) self.new
-            (W.contents writer.old) (W.contents writer.new)) }
+    // One node pulls from the other.
+    fn pull(&mut self, scope: Scope, to: &[u8], from: &[u8]) -> Result<Told, CommandFault>
+        ensures ok { IfOk result (λ told. IsAskedOf self.old (Command.Pull scope to.entry from.entry) told self.new) }
         ensures err { IfErr result
-            (λ fault. IsLeftBy number self.old (Command.Pull scope to.entry from.entry) fault self.new) }
+            (λ fault. IsEndedBy self.old (Command.Pull scope to.entry from.entry) fault self.new) }
     {
-        let giver = self.place(number, from)?;
-        let taker = self.place(number, to)?;
-        let common = self.world.left_out(number, scope, taker, giver)?;
-        let offer = Event::Offer {
-            at: giver,
-            ask: Ask { common, scope },
-        };
-        let answer = run_event(self.alloc, number, &mut self.world, &offer, writer)?;
-        let taken = take_offered(self.alloc, number, &mut self.world, taker, &answer, writer)?;
-        Ok(Told::Pulled {
-            at: taker,
-            offered: answer,
-            taken,
-        })
+        let giver = self.place(from)?;
+        let taker = self.place(to)?;
+        match self.world.pull(taker, giver, scope)? {
+            Some(pulled) => {
+                check_pulled(&pulled)?;
+                Ok(Told::Pulled { at: taker, pulled })
+            }
+            None => Err(CommandFault::Name(LineFault::UnknownName)),
+        }
     }
 
     // Whether two replicas are in equal states: each is below the other.
     fn agree<W: Write>(
         &self,
-        number: usize,
         one: &[u8],
         other: &[u8],
         writer: &mut W,
-    ) -> Result<Told, RunFault>
-        ensures ok { OnOk result (IsDone number self.now (Command.Agree one.entry other.entry) self.now
+    ) -> Result<Told, CommandFault>
+        ensures ok { IfOk result (λ told. IsAnswered self.now (Command.Agree one.entry other.entry) told self.now
             (W.contents writer.old) (W.contents writer.new)) }
-        ensures err { IfErr result (IsCommandFault number self.now (Command.Agree one.entry other.entry)) }
+        ensures err { IfErr result (IsFaultOf self.now (Command.Agree one.entry other.entry)) }
+        ensures unprinted { StaysAtName result (W.contents writer.old) (W.contents writer.new) }
     {
-        let first = self.kept(number, self.place(number, one)?)?;
-        let second = self.kept(number, self.place(number, other)?)?;
+        let first = self.kept(self.place(one)?)?;
+        let second = self.kept(self.place(other)?)?;
         let answer = are_same(first.replica(), second.replica())?;
         print_agreement(self.alloc, one, other, answer, writer)?;
         Ok(Told::Nothing)
     }
 
-    fn report<W: Write>(&self, number: usize, at: &[u8], writer: &mut W) -> Result<Told, RunFault>
-        ensures ok { OnOk result (IsDone number self.now (Command.Report at.entry) self.now
+    fn report<W: Write>(&self, at: &[u8], writer: &mut W) -> Result<Told, CommandFault>
+        ensures ok { IfOk result (λ told. IsAnswered self.now (Command.Report at.entry) told self.now
             (W.contents writer.old) (W.contents writer.new)) }
-        ensures err { IfErr result (IsCommandFault number self.now (Command.Report at.entry)) }
+        ensures err { IfErr result (IsFaultOf self.now (Command.Report at.entry)) }
+        ensures unprinted { StaysAtName result (W.contents writer.old) (W.contents writer.new) }
     {
-        let kept = self.kept(number, self.place(number, at)?)?;
+        let kept = self.kept(self.place(at)?)?;
         print_report(self.alloc, at, kept, writer)?;
         Ok(Told::Nothing)
     }
 
     // The place of the node with this name.
-    fn place(&self, number: usize, at: &[u8]) -> Result<usize, RunFault>
+    fn place(&self, at: &[u8]) -> Result<usize, CommandFault>
         ensures ok { IfOk result (λ place. places self.now at.now ≡ Some place) }
         ensures err { IfErr result (λ fault.
-            (fault ≡ RunFault.Line number LineFault.UnknownName) × (places self.now at.now ≡ None)) }
+            (fault ≡ CommandFault.Name LineFault.UnknownName) × (places self.now at.now ≡ None)) }
     {
         match bound(&self.nodes, at) {
             Some(place) => Ok(place),
-            None => Err(RunFault::Line(number, LineFault::UnknownName)),
+            None => Err(CommandFault::Name(LineFault::UnknownName)),
         }
     }
 
     // The replica of the node at a place, with its instabilities and its pins.
-    fn kept(&self, number: usize, place: usize) -> Result<&Kept, RunFault>
+    fn kept(&self, place: usize) -> Result<&Kept, CommandFault>
         ensures ok { IfOk result (λ kept. slice_get self.now.world.nodes place ≡ Some kept.now) }
-        ensures err { IfErr result (IsNodeFault number self.now.world place) }
+        ensures err { IfErr result (IsNodeFault self.now.world place) }
     {
-        self.world.kept_at(number, place)
+        match self.world.kept(place) {
+            Some(kept) => Ok(kept),
+            None => Err(CommandFault::Name(LineFault::UnknownName)),
+        }
     }
 }
 
@@ -449,9 +429,8 @@ fn are_same(first: &Replica, second: &Replica) -> Result<bool, NoMemory>
 fn is_below(first: &Replica, second: &Replica) -> Result<bool, NoMemory>
     ensures { IfOk result (λ answer. IsTrue answer ↔ Below first.now second.now) }
 {
-    // They say that the replicas are in valid states.
-    let _graph = first.graph();
-    let _other = second.graph();
+    first.is_valid();
+    second.is_valid();
     first.below(second)
 }
 
@@ -462,10 +441,10 @@ fn print_agreement<W: Write>(
     other: &[u8],
     answer: bool,
     writer: &mut W,
-) -> Result<(), RunFault>
+) -> Result<(), CommandFault>
     ensures printed { OnOk result
         (Printed (W.contents writer.old) (agree_line one.now other.now answer) (W.contents writer.new)) }
-    ensures err { IfErr result (λ fault. (fault ≡ RunFault.Write) ⊎ (fault ≡ RunFault.NoMemory)) }
+    ensures err { IfErr result (λ fault. (fault ≡ CommandFault.Write) ⊎ (fault ≡ CommandFault.NoMemory)) }
 {
     let answer: &[u8] = if answer { b": yes" } else { b": no" };
     let mut line = Vec::new(alloc);
@@ -478,15 +457,15 @@ fn print_agreement<W: Write>(
 }
 
 // The part of the operation, if it isn't refused. Want of memory, which has no number, is no refusal.
-fn decided(alloc: Global, kept: &Kept, op: &Op) -> Result<Option<Part>, RunFault>
+fn decided(alloc: Global, kept: &Kept, op: &Op) -> Result<Option<Part>, CommandFault>
     ensures ok { IfOk result (IsDecided kept.now op.now) }
-    ensures err { IfErr result (λ fault. fault ≡ RunFault.NoMemory) }
+    ensures err { IfErr result (λ fault. fault ≡ CommandFault.NoMemory) }
 {
     match decide_kept(alloc, kept, op) {
         Ok(part) => Ok(Some(part)),
         Err(refusal) => match refusal.number() {
             Some(_) => Ok(None),
-            None => Err(RunFault::NoMemory),
+            None => Err(CommandFault::NoMemory),
         },
     }
 }
@@ -531,9 +510,9 @@ fn may_name(names: &Labels, label: &[u8], node: Node) -> bool
 
 // Binds each label to what the operation added at its place, if it was accepted.
 #[inline(always)]
-fn label(names: &mut Labels, labels: &[&[u8]], answer: &PeerAnswer) -> Result<(), RunFault>
+fn label(names: &mut Labels, labels: &[&[u8]], answer: &PeerAnswer) -> Result<(), CommandFault>
     ensures ok { OnOk result (AreLabelled names.old (map (λ w. w.now) labels.now) (answer.now ∷ []) names.new) }
-    ensures err { IfErr result (λ fault. fault ≡ RunFault.NoMemory) }
+    ensures err { IfErr result (λ fault. fault ≡ CommandFault.NoMemory) }
 {
     match answer {
         Answer::Accepted(change) => {
@@ -548,10 +527,10 @@ fn label(names: &mut Labels, labels: &[&[u8]], answer: &PeerAnswer) -> Result<()
 
 // Binds each label to the node at its place.
 #[inline(always)]
-fn bind_labels(names: &mut Labels, labels: &[&[u8]], nodes: &[Node]) -> Result<(), RunFault>
+fn bind_labels(names: &mut Labels, labels: &[&[u8]], nodes: &[Node]) -> Result<(), CommandFault>
     ensures ok { OnOk result ((name : List ℕ)
         → labelled names.new name ≡ bound_to (labelled names.old) (map (λ w. w.now) labels.now) nodes.now name) }
-    ensures err { IfErr result (λ fault. fault ≡ RunFault.NoMemory) }
+    ensures err { IfErr result (λ fault. fault ≡ CommandFault.NoMemory) }
 {
     for (label, node) in labels.iter().zip(nodes) {
         names.bind(*label, *node)?;
@@ -565,9 +544,9 @@ fn keep(
     names: &mut BTreeMap<Vec<u8>, usize>,
     name: &[u8],
     answer: &PeerAnswer,
-) -> Result<(), RunFault>
+) -> Result<(), CommandFault>
     ensures ok { OnOk result (IsKept names.old name.now (answer.now ∷ []) names.new) }
-    ensures err { IfErr result (λ fault. fault ≡ RunFault.NoMemory) }
+    ensures err { IfErr result (λ fault. fault ≡ CommandFault.NoMemory) }
 {
     match answer {
         Answer::Offered(number) => {
@@ -575,34 +554,5 @@ fn keep(
             Ok(())
         }
         Answer::Accepted(_) | Answer::Marked | Answer::Refused(_) => Ok(()),
-    }
-}
-
-// The node at a place takes the message that was offered, if one was. It gives what the taking was answered.
-fn take_offered<W: Write>(
-    alloc: Global,
-    number: usize,
-    world: &mut Peers,
-    at: usize,
-    answer: &PeerAnswer,
-    writer: &mut W,
-) -> Result<Option<PeerAnswer>, RunFault>
-    ensures ok { OnOk result (PrintsTaken number world.old at answer.now world.new
-        (W.contents writer.old) (W.contents writer.new)) }
-    ensures err { IfErr result (IsTakeFault number world.old at answer.now) }
-    ensures unchanged { OnErr result (world.new ≡ world.old) }
-{
-    match answer {
-        Answer::Offered(message) => {
-            let take = Event::Take {
-                at,
-                message: *message,
-            };
-            let taken = run_event(alloc, number, world, &take, writer)?;
-            Ok(Some(taken))
-        }
-        Answer::Accepted(_) => Ok(None),
-        Answer::Marked => Ok(None),
-        Answer::Refused(_) => Ok(None),
     }
 }

@@ -30,6 +30,7 @@
 
 mod blaming;
 mod command;
+mod command_fault;
 mod counted;
 mod event;
 mod explaining;
@@ -41,7 +42,6 @@ mod lines;
 mod marking;
 mod operation;
 mod output;
-mod peers;
 mod reading;
 mod report;
 mod script;

@@ -1,8 +1,8 @@
 //! Lines and words.
-ghost use Rattle.std.specs.Prelude.{◌≡◌, ◌≤◌, ◌<◌, ◌↔◌, ◌==◌, ◌∷◌, IfOk, IsTrue, length, map, count_by, position};
+ghost use Rattle.std.specs.Prelude.{◌≡◌, ◌≤◌, ◌<◌, ◌↔◌, ◌==◌, ◌∷◌, IfOk, IsTrue, OnErr, length, map, count_by, position};
 ghost use Rattle.std.specs.Option.{option_copied};
 ghost use Rattle.std.specs.Str.Lines.{lines, strip_carriage_return};
-ghost use Rattle.hg_script.specs.Words.{first_word, has_node, may_have_node, spaced, words_of};
+ghost use Rattle.hg_script.specs.Words.{first_word, has_node, may_have_node, spaced, words_in_place, words_of};
 ghost use Rattle.hg_script.specs.Limits.{line_limit};
 
 use crate::limits::LINE_LIMIT;
@@ -99,7 +99,8 @@ pub fn is_short(line: &[u8]) -> bool
 /// The words of the line, divided by spaces; a comment has none.
 #[inline(always)]
 pub fn words_of<'a>(alloc: Global, line: &'a [u8]) -> Result<Words<'a>, AllocError>
-    ensures { IfOk result (λ words. map (λ w. w.now) words.items ≡ words_of line.now) }
+    ensures words { IfOk result (λ words. map (λ w. w.now) words.items ≡ words_of line.now) }
+    ensures memory { OnErr result (words_in_place < length (words_of line.now)) }
 {
     match line {
         [] | [b'#', ..] => Ok(SmallVec::new(alloc)),
@@ -110,7 +111,8 @@ pub fn words_of<'a>(alloc: Global, line: &'a [u8]) -> Result<Words<'a>, AllocErr
 // What stands between spaces.
 #[inline(always)]
 fn spaced<'a>(alloc: Global, line: &'a [u8]) -> Result<Words<'a>, AllocError>
-    ensures { IfOk result (λ words. map (λ w. w.now) words.items ≡ spaced line.now) }
+    ensures words { IfOk result (λ words. map (λ w. w.now) words.items ≡ spaced line.now) }
+    ensures memory { OnErr result (words_in_place < length (spaced line.now)) }
 {
     let mut words = SmallVec::new(alloc);
     words.extend(line.split(|b| *b == b' ').filter(|word| !word.is_empty()))?;

@@ -3,7 +3,7 @@ ghost use Rattle.std.specs.Prelude.{◌∷◌, [], IfOk, IfErr};
 ghost use Rattle.hg_script.specs.Events.{IsMark, IsUnresolved, marked_label};
 ghost use Rattle.hg_names.specs.Labels.{labelled};
 
-use crate::fault::RunFault;
+use crate::command_fault::CommandFault;
 use crate::operation::Names;
 use hg_peer::Mark;
 
@@ -16,7 +16,7 @@ pub enum Marking<'a> {
 
 impl Marking<'_> {
     /// What the mark asks of a node. Its label has to be bound.
-    pub fn resolve(self, names: &Names) -> Result<Mark, RunFault>
+    pub fn resolve(self, names: &Names) -> Result<Mark, CommandFault>
         ensures ok { IfOk result (IsMark (labelled names.now.labels.now) self.entry) }
         ensures err { IfErr result (IsUnresolved names.now (marked_label self.entry ∷ [])) }
     {

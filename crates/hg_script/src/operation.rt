@@ -5,7 +5,8 @@ ghost use Rattle.hg_script.specs.Entries.{entry_of};
 ghost use Rattle.hg_script.specs.Events.{AreIds, AreParentIds, IsOperation, IsUnresolved, new_labels, old_labels};
 ghost use Rattle.hg_names.specs.Labels.{labelled};
 
-use crate::fault::{LineFault, RunFault};
+use crate::command_fault::CommandFault;
+use crate::fault::LineFault;
 use crate::spare::{Spare, USER};
 use hg_changeset::{Entry, Node};
 use hg_names::Labels;
@@ -74,7 +75,7 @@ impl<'a> Operation<'a> {
     /// What the operation asks of a replica, with the entry of a new changeset in the spare room. All its labels but
     /// the new ones have to be bound.
     #[inline(always)]
-    pub fn resolve(self, names: &Names, spare: &mut Spare) -> Result<Op, RunFault>
+    pub fn resolve(self, names: &Names, spare: &mut Spare) -> Result<Op, CommandFault>
         ensures ok { IfOk result (IsOperation (labelled names.now.labels.now) self.entry) }
         ensures err { IfErr result (IsUnresolved names.now (old_labels self.entry)) }
     {
@@ -98,26 +99,24 @@ impl<'a> Operation<'a> {
 #[derive(Clone, Copy)]
 pub struct Names<'a> {
     pub alloc: Global,
-    /// The line's number.
-    pub number: usize,
     pub labels: &'a Labels,
 }
 
 impl Names<'_> {
     /// The id that a label names.
-    pub fn node(&self, label: &[u8]) -> Result<Node, RunFault>
+    pub fn node(&self, label: &[u8]) -> Result<Node, CommandFault>
         ensures ok { IfOk result (λ node. labelled self.now.labels.now label.now ≡ Some node) }
         ensures err { IfErr result (IsUnresolved self.now (label.now ∷ [])) }
     {
         match self.labels.get(label) {
             Some(node) => Ok(node),
-            None => Err(RunFault::Line(self.number, LineFault::UnknownName)),
+            None => Err(CommandFault::Name(LineFault::UnknownName)),
         }
     }
 
     // The ids that the labels of parents name, and the null id for each that is absent.
     #[inline(always)]
-    fn parents(&self, labels: Parents<'_>) -> Result<(Node, Node), RunFault>
+    fn parents(&self, labels: Parents<'_>) -> Result<(Node, Node), CommandFault>
         ensures ok { IfOk result (λ ps. AreParentIds (labelled self.now.labels.now) labels.entry ps.0 ps.1) }
         ensures err { IfErr result (IsUnresolved self.now (parent_words labels.entry)) }
     {
@@ -135,7 +134,7 @@ impl Names<'_> {
         secret: bool,
         parents: Parents<'_>,
         spare: &mut Spare,
-    ) -> Result<Op, RunFault>
+    ) -> Result<Op, CommandFault>
         ensures ok { IfOk result (IsOperation (labelled self.now.labels.now)
             (Operation.Commit new.entry secret parents.entry)) }
         ensures err { IfErr result (IsUnresolved self.now (parent_words parents.entry)) }
@@ -150,7 +149,7 @@ impl Names<'_> {
     }
 
     #[inline(always)]
-    fn amend(&self, old: &[u8], new: &[u8], spare: &mut Spare) -> Result<Op, RunFault>
+    fn amend(&self, old: &[u8], new: &[u8], spare: &mut Spare) -> Result<Op, CommandFault>
         ensures ok { IfOk result (IsOperation (labelled self.now.labels.now) (Operation.Amend old.entry new.entry)) }
         ensures err { IfErr result (IsUnresolved self.now (old.now ∷ [])) }
     {
@@ -160,7 +159,7 @@ impl Names<'_> {
         })
     }
 
-    fn split(&self, old: &[u8], new: &[&[u8]], spare: &mut Spare) -> Result<Op, RunFault>
+    fn split(&self, old: &[u8], new: &[&[u8]], spare: &mut Spare) -> Result<Op, CommandFault>
         ensures ok { IfOk result (IsOperation (labelled self.now.labels.now) (Operation.Split old.entry new.entry)) }
         ensures err { IfErr result (IsUnresolved self.now (old.now ∷ [])) }
     {
@@ -170,7 +169,7 @@ impl Names<'_> {
         })
     }
 
-    fn fold(&self, new: &[u8], old: &[&[u8]], spare: &mut Spare) -> Result<Op, RunFault>
+    fn fold(&self, new: &[u8], old: &[&[u8]], spare: &mut Spare) -> Result<Op, CommandFault>
         ensures ok { IfOk result (IsOperation (labelled self.now.labels.now) (Operation.Fold new.entry old.entry)) }
         ensures err { IfErr result (IsUnresolved self.now (texts old.now)) }
     {
@@ -181,7 +180,7 @@ impl Names<'_> {
     }
 
     // The user and the date of a prune are those of an entry.
-    fn prune(&self, old: &[u8]) -> Result<Op, RunFault>
+    fn prune(&self, old: &[u8]) -> Result<Op, CommandFault>
         ensures ok { IfOk result (IsOperation (labelled self.now.labels.now) (Operation.Prune old.entry)) }
         ensures err { IfErr result (IsUnresolved self.now (old.now ∷ [])) }
     {
@@ -199,7 +198,7 @@ impl Names<'_> {
         new: &[u8],
         parents: Parents<'_>,
         spare: &mut Spare,
-    ) -> Result<Op, RunFault>
+    ) -> Result<Op, CommandFault>
         ensures ok { IfOk result (IsOperation (labelled self.now.labels.now)
             (Operation.Relocate old.entry new.entry parents.entry)) }
         ensures err { IfErr result (IsUnresolved self.now (old.now ∷ parent_words parents.entry)) }
@@ -214,7 +213,7 @@ impl Names<'_> {
         })
     }
 
-    fn advance(&self, label: &[u8], phase: Phase) -> Result<Op, RunFault>
+    fn advance(&self, label: &[u8], phase: Phase) -> Result<Op, CommandFault>
         ensures ok { IfOk result (IsOperation (labelled self.now.labels.now) (Operation.Advance label.entry phase)) }
         ensures err { IfErr result (IsUnresolved self.now (label.now ∷ [])) }
     {
@@ -225,7 +224,7 @@ impl Names<'_> {
     }
 
     /// The ids that labels name.
-    pub fn nodes(&self, labels: &[&[u8]]) -> Result<Vec<Node>, RunFault>
+    pub fn nodes(&self, labels: &[&[u8]]) -> Result<Vec<Node>, CommandFault>
         ensures ok { IfOk result (λ nodes. AreIds (labelled self.now.labels.now) labels.now nodes.items) }
         ensures err { IfErr result (IsUnresolved self.now (texts labels.now)) }
     {

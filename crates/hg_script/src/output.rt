@@ -1,13 +1,12 @@
 //! Printing: one write for each line, its LF included.
-ghost use Rattle.std.specs.Prelude.{◌≡◌, ◌⊎◌, [], ◌∷◌, ◌++◌, IfErr, IfSome, OnOk, IsSome, Some, codes, true, false};
+ghost use Rattle.std.specs.Prelude.{◌≡◌, ◌⊎◌, [], ◌∷◌, ◌++◌, IfErr, IfSome, OnOk, Some, codes, true, false};
 ghost use Rattle.hg_changeset.specs.declared.node.Node.{Node};
 ghost use Rattle.hg_view.specs.declared.refusal.PinRefusal.{PinRefusal};
-ghost use Rattle.hg_script.specs.Events.{HasNumber, IsAbsence, IsUnknownWhere};
 ghost use Rattle.hg_script.specs.Outputs.{Printed};
 ghost use Rattle.hg_script.specs.Printing.{agree_line, refusal_line, refused_line, refusing_word};
 ghost use Rattle.hg_script.specs.Reports.{heading, line_of, row_line, totals};
 
-use crate::fault::{LineFault, RunFault};
+use crate::command_fault::CommandFault;
 use hg_history::Fault;
 use hg_peer::PeerRefusal;
 use hg_phases::Phase;
@@ -41,22 +40,21 @@ pub fn printed_lines_are_those_of_the_format()
 {}
 
 /// Writes a line, and empties it for the next one.
-pub fn print_line<W: Write>(writer: &mut W, line: &mut Vec<u8>) -> Result<(), RunFault>
+pub fn print_line<W: Write>(writer: &mut W, line: &mut Vec<u8>) -> Result<(), CommandFault>
     ensures printed { OnOk result (Printed (W.contents writer.old) (line_of line.old.items) (W.contents writer.new)) }
     ensures emptied { OnOk result (line.new.items ≡ []) }
-    ensures err { IfErr result (λ fault. (fault ≡ RunFault.Write) ⊎ (fault ≡ RunFault.NoMemory)) }
+    ensures err { IfErr result (λ fault. (fault ≡ CommandFault.Write) ⊎ (fault ≡ CommandFault.NoMemory)) }
 {
     line.push(b'\n')?;
     match writer.write_all(line) {
         Ok(()) => {}
-        Err(_) => return Err(RunFault::Write),
+        Err(_) => return Err(CommandFault::Write),
     }
     line.clear();
     Ok(())
 }
 
-/// Writes the line that says which refusal the line with this number met. Want of memory, which has no number, ends the
-/// script instead.
+/// Writes the line that says which refusal the line with this number met, if the refusal has a number.
 pub fn print_refusal<W: Write, D: Display>(
     alloc: Global,
     writer: &mut W,
@@ -64,32 +62,30 @@ pub fn print_refusal<W: Write, D: Display>(
     word: &str,
     number: Option<u8>,
     name: &D,
-) -> Result<(), RunFault>
+) -> Result<(), CommandFault>
     ensures printed { OnOk result (IfSome (D.output name.now) (λ name.
         Printed (W.contents writer.old) (refusal_line line word.now number name) (W.contents writer.new))) }
-    ensures ok { OnOk result (IsSome number) }
-    ensures err { IfErr result (λ fault. (fault ≡ RunFault.Write) ⊎ (fault ≡ RunFault.NoMemory)) }
+    ensures err { IfErr result (λ fault. (fault ≡ CommandFault.Write) ⊎ (fault ≡ CommandFault.NoMemory)) }
 {
     let number = match number {
         Some(number) => number,
-        None => return Err(RunFault::NoMemory),
+        None => return Ok(()),
     };
     let text = format!(in alloc; "{line}: {word} {number} {name}")?;
     let mut bytes = Vec::from_slice(alloc, text.as_bytes())?;
     print_line(writer, &mut bytes)
 }
 
-/// Writes the line that says why the event of the line with this number was refused.
+/// Writes the line that says why the event of the line with this number was refused, if the refusal has a number.
 pub fn print_refused<W: Write>(
     alloc: Global,
     writer: &mut W,
     line: usize,
     refusal: &EventRefusal<PeerRefusal, Fault>,
-) -> Result<(), RunFault>
+) -> Result<(), CommandFault>
     ensures printed { OnOk result
         (Printed (W.contents writer.old) (refused_line line refusal.now) (W.contents writer.new)) }
-    ensures ok { OnOk result (HasNumber refusal.now) }
-    ensures err { IfErr result (IsUnknownWhere line (IsAbsence refusal.now)) }
+    ensures err { IfErr result (λ fault. (fault ≡ CommandFault.Write) ⊎ (fault ≡ CommandFault.NoMemory)) }
 {
     match refusal {
         EventRefusal::ByActor(refusal) => {
@@ -99,9 +95,8 @@ pub fn print_refused<W: Write>(
         EventRefusal::ByState(fault) => {
             print_refusal(alloc, writer, line, "replica", fault.number(), fault)
         }
-        EventRefusal::NoNode | EventRefusal::NoMessage => {
-            Err(RunFault::Line(line, LineFault::UnknownName))
-        }
+        EventRefusal::NoNode => Ok(()),
+        EventRefusal::NoMessage => Ok(()),
     }
 }
 

@@ -9,7 +9,7 @@ ghost use Rattle.hg_script.specs.Reports.{AreRowLines, AreRows, IsReport, IsRowL
 ghost use Rattle.hg_script.specs.Reports.{RowValue, heading, row_values, rows_from, text_where, totals};
 ghost use Rattle.hg_script.specs.Reports.{with_words};
 
-use crate::fault::RunFault;
+use crate::command_fault::CommandFault;
 use crate::output::print_line;
 use hg_phases::Phase;
 use hg_replica::Replica;
@@ -75,10 +75,10 @@ pub fn print_report<W: Write>(
     name: &[u8],
     kept: &Kept,
     writer: &mut W,
-) -> Result<(), RunFault>
+) -> Result<(), CommandFault>
     ensures printed { OnOk result ((text : Text) × IsReport name.now kept.now text
         × Printed (W.contents writer.old) text (W.contents writer.new)) }
-    ensures err { IfErr result (λ fault. (fault ≡ RunFault.Write) ⊎ (fault ≡ RunFault.NoMemory)) }
+    ensures err { IfErr result (λ fault. (fault ≡ CommandFault.Write) ⊎ (fault ≡ CommandFault.NoMemory)) }
 {
     let mut line = Vec::new(alloc);
     print_heading(name, &mut line, writer)?;
@@ -88,11 +88,15 @@ pub fn print_report<W: Write>(
 }
 
 // Prints the line of the replica's name, by means of the empty line that is lent.
-fn print_heading<W: Write>(name: &[u8], line: &mut Vec<u8>, writer: &mut W) -> Result<(), RunFault>
+fn print_heading<W: Write>(
+    name: &[u8],
+    line: &mut Vec<u8>,
+    writer: &mut W,
+) -> Result<(), CommandFault>
     requires { line.old.items ≡ [] }
     ensures printed { OnOk result (Printed (W.contents writer.old) (heading name.now) (W.contents writer.new)) }
     ensures emptied { OnOk result (line.new.items ≡ []) }
-    ensures err { IfErr result (λ fault. (fault ≡ RunFault.Write) ⊎ (fault ≡ RunFault.NoMemory)) }
+    ensures err { IfErr result (λ fault. (fault ≡ CommandFault.Write) ⊎ (fault ≡ CommandFault.NoMemory)) }
 {
     line.extend_from_slice(b"report ")?;
     line.extend_from_slice(name)?;
@@ -105,11 +109,11 @@ fn print_totals<W: Write>(
     replica: &Replica,
     line: &mut Vec<u8>,
     writer: &mut W,
-) -> Result<(), RunFault>
+) -> Result<(), CommandFault>
     requires { line.old.items ≡ [] }
     ensures printed { OnOk result (Printed (W.contents writer.old)
         (totals (length (changesets replica.now.history)) (length replica.now.markers)) (W.contents writer.new)) }
-    ensures err { IfErr result (λ fault. (fault ≡ RunFault.Write) ⊎ (fault ≡ RunFault.NoMemory)) }
+    ensures err { IfErr result (λ fault. (fault ≡ CommandFault.Write) ⊎ (fault ≡ CommandFault.NoMemory)) }
 {
     let changesets = replica.graph().len();
     let markers = replica.store().len();
@@ -124,12 +128,12 @@ fn print_changesets<W: Write>(
     kept: &Kept,
     line: &mut Vec<u8>,
     writer: &mut W,
-) -> Result<(), RunFault>
+) -> Result<(), CommandFault>
     requires { line.old.items ≡ [] }
     ensures printed { OnOk result ((rows : List RowValue) × (text : Text) × AreRows kept.now.replica rows
         × AreRowLines kept.now rows text × Printed (W.contents writer.old) text (W.contents writer.new)) }
     ensures emptied { OnOk result (line.new.items ≡ []) }
-    ensures err { IfErr result (λ fault. (fault ≡ RunFault.Write) ⊎ (fault ≡ RunFault.NoMemory)) }
+    ensures err { IfErr result (λ fault. (fault ≡ CommandFault.Write) ⊎ (fault ≡ CommandFault.NoMemory)) }
 {
     let rows = rows(alloc, kept.replica())?;
     print_rows(kept, &rows, line, writer)?;
@@ -142,13 +146,13 @@ fn print_rows<W: Write>(
     rows: &[Row<'_>],
     line: &mut Vec<u8>,
     writer: &mut W,
-) -> Result<(), RunFault>
+) -> Result<(), CommandFault>
     requires empty { line.old.items ≡ [] }
     requires places { All (λ row. row.1 < length (changesets kept.now.replica.history)) rows.now }
     ensures printed { OnOk result ((text : Text) × AreRowLines kept.now (row_values rows.now) text
         × Printed (W.contents writer.old) text (W.contents writer.new)) }
     ensures emptied { OnOk result (line.new.items ≡ []) }
-    ensures err { IfErr result (λ fault. (fault ≡ RunFault.Write) ⊎ (fault ≡ RunFault.NoMemory)) }
+    ensures err { IfErr result (λ fault. (fault ≡ CommandFault.Write) ⊎ (fault ≡ CommandFault.NoMemory)) }
 {
     for (label, place) in rows {
         print_row(kept, *label, *place, line, writer)?;
@@ -163,13 +167,13 @@ fn print_row<W: Write>(
     place: usize,
     line: &mut Vec<u8>,
     writer: &mut W,
-) -> Result<(), RunFault>
+) -> Result<(), CommandFault>
     requires empty { line.old.items ≡ [] }
     requires place { place < length (changesets kept.now.replica.history) }
     ensures printed { OnOk result ((text : Text) × IsRowLine kept.now (label.now, place) text
         × Printed (W.contents writer.old) text (W.contents writer.new)) }
     ensures emptied { OnOk result (line.new.items ≡ []) }
-    ensures err { IfErr result (λ fault. (fault ≡ RunFault.Write) ⊎ (fault ≡ RunFault.NoMemory)) }
+    ensures err { IfErr result (λ fault. (fault ≡ CommandFault.Write) ⊎ (fault ≡ CommandFault.NoMemory)) }
 {
     let replica = kept.replica();
     let node = replica.graph().node_at(place).unwrap();

@@ -5,10 +5,11 @@ ghost use Rattle.hg_view.specs.Kept.{KeptValue};
 ghost use Rattle.hg_world.specs.Runs.{Snapshot};
 ghost use Rattle.hg_script.specs.Commands.{Text};
 ghost use Rattle.hg_script.specs.Events.{Trace};
-ghost use Rattle.hg_script.specs.Endings.{EndsAt, IsLeftFleet, IsLeftWorld, IsStop, IsStoppedBy, StopsAmong};
+ghost use Rattle.hg_script.specs.Endings.{EndsAt, StaysAtLine};
 ghost use Rattle.hg_script.specs.Outputs.{Printed};
-ghost use Rattle.hg_script.specs.Printing.{PrintsLine, PrintsLines, PrintsRun, PrintsScript};
-ghost use Rattle.hg_script.specs.Scripts.{DoesLine, IsRunTo};
+ghost use Rattle.hg_script.specs.Printing.{PrintsLine, WritesLines, WritesRun, WritesScript, no_notes};
+ghost use Rattle.hg_script.specs.Scripts.{DoesLine, IsLeftFleet, IsLeftWorld, IsRunTo};
+ghost use Rattle.hg_script.specs.Stops.{IsStop, IsStoppedBy, StopsAmong};
 
 use crate::fault::{LineFault, RunFault};
 use crate::fleet::Fleet;
@@ -24,7 +25,7 @@ use std::alloc::Global;
 use std::io::{Read, Write};
 
 /// Reads a script, does its lines in order, and prints what they report, one write for each line. What was printed
-/// before a fault stays.
+/// before a fault stays, and a line's own fault prints nothing more.
 ///
 /// Ids and labels are hashed by the keys. Where a stranger may write the script, they are secret ones. At most
 /// 1,048,577 reads are made, one more than a script may have bytes.
@@ -36,8 +37,9 @@ pub fn run_script<R: Read, W: Write>(
 ) -> Result<(), RunFault>
     ensures ran { OnOk result ((world : Snapshot KeptValue) × IsLeftWorld (R.remaining reader.old) world) }
     ensures printed { OnOk result ((world : Snapshot KeptValue)
-        × PrintsScript (R.remaining reader.old) world (W.contents writer.old) (W.contents writer.new)) }
-    ensures stopped { IfErr result (IsStop (R.remaining reader.old)) }
+        × WritesScript no_notes (R.remaining reader.old) world (W.contents writer.old) (W.contents writer.new)) }
+    ensures stopped { IfErr result (λ fault.
+        IsStop no_notes (R.remaining reader.old) fault (W.contents writer.old) (W.contents writer.new)) }
 {
     run_fleet(alloc, keys, reader, writer)?;
     Ok(())
@@ -54,8 +56,9 @@ pub fn run_fleet<R: Read, W: Write>(
 ) -> Result<Fleet, RunFault>
     ensures ran { IfOk result (IsLeftFleet (R.remaining reader.old)) }
     ensures printed { IfOk result (λ fleet.
-        PrintsScript (R.remaining reader.old) fleet.world (W.contents writer.old) (W.contents writer.new)) }
-    ensures stopped { IfErr result (IsStop (R.remaining reader.old)) }
+        WritesScript no_notes (R.remaining reader.old) fleet.world (W.contents writer.old) (W.contents writer.new)) }
+    ensures stopped { IfErr result (λ fault.
+        IsStop no_notes (R.remaining reader.old) fault (W.contents writer.old) (W.contents writer.new)) }
 {
     let text = read_script(alloc, reader)?;
     run_text(alloc, keys, &text, writer)
@@ -69,8 +72,9 @@ fn run_text<W: Write>(
 ) -> Result<Fleet, RunFault>
     ensures ran { IfOk result (IsRunTo text.now) }
     ensures printed { IfOk result (λ fleet.
-        PrintsRun text.now fleet.world (W.contents writer.old) (W.contents writer.new)) }
-    ensures stopped { IfErr result (λ fault. (fault ≡ RunFault.NoMemory) ⊎ IsStoppedBy text.now fault) }
+        WritesRun no_notes text.now fleet.world (W.contents writer.old) (W.contents writer.new)) }
+    ensures stopped { IfErr result (λ fault. (fault ≡ RunFault.NoMemory)
+        ⊎ IsStoppedBy no_notes text.now fault (W.contents writer.old) (W.contents writer.new)) }
 {
     let mut fleet = Fleet::new(alloc, keys, count_nodes(text))?;
     runs_compose::<Peer>();
@@ -85,9 +89,10 @@ fn run_lines<W: Write>(
     writer: &mut W,
 ) -> Result<(), RunFault>
     ensures done { OnOk result ((t : Trace) × (output : Text)
-        × PrintsLines 1 fleet.old (lines text.now) t fleet.new output
+        × WritesLines no_notes 1 fleet.old (lines text.now) t fleet.new output
         × Printed (W.contents writer.old) output (W.contents writer.new)) }
-    ensures stopped { IfErr result (StopsAmong fleet.old (lines text.now)) }
+    ensures stopped { IfErr result (λ fault.
+        StopsAmong no_notes 1 fleet.old (lines text.now) fault (W.contents writer.old) (W.contents writer.new)) }
 {
     let mut spare = Spare::new(alloc);
     let mut rest = text;
@@ -114,6 +119,7 @@ pub(crate) fn run_line<W: Write>(
         × PrintsLine number fleet.old line.now t output
         × Printed (W.contents writer.old) output (W.contents writer.new)) }
     ensures stopped { IfErr result (EndsAt number fleet.old line.now) }
+    ensures unprinted { StaysAtLine result (W.contents writer.old) (W.contents writer.new) }
 {
     if !is_short(line) {
         return Err(RunFault::Line(number, LineFault::TooLong));

@@ -2,8 +2,8 @@
 ghost use Rattle.std.specs.Prelude.{◌≡◌, IfOk};
 ghost use Rattle.hg_script.specs.Entries.{entry_of};
 
-use crate::event::PeerEvent;
 use hg_changeset::Entry;
+use hg_fleet::PeerEvent;
 use hg_rewrite::Op;
 use hg_world::Event;
 use std::alloc::{AllocError, Global};

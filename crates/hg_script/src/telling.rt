@@ -4,24 +4,28 @@
 //! prints.
 ghost use Rattle.std.specs.Prelude.{◌≡◌, ◌≢◌, ◌≤◌, ◌+◌, ◌⊎◌, [], IfOk, IfErr, OnOk};
 ghost use Rattle.std.specs.Str.Lines.{lines};
+ghost use Rattle.hg_script.specs.Commands.{Text};
+ghost use Rattle.hg_script.specs.Endings.{EndsAt, IsOfLine};
 ghost use Rattle.hg_script.specs.Events.{Trace};
-ghost use Rattle.hg_script.specs.Endings.{EndsAt, IsLeftFleet, IsStop, IsStoppedBy, StopsAmong};
 ghost use Rattle.hg_script.specs.Faults.{status_of};
-ghost use Rattle.hg_script.specs.Scripts.{DoesLine, DoesLines, IsRunTo};
+ghost use Rattle.hg_script.specs.Outputs.{Printed};
+ghost use Rattle.hg_script.specs.Printing.{IsAnnotated, WritesLine, WritesLines, WritesRun, WritesScript};
+ghost use Rattle.hg_script.specs.Scripts.{IsLeftFleet, IsRunTo};
+ghost use Rattle.hg_script.specs.Stops.{IsStop, IsStoppedBy, StopsAmong};
 ghost use Rattle.hg_script.specs.Words.{words_of};
 ghost use Rattle.hg_script.specs.declared.fault.RunFault.TheVariants.{NoMemory};
 
 use crate::blaming::word_at_fault;
+use crate::command_fault::CommandFault;
 use crate::explaining::explain;
-use crate::fault::RunFault;
+use crate::fault::{LineFault, RunFault};
 use crate::fleet::Fleet;
 use crate::input::read_script;
-use crate::lines::{count_nodes, cut_line, words_of};
-use crate::reading::read_command;
+use crate::lines::{count_nodes, cut_line, is_short, words_of};
 use crate::script::run_line;
 use crate::spare::Spare;
 use crate::told::Told;
-use crate::tracing::{rounds_of, trace};
+use crate::tracing::trace;
 use hg_node_set::IdKeys;
 use hg_peer::Peer;
 use hg_world::runs_compose;
@@ -97,7 +101,8 @@ impl From<hg_join::NoMemory> for ToldFault {
     }
 }
 
-/// [`run_fleet`](crate::run_fleet), with notes on its lines. The lines of the script are done as without notes.
+/// [`run_fleet`](crate::run_fleet), with notes on its lines. The lines of the script are done as without notes, and
+/// what they print is written with its notes.
 pub fn run_told<R: Read, W: Write>(
     alloc: Global,
     keys: IdKeys,
@@ -106,7 +111,10 @@ pub fn run_told<R: Read, W: Write>(
     notes: Notes,
 ) -> Result<Fleet, ToldFault>
     ensures ran { IfOk result (IsLeftFleet (R.remaining reader.old)) }
-    ensures stopped { IfErr result (λ told. IsStop (R.remaining reader.old) told.fault) }
+    ensures written { IfOk result (λ fleet.
+        WritesScript notes (R.remaining reader.old) fleet.world (W.contents writer.old) (W.contents writer.new)) }
+    ensures stopped { IfErr result (λ told.
+        IsStop notes (R.remaining reader.old) told.fault (W.contents writer.old) (W.contents writer.new)) }
 {
     let text = read_script(alloc, reader)?;
     tell_text(alloc, keys, &text, writer, notes)
@@ -120,7 +128,10 @@ fn tell_text<W: Write>(
     notes: Notes,
 ) -> Result<Fleet, ToldFault>
     ensures ran { IfOk result (IsRunTo text.now) }
-    ensures stopped { IfErr result (λ told. (told.fault ≡ NoMemory) ⊎ IsStoppedBy text.now told.fault) }
+    ensures written { IfOk result (λ fleet.
+        WritesRun notes text.now fleet.world (W.contents writer.old) (W.contents writer.new)) }
+    ensures stopped { IfErr result (λ told. (told.fault ≡ NoMemory)
+        ⊎ IsStoppedBy notes text.now told.fault (W.contents writer.old) (W.contents writer.new)) }
 {
     let mut fleet = Fleet::new(alloc, keys, count_nodes(text))?;
     runs_compose::<Peer>();
@@ -135,9 +146,11 @@ fn tell_lines<W: Write>(
     writer: &mut W,
     notes: Notes,
 ) -> Result<(), ToldFault>
-    ensures done { OnOk result ((t : Trace) × DoesLines fleet.old (lines text.now) t fleet.new) }
-    ensures stopped { IfErr result (λ told.
-        (told.fault ≡ NoMemory) ⊎ StopsAmong fleet.old (lines text.now) told.fault) }
+    ensures done { OnOk result ((t : Trace) × (output : Text)
+        × WritesLines notes 1 fleet.old (lines text.now) t fleet.new output
+        × Printed (W.contents writer.old) output (W.contents writer.new)) }
+    ensures stopped { IfErr result (λ told. (told.fault ≡ NoMemory)
+        ⊎ StopsAmong notes 1 fleet.old (lines text.now) told.fault (W.contents writer.old) (W.contents writer.new)) }
 {
     let mut rest = text;
     let mut number = 0usize;
@@ -150,7 +163,7 @@ fn tell_lines<W: Write>(
     Ok(())
 }
 
-// A line without words is done, and nothing is told of it.
+// A line without words does nothing.
 fn tell_line<W: Write>(
     alloc: Global,
     fleet: &mut Fleet,
@@ -159,33 +172,21 @@ fn tell_line<W: Write>(
     writer: &mut W,
     notes: Notes,
 ) -> Result<(), ToldFault>
-    ensures done { OnOk result ((t : Trace) × DoesLine fleet.old line.now t fleet.new) }
+    ensures done { OnOk result ((t : Trace) × (output : Text)
+        × WritesLine notes number fleet.old line.now t fleet.new output
+        × Printed (W.contents writer.old) output (W.contents writer.new)) }
     ensures stopped { IfErr result (λ told. (told.fault ≡ NoMemory) ⊎ EndsAt number fleet.old line.now told.fault) }
+    ensures unwritten { IfErr result (λ told. IsOfLine told.fault → W.contents writer.new ≡ W.contents writer.old) }
 {
+    if !is_short(line) {
+        return Err(ToldFault::from(RunFault::Line(number, LineFault::TooLong)));
+    }
     let words = words_of(alloc, line)?;
     let words = words.as_slice();
     if words.is_empty() {
-        run_wordless(alloc, fleet, number, line)?;
         return Ok(());
     }
     tell_words(alloc, fleet, number, line, words, writer, notes)
-}
-
-// Does the line, which has no words. It prints nothing, so it runs into a text of its own: so all lines with notes run
-// into texts, and what runs a line into the writer itself is called at one place, for scripts without notes.
-fn run_wordless(
-    alloc: Global,
-    fleet: &mut Fleet,
-    number: usize,
-    line: &[u8],
-) -> Result<(), RunFault>
-    ensures done { OnOk result ((t : Trace) × DoesLine fleet.old line.now t fleet.new) }
-    ensures stopped { IfErr result (EndsAt number fleet.old line.now) }
-{
-    let mut text = Vec::new(alloc);
-    let mut spare = Spare::new(alloc);
-    run_line(alloc, fleet, number, line, &mut spare, &mut text)?;
-    Ok(())
 }
 
 // Does the line of these words, and writes what it prints with its notes.
@@ -199,15 +200,17 @@ fn tell_words<W: Write>(
     notes: Notes,
 ) -> Result<(), ToldFault>
     requires { words_of line.now ≢ [] }
-    ensures done { OnOk result ((t : Trace) × DoesLine fleet.old line.now t fleet.new) }
+    ensures done { OnOk result ((t : Trace) × (output : Text)
+        × WritesLine notes number fleet.old line.now t fleet.new output
+        × Printed (W.contents writer.old) output (W.contents writer.new)) }
     ensures stopped { IfErr result (λ told. (told.fault ≡ NoMemory) ⊎ EndsAt number fleet.old line.now told.fault) }
+    ensures unwritten { IfErr result (λ told. IsOfLine told.fault → W.contents writer.new ≡ W.contents writer.old) }
 {
-    let rounds = rounds_before(alloc, fleet, words, notes)?;
     let mut text = Vec::new(alloc);
     let mut spare = Spare::new(alloc);
     match run_line(alloc, fleet, number, line, &mut spare, &mut text) {
         Ok(told) => {
-            push_notes(alloc, fleet, number, words, &told, rounds, notes, &mut text)?;
+            push_notes(alloc, fleet, number, words, &told, notes, &mut text)?;
             write_text(&text, writer)?;
             Ok(())
         }
@@ -229,7 +232,8 @@ fn in_text(fault: RunFault) -> RunFault
 }
 
 fn write_text<W: Write>(text: &[u8], writer: &mut W) -> Result<(), RunFault>
-    ensures { IfErr result (λ fault. fault ≡ RunFault.Write) }
+    ensures written { OnOk result (Printed (W.contents writer.old) text.now (W.contents writer.new)) }
+    ensures err { IfErr result (λ fault. fault ≡ RunFault.Write) }
 {
     match writer.write_all(text) {
         Ok(()) => Ok(()),
@@ -238,23 +242,11 @@ fn write_text<W: Write>(text: &[u8], writer: &mut W) -> Result<(), RunFault>
 }
 
 // What was printed before a fault stays, where it can be written.
-fn keep_printed<W: Write>(text: &[u8], writer: &mut W) {
-    let _ = writer.write_all(text);
-}
-
-// How many rounds the line of these words takes, if it is a pull that is to be traced.
-fn rounds_before(
-    alloc: Global,
-    fleet: &Fleet,
-    words: &[&[u8]],
-    notes: Notes,
-) -> Result<Option<usize>, AllocError> {
-    if !notes.traces {
-        return Ok(None);
-    }
-    match read_command(words) {
-        Ok(Some(command)) => rounds_of(alloc, fleet, command),
-        Ok(None) | Err(_) => Ok(None),
+fn keep_printed<W: Write>(text: &[u8], writer: &mut W)
+    ensures { text.now ≡ [] → W.contents writer.new ≡ W.contents writer.old }
+{
+    if !text.is_empty() {
+        let _ = writer.write_all(text);
     }
 }
 
@@ -265,20 +257,13 @@ fn push_notes(
     number: usize,
     words: &[&[u8]],
     told: &Told,
-    rounds: Option<usize>,
     notes: Notes,
     text: &mut Vec<u8>,
-) -> Result<(), AllocError> {
-    if notes.explains {
-        explain(alloc, fleet, told, text)?;
-    }
-    if !notes.traces {
-        return Ok(());
-    }
-    match read_command(words) {
-        Ok(Some(command)) => trace(alloc, fleet, number, command, told, rounds, text),
-        Ok(None) | Err(_) => Ok(()),
-    }
+) -> Result<(), AllocError>
+    ensures { OnOk result (IsAnnotated notes text.old.items text.new.items) }
+{
+    explain(alloc, fleet, told, notes.explains, text)?;
+    trace(alloc, fleet, number, words, told, notes.traces, text)
 }
 
 // The fault that ended the script, with the word that it is about where that is asked for.
@@ -300,12 +285,12 @@ fn word_of(
     fleet: &Fleet,
     words: &[&[u8]],
     fault: RunFault,
-) -> Result<Option<String>, RunFault> {
-    let (number, fault) = match fault {
-        RunFault::Line(number, fault) => (number, fault),
+) -> Result<Option<String>, CommandFault> {
+    let fault = match fault {
+        RunFault::Line(_, fault) => fault,
         _ => return Ok(None),
     };
-    match word_at_fault(alloc, fleet, number, words, fault)? {
+    match word_at_fault(alloc, fleet, words, fault)? {
         Some(word) => Ok(Some(printable(alloc, word)?)),
         None => Ok(None),
     }

@@ -1,64 +1,65 @@
 //! What an accepted line did, in one line.
+ghost use Rattle.std.specs.Prelude.{OnOk};
+ghost use Rattle.hg_script.specs.Printing.{IsTraced};
+
 use crate::command::Command;
-use crate::event::PeerAnswer;
 use crate::explaining::push_node;
 use crate::fleet::Fleet;
 use crate::marking::Marking;
+use crate::reading::read_command;
 use crate::told::Told;
 use hg_changeset::Node;
-use hg_discovery::{Discovery, known_kept};
-use hg_peer::Scope;
 use hg_phases::Phase;
 use hg_replica::Change;
-use hg_view::Kept;
 use hg_world::Answer;
 use std::alloc::{AllocError, Global};
 
-/// How many rounds of questions the taker of a pull needs, if the command is a pull of what is served. The fleet is as
-/// it was before the command.
-pub fn rounds_of(
+/// Appends a line of what the line with this number did, where lines are traced, and it was accepted and asked for an
+/// event.
+pub fn trace(
     alloc: Global,
     fleet: &Fleet,
-    command: Command<'_>,
-) -> Result<Option<usize>, AllocError> {
-    match command {
-        Command::Pull(Scope::Served, to, from) => match (kept_of(fleet, to), kept_of(fleet, from)) {
-            (Some(asker), Some(other)) => Ok(Some(count_rounds(alloc, asker, other)?)),
-            _ => Ok(None),
-        },
-        _ => Ok(None),
+    number: usize,
+    words: &[&[u8]],
+    told: &Told,
+    traces: bool,
+    text: &mut Vec<u8>,
+) -> Result<(), AllocError>
+    ensures { OnOk result (IsTraced traces text.old.items text.new.items) }
+{
+    if !traces {
+        return Ok(());
     }
-}
-
-fn kept_of<'a>(fleet: &'a Fleet, name: &[u8]) -> Option<&'a Kept> {
-    fleet.kept_at(fleet.place_of(name)?)
-}
-
-// How many rounds it takes the asker to find what it has in common with the other.
-fn count_rounds(alloc: Global, asker: &Kept, other: &Kept) -> Result<usize, AllocError> {
-    let mut discovery = Discovery::start(alloc, asker.replica())?;
-    let mut rounds = 0usize;
-    while !discovery.done() {
-        let asked = discovery.sample()?;
-        let answers = known_kept(alloc, other, &asked)?;
-        match discovery.answer(&answers) {
-            Ok(()) => {}
-            Err(_) => return Err(AllocError),
-        }
-        rounds = rounds.saturating_add(1);
+    let note = note_of(alloc, fleet, number, words, told)?;
+    if note.is_empty() {
+        return Ok(());
     }
-    Ok(rounds)
+    text.extend_from_slice(&note)?;
+    text.extend_from_slice(b"\n")
 }
 
-/// Appends the trace of the line with this number, where it was accepted and asked for an event. A pull took so many
-/// rounds, where that is known.
-pub fn trace(
+// What the line of these words did; nothing, where it wasn't accepted or asked for no event.
+fn note_of(
+    alloc: Global,
+    fleet: &Fleet,
+    number: usize,
+    words: &[&[u8]],
+    told: &Told,
+) -> Result<Vec<u8>, AllocError> {
+    let mut note = Vec::new(alloc);
+    match read_command(words) {
+        Ok(Some(command)) => push_note(alloc, fleet, number, command, told, &mut note)?,
+        Ok(None) | Err(_) => {}
+    }
+    Ok(note)
+}
+
+fn push_note(
     alloc: Global,
     fleet: &Fleet,
     number: usize,
     command: Command<'_>,
     told: &Told,
-    rounds: Option<usize>,
     text: &mut Vec<u8>,
 ) -> Result<(), AllocError> {
     match told {
@@ -67,8 +68,7 @@ pub fn trace(
             Answer::Accepted(change) => trace_change(alloc, fleet, number, *at, change, text),
             Answer::Offered(message) => {
                 push_number(alloc, number, text)?;
-                push_message(alloc, fleet, *message, text)?;
-                text.extend_from_slice(b"\n")
+                push_message(alloc, fleet, *message, text)
             }
             Answer::Marked => trace_mark(alloc, number, command, text),
             Answer::Refused(_) => Ok(()),
@@ -77,15 +77,13 @@ pub fn trace(
             Answer::Accepted(change) => trace_change(alloc, fleet, number, *at, change, text),
             Answer::Offered(_) | Answer::Marked | Answer::Refused(_) => Ok(()),
         },
-        Told::Pulled { at, offered, taken } => match (offered, taken) {
+        Told::Pulled { at, pulled } => match (&pulled.offered, &pulled.taken) {
             (Answer::Offered(message), Some(Answer::Accepted(change))) => {
                 push_number(alloc, number, text)?;
                 text.extend_from_slice(b" pulled")?;
                 push_message(alloc, fleet, *message, text)?;
-                push_rounds(alloc, rounds, text)?;
                 text.extend_from_slice(b",")?;
-                push_change(alloc, fleet, *at, change, text)?;
-                text.extend_from_slice(b"\n")
+                push_change(alloc, fleet, *at, change, text)
             }
             _ => Ok(()),
         },
@@ -102,8 +100,7 @@ fn trace_change(
     text: &mut Vec<u8>,
 ) -> Result<(), AllocError> {
     push_number(alloc, number, text)?;
-    push_change(alloc, fleet, at, change, text)?;
-    text.extend_from_slice(b"\n")
+    push_change(alloc, fleet, at, change, text)
 }
 
 // Appends the trace of a mark.
@@ -120,8 +117,7 @@ fn trace_mark(
     };
     push_number(alloc, number, text)?;
     text.extend_from_slice(word)?;
-    text.extend_from_slice(label)?;
-    text.extend_from_slice(b"\n")
+    text.extend_from_slice(label)
 }
 
 fn push_number(alloc: Global, number: usize, text: &mut Vec<u8>) -> Result<(), AllocError> {
@@ -142,16 +138,6 @@ fn push_message(
     };
     let shown = format!(in alloc; " message {message} of {size} bytes")?;
     text.extend_from_slice(shown.as_bytes())
-}
-
-fn push_rounds(alloc: Global, rounds: Option<usize>, text: &mut Vec<u8>) -> Result<(), AllocError> {
-    match rounds {
-        Some(rounds) => {
-            let shown = format!(in alloc; " after {rounds} rounds")?;
-            text.extend_from_slice(shown.as_bytes())
-        }
-        None => Ok(()),
-    }
 }
 
 // Appends what was added, what went to a lower phase and how many markers are new, or that there is nothing of these.

@@ -3,5 +3,5 @@ use Rattle.hg_script.proofs.fleet.is_below.Goals as goal
 
 pub returns : goal.returns
 returns c =
-    below_told c.args.first.now c.args.second.now c.below.result c.graph-graph.ensures.valid
-    c.graph-other.ensures.valid c.below.ensures.answer
+    below_told c.args.first.now c.args.second.now c.below.result c.is_valid.ensures
+    c.is_valid-2.ensures c.below.ensures.answer

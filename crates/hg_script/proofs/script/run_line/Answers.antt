@@ -13,11 +13,11 @@ returns-then-not-is_short-clause-stopped g c = (refl, over_limit _ _ _ c.is_shor
 pub returns-in_err-words-clause-stopped : goal.returns-in_err-words-clause-stopped
 returns-in_err-words-clause-stopped g c =
     let p = err_from_is_err_and c.from_residual.result c.from_residual.ensures.1 in
-    rw (p.1, p.2) (c.is_short.ensures.0 c.if-not-is_short.false)
+    rw (p.1, p.2) (c.is_short.ensures.0 c.if-not-is_short.false, inl c.in_err-words.ensures.memory)
 
 pub returns-in-Ok-None-clause-done : goal.returns-in-Ok-None-clause-done
 returns-in-Ok-None-clause-done g c =
-    let mapped = ap (map (λ (w : Word). w.now)) c.as_slice.ensures ∙ c.in_ok-words.ensures in
+    let mapped = ap (map (λ (w : Word). w.now)) c.as_slice.ensures ∙ c.in_ok-words.ensures.words in
     let none = rw c.in-Ok-None.field-0-is at c.in-Ok-None.ensures in (
       no_trace,
       [],
@@ -29,7 +29,7 @@ returns-in-Ok-None-clause-done g c =
 pub returns-clause-done : goal.returns-clause-done
 returns-clause-done g c =
     let short = c.is_short.ensures.0 c.if-not-is_short.false in
-    let mapped = ap (map (λ (w : Word). w.now)) c.as_slice.ensures ∙ c.in_ok-words.ensures in
+    let mapped = ap (map (λ (w : Word). w.now)) c.as_slice.ensures ∙ c.in_ok-words.ensures.words in
     let command = c.in-Ok-Some.command in
     let says = rw c.in-Ok-Some.field-0-is at c.in-Ok-Some.ensures in
     let d = c.in_ok-told.ensures.ok in (
@@ -45,7 +45,7 @@ returns-in-Err-clause-stopped g c =
     let has : HasWords c.args.line.now c.as_slice.result.now = (
       c.is_short.ensures.0 c.if-not-is_short.false,
       ap (map (λ (w : Word). w.now)) c.as_slice.ensures
-          ∙ c.in_ok-words.ensures,
+          ∙ c.in_ok-words.ensures.words,
     ) in
     (refl, words_fault _ _ c.as_slice.result.now _ has c.in-Err.ensures)
 
@@ -55,8 +55,13 @@ returns-in_err-told-clause-stopped g c =
     let has : HasWords c.args.line.now c.as_slice.result.now = (
       c.is_short.ensures.0 c.if-not-is_short.false,
       ap (map (λ (w : Word). w.now)) c.as_slice.ensures
-          ∙ c.in_ok-words.ensures,
+          ∙ c.in_ok-words.ensures.words,
     ) in
     let says : Says c.args.line.now c.in-Ok-Some.command =
     (c.as_slice.result.now, has, rw c.in-Ok-Some.field-0-is at c.in-Ok-Some.ensures) in
     rw (p.1, p.2) (command_ends _ _ _ c.in-Ok-Some.command _ says c.in_err-told.ensures.err.0)
+
+pub returns-in_err-told-clause-unprinted : goal.returns-in_err-told-clause-unprinted
+returns-in_err-told-clause-unprinted g c =
+    let p = err_from_is_err_and c.from_residual-in_err-told.result c.from_residual-in_err-told.ensures.1 in
+    rw (p.1, p.2) c.in_err-told.ensures.unprinted

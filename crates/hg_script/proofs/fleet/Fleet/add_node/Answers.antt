@@ -7,7 +7,7 @@ use Rattle.hg_script.proofs.fleet.Fleet.add_node.Goals as goal
 
 pub returns-then-is_some-clause-err : goal.returns-then-is_some-clause-err
 returns-then-is_some-clause-err c = (
-  (refl, ap (λ (o : Option ℕ). is_some o) (sym c.bound.ensures) ∙ sym c.is_some.ensures ∙ c.if-is_some.true),
+  ap (λ (o : Option ℕ). is_some o) (sym c.bound.ensures) ∙ sym c.is_some.ensures ∙ c.if-is_some.true,
   (no_trace, refl),
 )
 
@@ -21,5 +21,8 @@ returns-clause-ok c =
     let old = c.args.self.now in
     let taken = unbound c.bound.result (sym c.is_some.ensures ∙ c.if-is_some.false) in
     let binds = subst (λ (n : ℕ). Binds old.nodes c.args.at.now n c.bind.new.names) c.len-place.ensures.len
-    c.in_ok-bind.ensures in
-    record { asked = refl; ran = refl; told = tt; named = (sym c.bound.ensures ∙ taken, binds, refl, refl) }
+    c.in_ok-bind.ensures in (
+      no_trace,
+      refl,
+      record { asked = refl; ran = refl; told = tt; named = (sym c.bound.ensures ∙ taken, binds, refl, refl) },
+    )

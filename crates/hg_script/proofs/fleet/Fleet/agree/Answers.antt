@@ -1,6 +1,7 @@
 use Rattle.std.proofs.Common.{Some, IsTrue, ◌↔◌, subst}
 use Rattle.hg_replica.specs.State.{ReplicaState, IsSameState}
-use Rattle.hg_script.proofs.EndingLemmas.{node_from_place}
+use Rattle.std.proofs.lemmas.Result.{err_from_is_err_and}
+use Rattle.hg_script.proofs.EndingLemmas.{node_from_place, stays_printed}
 use Rattle.hg_script.proofs.ScriptLemmas.{agreed}
 use Rattle.hg_script.proofs.fleet.Fleet.agree.Goals as goal
 
@@ -16,5 +17,10 @@ returns-clause-ok g c =
     c.replica-2.ensures.replica
     (subst (λ (t : ReplicaState). IsTrue answer ↔ IsSameState t c.replica-2.result.now) c.replica.ensures.replica
     c.in_ok-answer.ensures) in
-    agreed c.args.number self c.args.one c.args.other c.in_ok-first.first.now c.in_ok-second.second.now answer _ _ one
+    agreed self c.args.one c.args.other c.in_ok-first.first.now c.in_ok-second.second.now answer _ _ one
     other same c.in_ok-print_agreement.ensures.printed
+
+pub returns-in_err-print_agreement-clause-unprinted : goal.returns-in_err-print_agreement-clause-unprinted
+returns-in_err-print_agreement-clause-unprinted g c =
+    let p = err_from_is_err_and c.from_residual-in_err-print_agreement.result c.from_residual-in_err-print_agreement.ensures.1 in
+    rw (p.1, p.2) (stays_printed _ _ _ c.in_err-print_agreement.ensures.err)

@@ -14,7 +14,7 @@ pub returns-then-not-are_free-clause-err : goal.returns-then-not-are_free-clause
 returns-then-not-are_free-clause-err c =
     let d = subst (λ (o : Option PartValue). IsDecided c.args.kept.now c.args.op.now o) c.in-Some.is
     c.in_ok-made.ensures.ok in
-    taken_made c.args.number (ids c.args.self.now) c.args.labels.now c.args.kept.now c.args.op.now c.in-Some.part
+    taken_made (ids c.args.self.now) c.args.labels.now c.args.kept.now c.args.op.now c.in-Some.part
     c.in_ok-are_distinct.are_distinct c.in_ok-are_distinct.ensures d
     (sym c.are_free.ensures ∙ c.if-not-are_free.true)
 

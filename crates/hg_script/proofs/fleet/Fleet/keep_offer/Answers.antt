@@ -2,51 +2,51 @@ use Rattle.std.proofs.Common.{refl, sym, ap, ◌∙◌, ℕ, Option, is_some, in
 use Rattle.std.proofs.lemmas.Result.{err_from_is_err_and}
 use Rattle.hg_world.specs.declared.event.Event.TheVariants.{Offer}
 use Rattle.hg_script.specs.declared.command.Command.TheVariants as command
-use Rattle.hg_script.specs.Events.{asking, no_trace}
-use Rattle.hg_script.specs.Printing.{answer_line}
+use Rattle.hg_fleet.specs.Pulls.{asking}
+use Rattle.hg_script.specs.Events.{no_trace}
 use Rattle.hg_script.proofs.EndingLemmas.{unknown_fault, no_place, fault_of_command, offer_nowhere}
 use Rattle.hg_script.proofs.NameLemmas.{unbound}
-use Rattle.hg_script.proofs.ScriptLemmas.{one, one_line, ran_after}
+use Rattle.hg_script.proofs.ScriptLemmas.{one, ran_after}
 use Rattle.hg_script.proofs.fleet.Fleet.keep_offer.Goals as goal
 
 pub returns-in_err-common-clause-err : goal.returns-in_err-common-clause-err
-returns-in_err-common-clause-err g c =
+returns-in_err-common-clause-err c =
     let p = err_from_is_err_and c.from_residual.result c.from_residual.ensures.1 in
     rw (p.1, p.2) (
-      fault_of_command _ _ c.args.self.now (command.Offer c.args.scope c.args.at c.args.message c.args.labels) _
+      fault_of_command _ c.args.self.now (command.Offer c.args.scope c.args.at c.args.message c.args.labels) _
           (λ h. inr h) c.in_err-common.ensures.err,
       (no_trace, refl),
     )
 
 pub returns-in_err-place-clause-err : goal.returns-in_err-place-clause-err
-returns-in_err-place-clause-err g c =
+returns-in_err-place-clause-err c =
     let p = err_from_is_err_and c.from_residual-in_err-place.result c.from_residual-in_err-place.ensures.1 in
     let missing = no_place c.args.self.now _ c.in_err-place.ensures.err.1 in
     rw (p.1, p.2) (
-      unknown_fault _ c.args.self.now (command.Offer c.args.scope c.args.at c.args.message c.args.labels) _
+      unknown_fault c.args.self.now (command.Offer c.args.scope c.args.at c.args.message c.args.labels) _
           c.in_err-place.ensures.err.0 (inl missing),
       (no_trace, refl),
     )
 
 pub returns-then-is_some-clause-err : goal.returns-then-is_some-clause-err
-returns-then-is_some-clause-err g c =
+returns-then-is_some-clause-err c =
     let placed = ap (λ (o : Option ℕ). is_some o) c.in_ok-place.ensures.ok in
     let bound = ap (λ (o : Option ℕ). is_some o) (sym c.bound.ensures) ∙ sym c.is_some.ensures ∙ c.if-is_some.true in
-    ((refl, (placed, (c.in_ok-common.common.items, c.in_ok-common.ensures.ok), bound)), (no_trace, refl))
+    ((placed, (c.in_ok-common.common.items, c.in_ok-common.ensures.ok), bound), (no_trace, refl))
 
 pub returns-in_err-answer-clause-err : goal.returns-in_err-answer-clause-err
-returns-in_err-answer-clause-err g c =
+returns-in_err-answer-clause-err c =
     let p = err_from_is_err_and c.from_residual-in_err-answer.result c.from_residual-in_err-answer.ensures.1 in
     let leads = offer_nowhere c.args.self.now c.args.at c.in_ok-place.place
     (asking c.args.scope c.in_ok-common.common) c.in_ok-place.ensures.ok in
     rw (p.1, p.2) (
-      fault_of_command _ _ c.args.self.now (command.Offer c.args.scope c.args.at c.args.message c.args.labels) _
+      fault_of_command _ c.args.self.now (command.Offer c.args.scope c.args.at c.args.message c.args.labels) _
           (λ h. inl (leads h)) c.in_err-answer.ensures.fault,
       (no_trace, c.in_err-answer.ensures.unchanged),
     )
 
 pub returns-in_err-keep-clause-err : goal.returns-in_err-keep-clause-err
-returns-in_err-keep-clause-err g c =
+returns-in_err-keep-clause-err c =
     let p = err_from_is_err_and c.from_residual-in_err-keep.result c.from_residual-in_err-keep.ensures.1 in
     rw (p.1, p.2, c.in_err-keep.ensures.err) (
       tt,
@@ -55,10 +55,10 @@ returns-in_err-keep-clause-err g c =
     )
 
 pub returns-clause-ok : goal.returns-clause-ok
-returns-clause-ok g c =
+returns-clause-ok c =
     let h = c.in_ok-answer.ensures.happens in (
       one (Offer c.in_ok-place.place (asking c.args.scope c.in_ok-common.common)) c.in_ok-answer.answer h.0,
-      answer_line c.args.number c.in_ok-answer.answer,
+      refl,
       record {
         asked = (c.in_ok-place.place, c.in_ok-common.common, c.in_ok-place.ensures.ok, c.in_ok-common.ensures.ok, refl);
         ran = (c.run_event.new.world, h.1, refl);
@@ -70,6 +70,4 @@ returns-clause-ok g c =
           c.in_ok-keep.ensures.ok,
         );
       },
-      one_line c.args.number c.in_ok-answer.answer,
-      c.in_ok-answer.ensures.printed,
     )

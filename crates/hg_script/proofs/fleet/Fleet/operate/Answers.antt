@@ -4,43 +4,42 @@ use Rattle.hg_world.specs.declared.event.Event.TheVariants.{Local}
 use Rattle.hg_script.specs.declared.command.Command.TheVariants as command
 use Rattle.hg_script.specs.Events.{no_trace, brought}
 use Rattle.hg_script.specs.Commands.{Text, Word}
-use Rattle.hg_script.specs.Printing.{answer_line}
 use Rattle.hg_script.specs.Scripts.{AreLabelled, ids, may_be_bound}
 use Rattle.hg_script.proofs.EndingLemmas.{fault_of_command, free_brought, local_nowhere, no_place, node_fault}
 use Rattle.hg_script.proofs.EndingLemmas.{node_from_place, taken_fault, unknown_fault}
-use Rattle.hg_script.proofs.ScriptLemmas.{one, one_line, ran_after}
+use Rattle.hg_script.proofs.ScriptLemmas.{one, ran_after}
 use Rattle.hg_script.proofs.fleet.Fleet.operate.Goals as goal
 
 pub returns-in_err-op-clause-err : goal.returns-in_err-op-clause-err
-returns-in_err-op-clause-err g c =
+returns-in_err-op-clause-err c =
     let p = err_from_is_err_and c.from_residual.result c.from_residual.ensures.1 in
     rw (p.1, p.2) (
-      fault_of_command _ _ c.args.self.now (command.Operation c.args.at c.args.operation) _ (λ h. inr h)
+      fault_of_command _ c.args.self.now (command.Operation c.args.at c.args.operation) _ (λ h. inr h)
           c.in_err-op.ensures.err,
       (no_trace, refl),
     )
 
 pub returns-in_err-place-clause-err : goal.returns-in_err-place-clause-err
-returns-in_err-place-clause-err g c =
+returns-in_err-place-clause-err c =
     let p = err_from_is_err_and c.from_residual-in_err-place.result c.from_residual-in_err-place.ensures.1 in
     let missing = no_place c.args.self.now _ c.in_err-place.ensures.err.1 in
     rw (p.1, p.2) (
-      unknown_fault _ c.args.self.now (command.Operation c.args.at c.args.operation) _ c.in_err-place.ensures.err.0
+      unknown_fault c.args.self.now (command.Operation c.args.at c.args.operation) _ c.in_err-place.ensures.err.0
           (inl missing),
       (no_trace, refl),
     )
 
 pub returns-in_err-kept-clause-err : goal.returns-in_err-kept-clause-err
-returns-in_err-kept-clause-err g c =
+returns-in_err-kept-clause-err c =
     let p = err_from_is_err_and c.from_residual-in_err-kept.result c.from_residual-in_err-kept.ensures.1 in
     rw (p.1, p.2) (
-      node_fault _ c.args.self.now (command.Operation c.args.at c.args.operation) c.args.at.now _ _
+      node_fault c.args.self.now (command.Operation c.args.at c.args.operation) c.args.at.now _ _
           c.in_ok-place.ensures.ok (λ none. inl none) c.in_err-kept.ensures.err,
       (no_trace, refl),
     )
 
 pub returns-in_err-check_labels-clause-err : goal.returns-in_err-check_labels-clause-err
-returns-in_err-check_labels-clause-err g c =
+returns-in_err-check_labels-clause-err c =
     let p = err_from_is_err_and c.from_residual-in_err-check_labels.result
     c.from_residual-in_err-check_labels.ensures.1 in
     let self = c.args.self.now in
@@ -48,29 +47,29 @@ returns-in_err-check_labels-clause-err g c =
     let held = node_from_place self c.args.at.now c.in_ok-place.place (Some c.in_ok-kept.kept.now)
     c.in_ok-place.ensures.ok c.in_ok-kept.ensures.ok in
     rw (p.1, p.2) (
-      taken_fault _ self c.args.at c.args.operation _ _ _ _ labels c.in_ok-op.ensures.ok held
+      taken_fault self c.args.at c.args.operation _ _ _ _ labels c.in_ok-op.ensures.ok held
           c.in_err-check_labels.ensures.err,
       (no_trace, refl),
     )
 
 pub returns-in_err-answer-clause-err : goal.returns-in_err-answer-clause-err
-returns-in_err-answer-clause-err g c =
+returns-in_err-answer-clause-err c =
     let p = err_from_is_err_and c.from_residual-in_err-answer.result c.from_residual-in_err-answer.ensures.1 in
     let leads = local_nowhere c.args.self.now c.args.at c.in_ok-place.place c.in_ok-op.op c.in_ok-place.ensures.ok in
     rw (p.1, p.2) (
-      fault_of_command _ _ c.args.self.now (command.Operation c.args.at c.args.operation) _ (λ h. inl (leads h))
+      fault_of_command _ c.args.self.now (command.Operation c.args.at c.args.operation) _ (λ h. inl (leads h))
           c.in_err-answer.ensures.fault,
       (no_trace, c.in_err-answer.ensures.unchanged),
     )
 
 pub returns-in_err-label-clause-err : goal.returns-in_err-label-clause-err
-returns-in_err-label-clause-err g c =
+returns-in_err-label-clause-err c =
     let p = err_from_is_err_and c.from_residual-in_err-label.result c.from_residual-in_err-label.ensures.1 in
     rw (p.1, p.2, c.in_err-label.ensures.err)
     (tt, ran_after _ _ _ (Local c.in_ok-place.place c.in_ok-op.op) _ c.in_ok-answer.ensures.happens refl)
 
 pub returns-clause-ok : goal.returns-clause-ok
-returns-clause-ok g c =
+returns-clause-ok c =
     let self = c.args.self.now in
     let place = c.in_ok-place.place in
     let op = c.in_ok-op.op in
@@ -81,7 +80,7 @@ returns-clause-ok g c =
     self.world place op answer h.0 c.run_event.new.world c.in_ok-kept.ensures.ok
     c.in_ok-check_labels.ensures.free h.1 in (
       one (Local place op) answer h.0,
-      answer_line c.args.number answer,
+      refl,
       record {
         asked = (place, op, c.in_ok-place.ensures.ok, c.in_ok-op.ensures.ok, refl);
         ran = (c.run_event.new.world, h.1, refl);
@@ -94,6 +93,4 @@ returns-clause-ok g c =
           refl,
         );
       },
-      one_line c.args.number answer,
-      c.in_ok-answer.ensures.printed,
     )

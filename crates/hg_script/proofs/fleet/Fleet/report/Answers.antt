@@ -1,5 +1,6 @@
 use Rattle.std.proofs.Common.{Some}
-use Rattle.hg_script.proofs.EndingLemmas.{node_from_place}
+use Rattle.std.proofs.lemmas.Result.{err_from_is_err_and}
+use Rattle.hg_script.proofs.EndingLemmas.{node_from_place, stays_printed}
 use Rattle.hg_script.proofs.ScriptLemmas.{reported}
 use Rattle.hg_script.proofs.fleet.Fleet.report.Goals as goal
 
@@ -8,4 +9,9 @@ returns-clause-ok g c =
     let self = c.args.self.now in
     let held = node_from_place self c.args.at.now _ (Some c.in_ok-kept.kept.now) c.in_ok-place.ensures.ok
     c.in_ok-kept.ensures.ok in
-    reported c.args.number self c.args.at c.in_ok-kept.kept.now _ _ held c.in_ok-print_report.ensures.printed
+    reported self c.args.at c.in_ok-kept.kept.now _ _ held c.in_ok-print_report.ensures.printed
+
+pub returns-in_err-print_report-clause-unprinted : goal.returns-in_err-print_report-clause-unprinted
+returns-in_err-print_report-clause-unprinted g c =
+    let p = err_from_is_err_and c.from_residual-in_err-print_report.result c.from_residual-in_err-print_report.ensures.1 in
+    rw (p.1, p.2) (stays_printed _ _ _ c.in_err-print_report.ensures.err)

@@ -2,47 +2,44 @@ use Rattle.std.proofs.Common.{refl, sym, ◌∙◌, inl, inr}
 use Rattle.std.proofs.lemmas.Result.{err_from_is_err_and}
 use Rattle.hg_script.specs.declared.command.Command.TheVariants as command
 use Rattle.hg_script.specs.Events.{no_trace}
-use Rattle.hg_script.specs.Printing.{answer_line}
 use Rattle.hg_script.proofs.EndingLemmas.{fault_of_command, unknown_fault, no_place, no_message, take_nowhere}
-use Rattle.hg_script.proofs.ScriptLemmas.{one, one_line}
+use Rattle.hg_script.proofs.ScriptLemmas.{one}
 use Rattle.hg_script.proofs.fleet.Fleet.take.Goals as goal
 
 pub returns-in_err-at-clause-err : goal.returns-in_err-at-clause-err
-returns-in_err-at-clause-err g c =
+returns-in_err-at-clause-err c =
     let p = err_from_is_err_and c.from_residual.result c.from_residual.ensures.1 in
     let missing = no_place c.args.self.now _ c.in_err-at.ensures.err.1 in
     rw (p.1, p.2) (
-      unknown_fault _ c.args.self.now (command.Take c.args.at c.args.message) _ c.in_err-at.ensures.err.0
+      unknown_fault c.args.self.now (command.Take c.args.at c.args.message) _ c.in_err-at.ensures.err.0
           (inl missing),
       (no_trace, refl),
     )
 
 pub returns-in-None-clause-err : goal.returns-in-None-clause-err
-returns-in-None-clause-err g c =
-    ((refl, inr (no_message c.args.self.now _ (sym c.bound.ensures ∙ c.in-None.is))), (no_trace, refl))
+returns-in-None-clause-err c =
+    (inr (no_message c.args.self.now _ (sym c.bound.ensures ∙ c.in-None.is)), (no_trace, refl))
 
 pub returns-in_err-answer-clause-err : goal.returns-in_err-answer-clause-err
-returns-in_err-answer-clause-err g c =
+returns-in_err-answer-clause-err c =
     let p = err_from_is_err_and c.from_residual-in_err-answer.result c.from_residual-in_err-answer.ensures.1 in
     let leads = take_nowhere c.args.self.now c.args.at c.args.message c.in_ok-at.at c.in-Some.message
     c.in_ok-at.ensures.ok (sym c.bound.ensures ∙ c.in-Some.is) in
     rw (p.1, p.2) (
-      fault_of_command _ _ c.args.self.now (command.Take c.args.at c.args.message) _ leads
+      fault_of_command _ c.args.self.now (command.Take c.args.at c.args.message) _ leads
           c.in_err-answer.ensures.fault,
       (no_trace, c.in_err-answer.ensures.unchanged),
     )
 
 pub returns-clause-ok : goal.returns-clause-ok
-returns-clause-ok g c =
+returns-clause-ok c =
     let h = c.in_ok-answer.ensures.happens in (
       one _ _ h.0,
-      answer_line c.args.number c.in_ok-answer.answer,
+      refl,
       record {
         asked = (c.in_ok-at.at, c.in-Some.message, c.in_ok-at.ensures.ok, sym c.bound.ensures ∙ c.in-Some.is, refl);
         ran = (c.run_event.new.world, h.1, refl);
         told = (c.in_ok-answer.ensures.told, tt);
         named = (refl, refl, refl);
       },
-      one_line c.args.number c.in_ok-answer.answer,
-      c.in_ok-answer.ensures.printed,
     )

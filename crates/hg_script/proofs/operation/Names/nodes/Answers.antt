@@ -14,5 +14,5 @@ returns-in_err-node-clause-err c =
     let p = err_from_is_err_and c.from_residual.result c.from_residual.ensures.1 in
     let names = labelled c.args.self.now.labels.now in
     rw (p.1, p.2)
-    (unknown_where _ _ _ _ (unknown_at names c.args.labels.now c.loop-label.label-index _ c.loop-label-test.true)
+    (unknown_where _ _ _ (unknown_at names c.args.labels.now c.loop-label.label-index _ c.loop-label-test.true)
     c.in_err-node.ensures.err)

@@ -1,5 +1,5 @@
-use Rattle.hg_script.proofs.PeerLemmas.{true_run}
-use Rattle.hg_script.proofs.peers.Peers.run_one.Goals as goal
+use Rattle.hg_fleet.proofs.PairLemmas.{true_run}
+use Rattle.hg_fleet.proofs.fleet.Fleet.run_one.Goals as goal
 
 pub invariant_of-self : goal.invariant_of-self
 invariant_of-self c = true_run (λ answer. answer) c.self.inside.world c.args.event.now c.run_one.new.self

@@ -1,8 +1,8 @@
 use Rattle.std.proofs.Common.{Some, inl, inr, sym, ap, subst}
 use Rattle.std.specs.BTreeMap.{Updates}
-use Rattle.hg_script.specs.Peers.{Pairs, pair_cmp}
-use Rattle.hg_script.proofs.peers.in_common.Goals as goal
-use Rattle.hg_script.proofs.peers.in_common.Goals.{then-ne+in_ok-insert, else-ne}
+use Rattle.hg_fleet.specs.Pairs.{Pairs, pair_cmp}
+use Rattle.hg_fleet.proofs.fleet.in_common.Goals as goal
+use Rattle.hg_fleet.proofs.fleet.in_common.Goals.{then-ne+in_ok-insert, else-ne}
 
 pub heads_in_common_compared-requires : goal.heads_in_common_compared-requires
 heads_in_common_compared-requires c = c.noted-before.ensures c.args.asker.now c.args.other.now c.requires

@@ -27,8 +27,8 @@ use Rattle.hg_peer.specs.Words.{peer_state, peer_words}
 use Rattle.hg_discovery.specs.declared.compared.Compared.{Compared}
 use Rattle.hg_discovery.specs.Compared.{WereCompared}
 use Rattle.hg_discovery.proofs.ComparedLemmas.{compared-longer}
-use Rattle.hg_script.specs.Events.{PeerEvent, PeerAnswer}
-use Rattle.hg_script.specs.Peers.{Pair, Pairs, AreTruePairs, IsNoted, pair_cmp}
+use Rattle.hg_peer.specs.Words.{PeerEvent, PeerAnswer}
+use Rattle.hg_fleet.specs.Pairs.{Pair, Pairs, AreTruePairs, IsNoted, pair_cmp}
 
 -- ---- replicas only grow
 

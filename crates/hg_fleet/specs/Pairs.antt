@@ -1,4 +1,4 @@
--- What is noted of the peers of a script: how far each two of them were compared.
+-- What is noted of the peers of a fleet: how far each two of them were compared.
 use Rattle.std.specs.Prelude.{◌≡◌, ◌⊎◌, ℕ, Some, slice_get}
 use Rattle.std.specs.BTreeMap.{BTreeMap, Updates, get}
 use Rattle.std.specs.Ordering.{nat_cmp, ordering_then}

@@ -1,0 +1,17 @@
+use Rattle.std.proofs.Common.{refl}
+use Rattle.hg_fleet.proofs.PullLemmas.{takes, takes_nothing}
+use Rattle.hg_fleet.proofs.fleet.Fleet.take_offered.Goals as goal
+
+pub returns-in-Accepted : goal.returns-in-Accepted
+returns-in-Accepted c = takes_nothing _ _ _ (rw c.in-Accepted.is refl)
+
+pub returns-in-Marked : goal.returns-in-Marked
+returns-in-Marked c = takes_nothing _ _ _ (rw c.in-Marked.is refl)
+
+pub returns-in-Refused : goal.returns-in-Refused
+returns-in-Refused c = takes_nothing _ _ _ (rw c.in-Refused.is refl)
+
+pub returns-in-Ok : goal.returns-in-Ok
+returns-in-Ok c =
+    takes c.args.self.now c.args.taker c.in-Offered.message c.args.offered.now c.in-Ok.answer c.run_one.new.self
+    c.in-Offered.is c.in-Ok.ensures.happens

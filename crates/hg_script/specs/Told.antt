@@ -1,0 +1,50 @@
+-- What a command was answered, and what it shows beside that.
+use Rattle.std.specs.Prelude.{◌≡◌, ◌↔◌, List, [], ◌∷◌, Option, Some, Bool, IsTrue}
+use Rattle.hg_replica.specs.State.{IsSameState}
+use Rattle.hg_view.specs.Kept.{KeptValue}
+use Rattle.hg_fleet.specs.Pulls.{answers_of}
+use Rattle.hg_script.specs.declared.command.Command.{Command}
+use Rattle.hg_script.specs.declared.command.Command.TheVariants as command
+use Rattle.hg_script.specs.declared.command_fault.CommandFault.{CommandFault}
+use Rattle.hg_script.specs.declared.fleet.Fleet.{Fleet}
+use Rattle.hg_script.specs.declared.told.Told.{Told}
+use Rattle.hg_script.specs.declared.told.Told.TheVariants.{Nothing, Event, Taken, Pulled}
+use Rattle.hg_script.specs.Commands.{Text}
+use Rattle.hg_script.specs.Endings.{IsFaultOf}
+use Rattle.hg_script.specs.Events.{Trace, PeerAnswer, Ran}
+use Rattle.hg_script.specs.Outputs.{Printed}
+use Rattle.hg_script.specs.Printing.{agree_line}
+use Rattle.hg_script.specs.Reports.{IsReport}
+use Rattle.hg_script.specs.Scripts.{Does, node_named}
+
+-- the answers to the events of a line
+abbrev pub told_answers : Told → List PeerAnswer
+told_answers Nothing = []
+told_answers (Event at answer) = answer ∷ []
+told_answers (Taken at message answer) = answer ∷ []
+told_answers (Pulled at pulled) = answers_of pulled
+
+-- what a command shows that asks for no event: a report, or whether two replicas are in the same state
+abbrev pub Shows : Fleet → Command → Trace → Text → Type 0
+Shows f (command.Report at) t text =
+    (t.answers ≡ []) × ((state : KeptValue) × (node_named f at.now ≡ Some state) × IsReport at.now state text)
+Shows f (command.Agree one other) t text =
+    (t.answers ≡ [])
+    × ((first : KeptValue) × (second : KeptValue) × (answer : Bool) × (node_named f one.now ≡ Some first)
+    × (node_named f other.now ≡ Some second) × (IsTrue answer ↔ IsSameState first.replica second.replica)
+    × (text ≡ agree_line one.now other.now answer))
+Shows f _ t text = text ≡ []
+
+-- the command is done and was answered so
+abbrev pub IsAskedOf : Fleet → Command → Told → Fleet → Type 0
+IsAskedOf old command told new = (t : Trace) × (told_answers told ≡ t.answers) × Does old command t new
+
+-- the same, and what the writer holds grew by what it shows
+abbrev pub IsAnswered : Fleet → Command → Told → Fleet → Option Text → Option Text → Type 0
+IsAnswered old command told new held holds =
+    (t : Trace) × (text : Text) × (told_answers told ≡ t.answers) × Does old command t new × Shows old command t text
+    × Printed held text holds
+
+-- the command ended so, and what the world did until then is a run
+abbrev pub IsEndedBy : Fleet → Command → CommandFault → Fleet → Type 0
+IsEndedBy old command fault new = IsFaultOf old command fault × ((t : Trace) × Ran old.world t new.world)
