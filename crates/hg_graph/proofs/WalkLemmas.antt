@@ -1,6 +1,6 @@
 -- A walk down from some nodes.
-use Rattle.std.proofs.Common.{◌≡◌, ℕ, suc, ◌<◌, ◌≤◌, ◌+◌, Bool, true, List, [], ◌∷◌, ◌++◌, length, take, drop}
-use Rattle.std.proofs.Common.{get_or, slice_get, Option, Some, None, Contains, MatchOption, ◌↔◌, ◌⊎◌, inl, inr}
+use Rattle.std.proofs.Common.{◌≡◌, ◌≢◌, ℕ, suc, ◌<◌, ◌≤◌, ◌+◌, Bool, true, List, [], ◌∷◌, ◌++◌, length, take, drop}
+use Rattle.std.proofs.Common.{get_or, slice_get, Some, Contains, ◌↔◌, ◌⊎◌, inl, inr}
 use Rattle.std.proofs.Common.{refl, sym, ap, subst, ◌∙◌, arith, filter, cond, true≢false}
 use Rattle.std.specs.List.{IsDistinct, list_any}
 use Rattle.std.specs.Cmp.{IsTotalOrder, Equal-is, nat_cmp_is}
@@ -8,27 +8,28 @@ use Rattle.std.specs.Ordering.{nat_cmp}
 use Rattle.std.specs.declared.cmp.Ordering.{Ordering}
 use Rattle.std.specs.declared.cmp.Ordering.TheVariants.{Less, Equal, Greater}
 use Rattle.std.specs.BTreeMap.{is_at}
-use Rattle.std.specs.BTreeSet.{BTreeSet, Updates, contains}
+use Rattle.std.specs.BTreeSet.{BTreeSet, IsFromIterResult, Updates, contains}
 use Rattle.std.proofs.lemmas.Bool.{cases_lt, cases_order, cases_Bool}
+use Rattle.std.proofs.lemmas.Cmp.{eq_by_cmp_equiv}
 use Rattle.std.proofs.lemmas.List.{take_more, take-take, take-append-drop, length-take, length-map}
 use Rattle.std.proofs.lemmas.List.Elements.{Contains-push, Contains-push_cases, Contains-append_left, Contains-get_or}
 use Rattle.std.proofs.lemmas.Map.Lookups.{CmpEqualImpliesEq}
-use Rattle.std.proofs.lemmas.Map.Views.{btree_set_contains_iff, Contains-from_any, list_any-from_Contains}
-use Rattle.std.proofs.lemmas.Option.{slice_get_within, get_or_from_slice_get, none-some, same_Some}
+use Rattle.std.proofs.lemmas.Map.Views.{btree_set_contains_iff, Contains-from_any, list_any-from_Contains, tells_apart}
+use Rattle.std.proofs.lemmas.Option.{slice_get_within, get_or_from_slice_get, same_Some}
 use Rattle.hg_changeset.specs.declared.node.Node.{Node}
 use Rattle.hg_changeset.specs.Node.{node_eq}
 use Rattle.hg_changeset.specs.Contents.{Contents}
 use Rattle.hg_changeset.specs.Changeset.{node_of}
-use Rattle.hg_changeset.proofs.ListLemmas.{Contains-first, Contains-later, Contains-cons_cases}
+use Rattle.hg_changeset.proofs.ListLemmas.{Contains-first, Contains-later, Contains-cons_cases, Contains-taken}
 use Rattle.hg_changeset.proofs.NodeLemmas.{node_eq_laws, same_node}
 use Rattle.hg_graph.specs.Graph.{nodes, Holds, IsGraph, Reaches, IsDescendantOfOne, Selects}
 use Rattle.hg_graph.specs.Graph.Reaches.{itself, below}
 use Rattle.hg_graph.specs.Places.{IsAt, IsOnlyAt, IsParentPlace, IsPlaceOfOne}
-use Rattle.hg_graph.specs.Waiting.{Widens, IsFirst}
+use Rattle.hg_graph.specs.Waiting.{IsFirst}
 use Rattle.hg_graph.proofs.GraphLemmas.{Contains-from_place, place_from_Contains}
 use Rattle.hg_graph.proofs.PlaceLemmas.{same_place, IsAt-from, place_from_Holds, Holds-reached, Holds-reaching}
 use Rattle.hg_graph.proofs.PlaceLemmas.{parent_first}
-use Rattle.hg_graph.proofs.MarkLemmas.{other_node, taken_more}
+use Rattle.hg_graph.proofs.MarkLemmas.{other_node}
 
 -- ---- lists
 
@@ -126,6 +127,9 @@ Selects-part cs P found graph part same = (
 
 -- ---- sets
 
+pub along : {A B C : Type 0} → A ↔ B → B ↔ C → A ↔ C
+along h k = (λ a. k.0 (h.0 a), λ c. h.1 (k.1 c))
+
 -- one key more
 pub inserted : {K : Type 0} {R : K → K → Ordering} (o : IsTotalOrder R) (exact : CmpEqualImpliesEq R) (s t : BTreeSet K)
     (k : K) → Updates R s t k true → (q : K) → Contains t.keys q ↔ (Contains s.keys q ⊎ (k ≡ q))
@@ -142,6 +146,15 @@ inserted {R = R} o exact s t k up q = (
     | inr same ↦ (btree_set_contains_iff o exact t q).0 (subst (λ p. contains R t p ≡ true) same up.1)
   ],
 )
+
+-- the set has what it was collected from
+pub collected : {K : Type 0} {R : K → K → Ordering} (o : IsTotalOrder R) (exact : CmpEqualImpliesEq R) (xs : List K)
+    (set : BTreeSet K) → IsFromIterResult R xs set → (k : K) → Contains set.keys k ↔ Contains xs k
+collected o exact xs set made k =
+    let iff = btree_set_contains_iff o exact set k in (
+      λ h. Contains-from_any (tells_apart exact) k xs (sym (made.0 k) ∙ iff.1 h),
+      λ h. iff.0 (made.0 k ∙ list_any-from_Contains (eq_by_cmp_equiv o) k xs h),
+    )
 
 -- no key in what is empty
 pub contains_none : {X : Type 0} (xs : List X) (x : X) → xs ≡ [] → Contains xs x → ⊥
@@ -163,34 +176,46 @@ taken_one xs i d x l =
       ]),
     )
 
--- the places of the nodes so far
-module _ (cs : List Contents) (ns : List Node) (i : ℕ) (d : Node) (l : i < length ns) (r : Option ℕ)
-    (told : MatchOption r (¬ (Holds cs (get_or ns i d))) (IsOnlyAt cs (get_or ns i d))) where
-  pub place_more : (old new : List ℕ) (place : ℕ) → r ≡ Some place → Widens (λ k. place ≡ k) old new
-      → ((k : ℕ) → Contains old k ↔ IsPlaceOfOne cs (take i ns) k) → (k : ℕ) → Contains new k
+-- a place was told of one of the nodes: it is held
+pub place_held : (cs : List Contents) (ns : List Node) (i : ℕ) (d : Node) → i < length ns → (place : ℕ)
+    → IsOnlyAt cs (get_or ns i d) place → (n : Node) × Contains ns n × Holds cs n
+place_held cs ns i d l place only =
+    let n = get_or ns i d in
+    (n, Contains-get_or ns i d l, Contains-from_place (nodes cs) place n ((only place).1 refl))
+
+-- the places of the nodes up to one more
+module _ (cs : List Contents) (ns : List Node) (i : ℕ) (x : Node) (l : i < length ns) (there : get_or ns i x ≡ x)
+    (found : List ℕ) (before : (k : ℕ) → Contains found k ↔ IsPlaceOfOne cs (take i ns) k) where
+  pub placed-push : (p : ℕ) → IsOnlyAt cs x p → (k : ℕ) → Contains (found ++ p ∷ []) k
       ↔ IsPlaceOfOne cs (take (i + 1) ns) k
-  place_more old new place r_is widens before k =
-      let more = taken_more cs ns i d l r told k in (
-        λ h. more.1 (elim ((widens k).0 h)
-            [ inl old ↦ inl ((before k).0 old) | inr e ↦ inr (r_is ∙ ap (λ j. Some j) e) ]),
-        λ h. (widens k).1
-            (elim (more.0 h) [ inl old ↦ inl ((before k).1 old) | inr e ↦ inr (same_Some place k (sym r_is ∙ e)) ]),
-      )
+  placed-push p only k = (
+    λ h. elim (Contains-push_cases found p k h) [
+      | inl old ↦ let b = (before k).0 old in (b.0, (Contains-taken ns i x b.0 l there).1 (inl b.1), b.2)
+      | inr e ↦ (x, (Contains-taken ns i x x l there).1 (inr refl), (only k).1 (sym e))
+    ],
+    λ h. elim ((Contains-taken ns i x h.0 l there).0 h.1) [
+      | inl old ↦ Contains-append_left found (p ∷ []) k ((before k).1 (h.0, old, h.2))
+      | inr e ↦ subst (Contains (found ++ p ∷ []))
+          (sym ((only k).0 (subst (λ (n : Node). IsAt cs n k) (sym e) h.2))) (Contains-push found p)
+    ],
+  )
 
-  pub place_none : r ≡ None → (old : List ℕ) → ((k : ℕ) → Contains old k ↔ IsPlaceOfOne cs (take i ns) k) → (k : ℕ)
-      → Contains old k ↔ IsPlaceOfOne cs (take (i + 1) ns) k
-  place_none r_is old before k =
-      let more = taken_more cs ns i d l r told k in (
-        λ h. more.1 (inl ((before k).0 h)),
-        λ h. elim (more.0 h) [ inl old ↦ (before k).1 old | inr e ↦ absurd (none-some k (sym r_is ∙ e)) ],
-      )
+  pub placed-skip : ¬ (Holds cs x) → (k : ℕ) → Contains found k ↔ IsPlaceOfOne cs (take (i + 1) ns) k
+  placed-skip not k = (
+    λ h. let b = (before k).0 h in (b.0, (Contains-taken ns i x b.0 l there).1 (inl b.1), b.2),
+    λ h. elim ((Contains-taken ns i x h.0 l there).0 h.1) [
+      | inl old ↦ (before k).1 (h.0, old, h.2)
+      | inr e ↦ absurd (not (subst (Holds cs) (sym e) (Contains-from_place _ k h.0 h.2)))
+    ],
+  )
 
-  -- a place was told: the node is held
-  pub place_held : (place : ℕ) → r ≡ Some place → (n : Node) × Contains ns n × Holds cs n
-  place_held place e =
-      let n = get_or ns i d in
-      let only : IsOnlyAt cs n place = subst (λ r. MatchOption r (¬ (Holds cs n)) (IsOnlyAt cs n)) e told in
-      (n, Contains-get_or ns i d l, Contains-from_place (nodes cs) place n ((only place).1 refl))
+-- one of the nodes has a place: it is held
+pub placed_one : (cs : List Contents) (ns : List Node) (places : List ℕ) → places ≢ []
+    → ((k : ℕ) → Contains places k ↔ IsPlaceOfOne cs ns k) → (n : Node) × Contains ns n × Holds cs n
+placed_one cs ns [] some all = absurd (some refl)
+placed_one cs ns (k ∷ ks) some all =
+    let first = (all k).0 (Contains-first k ks) in
+    (first.0, first.1, Contains-from_place (nodes cs) k first.0 first.2)
 
 pub less_from_cmp : (x y : ℕ) → nat_cmp x y ≡ Less → x < y
 less_from_cmp x y h = elim (cases_order x y) [

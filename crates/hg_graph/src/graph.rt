@@ -140,7 +140,8 @@ impl Graph {
         }
     }
 
-    /// Where the changeset with this id stands. The null id is answered without a look-up.
+    /// Where the changeset with this id stands. The null id is answered without a look-up, and so is what was added
+    /// last, which most is asked of.
     pub fn place(&self, node: Node) -> Option<usize>
         ensures place { MatchOption result (¬ (Holds self.now node)) (IsOnlyAt self.now node) }
         ensures graph { IsGraph self.now }
@@ -149,7 +150,22 @@ impl Graph {
         if node.is_null() {
             return None;
         }
+        if let Some(last) = self.last_place_of(node) {
+            return Some(last);
+        }
         changesets.get_index_of(&node)
+    }
+
+    // The last place, where the changeset with this id stands there.
+    #[inline(always)]
+    fn last_place_of(&self, node: Node) -> Option<usize>
+        ensures { IfSome result (IsOnlyAt self.now node) }
+    {
+        let last = self.len().checked_sub(1)?;
+        match self.node_at(last) {
+            Some(newest) if newest == node => Some(last),
+            _ => None,
+        }
     }
 
     /// The id of the changeset at a place.

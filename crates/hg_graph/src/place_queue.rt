@@ -2,7 +2,7 @@
 //!
 //! Each waits once. A parent's place is before its child's, so a walk to children that visits the first one next visits
 //! each place once, and so does a walk to parents that visits the last one next.
-ghost use Rattle.std.specs.Prelude.{◌≡◌, ◌↔◌, ◌<◌, ℕ, [], Some, length, Contains, IsTrue, OnOk};
+ghost use Rattle.std.specs.Prelude.{◌≡◌, ◌≢◌, ◌↔◌, ◌<◌, ℕ, [], Some, length, Contains, IsTrue, IfOk, OnOk, OnErr};
 ghost use Rattle.hg_graph.specs.Places.{IsParentPlace};
 ghost use Rattle.hg_graph.specs.Waiting.{Widens, TakesFirst, TakesLast, TakesAfter};
 
@@ -33,6 +33,18 @@ impl PlaceQueue {
         PlaceQueue {
             places: BTreeSet::new(alloc),
         }
+    }
+
+    /// These places wait. They are sorted at once, which costs less than to put in one by one.
+    pub fn of(alloc: Global, places: &[usize]) -> Result<PlaceQueue, AllocError>
+        ensures answer { IfOk result (λ queue. (k : ℕ) → Contains queue k ↔ Contains places.now k) }
+        ensures memory { OnErr result (places.now ≢ []) }
+    {
+        if places.is_empty() {
+            return Ok(PlaceQueue::new(alloc));
+        }
+        let places = places.iter().copied().collect(alloc)?;
+        Ok(PlaceQueue { places })
     }
 
     /// Whether no place waits.

@@ -21,7 +21,8 @@ impl Graph {
         // Memory is taken only where one of the nodes is held.
         ensures memory { OnErr result ((n : Node) × Contains nodes.now n × Holds self.now n) }
     {
-        let mut waiting = self.places_of(nodes)?;
+        let places = self.places_of(nodes)?;
+        let mut waiting = PlaceQueue::of(self.alloc(), &places)?;
         let mut found = Vec::new(self.alloc());
         while let Some(place) = waiting.pop_first() {
             if let Some(node) = self.node_at(place) {
@@ -32,15 +33,18 @@ impl Graph {
         Ok(found)
     }
 
-    // The places of those of the nodes that are held.
-    fn places_of(&self, nodes: &[Node]) -> Result<PlaceQueue, AllocError>
-        ensures answer { IfOk result (λ places. (k : ℕ) → Contains places k ↔ IsPlaceOfOne self.now nodes.now k) }
+    /// The places of those of the nodes that are held, in the order of the nodes.
+    pub fn places_of(&self, nodes: &[Node]) -> Result<Vec<usize>, AllocError>
+        ensures answer { IfOk result
+            (λ places. (k : ℕ) → Contains places.items k ↔ IsPlaceOfOne self.now nodes.now k) }
+
+        // Memory is taken only where one of the nodes is held.
         ensures memory { OnErr result ((n : Node) × Contains nodes.now n × Holds self.now n) }
     {
-        let mut places = PlaceQueue::new(self.alloc());
+        let mut places = Vec::new(self.alloc());
         for node in nodes {
             if let Some(place) = self.place(*node) {
-                places.insert(place)?;
+                places.push(place)?;
             }
         }
         Ok(places)

@@ -60,11 +60,14 @@ impl Entries {
         self.table.keys().as_slice()
     }
 
-    /// What is known of a node.
+    /// What is known of a node. What came last is found without a hash.
     pub fn find(&self, node: Node) -> Option<&Roles>
         ensures { option_copied result ≡ known self.now node }
     {
-        self.table.get(&node)
+        match self.table.last() {
+            Some((newest, roles)) if *newest == node => Some(roles),
+            _ => self.table.get(&node),
+        }
     }
 
     /// Puts the place last for the node in the role, where it doesn't stand last.

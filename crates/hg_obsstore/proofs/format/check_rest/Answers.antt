@@ -14,22 +14,15 @@ loop-rest-init c = (
 pub returns-in-Err : goal.returns-in-Err
 returns-in-Err c =
     let more : 0 < length c.loop-rest.rest.now = search rules in
-    breaks_off c.args.total c.loop-rest.invariant.1 c.loop-rest.invariant.0 c.loop-rest.rest.now c.in-Err.fault
-    (markers_at c.args.total (length c.args.bytes.now) c.args.bytes.now) more c.loop-rest.invariant.2
-    (left_err (placed_marker c.args.total c.loop-rest.rest.now) c.in-Err.fault c.in-Err.ensures.after)
-    c.loop-rest.invariant.3
+    breaks_off _ _ _ _ _ _ more c.loop-rest.invariant.2 (left_err _ _ c.in-Err.ensures.after) c.loop-rest.invariant.3
 
 pub loop-rest-preserved : goal.loop-rest-preserved
 loop-rest-preserved c =
-    let read = left_ok (placed_marker c.args.total c.loop-rest.rest.now) c.in-Ok.after.now c.in-Ok.ensures.after in
-    let more = goes_on c.args.total c.loop-rest.invariant.1 c.loop-rest.invariant.0 read.0 c.loop-rest.rest.now
-    c.in-Ok.after.now (markers_at c.args.total (length c.args.bytes.now) c.args.bytes.now) c.in-Ok.ensures.shorter
-    c.loop-rest.invariant.2 read.1 c.loop-rest.invariant.3 in
+    let read = left_ok _ _ c.in-Ok.ensures.after in
+    let more = goes_on _ _ _ _ _ _ _ c.in-Ok.ensures.shorter c.loop-rest.invariant.2 read.1 c.loop-rest.invariant.3 in
     (c.loop-rest.invariant.0 ++ read.0 ∷ [], more.0, more.1, more.2)
 
 pub returns : goal.returns
 returns c =
     let none : length c.loop-rest.rest.now ≡ 0 = search rules in
-    is_read (markers_at c.args.total (length c.args.bytes.now) c.args.bytes.now) c.loop-rest.invariant.0
-    (ends c.args.total c.loop-rest.invariant.1 c.loop-rest.invariant.0 c.loop-rest.rest.now
-    (markers_at c.args.total (length c.args.bytes.now) c.args.bytes.now) none c.loop-rest.invariant.3)
+    is_read _ _ (ends _ _ _ _ _ none c.loop-rest.invariant.3)

@@ -23,18 +23,17 @@ loop-place-preserved c =
       | in-Some w ↦
           let m = w.in-Some.marker.now in
           let more : picked ms (take (i + 1) places) ≡ so_far ++ m ∷ [] =
-          picked-some ms places i c.loop-place-test.true m (sym c.get.ensures ∙ ap option_copied w.in-Some.is) in
+          picked-some _ _ _ c.loop-place-test.true _ (sym c.get.ensures ∙ ap option_copied w.in-Some.is) in
           rw (w.total-is, more) (
             subst (IsLength w.add_len-total.result)
-                (ap (λ (n : ℕ). length (store_spelling so_far) + n) w.written_len.ensures.len
-                ∙ sym (length_push so_far m))
+                (ap (λ (n : ℕ). length (store_spelling so_far) + n) w.written_len.ensures.len ∙ sym (length_push _ _))
                 (w.add_len-total.ensures (length (store_spelling so_far)) c.loop-place.invariant.0),
-            all_next (λ (x : Fields). IsSpelling x (spelling x)) so_far m c.loop-place.invariant.1
-                (is_spelling m w.written_len.ensures.marker),
+            all_next _ _ _ c.loop-place.invariant.1
+                (is_spelling _ w.written_len.ensures.marker),
           )
       | in-None w ↦
           let same : picked ms (take (i + 1) places) ≡ so_far =
-          picked-none ms places i c.loop-place-test.true (sym c.get.ensures ∙ ap option_copied w.in-None.is) in
+          picked-none _ _ _ c.loop-place-test.true (sym c.get.ensures ∙ ap option_copied w.in-None.is) in
           rw (w.total-is, same) c.loop-place.invariant
     ]
 
@@ -42,6 +41,5 @@ pub returns-clause-spells : goal.returns-clause-spells
 returns-clause-spells c =
     let ms = c.args.store.now in
     let places = c.args.places.now in
-    written_spells (picked ms places)
-    (subst (λ (ps : List ℕ). AllByRecursion (λ (m : Fields). IsSpelling m (spelling m)) (picked ms ps))
+    written_spells _ (subst (λ (ps : List ℕ). AllByRecursion (λ (m : Fields). IsSpelling m (spelling m)) (picked ms ps))
     (take_all c.loop-place.place-index places c.loop-place-test.false) c.loop-place.invariant.1)

@@ -13,17 +13,12 @@ returns-clause-only c =
 
 pub returns-clause-found : goal.returns-clause-found
 returns-clause-found c =
-    found (λ v. v.items) (λ ms. IsStoreSpelling ms c.args.bytes.now) (IsStoreFault c.args.bytes.now)
-    c.read_version_and_markers.result _ c.read_version_and_markers.ensures.exact
-    (store_told c.args.bytes.now (λ i. omega (arith, c.type_inv.bytes i)))
+    found _ _ _ _ _ c.read_version_and_markers.ensures.exact (store_told _ (λ i. omega (arith, c.type_inv.bytes i)))
 
 pub returns-clause-fault : goal.returns-clause-fault
 returns-clause-fault c =
-    fault (λ v. v.items) (λ ms. IsStoreSpelling ms c.args.bytes.now) (IsStoreFault c.args.bytes.now)
-    c.read_version_and_markers.result _ c.read_version_and_markers.ensures.exact
-    (store_told c.args.bytes.now (λ i. omega (arith, c.type_inv.bytes i)))
+    fault _ _ _ _ _ c.read_version_and_markers.ensures.exact (store_told _ (λ i. omega (arith, c.type_inv.bytes i)))
 
 pub returns-clause-refused : goal.returns-clause-refused
 returns-clause-refused c =
-    λ f h. told_first (λ v. v.items) c.read_version_and_markers.result _ f c.read_version_and_markers.ensures.exact
-    (store_refused c.args.bytes.now f h)
+    λ f h. told_first _ _ _ _ c.read_version_and_markers.ensures.exact (store_refused _ _ h)

@@ -22,13 +22,11 @@ returns-in_err-markers c = record {
 pub returns-in-Ok : goal.returns-in-Ok
 returns-in-Ok c = record {
   only = λ ms h.
-      let same : ms ≡ c.in_ok-markers.markers.items =
-      ok_is ms c.in_ok-markers.markers.items (c.in_ok-markers.ensures.only ms h) in
+      let same : ms ≡ c.in_ok-markers.markers.items = ok_is _ _ (c.in_ok-markers.ensures.only ms h) in
       ap (λ xs. Ok xs) (ap (new_among []) same ∙ sym c.in-Ok.ensures.ok);
   again = λ ms different h.
-      let same : ms ≡ c.in_ok-markers.markers.items =
-      ok_is ms c.in_ok-markers.markers.items (c.in_ok-markers.ensures.only ms h) in
-      ap (λ xs. Ok xs) (sym (copied ms (IsDistinct-from_AllPairs fields_decides ms different)) ∙ ap (new_among []) same
+      let same : ms ≡ c.in_ok-markers.markers.items = ok_is _ _ (c.in_ok-markers.ensures.only ms h) in
+      ap (λ xs. Ok xs) (sym (copied _ (IsDistinct-from_AllPairs fields_decides _ different)) ∙ ap (new_among []) same
       ∙ sym c.in-Ok.ensures.ok);
   found = search rules;
   fault = search rules;
@@ -44,6 +42,5 @@ returns-in-Err c = record {
   fault = search rules;
   refused = search rules;
   memory =
-      λ _. store_longer c.in_ok-markers.markers.items c.args.bytes.now c.in_ok-markers.ensures.found
-      c.in-Err.ensures.err;
+      λ _. store_longer _ _ c.in_ok-markers.ensures.found c.in-Err.ensures.err;
 }

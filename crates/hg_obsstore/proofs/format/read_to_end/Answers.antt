@@ -10,10 +10,7 @@ loop-rest-preserved c =
       shorter,
       λ total.
           let so_far = c.loop-rest.invariant.1 total in
-          rw c.in_ok-push.ensures.items
-          (goes_on total so_far.0 c.loop-rest.markers.items c.in_ok-marker.marker c.loop-rest.rest.now
-          c.in_ok-marker.after.now (markers_at total (length c.args.bytes.now) c.args.bytes.now)
-          c.in_ok-marker.ensures.shorter so_far.1
+          rw c.in_ok-push.ensures.items (goes_on _ _ _ _ _ _ _ c.in_ok-marker.ensures.shorter so_far.1
           (ap (with_place (total - length c.loop-rest.rest.now)) c.in_ok-marker.ensures.marker) so_far.2),
     )
 
@@ -21,5 +18,4 @@ pub returns-clause-read : goal.returns-clause-read
 returns-clause-read c = λ total.
     let none : length c.loop-rest.rest.now ≡ 0 = search rules in
     let so_far = c.loop-rest.invariant.1 total in
-    ends total so_far.0 c.loop-rest.markers.items c.loop-rest.rest.now
-    (markers_at total (length c.args.bytes.now) c.args.bytes.now) none so_far.2
+    ends _ _ _ _ _ none so_far.2

@@ -24,13 +24,11 @@ loop-place-preserved c =
       | in-Some+in_ok-write_marker-in-Some w ↦
           let m = w.in-Some.marker.now in
           ap (λ v. v.items) w.out-is ∙ w.in_ok-write_marker-in-Some.ensures.written
-          ∙ ap (λ (bytes : List ℕ). bytes ++ spelling m) c.loop-place.invariant ∙ written_on before so_far m
-          ∙ ap onto (sym
-          (picked-some ms places i c.loop-place-test.true m (sym c.get.ensures ∙ ap option_copied w.in-Some.is)))
+          ∙ ap (λ (bytes : List ℕ). bytes ++ spelling m) c.loop-place.invariant ∙ written_on _ _ _ ∙ ap onto (sym
+          (picked-some _ _ _ c.loop-place-test.true _ (sym c.get.ensures ∙ ap option_copied w.in-Some.is)))
       | in-None w ↦
-          ap (λ v. v.items) w.out-is ∙ c.loop-place.invariant
-          ∙ ap onto (sym
-          (picked-none ms places i c.loop-place-test.true (sym c.get.ensures ∙ ap option_copied w.in-None.is)))
+          ap (λ v. v.items) w.out-is ∙ c.loop-place.invariant ∙ ap onto (sym
+          (picked-none _ _ _ c.loop-place-test.true (sym c.get.ensures ∙ ap option_copied w.in-None.is)))
     ]
 
 pub returns-in_err-write_marker-in-Some-clause-err : goal.returns-in_err-write_marker-in-Some-clause-err
@@ -38,9 +36,7 @@ returns-in_err-write_marker-in-Some-clause-err c =
     let ms = c.args.store.now in
     let places = c.args.places.now in
     let i = c.loop-place.place-index in
-    on_err_anyway c.from_residual-in_err-write_marker-in-Some.result _
-    (written_front c.args.out.now.items c.write_marker.new.out.items (picked ms (take i places))
-    (picked ms (drop i places)) (picked ms places)
+    on_err_anyway _ _ (written_front _ _ _ (picked ms (drop i places)) _
     (c.in_err-write_marker-in-Some.ensures.unchanged ∙ c.loop-place.invariant)
     (sym (filter_map-append (slice_get ms) (take i places) (drop i places))
     ∙ ap (picked ms) (take-append-drop i places)))

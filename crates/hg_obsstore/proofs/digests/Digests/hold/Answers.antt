@@ -22,12 +22,9 @@ returns-else-is_among-clause-sound c = λ h.
 
 pub returns-else-is_among-clause-complete : goal.returns-else-is_among-clause-complete
 returns-else-is_among-clause-complete c = λ i at there d.
-    let ms = c.args.markers.now in
-    let m = c.args.marker.now in
     let ps = c.args.places.now in
-    ⊎_elim
-    (λ (first : Contains (take few ps) i). absurd (false≢true
-    (sym c.if-is_among.false ∙ c.is_among-2.ensures ∙ among_complete ms m (take few ps) i at first)))
-    (λ (beyond : Contains (drop few ps) i). c.is_among-else-is_among.ensures ∙ among_complete ms m _ i at
+    ⊎_elim (λ (first : Contains (take few ps) i). absurd (false≢true
+    (sym c.if-is_among.false ∙ c.is_among-2.ensures ∙ among_complete _ _ _ _ at first)))
+    (λ (beyond : Contains (drop few ps) i). c.is_among-else-is_among.ensures ∙ among_complete _ _ _ _ at
     (subst (λ qs. Contains qs i) (sym (c.places.ensures ∙ ap (under c.args.self.now) c.digest_of.ensures)) (d beyond)))
-    (first_or_beyond ps i there)
+    (first_or_beyond _ _ there)

@@ -12,8 +12,7 @@ returns-in_err-put_last-in-Some-clause-kept c =
     let found : is_some (get_by (node_cmp c.args.digest) c.args.self.now.by_digest) ≡ true =
     ap is_some (sym c.in-Some.ensures.value) in
     let h = (c.get_mut.follows.holds c.put_last.new.self).3 found in
-    keeps c.args.self.now (record { by_digest = c.get_mut.follows.lender c.put_last.new.self }) c.args.digest
-    (Some c.put_last.new.self) h.1 h.2 c.args.place
+    keeps c.args.self.now (record { by_digest = c.get_mut.follows.lender c.put_last.new.self }) _ _ h.1 h.2 _
     (λ i other there. subst (λ ps. Contains ps i) (sym c.in_err-put_last-in-Some.ensures.err)
     (subst (λ o. Contains (found_places o) i) (sym c.in-Some.ensures.value) there))
 
@@ -31,16 +30,14 @@ returns-in_ok-put_last-in-Some-clause-kept c =
     let found : is_some (get_by (node_cmp c.args.digest) c.args.self.now.by_digest) ≡ true =
     ap is_some (sym c.in-Some.ensures.value) in
     let h = (c.get_mut.follows.holds c.put_last.new.self).3 found in
-    keeps c.args.self.now (record { by_digest = c.get_mut.follows.lender c.put_last.new.self }) c.args.digest
-    (Some c.put_last.new.self) h.1 h.2 c.args.place
+    keeps c.args.self.now (record { by_digest = c.get_mut.follows.lender c.put_last.new.self }) _ _ h.1 h.2 _
     (λ i other there. subst (λ ps. Contains ps i) (sym c.in_ok-put_last-in-Some.ensures.ok)
-    (with_last_keeps _ c.args.place i (subst (λ o. Contains (found_places o) i) (sym c.in-Some.ensures.value) there)))
+    (with_last_keeps _ _ _ (subst (λ o. Contains (found_places o) i) (sym c.in-Some.ensures.value) there)))
 
 pub returns-in_ok-insert-in-None-clause-kept : goal.returns-in_ok-insert-in-None-clause-kept
 returns-in_ok-insert-in-None-clause-kept c =
     let u = c.get_mut.follows.holds-at-none in
     let h = c.in_ok-insert-in-None.ensures.updates in
-    keeps c.args.self.now (record { by_digest = c.insert.new.self }) c.args.digest (Some (One c.args.place)) h.1
-    (λ q off. h.2 q off ∙ ap (λ m. get node_cmp m q) u) c.args.place
-    (λ i other there. let n : Contains [] i =
+    keeps c.args.self.now (record { by_digest = c.insert.new.self }) _ _ h.1
+    (λ q off. h.2 q off ∙ ap (λ m. get node_cmp m q) u) _ (λ i other there. let n : Contains [] i =
     subst (λ o. Contains (found_places o) i) (sym c.in-None.ensures.value) there in absurd (omega (arith, n.1)))

@@ -15,11 +15,9 @@ returns-then-is_empty-clause-kept c =
     let u = c.remove.ensures.updates in
     let none : length c.as_slice.result.now ≡ 0 =
     (unsigned_Decides (length c.as_slice.result.now) 0).0 (sym c.is_empty.ensures ∙ c.if-is_empty.true) in
-    keeps c.args.self.now (record { by_digest = c.remove.new.self }) c.args.digest None u.1
-    (λ q off. u.2 q off ∙ h.2 q off) c.args.place
+    keeps c.args.self.now (record { by_digest = c.remove.new.self }) _ _ u.1 (λ q off. u.2 q off ∙ h.2 q off) _
     (λ i other there. let kept : Contains c.as_slice.result.now i =
-    subst (λ ps. Contains ps i) (sym (c.as_slice.ensures ∙ c.take_last.ensures))
-    (without_last_keeps _ c.args.place i other
+    subst (λ ps. Contains ps i) (sym (c.as_slice.ensures ∙ c.take_last.ensures)) (without_last_keeps _ _ _ other
     (subst (λ o. Contains (found_places o) i) (sym c.in-Some.ensures.value) there)) in
     absurd (omega (arith, kept.1, none)))
 
@@ -28,10 +26,8 @@ returns-else-is_empty-clause-kept c =
     let found : is_some (get_by (node_cmp c.args.digest) c.args.self.now.by_digest) ≡ true =
     ap is_some (sym c.in-Some.ensures.value) in
     let h = (c.get_mut.follows.holds c.take_last.new.self).3 found in
-    keeps c.args.self.now (record { by_digest = c.get_mut.follows.lender c.take_last.new.self }) c.args.digest
-    (Some c.take_last.new.self) h.1 h.2 c.args.place
-    (λ i other there. subst (λ ps. Contains ps i) (sym c.take_last.ensures)
-    (without_last_keeps _ c.args.place i other
+    keeps c.args.self.now (record { by_digest = c.get_mut.follows.lender c.take_last.new.self }) _ _ h.1 h.2 _
+    (λ i other there. subst (λ ps. Contains ps i) (sym c.take_last.ensures) (without_last_keeps _ _ _ other
     (subst (λ o. Contains (found_places o) i) (sym c.in-Some.ensures.value) there)))
 
 pub returns-in-None-clause-taken : goal.returns-in-None-clause-taken

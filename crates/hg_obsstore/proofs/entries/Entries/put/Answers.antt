@@ -12,15 +12,13 @@ pub invariant_of-self-in_err-put-in-Some : goal.invariant_of-self-in_err-put-in-
 invariant_of-self-in_err-put-in-Some c =
     let m = c.self.inside.table in
     let there = sym c.in_ok-number.ensures.old ∙ c.in-Some.is in (
-      unique_at c.insert_full.new.self c.in_ok-number.number c.args.node c.insert_full.ensures.unique
-          c.put-put.new.self,
-      placed (record { entries = m.entries }) _ c.args.node (Some c.put-put.new.self)
-          (sets_again m c.insert_full.new.self c.in_ok-number.number c.args.node c.one.result c.put-put.new.self
-          c.index_mut.result.now c.in_ok-number.ensures.updates c.insert_full.ensures.unique
+      unique_at c.insert_full.new.self _ c.args.node c.insert_full.ensures.unique
+          _,
+      placed _ _ _ _
+          (sets_again m c.insert_full.new.self _ _ _ _ _ c.in_ok-number.ensures.updates c.insert_full.ensures.unique
           c.in_ok-number.ensures.entries c.in_ok-number.ensures.index (ap is_some there) c.index_mut.ensures.value)
           c.self.invariant.1 (λ roles e. subst HasPlace (same_Some c.put-put.new.self roles e)
-          (place_kept c.in-Some.roles c.put-put.new.self c.in_err-put-in-Some.ensures.err
-          (c.self.invariant.1 c.args.node c.in-Some.roles there))),
+          (place_kept _ _ c.in_err-put-in-Some.ensures.err (c.self.invariant.1 c.args.node c.in-Some.roles there))),
     )
 
 pub returns-in_err-put-in-Some-clause-err : goal.returns-in_err-put-in-Some-clause-err
@@ -39,17 +37,16 @@ pub invariant_of-self-in-Some : goal.invariant_of-self-in-Some
 invariant_of-self-in-Some c =
     let m = c.self.inside.table in
     let there = sym c.in_ok-number.ensures.old ∙ c.in-Some.is in (
-      unique_at c.insert_full.new.self c.in_ok-number.number c.args.node c.insert_full.ensures.unique
-          c.put-put.new.self,
-      placed (record { entries = m.entries }) _ c.args.node (Some c.put-put.new.self)
-          (sets_again m c.insert_full.new.self c.in_ok-number.number c.args.node c.one.result c.put-put.new.self
-          c.index_mut.result.now c.in_ok-number.ensures.updates c.insert_full.ensures.unique
+      unique_at c.insert_full.new.self _ c.args.node c.insert_full.ensures.unique
+          _,
+      placed _ _ _ _
+          (sets_again m c.insert_full.new.self _ _ _ _ _ c.in_ok-number.ensures.updates c.insert_full.ensures.unique
           c.in_ok-number.ensures.entries c.in_ok-number.ensures.index (ap is_some there) c.index_mut.ensures.value)
           c.self.invariant.1 (λ roles e. subst HasPlace (same_Some c.put-put.new.self roles e) (
             c.args.role,
             c.args.place,
             subst (λ ps. Contains ps c.args.place) (sym c.in_ok-put-in-Some.ensures.ok.here)
-                (with_last_has _ c.args.place),
+                (with_last_has _ _),
           )),
     )
 
@@ -70,18 +67,14 @@ pub returns-in_ok-put-in-Some-clause-ok : goal.returns-in_ok-put-in-Some-clause-
 returns-in_ok-put-in-Some-clause-ok c =
     let m = c.self.inside.table in
     let there = sym c.in_ok-number.ensures.old ∙ c.in-Some.is in
-    changes (record { entries = m.entries }) _ c.args.node c.in-Some.roles c.put-put.new.self (Some c.put-put.new.self)
-    there
-    (sets_again m c.insert_full.new.self c.in_ok-number.number c.args.node c.one.result c.put-put.new.self
-    c.index_mut.result.now c.in_ok-number.ensures.updates c.insert_full.ensures.unique
+    changes _ _ _ _ _ _ there (sets_again m c.insert_full.new.self _ _ _ _
+    _ c.in_ok-number.ensures.updates c.insert_full.ensures.unique
     c.in_ok-number.ensures.entries c.in_ok-number.ensures.index (ap is_some there) c.index_mut.ensures.value)
-    (λ role. refl) (λ places. with_last places c.args.place) c.args.role c.in_ok-put-in-Some.ensures.ok
-    c.args.self.now c.self.view_is
+    (λ role. refl) (λ places. with_last places c.args.place) _ c.in_ok-put-in-Some.ensures.ok _ c.self.view_is
 
 pub returns-in-None-clause-ok : goal.returns-in-None-clause-ok
 returns-in-None-clause-ok c =
     let m = c.self.inside.table in
-    starts (record { entries = m.entries }) _ c.args.node c.one.result c.args.place c.args.role
-    (sym c.in_ok-number.ensures.old ∙ c.in-None.is)
-    (sets m c.insert_full.new.self c.args.node (Some c.one.result) c.in_ok-number.ensures.updates)
-    c.one.ensures.here c.one.ensures.others c.args.self.now c.self.view_is
+    starts _ _ _ _ _ _ (sym c.in_ok-number.ensures.old ∙ c.in-None.is)
+    (sets m c.insert_full.new.self _ _ c.in_ok-number.ensures.updates)
+    c.one.ensures.here c.one.ensures.others _ c.self.view_is

@@ -10,11 +10,10 @@ pub invariant_of-self : goal.invariant_of-self
 invariant_of-self c =
     let m = c.self.inside.table in (
       c.forget.ensures.unique,
-      placed (record { entries = m.entries }) _ c.args.node None
-          (sets_none m c.in-Some.number c.args.node c.get_index_of.ensures.unique c.take.new.self
-          (sym c.in-Some.ensures.index) c.index_mut-roles.result.now c.index_mut-roles.ensures.value
-          c.forget.new.table c.forget.ensures.updates) c.self.invariant.1
-          (λ roles e. absurd (none-some roles e)),
+      placed _ _ _ _
+          (sets_none m _ _ c.get_index_of.ensures.unique _
+          (sym c.in-Some.ensures.index) _ c.index_mut-roles.ensures.value
+          c.forget.new.table c.forget.ensures.updates) c.self.invariant.1 (λ roles e. absurd (none-some roles e)),
     )
 
 pub invariant_of-self-else-is_empty : goal.invariant_of-self-else-is_empty
@@ -31,23 +30,18 @@ invariant_of-self-else-is_empty c =
 pub returns-then-is_empty : goal.returns-then-is_empty
 returns-then-is_empty c =
     let m = c.self.inside.table in
-    changes (record { entries = m.entries }) _ c.args.node c.index_mut-roles.result.now c.take.new.self None
-    (sym c.in-Some.ensures.value ∙ c.index_mut-roles.ensures.value)
-    (sets_none m c.in-Some.number c.args.node c.get_index_of.ensures.unique c.take.new.self
-    (sym c.in-Some.ensures.index) c.index_mut-roles.result.now c.index_mut-roles.ensures.value
+    changes _ _ _ _ _ _ (sym c.in-Some.ensures.value ∙ c.index_mut-roles.ensures.value)
+    (sets_none m _ _ c.get_index_of.ensures.unique _ (sym c.in-Some.ensures.index) _ c.index_mut-roles.ensures.value
     c.forget.new.table c.forget.ensures.updates)
     (λ role. sym (c.is_empty.ensures.empty c.if-is_empty.true role)) (λ places. without_last places c.args.place)
-    c.args.role c.take.ensures c.args.self.now c.self.view_is
+    _ c.take.ensures _ c.self.view_is
 
 pub returns-else-is_empty : goal.returns-else-is_empty
 returns-else-is_empty c =
     let m = c.self.inside.table in
-    changes (record { entries = m.entries }) _ c.args.node c.index_mut-roles.result.now c.take.new.self
-    (Some c.take.new.self) (sym c.in-Some.ensures.value ∙ c.index_mut-roles.ensures.value)
-    (sets_at m c.in-Some.number c.args.node c.get_index_of.ensures.unique c.take.new.self
-    (sym c.in-Some.ensures.index) c.index_mut-roles.result.now c.index_mut-roles.ensures.value)
-    (λ role. refl) (λ places. without_last places c.args.place) c.args.role c.take.ensures c.args.self.now
-    c.self.view_is
+    changes _ _ _ _ _ _ (sym c.in-Some.ensures.value ∙ c.index_mut-roles.ensures.value)
+    (sets_at m _ _ c.get_index_of.ensures.unique _ (sym c.in-Some.ensures.index) _ c.index_mut-roles.ensures.value)
+    (λ role. refl) (λ places. without_last places c.args.place) _ c.take.ensures _ c.self.view_is
 
 pub returns-in-None : goal.returns-in-None
 returns-in-None c =

@@ -7,13 +7,7 @@ use Rattle.hg_obsstore.proofs.index.Index.add.Goals as goal
 pub returns-in-Err-clause-err : goal.returns-in-Err-clause-err
 returns-in-Err-clause-err c =
     let old = c.args.self.now in
-    let new = c.remove.new.self in
-    each_role (λ role. places_of role new ≡ places_of role old)
-    (pointwise (places_of Predecessor new) (places_of Predecessor old)
-    (c.remove.ensures.predecessor.restores (places_of Predecessor old) c.requires.predecessor
-    c.in-Err.ensures.err.predecessor))
-    (pointwise (places_of Successor new) (places_of Successor old)
-    (c.remove.ensures.successor.restores (places_of Successor old) c.requires.successor
-    c.in-Err.ensures.err.successor))
-    (pointwise (places_of Parent new) (places_of Parent old)
-    (c.remove.ensures.child.restores (places_of Parent old) c.requires.child c.in-Err.ensures.err.child))
+    each_role _ (pointwise _ _ (c.remove.ensures.predecessor.restores (places_of Predecessor old) c.requires.predecessor
+    c.in-Err.ensures.err.predecessor)) (pointwise _ _
+    (c.remove.ensures.successor.restores (places_of Successor old) c.requires.successor c.in-Err.ensures.err.successor))
+    (pointwise _ _ (c.remove.ensures.child.restores (places_of Parent old) c.requires.child c.in-Err.ensures.err.child))

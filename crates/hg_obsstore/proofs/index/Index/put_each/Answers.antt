@@ -15,11 +15,7 @@ loop-node-preserved c = (
 
 pub returns-in_err-put-clause-err : goal.returns-in_err-put-clause-err
 returns-in_err-put-clause-err c =
-    on_err_anyway c.from_residual.result _
-    (may_add (take c.loop-node.node-index c.args.nodes.now) c.args.nodes.now c.args.place
-    (places_of c.args.role c.args.self.now) (places_of c.args.role c.loop-node.self)
-    (places_of c.args.role c.put.new.self)
-    (Contains-take c.args.nodes.now c.loop-node.node-index) c.loop-node.invariant.0
+    on_err_anyway _ _ (may_add _ _ _ _ _ _ (Contains-take _ _) c.loop-node.invariant.0
     (λ n. ap (λ (f : Node → List ℕ). f n) (c.in_err-put.ensures.err c.args.role)))
 
 pub returns-in_err-put-clause-others : goal.returns-in_err-put-clause-others

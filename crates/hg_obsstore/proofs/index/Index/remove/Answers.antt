@@ -9,28 +9,23 @@ use Rattle.hg_obsstore.proofs.index.Index.remove.Goals as goal
 
 pub returns : goal.returns
 returns c =
-    let m = c.args.marker.now in
     let old = c.args.self.now in
-    let first = c.take_each.new.self in
-    let second = c.take_each-2.new.self in
     let third = c.take_parents.new.self in
     let others = c.take_each.ensures.others in
     let others-2 = c.take_each-2.ensures.others in
     let others-3 = c.take_parents.ensures.others in
     record {
       predecessor =
-          carried (λ ns. TakesPlaces ns c.args.place) (c.predecessor.result ∷ []) (predecessors m)
-          (places_of Predecessor old) (places_of Predecessor old) (places_of Predecessor first)
-          (places_of Predecessor third)
+          carried (λ ns. TakesPlaces ns c.args.place) _ _ (places_of Predecessor old) _ _ _
           (ap (λ p. p ∷ []) c.predecessor.ensures.predecessor) refl
           (sym (others-3 Predecessor predecessor-parent ∙ others-2 Predecessor predecessor-successor))
           c.take_each.ensures.taken;
-      successor = carried (λ ns. TakesPlaces ns c.args.place) c.successors.result.now (successors m)
-          (places_of Successor first) (places_of Successor old) (places_of Successor second) (places_of Successor third)
+      successor = carried (λ ns. TakesPlaces ns c.args.place) _ _
+          _ _ _ _
           c.successors.ensures (others Successor successor-predecessor) (sym (others-3 Successor successor-parent))
           c.take_each-2.ensures.taken;
-      child = carried (λ ns. TakesPlaces ns c.args.place) (listed c.parents.result) (recorded_parents m)
-          (places_of Parent second) (places_of Parent old) (places_of Parent third) (places_of Parent third)
+      child = carried (λ ns. TakesPlaces ns c.args.place) _ _
+          _ _ (places_of Parent third) _
           (ap listed c.parents.ensures) (others-2 Parent parent-successor ∙ others Parent parent-predecessor) refl
           c.take_parents.ensures.taken;
     }

@@ -92,28 +92,23 @@ returns-in_err-put_parents-clause-err c =
 
 pub returns-clause-ok : goal.returns-clause-ok
 returns-clause-ok c =
-    let m = c.args.marker.now in
     let old = c.args.self.now in
-    let first = c.put_each.new.self in
     let others = c.put_each.ensures.others in
-    let second = c.put_each-2.new.self in
     let others-2 = c.put_each-2.ensures.others in
     let third = c.put_parents.new.self in
     let others-3 = c.put_parents.ensures.others in
     record {
       predecessor =
-          carried (λ ns. AddsPlace ns c.args.place) (c.predecessor.result ∷ []) (predecessors m)
-          (places_of Predecessor old) (places_of Predecessor old) (places_of Predecessor first)
-          (places_of Predecessor third)
+          carried (λ ns. AddsPlace ns c.args.place) _ _ (places_of Predecessor old) _ _ _
           (ap (λ p. p ∷ []) c.predecessor.ensures.predecessor) refl
           (sym (others-3 Predecessor predecessor-parent ∙ others-2 Predecessor predecessor-successor))
           c.in_ok-put_each.ensures.ok;
-      successor = carried (λ ns. AddsPlace ns c.args.place) c.successors.result.now (successors m)
-          (places_of Successor first) (places_of Successor old) (places_of Successor second) (places_of Successor third)
+      successor = carried (λ ns. AddsPlace ns c.args.place) _ _
+          _ _ _ _
           c.successors.ensures (others Successor successor-predecessor) (sym (others-3 Successor successor-parent))
           c.in_ok-put_each-2.ensures.ok;
-      child = carried (λ ns. AddsPlace ns c.args.place) (listed c.parents.result) (recorded_parents m)
-          (places_of Parent second) (places_of Parent old) (places_of Parent third) (places_of Parent third)
+      child = carried (λ ns. AddsPlace ns c.args.place) _ _
+          _ _ (places_of Parent third) _
           (ap listed c.parents.ensures) (others-2 Parent parent-successor ∙ others Parent parent-predecessor) refl
           c.in_ok-put_parents.ensures.ok;
     }

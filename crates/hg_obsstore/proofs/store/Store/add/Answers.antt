@@ -17,8 +17,7 @@ use Rattle.hg_obsstore.proofs.store.Store.add.Goals as goal
 pub add_marker-requires-clause-below : goal.add_marker-requires-clause-below
 add_marker-requires-clause-below c =
     let at : c.len-place.result ≡ length c.self.inside.markers.items = search rules in
-    subst (HaveBelow c.self.inside.index) (sym at)
-    (all_below c.self.inside.markers.items c.self.inside.index c.self.invariant.1)
+    subst (HaveBelow c.self.inside.index) (sym at) (all_below _ _ c.self.invariant.1)
 
 pub invariant_of-self-in-Err : goal.invariant_of-self-in-Err
 invariant_of-self-in-Err c =
@@ -45,8 +44,7 @@ invariant_of-self-in_default c =
     let items : c.push.new.self.items ≡ ms ++ m ∷ [] = c.in_ok-push.ensures.items in
     let read : c.index-marker.result.now ≡ get_or c.push.new.self.items c.len-place.result c.index-marker.result.now =
     search rules in
-    let same : c.index-marker.result.now ≡ m =
-    read_last ms c.push.new.self.items m c.index-marker.result.now c.len-place.result items at read in
+    let same : c.index-marker.result.now ≡ m = read_last _ _ _ _ _ items at read in
     let added : AddMarker m (length ms) c.self.inside.index c.add_marker.new.index =
     subst (λ n. AddMarker m n c.self.inside.index c.add_marker.new.index) at
     (subst (λ x. AddMarker x c.len-place.result c.self.inside.index c.add_marker.new.index) same
@@ -55,17 +53,16 @@ invariant_of-self-in_default c =
     subst (λ n. IsUnderDigest c.add_marker.new.index c.add_marker.new.digests m n) at
     (subst (λ x. IsUnderDigest c.add_marker.new.index c.add_marker.new.digests x c.len-place.result) same
     c.in_default.ensures.digest) in
-    let absent : list_any (same_fields m) ms ≡ false =
-    false_from_ne_true (list_any (same_fields m) ms) (λ t. false≢true (sym c.if-held.false
+    let absent : list_any (same_fields m) ms ≡ false = false_from_ne_true _ (λ t. false≢true (sym c.if-held.false
     ∙ c.look_up-held.ensures.held.1
-    (subst (λ (xs : List Fields). Contains xs m) (sym c.deref.ensures.value) (held ms m t)))) in (
-      subst AreApart (sym items) (IsDistinct-push fields_equivalence ms m c.self.invariant.0 absent),
+    (subst (λ (xs : List Fields). Contains xs m) (sym c.deref.ensures.value) (held _ _ t)))) in (
+      subst AreApart (sym items) (IsDistinct-push fields_equivalence _ _ c.self.invariant.0 absent),
       subst (λ (xs : List Fields). AreIndexed xs c.add_marker.new.index) (sym items)
-          (all_push ms m c.self.inside.index c.add_marker.new.index c.self.invariant.1 added),
+          (all_push _ _ _ _ c.self.invariant.1 added),
       subst (All IsMarker) (sym items)
-          (All-push IsMarker ms m c.self.invariant.2 c.look_up-held.ensures.marker),
+          (All-push IsMarker _ _ c.self.invariant.2 c.look_up-held.ensures.marker),
       subst (λ (xs : List Fields). AreDigested xs c.add_marker.new.index c.add_marker.new.digests) (sym items)
-          (digested_push ms m c.self.inside.index c.add_marker.new.index c.self.inside.digests
+          (digested_push _ _ _ _ c.self.inside.digests
           c.add_marker.new.digests c.self.invariant.3 added.predecessor digest
           (subst (λ n. KeepsOtherDigests n c.self.inside.digests c.add_marker.new.digests) at
           c.in_default.ensures.kept)),

@@ -10,20 +10,17 @@ loop-marker-preserved c =
     let left : c.loop-marker.marker-iterator.rest.items ≡ c.in-Some.marker ∷ c.next.new.self.rest.items =
     search rules in
     let step : c.add.new.self ≡ with_marker c.loop-marker.self c.in-Some.marker =
-    with_added c.loop-marker.self c.in-Some.marker _ _ c.in_ok-add.ensures.ok in (
-      starts_more c.args.self.now c.loop-marker.self c.add.new.self c.loop-marker.invariant.0
-          (subst (StartsWith c.loop-marker.self) (sym step) (with_starts c.loop-marker.self c.in-Some.marker)),
-      ap (λ (ms : List Fields). united ms c.next.new.self.rest.items) step
-          ∙ united_step c.loop-marker.self c.in-Some.marker c.next.new.self.rest.items
-          ∙ ap (united c.loop-marker.self) (sym left)
-          ∙ c.loop-marker.invariant.1,
+    with_added _ _ _ _ c.in_ok-add.ensures.ok in (
+      starts_more _ _ _ c.loop-marker.invariant.0
+          (subst (StartsWith c.loop-marker.self) (sym step) (with_starts _ _)),
+      ap (λ (ms : List Fields). united ms c.next.new.self.rest.items) step ∙ united_step _ _ _
+          ∙ ap (united c.loop-marker.self) (sym left) ∙ c.loop-marker.invariant.1,
     )
 
 pub returns-in_err-add-clause-memory : goal.returns-in_err-add-clause-memory
 returns-in_err-add-clause-memory c =
     let left : c.loop-marker.marker-iterator.rest.items ≡ c.in-Some.marker ∷ c.next.new.self.rest.items =
     search rules in
-    on_err_anyway c.from_residual.result _
-    (next_new c.args.self.now c.loop-marker.self c.args.markers.items c.next.new.self.rest.items c.in-Some.marker
+    on_err_anyway _ _ (next_new _ _ _ _ _
     c.loop-marker.invariant.0 (ap (united c.loop-marker.self) (sym left) ∙ c.loop-marker.invariant.1)
     c.in_err-add.ensures.memory)

@@ -10,16 +10,14 @@ use Rattle.hg_obsstore.proofs.store.Store.give_back.Goals as goal
 
 pub invariant_of-self : goal.invariant_of-self
 invariant_of-self c =
-    let ms = c.self.inside.markers.items in
-    let old = c.self.inside.index in
     let new = c.give_back_all.new.index in
     let digests = c.self.inside.digests in
     let back = sym c.give_back_all.ensures.markers in (
       subst AreApart back c.self.invariant.0,
       subst (λ (xs : List Fields). AreIndexed xs new) back
-          (all_same ms old new c.give_back_all.ensures.places c.self.invariant.1),
+          (all_same _ _ _ c.give_back_all.ensures.places c.self.invariant.1),
       subst (All IsMarker) back c.self.invariant.2,
       subst (λ (xs : List Fields). AreDigested xs new digests) back
-          (digested_same ms old new digests digests c.self.invariant.3 c.give_back_all.ensures.places
+          (digested_same _ _ _ digests digests c.self.invariant.3 c.give_back_all.ensures.places
           (λ n i other there. there)),
     )

@@ -21,10 +21,8 @@ returns-then-not-contains c =
 
 pub loop-marker-preserved : goal.loop-marker-preserved
 loop-marker-preserved c =
-    All-more (Contains c.args.other.now) c.args.self.now c.loop-marker.marker-index c.marker-item.result (search rules)
-    c.loop-marker.invariant
-    (subst (Contains c.args.other.now)
-    (c.marker-item.is
+    All-more (Contains c.args.other.now) _ _ c.marker-item.result (search rules) c.loop-marker.invariant
+    (subst (Contains c.args.other.now) (c.marker-item.is
     ∙ ap (λ (ms : List Fields). get_or ms c.loop-marker.marker-index c.marker-item.result)
     c.markers-marker-items.ensures.markers) (c.contains.ensures.0 (search rules)))
 
