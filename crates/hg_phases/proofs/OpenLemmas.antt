@@ -25,11 +25,6 @@ use Rattle.hg_phases.proofs.PlaceLemmas.{changesets-held_of, parts-at}
 
 -- ---- marks
 
-all_public : (n i : ℕ) (k : Phase) → slice_get (replicate n Public) i ≡ Some k → k ≡ Public
-all_public zero i k at = absurd (none-some k at)
-all_public (suc n) zero k at = sym (same_Some Public k at)
-all_public (suc n) (suc i) k at = all_public n i k at
-
 module _ (cs : List Contents) (roots : List (Phase × Node)) (root : Phase × Node) (marks : List Phase)
     (are : AreMarked cs roots marks) where
   more_marks : (i : ℕ) (k : Phase) → IsMark cs roots i k → IsMark cs (roots ++ root ∷ []) i k

@@ -167,9 +167,6 @@ touched-one cs log i d l p (e, at, family) = elim ((taken_one log i d e l).0 at)
   | inr same ↦ inr (subst (λ x. IsFamily cs x.place p) (sym same) family)
 ]
 
-pub touched-none : (cs : List Contents) (p : ℕ) → ¬ (IsTouched cs [] p)
-touched-none cs p (e, at, family) = Contains-none e at
-
 -- ---- what stays
 
 -- where neither a place nor a parent of it differs, a root stands in both or in none

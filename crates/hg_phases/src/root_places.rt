@@ -127,8 +127,7 @@ pub(crate) fn roots_at(
     requires rooted { AreRootPlaces graph.now phases.now roots.now }
     ensures { IfOk result (AreRoots (state_of graph.now phases.now)) }
 {
-    let mut queue = PlaceQueue::new(alloc);
-    queue.insert_each(roots.places())?;
+    let queue = PlaceQueue::of(alloc, roots.places())?;
     roots_listed(graph, phases, queue.as_set(), alloc)
 }
 

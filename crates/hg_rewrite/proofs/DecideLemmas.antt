@@ -42,13 +42,20 @@ module _ (s : ReplicaState) (op : Op) where
       → IsRefusal (map marker_refused (markers s.history op)) r → IsRefusal (not_marked s op) r
   marks_refused r named h = later (bad_users op) (map marker_refused (markers s.history op)) r named h
 
+-- the checks that come before anything is written have passed
+pub record ArePassed (s : ReplicaState) (pins : List Node) (op : Op) : Type 0 where
+  pub known : NoneApplies (unknown_nodes s op)
+  pub visible : NoneApplies (hidden_parents s pins op)
+  pub unpublished : NoneApplies (public_nodes s op)
+  pub current : NoneApplies (obsolete_nodes s op)
+  pub linear : NoneApplies (not_linear s op)
+  pub counted : NoneApplies (wrong_count op)
+  pub lowered : NoneApplies (raise s op)
+
 module _ (s : ReplicaState) (pins : List Node) (op : Op) where
   -- the rows from those of one refusal on
-  abbrev rows_from_existing : List Row
-  rows_from_existing = existing_ids s op
-
   abbrev rows_from_unmarked : List Row
-  rows_from_unmarked = not_marked s op ++ rows_from_existing
+  rows_from_unmarked = not_marked s op ++ existing_ids s op
 
   abbrev rows_from_unwritten : List Row
   rows_from_unwritten = not_written s op ++ rows_from_unmarked
@@ -71,140 +78,93 @@ module _ (s : ReplicaState) (pins : List Node) (op : Op) where
   abbrev rows_from_hidden : List Row
   rows_from_hidden = hidden_parents s pins op ++ rows_from_public
 
-  -- a check refuses, after those before it have passed
-  pub refused_unknown : (r : Refusal) → IsRefusal (unknown_nodes s op) r → IsRefusal (refusals s pins op) r
+  -- what the rows refuse the table refuses
+  abbrev Refuse : List Row → Type 0
+  Refuse rows = (r : Refusal) → IsRefusal rows r → IsRefusal (refusals s pins op) r
+
+  pub refused_unknown : Refuse (unknown_nodes s op)
   unfolding refusals
   refused_unknown r h = sooner (unknown_nodes s op) rows_from_hidden r h
 
-  pub refused_hidden : (r : Refusal) → NoneApplies (unknown_nodes s op) → IsRefusal (hidden_parents s pins op) r
-      → IsRefusal (refusals s pins op) r
-  unfolding refusals
-  refused_hidden r known h = later (unknown_nodes s op) rows_from_hidden r known
-      (sooner (hidden_parents s pins op) rows_from_public r h)
+  -- a check refuses, after those before it have passed
+  module _ (known : NoneApplies (unknown_nodes s op)) where
+    from_hidden : Refuse rows_from_hidden
+    unfolding refusals
+    from_hidden r h = later (unknown_nodes s op) rows_from_hidden r known h
 
-  pub refused_public : (r : Refusal) → NoneApplies (unknown_nodes s op) → NoneApplies (hidden_parents s pins op)
-      → IsRefusal (public_nodes s op) r → IsRefusal (refusals s pins op) r
-  unfolding refusals
-  refused_public r known visible h = later (unknown_nodes s op) rows_from_hidden r known
-      (later (hidden_parents s pins op) rows_from_public r visible (sooner (public_nodes s op) rows_from_obsolete r h))
+    pub refused_hidden : Refuse (hidden_parents s pins op)
+    refused_hidden r h = from_hidden r (sooner (hidden_parents s pins op) rows_from_public r h)
 
-  pub refused_obsolete : (r : Refusal) → NoneApplies (unknown_nodes s op) → NoneApplies (hidden_parents s pins op)
-      → NoneApplies (public_nodes s op) → IsRefusal (obsolete_nodes s op) r → IsRefusal (refusals s pins op) r
-  unfolding refusals
-  refused_obsolete r known visible unpublished h = later (unknown_nodes s op) rows_from_hidden r known
-      (later (hidden_parents s pins op) rows_from_public r visible
-      (later (public_nodes s op) rows_from_obsolete r unpublished
-      (sooner (obsolete_nodes s op) rows_from_not_linear r h)))
+    module _ (visible : NoneApplies (hidden_parents s pins op)) where
+      from_public : Refuse rows_from_public
+      from_public r h = from_hidden r (later (hidden_parents s pins op) rows_from_public r visible h)
 
-  pub refused_not_linear : (r : Refusal) → NoneApplies (unknown_nodes s op) → NoneApplies (hidden_parents s pins op)
-      → NoneApplies (public_nodes s op) → NoneApplies (obsolete_nodes s op) → IsRefusal (not_linear s op) r
-      → IsRefusal (refusals s pins op) r
-  unfolding refusals
-  refused_not_linear r known visible unpublished current h = later (unknown_nodes s op) rows_from_hidden r known
-      (later (hidden_parents s pins op) rows_from_public r visible
-      (later (public_nodes s op) rows_from_obsolete r unpublished
-      (later (obsolete_nodes s op) rows_from_not_linear r current
-      (sooner (not_linear s op) rows_from_count r h))))
+      pub refused_public : Refuse (public_nodes s op)
+      refused_public r h = from_public r (sooner (public_nodes s op) rows_from_obsolete r h)
 
-  pub refused_count : (r : Refusal) → NoneApplies (unknown_nodes s op) → NoneApplies (hidden_parents s pins op)
-      → NoneApplies (public_nodes s op) → NoneApplies (obsolete_nodes s op) → NoneApplies (not_linear s op)
-      → IsRefusal (wrong_count op) r → IsRefusal (refusals s pins op) r
-  unfolding refusals
-  refused_count r known visible unpublished current linear h =
-      later (unknown_nodes s op) rows_from_hidden r known (later (hidden_parents s pins op) rows_from_public r visible
-      (later (public_nodes s op) rows_from_obsolete r unpublished
-      (later (obsolete_nodes s op) rows_from_not_linear r current
-      (later (not_linear s op) rows_from_count r linear (sooner (wrong_count op) rows_from_raise r h)))))
+      module _ (unpublished : NoneApplies (public_nodes s op)) where
+        from_obsolete : Refuse rows_from_obsolete
+        from_obsolete r h = from_public r (later (public_nodes s op) rows_from_obsolete r unpublished h)
 
-  pub refused_raise : (r : Refusal) → NoneApplies (unknown_nodes s op) → NoneApplies (hidden_parents s pins op)
-      → NoneApplies (public_nodes s op) → NoneApplies (obsolete_nodes s op) → NoneApplies (not_linear s op)
-      → NoneApplies (wrong_count op) → IsRefusal (raise s op) r → IsRefusal (refusals s pins op) r
-  unfolding refusals
-  refused_raise r known visible unpublished current linear counted h =
-      later (unknown_nodes s op) rows_from_hidden r known (later (hidden_parents s pins op) rows_from_public r visible
-      (later (public_nodes s op) rows_from_obsolete r unpublished
-      (later (obsolete_nodes s op) rows_from_not_linear r current
-      (later (not_linear s op) rows_from_count r linear
-      (later (wrong_count op) rows_from_raise r counted
-      (sooner (raise s op) rows_from_unwritten r h))))))
+        pub refused_obsolete : Refuse (obsolete_nodes s op)
+        refused_obsolete r h = from_obsolete r (sooner (obsolete_nodes s op) rows_from_not_linear r h)
 
-  pub refused_unwritten : (r : Refusal) → NoneApplies (unknown_nodes s op) → NoneApplies (hidden_parents s pins op)
-      → NoneApplies (public_nodes s op) → NoneApplies (obsolete_nodes s op) → NoneApplies (not_linear s op)
-      → NoneApplies (wrong_count op) → NoneApplies (raise s op) → IsRefusal (not_written s op) r
-      → IsRefusal (refusals s pins op) r
-  unfolding refusals
-  refused_unwritten r known visible unpublished current linear counted lowered h =
-      later (unknown_nodes s op) rows_from_hidden r known (later (hidden_parents s pins op) rows_from_public r visible
-      (later (public_nodes s op) rows_from_obsolete r unpublished
-      (later (obsolete_nodes s op) rows_from_not_linear r current
-      (later (not_linear s op) rows_from_count r linear
-      (later (wrong_count op) rows_from_raise r counted
-      (later (raise s op) rows_from_unwritten r lowered
-      (sooner (not_written s op) rows_from_unmarked r h)))))))
+        module _ (current : NoneApplies (obsolete_nodes s op)) where
+          from_not_linear : Refuse rows_from_not_linear
+          from_not_linear r h = from_obsolete r (later (obsolete_nodes s op) rows_from_not_linear r current h)
 
-  pub refused_unmarked : (r : Refusal) → NoneApplies (unknown_nodes s op) → NoneApplies (hidden_parents s pins op)
-      → NoneApplies (public_nodes s op) → NoneApplies (obsolete_nodes s op) → NoneApplies (not_linear s op)
-      → NoneApplies (wrong_count op) → NoneApplies (raise s op) → NoneApplies (not_written s op)
-      → IsRefusal (not_marked s op) r → IsRefusal (refusals s pins op) r
-  unfolding refusals
-  refused_unmarked r known visible unpublished current linear counted lowered written h =
-      later (unknown_nodes s op) rows_from_hidden r known (later (hidden_parents s pins op) rows_from_public r visible
-      (later (public_nodes s op) rows_from_obsolete r unpublished
-      (later (obsolete_nodes s op) rows_from_not_linear r current
-      (later (not_linear s op) rows_from_count r linear
-      (later (wrong_count op) rows_from_raise r counted
-      (later (raise s op) rows_from_unwritten r lowered
-      (later (not_written s op) rows_from_unmarked r written
-      (sooner (not_marked s op) rows_from_existing r h))))))))
+          pub refused_not_linear : Refuse (not_linear s op)
+          refused_not_linear r h = from_not_linear r (sooner (not_linear s op) rows_from_count r h)
 
-  -- the user of a prune, which is tried before anything is written
-  pub refused_user : (r : Refusal) → NoneApplies (unknown_nodes s op) → NoneApplies (hidden_parents s pins op)
-      → NoneApplies (public_nodes s op) → NoneApplies (obsolete_nodes s op) → NoneApplies (not_linear s op)
-      → NoneApplies (wrong_count op) → NoneApplies (raise s op) → IsFirstRefusal (bad_users op) r
-      → IsRefusal (refusals s pins op) r
-  refused_user r known visible unpublished current linear counted lowered h =
-      refused_unmarked r known visible unpublished current linear counted lowered (writes_nothing s op r h)
-      (sooner (bad_users op) (map marker_refused (markers s.history op)) r (inr h))
+          module _ (linear : NoneApplies (not_linear s op)) where
+            from_count : Refuse rows_from_count
+            from_count r h = from_not_linear r (later (not_linear s op) rows_from_count r linear h)
 
-  pub refused_existing : (r : Refusal) → NoneApplies (unknown_nodes s op) → NoneApplies (hidden_parents s pins op)
-      → NoneApplies (public_nodes s op) → NoneApplies (obsolete_nodes s op) → NoneApplies (not_linear s op)
-      → NoneApplies (wrong_count op) → NoneApplies (raise s op) → NoneApplies (not_written s op)
-      → NoneApplies (not_marked s op) → IsRefusal (existing_ids s op) r → IsRefusal (refusals s pins op) r
-  unfolding refusals
-  refused_existing r known visible unpublished current linear counted lowered written marked h =
-      later (unknown_nodes s op) rows_from_hidden r known (later (hidden_parents s pins op) rows_from_public r visible
-      (later (public_nodes s op) rows_from_obsolete r unpublished
-      (later (obsolete_nodes s op) rows_from_not_linear r current
-      (later (not_linear s op) rows_from_count r linear
-      (later (wrong_count op) rows_from_raise r counted
-      (later (raise s op) rows_from_unwritten r lowered
-      (later (not_written s op) rows_from_unmarked r written
-      (later (not_marked s op) rows_from_existing r marked h))))))))
+            pub refused_count : Refuse (wrong_count op)
+            refused_count r h = from_count r (sooner (wrong_count op) rows_from_raise r h)
 
-  none_of_table : NoneApplies (unknown_nodes s op) → NoneApplies (hidden_parents s pins op)
-      → NoneApplies (public_nodes s op) → NoneApplies (obsolete_nodes s op) → NoneApplies (not_linear s op)
-      → NoneApplies (wrong_count op) → NoneApplies (raise s op) → NoneApplies (not_written s op)
-      → NoneApplies (not_marked s op) → NoneApplies (existing_ids s op) → NoneApplies (refusals s pins op)
-  unfolding refusals
-  none_of_table known visible unpublished current linear counted lowered written marked new =
-      none_both (unknown_nodes s op) rows_from_hidden known
-      (none_both (hidden_parents s pins op) rows_from_public visible
-      (none_both (public_nodes s op) rows_from_obsolete unpublished
-      (none_both (obsolete_nodes s op) rows_from_not_linear current
-      (none_both (not_linear s op) rows_from_count linear
-      (none_both (wrong_count op) rows_from_raise counted
-      (none_both (raise s op) rows_from_unwritten lowered
-      (none_both (not_written s op) rows_from_unmarked written
-      (none_both (not_marked s op) rows_from_existing marked new))))))))
+            pub refused_raise : NoneApplies (wrong_count op) → Refuse (raise s op)
+            refused_raise counted r h = from_count r (later (wrong_count op) rows_from_raise r counted
+                (sooner (raise s op) rows_from_unwritten r h))
 
-  -- all checks have passed
-  pub decided : IsValid s.history → NoneApplies (unknown_nodes s op) → NoneApplies (hidden_parents s pins op)
-      → NoneApplies (public_nodes s op) → NoneApplies (obsolete_nodes s op) → NoneApplies (not_linear s op)
-      → NoneApplies (wrong_count op) → NoneApplies (raise s op) → NoneApplies (not_written s op)
-      → NoneApplies (not_marked s op) → NoneApplies (existing_ids s op) → (part : PartValue)
-      → part ≡ part_of s op → DecideAnswer s pins op (Ok part)
-  decided valid known visible unpublished current linear counted lowered written marked new part is = (
-    none_of_table known visible unpublished current linear counted lowered written marked new,
-    is,
-    subst (IsAdmitted s) (sym is) (admitted s valid op known new),
-  )
+  module _ (passed : ArePassed s pins op) where
+    from_unwritten : Refuse rows_from_unwritten
+    from_unwritten r h = from_count passed.known passed.visible passed.unpublished passed.current passed.linear r
+        (later (wrong_count op) rows_from_raise r passed.counted
+        (later (raise s op) rows_from_unwritten r passed.lowered h))
+
+    pub refused_unwritten : Refuse (not_written s op)
+    refused_unwritten r h = from_unwritten r (sooner (not_written s op) rows_from_unmarked r h)
+
+    module _ (written : NoneApplies (not_written s op)) where
+      from_unmarked : Refuse rows_from_unmarked
+      from_unmarked r h = from_unwritten r (later (not_written s op) rows_from_unmarked r written h)
+
+      pub refused_unmarked : Refuse (not_marked s op)
+      refused_unmarked r h = from_unmarked r (sooner (not_marked s op) (existing_ids s op) r h)
+
+      pub refused_existing : NoneApplies (not_marked s op) → Refuse (existing_ids s op)
+      refused_existing marked r h = from_unmarked r (later (not_marked s op) (existing_ids s op) r marked h)
+
+    -- the user of a prune, which is tried before anything is written
+    pub refused_user : (r : Refusal) → IsFirstRefusal (bad_users op) r → IsRefusal (refusals s pins op) r
+    refused_user r h = refused_unmarked (writes_nothing s op r h) r
+        (sooner (bad_users op) (map marker_refused (markers s.history op)) r (inr h))
+
+    -- all checks have passed
+    pub decided : IsValid s.history → NoneApplies (not_written s op) → NoneApplies (not_marked s op)
+        → NoneApplies (existing_ids s op) → (part : PartValue) → part ≡ part_of s op → DecideAnswer s pins op (Ok part)
+    unfolding refusals
+    decided valid written marked new part is = (
+      none_both (unknown_nodes s op) rows_from_hidden passed.known
+          (none_both (hidden_parents s pins op) rows_from_public passed.visible
+          (none_both (public_nodes s op) rows_from_obsolete passed.unpublished
+          (none_both (obsolete_nodes s op) rows_from_not_linear passed.current
+          (none_both (not_linear s op) rows_from_count passed.linear
+          (none_both (wrong_count op) rows_from_raise passed.counted
+          (none_both (raise s op) rows_from_unwritten passed.lowered
+          (none_both (not_written s op) rows_from_unmarked written
+          (none_both (not_marked s op) (existing_ids s op) marked new)))))))),
+      is,
+      subst (IsAdmitted s) (sym is) (admitted s valid op passed.known new),
+    )

@@ -1,6 +1,6 @@
 -- Where memory may be wanting.
-use Rattle.std.proofs.Common.{◌≡◌, ◌<◌, ◌⊎◌, inl, inr, List, [], ◌∷◌, ◌++◌, length, map, take, Result, Err, sym, subst}
-use Rattle.std.proofs.Common.{◌∙◌, arith}
+use Rattle.std.proofs.Common.{◌≡◌, ◌<◌, ◌⊎◌, inl, inr, List, [], ◌∷◌, ◌++◌, length, map, take, Result, Ok, Err, sym}
+use Rattle.std.proofs.Common.{IsErrAnd, subst, ◌∙◌, arith}
 use Rattle.hg_changeset.specs.declared.node.Node.{Node}
 use Rattle.hg_replica.specs.State.{ReplicaState}
 use Rattle.hg_replica.specs.Content.{content_of}
@@ -16,6 +16,7 @@ use Rattle.hg_rewrite.specs.Memory.{WalksForHidden, WalksForDescendants, rows_be
 use Rattle.hg_rewrite.specs.Memory.{MayWantMemoryLater, bad_prune}
 use Rattle.hg_rewrite.specs.Parts.{made, marker, markers, metadata, new_ids, rewritten, chain}
 use Rattle.hg_rewrite.proofs.RowLemmas.{none_both}
+use Rattle.hg_rewrite.proofs.DecideLemmas.{ArePassed}
 use Rattle.hg_rewrite.proofs.TableLemmas.{AreTelling, no_memory}
 
 -- one of the two parents that it names is obsolete
@@ -36,42 +37,43 @@ walks_for_hidden s (Relocate node a b entry) p q e h = either s a b p q e h
 walks_for_hidden s (Advance node phase) p q e h = cc
 
 -- the refusal that a call passes on is want of memory
-pub told : {X : Type 0} (answer : Result X Refusal) (passed r : Refusal) → answer ≡ Err passed → passed ≡ r
+pub told : {X : Type 0} (answer : Result X Refusal) (r : Refusal) → IsErrAnd answer (λ passed. passed ≡ r)
     → answer ≡ Err NoMemory → r ≡ NoMemory
-told answer passed r is same memory = let e : passed ≡ NoMemory = cc in sym same ∙ e
+told (Ok x) r is memory = absurd is
+told (Err passed) r is memory = let e : passed ≡ NoMemory = cc in sym is ∙ e
 
 -- a row's refusal never is
 pub never : {A : Type 0} (rows : List Row) (r : Refusal) → AreTelling rows → IsFirstRefusal rows r → r ≡ NoMemory → A
 never rows r tells first is = absurd (no_memory rows tells (subst (IsFirstRefusal rows) is first))
 
-module _ (s : ReplicaState) (pins : List Node) (op : Op) (known : NoneApplies (unknown_nodes s op)) where
-  pub wanting_hidden : WalksForHidden s op → MayWantMemory s pins op
-  wanting_hidden walks = inl (known, walks)
+module _ (s : ReplicaState) (pins : List Node) (op : Op) where
+  pub wanting_hidden : NoneApplies (unknown_nodes s op) → WalksForHidden s op → MayWantMemory s pins op
+  wanting_hidden known walks = inl (known, walks)
 
-  module _ (visible : NoneApplies (hidden_parents s pins op)) (unpublished : NoneApplies (public_nodes s op))
-      (current : NoneApplies (obsolete_nodes s op)) where
-    before : NoneApplies (rows_before_descendants s pins op)
-    before =
-        none_both (unknown_nodes s op) _ known
-        (none_both (hidden_parents s pins op) _ visible
-        (none_both (public_nodes s op) (obsolete_nodes s op) unpublished current))
+  before : NoneApplies (unknown_nodes s op) → NoneApplies (hidden_parents s pins op) → NoneApplies (public_nodes s op)
+      → NoneApplies (obsolete_nodes s op) → NoneApplies (rows_before_descendants s pins op)
+  before known visible unpublished current =
+      none_both (unknown_nodes s op) _ known
+      (none_both (hidden_parents s pins op) _ visible
+      (none_both (public_nodes s op) (obsolete_nodes s op) unpublished current))
 
-    pub wanting_descendants : WalksForDescendants s.history op → MayWantMemoryLater s pins op
-    wanting_descendants walks = inl (before, walks)
+  pub wanting_descendants : NoneApplies (unknown_nodes s op) → NoneApplies (hidden_parents s pins op)
+      → NoneApplies (public_nodes s op) → NoneApplies (obsolete_nodes s op) → WalksForDescendants s.history op
+      → MayWantMemoryLater s pins op
+  wanting_descendants known visible unpublished current walks = inl (before known visible unpublished current, walks)
 
-    pub wanting_later : NoneApplies (not_linear s op) → NoneApplies (wrong_count op) → NoneApplies (raise s op)
-        → NoneApplies (bad_entries op) → NoneApplies (bad_users op) → NoneApplies (bad_prune s op)
-        → MayWantMemoryLater s pins op
-    wanting_later linear counted lowered entered named pruned =
-        let written = bad_entries op ++ (bad_users op ++ bad_prune s op) in
-        inr (
-          before,
-          none_both (not_linear s op) (wrong_count op ++ (raise s op ++ written)) linear
-              (none_both (wrong_count op) (raise s op ++ written) counted
-              (none_both (raise s op) written lowered
-              (none_both (bad_entries op) (bad_users op ++ bad_prune s op) entered
-              (none_both (bad_users op) (bad_prune s op) named pruned)))),
-        )
+  pub wanting_later : ArePassed s pins op → NoneApplies (bad_entries op) → NoneApplies (bad_users op)
+      → NoneApplies (bad_prune s op) → MayWantMemoryLater s pins op
+  wanting_later passed entered named pruned =
+      let written = bad_entries op ++ (bad_users op ++ bad_prune s op) in
+      inr (
+        before passed.known passed.visible passed.unpublished passed.current,
+        none_both (not_linear s op) (wrong_count op ++ (raise s op ++ written)) passed.linear
+            (none_both (wrong_count op) (raise s op ++ written) passed.counted
+            (none_both (raise s op) written passed.lowered
+            (none_both (bad_entries op) (bad_users op ++ bad_prune s op) entered
+            (none_both (bad_users op) (bad_prune s op) named pruned)))),
+      )
 
 -- ---- the marker of a prune
 
@@ -88,7 +90,8 @@ no_prune s (Advance node phase) some = tt
 
 -- it has one marker
 pub prune_marked : (s : ReplicaState) (op : Op)
-    → NoneApplies (map marker_refused (map (marker (metadata s.history op) (new_ids s.history op)) (take 1 (rewritten op))))
+    → NoneApplies (map marker_refused
+    (map (marker (metadata s.history op) (new_ids s.history op)) (take 1 (rewritten op))))
     → NoneApplies (bad_prune s op)
 prune_marked s (Commit p q entry secret) h = tt
 prune_marked s (Amend node entry) h = tt

@@ -29,11 +29,6 @@ module _ {X : Type 0} where
         inr (later.0, (let e : suc i ≡ suc (length xs) + later.0 = omega (arith, later.1) in e), later.2)
   ]
 
-  pub get_later : (xs ys : List X) (k : ℕ) (x : X) → At ys k x → At (xs ++ ys) (length xs + k) x
-  get_later [] ys k x h = let e : k ≡ 0 + k = omega arith in subst (λ i. At ys i x) e h
-  get_later (z ∷ xs) ys k x h = let e : suc (length xs + k) ≡ suc (length xs) + k = omega arith in
-      subst (λ i. At (z ∷ xs ++ ys) i x) e (get_later xs ys k x h)
-
   pub get_set_cases : (xs : List X) (i : ℕ) (v : X) (j : ℕ) (w : X) → At (set xs i v) j w
       → ((i ≡ j) × (v ≡ w)) ⊎ At xs j w
   get_set_cases [] i v j w h = inr h

@@ -14,8 +14,9 @@ use Rattle.hg_world.specs.declared.event.Event.TheVariants.{Local, Offer, Take, 
 use Rattle.hg_world.specs.declared.event.Answer.{Answer}
 use Rattle.hg_world.specs.declared.event.Answer.TheVariants.{Accepted, Offered, Marked, Refused}
 use Rattle.hg_world.specs.Runs.{Snapshot, Trace, AskAndAnswerTheSame, place_of, IsPartOf, Happens, Runs, Ran}
-use Rattle.hg_world.specs.Runs.{accepted_at, accepted_in, AllValid, AllEmpty, AllUnmarked}
+use Rattle.hg_world.specs.Runs.{accepted_at, accepted_in, AllValid}
 use Rattle.hg_world.specs.Alike.{HaveSameContents, HaveSameOwn, HaveSameMessages, AreAlike, SayAlike}
+use Rattle.hg_world.specs.Laws.{AlikeStayAlike, AlikeAcceptAlike, AllAreAlikeThemselves, NewAreAlike}
 use Rattle.hg_world.proofs.Places.{none_there, one_at, exchanged_same}
 use Rattle.hg_world.proofs.Least.{valid_after}
 
@@ -271,22 +272,18 @@ module _ {S O A M R P C F : Type 0} (J : StateWords S P C F) (W : ActorWords S O
       subst (λ (es : List (Event O A M)). Runs J W first es u.answers u.parts last) (sym e.0) h in
       subst (λ (xs : List (Answer C R F)). Runs J W first t.events xs u.parts last) (sym e.1) events
 
-  pub trace_alike : (old new first last : Snapshot S) (t u : Trace O A M P C R F) → AskAndAnswerTheSame t u →
-      AllValid J old → AllValid J first → AreAlike J W old first → Ran J W old t new → Ran J W first u last →
-      AreAlike J W new last
+  trace_alike : AlikeStayAlike J W
   trace_alike old new first last t u e v w a h k =
       runs_alike old new first last t.events t.answers t.parts u.parts v w a h (with_same first last t u e k)
 
-  pub trace_accepted : (old new first last : Snapshot S) (t u : Trace O A M P C R F) (place : ℕ) →
-      AskAndAnswerTheSame t u → AllValid J old → AllValid J first → AreAlike J W old first → Ran J W old t new →
-      Ran J W first u last → SayAlike J W (accepted_in J t place) (accepted_in J u place)
+  trace_accepted : AlikeAcceptAlike J W
   trace_accepted old new first last t u place e v w a h k =
       subst (λ (es : List (Event O A M)). SayAlike J W (accepted_in J t place) (accepted_at J place es u.parts)) e.0
       (accepted_alike old new first last t.events t.answers t.parts u.parts place v w a h
       (with_same first last t u e k))
 
   -- a world is like itself
-  pub alike_itself : (old : Snapshot S) → AreAlike J W old old
+  alike_itself : AllAreAlikeThemselves J W
   alike_itself old = (
     (refl, λ place a b at_a at_b. ap J.content (one_at old.nodes place a b at_a at_b)),
     (λ place a b at_a at_b. ap W.owned (one_at old.nodes place a b at_a at_b)),
@@ -300,9 +297,7 @@ module _ {S O A M R P C F : Type 0} (J : StateWords S P C F) (W : ActorWords S O
   )
 
   -- worlds of as many empty nodes, without messages
-  pub empty_alike : (old first : Snapshot S) → AllEmpty J old → AllEmpty J first → AllUnmarked J W old →
-      AllUnmarked J W first → length old.nodes ≡ length first.nodes → old.messages ≡ [] → first.messages ≡ [] →
-      AreAlike J W old first
+  empty_alike : NewAreAlike J W
   empty_alike old first e f un un' same m n = (
     (
       same,
@@ -319,3 +314,6 @@ module _ {S O A M R P C F : Type 0} (J : StateWords S P C F) (W : ActorWords S O
           absurd (none_there number bytes (subst (λ (ms : List (List ℕ)). slice_get ms number ≡ Some bytes) m at_b)),
     ),
   )
+
+  pub tell : AlikeStayAlike J W × AlikeAcceptAlike J W × AllAreAlikeThemselves J W × NewAreAlike J W
+  tell = (trace_alike, trace_accepted, alike_itself, empty_alike)

@@ -1,5 +1,5 @@
 -- What may be accepted, offered or marked is refused for want of memory alone, and what is missing is told.
-use Rattle.std.proofs.Common.{◌≡◌, ◌↔◌, ℕ, Option, Some, None, List, refl, ap, subst, inl, inr}
+use Rattle.std.proofs.Common.{◌≡◌, ℕ, Option, Some, None, List, refl, ap, subst, inl, inr}
 use Rattle.std.specs.Prelude.{slice_get}
 use Rattle.hg_join.specs.declared.state.JoinState.{Ghosts as StateWords}
 use Rattle.hg_join.specs.declared.actor.Actor.{Ghosts as ActorWords}
@@ -9,7 +9,8 @@ use Rattle.hg_world.specs.declared.event.EventRefusal.{EventRefusal}
 use Rattle.hg_world.specs.declared.event.EventRefusal.TheVariants.{NoNode, NoMessage, ByActor, ByState}
 use Rattle.hg_world.specs.declared.event.Answer.{Answer}
 use Rattle.hg_world.specs.declared.event.Answer.TheVariants.{Accepted, Offered, Marked, Refused}
-use Rattle.hg_world.specs.Runs.{Snapshot, place_of, IsPartOf, IsReason, IsMemory, Happens, AllValid}
+use Rattle.hg_world.specs.Runs.{Snapshot, place_of, IsPartOf, IsReason, IsMemory}
+use Rattle.hg_world.specs.Laws.{NoNodeIsExact, NoMessageIsExact, AcceptedIsExact, OfferedIsExact, MarkedIsExact}
 use Rattle.hg_world.proofs.Places.{one_at}
 
 some_is_not_none : {X : Type 0} (o : Option X) (x : X) → o ≡ Some x → o ≡ None → ⊥
@@ -27,8 +28,7 @@ module _ {S O A M R P C F : Type 0} (J : StateWords S P C F) (W : ActorWords S O
   no_node_is_no_reason messages node (Take at message) h = h
   no_node_is_no_reason messages node (Mark at mark) h = h
 
-  pub no_node_exact : (old new : Snapshot S) (event : Event O A M) (answer : Answer C R F) (part : Option P) →
-      Happens J W old event answer part new → (answer ≡ Refused NoNode) ↔ (slice_get old.nodes (place_of event) ≡ None)
+  pub no_node_exact : NoNodeIsExact J W
   no_node_exact old new event (Accepted change) None h = absurd h
   no_node_exact old new event (Accepted change) (Some part) h =
       (λ e. absurd cc, λ e. absurd (some_is_not_none (slice_get old.nodes (place_of event)) h.0 h.2 e))
@@ -70,9 +70,7 @@ module _ {S O A M R P C F : Type 0} (J : StateWords S P C F) (W : ActorWords S O
   missing_is_told old at message node (ByState f) h e =
       absurd (some_is_not_none (slice_get old.messages message) h.0 h.1 e)
 
-  pub no_message_exact : (old new : Snapshot S) (at message : ℕ) (node : S) (answer : Answer C R F) (part : Option P) →
-      Happens J W old (Take at message) answer part new → slice_get old.nodes at ≡ Some node →
-      (answer ≡ Refused NoMessage) ↔ (slice_get old.messages message ≡ None)
+  pub no_message_exact : NoMessageIsExact J W
   no_message_exact old new at message node (Accepted change) None h there = absurd h
   no_message_exact old new at message node (Accepted change) (Some part) h there =
       (λ e. absurd cc, λ e. absurd (some_is_not_none (slice_get old.messages message) h.3.0 h.3.1 e))
@@ -142,10 +140,7 @@ module _ {S O A M R P C F : Type 0} (J : StateWords S P C F) (W : ActorWords S O
           | inr memory ↦ memory
         ]
 
-    pub accepted_exact : (old new : Snapshot S) (event : Event O A M) (change : C) (refusal : EventRefusal R F)
-        (part other : Option P) (next : Snapshot S) → AllValid J old →
-        Happens J W old event (Accepted change) part new → Happens J W old event (Refused refusal) other next →
-        IsMemory J W refusal
+    pub accepted_exact : AcceptedIsExact J W
     accepted_exact old new event change refusal None other next v h k = absurd h
     accepted_exact old new event change refusal (Some part) (Some other) next v h k = absurd k
     accepted_exact old new event change refusal (Some part) None next v h k = elim k.0 [
@@ -168,10 +163,7 @@ module _ {S O A M R P C F : Type 0} (J : StateWords S P C F) (W : ActorWords S O
     ]
     only_memory_to_offer messages node at ask bytes (ByState f) v h k = absurd k
 
-    pub offered_exact : (old new : Snapshot S) (event : Event O A M) (number : ℕ) (refusal : EventRefusal R F)
-        (part other : Option P) (next : Snapshot S) → AllValid J old →
-        Happens J W old event (Offered number) part new → Happens J W old event (Refused refusal) other next →
-        IsMemory J W refusal
+    pub offered_exact : OfferedIsExact J W
     offered_exact old new event number refusal (Some part) other next v h k = absurd h
     offered_exact old new (Local at op) number refusal None other next v h k = absurd h
     offered_exact old new (Take at message) number refusal None other next v h k = absurd h
@@ -199,9 +191,7 @@ module _ {S O A M R P C F : Type 0} (J : StateWords S P C F) (W : ActorWords S O
     ]
     only_memory_to_mark messages node next at mark (ByState f) h k = absurd k
 
-    pub marked_exact : (old new : Snapshot S) (event : Event O A M) (refusal : EventRefusal R F)
-        (part other : Option P) (next : Snapshot S) → Happens J W old event Marked part new →
-        Happens J W old event (Refused refusal) other next → IsMemory J W refusal
+    pub marked_exact : MarkedIsExact J W
     marked_exact old new event refusal (Some part) other next h k = absurd h
     marked_exact old new (Local at op) refusal None other next h k = absurd h
     marked_exact old new (Offer at ask) refusal None other next h k = absurd h

@@ -1,16 +1,15 @@
 -- A mark changes what is one node's own, and nothing else does.
-use Rattle.std.proofs.Common.{◌≡◌, ℕ, Option, Some, None, length, refl, sym, ap, ◌∙◌}
+use Rattle.std.proofs.Common.{◌≡◌, ℕ, Some, None, length, refl, sym, ap, ◌∙◌}
 use Rattle.std.specs.Prelude.{slice_get}
 use Rattle.std.proofs.lemmas.List.{length-set}
 use Rattle.hg_join.specs.declared.state.JoinState.{Ghosts as StateWords}
 use Rattle.hg_join.specs.declared.actor.Actor.{Ghosts as ActorWords}
 use Rattle.hg_world.specs.declared.event.Event.{Event}
 use Rattle.hg_world.specs.declared.event.Event.TheVariants.{Local, Offer, Take, Mark}
-use Rattle.hg_world.specs.declared.event.Answer.{Answer}
 use Rattle.hg_world.specs.declared.event.Answer.TheVariants.{Accepted, Offered, Marked, Refused}
-use Rattle.hg_world.specs.Runs.{Snapshot, place_of, Accepts, IsMarked, Happens}
-use Rattle.hg_world.specs.Alike.{HaveSameContents, HaveSameOwn}
-use Rattle.hg_world.specs.Laws.{IsNoMark}
+use Rattle.hg_world.specs.Runs.{Snapshot, place_of, Accepts, IsMarked}
+use Rattle.hg_world.specs.Alike.{HaveSameOwn}
+use Rattle.hg_world.specs.Laws.{MarksSayNothing, OthersLeaveOwn}
 use Rattle.hg_world.proofs.Places.{one_at, get_set_other, changed_same}
 
 module _ {S O A M R P C F : Type 0} (J : StateWords S P C F) (W : ActorWords S O A M R P C F)
@@ -26,11 +25,7 @@ module _ {S O A M R P C F : Type 0} (J : StateWords S P C F) (W : ActorWords S O
       length new.nodes ≡ length old.nodes
   mark_leaves_count old new at mark h = ap length h.4 ∙ simp length-set
 
-  pub mark_says_nothing : (old new : Snapshot S) (at : ℕ) (mark : M) (answer : Answer C R F) (part : Option P) →
-      Happens J W old (Mark at mark) answer part new →
-      HaveSameContents J W new old
-      × ((place : ℕ) → (place ≡ at → ⊥) → slice_get new.nodes place ≡ slice_get old.nodes place)
-      × (new.messages ≡ old.messages)
+  pub mark_says_nothing : MarksSayNothing J W
   mark_says_nothing old new at mark (Accepted change) None h = absurd h
   mark_says_nothing old new at mark (Accepted change) (Some part) h = absurd h.3
   mark_says_nothing old new at mark (Offered number) (Some part) h = absurd h
@@ -60,8 +55,7 @@ module _ {S O A M R P C F : Type 0} (J : StateWords S P C F) (W : ActorWords S O
       changed_same W.owned old.nodes new.nodes (place_of event) h.0 h.1 h.2
       (told_leaves_own h.0 h.1 change h.4.tells) h.5
 
-  pub others_leave_own : (old new : Snapshot S) (event : Event O A M) (answer : Answer C R F) (part : Option P) →
-      IsNoMark event → Happens J W old event answer part new → HaveSameOwn J W new old
+  pub others_leave_own : OthersLeaveOwn J W
   others_leave_own old new event (Accepted change) None n h = absurd h
   others_leave_own old new event (Accepted change) (Some part) n h =
       accepting_leaves_own old new event change part h

@@ -6,6 +6,7 @@ use Rattle.hg_graph.proofs.WalkLemmas.{emptied}
 use Rattle.hg_history.specs.Steps.{IsAdded}
 use Rattle.hg_history.proofs.AddLemmas.{IsAdded-start, IsAdded-step, stays_added}
 use Rattle.hg_history.proofs.absorb.add_owned_changesets.Goals as goal
+use Rattle.hg_history.proofs.absorb.add_owned_changesets.Goals.{In-Some}
 
 pub loop-changeset-init : goal.loop-changeset-init
 loop-changeset-init c =
@@ -16,38 +17,37 @@ loop-changeset-init c =
           c.requires.valid,
     )
 
+-- the changeset that is added is the next of the part
+all : (c : In-Some) → c.args.changesets.items
+    ≡ c.loop-changeset.invariant.0 ++ c.in-Some.changeset ∷ c.next.new.self.rest.items
+all c =
+    let left : c.loop-changeset.changeset-iterator.rest.items ≡ c.in-Some.changeset ∷ c.next.new.self.rest.items =
+    search rules in
+    c.loop-changeset.invariant.1 ∙ ap (λ xs. c.loop-changeset.invariant.0 ++ xs) left
+
+at : (c : In-Some) → slice_get c.args.changesets.items (length c.loop-changeset.invariant.0) ≡ Some c.in-Some.changeset
+at c =
+    let before = c.loop-changeset.invariant.0 in
+    ap (λ xs. slice_get xs (length before)) (all c)
+    ∙ slice_get-append_seam before c.in-Some.changeset c.next.new.self.rest.items
+
 pub loop-changeset-preserved : goal.loop-changeset-preserved
 loop-changeset-preserved c =
-    let part = c.args.changesets.items in
+    let h = (goal.at.loop-changeset-preserved c).In-Some in
     let x = c.in-Some.changeset in
-    let rest = c.next.new.self.rest.items in
     let before = c.loop-changeset.invariant in
-    let left : c.loop-changeset.changeset-iterator.rest.items ≡ x ∷ rest = search rules in
-    let all : part ≡ before.0 ++ x ∷ rest = before.1 ∙ ap (λ xs. before.0 ++ xs) left in
-    let at : slice_get part (length before.0) ≡ Some x =
-    ap (λ xs. slice_get xs (length before.0)) all ∙ slice_get-append_seam before.0 x rest in
-    let step = IsAdded-step c.args.graph.now c.args.phases.now part (length before.0) c.loop-changeset.graph
-    c.loop-changeset.phases before.2 x at c.in-Ok.field-0 c.add_owned.new.graph c.add_owned.new.phases
-    c.in-Ok.ensures in
+    let step = IsAdded-step _ _ _ _ _ _ before.2 _ (at h) c.in-Ok.field-0 c.add_owned.new.graph
+    c.add_owned.new.phases c.in-Ok.ensures in
     let count : length before.0 + 1 ≡ length (before.0 ++ x ∷ []) = omega (arith, length-append before.0 (x ∷ [])) in (
       before.0 ++ x ∷ [],
-      all ∙ sym (append_assoc before.0 (x ∷ []) rest),
-      subst (λ i. IsAdded c.args.graph.now c.args.phases.now part i c.add_owned.new.graph c.add_owned.new.phases) count
-          step,
+      all h ∙ sym (append_assoc before.0 (x ∷ []) c.next.new.self.rest.items),
+      subst (λ i. IsAdded c.args.graph.now c.args.phases.now c.args.changesets.items i c.add_owned.new.graph
+          c.add_owned.new.phases) count step,
     )
 
 pub returns-in-Err : goal.returns-in-Err
-returns-in-Err c =
-    let part = c.args.changesets.items in
-    let x = c.in-Some.changeset in
-    let rest = c.next.new.self.rest.items in
-    let before = c.loop-changeset.invariant in
-    let left : c.loop-changeset.changeset-iterator.rest.items ≡ x ∷ rest = search rules in
-    let all : part ≡ before.0 ++ x ∷ rest = before.1 ∙ ap (λ xs. before.0 ++ xs) left in
-    let at : slice_get part (length before.0) ≡ Some x =
-    ap (λ xs. slice_get xs (length before.0)) all ∙ slice_get-append_seam before.0 x rest in
-    stays_added c.args.graph.now c.args.phases.now part (length before.0) c.loop-changeset.graph c.loop-changeset.phases
-    before.2 x at c.in-Err.fault c.add_owned.new.graph c.add_owned.new.phases c.in-Err.ensures
+returns-in-Err c = stays_added _ _ _ _ _ _ c.loop-changeset.invariant.2 _ (at (goal.at.returns-in-Err c).In-Some)
+    c.in-Err.fault c.add_owned.new.graph c.add_owned.new.phases c.in-Err.ensures
 
 pub returns : goal.returns
 returns c =

@@ -23,7 +23,6 @@ lower_bound-requires-clause-held c =
 pub loop-bound-preserved : goal.loop-bound-preserved
 unfolding any
 loop-bound-preserved c =
-    let cs = c.args.graph.now in
     let bounds = c.args.bounds.now in
     let i = c.loop-bound.bound-index in
     let b : Node × Phase = get_or bounds i any in
@@ -32,14 +31,13 @@ loop-bound-preserved c =
     let one = c.in_ok-lower_bound.ensures.lowered in
     record {
       len = c.in_ok-lower_bound.ensures.len ∙ w.len;
-      valid = valid-lowered cs b c.args.phase c.loop-bound.phases c.lower_bound.new.phases w.valid one;
-      lowered = IsLoweredTo-step cs bounds i b c.args.phase c.args.phases.now c.loop-bound.phases
-          c.lower_bound.new.phases (slice_get-get_or bounds i any l) w.lowered one;
+      valid = valid-lowered _ _ _ _ _ w.valid one;
+      lowered = IsLoweredTo-step _ _ _ _ _ _ _
+          _ (slice_get-get_or _ _ _ l) w.lowered one;
       logged = λ start h. c.in_ok-lower_bound.ensures.logged start (w.logged start h);
       undoes = c.in_ok-lower_bound.ensures.undoes ∙ w.undoes;
-      still = still_more cs bounds i b (slice_get-get_or bounds i any l) c.args.phases.now c.loop-bound.phases
-          c.args.log.now c.loop-bound.log w.still c.lower_bound.new.phases c.lower_bound.new.log
-          c.in_ok-lower_bound.ensures.still;
+      still = still_more _ _ _ _ (slice_get-get_or _ _ _ l) _ _
+          _ _ w.still _ _ c.in_ok-lower_bound.ensures.still;
     }
 
 pub returns-clause-lowered : goal.returns-clause-lowered
@@ -55,10 +53,8 @@ returns-in_err-lower_bound-clause-memory c =
     let bounds = c.args.bounds.now in
     let i = c.loop-bound.bound-index in
     let l : i < length bounds = omega arith in
-    MatchResult-from_err c.from_residual.result _ _ c.from_residual.ensures.0
-    (λ _. higher_at c.args.graph.now bounds i (get_or bounds i any) (slice_get-get_or bounds i any l) c.args.phases.now
-    c.loop-bound.phases c.args.log.now c.loop-bound.log c.loop-bound.invariant.still
-    c.in_err-lower_bound.ensures.memory)
+    MatchResult-from_err _ _ _ c.from_residual.ensures.0 (λ _. higher_at _ _ _ _ (slice_get-get_or _ _ _ l) _
+    _ _ _ c.loop-bound.invariant.still c.in_err-lower_bound.ensures.memory)
 
 pub returns-in_err-lower_bound-clause-still : goal.returns-in_err-lower_bound-clause-still
 unfolding any
@@ -66,6 +62,5 @@ returns-in_err-lower_bound-clause-still c =
     let bounds = c.args.bounds.now in
     let i = c.loop-bound.bound-index in
     let l : i < length bounds = omega arith in
-    still_more c.args.graph.now bounds i (get_or bounds i any) (slice_get-get_or bounds i any l) c.args.phases.now
-    c.loop-bound.phases c.args.log.now c.loop-bound.log c.loop-bound.invariant.still c.lower_bound.new.phases
-    c.lower_bound.new.log c.in_err-lower_bound.ensures.still
+    still_more _ _ _ _ (slice_get-get_or _ _ _ l) _ _ _ _ c.loop-bound.invariant.still _
+    _ c.in_err-lower_bound.ensures.still

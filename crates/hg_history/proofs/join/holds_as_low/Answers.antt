@@ -21,17 +21,15 @@ phase-le Secret Secret = (λ h. omega arith, λ h. refl)
 pub returns-then-is_at : goal.returns-then-is_at
 returns-then-is_at c =
     let at = c.is_at.ensures.0 c.if-is_at.true in
-    let low = low-at c.args.graph.now c.args.phases.now c.args.changeset.now c.args.phase c.node.result
-    c.node.ensures.id c.in-Some.place c.in-Some.ensures.place c.at.result at c.at.ensures in
-    let le = phase-le c.at.result c.args.phase in
+    let low = low-at _ _ _ _ _ c.node.ensures.id _ c.in-Some.ensures.place _ at c.at.ensures in
+    let le = phase-le _ _ in
     (λ h. low.0 (le.0 (sym c.le.ensures ∙ h)), λ h. c.le.ensures ∙ le.1 (low.1 h))
 
 pub returns-else-is_at : goal.returns-else-is_at
 returns-else-is_at c = (
   λ h. absurd (true≢false (sym h ∙ c.if-is_at.false)),
-  λ h. absurd (other-not-low c.args.graph.now c.args.phases.now c.args.changeset.now c.args.phase c.node.result
-      c.node.ensures.id c.in-Some.place c.in-Some.ensures.place
-      (λ at. true≢false (sym (c.is_at.ensures.1 at) ∙ c.if-is_at.false)) h),
+  λ h. absurd (other-not-low _ _ _ _ _
+      c.node.ensures.id _ c.in-Some.ensures.place (λ at. true≢false (sym (c.is_at.ensures.1 at) ∙ c.if-is_at.false)) h),
 )
 
 pub returns-in-None : goal.returns-in-None

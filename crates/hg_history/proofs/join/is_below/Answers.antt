@@ -8,8 +8,7 @@ pub returns-then-len : goal.returns-then-len
 returns-then-len c = (
   λ h. absurd (true≢false (sym h)),
   λ below.
-      let fewer = below-length c.args.graph.now c.args.phases.now c.args.other.now c.args.other_phases.now
-      c.len.ensures.graph c.requires.len c.requires.other_len below in
+      let fewer = below-length _ _ _ _ c.len.ensures.graph c.requires.len c.requires.other_len below in
       absurd (omega (arith, fewer, c.if-len.true, c.len.ensures.len, c.len-2.ensures.len)),
 )
 
@@ -19,23 +18,19 @@ loop-place-init c = below-start c.args.graph.now c.args.phases.now (state_of c.a
 pub returns-then-not-holds_as_low : goal.returns-then-not-holds_as_low
 returns-then-not-holds_as_low c = (
   λ h. absurd (true≢false (sym h)),
-  λ h. absurd (not-below c.args.graph.now c.args.phases.now c.loop-place.place
-      (state_of c.args.other.now c.args.other_phases.now) c.in-Some.changeset.now c.at.result (sym c.in-Some.ensures)
-      c.at.ensures
+  λ h. absurd (not-below _ _ _
+      _ _ _ (sym c.in-Some.ensures) c.at.ensures
       (λ low. true≢false (sym (c.holds_as_low.ensures.1 low) ∙ c.if-not-holds_as_low.true)) h),
 )
 
 pub loop-place-preserved : goal.loop-place-preserved
 loop-place-preserved c = elim c.match-changeset_at.branch [
   | in-Some+else-not-holds_as_low w ↦
-      below-step c.args.graph.now c.args.phases.now c.loop-place.place
-      (state_of c.args.other.now c.args.other_phases.now) w.in-Some.changeset.now w.at.result
-      (sym w.in-Some.ensures) w.at.ensures
+      below-step _ _ _ _ _ _ (sym w.in-Some.ensures) w.at.ensures
       c.loop-place.invariant (w.holds_as_low.ensures.0 w.if-not-holds_as_low.false)
   | in_default w ↦
       let within : c.loop-place.place < length c.args.graph.now = omega arith in
-      absurd (missing c.args.graph.now c.loop-place.place c.changeset_at.result within c.changeset_at.ensures
-      w.in_default.is)
+      absurd (missing _ _ _ within c.changeset_at.ensures w.in_default.is)
 ]
 
 pub returns : goal.returns

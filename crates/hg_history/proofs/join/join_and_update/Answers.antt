@@ -1,21 +1,14 @@
-use Rattle.std.proofs.Common.{◌≡◌, ◌⊎◌, length, take, sym, subst}
+use Rattle.std.proofs.Common.{◌≡◌, ◌⊎◌, sym, subst}
 use Rattle.hg_phases.specs.State.{state_of}
 use Rattle.hg_phases.specs.Least.{part_of}
-use Rattle.hg_phases.specs.Log.{restored}
-use Rattle.hg_phases.specs.RootPlaces.{AreRootPlaces}
 use Rattle.hg_history.specs.Answer.{IsGrowthBeforeFault}
 use Rattle.hg_history.proofs.NothingLemmas.{growth_or_same}
+use Rattle.hg_history.proofs.UndoLemmas.{rooted_back}
 use Rattle.hg_history.proofs.join.join_and_update.Goals as goal
 
 pub update-requires-clause-rooted : goal.update-requires-clause-rooted
-update-requires-clause-rooted c =
-    let cs = c.args.graph.now in
-    let ds = c.join_logged.new.graph in
-    let start = restored c.join_logged.new.phases c.join_logged.new.log in
-    let keys = c.args.kept.now.roots in
-    subst (λ n. AreRootPlaces (take n ds) (take n start) keys) (sym c.len-before.ensures.len)
-    (subst (λ es. AreRootPlaces es (take (length cs) start) keys) (sym c.join_logged.ensures.back.front)
-    (subst (λ ls. AreRootPlaces cs ls keys) (sym c.join_logged.ensures.back.phases) c.requires.kept.roots))
+update-requires-clause-rooted c = rooted_back _ _ c.args.kept.now _ _ _ c.len-before.ensures.len
+    c.join_logged.ensures.back c.requires.kept.roots
 
 pub returns-in_ok-update-in-Ok-clause-growth : goal.returns-in_ok-update-in-Ok-clause-growth
 returns-in_ok-update-in-Ok-clause-growth c =

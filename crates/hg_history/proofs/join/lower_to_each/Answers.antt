@@ -15,8 +15,7 @@ use Rattle.hg_history.proofs.join.lower_to_each.Goals.{in-Some+in_ok-lower_bound
 pub lower_bound-requires-clause-held : goal.lower_bound-requires-clause-held
 lower_bound-requires-clause-held c =
     let bounds = (part_of (state_of c.args.other.now c.args.other_phases.now)).bounds in
-    let at = bound_at c.args.other.now c.args.other_phases.now c.requires.other_len c.loop-place.place c.in-Some.node
-    c.at.result (sym c.in-Some.ensures) c.at.ensures in
+    let at = bound_at _ _ c.requires.other_len _ _ _ (sym c.in-Some.ensures) c.at.ensures in
     c.requires.held c.loop-place.place (c.in-Some.node, c.at.result)
     (slice_get_within bounds c.loop-place.place (c.in-Some.node, c.at.result) at) at
 
@@ -26,25 +25,23 @@ loop-place-preserved c = elim c.match-node_at.branch [
       let cs = c.args.graph.now in
       let bounds = (part_of (state_of c.args.other.now c.args.other_phases.now)).bounds in
       let i = c.loop-place.place in
-      let at : slice_get bounds i ≡ Some (w.in-Some.node, w.at.result) =
-      bound_at c.args.other.now c.args.other_phases.now c.requires.other_len i w.in-Some.node w.at.result
+      let at : slice_get bounds i ≡ Some (w.in-Some.node, w.at.result) = bound_at _ _ c.requires.other_len _ _ _
       (sym w.in-Some.ensures) w.at.ensures in
       let inv = c.loop-place.invariant in
       let ens = w.in_ok-lower_bound-in-Some.ensures in
       let new = w.lower_bound.new.phases in
-      let step = IsLoweredTo-step cs bounds i (w.in-Some.node, w.at.result) c.args.phase c.args.phases.now
-      c.loop-place.phases new at inv.lowered ens.lowered in
+      let step = IsLoweredTo-step _ _ _ _ _ _ _ _ at inv.lowered ens.lowered in
       record {
         len = ap length w.phases-is ∙ ens.len ∙ inv.len;
         valid = subst (λ ks. IsValid (state_of cs ks)) (sym w.phases-is)
-            (valid-lowered cs (w.in-Some.node, w.at.result) c.args.phase c.loop-place.phases new inv.valid ens.lowered);
+            (valid-lowered _ _ _ _ _ inv.valid ens.lowered);
         lowered = subst (λ ks. IsLoweredTo cs (take (i + 1) bounds) c.args.phase c.args.phases.now ks) (sym w.phases-is)
             step;
         logged = λ start h. subst (λ ks. IsLog c.args.phase start ks c.match-node_at.log) (sym w.phases-is)
             (subst (IsLog c.args.phase start new) (sym w.log-is) (ens.logged start (inv.logged start h)));
         undoes = (λ t. restored (w.phases-is t) (w.log-is t)) ∙ ens.undoes ∙ inv.undoes;
         still = elim
-            (still_more cs bounds i (w.in-Some.node, w.at.result) at c.args.phases.now c.loop-place.phases
+            (still_more _ _ _ _ at c.args.phases.now c.loop-place.phases
             c.args.log.now c.loop-place.log inv.still new w.lower_bound.new.log ens.still) [
               | inl higher ↦ inl higher
               | inr same ↦ inr (w.phases-is ∙ same.0, w.log-is ∙ same.1)
@@ -53,17 +50,16 @@ loop-place-preserved c = elim c.match-node_at.branch [
   | in-None w ↦
       let within : c.loop-place.place < length c.args.other.now =
       omega (arith, c.loop-place-test.true, c.len-place-end.ensures.len) in
-      let at = IsAt-within c.args.other.now c.loop-place.place within in
+      let at = IsAt-within _ _ within in
       absurd (none-some at.0 (w.in-None.ensures ∙ at.1))
 ]
 
 pub returns-clause-lowered : goal.returns-clause-lowered
 returns-clause-lowered c =
     let bounds = (part_of (state_of c.args.other.now c.args.other_phases.now)).bounds in
-    let le : length bounds ≤ c.loop-place.place =
-    omega (
+    let le : length bounds ≤ c.loop-place.place = omega (
       arith,
-      bounds_len c.args.other.now c.args.other_phases.now c.requires.other_len,
+      bounds_len _ _ c.requires.other_len,
       c.loop-place-test.false,
       c.len-place-end.ensures.len,
     ) in
@@ -74,18 +70,15 @@ returns-clause-lowered c =
 pub returns-in_err-lower_bound-in-Some-clause-memory : goal.returns-in_err-lower_bound-in-Some-clause-memory
 returns-in_err-lower_bound-in-Some-clause-memory c =
     let bounds = (part_of (state_of c.args.other.now c.args.other_phases.now)).bounds in
-    let at = bound_at c.args.other.now c.args.other_phases.now c.requires.other_len c.loop-place.place c.in-Some.node
-    c.at.result (sym c.in-Some.ensures) c.at.ensures in
-    MatchResult-from_err c.from_residual.result _ _ c.from_residual.ensures.0
-    (λ _. higher_at c.args.graph.now bounds c.loop-place.place (c.in-Some.node, c.at.result) at c.args.phases.now
+    let at = bound_at _ _ c.requires.other_len _ _ _ (sym c.in-Some.ensures) c.at.ensures in
+    MatchResult-from_err _ _ _ c.from_residual.ensures.0 (λ _. higher_at _ _ _ _ at c.args.phases.now
     c.loop-place.phases c.args.log.now c.loop-place.log c.loop-place.invariant.still
     c.in_err-lower_bound-in-Some.ensures.memory)
 
 pub returns-in_err-lower_bound-in-Some-clause-still : goal.returns-in_err-lower_bound-in-Some-clause-still
 returns-in_err-lower_bound-in-Some-clause-still c =
     let bounds = (part_of (state_of c.args.other.now c.args.other_phases.now)).bounds in
-    let at = bound_at c.args.other.now c.args.other_phases.now c.requires.other_len c.loop-place.place c.in-Some.node
-    c.at.result (sym c.in-Some.ensures) c.at.ensures in
-    still_more c.args.graph.now bounds c.loop-place.place (c.in-Some.node, c.at.result) at c.args.phases.now
+    let at = bound_at _ _ c.requires.other_len _ _ _ (sym c.in-Some.ensures) c.at.ensures in
+    still_more _ _ _ _ at c.args.phases.now
     c.loop-place.phases c.args.log.now c.loop-place.log c.loop-place.invariant.still c.lower_bound.new.phases
     c.lower_bound.new.log c.in_err-lower_bound-in-Some.ensures.still

@@ -4,6 +4,7 @@ use Rattle.hg_phases.specs.declared.phase.Phase.TheVariants.{Public}
 use Rattle.hg_phases.proofs.RootLemmas.{opened-valid}
 use Rattle.hg_phases.proofs.OpenLemmas.{parent_within, highest-here, opened-more, opened-all}
 use Rattle.hg_phases.proofs.open.phases_under.Goals as goal
+use Rattle.hg_phases.proofs.open.phases_under.Goals.{After-loop-place}
 
 pub phase_at-first-requires : goal.phase_at-first-requires
 phase_at-first-requires c =
@@ -26,39 +27,34 @@ loop-place-preserved c =
     subst (λ ks. MatchOption c.parent_places-parents.result.second (c.phase_at-second.result ≡ Public)
     (λ p. slice_get ks p ≡ Some c.phase_at-second.result)) c.deref-in-loop-place.ensures.value
     c.phase_at-second.ensures in
-    opened-more c.args.graph.now c.args.roots.now c.loop-place.phases.items c.loop-place.place c.loop-place.invariant.0
-    c.loop-place.invariant.1 c.higher-in-loop-place.result c.push.new.self.items c.in_ok-push.ensures.items
-    (λ n at. highest-here c.args.graph.now c.len-place-end.ensures.graph c.args.roots.now c.loop-place.phases.items
-    c.loop-place.invariant.1 c.in_ok-marks.marks.items c.in_ok-marks.ensures c.loop-place.place n at
-    c.parent_places-parents.result.first c.parent_places-parents.result.second c.parent_places-parents.ensures.places
-    c.index.result.now c.phase_at-first.result c.phase_at-second.result c.higher-in-loop-place.result
+    opened-more _ _ _ _ c.loop-place.invariant.0
+    c.loop-place.invariant.1 _ _ c.in_ok-push.ensures.items
+    (λ n at. highest-here _ c.len-place-end.ensures.graph _ _
+    c.loop-place.invariant.1 _ c.in_ok-marks.ensures _ n at
+    _ _ c.parent_places-parents.ensures.places
+    _ _ _ _
     (slice_get-get_or c.in_ok-marks.marks.items c.loop-place.place c.index.result.now
     (omega (arith, c.in_ok-marks.ensures.len, c.len-place-end.ensures.len, c.loop-place-test.true))
     ∙ ap (λ k. Some k) (sym c.index.ensures)) first second
     c.higher.result c.higher.ensures c.higher-in-loop-place.ensures)
 
+long : (c : After-loop-place) → length c.loop-place.phases.items ≡ length c.args.graph.now
+long c = omega (
+  arith,
+  c.loop-place.invariant.0,
+  c.loop-place-test.false,
+  c.loop-place.auto.place-end,
+  c.len-place-end.ensures.len,
+)
+
 pub returns-clause-opened : goal.returns-clause-opened
 returns-clause-opened c =
-    let len : length c.loop-place.phases.items ≡ length c.args.graph.now =
-    omega (
-      arith,
-      c.loop-place.invariant.0,
-      c.loop-place-test.false,
-      c.loop-place.auto.place-end,
-      c.len-place-end.ensures.len,
-    ) in
+    let len = long (goal.at.returns-clause-opened c).After-loop-place in
     (len, opened-all c.args.graph.now c.args.roots.now c.loop-place.phases.items len c.loop-place.invariant.1)
 
 pub returns-clause-valid : goal.returns-clause-valid
 returns-clause-valid c =
-    let len : length c.loop-place.phases.items ≡ length c.args.graph.now =
-    omega (
-      arith,
-      c.loop-place.invariant.0,
-      c.loop-place-test.false,
-      c.loop-place.auto.place-end,
-      c.len-place-end.ensures.len,
-    ) in
+    let len = long (goal.at.returns-clause-valid c).After-loop-place in
     opened-valid c.args.graph.now c.args.roots.now _
     (opened-all c.args.graph.now c.args.roots.now c.loop-place.phases.items len c.loop-place.invariant.1)
     c.len-place-end.ensures.graph

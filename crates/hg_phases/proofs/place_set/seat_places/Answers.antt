@@ -28,15 +28,14 @@ loop-place-preserved c =
     let long = ap length order_is in
     record {
       seated =
-          let seated = seated-push c.loop-place.order.items c.loop-place.seats.items i.seated c.loop-place.place
-          (sym i.at) in
+          let seated = seated-push _ _ i.seated _ (sym i.at) in
           rw (← order_is, ← seats_is) at seated;
       at = omega (arith, long, length-append c.loop-place.order.items (c.loop-place.place ∷ []), i.at);
       within = omega (arith, c.loop-place-test.true);
-      places = begins-push c.args.order.now.items c.loop-place.order.items c.push.new.self.items c.loop-place.place
+      places = begins-push _ _ _ _
           order_is i.places;
-      numbers = begins-push c.args.seats.now.items c.loop-place.seats.items c.push-in-loop-place.new.self.items
-          c.loop-place.place seats_is i.numbers;
+      numbers = begins-push _ _ _
+          _ seats_is i.numbers;
       flags = λ count le.
           let place = c.loop-place.place in
           let firsts = c.args.seats.now.items in
@@ -45,18 +44,14 @@ loop-place-preserved c =
           omega (arith, ap length i.numbers.1, length-append firsts i.numbers.0, i.seated.len, i.at) in
           let more : (place - before) + 1 ≡ (place + 1) - before = omega (arith, first) in
           subst (λ xs. flags_of xs count ≡ flags_of firsts count ++ replicate ((place + 1) - before) false)
-          (sym seats_is)
-          (subst (λ n. flags_of (c.loop-place.seats.items ++ place ∷ []) count
-          ≡ flags_of firsts count ++ replicate n false) more
-          (flags-push c.loop-place.seats.items count place (place - before) (flags_of firsts count)
+          (sym seats_is) (subst (λ n. flags_of (c.loop-place.seats.items ++ place ∷ []) count
+          ≡ flags_of firsts count ++ replicate n false) more (flags-push _ _ _ _ _
           (omega (arith, le, first)) (i.flags count le)));
     }
 
 pub returns-in_err-push-clause-order : goal.returns-in_err-push-clause-order
 returns-in_err-push-clause-order c =
-    begins-taken c.args.order.now.items c.push.new.self.items
-    (begins-same c.args.order.now.items c.loop-place.order.items c.push.new.self.items c.in_err-push.ensures.items
-    c.loop-place.invariant.places)
+    begins-taken _ _ (begins-same _ _ _ c.in_err-push.ensures.items c.loop-place.invariant.places)
 
 pub returns-in_err-push-clause-seats : goal.returns-in_err-push-clause-seats
 returns-in_err-push-clause-seats c =
@@ -64,15 +59,11 @@ returns-in_err-push-clause-seats c =
 
 pub returns-in_err-push-2-clause-order : goal.returns-in_err-push-2-clause-order
 returns-in_err-push-2-clause-order c =
-    begins-taken c.args.order.now.items c.push.new.self.items
-    (begins-push c.args.order.now.items c.loop-place.order.items c.push.new.self.items c.loop-place.place
-    c.in_ok-push.ensures.items c.loop-place.invariant.places)
+    begins-taken _ _ (begins-push _ _ _ _ c.in_ok-push.ensures.items c.loop-place.invariant.places)
 
 pub returns-in_err-push-2-clause-seats : goal.returns-in_err-push-2-clause-seats
 returns-in_err-push-2-clause-seats c =
-    begins-taken c.args.seats.now.items c.push-in-loop-place.new.self.items
-    (begins-same c.args.seats.now.items c.loop-place.seats.items c.push-in-loop-place.new.self.items
-    c.in_err-push-2.ensures.items c.loop-place.invariant.numbers)
+    begins-taken _ _ (begins-same _ _ _ c.in_err-push-2.ensures.items c.loop-place.invariant.numbers)
 
 pub returns-clause-order : goal.returns-clause-order
 returns-clause-order c =

@@ -1,12 +1,10 @@
 use Rattle.std.proofs.Common.{◌↔◌, ℕ, List, Contains, sym, subst}
-use Rattle.hg_graph.proofs.QueueLemmas.{widens-alone}
 use Rattle.hg_phases.specs.RootPlaces.{IsRootPlace}
 use Rattle.hg_phases.proofs.root_places.roots_at.Goals as goal
 
 pub roots_listed-requires-clause-all : goal.roots_listed-requires-clause-all
 roots_listed-requires-clause-all c p =
-    let waits = widens-alone (Contains c.places.result.now) c.new-queue.result c.insert_each.new.self
-    c.new-queue.ensures c.in_ok-insert_each.ensures p in
+    let waits = c.in_ok-queue.ensures.answer p in
     let root = c.requires.rooted.settled p in
     let told = c.places.ensures p in
     subst (λ (ks : List ℕ). Contains ks p ↔ IsRootPlace c.args.graph.now c.args.phases.now p) (sym c.as_set.ensures)

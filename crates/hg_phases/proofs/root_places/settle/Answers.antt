@@ -4,14 +4,10 @@ use Rattle.hg_phases.proofs.root_places.settle.Goals as goal
 
 pub returns-then-is_root : goal.returns-then-is_root
 returns-then-is_root c =
-    let place = c.args.place in
-    settle-root c.args.graph.now c.args.phases.now c.args.roots.now place
-    (omega (arith, c.requires.within, c.requires.seats)) (c.is_root.ensures.0 c.if-is_root.true) c.insert.new.self
+    settle-root _ _ _ _ (omega (arith, c.requires.within, c.requires.seats)) (c.is_root.ensures.0 c.if-is_root.true) _
     c.insert.ensures
 
 pub returns-else-is_root : goal.returns-else-is_root
 returns-else-is_root c =
-    let place = c.args.place in
-    settle-other c.args.graph.now c.args.phases.now c.args.roots.now place
-    (omega (arith, c.requires.within, c.requires.seats))
-    (λ root. true≢false (sym (c.is_root.ensures.1 root) ∙ c.if-is_root.false)) c.remove.new.self c.remove.ensures
+    settle-other _ _ _ _ (omega (arith, c.requires.within, c.requires.seats))
+    (λ root. true≢false (sym (c.is_root.ensures.1 root) ∙ c.if-is_root.false)) _ c.remove.ensures

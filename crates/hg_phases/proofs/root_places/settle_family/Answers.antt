@@ -10,10 +10,7 @@ use Rattle.hg_phases.proofs.root_places.settle_family.Goals as goal
 
 pub loop-child-init : goal.loop-child-init
 loop-child-init c =
-    let place = c.args.place in
-    settled-less c.args.graph.now c.args.phases.now (λ p. place ≡ p)
-    (λ p. (place ≡ p) ⊎ Contains (take 0 c.children-child-items.result.now) p) c.args.roots.now c.settle.new.roots
-    c.settle.ensures (λ p r. elim r [ inl e ↦ e | inr h ↦ absurd (Contains-none p h) ])
+    settled-less _ _ _ _ _ _ c.settle.ensures (λ p r. elim r [ inl e ↦ e | inr h ↦ absurd (Contains-none _ h) ])
 
 pub settle-requires-in-loop-child-clause-seats : goal.settle-requires-in-loop-child-clause-seats
 settle-requires-in-loop-child-clause-seats c = c.loop-child.invariant.len ∙ c.requires.seats
@@ -28,26 +25,17 @@ settle-requires-in-loop-child-clause-within c =
 
 pub loop-child-preserved : goal.loop-child-preserved
 loop-child-preserved c =
-    let place = c.args.place in
-    let items = c.children-child-items.result.now in
-    let i = c.loop-child.child-index in
-    settled-then c.args.graph.now c.args.phases.now (λ p. (place ≡ p) ⊎ Contains (take i items) p)
-    (λ p. get_or items i 0 ≡ p) (λ p. (place ≡ p) ⊎ Contains (take (i + 1) items) p) c.args.roots.now
-    c.loop-child.roots c.settle-in-loop-child.new.roots c.loop-child.invariant c.settle-in-loop-child.ensures
-    (λ p r. elim r [
+    settled-then _ _ _ _ _ _ _ _ c.loop-child.invariant c.settle-in-loop-child.ensures (λ p r. elim r [
       | inl e ↦ inl (inl e)
-      | inr h ↦ elim ((taken_one items i 0 p c.loop-child-test.true).0 h) [ inl old ↦ inl (inr old) | inr e ↦ inr e ]
+      | inr h ↦ elim ((taken_one _ _ _ _ c.loop-child-test.true).0 h) [ inl old ↦ inl (inr old) | inr e ↦ inr e ]
     ])
 
 pub returns : goal.returns
 returns c =
-    let place = c.args.place in
     let items = c.children-child-items.result.now in
     let i = c.loop-child.child-index in
     let all : take i items ≡ items = take_all i items c.loop-child-test.false in
-    settled-less c.args.graph.now c.args.phases.now (λ p. (place ≡ p) ⊎ Contains (take i items) p)
-    (IsFamily c.args.graph.now place) c.args.roots.now c.loop-child.roots c.loop-child.invariant
-    (λ p r. elim r [
+    settled-less _ _ _ _ _ _ c.loop-child.invariant (λ p r. elim r [
       | inl e ↦ inl e
       | inr parent ↦ inr (subst (λ xs. Contains xs p) (sym all) ((c.children-child-items.ensures.exact p).1 parent))
     ])

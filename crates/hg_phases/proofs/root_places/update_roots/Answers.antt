@@ -7,22 +7,15 @@ use Rattle.hg_phases.proofs.root_places.update_roots.Goals as goal
 
 pub settle_logged-requires-clause-logged : goal.settle_logged-requires-clause-logged
 settle_logged-requires-clause-logged c =
-    let now = c.args.phases.now in
-    let log = c.args.log.now in
-    λ k d h. omega
-    (arith, within_log c.requires.logged.0 (restored now log) now log c.requires.logged.1 k d h, c.requires.len)
+    λ k d h. omega (arith, within_log _ _ _ _ c.requires.logged.1 k d h, c.requires.len)
 
 pub returns-clause-updated : goal.returns-clause-updated
 returns-clause-updated c =
     let cs = c.args.graph.now in
-    let now = c.args.phases.now in
-    let log = c.args.log.now in
     let old = c.args.roots.now in
     let more = replicate (c.len.result - length old) false in
     let grown = c.in_ok-grow.ensures.grown in
-    roots-updated cs c.len.ensures.graph c.requires.logged.0 (restored now log) now log
-    c.requires.logged.1 c.args.before old c.grow.new.self c.settle_added.new.roots
-    c.settle_logged.new.roots c.requires.within c.requires.rooted
+    roots-updated _ c.len.ensures.graph _ _ _ _ c.requires.logged.1 _ _ _ _ _ c.requires.within c.requires.rooted
     (omega (
       arith,
       ap length grown,
@@ -32,6 +25,5 @@ returns-clause-updated c =
       length-take-le c.args.before cs c.requires.within,
       c.requires.within,
       c.len.ensures.len,
-    ))
-    (ap (take (length old)) grown ∙ take_at old more (length old) refl) c.settle_added.ensures
+    )) (ap (take (length old)) grown ∙ take_at old more (length old) refl) c.settle_added.ensures
     c.settle_logged.ensures

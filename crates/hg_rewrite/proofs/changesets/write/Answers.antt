@@ -16,10 +16,9 @@ returns-in_err-check_entries-clause-answer c =
 
 pub returns-in_err-check_entries-clause-memory : goal.returns-in_err-check_entries-clause-memory
 returns-in_err-check_entries-clause-memory c =
-    let p = err_from_is_err_and c.from_residual.result c.from_residual.ensures.1 in
     let r = c.in_err-check_entries.field-0.0 in
     λ e. never _ r (entries_tell c.args.entries.now) c.in_err-check_entries.ensures
-    (told c.from_residual.result _ r p.1 p.2 e)
+    (told _ r c.from_residual.ensures.1 e)
 
 pub returns-in_err-texts-clause-answer : goal.returns-in_err-texts-clause-answer
 returns-in_err-texts-clause-answer c =

@@ -1,4 +1,4 @@
-use Rattle.std.proofs.Common.{List, ◌∷◌, [], map, refl, ap, subst, ◌∙◌}
+use Rattle.std.proofs.Common.{List, ◌∷◌, [], map, ap, subst, ◌∙◌, Err}
 use Rattle.hg_changeset.specs.EntryText.{entry_text}
 use Rattle.hg_rewrite.specs.Parts.{with_extra, NewChangeset, contents_of, on_parents, written}
 use Rattle.hg_rewrite.specs.Refusals.{entry_refused, changeset_refused}
@@ -31,6 +31,6 @@ returns-in-Err-clause-memory c = λ e.
     let node = c.args.node in
     let entry = c.args.entry.now in (
       fine_unnoted key node entry (wanting_entry (with_extra key node entry) c.in-Err.fault c.in-Err.ensures
-          (told _ _ _ refl c.entry_refusal.ensures e)),
+          (told (Err c.entry_refusal.result) _ c.entry_refusal.ensures e)),
       tt,
     )

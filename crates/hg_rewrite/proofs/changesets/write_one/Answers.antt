@@ -1,4 +1,4 @@
-use Rattle.std.proofs.Common.{List, ◌∷◌, [], map, refl, ap, subst, ◌∙◌}
+use Rattle.std.proofs.Common.{List, ◌∷◌, [], map, ap, subst, ◌∙◌, Err}
 use Rattle.hg_changeset.specs.EntryText.{entry_text}
 use Rattle.hg_rewrite.specs.Parts.{NewChangeset, contents_of, on_parents, written}
 use Rattle.hg_rewrite.specs.Refusals.{entry_refused, changeset_refused}
@@ -22,6 +22,7 @@ returns-in-Ok-clause-memory c = λ e. (written_entry c.args.entry.now c.in-Ok.te
 
 pub returns-in-Err-clause-memory : goal.returns-in-Err-clause-memory
 returns-in-Err-clause-memory c = λ e. (
-  wanting_entry c.args.entry.now c.in-Err.fault c.in-Err.ensures (told _ _ _ refl c.entry_refusal.ensures e),
+  wanting_entry c.args.entry.now c.in-Err.fault c.in-Err.ensures
+      (told (Err c.entry_refusal.result) _ c.entry_refusal.ensures e),
   tt,
 )

@@ -16,25 +16,22 @@ pub returns-in_err-check_visible-clause-answer : goal.returns-in_err-check_visib
 returns-in_err-check_visible-clause-answer c =
     let p = err_from_is_err_and c.from_residual-in_err-check_visible.result
     c.from_residual-in_err-check_visible.ensures.1 in
-    rw (p.1, p.2) (refused_hidden c.args.replica.now c.args.pins.now c.args.op.now
-    c.in_err-check_visible.field-0.0 c.in_ok-check_known.ensures.answer c.in_err-check_visible.ensures.answer)
+    rw (p.1, p.2) (refused_hidden c.args.replica.now c.args.pins.now c.args.op.now c.in_ok-check_known.ensures.answer
+    c.in_err-check_visible.field-0.0 c.in_err-check_visible.ensures.answer)
 
 pub returns-in_err-check_known-clause-memory : goal.returns-in_err-check_known-clause-memory
 returns-in_err-check_known-clause-memory c =
     let s = c.args.replica.now in
     let op = c.args.op.now in
-    let p = err_from_is_err_and c.from_residual.result c.from_residual.ensures.1 in
     λ e. never (unknown_nodes s op) c.in_err-check_known.field-0.0
     (unknown_tells s op) c.in_err-check_known.ensures.answer
-    (told c.from_residual.result _ c.in_err-check_known.field-0.0 p.1 p.2 e)
+    (told _ c.in_err-check_known.field-0.0 c.from_residual.ensures.1 e)
 
 pub returns-in_err-check_visible-clause-memory : goal.returns-in_err-check_visible-clause-memory
 returns-in_err-check_visible-clause-memory c =
-    let p = err_from_is_err_and c.from_residual-in_err-check_visible.result
-    c.from_residual-in_err-check_visible.ensures.1 in
     λ e. wanting_hidden c.args.replica.now c.args.pins.now c.args.op.now c.in_ok-check_known.ensures.answer
     (c.in_err-check_visible.ensures.memory (ap (λ x. Err x)
-    (told c.from_residual-in_err-check_visible.result _ c.in_err-check_visible.field-0.0 p.1 p.2 e)))
+    (told _ c.in_err-check_visible.field-0.0 c.from_residual-in_err-check_visible.ensures.1 e)))
 
 pub returns-clause-answer : goal.returns-clause-answer
 returns-clause-answer c =

@@ -22,29 +22,26 @@ pub returns-in_err-check_known-clause-memory : goal.returns-in_err-check_known-c
 returns-in_err-check_known-clause-memory c =
     let s = c.replica-replica.result.now in
     let op = c.args.op.now in
-    let p = err_from_is_err_and c.from_residual.result c.from_residual.ensures.1 in
     λ e. never (unknown_nodes s op) c.in_err-check_known.field-0.0
     (unknown_tells s op) c.in_err-check_known.ensures.answer
-    (told c.from_residual.result _ c.in_err-check_known.field-0.0 p.1 p.2 e)
+    (told _ c.in_err-check_known.field-0.0 c.from_residual.ensures.1 e)
 
 pub returns-in_err-check_known-clause-later : goal.returns-in_err-check_known-clause-later
 returns-in_err-check_known-clause-later c =
     let s = c.replica-replica.result.now in
     let op = c.args.op.now in
-    let p = err_from_is_err_and c.from_residual.result c.from_residual.ensures.1 in
     λ e. never (unknown_nodes s op) c.in_err-check_known.field-0.0
     (unknown_tells s op) c.in_err-check_known.ensures.answer
-    (told c.from_residual.result _ c.in_err-check_known.field-0.0 p.1 p.2 e)
+    (told _ c.in_err-check_known.field-0.0 c.from_residual.ensures.1 e)
 
 pub returns-in_err-check_shown-clause-answer : goal.returns-in_err-check_shown-clause-answer
 returns-in_err-check_shown-clause-answer c =
     let op = c.args.op.now in
     let p = err_from_is_err_and c.from_residual-in_err-check_shown.result
     c.from_residual-in_err-check_shown.ensures.1 in
-    rw (p.1, p.2) (refused_hidden c.args.kept.now.replica c.args.kept.now.pins op c.in_err-check_shown.field-0.0
+    rw (p.1, p.2) (refused_hidden c.args.kept.now.replica c.args.kept.now.pins op
     (subst (λ (s : ReplicaState). NoneApplies (unknown_nodes s op)) c.replica-replica.ensures.replica
-    c.in_ok-check_known.ensures.answer)
-    (inr c.in_err-check_shown.ensures))
+    c.in_ok-check_known.ensures.answer) c.in_err-check_shown.field-0.0 (inr c.in_err-check_shown.ensures))
 
 pub returns-clause-answer : goal.returns-clause-answer
 returns-clause-answer c =

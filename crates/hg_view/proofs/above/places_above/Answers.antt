@@ -1,5 +1,4 @@
 use Rattle.std.proofs.Common.{◌↔◌, ℕ, List, length, Contains, sym, subst, true≢false, ◌∙◌}
-use Rattle.hg_graph.proofs.QueueLemmas.{widens-alone}
 use Rattle.hg_view.specs.Above.{IsAbove}
 use Rattle.hg_view.proofs.AboveLemmas.{IsSearched, IsSearched-start, IsSearched-dropped, IsSearched-found}
 use Rattle.hg_view.proofs.AboveLemmas.{dropped_smaller, found_smaller, found_all, taken_within}
@@ -10,31 +9,27 @@ loop-place-init c =
     let cs = c.args.graph.now in
     let tops = c.args.tops.now in
     let common = c.args.common.now in
-    let fresh = c.insert_each.new.self in
-    let shared = c.insert_each-2.new.self in (
+    let fresh = c.in_ok-fresh.fresh in
+    let shared = c.in_ok-shared.shared in (
       length cs,
       subst (λ found. IsSearched cs tops common fresh shared found (length cs)) (sym c.new-found.ensures.items)
           (IsSearched-start cs c.is_valid.ensures fresh shared c.requires.tops c.requires.common
-          (widens-alone (Contains tops) c.new-fresh.result fresh c.new-fresh.ensures c.in_ok-insert_each.ensures)
-          (widens-alone (Contains common) c.new-shared.result shared c.new-shared.ensures
-          c.in_ok-insert_each-2.ensures)),
+          c.in_ok-fresh.ensures.answer c.in_ok-shared.ensures.answer),
     )
 
 pub insert_parents-requires : goal.insert_parents-requires
 insert_parents-requires c =
-    taken_within c.args.graph.now c.is_valid.ensures c.loop-place.invariant.1 c.in-Some.place
-    c.pop_last.new.self c.in-Some.ensures
+    taken_within _ c.is_valid.ensures c.loop-place.invariant.1 _ _ c.in-Some.ensures
 
 pub loop-place-preserved-in_ok-insert_parents : goal.loop-place-preserved-in_ok-insert_parents
 loop-place-preserved-in_ok-insert_parents c =
     let cs = c.args.graph.now in
     let next = c.insert_parents.new.self in
     let shared = c.is_under.new.waiting in
-    let step = IsSearched-found cs c.is_valid.ensures c.loop-place.invariant.1 c.in-Some.place
-    c.pop_last.new.self c.in-Some.ensures shared
+    let step = IsSearched-found _ c.is_valid.ensures c.loop-place.invariant.1 _ _ c.in-Some.ensures _
     (record { within = c.in_ok-is_under.ensures.within; under = c.in_ok-is_under.ensures.under })
     (λ h. true≢false (sym (c.in_ok-is_under.ensures.answer.1 h) ∙ c.if-not-branch.true))
-    next c.in_ok-insert_parents.ensures in (
+    _ c.in_ok-insert_parents.ensures in (
       c.in-Some.place,
       subst (λ found. IsSearched cs c.args.tops.now c.args.common.now next shared found c.in-Some.place)
           (sym c.in_ok-push.ensures.items) step,
@@ -42,11 +37,10 @@ loop-place-preserved-in_ok-insert_parents c =
 
 pub loop-place-smaller-in_ok-insert_parents : goal.loop-place-smaller-in_ok-insert_parents
 loop-place-smaller-in_ok-insert_parents c =
-    found_smaller c.args.graph.now c.is_valid.ensures c.loop-place.invariant.1 c.in-Some.place
-    c.pop_last.new.self c.in-Some.ensures c.is_under.new.waiting
+    found_smaller _ c.is_valid.ensures c.loop-place.invariant.1 _ _ c.in-Some.ensures _
     (record { within = c.in_ok-is_under.ensures.within; under = c.in_ok-is_under.ensures.under })
     (λ h. true≢false (sym (c.in_ok-is_under.ensures.answer.1 h) ∙ c.if-not-branch.true))
-    c.insert_parents.new.self c.in_ok-insert_parents.ensures
+    _ c.in_ok-insert_parents.ensures
 
 pub loop-place-preserved : goal.loop-place-preserved
 loop-place-preserved c = (
@@ -59,13 +53,11 @@ loop-place-preserved c = (
 
 pub loop-place-smaller : goal.loop-place-smaller
 loop-place-smaller c =
-    dropped_smaller c.args.graph.now c.is_valid.ensures c.loop-place.invariant.1 c.in-Some.place
-    c.pop_last.new.self c.in-Some.ensures c.is_under.new.waiting
+    dropped_smaller _ c.is_valid.ensures c.loop-place.invariant.1 _ _ c.in-Some.ensures _
     (record { within = c.in_ok-is_under.ensures.within; under = c.in_ok-is_under.ensures.under })
     (c.in_ok-is_under.ensures.answer.0 c.if-not-branch.false)
 
 pub returns-clause-exact : goal.returns-clause-exact
 returns-clause-exact c = subst (λ (found : List ℕ). (k : ℕ) → Contains found k
     ↔ IsAbove c.args.graph.now c.args.tops.now c.args.common.now k) (sym c.reverse.ensures.items)
-    (found_all c.args.graph.now c.is_valid.ensures c.loop-place.invariant.1
-    c.in_default.ensures)
+    (found_all _ c.is_valid.ensures c.loop-place.invariant.1 c.in_default.ensures)

@@ -14,9 +14,8 @@ pub loop-place-init : goal.loop-place-init
 loop-place-init c =
     let s = c.args.replica.now in (
       length (changesets s.history),
-      IsDescended-start (changesets s.history) c.is_valid.ensures.graph (IsCommonAt s c.args.other.now)
-          (common_within s c.args.other.now) c.requires.closed c.args.childless.now c.requires.childless
-          c.new-waiting.result c.visit_each.new.waiting c.new-found.result.items c.visit_each.new.found.items
+      IsDescended-start _ c.is_valid.ensures.graph _
+          (common_within s _) c.requires.closed _ c.requires.childless _ _ _ _
           c.new-waiting.ensures c.new-found.ensures.items c.in_ok-visit_each.ensures.waits
           c.in_ok-visit_each.ensures.finds,
     )
@@ -24,21 +23,16 @@ loop-place-init c =
 pub visit-requires : goal.visit-requires
 visit-requires c =
     let s = c.args.replica.now in
-    next_within (changesets s.history) c.is_valid.ensures.graph (IsCommonAt s c.args.other.now)
-    (common_within s c.args.other.now) c.requires.closed c.args.childless.now c.requires.childless
-    c.loop-place.waiting c.loop-place.found.items c.loop-place.invariant.0 c.loop-place.invariant.1
-    c.in-Some.place c.pop_last.new.self c.in-Some.ensures
+    next_within _ c.is_valid.ensures.graph _ (common_within s _) c.requires.closed _ c.requires.childless
+    _ _ _ c.loop-place.invariant.1 _ _ c.in-Some.ensures
 
 step : (c : goal.In_ok-visit) → IsDescended (changesets c.args.replica.now.history)
     (IsCommonAt c.args.replica.now c.args.other.now) c.args.childless.now c.visit.new.waiting
     c.visit.new.found.items c.in-Some.place × (past c.visit.new.waiting < past c.loop-place.waiting)
 step c =
     let s = c.args.replica.now in
-    IsDescended-step (changesets s.history) c.is_valid.ensures.graph (IsCommonAt s c.args.other.now)
-    (common_within s c.args.other.now) c.requires.closed c.args.childless.now c.requires.childless
-    c.loop-place.waiting c.loop-place.found.items c.loop-place.invariant.0 c.loop-place.invariant.1
-    c.in-Some.place c.pop_last.new.self c.in-Some.ensures
-    c.visit.new.waiting c.visit.new.found.items c.in_ok-visit.ensures.waits c.in_ok-visit.ensures.finds
+    IsDescended-step _ c.is_valid.ensures.graph _ (common_within s _) c.requires.closed _ c.requires.childless
+    _ _ _ c.loop-place.invariant.1 _ _ c.in-Some.ensures _ _ c.in_ok-visit.ensures.waits c.in_ok-visit.ensures.finds
 
 pub loop-place-preserved : goal.loop-place-preserved
 loop-place-preserved c = (c.in-Some.place, (step c).0)
@@ -49,10 +43,8 @@ loop-place-smaller c = (step c).1
 pub returns-clause-exact : goal.returns-clause-exact
 returns-clause-exact c =
     let s = c.args.replica.now in
-    IsDescended-end (changesets s.history) c.is_valid.ensures.graph (IsCommonAt s c.args.other.now)
-    (common_within s c.args.other.now) c.requires.closed c.args.childless.now c.requires.childless
-    c.loop-place.waiting c.loop-place.found.items c.loop-place.invariant.0 c.loop-place.invariant.1
-    c.in_default.ensures
+    IsDescended-end _ c.is_valid.ensures.graph _ (common_within s _) c.requires.closed _ c.requires.childless
+    _ _ _ c.loop-place.invariant.1 c.in_default.ensures
 
 pub returns-clause-covers : goal.returns-clause-covers
 returns-clause-covers c =

@@ -12,31 +12,26 @@ returns-then-not-is_in_common-clause-waits c =
     let place = c.args.place in
     let old = c.args.waiting.now in
     let new = c.insert_parents.new.self in
-    goes-up (changesets c.args.replica.now.history) (IsCommonAt c.args.replica.now c.args.other.now) place
-    (λ so. true≢false (sym (c.is_in_common.ensures.1 so) ∙ c.if-not-is_in_common.true)) old new
+    goes-up _ _ _ (λ so. true≢false (sym (c.is_in_common.ensures.1 so) ∙ c.if-not-is_in_common.true)) _ _
     (subst (λ (cs : List Contents). (k : ℕ) → Contains new k ↔ (Contains old k ⊎ IsParentPlace cs place k))
     c.graph.ensures.graph c.in_ok-insert_parents.ensures)
 
 pub returns-then-not-is_in_common-clause-finds : goal.returns-then-not-is_in_common-clause-finds
 returns-then-not-is_in_common-clause-finds c =
-    finds-nothing (changesets c.args.replica.now.history) (IsCommonAt c.args.replica.now c.args.other.now) c.args.place
-    (λ top. true≢false (sym (c.is_in_common.ensures.1 top.0) ∙ c.if-not-is_in_common.true)) c.args.found.now.items
+    finds-nothing _ _ _ (λ top. true≢false (sym (c.is_in_common.ensures.1 top.0) ∙ c.if-not-is_in_common.true)) _
 
 pub returns-then-has_child_in_common-clause-waits : goal.returns-then-has_child_in_common-clause-waits
 returns-then-has_child_in_common-clause-waits c =
-    goes-nowhere (changesets c.args.replica.now.history) (IsCommonAt c.args.replica.now c.args.other.now) c.args.place
-    (c.is_in_common.ensures.0 c.if-not-is_in_common.false) c.args.waiting.now
+    goes-nowhere _ _ _ (c.is_in_common.ensures.0 c.if-not-is_in_common.false) _
 
 pub returns-then-has_child_in_common-clause-finds : goal.returns-then-has_child_in_common-clause-finds
 returns-then-has_child_in_common-clause-finds c =
     let child = c.has_child_in_common.ensures.0 c.if-has_child_in_common.true in
-    finds-nothing (changesets c.args.replica.now.history) (IsCommonAt c.args.replica.now c.args.other.now) c.args.place
-    (λ top. top.1 child.0 child.1 child.2) c.args.found.now.items
+    finds-nothing _ _ _ (λ top. top.1 child.0 child.1 child.2) _
 
 pub returns-clause-waits : goal.returns-clause-waits
 returns-clause-waits c =
-    goes-nowhere (changesets c.args.replica.now.history) (IsCommonAt c.args.replica.now c.args.other.now) c.args.place
-    (c.is_in_common.ensures.0 c.if-not-is_in_common.false) c.args.waiting.now
+    goes-nowhere _ _ _ (c.is_in_common.ensures.0 c.if-not-is_in_common.false) _
 
 pub returns-clause-finds : goal.returns-clause-finds
 returns-clause-finds c =

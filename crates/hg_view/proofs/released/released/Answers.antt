@@ -30,62 +30,43 @@ loop-place-init c =
 pub wait_parents-requires : goal.wait_parents-requires
 wait_parents-requires c =
     let place = c.in-Some.place in
-    subst (λ (cs : List Contents). place < length cs) (sym c.graph-graph.ensures.graph)
-    (placed_within (changesets c.args.replica.now.history) c.in-Some-released_at.one place
+    subst (λ (cs : List Contents). place < length cs) (sym c.graph-graph.ensures.graph) (placed_within _ _ _
     c.in-Some-released_at.ensures.0)
 
 pub loop-place-smaller-in-Continue-branch-3 : goal.loop-place-smaller-in-Continue-branch-3
 loop-place-smaller-in-Continue-branch-3 c =
-    let cs = changesets c.args.replica.now.history in
-    let waiting = c.loop-place.waiting in
     let rest = c.pop_last.new.self in
     let place = c.in-Some.place in
     let now = c.wait_parents.new.waiting in
     let left = IsLeftAt c.graph-graph.result.now c.args.upheld.now.keys c.insert.new.self.keys in
     let widens : Widens (λ k. IsParentPlace c.graph-graph.result.now place k × left k) rest now =
     c.in_ok-wait_parents-in-Some-released_at.ensures in
-    past-falls cs c.graph-graph.ensures.valid.graph waiting rest now place
-    c.in-Some.ensures (λ k h. elim ((widens k).0 h) [
+    past-falls _ c.graph-graph.ensures.valid.graph _ _ _ _ c.in-Some.ensures (λ k h. elim ((widens k).0 h) [
       | inl more ↦ inl more
       | inr parent ↦ inr (subst (λ (ds : List Contents). IsParentPlace ds place k) c.graph-graph.ensures.graph parent.0)
     ])
 
 pub loop-place-smaller : goal.loop-place-smaller
 loop-place-smaller c =
-    let waiting = c.loop-place.waiting in
-    let rest = c.pop_last.new.self in
-    let place = c.in-Some.place in
-    past-falls (changesets c.args.replica.now.history) c.graph-graph.ensures.valid.graph waiting rest rest place
-    c.in-Some.ensures (λ k h. inl h)
+    past-falls _ c.graph-graph.ensures.valid.graph _ _ _ _ c.in-Some.ensures (λ k h. inl h)
 
 pub loop-place-preserved-in-Continue-branch-3 : goal.loop-place-preserved-in-Continue-branch-3
 loop-place-preserved-in-Continue-branch-3 c =
-    let s = c.args.replica.now in
     let upheld = c.args.upheld.now.keys in
-    let gone = c.loop-place.gone.keys in
     let gone_now = c.insert.new.self.keys in
-    let waiting = c.loop-place.waiting in
     let rest = c.pop_last.new.self in
     let now = c.wait_parents.new.waiting in
     let place = c.in-Some.place in
-    let one = c.in-Some-released_at.one in
-    releasing-goes s c.args.pins.now c.args.node upheld gone waiting rest place
-    c.in-Some.ensures c.loop-place.invariant c.graph-graph.ensures.valid one gone_now now
+    releasing-goes _ _ _ _ _ _ _ _ c.in-Some.ensures c.loop-place.invariant c.graph-graph.ensures.valid _ _ _
     c.in-Some-released_at.ensures.0 c.in-Some-released_at.ensures.1
-    (adds-one gone gone_now one c.in_ok-insert-in-Some-released_at.ensures.keys)
+    (adds-one _ _ _ c.in_ok-insert-in-Some-released_at.ensures.keys)
     (subst (λ (cs : List Contents). Widens (λ k. IsParentPlace cs place k × IsLeftAt cs upheld gone_now k) rest now)
     c.graph-graph.ensures.graph c.in_ok-wait_parents-in-Some-released_at.ensures)
 
 pub loop-place-preserved : goal.loop-place-preserved
 loop-place-preserved c =
-    let waiting = c.loop-place.waiting in
-    let rest = c.pop_last.new.self in
-    let place = c.in-Some.place in
-    releasing-stays c.args.replica.now c.args.pins.now c.args.node c.args.upheld.now.keys c.loop-place.gone.keys
-    waiting rest place c.in-Some.ensures c.loop-place.invariant c.in-None.ensures
+    releasing-stays _ _ _ _ _ _ _ _ c.in-Some.ensures c.loop-place.invariant c.in-None.ensures
 
 pub returns : goal.returns
 returns c =
-    let waiting = c.loop-place.waiting in
-    releasing-end c.args.replica.now c.args.pins.now c.args.node c.args.upheld.now.keys c.graph-graph.ensures.valid
-    c.loop-place.gone.keys waiting c.requires c.in_default.ensures c.loop-place.invariant
+    releasing-end _ _ _ _ c.graph-graph.ensures.valid _ _ c.requires c.in_default.ensures c.loop-place.invariant

@@ -21,15 +21,9 @@ children-requires c =
 
 pub returns-in-Some : goal.returns-in-Some
 returns-in-Some c =
-    let cs = c.args.graph.now in
-    let places = c.children.result.now in
-    on_ok_weaker c.add_at.result
-    (λ adds. adds-same (IsAtOne cs places) (IsChild cs c.args.node) c.args.met.now.keys c.add_at.new.met.keys
-    (children-at cs c.args.node c.in-Some.place places c.in-Some.ensures.place c.children.ensures.exact) adds)
-    c.add_at.ensures
+    on_ok_weaker c.add_at.result (λ adds. adds-same _ _ _ _
+    (children-at _ _ _ _ c.in-Some.ensures.place c.children.ensures.exact) adds) c.add_at.ensures
 
 pub returns-in-None : goal.returns-in-None
 returns-in-None c =
-    let cs = c.args.graph.now in
-    adds-nothing (IsChild cs c.args.node) c.args.met.now.keys
-    (λ n child. absurd (childless cs c.in-None.ensures.graph c.args.node c.in-None.ensures.place n child))
+    adds-nothing _ _ (λ n child. absurd (childless _ c.in-None.ensures.graph _ c.in-None.ensures.place _ child))

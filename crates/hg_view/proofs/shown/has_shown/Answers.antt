@@ -21,8 +21,7 @@ loop-next-init c =
 
 pub loop-next-smaller : goal.loop-next-smaller
 loop-next-smaller c =
-    let within = search-within c.args.replica.now c.graph-graph.ensures.valid c.args.pins.now c.args.node
-    c.loop-next.met.keys c.loop-next.next c.loop-next.invariant c.len.ensures.unique in
+    let within = search-within _ c.graph-graph.ensures.valid _ _ _ _ c.loop-next.invariant c.len.ensures.unique in
     omega (arith, within, c.loop-next-test.true, c.len.ensures.len)
 
 pub loop-next-preserved : goal.loop-next-preserved
@@ -38,8 +37,7 @@ loop-next-preserved c =
     let o : CountsAsObsolete (content_of s) pins node =
     subst (λ (ns : List Node). CountsAsObsolete (content_of s) pins (get_or ns i first))
     c.as_slice.ensures.keys (c.counts_as_obsolete.ensures.0 c.if-not-counts_as_obsolete.false) in
-    search-step s c.graph-graph.ensures.valid pins c.args.node met new i node l (get_or_default met i node first l)
-    c.loop-next.invariant o
+    search-step _ c.graph-graph.ensures.valid _ _ _ _ _ _ l (get_or_default met i node first l) c.loop-next.invariant o
     (subst (λ (cs : List Contents). Adds (IsChild cs node) met new) c.graph-graph.ensures.graph
     (subst (λ (ns : List Node). Adds (IsChild c.graph-graph.result.now (get_or ns i first)) met new)
     c.as_slice.ensures.keys c.in_ok-add_children.ensures))
@@ -53,19 +51,16 @@ returns-then-not-counts_as_obsolete c =
     let first : Node = record { 0 = [] } in
     let node = get_or met i first in
     let l : i < length met = omega (arith, c.loop-next-test.true, c.len.ensures.len) in
-    let not : ¬ (CountsAsObsolete (content_of s) pins node) =
-    λ o. true≢false
-    (sym (c.counts_as_obsolete.ensures.1
+    let not : ¬ (CountsAsObsolete (content_of s) pins node) = λ o. true≢false (sym (c.counts_as_obsolete.ensures.1
     (subst (λ (ns : List Node). CountsAsObsolete (content_of s) pins (get_or ns i first))
     (sym c.as_slice.ensures.keys) o)) ∙ c.if-not-counts_as_obsolete.true) in (
-      λ t. search-found s c.graph-graph.ensures.valid pins c.args.node met i c.loop-next.invariant node
-          (Contains-get_or met i first l) not,
+      λ t. search-found _ c.graph-graph.ensures.valid _ _ _ _ c.loop-next.invariant _
+          (Contains-get_or _ _ _ l) not,
       λ v. refl,
     )
 
 pub returns : goal.returns
 returns c =
-    let none = search-end c.args.replica.now c.graph-graph.ensures.valid c.args.pins.now c.args.node
-    c.loop-next.met.keys c.loop-next.next c.loop-next.invariant
+    let none = search-end _ c.graph-graph.ensures.valid _ _ _ _ c.loop-next.invariant
     (omega (arith, c.loop-next-test.false, c.len.ensures.len)) in
     (λ t. absurd (true≢false (sym t)), λ v. absurd (none v))

@@ -11,22 +11,15 @@ use Rattle.hg_view.proofs.top_places.settle_nodes.Goals as goal
 
 pub loop-node-init : goal.loop-node-init
 loop-node-init c =
-    let t = c.args.replica.now.history in
-    settled-none (IsAmong c.args.among t) (IsPlaceOfOne (changesets t) []) c.args.tops.now
-    (λ k m. Contains-none m.0 m.1)
+    settled-none _ _ _ (λ k m. Contains-none _ m.1)
 
 pub settle_node-requires : goal.settle_node-requires
 settle_node-requires c = c.loop-node.invariant.len ∙ c.requires
 
 pub loop-node-preserved : goal.loop-node-preserved
 loop-node-preserved c =
-    let cs = changesets c.args.replica.now.history in
-    let ns = c.args.nodes.now in
-    let i = c.loop-node.node-index in
     let any : Node = record { 0 = [] } in
-    settled-then (IsAmong c.args.among c.args.replica.now.history) (IsPlaceOfOne cs (take i ns))
-    (IsAt cs (get_or ns i any)) (IsPlaceOfOne cs (take (i + 1) ns)) c.args.tops.now c.loop-node.tops
-    c.settle_node.new.tops c.loop-node.invariant c.settle_node.ensures (nodes-one cs ns i any c.loop-node-test.true)
+    settled-then _ _ _ _ _ _ _ c.loop-node.invariant c.settle_node.ensures (nodes-one _ _ _ _ c.loop-node-test.true)
 
 pub returns : goal.returns
 returns c =

@@ -13,8 +13,7 @@ loop-place-init c =
     let first = c.args.first in
     let Q : ℕ → Type 0 = IsAmong c.args.among t in
     let S : ℕ → Type 0 = λ k. (first ≤ k) × (k < first) in
-    taken-none (IsParentOfOne (changesets t) S Q) c.args.tops.now
-    (parents-none (changesets t) Q S (λ k h. omega (arith, h.0, h.1)))
+    taken-none _ _ (parents-none _ _ _ (λ k h. omega (arith, h.0, h.1)))
 
 pub take_out_parents-requires-clause-len : goal.take_out_parents-requires-clause-len
 take_out_parents-requires-clause-len c = c.loop-place.invariant.len ∙ c.requires
@@ -22,29 +21,25 @@ take_out_parents-requires-clause-len c = c.loop-place.invariant.len ∙ c.requir
 pub loop-place-preserved : goal.loop-place-preserved
 loop-place-preserved c =
     let t = c.args.replica.now.history in
-    let cs = changesets t in
     let first = c.args.first in
     let place = c.loop-place.place in
     let Q : ℕ → Type 0 = IsAmong c.args.among t in
     let R : ℕ → Type 0 = λ k. (first ≤ k) × (k < place) in
     let S : ℕ → Type 0 = λ k. place ≡ k in
     let T : ℕ → Type 0 = λ k. (first ≤ k) × (k < place + 1) in
-    taken-then (IsParentOfOne cs R Q) (IsParentOfOne cs S Q) (IsParentOfOne cs T Q) c.args.tops.now c.loop-place.tops
-    c.take_out_parents.new.tops c.loop-place.invariant c.take_out_parents.ensures
-    (parents-then cs Q R S T (from-one first place c.loop-place.auto.place))
+    taken-then _ _ _ _ _ _ c.loop-place.invariant c.take_out_parents.ensures
+    (parents-then _ _ _ _ _ (from-one _ _ c.loop-place.auto.place))
 
 pub returns : goal.returns
 returns c =
     let t = c.args.replica.now.history in
-    let cs = changesets t in
     let first = c.args.first in
     let place = c.loop-place.place in
     let Q : ℕ → Type 0 = IsAmong c.args.among t in
     let S : ℕ → Type 0 = λ k. (first ≤ k) × (k < place) in
     let T : ℕ → Type 0 = λ k. first ≤ k in
     let count = ap length c.graph.ensures.graph in
-    taken-alike (IsParentOfOne cs S Q) (IsParentOfOne cs T Q) c.args.tops.now c.loop-place.tops c.loop-place.invariant
-    (parents-alike cs Q S T (λ j q. let within = among-within t c.args.among j q in (
+    taken-alike _ _ _ _ c.loop-place.invariant (parents-alike _ _ _ _ (λ j q. let within = among-within _ _ _ q in (
       λ le. (le, omega (arith, within, count, c.len-place-end.ensures.len, c.loop-place-test.false)),
       λ h. h.0,
     )))

@@ -11,22 +11,18 @@ use Rattle.hg_view.proofs.top_places.take_out_parents_of.Goals as goal
 
 pub take_out_parents-requires-clause-within : goal.take_out_parents-requires-clause-within
 take_out_parents-requires-clause-within c =
-    let cs = changesets c.args.replica.now.history in
     let place = c.in-Some.place in
     let only = subst (λ ds. IsOnlyAt ds c.args.node place) c.graph.ensures.graph c.in-Some.ensures.place in
-    placed_within cs c.args.node place ((only place).1 (λ i. place))
+    placed_within _ _ _ ((only place).1 (λ i. place))
 
 pub returns-in-Some : goal.returns-in-Some
 returns-in-Some c =
     let t = c.args.replica.now.history in
-    let cs = changesets t in
     let n = c.args.node in
     let place = c.in-Some.place in
     let Q : ℕ → Type 0 = IsAmong c.args.among t in
     let only = subst (λ ds. IsOnlyAt ds n place) c.graph.ensures.graph c.in-Some.ensures.place in
-    taken-alike (IsParentOfOne cs (λ k. place ≡ k) Q) (IsParentOfOne cs (IsAt cs n) Q) c.args.tops.now
-    c.take_out_parents.new.tops c.take_out_parents.ensures
-    (parents-alike cs Q (λ k. place ≡ k) (IsAt cs n)
+    taken-alike _ _ _ _ c.take_out_parents.ensures (parents-alike _ _ _ _
     (λ k q. ((λ at. sym ((only k).0 at)), (λ e. (only k).1 (sym e)))))
 
 pub returns-in-None : goal.returns-in-None
@@ -36,5 +32,4 @@ returns-in-None c =
     let n = c.args.node in
     let Q : ℕ → Type 0 = IsAmong c.args.among t in
     let out = subst (λ ds. ¬ (Holds ds n)) c.graph.ensures.graph c.in-None.ensures.place in
-    taken-none (IsParentOfOne cs (IsAt cs n) Q) c.args.tops.now
-    (parents-none cs Q (IsAt cs n) (λ k at. out (Contains-from_place (nodes cs) k n at)))
+    taken-none _ _ (parents-none _ _ _ (λ k at. out (Contains-from_place (nodes cs) k n at)))

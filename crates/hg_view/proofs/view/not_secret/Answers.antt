@@ -18,8 +18,7 @@ loop-place-init c =
     let s = c.args.replica.now in
     let cs = changesets s.history in
     subst (TellsFirst cs (λ n. IsMarkedNode cs c.args.marks.now n × ¬ (HasPhase (content_of s) n Secret)) 0)
-    (sym c.in_ok-found.ensures.items)
-    (tells_none cs (λ n. IsMarkedNode cs c.args.marks.now n × ¬ (HasPhase (content_of s) n Secret)))
+    (sym c.in_ok-found.ensures.items) (tells_none _ _)
 
 pub loop-place-preserved : goal.loop-place-preserved
 loop-place-preserved c =
@@ -30,10 +29,10 @@ loop-place-preserved c =
     let marks = c.args.marks.now in
     let told : (n : Node) → IsAt cs n i → (c.if-marks-place.push ≡ true)
     ↔ (IsMarkedNode cs marks n × ¬ (HasPhase (content_of s) n Secret)) = λ n at.
-    let mark = mark_at cs graph marks i n c.loop-place-test.true at in
+    let mark = mark_at _ graph _ _ _ c.loop-place-test.true at in
     elim c.if-marks-place.branch [
       | then-marks-place w ↦
-          let isnt = isnt_so w.has_phase_at.result (HasPhase (content_of s) n Secret) (w.has_phase_at.ensures n at) in
+          let isnt = isnt_so _ _ (w.has_phase_at.ensures n at) in
           (λ h. (mark.0 w.if-marks-place.true, isnt.0 (sym w.push-is ∙ h)), λ h. w.push-is ∙ isnt.1 h.1)
       | else-marks-place w ↦ (
         λ h. absurd (true≢false (sym h ∙ w.push-is ∙ w.if-marks-place.false)),
@@ -41,9 +40,7 @@ loop-place-preserved c =
       )
     ] in
     subst (TellsFirst cs (λ n. IsMarkedNode cs marks n × ¬ (HasPhase (content_of s) n Secret)) (i + 1))
-    (sym c.in_ok-push.ensures.items)
-    (tells_more cs (λ n. IsMarkedNode cs marks n × ¬ (HasPhase (content_of s) n Secret)) i c.loop-place.found.items
-    c.if-marks-place.push c.loop-place.invariant told)
+    (sym c.in_ok-push.ensures.items) (tells_more _ _ _ _ _ c.loop-place.invariant told)
 
 pub returns-clause-len : goal.returns-clause-len
 returns-clause-len c = omega (
@@ -58,7 +55,5 @@ pub returns-clause-exact : goal.returns-clause-exact
 returns-clause-exact c n =
     let s = c.args.replica.now in
     let cs = changesets s.history in
-    let told = tells_all cs (λ m. IsMarkedNode cs c.args.marks.now m × ¬ (HasPhase (content_of s) m Secret))
-    c.loop-place.place c.loop-place.found.items (omega (arith, c.loop-place-test.false, c.requires))
-    c.loop-place.invariant n in
+    let told = tells_all _ _ _ _ (omega (arith, c.loop-place-test.false, c.requires)) c.loop-place.invariant _ in
     (λ h. (told.0 h).1, λ h. told.1 (Contains-from_place (nodes cs) h.0.0 n h.0.1, h))

@@ -13,19 +13,15 @@ loop-place-init c =
     let s = c.args.replica.now in
     let pins = c.args.pins.now in
     subst (TellsFirst (changesets s.history) (λ n. ¬ (CountsAsObsolete (content_of s) pins n)) 0)
-    (sym c.in_ok-marks.ensures.items)
-    (tells_none (changesets s.history) (λ n. ¬ (CountsAsObsolete (content_of s) pins n)))
+    (sym c.in_ok-marks.ensures.items) (tells_none _ _)
 
 pub loop-place-preserved : goal.loop-place-preserved
 loop-place-preserved c =
     let s = c.args.replica.now in
     let pins = c.args.pins.now in
     let i = c.loop-place.place in
-    let told = c.counts_as_obsolete_at.result in
     subst (TellsFirst (changesets s.history) (λ n. ¬ (CountsAsObsolete (content_of s) pins n)) (i + 1))
-    (sym c.in_ok-push.ensures.items)
-    (tells_more (changesets s.history) (λ n. ¬ (CountsAsObsolete (content_of s) pins n)) i c.loop-place.marks.items
-    (not told) c.loop-place.invariant (λ n at. isnt_so told (CountsAsObsolete (content_of s) pins n)
+    (sym c.in_ok-push.ensures.items) (tells_more _ _ _ _ _ c.loop-place.invariant (λ n at. isnt_so _ _
     (c.counts_as_obsolete_at.ensures n at)))
 
 ended : (c : goal.After-loop-place) → length (changesets c.args.replica.now.history) ≤ c.loop-place.place
@@ -44,8 +40,4 @@ returns-clause-len c =
 
 pub returns-clause-exact : goal.returns-clause-exact
 returns-clause-exact c n =
-    let s = c.args.replica.now in
-    let pins = c.args.pins.now in
-    along (tells_all (changesets s.history) (λ m. ¬ (CountsAsObsolete (content_of s) pins m)) c.loop-place.place
-    c.loop-place.marks.items (ended c) c.loop-place.invariant n)
-    (shown-are s c.graph-graph.ensures.valid pins n)
+    along (tells_all _ _ _ _ (ended c) c.loop-place.invariant _) (shown-are _ c.graph-graph.ensures.valid _ _)

@@ -12,15 +12,9 @@ loop-event-preserved g c =
     let happened = c.happen-answer.ensures.happens in
     let pushed = rw c.unwrap.ensures at c.push.ensures.items in
     let len = rw c.unwrap.ensures at c.push.ensures.len in
-    let one_more =
-    take_more c.args.events.now i c.event-item.result c.loop-event-test.true
+    let one_more = take_more _ _ _ c.loop-event-test.true
     ∙ ap (λ x. take i c.args.events.now ++ x ∷ []) (sym c.event-item.is) in
-    let ran =
-    run_last g.S.JoinState g.S.Actor (snapshot c.args.nodes.now c.args.messages.now.items)
-    (snapshot c.loop-event.nodes c.loop-event.messages.items)
-    (snapshot c.happen-answer.new.nodes c.happen-answer.new.messages.items)
-    (take i c.args.events.now) c.event-item.result c.loop-event.answers.items c.happen-answer.result before.ran.0
-    happened.0 before.ran.1 happened.1 in
+    let ran = run_last _ g.S.Actor _ _ _ _ _ _ _ _ _ before.ran.1 happened.1 in
     let laws = g.met.S.JoinState in
     record {
       counted = omega (arith, len, before.counted);
@@ -28,9 +22,8 @@ loop-event-preserved g c =
       left = omega (arith, before.left, c.happen-answer.ensures.len, c.happen-answer.ensures.capacity);
       valid =
           valid_after g.S.JoinState g.S.Actor laws.ordered laws.stays_covered laws.absorbed
-          g.met.S.Actor.marked_says_the_same
-          (snapshot c.loop-event.nodes c.loop-event.messages.items)
+          g.met.S.Actor.marked_says_the_same (snapshot c.loop-event.nodes c.loop-event.messages.items)
           (snapshot c.happen-answer.new.nodes c.happen-answer.new.messages.items) c.event-item.result
-          c.happen-answer.result happened.0 before.valid happened.1;
+          _ happened.0 before.valid happened.1;
       ran = (before.ran.0 ++ happened.0 ∷ [], rw (one_more, pushed) ran);
     }

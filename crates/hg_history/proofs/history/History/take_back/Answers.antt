@@ -14,19 +14,13 @@ inside t undo now given now_is given_is s back =
 
 pub take_back-requires-clause-within : goal.take_back-requires-clause-within
 take_back-requires-clause-within c =
-    let cs = c.self.inside.graph in
-    let ks = c.self.inside.kept.phases in
     let undo : UndoValue = record { before = c.undo.inside.before; log = c.undo.inside.log } in
-    led_within cs ks c.self.invariant.0.len undo c.requires.0
-    (inside c.args.self.now c.args.undo (state_of cs ks) undo c.self.view_is c.undo.view_is c.requires.0 c.requires.1)
+    led_within _ _ c.self.invariant.0.len _ _ (inside _ _ _ _ c.self.view_is c.undo.view_is _ c.requires.1)
 
 pub take_back-requires-clause-logged : goal.take_back-requires-clause-logged
 take_back-requires-clause-logged c =
-    let cs = c.self.inside.graph in
-    let ks = c.self.inside.kept.phases in
     let undo : UndoValue = record { before = c.undo.inside.before; log = c.undo.inside.log } in
-    led_logged cs ks c.self.invariant.0.len undo c.requires.0
-    (inside c.args.self.now c.args.undo (state_of cs ks) undo c.self.view_is c.undo.view_is c.requires.0 c.requires.1)
+    led_logged _ _ c.self.invariant.0.len _ _ (inside _ _ _ _ c.self.view_is c.undo.view_is _ c.requires.1)
 
 module _ (c : After-drop-log) where
   state_is : (s : State) → LeadsBack c.args.self.now c.args.undo s

@@ -11,9 +11,7 @@ use Rattle.hg_phases.proofs.lowered.LoweringLog.nodes_before.Goals as goal
 pub returns-clause-lowered : goal.returns-clause-lowered
 returns-clause-lowered c =
     let cs = c.args.graph.now in
-    IfOk-weaker c.nodes_of.result _ _
-    (λ found told phase start now graph logged.
+    IfOk-weaker c.nodes_of.result _ _ (λ found told phase start now graph logged.
     subst (ListsLowered _ (state_of cs now))
     (sym (told ∙ ap (flat_map (node_before (nodes cs) c.args.before)) (c.as_slice.ensures ∙ c.self.view_is)))
-    (lowered_are cs c.args.before phase start now c.args.self.now graph logged))
-    c.nodes_of.ensures.nodes
+    (lowered_are _ _ _ _ _ _ graph logged)) c.nodes_of.ensures.nodes

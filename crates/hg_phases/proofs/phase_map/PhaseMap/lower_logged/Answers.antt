@@ -18,17 +18,13 @@ lower_at-requires-clause-within c =
 pub returns-in-Some-clause-valid : goal.returns-in-Some-clause-valid
 returns-in-Some-clause-valid c =
     let at = (c.in-Some.ensures.place c.in-Some.place).1 refl in
-    on_ok_weaker c.lower_at.result
-    (λ least. least-valid (state_of c.args.graph.now c.args.self.now) _
-    (state_of c.args.graph.now c.lower_at.new.self) (least c.args.node at) c.requires.valid)
+    on_ok_weaker c.lower_at.result (λ least. least-valid _ _ _ (least c.args.node at) c.requires.valid)
     c.lower_at.ensures.least
 
 pub returns-in-Some-clause-memory : goal.returns-in-Some-clause-memory
 returns-in-Some-clause-memory c =
     let at = (c.in-Some.ensures.place c.in-Some.place).1 refl in
-    on_err_weaker c.lower_at.result
-    (above_at c.args.graph.now c.args.self.now c.args.node c.in-Some.place c.args.phase at)
-    c.lower_at.ensures.memory
+    on_err_weaker c.lower_at.result (above_at _ _ _ _ _ at) c.lower_at.ensures.memory
 
 pub returns-in-Some-clause-still : goal.returns-in-Some-clause-still
 returns-in-Some-clause-still c =

@@ -8,11 +8,8 @@ use Rattle.hg_phases.proofs.phase_roots.PhaseRoots.take_back.Goals as goal
 
 pub take_back_logged-requires-clause-logged : goal.take_back_logged-requires-clause-logged
 take_back_logged-requires-clause-logged c =
-    let now = c.args.self.now.phases in
-    let log = c.args.log.now in
-    subst (All (λ e. e.place < length c.args.graph.now)) (sym c.log.view_is)
-    (λ k d h. omega
-    (arith, within_log c.requires.logged.0 (restored now log) now log c.requires.logged.1 k d h, c.requires.kept.len))
+    subst (All (λ e. e.place < length c.args.graph.now)) (sym c.log.view_is) (λ k d h. omega
+    (arith, within_log _ _ _ _ c.requires.logged.1 k d h, c.requires.kept.len))
 
 pub returns-clause-kept : goal.returns-clause-kept
 returns-clause-kept c =

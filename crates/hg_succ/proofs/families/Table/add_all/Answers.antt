@@ -9,43 +9,46 @@ use Rattle.hg_succ.specs.Rows.{At, rows_of}
 use Rattle.hg_succ.proofs.ListLemmas.{get_one}
 use Rattle.hg_succ.proofs.PathLemmas.{cycles_are, edge_from}
 use Rattle.hg_succ.proofs.families.Table.add_all.Goals as goal
+use Rattle.hg_succ.proofs.families.Table.add_all.Goals.{In-loop-settled}
+
+-- the node that is settled next
+abbrev settled : In-loop-settled → Settled
+settled c = get_or c.args.order.now c.loop-settled.settled-index (record { node = 0; cyclic = false })
+
+at : (c : In-loop-settled) → At c.args.order.now c.loop-settled.settled-index (settled c)
+at c = slice_get-get_or c.args.order.now c.loop-settled.settled-index (record { node = 0; cyclic = false })
+    c.loop-settled-test.true
 
 pub add-requires-clause-cyclic : goal.add-requires-clause-cyclic
-add-requires-clause-cyclic c n at =
+add-requires-clause-cyclic c n at_n =
+    let h = (goal.at.add-requires-clause-cyclic c).In-loop-settled in
     let nodes = c.args.self.now.nodes.keys in
     let rows = c.args.rows.now in
-    let i = c.loop-settled.settled-index in
-    let e : Settled = get_or c.args.order.now i (record { node = 0; cyclic = false }) in
-    let e_at : At c.args.order.now i e = slice_get-get_or c.args.order.now i (record { node = 0; cyclic = false })
-    c.loop-settled-test.true in
-    let before : At nodes e.node n = subst (λ (ns : List Node). At ns e.node n) c.loop-settled.invariant.nodes at in
+    let e = settled h in
+    let before : At nodes e.node n = subst (λ (ns : List Node). At ns e.node n) c.loop-settled.invariant.nodes at_n in
     let cycles = cycles_are (content_of c.args.replica.now) nodes (rows_of rows) c.requires.table.once
     (length-map rows (λ (row : Vec ℕ Global). row.items) ∙ c.requires.all) c.requires.rows e.node n before in
-    let told = c.requires.order.cyclic i e e_at in
+    let told = c.requires.order.cyclic c.loop-settled.settled-index e (at h) in
     (λ t. cycles.0 (told.0 t), λ on. told.1 (cycles.1 on))
 
 pub add-requires-clause-below : goal.add-requires-clause-below
-add-requires-clause-below c off n y at to =
+add-requires-clause-below c off n y at_n to =
+    let h = (goal.at.add-requires-clause-below c).In-loop-settled in
     let nodes = c.args.self.now.nodes.keys in
     let rows = c.args.rows.now in
-    let i = c.loop-settled.settled-index in
-    let e : Settled = get_or c.args.order.now i (record { node = 0; cyclic = false }) in
-    let e_at : At c.args.order.now i e = slice_get-get_or c.args.order.now i (record { node = 0; cyclic = false })
-    c.loop-settled-test.true in
-    let before : At nodes e.node n = subst (λ (ns : List Node). At ns e.node n) c.loop-settled.invariant.nodes at in
+    let e = settled h in
+    let before : At nodes e.node n = subst (λ (ns : List Node). At ns e.node n) c.loop-settled.invariant.nodes at_n in
     let edge = edge_from (content_of c.args.replica.now) nodes (rows_of rows) c.requires.table.once
     (length-map rows (λ (row : Vec ℕ Global). row.items) ∙ c.requires.all) c.requires.rows e.node n y before to in
-    let earlier = c.requires.order.after i e edge.0 e_at off edge.2 in
+    let earlier = c.requires.order.after c.loop-settled.settled-index e edge.0 (at h) off edge.2 in
     c.loop-settled.invariant.done earlier.0 earlier.1 y earlier.2 earlier.3
     (subst (λ j. At nodes j y) (sym earlier.4) edge.1)
 
 pub loop-settled-preserved : goal.loop-settled-preserved
 loop-settled-preserved c =
+    let h = (goal.at.loop-settled-preserved c).In-loop-settled in
     let nodes = c.args.self.now.nodes.keys in
-    let order = c.args.order.now in
     let i = c.loop-settled.settled-index in
-    let e : Settled = get_or order i (record { node = 0; cyclic = false }) in
-    let e_at : At order i e = slice_get-get_or order i (record { node = 0; cyclic = false }) c.loop-settled-test.true in
     let now : c.add.new.self.nodes.keys ≡ nodes = c.in_ok-add.ensures.answer.nodes ∙ c.loop-settled.invariant.nodes in
     record {
       table = c.in_ok-add.ensures.answer.table;
@@ -54,9 +57,10 @@ loop-settled-preserved c =
         | inl before ↦ c.in_ok-add.ensures.answer.kept y (c.loop-settled.invariant.done k d y before d_at y_at)
         | inr last ↦
             let k_is : k ≡ i = omega arith in
-            let d_is : d ≡ e = get_one order i d e (subst (λ j. At order j d) k_is d_at) e_at in
+            let d_is : d ≡ settled h =
+            get_one c.args.order.now i d (settled h) (subst (λ j. At c.args.order.now j d) k_is d_at) (at h) in
             c.in_ok-add.ensures.answer.done y
-            (subst (λ (ns : List Node). At ns e.node y) (sym now)
+            (subst (λ (ns : List Node). At ns (settled h).node y) (sym now)
             (subst (λ (s : Settled). At nodes s.node y) d_is y_at))
       ];
       kept = c.in_ok-add.ensures.kept;

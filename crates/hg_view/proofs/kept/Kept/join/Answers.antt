@@ -17,41 +17,32 @@ pub invariant_of-self : goal.invariant_of-self
 invariant_of-self c =
     let told = c.join_with_undo-answer in
     let found = c.find_again in
-    let s = c.self.inside.replica in
-    let o = c.other.inside.replica in
-    let sets = joined-sets s o told.new.self found.new.replica c.self.inside.instabilities found.new.instabilities
-    told.ensures.valid c.self.invariant.0 told.result found.result told.ensures.answer told.ensures.back
+    let sets = joined-sets _ _ _ _ _ _ told.ensures.valid c.self.invariant.0 _ _ told.ensures.answer told.ensures.back
     found.ensures.found in
-    let answer = joined-answer s o told.new.self found.new.replica c.self.inside.instabilities
-    found.new.instabilities told.result found.result told.ensures.answer told.ensures.back found.ensures.found in (
+    let answer = joined-answer _ _ _ _ _ _ _ _ told.ensures.answer told.ensures.back found.ensures.found in (
       sets.0,
       sets.1,
-      upheld-joined s found.new.replica told.ensures.valid c.self.inside.pins c.self.inside.upheld.keys
-          c.self.invariant.2 o found.result answer,
-      joined-tops s o told.new.self found.new.replica c.self.inside.instabilities found.new.instabilities
-          c.self.inside.tops found.new.tops c.self.invariant.3 told.result found.result told.ensures.answer
-          told.ensures.back found.ensures.found found.ensures.tops,
+      upheld-joined _ _ told.ensures.valid _ _
+          c.self.invariant.2 _ _ answer,
+      joined-tops _ _ _ _ _ _
+          _ _ c.self.invariant.3 _ _ told.ensures.answer told.ensures.back found.ensures.found found.ensures.tops,
     )
 
 pub returns-then-is_below-clause-answer : goal.returns-then-is_below-clause-answer
 returns-then-is_below-clause-answer c =
-    let o = c.other.inside.replica in
     let s = c.self.inside.replica in
     subst (λ (k : KeptValue). JoinAnswer k.replica c.args.other.now.replica (Ok tt) k.replica) c.self.view_is
     (subst (λ (k : KeptValue). JoinAnswer s k.replica (Ok tt) s) c.other.view_is
-    (within-joined s o c.is_below.ensures.other_valid (c.is_below.ensures.answer.0 c.if-is_below.true)))
+    (within-joined _ _ c.is_below.ensures.other_valid (c.is_below.ensures.answer.0 c.if-is_below.true)))
 
 pub returns-clause-answer : goal.returns-clause-answer
 returns-clause-answer c =
     let told = c.join_with_undo-answer in
     let found = c.find_again in
     let s = c.self.inside.replica in
-    let o = c.other.inside.replica in
     subst (λ (k : KeptValue). JoinAnswer k.replica c.args.other.now.replica found.result found.new.replica)
-    c.self.view_is
-    (subst (λ (k : KeptValue). JoinAnswer s k.replica found.result found.new.replica) c.other.view_is
-    (joined-answer s o told.new.self found.new.replica c.self.inside.instabilities found.new.instabilities told.result
-    found.result told.ensures.answer told.ensures.back found.ensures.found))
+    c.self.view_is (subst (λ (k : KeptValue). JoinAnswer s k.replica found.result found.new.replica) c.other.view_is
+    (joined-answer _ _ _ _ _ _ _ _ told.ensures.answer told.ensures.back found.ensures.found))
 
 pub returns-clause-memory : goal.returns-clause-memory
 returns-clause-memory c is =
@@ -59,9 +50,7 @@ returns-clause-memory c is =
     let found = c.find_again in
     let s = c.self.inside.replica in
     let o = c.other.inside.replica in
-    let more : Below o s → ⊥ = λ below.
-    true≢false (sym (c.is_below.ensures.answer.1 below) ∙ c.if-is_below.false) in
+    let more : Below o s → ⊥ = λ below. true≢false (sym (c.is_below.ensures.answer.1 below) ∙ c.if-is_below.false) in
     subst (λ (k : KeptValue). IsGrowthBeforeFault k.replica (part_of c.args.other.now.replica)) c.self.view_is
-    (subst (λ (k : KeptValue). IsGrowthBeforeFault s (part_of k.replica)) c.other.view_is
-    (joined-memory s o told.new.self found.new.replica c.self.inside.instabilities found.new.instabilities told.result
-    found.result more told.ensures.answer told.ensures.memory told.ensures.growth found.ensures.found is))
+    (subst (λ (k : KeptValue). IsGrowthBeforeFault s (part_of k.replica)) c.other.view_is (joined-memory _ _ _ _ _ _ _
+    _ more told.ensures.answer told.ensures.memory told.ensures.growth found.ensures.found is))

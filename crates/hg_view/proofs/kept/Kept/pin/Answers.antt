@@ -19,17 +19,15 @@ returns-then-is_pinned-clause-answer c =
     let node = c.args.node in
     let there = c.is_pinned.ensures.0 c.if-is_pinned.true in
     subst (λ (k : KeptValue). PinAnswer (content_of k.replica) k.pins node (Ok tt) k.pins) c.self.view_is
-    (pinned-again (content_of c.self.inside.replica) c.self.inside.pins node
-    (c.self.invariant.2.pinned node there) there)
+    (pinned-again (content_of c.self.inside.replica) _ _ (c.self.invariant.2.pinned node there) there)
 
 pub returns-then-not-contains-clause-answer : goal.returns-then-not-contains-clause-answer
 returns-then-not-contains-clause-answer c =
     let node = c.args.node in
-    let s = c.self.inside.replica in
     subst (λ (k : KeptValue). PinAnswer (content_of k.replica) k.pins node (Err (Unknown node)) k.pins) c.self.view_is (
       refl,
       λ held. true≢false (sym (c.contains.ensures.1 (subst (λ (cs : List Contents). Holds cs node)
-          (sym c.graph.ensures.graph) (node_in_content s.history c.graph.ensures.valid.graph node held)))
+          (sym c.graph.ensures.graph) (node_in_content _ c.graph.ensures.valid.graph _ held)))
           ∙ c.if-not-contains.true),
       refl,
     )
@@ -78,14 +76,12 @@ invariant_of-self-in-Ok c =
     let f = content_of c.self.inside.replica in
     let pins = c.self.inside.pins in
     let more = c.pin.new.self in
-    let old = c.self.inside.upheld.keys in
     let answer : PinAnswer f pins c.args.node (Ok tt) more =
     subst (λ r. PinAnswer f pins c.args.node r more) c.in-Ok.is c.pin.ensures in (
       c.self.invariant.0,
       c.self.invariant.1,
-      upheld-same f more (old ++ c.in_ok-found.found.keys) c.put_in.new.upheld.keys c.in_ok-put_in.ensures.ok
-          (c.in_ok-found.ensures.upheld pins more c.self.invariant.2 (pinned-more f pins more c.args.node answer)
-          answer.0),
+      upheld-same _ _ _ _ c.in_ok-put_in.ensures.ok
+          (c.in_ok-found.ensures.upheld pins more c.self.invariant.2 (pinned-more f _ _ _ answer) answer.0),
       c.self.invariant.3,
     )
 
@@ -98,14 +94,12 @@ pub invariant_of-self-in-Err : goal.invariant_of-self-in-Err
 invariant_of-self-in-Err c =
     let f = content_of c.self.inside.replica in
     let pins = c.self.inside.pins in
-    let same : c.pin.new.self ≡ pins = unpinned-same f pins c.args.node c.in-Err.refusal c.pin.new.self
+    let same : c.pin.new.self ≡ pins = unpinned-same f _ _ _ _
     (subst (λ r. PinAnswer f pins c.args.node r c.pin.new.self) c.in-Err.is c.pin.ensures) in (
       c.self.invariant.0,
       c.self.invariant.1,
       subst (λ (ns : List Node). AreUpheld f ns c.take_out.new.upheld.keys) (sym same)
-          (upheld-same f pins c.self.inside.upheld.keys c.take_out.new.upheld.keys
-          (taken-back c.self.inside.upheld.keys c.in_ok-found.found.keys c.put_in.new.upheld.keys
-          c.take_out.new.upheld.keys c.in_ok-found.ensures.apart c.in_ok-put_in.ensures.ok c.take_out.ensures)
-          c.self.invariant.2),
+          (upheld-same _ _ _ _ (taken-back _ _ _
+          _ c.in_ok-found.ensures.apart c.in_ok-put_in.ensures.ok c.take_out.ensures) c.self.invariant.2),
       c.self.invariant.3,
     )

@@ -23,22 +23,16 @@ heads_in_common-requires-clause-closed c =
 pub returns-clause-exact : goal.returns-clause-exact
 returns-clause-exact c =
     let s = c.self.inside.replica in
-    IfOk-weaker c.heads_in_common.result _ _
-    (λ heads exact k. subst (λ (v : KeptValue). Contains heads.items k
+    IfOk-weaker c.heads_in_common.result _ _ (λ heads exact k. subst (λ (v : KeptValue). Contains heads.items k
     ↔ IsTop (changesets v.replica.history) (IsServedAt v.replica v.pins) k) c.self.view_is
     (along (subst (λ (v : KeptValue). (i : ℕ) → Contains heads.items i
-    ↔ IsTop (changesets s.history) (IsCommonAt s v) i) (sym c.self.view_is) exact k)
-    (same-tops (changesets s.history) _ _
-    (own-common (record { replica = s; pins = c.self.inside.pins }) c.self.invariant.1) k)))
-    c.heads_in_common.ensures.exact
+    ↔ IsTop (changesets s.history) (IsCommonAt s v) i) (sym c.self.view_is) exact k) (same-tops _ _ _
+    (own-common _ c.self.invariant.1) _))) c.heads_in_common.ensures.exact
 
 pub returns-clause-covers : goal.returns-clause-covers
 returns-clause-covers c =
     let s = c.self.inside.replica in
-    IfOk-weaker c.heads_in_common.result _ _
-    (λ heads covers k. subst (λ (v : KeptValue). IsServedAt v.replica v.pins k
+    IfOk-weaker c.heads_in_common.result _ _ (λ heads covers k. subst (λ (v : KeptValue). IsServedAt v.replica v.pins k
     → IsCovered (changesets v.replica.history) heads.items k) c.self.view_is
     (λ so. subst (λ (v : KeptValue). (i : ℕ) → IsCommonAt s v i → IsCovered (changesets s.history) heads.items i)
-    (sym c.self.view_is) covers k
-    ((own-common (record { replica = s; pins = c.self.inside.pins }) c.self.invariant.1 k).1 so)))
-    c.heads_in_common.ensures.covers
+    (sym c.self.view_is) covers k ((own-common _ c.self.invariant.1 _).1 so))) c.heads_in_common.ensures.covers

@@ -8,21 +8,17 @@ use Rattle.hg_view.proofs.kept.Kept.take_in.Goals as goal
 
 pub invariant_of-self : goal.invariant_of-self
 invariant_of-self c =
-    let part = cow_value c.args.part in
     let told = c.absorb_with_undo-answer in
     let kept = c.keep_up in
-    let s = c.self.inside.replica in
-    let sets = kept-sets s part told.new.self kept.new.replica c.self.inside.instabilities
-    kept.new.instabilities told.ensures.valid c.self.invariant.0 told.result kept.result told.ensures.answer
+    let sets = kept-sets _ _ _ _ _ _ told.ensures.valid c.self.invariant.0 _ _ told.ensures.answer
     told.ensures.back told.ensures.nothing kept.ensures.kept in
-    let answer = kept-answer s part told.new.self kept.new.replica c.self.inside.instabilities
-    kept.new.instabilities told.result kept.result told.ensures.answer told.ensures.back kept.ensures.kept in (
+    let answer = kept-answer _ _ _ _ _ _ _ _ told.ensures.answer told.ensures.back kept.ensures.kept in (
       sets.0,
       sets.1,
-      upheld-absorbed s kept.new.replica told.ensures.valid c.self.inside.pins c.self.inside.upheld.keys
-          c.self.invariant.2 part kept.result answer,
-      kept-tops s part told.new.self kept.new.replica c.self.inside.instabilities kept.new.instabilities
-          c.self.inside.tops kept.new.tops c.self.invariant.3 told.result kept.result told.ensures.answer
+      upheld-absorbed _ _ told.ensures.valid _ _
+          c.self.invariant.2 _ _ answer,
+      kept-tops _ _ _ _ _ _
+          _ _ c.self.invariant.3 _ _ told.ensures.answer
           told.ensures.back told.ensures.nothing kept.ensures.kept kept.ensures.tops,
     )
 
@@ -32,21 +28,17 @@ returns-clause-answer c =
     let told = c.absorb_with_undo-answer in
     let kept = c.keep_up in
     subst (λ (k : KeptValue). AbsorbAnswer k.replica part kept.result kept.new.replica) c.self.view_is
-    (kept-answer c.self.inside.replica part told.new.self kept.new.replica c.self.inside.instabilities
-    kept.new.instabilities told.result kept.result told.ensures.answer told.ensures.back kept.ensures.kept)
+    (kept-answer _ _ _ _ _ _ _ _ told.ensures.answer told.ensures.back kept.ensures.kept)
 
 pub returns-clause-memory : goal.returns-clause-memory
 returns-clause-memory c is =
     let part = cow_value c.args.part in
     let told = c.absorb_with_undo-answer in
     let kept = c.keep_up in
-    subst (λ (k : KeptValue). IsGrowthBeforeFault k.replica part) c.self.view_is
-    (kept-memory c.self.inside.replica part told.new.self kept.new.replica c.self.inside.instabilities
-    kept.new.instabilities told.result kept.result told.ensures.memory told.ensures.growth kept.ensures.kept is)
+    subst (λ (k : KeptValue). IsGrowthBeforeFault k.replica part) c.self.view_is (kept-memory _ _ _ _ _
+    _ _ _ told.ensures.memory told.ensures.growth kept.ensures.kept is)
 
 pub keep_up-requires-clause-tops : goal.keep_up-requires-clause-tops
 keep_up-requires-clause-tops c =
-    let part = cow_value c.args.part in
     let told = c.absorb_with_undo-answer in
-    kept-changed c.self.inside.replica part told.new.self c.self.inside.tops told.ensures.valid c.self.invariant.3
-    told.result told.ensures.answer
+    kept-changed _ _ _ _ told.ensures.valid c.self.invariant.3 _ told.ensures.answer
