@@ -175,10 +175,11 @@ impl Marker {
         if successors.len() > 255 {
             return Err(ReadError::Fault(MarkerError::TooManySuccessors));
         }
-        if source.written_len() > METADATA_LIMIT as usize {
+        let len = source.written_len();
+        if len > METADATA_LIMIT as usize {
             return Err(ReadError::Fault(MarkerError::MetaTooLong));
         }
-        let metadata = source.to_metadata(alloc)?;
+        let metadata = source.to_metadata(alloc, len)?;
         let successors = SmallVec::from_slice(alloc, successors)?;
         Ok(Marker {
             predecessor,

@@ -56,22 +56,26 @@ impl PartialEq for Metadata {
 }
 
 impl Metadata {
-    // The metadata of a map.
-    pub(crate) fn of_map(texts: &TextMap) -> Result<Metadata, AllocError>
+    // The metadata of a map, which takes so many bytes.
+    pub(crate) fn of_map(texts: &TextMap, len: usize) -> Result<Metadata, AllocError>
         requires { is_writable texts.now ≡ true }
         ensures { IfOk result (λ all. all ≡ texts.now) }
     {
-        let mut bytes = Vec::with_capacity(texts.allocator(), texts.written_len())?;
+        let mut bytes = Vec::with_capacity(texts.allocator(), len)?;
         texts.write_onto(&mut bytes)?;
         Ok(Metadata { bytes })
     }
 
-    // The metadata of what is noted of an operation.
-    pub(crate) fn of_note(alloc: Global, note: &Note<'_>) -> Result<Metadata, AllocError>
+    // The metadata of what is noted of an operation, which takes so many bytes.
+    pub(crate) fn of_note(
+        alloc: Global,
+        note: &Note<'_>,
+        len: usize,
+    ) -> Result<Metadata, AllocError>
         requires { has_bad_value (note_entries note.now) ≡ false }
         ensures { IfOk result (λ all. all ≡ note_texts note.now) }
     {
-        let mut bytes = Vec::with_capacity(alloc, note.written_len())?;
+        let mut bytes = Vec::with_capacity(alloc, len)?;
         note.write(&mut bytes)?;
         Ok(Metadata { bytes })
     }
@@ -82,7 +86,8 @@ impl Metadata {
         ensures { IfOk result (λ all. all ≡ texts (pieces bytes.now)) }
     {
         if !is_written(bytes) {
-            return Metadata::of_map(&read_texts(alloc, bytes)?);
+            let texts = read_texts(alloc, bytes)?;
+            return Metadata::of_map(&texts, texts.written_len());
         }
         let bytes = Vec::from_slice(alloc, bytes)?;
         Ok(Metadata { bytes })

@@ -50,14 +50,14 @@ impl Source<'_> {
         }
     }
 
-    // The metadata of the texts.
-    pub(crate) fn to_metadata(self, alloc: Global) -> Result<Metadata, AllocError>
+    // The metadata of the texts, which take so many bytes.
+    pub(crate) fn to_metadata(self, alloc: Global, len: usize) -> Result<Metadata, AllocError>
         requires { is_writable (source_texts self) ≡ true }
         ensures { IfOk result (λ all. all ≡ source_texts self.entry) }
     {
         match self {
-            Source::Map(texts) => Metadata::of_map(texts),
-            Source::Note(note) => Metadata::of_note(alloc, note),
+            Source::Map(texts) => Metadata::of_map(texts, len),
+            Source::Note(note) => Metadata::of_note(alloc, note, len),
         }
     }
 }

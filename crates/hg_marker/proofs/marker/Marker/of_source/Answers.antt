@@ -16,7 +16,7 @@ invariant_of-result c =
     let nodes : c.args.successors.now ≡ c.in_ok-successors.successors.items = sym c.in_ok-successors.ensures.ok in
     let texts : source_texts c.args.source ≡ c.in_ok-metadata.metadata = sym c.in_ok-metadata.ensures in
     let short : length (written (source_texts c.args.source)) ≤ metadata_limit =
-    omega (arith, c.written_len.ensures, c.if-written_len.false) in
+    omega (arith, c.written_len-len.ensures, c.if-len.false) in
     subst IsMarker (λ i. record {
       predecessor = c.args.predecessor;
       successors = nodes i;

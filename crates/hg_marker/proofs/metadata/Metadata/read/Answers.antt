@@ -4,4 +4,4 @@ use Rattle.hg_marker.proofs.AscentLemmas.{writable}
 use Rattle.hg_marker.proofs.metadata.Metadata.read.Goals as goal
 
 pub of_map-requires : goal.of_map-requires
-of_map-requires c = ap is_writable c.in_ok-read_texts.ensures ∙ writable c.args.bytes.now c.requires.colons
+of_map-requires c = ap is_writable c.in_ok-texts.ensures ∙ writable c.args.bytes.now c.requires.colons
