@@ -14,8 +14,8 @@ use Rattle.hg_replica.specs.Content.{Content, content_of}
 use Rattle.hg_replica.specs.Change.{ChangeValue}
 use Rattle.hg_replica.specs.Evolution.{IsObsolete, IsCurrent, IsOrphan, IsExtinct}
 use Rattle.hg_replica.proofs.ContentLemmas.{content-valid}
-use Rattle.hg_instab.specs.declared.waiting.Beside.TheVariants.{Itself, Children, Parents}
-use Rattle.hg_instab.specs.Changed.{Follows, IsSeed, IsNow}
+use Rattle.hg_instab.specs.declared.waiting.Beside.TheVariants.{Children, Parents}
+use Rattle.hg_instab.specs.Changed.{Follows, IsSeed, AreSeeded, IsNow}
 use Rattle.hg_instab.specs.Local.{IsParentOf, StandsUnstably, HoldsNothing}
 use Rattle.hg_instab.specs.Settling.{IsBesideOne, IsToldBut, IsSettling}
 use Rattle.hg_instab.proofs.ChangedLemmas.{held-after, parent-after, parent-before}
@@ -92,17 +92,34 @@ module _ (s t : ReplicaState) (change : ChangeValue) (v : IsValid s) (w : IsVali
   abbrev g : Content
   g = content_of t
 
-  module _ (seeds : List Node) (given : (n : Node) → IsSeed t.markers change n → Contains seeds n) (starts : List ℕ)
-      (begun : (k : ℕ) → IsBesideOne Itself (changesets t.history) seeds k → Contains starts k) where
+  module _ (seeds : List ℕ) (given : AreSeeded t change seeds) (starts : List ℕ)
+      (begun : (k : ℕ) → Contains seeds k → Contains starts k) where
     untouched-there : (n : Node) (k : ℕ) → IsAt (changesets t.history) n k → ¬ (Contains starts k)
         → ¬ (IsSeed t.markers change n)
-    untouched-there n k at free seed = free (begun k (n, given n seed, (k, at, refl)))
+    untouched-there n k at free seed = free (begun k (given n k seed at))
+
+    -- of a set of what is held, what is so now is held, and is so as neighbours tell it
+    settled : (Told : (Node → Type 0) → Node → Type 0) (set turned : List Node)
+        → ((n : Node) → Contains set n → IsHeld (content_of s).0 n)
+        → IsToldBut (changesets t.history) Told (Contains set) starts
+        → IsSettling (changesets t.history) Told set starts turned []
+        → ((n : Node) → IsNow set turned n → IsHeld (content_of t).0 n)
+        × ((n : Node) → IsHeld (content_of t).0 n → IsNow set turned n ↔ Told (IsNow set turned) n)
+    settled Told set turned were told settling = (
+      λ n h. elim h [
+        | inl x ↦ held-after f g change t.markers follows n (were n x.0)
+        | inr x ↦ content-node t.history w.graph n (settling.held n x.1)
+      ],
+      λ n there. let k = placed-node t w n there in settling.told told n k.0 k.1 (Contains-none k.0),
+    )
 
     module _ (orphan : List Node) (kept : (n : Node) → Contains orphan n ↔ IsOrphan (content_of s) n)
         (turned_obsolete : List Node)
         (others : (n : Node) → ¬ (Contains turned_obsolete n)
         → IsObsolete (content_of t) n ↔ IsObsolete (content_of s) n)
-        (above : (k : ℕ) → IsBesideOne Children (changesets t.history) turned_obsolete k → Contains starts k) where
+        (places : List ℕ) (placed : (n : Node) (k : ℕ) → Contains turned_obsolete n → IsAt (changesets t.history) n k
+        → Contains places k)
+        (above : (k : ℕ) → IsBesideOne Children (changesets t.history) places k → Contains starts k) where
       -- parents tell of the orphans of before whether they are orphans now, but for those where the walk starts
       pub orphans-told : IsToldBut (changesets t.history) (StandsUnstably (content_of t)) (Contains orphan) starts
       orphans-told n k at free = (
@@ -146,24 +163,15 @@ module _ (s t : ReplicaState) (change : ChangeValue) (v : IsValid s) (w : IsVali
               → IsObsolete (content_of t) p ↔ IsObsolete (content_of s) p
           obsolete p parent = others p (λ did.
               let j = placed-node t w p (parent-held t w p n parent) in
-              free (above k (p, did, (j.0, j.1, place-from_parent t w n p k j.0 at j.1 parent))))
+              free (above k (j.0, placed p j.0 did j.1, place-from_parent t w n p k j.0 at j.1 parent)))
 
       pub orphans-settled : (turned : List Node)
           → IsSettling (changesets t.history) (StandsUnstably (content_of t)) orphan starts turned [] → (n : Node)
           → IsNow orphan turned n ↔ IsOrphan (content_of t) n
-      orphans-settled turned settling = orphans-solved t w (IsNow orphan turned) held told
-        where
-          held : (n : Node) → IsNow orphan turned n → IsHeld (content_of t).0 n
-          held n h = elim h [
-            | inl x ↦ let o = (kept n).0 x.0 in held-after f g change t.markers follows n (o.0.0.0, o.0.0.1)
-            | inr x ↦ content-node t.history w.graph n (settling.held n x.1)
-          ]
-
-          told : (n : Node) → IsHeld (content_of t).0 n
-              → IsNow orphan turned n ↔ StandsUnstably (content_of t) (IsNow orphan turned) n
-          told n there =
-              let k = placed-node t w n there in
-              settling.told orphans-told n k.0 k.1 (Contains-none k.0)
+      orphans-settled turned settling =
+          let now = settled (StandsUnstably (content_of t)) orphan turned
+          (λ n h. let o = (kept n).0 h in (o.0.0.0, o.0.0.1)) orphans-told settling in
+          orphans-solved t w (IsNow orphan turned) now.0 now.1
 
     module _ (extinct : List Node) (kept : (n : Node) → Contains extinct n ↔ IsExtinct (content_of s) n)
         (below : (k : ℕ) → IsBesideOne Parents (changesets t.history) seeds k → Contains starts k) where
@@ -190,21 +198,12 @@ module _ (s t : ReplicaState) (change : ChangeValue) (v : IsValid s) (w : IsVali
           down c parent =
               let j = placed-node t w c (parent.0, parent.1) in
               parent-before f g change t.markers follows n c (λ moves. free
-              (below k (c, given c (inl moves), (j.0, j.1, place-from_parent t w c n j.0 k j.1 at parent)))) parent
+              (below k (j.0, given c j.0 (inl moves) j.1, place-from_parent t w c n j.0 k j.1 at parent))) parent
 
       pub extinct-settled : (turned : List Node)
           → IsSettling (changesets t.history) (HoldsNothing (content_of t)) extinct starts turned [] → (n : Node)
           → IsNow extinct turned n ↔ IsExtinct (content_of t) n
-      extinct-settled turned settling = extinct-solved t w (IsNow extinct turned) held told
-        where
-          held : (n : Node) → IsNow extinct turned n → IsHeld (content_of t).0 n
-          held n h = elim h [
-            | inl x ↦ let o = (kept n).0 x.0 in held-after f g change t.markers follows n (o.0.0.0, o.0.0.1)
-            | inr x ↦ content-node t.history w.graph n (settling.held n x.1)
-          ]
-
-          told : (n : Node) → IsHeld (content_of t).0 n
-              → IsNow extinct turned n ↔ HoldsNothing (content_of t) (IsNow extinct turned) n
-          told n there =
-              let k = placed-node t w n there in
-              settling.told extinct-told n k.0 k.1 (Contains-none k.0)
+      extinct-settled turned settling =
+          let now = settled (HoldsNothing (content_of t)) extinct turned
+          (λ n h. let o = (kept n).0 h in (o.0.0.0, o.0.0.1)) extinct-told settling in
+          extinct-solved t w (IsNow extinct turned) now.0 now.1

@@ -1,87 +1,75 @@
--- What waits beside nodes and places.
-use Rattle.std.proofs.Common.{ℕ, ◌+◌, ◌-◌, ◌<◌, ◌≡◌, List, [], take, get_or, length, Contains, ◌↔◌, ◌⊎◌, inl, inr, refl}
+-- What waits beside places.
+use Rattle.std.proofs.Common.{ℕ, ◌≡◌, ◌↔◌, ◌+◌, ◌-◌, ◌<◌, List, take, get_or, length, Contains, inl, inr, refl}
 use Rattle.std.proofs.Common.{sym, subst, arith}
 use Rattle.std.proofs.lemmas.Option.{slice_get_within}
 use Rattle.hg_changeset.specs.declared.node.Node.{Node}
 use Rattle.hg_changeset.specs.Contents.{Contents}
-use Rattle.hg_graph.specs.Graph.{nodes, Holds, IsGraph}
-use Rattle.hg_graph.specs.Places.{IsOnlyAt}
+use Rattle.hg_graph.specs.Graph.{IsGraph}
+use Rattle.hg_graph.specs.Places.{IsPlaceOfOne}
 use Rattle.hg_graph.specs.Waiting.{Widens}
-use Rattle.hg_graph.proofs.GraphLemmas.{Contains-from_place}
-use Rattle.hg_graph.proofs.PlaceLemmas.{placed_within, parent_first}
+use Rattle.hg_graph.proofs.PlaceLemmas.{parent_first, placed_within}
 use Rattle.hg_graph.proofs.WalkLemmas.{taken_one}
-use Rattle.hg_graph.proofs.QueueLemmas.{widens-alone, widens-then}
 use Rattle.hg_instab.specs.declared.settling.Kind.{Kind}
 use Rattle.hg_instab.specs.declared.settling.Kind.TheVariants.{Orphan, Extinct}
 use Rattle.hg_instab.specs.declared.waiting.Beside.{Beside}
-use Rattle.hg_instab.specs.declared.waiting.Beside.TheVariants.{Itself, Children, Parents}
-use Rattle.hg_instab.specs.Settling.{IsBeside, IsBesideNode, IsBesideOne, IsLater}
+use Rattle.hg_instab.specs.declared.waiting.Beside.TheVariants.{Children, Parents}
+use Rattle.hg_instab.specs.Settling.{IsBeside, WaitFrom, IsLater}
 
 -- ---- more of them
 
--- what is beside the nodes up to one more
-pub beside-more : (beside : Beside) (cs : List Contents) (ns : List Node) (i : ℕ) (d : Node) (old between new : List ℕ)
-    → i < length ns → Widens (IsBesideOne beside cs (take i ns)) old between
-    → Widens (IsBesideNode beside cs (get_or ns i d)) between new
-    → Widens (IsBesideOne beside cs (take (i + 1) ns)) old new
-beside-more beside cs ns i d old between new l a b =
-    widens-then (IsBesideOne beside cs (take i ns)) (IsBesideNode beside cs (get_or ns i d))
-    (IsBesideOne beside cs (take (i + 1) ns)) old between new joins a b
-  where
-    joins : (k : ℕ) → IsBesideOne beside cs (take (i + 1) ns) k
-        ↔ (IsBesideOne beside cs (take i ns) k ⊎ IsBesideNode beside cs (get_or ns i d) k)
-    joins k = (
-      λ h. elim ((taken_one ns i d h.0 l).0 h.1) [
-        | inl before ↦ inl (h.0, before, h.2)
-        | inr is ↦ inr (subst (λ n. IsBesideNode beside cs n k) (sym is) h.2)
-      ],
-      λ h. elim h [
-        | inl before ↦ (before.0, (taken_one ns i d before.0 l).1 (inl before.1), before.2)
-        | inr new ↦ (get_or ns i d, (taken_one ns i d (get_or ns i d) l).1 (inr refl), new)
-      ],
-    )
-
--- what is beside a node, by its place
-pub beside-node : (beside : Beside) (cs : List Contents) (n : Node) (j : ℕ) → IsOnlyAt cs n j → (k : ℕ)
-    → IsBesideNode beside cs n k ↔ IsBeside beside cs j k
-beside-node beside cs n j only k = (
-  λ h. subst (λ i. IsBeside beside cs i k) ((only h.0).0 h.1) h.2,
-  λ h. (j, (only j).1 refl, h),
+-- what waits from the others up to one more
+pub wait-more : (beside : Beside) (cs : List Contents) (places others : List ℕ) (i d : ℕ) (between new : List ℕ)
+    → i < length others → WaitFrom beside cs places (take i others) between
+    → Widens (IsBeside beside cs (get_or others i d)) between new
+    → WaitFrom beside cs places (take (i + 1) others) new
+wait-more beside cs places others i d between new l before widens k = (
+  λ h. elim ((widens k).0 h) [
+    | inl was ↦ elim ((before k).0 was) [
+      | inl place ↦ inl place
+      | inr other ↦ inr (other.0, (taken_one others i d other.0 l).1 (inl other.1), other.2)
+    ]
+    | inr more ↦ inr (get_or others i d, (taken_one others i d (get_or others i d) l).1 (inr refl), more)
+  ],
+  λ h. (widens k).1 (elim h [
+    | inl place ↦ inl ((before k).1 (inl place))
+    | inr other ↦ elim ((taken_one others i d other.0 l).0 other.1) [
+      | inl was ↦ inl ((before k).1 (inr (other.0, was, other.2)))
+      | inr is ↦ inr (subst (λ j. IsBeside beside cs j k) (sym is) other.2)
+    ]
+  ]),
 )
-
-pub beside-nowhere : (beside : Beside) (cs : List Contents) (n : Node) → ¬ (Holds cs n) → (k : ℕ)
-    → ¬ (IsBesideNode beside cs n k)
-beside-nowhere beside cs n out k h = out (Contains-from_place (nodes cs) h.0 n h.1)
 
 -- ---- where they are
 
 pub beside-within : (beside : Beside) (cs : List Contents) → IsGraph cs → (j k : ℕ) → j < length cs
     → IsBeside beside cs j k → k < length cs
-beside-within Itself cs graph j k l h = omega (arith, l, h)
 beside-within Children cs graph j k l h = slice_get_within cs k h.0 h.2
 beside-within Parents cs graph j k l h = let before = parent_first cs graph j k h in omega (arith, before, l)
 
--- what is beside one of the nodes is in the graph
-beside_one-within : (beside : Beside) (cs : List Contents) → IsGraph cs → (ns : List Node) (k : ℕ)
-    → IsBesideOne beside cs ns k → k < length cs
-beside_one-within beside cs graph ns k h =
-    beside-within beside cs graph h.2.0 k (placed_within cs h.0 h.2.0 h.2.1) h.2.2
+-- what waits is in the graph
+pub wait-within : (beside : Beside) (cs : List Contents) → IsGraph cs → (places others waiting : List ℕ)
+    → ((k : ℕ) → Contains places k → k < length cs) → ((k : ℕ) → Contains others k → k < length cs)
+    → WaitFrom beside cs places others waiting → (k : ℕ) → Contains waiting k → k < length cs
+wait-within beside cs graph places others waiting some more from k h = elim ((from k).0 h) [
+  | inl place ↦ some k place
+  | inr other ↦ beside-within beside cs graph other.0 k (more other.0 other.1) other.2
+]
 
--- what waits when a walk starts: what is beside the ones, and beside the others
-module _ (first second : Beside) (g cs : List Contents) (is : g ≡ cs) (ns ms : List Node) (start some all : List ℕ)
-    (empty : start ≡ []) (one : Widens (IsBesideOne first g ns) start some)
-    (other : Widens (IsBesideOne second g ms) some all) where
-  pub starts-are : (k : ℕ) → Contains all k ↔ (IsBesideOne first cs ns k ⊎ IsBesideOne second cs ms k)
-  starts-are k = subst (λ xs. Contains all k ↔ (IsBesideOne first xs ns k ⊎ IsBesideOne second xs ms k)) is
-      (widens-alone (λ j. IsBesideOne first g ns j ⊎ IsBesideOne second g ms j) start all empty
-      (widens-then (IsBesideOne first g ns) (IsBesideOne second g ms)
-      (λ j. IsBesideOne first g ns j ⊎ IsBesideOne second g ms j) start some all (λ j. (λ h. h, λ h. h)) one other) k)
+-- ---- where a list and a graph are known by another name
 
-  pub starts-within : IsGraph cs → (k : ℕ) → Contains all k → k < length cs
-  starts-within graph k h = elim ((starts-are k).0 h) [
-    | inl x ↦ beside_one-within first cs graph ns k x
-    | inr x ↦ beside_one-within second cs graph ms k x
-  ]
+pub wait-along : (beside : Beside) (g cs : List Contents) → g ≡ cs → (places others waiting : List ℕ)
+    → WaitFrom beside g places others waiting → WaitFrom beside cs places others waiting
+wait-along beside g cs is places others waiting from = subst (λ xs. WaitFrom beside xs places others waiting) is from
+
+-- the places are those of the nodes
+module _ (g cs : List Contents) (is : g ≡ cs) (ns : List Node) (found places : List ℕ) (same : places ≡ found)
+    (all : (k : ℕ) → Contains found k ↔ IsPlaceOfOne g ns k) where
+  pub placed-along : (k : ℕ) → Contains places k ↔ IsPlaceOfOne cs ns k
+  placed-along k = subst (λ xs. Contains places k ↔ IsPlaceOfOne xs ns k) is
+      (subst (λ ks. Contains ks k ↔ IsPlaceOfOne g ns k) (sym same) (all k))
+
+  pub placed-in : (k : ℕ) → Contains places k → k < length cs
+  placed-in k h = let x = (placed-along k).0 h in placed_within cs x.0 k x.2
 
 -- ---- the work that is left
 

@@ -2,6 +2,8 @@
 use Rattle.std.specs.Prelude.{◌≡◌, ◌↔◌, ◌⊎◌, ℕ, List, slice_get, Some, Contains}
 use Rattle.hg_changeset.specs.declared.node.Node.{Node}
 use Rattle.hg_marker.specs.Fields.{Fields}
+use Rattle.hg_graph.specs.Places.{IsAt}
+use Rattle.hg_phases.specs.State.{changesets}
 use Rattle.hg_history.specs.Content.{IsBelowAt, IsHeld}
 use Rattle.hg_replica.specs.Content.{Content}
 use Rattle.hg_replica.specs.Change.{ChangeValue, TellsChange}
@@ -29,6 +31,11 @@ pub record Follows (f g : Content) (change : ChangeValue) (ms : List Fields) : T
 -- whether a marker rewrote it
 abbrev pub IsSeed : List Fields → ChangeValue → Node → Type 0
 IsSeed ms change n = IsMoved change n ⊎ ((m : Fields) × IsFresh ms change m × (m.predecessor ≡ n))
+
+-- each seed that is held stands at one of the places
+abbrev pub AreSeeded : ReplicaState → ChangeValue → List ℕ → Type 0
+AreSeeded t change places = (n : Node) (k : ℕ) → IsSeed t.markers change n → IsAt (changesets t.history) n k
+    → Contains places k
 
 -- in a set of which some are turned: those of the set that aren't turned, and those that are and weren't in it
 abbrev pub IsNow : List Node → List Node → Node → Type 0

@@ -9,7 +9,7 @@ use Rattle.hg_replica.specs.Content.{Content}
 use Rattle.hg_instab.specs.declared.settling.Kind.{Kind}
 use Rattle.hg_instab.specs.declared.settling.Kind.TheVariants.{Orphan, Extinct}
 use Rattle.hg_instab.specs.declared.waiting.Beside.{Beside}
-use Rattle.hg_instab.specs.declared.waiting.Beside.TheVariants.{Itself, Children, Parents}
+use Rattle.hg_instab.specs.declared.waiting.Beside.TheVariants.{Children, Parents}
 use Rattle.hg_instab.specs.Changed.{IsNow}
 use Rattle.hg_instab.specs.Local.{StandsUnstably, HoldsNothing}
 
@@ -18,19 +18,19 @@ abbrev pub IsTurned : Node → List Node → List Node → Type 0
 IsTurned node old new = (n : Node)
     → Contains new n ↔ ((Contains old n × (n ≢ node)) ⊎ (¬ (Contains old n) × (n ≡ node)))
 
--- the place k is j, or that of a child of what stands at j, or of a parent
+-- the place k is that of a child of what stands at j, or of a parent
 abbrev pub IsBeside : Beside → List Contents → ℕ → ℕ → Type 0
-IsBeside Itself cs j k = j ≡ k
 IsBeside Children cs j k = IsParentPlace cs k j
 IsBeside Parents cs j k = IsParentPlace cs j k
 
--- the place is so beside that of the node
-abbrev pub IsBesideNode : Beside → List Contents → Node → ℕ → Type 0
-IsBesideNode beside cs n k = (j : ℕ) × IsAt cs n j × IsBeside beside cs j k
+-- the place is so beside one of the places
+abbrev pub IsBesideOne : Beside → List Contents → List ℕ → ℕ → Type 0
+IsBesideOne beside cs places k = (j : ℕ) × Contains places j × IsBeside beside cs j k
 
--- the place is so beside that of one of the nodes
-abbrev pub IsBesideOne : Beside → List Contents → List Node → ℕ → Type 0
-IsBesideOne beside cs ns k = (n : Node) × Contains ns n × IsBesideNode beside cs n k
+-- the places wait, and what is so beside the others
+abbrev pub WaitFrom : Beside → List Contents → List ℕ → List ℕ → List ℕ → Type 0
+WaitFrom beside cs places others waiting = (k : ℕ)
+    → Contains waiting k ↔ (Contains places k ⊎ IsBesideOne beside cs others k)
 
 -- ---- by kind
 

@@ -9,7 +9,7 @@ ghost use Rattle.hg_replica.specs.State.{ReplicaState, IsValid};
 ghost use Rattle.hg_replica.specs.Content.{content_of};
 ghost use Rattle.hg_replica.specs.Change.{ChangeValue};
 ghost use Rattle.hg_replica.specs.Evolution.{IsExtinct};
-ghost use Rattle.hg_instab.specs.Changed.{Follows, IsSeed, IsNow};
+ghost use Rattle.hg_instab.specs.Changed.{Follows, AreSeeded, IsNow};
 ghost use Rattle.hg_instab.specs.Local.{HoldsNothing};
 ghost use Rattle.hg_instab.specs.Settling.{IsSoAt, IsAtEach};
 
@@ -17,32 +17,30 @@ use crate::holders::Holders;
 use crate::query::is_obsolete_at;
 use crate::settling::{Kind, settle_all};
 use crate::turned::has_now;
-use crate::waiting::{Beside, wait_beside};
+use crate::waiting::{Beside, waiting_from};
 use hg_changeset::Node;
-use hg_graph::PlaceQueue;
 use hg_replica::Replica;
 use std::alloc::{AllocError, Global};
 use std::collections::BTreeSet;
 
 // The nodes that come to the extinct changesets or leave them with a change to what the replica holds now. The seeds
-// are what the change moved or rewrote.
+// are at the places of what the change moved or rewrote.
 pub(crate) fn turned_extinct(
     alloc: Global,
     replica: &Replica,
     extinct: &BTreeSet<Node>,
     holders: &mut Holders,
-    seeds: &[Node],
+    seeds: &[usize],
 ) -> Result<BTreeSet<Node>, AllocError>
+    requires { (k : ℕ) → Contains seeds.now k → k < length (changesets replica.now.history) }
     ensures { IfOk result (λ turned. (s : ReplicaState) (change : ChangeValue) → IsValid s
         → Follows (content_of s) (content_of replica.now) change replica.now.markers
-        → ((n : Node) → IsSeed replica.now.markers change n → Contains seeds.now n)
+        → AreSeeded replica.now change seeds.now
         → ((n : Node) → Contains extinct.now.keys n ↔ IsExtinct (content_of s) n)
         → (n : Node) → IsNow extinct.now.keys turned.keys n ↔ IsExtinct (content_of replica.now) n) }
 {
     let graph = replica.graph();
-    let mut waiting = PlaceQueue::new(alloc);
-    wait_beside(graph, seeds, Beside::Itself, &mut waiting)?;
-    wait_beside(graph, seeds, Beside::Parents, &mut waiting)?;
+    let waiting = waiting_from(alloc, graph, seeds, Beside::Parents, seeds)?;
     settle_all(alloc, replica, Kind::Extinct, extinct, holders, waiting)
 }
 

@@ -1,7 +1,7 @@
 //! What comes to the orphans or leaves them with a change, by a walk up from what the change touched.
 //!
 //! Parents tell whether a changeset is an orphan.
-ghost use Rattle.std.specs.Prelude.{◌≡◌, ◌↔◌, ◌⊎◌, ℕ, Some, Contains, IsTrue, IfOk};
+ghost use Rattle.std.specs.Prelude.{◌≡◌, ◌↔◌, ◌⊎◌, ◌<◌, ℕ, Some, length, Contains, IsTrue, IfOk};
 ghost use Rattle.hg_changeset.specs.declared.node.Node.{Node};
 ghost use Rattle.hg_graph.specs.Places.{IsAt};
 ghost use Rattle.hg_phases.specs.State.{changesets};
@@ -9,41 +9,41 @@ ghost use Rattle.hg_replica.specs.State.{ReplicaState, IsValid};
 ghost use Rattle.hg_replica.specs.Content.{content_of};
 ghost use Rattle.hg_replica.specs.Change.{ChangeValue};
 ghost use Rattle.hg_replica.specs.Evolution.{IsObsolete, IsOrphan};
-ghost use Rattle.hg_instab.specs.Changed.{Follows, IsSeed, IsNow};
+ghost use Rattle.hg_instab.specs.Changed.{Follows, AreSeeded, IsNow};
 ghost use Rattle.hg_instab.specs.Local.{IsParentOf, StandsUnstably};
 
 use crate::holders::Holders;
 use crate::query::{is_current, is_obsolete_at};
 use crate::settling::{Kind, settle_all};
 use crate::turned::has_now;
-use crate::waiting::{Beside, wait_beside};
+use crate::waiting::{Beside, waiting_from};
 use hg_changeset::Node;
-use hg_graph::PlaceQueue;
 use hg_replica::Replica;
 use std::alloc::{AllocError, Global};
 use std::collections::BTreeSet;
 
-// The nodes that come to the orphans or leave them with a change to what the replica holds now. The seeds are what the
-// change moved or rewrote, and of no other node than those that are given as turned it differs whether it is obsolete.
+// The nodes that come to the orphans or leave them with a change to what the replica holds now. The seeds are at the
+// places of what the change moved or rewrote, and of no other node than those that are given as turned it differs
+// whether it is obsolete.
 pub(crate) fn turned_orphans(
     alloc: Global,
     replica: &Replica,
     orphan: &BTreeSet<Node>,
-    seeds: &[Node],
+    seeds: &[usize],
     turned_obsolete: &[Node],
 ) -> Result<BTreeSet<Node>, AllocError>
+    requires { (k : ℕ) → Contains seeds.now k → k < length (changesets replica.now.history) }
     ensures { IfOk result (λ turned. (s : ReplicaState) (change : ChangeValue) → IsValid s
         → Follows (content_of s) (content_of replica.now) change replica.now.markers
-        → ((n : Node) → IsSeed replica.now.markers change n → Contains seeds.now n)
+        → AreSeeded replica.now change seeds.now
         → ((n : Node) → ¬ (Contains turned_obsolete.now n)
         → IsObsolete (content_of replica.now) n ↔ IsObsolete (content_of s) n)
         → ((n : Node) → Contains orphan.now.keys n ↔ IsOrphan (content_of s) n)
         → (n : Node) → IsNow orphan.now.keys turned.keys n ↔ IsOrphan (content_of replica.now) n) }
 {
     let graph = replica.graph();
-    let mut waiting = PlaceQueue::new(alloc);
-    wait_beside(graph, seeds, Beside::Itself, &mut waiting)?;
-    wait_beside(graph, turned_obsolete, Beside::Children, &mut waiting)?;
+    let others = graph.places_of(turned_obsolete)?;
+    let waiting = waiting_from(alloc, graph, seeds, Beside::Children, &others)?;
     settle_all(
         alloc,
         replica,

@@ -1,11 +1,12 @@
 //! What a change turns in each kept set.
-ghost use Rattle.std.specs.Prelude.{◌↔◌, ◌⊎◌, List, Contains, IfOk, IsTrue};
+ghost use Rattle.std.specs.Prelude.{◌↔◌, ◌⊎◌, ◌<◌, ℕ, List, Contains, IfOk, IsTrue, length};
 ghost use Rattle.hg_changeset.specs.declared.node.Node.{Node};
+ghost use Rattle.hg_phases.specs.State.{changesets};
 ghost use Rattle.hg_replica.specs.State.{ReplicaState, IsValid};
 ghost use Rattle.hg_replica.specs.Change.{ChangeValue};
 ghost use Rattle.hg_replica.specs.Content.{Content, content_of};
 ghost use Rattle.hg_replica.specs.Evolution.{IsObsolete, IsCurrent, IsOrphan};
-ghost use Rattle.hg_instab.specs.Changed.{Follows, IsChangedTo, IsSeed, IsNow};
+ghost use Rattle.hg_instab.specs.Changed.{Follows, IsChangedTo, IsSeed, AreSeeded, IsNow};
 ghost use Rattle.hg_instab.specs.Instabilities.{AreInstabilities, IsContentDivergent};
 ghost use Rattle.hg_instab.specs.Near.{IsClosed};
 ghost use Rattle.hg_instab.specs.Turns.{AreTurns, AreTold, IsTurn, IsThen};
@@ -75,8 +76,9 @@ impl Turns {
         let seeds = touched.as_slice();
         let met = newly_after_public(alloc, replica, change, sets.after_public())?;
         let obsolete = obsolete_turn(alloc, replica, sets.obsolete(), seeds)?;
-        let orphan = orphan_turn(alloc, replica, sets.orphan(), seeds, &obsolete)?;
-        let held = turned_extinct(alloc, replica, sets.extinct(), holders, seeds)?;
+        let places = replica.graph().places_of(seeds)?;
+        let orphan = orphan_turn(alloc, replica, sets.orphan(), &places, &obsolete)?;
+        let held = turned_extinct(alloc, replica, sets.extinct(), holders, &places)?;
         let extinct = Turn::of(alloc, sets.extinct(), &held)?;
         let suspended = suspended_turn(alloc, replica, sets, seeds, &held)?;
         let phase_divergent = phase_turn(alloc, replica, sets, seeds, &met)?;
@@ -114,19 +116,19 @@ fn obsolete_turn(
     Turn::to(alloc, set, seeds, now)
 }
 
-// The orphans: a walk upwards from the seeds, and from what stands on those whose obsolescence turned.
+// The orphans: a walk upwards from the places of the seeds, and from what stands on those whose obsolescence turned.
 fn orphan_turn(
     alloc: Global,
     replica: &Replica,
     set: &BTreeSet<Node>,
-    seeds: &[Node],
+    seeds: &[usize],
     obsolete: &Turn,
 ) -> Result<Turn, AllocError>
+    requires { (k : ℕ) → Contains seeds.now k → k < length (changesets replica.now.history) }
     ensures turn { IfOk result (IsTurn set.now.keys) }
     ensures told { IfOk result (λ turn. (s : ReplicaState) (change : ChangeValue) (was : List Node) → IsValid s
         → Follows (content_of s) (content_of replica.now) change replica.now.markers
-        → ((n : Node) → IsSeed replica.now.markers change n → Contains seeds.now n)
-        → ((n : Node) → Contains was n ↔ IsObsolete (content_of s) n)
+        → AreSeeded replica.now change seeds.now → ((n : Node) → Contains was n ↔ IsObsolete (content_of s) n)
         → ((n : Node) → IsThen was obsolete.now n ↔ IsObsolete (content_of replica.now) n)
         → ((n : Node) → Contains set.now.keys n ↔ IsOrphan (content_of s) n)
         → (n : Node) → IsThen set.now.keys turn n ↔ IsOrphan (content_of replica.now) n) }
@@ -183,7 +185,7 @@ fn is_kept(replica: &Replica, extinct: &BTreeSet<Node>, turned: &BTreeSet<Node>,
     ensures { IsTrue result ↔ (IsObsolete (content_of replica.now) node
         × ¬ (IsNow extinct.now.keys turned.now.keys node)) }
 {
-    is_obsolete(replica, node) && !has_now(extinct, turned, node)
+    !has_now(extinct, turned, node) && is_obsolete(replica, node)
 }
 
 // The phase-divergent changesets: those of the seeds, and what newly comes after something public, are asked again.
@@ -238,7 +240,7 @@ fn is_current_after(
     ensures { IsTrue result ↔ (IsCurrent (content_of replica.now) node
         × (Contains after_public.now.keys node ⊎ Contains met.now.keys node)) }
 {
-    is_current(replica, node) && (has(after_public, node) || has(met, node))
+    (has(after_public, node) || has(met, node)) && is_current(replica, node)
 }
 
 // The content-divergent changesets, and the ids near forks: an amend turns two ids, and any other change a region of

@@ -1,48 +1,34 @@
 //! Places that wait for a walk to come to them.
-ghost use Rattle.std.specs.Prelude.{◌<◌, length, OnOk};
+ghost use Rattle.std.specs.Prelude.{◌<◌, ℕ, length, Contains, IfOk, OnOk};
 ghost use Rattle.hg_graph.specs.Waiting.{Widens};
-ghost use Rattle.hg_instab.specs.Settling.{IsBeside, IsBesideNode, IsBesideOne};
+ghost use Rattle.hg_instab.specs.Settling.{IsBeside, WaitFrom};
 
-use hg_changeset::Node;
 use hg_graph::{Graph, PlaceQueue};
-use std::alloc::AllocError;
+use std::alloc::{AllocError, Global};
 
 // Which places wait on account of one.
 #[derive(Clone, Copy)]
 pub(crate) enum Beside {
-    Itself,
     Children,
     Parents,
 }
 
-// On account of each node that is held, what stands so beside it waits.
-pub(crate) fn wait_beside(
+// These places wait, and what stands so beside the others.
+pub(crate) fn waiting_from(
+    alloc: Global,
     graph: &Graph,
-    nodes: &[Node],
+    places: &[usize],
     beside: Beside,
-    waiting: &mut PlaceQueue,
-) -> Result<(), AllocError>
-    ensures { OnOk result (Widens (IsBesideOne beside graph.now nodes.now) waiting.old waiting.new) }
+    others: &[usize],
+) -> Result<PlaceQueue, AllocError>
+    requires { (k : ℕ) → Contains others.now k → k < length graph.now }
+    ensures { IfOk result (WaitFrom beside graph.now places.now others.now) }
 {
-    for node in nodes {
-        wait_beside_node(graph, *node, beside, waiting)?;
+    let mut waiting = PlaceQueue::of(alloc, places)?;
+    for other in others {
+        wait_beside_place(graph, *other, beside, &mut waiting)?;
     }
-    Ok(())
-}
-
-// What stands so beside the node waits, if it is held.
-fn wait_beside_node(
-    graph: &Graph,
-    node: Node,
-    beside: Beside,
-    waiting: &mut PlaceQueue,
-) -> Result<(), AllocError>
-    ensures { OnOk result (Widens (IsBesideNode beside graph.now node) waiting.old waiting.new) }
-{
-    match graph.place(node) {
-        Some(place) => wait_beside_place(graph, place, beside, waiting),
-        None => Ok(()),
-    }
+    Ok(waiting)
 }
 
 // What stands so beside the place waits.
@@ -56,7 +42,6 @@ pub(crate) fn wait_beside_place(
     ensures { OnOk result (Widens (IsBeside beside graph.now place) waiting.old waiting.new) }
 {
     match beside {
-        Beside::Itself => waiting.insert(place),
         Beside::Children => waiting.insert_each(graph.children(place)),
         Beside::Parents => waiting.insert_parents(graph, place),
     }

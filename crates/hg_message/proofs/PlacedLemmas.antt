@@ -1,46 +1,16 @@
--- Places of nodes, and nodes at places, one more.
-use Rattle.std.proofs.Common.{◌≡◌, ◌↔◌, ℕ, ◌<◌, ◌+◌, inl, inr, List, [], ◌∷◌, ◌++◌, length, get_or, take, Contains}
+-- Nodes at places, one more.
+use Rattle.std.proofs.Common.{◌≡◌, ◌↔◌, ℕ, ◌<◌, ◌+◌, inl, inr, List, length, get_or, take, Contains}
 use Rattle.std.proofs.Common.{true, refl, sym, subst, ◌∙◌}
 use Rattle.std.specs.BTreeSet.{BTreeSet, Updates}
-use Rattle.std.proofs.lemmas.List.Elements.{Contains-append_left, Contains-push, Contains-push_cases}
 use Rattle.std.proofs.lemmas.Option.{same_Some}
 use Rattle.hg_changeset.specs.declared.node.Node.{Node}
 use Rattle.hg_changeset.specs.Node.{node_cmp}
-use Rattle.hg_changeset.specs.Contents.{Contents}
-use Rattle.hg_changeset.proofs.ListLemmas.{Contains-taken}
 use Rattle.hg_changeset.proofs.NodeLemmas.{node_cmp_total, node_cmp_exact}
-use Rattle.hg_graph.specs.Graph.{Holds}
-use Rattle.hg_graph.specs.Places.{IsAt, IsOnlyAt, IsPlaceOfOne}
-use Rattle.hg_graph.proofs.GraphLemmas.{Contains-from_place}
+use Rattle.hg_graph.specs.Places.{IsAt}
 use Rattle.hg_graph.proofs.WalkLemmas.{inserted, taken_one}
 use Rattle.hg_phases.specs.declared.phase.Phase.{Phase}
 use Rattle.hg_phases.specs.State.{State, changesets}
 use Rattle.hg_message.specs.Covered.{HasPhaseAt, IsAtOneIn}
-
-module _ (cs : List Contents) (ns : List Node) (i : ℕ) (x : Node) (l : i < length ns) (there : get_or ns i x ≡ x)
-    (found : List ℕ) (before : (k : ℕ) → Contains found k ↔ IsPlaceOfOne cs (take i ns) k) where
-  pub placed-push : (p : ℕ) → IsOnlyAt cs x p → (k : ℕ) → Contains (found ++ p ∷ []) k
-      ↔ IsPlaceOfOne cs (take (i + 1) ns) k
-  placed-push p only k = (
-    λ h. elim (Contains-push_cases found p k h) [
-      | inl old ↦ let b = (before k).0 old in (b.0, (Contains-taken ns i x b.0 l there).1 (inl b.1), b.2)
-      | inr e ↦ (x, (Contains-taken ns i x x l there).1 (inr refl), (only k).1 (sym e))
-    ],
-    λ h. elim ((Contains-taken ns i x h.0 l there).0 h.1) [
-      | inl old ↦ Contains-append_left found (p ∷ []) k ((before k).1 (h.0, old, h.2))
-      | inr e ↦ subst (Contains (found ++ p ∷ []))
-          (sym ((only k).0 (subst (λ (n : Node). IsAt cs n k) (sym e) h.2))) (Contains-push found p)
-    ],
-  )
-
-  pub placed-skip : ¬ (Holds cs x) → (k : ℕ) → Contains found k ↔ IsPlaceOfOne cs (take (i + 1) ns) k
-  placed-skip not k = (
-    λ h. let b = (before k).0 h in (b.0, (Contains-taken ns i x b.0 l there).1 (inl b.1), b.2),
-    λ h. elim ((Contains-taken ns i x h.0 l there).0 h.1) [
-      | inl old ↦ (before k).1 (h.0, old, h.2)
-      | inr e ↦ absurd (not (subst (Holds cs) (sym e) (Contains-from_place _ k h.0 h.2)))
-    ],
-  )
 
 module _ (s : State) (phase : Phase) (places : List ℕ) (i : ℕ) (l : i < length places) where
   abbrev here : ℕ

@@ -2,7 +2,6 @@
 //! places. Marks tell what its scope names.
 ghost use Rattle.std.specs.Prelude.{◌≡◌, ◌↔◌, ℕ, List, Contains, IfOk, MatchOption, length};
 ghost use Rattle.hg_changeset.specs.declared.node.Node.{Node};
-ghost use Rattle.hg_graph.specs.Places.{IsPlaceOfOne};
 ghost use Rattle.hg_obsstore.specs.Markers.{ArePlaces};
 ghost use Rattle.hg_phases.specs.State.{changesets};
 ghost use Rattle.hg_replica.specs.State.{IsValid};
@@ -17,7 +16,6 @@ ghost use Rattle.hg_message.specs.declared.scope.Scope.TheVariants.{Served as se
 use crate::marks::marked_but;
 use crate::scope::Scope;
 use hg_changeset::Node;
-use hg_graph::Graph;
 use hg_relevant::relevant;
 use hg_replica::Replica;
 use hg_view::{Kept, places_above};
@@ -130,21 +128,8 @@ pub(crate) fn served_outgoing(
         (changesets kept.now.replica.history) found.items) }
 {
     let graph = kept.replica().graph();
-    let known = places_of(alloc, graph, common)?;
+    let known = graph.places_of(common)?;
     places_above(alloc, graph, heads, &known)
-}
-
-// The places at which the nodes stand that are held.
-fn places_of(alloc: Global, graph: &Graph, nodes: &[Node]) -> Result<Vec<usize>, AllocError>
-    ensures { IfOk result (λ found. (k : ℕ) → Contains found.items k ↔ IsPlaceOfOne graph.now nodes.now k) }
-{
-    let mut found = Vec::with_capacity(alloc, nodes.len())?;
-    for node in nodes {
-        if let Some(place) = graph.place(*node) {
-            found.push(place)?;
-        }
-    }
-    Ok(found)
 }
 
 // The places of all markers, ascending.

@@ -29,11 +29,9 @@ pub fn places_above(
     ensures ascending { IfOk result (λ found. IsStrictlyIncreasing found.items) }
 {
     graph.is_valid();
-    let mut fresh = PlaceQueue::new(alloc);
-    let mut shared = PlaceQueue::new(alloc);
+    let mut fresh = PlaceQueue::of(alloc, tops)?;
+    let mut shared = PlaceQueue::of(alloc, common)?;
     let mut found = Vec::new(alloc);
-    fresh.insert_each(tops)?;
-    shared.insert_each(common)?;
     while let Some(place) = fresh.pop_last() {
         if !is_under(graph, place, &mut shared)? {
             found.push(place)?;

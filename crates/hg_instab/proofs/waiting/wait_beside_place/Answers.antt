@@ -7,11 +7,6 @@ use Rattle.hg_instab.specs.declared.waiting.Beside.{Beside}
 use Rattle.hg_instab.specs.Settling.{IsBeside}
 use Rattle.hg_instab.proofs.waiting.wait_beside_place.Goals as goal
 
-pub returns-in-Itself : goal.returns-in-Itself
-returns-in-Itself c = subst (λ (b : Beside). OnOk c.insert.result
-    (Widens (IsBeside b c.args.graph.now c.args.place) c.args.waiting.now c.insert.new.self)) (sym c.in-Itself.is)
-    c.insert.ensures
-
 pub returns-in-Children : goal.returns-in-Children
 returns-in-Children c =
     let cs = c.args.graph.now in

@@ -20,7 +20,7 @@ places_above-requires-clause-tops c k h =
 
 pub places_above-requires-clause-common : goal.places_above-requires-clause-common
 places_above-requires-clause-common c k h =
-    let one = (c.in_ok-known.ensures k).0 (subst (λ (ks : List ℕ). Contains ks k) c.deref.ensures.value h) in
+    let one = (c.in_ok-known.ensures.answer k).0 (subst (λ (ks : List ℕ). Contains ks k) c.deref.ensures.value h) in
     placed_within c.graph-graph.result.now one.0 k one.2
 
 pub returns : goal.returns
@@ -33,7 +33,7 @@ returns c =
     let known_are : (i : ℕ) → Contains known i ↔ IsPlaceOfOne cs c.args.common.now i =
     subst (λ (ks : List ℕ). (i : ℕ) → Contains ks i ↔ IsPlaceOfOne cs c.args.common.now i) (sym c.deref.ensures.value)
     (subst (λ (ds : List Contents). (i : ℕ) → Contains c.in_ok-known.known.items i
-    ↔ IsPlaceOfOne ds c.args.common.now i) here c.in_ok-known.ensures) in
+    ↔ IsPlaceOfOne ds c.args.common.now i) here c.in_ok-known.ensures.answer) in
     IfOk-weaker c.places_above.result _ _
     (λ found both. served-outgoing k c.replica.ensures.valid c.args.common.now c.requires.common c.args.heads.now known
     c.requires.heads known_are found.items

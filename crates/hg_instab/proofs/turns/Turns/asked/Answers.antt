@@ -1,5 +1,7 @@
-use Rattle.std.proofs.Common.{◌↔◌, ◌⊎◌, List, Contains, sym, subst, ◌∙◌}
+use Rattle.std.proofs.Common.{◌≡◌, ◌↔◌, ◌⊎◌, ℕ, List, Contains, sym, subst, ◌∙◌}
 use Rattle.hg_changeset.specs.declared.node.Node.{Node}
+use Rattle.hg_graph.specs.Places.{IsPlaceOfOne}
+use Rattle.hg_phases.specs.State.{changesets}
 use Rattle.hg_obsstore.proofs.IndexLemmas.{among_or_not}
 use Rattle.hg_replica.specs.Content.{content_of}
 use Rattle.hg_replica.specs.Evolution.{IsObsolete, IsOrphan, IsExtinct, IsSuspended, IsCurrent}
@@ -11,7 +13,18 @@ use Rattle.hg_instab.proofs.KeptLemmas.{changed-follows, now-or, suspended-told,
 use Rattle.hg_instab.proofs.KeptLemmas.{then-along, flip}
 use Rattle.hg_instab.proofs.SetLemmas.{along}
 use Rattle.hg_instab.proofs.TurnLemmas.{grown-to}
+use Rattle.hg_instab.proofs.WaitingLemmas.{placed-along, placed-in}
 use Rattle.hg_instab.proofs.turns.Turns.asked.Goals as goal
+
+pub orphan_turn-requires : goal.orphan_turn-requires
+orphan_turn-requires c = placed-in c.graph.result.now (changesets c.args.replica.now.history) c.graph.ensures.graph
+    c.as_slice-seeds.result.now c.in_ok-places.places.items c.deref.result.now c.deref.ensures.value
+    c.in_ok-places.ensures.answer
+
+pub turned_extinct-requires : goal.turned_extinct-requires
+turned_extinct-requires c = placed-in c.graph.result.now (changesets c.args.replica.now.history) c.graph.ensures.graph
+    c.as_slice-seeds.result.now c.in_ok-places.places.items c.deref-2.result.now c.deref-2.ensures.value
+    c.in_ok-places.ensures.answer
 
 pub returns-clause-turns : goal.returns-clause-turns
 returns-clause-turns c = record {
@@ -43,6 +56,10 @@ returns-clause-told c s is at =
     let seeded : (n : Node) → IsSeed t.markers change n → Contains seeds n =
     λ n h. subst (λ (xs : List Node). Contains xs n) (sym c.as_slice-seeds.ensures.value)
     ((c.in_ok-touched.ensures n).1 h) in
+    let placed : (places : List ℕ) → places ≡ c.in_ok-places.places.items → (k : ℕ)
+    → Contains places k ↔ IsPlaceOfOne (changesets t.history) seeds k =
+    λ places same. placed-along c.graph.result.now (changesets t.history) c.graph.ensures.graph seeds
+    c.in_ok-places.places.items places same c.in_ok-places.ensures.answer in
     let after : (n : Node) → IsAfterPublic g n ↔ (Contains sets.after_public n ⊎ Contains met n) =
     λ n. subst (λ (xs : List Node). IsAfterPublic g n ↔ (Contains xs n ⊎ Contains met n)) c.after_public.ensures
     (c.in_ok-met.ensures s is.valid follows
@@ -58,11 +75,14 @@ returns-clause-told c s is at =
     (set-along c.obsolete.result.now.keys sets.obsolete (IsObsolete f) c.obsolete.ensures at.obsolete)) in
     let orphan : (n : Node) → IsThen sets.orphan c.in_ok-orphan.orphan n ↔ IsOrphan g n =
     then-along c.orphan.result.now.keys sets.orphan c.in_ok-orphan.orphan (IsOrphan g) c.orphan.ensures
-    (c.in_ok-orphan.ensures.told s change sets.obsolete is.valid follows seeded at.obsolete obsolete
+    (c.in_ok-orphan.ensures.told s change sets.obsolete is.valid follows
+    (λ n k seed there. (placed c.deref.result.now c.deref.ensures.value k).1 (n, seeded n seed, there)) at.obsolete
+    obsolete
     (set-along c.orphan.result.now.keys sets.orphan (IsOrphan f) c.orphan.ensures at.orphan)) in
     let extinct_now : (n : Node) → IsNow sets.extinct held n ↔ IsExtinct g n =
     λ n. subst (λ (xs : List Node). IsNow xs held n ↔ IsExtinct g n) c.extinct.ensures
-    (c.in_ok-held.ensures s change is.valid follows seeded
+    (c.in_ok-held.ensures s change is.valid follows
+    (λ n k seed there. (placed c.deref-2.result.now c.deref-2.ensures.value k).1 (n, seeded n seed, there))
     (set-along c.extinct.result.now.keys sets.extinct (IsExtinct f) c.extinct.ensures at.extinct) n) in
     let extinct : (n : Node) → IsThen sets.extinct c.in_ok-extinct.extinct n ↔ IsExtinct g n =
     λ n. along (subst (λ (xs : List Node). IsThen xs c.in_ok-extinct.extinct n ↔ IsNow xs held n) c.extinct-2.ensures
@@ -83,8 +103,8 @@ returns-clause-told c s is at =
           (both-same (flip (after n)));
       content_divergent = divergence.content_divergent;
       after_public = λ n. along
-          (grown-to c.after_public-2.result.now.keys sets.after_public c.deref.result.now met c.in_ok-growing.field-0
-          c.after_public-2.ensures (c.deref.ensures.value ∙ c.in_ok-new.ensures) c.in_ok-growing.ensures.then n)
+          (grown-to c.after_public-2.result.now.keys sets.after_public c.deref-3.result.now met c.in_ok-growing.field-0
+          c.after_public-2.ensures (c.deref-3.ensures.value ∙ c.in_ok-new.ensures) c.in_ok-growing.ensures.then n)
           (flip (after n));
       near_forks = divergence.near_forks;
     }
