@@ -2,14 +2,13 @@
 ghost use Rattle.std.specs.Prelude.{◌≡◌, ◌+◌, ◌-◌, length, IfSome};
 ghost use Rattle.hg_graph.specs.Graph.{Holds};
 ghost use Rattle.hg_graph.specs.Places.{IsAt};
-ghost use Rattle.hg_phases.specs.State.{IsValid};
-ghost use Rattle.hg_phases.specs.Kept.{before_last, phases_at, kept_state};
+ghost use Rattle.hg_phases.specs.Kept.{before_last, phases_at};
 ghost use Rattle.hg_worked_rows.specs.SideBySide.{AreSideBySide};
 
 use crate::making::are_same;
 use hg_changeset::{Changeset, Node};
 use hg_graph::{Added, Graph};
-use hg_phases::{LoweringLog, Phase, PhaseMap, PhaseRoots, Roots};
+use hg_phases::{Phase, PhaseMap, PhaseRoots};
 use std::alloc::Global;
 
 // How many changesets are added and phases lowered in a history.
@@ -66,8 +65,7 @@ fn admit(graph: &Graph, map: &mut PhaseMap, kept: &mut PhaseRoots, node: Node) -
     requires added { IsAt graph.now node (length graph.now - 1) }
     ensures { IfSome result (λ _. AreSideBySide graph.now map.new kept.new) }
 {
-    // It says that this is a graph.
-    let _count = graph.len();
+    graph.is_valid();
     match (map.admit(graph, node), kept.admit(graph, node)) {
         (Ok(()), Ok(())) => Some(()),
         _ => None,
@@ -91,20 +89,8 @@ fn add(
     }
 }
 
-// What goes down in a copy of the map.
-fn lowered_copy(graph: &Graph, map: &PhaseMap, node: Node, phase: Phase) -> Option<Vec<Node>>
-    requires forms { (length (phases_at graph.now map.now) ≡ length graph.now)
-        × IsValid (kept_state graph.now map.now) }
-    requires held { Holds graph.now node }
-{
-    let mut copy = map.copy().ok()?;
-    let lowered = copy.lower(graph, node, phase).ok()?;
-    Some(lowered.nodes)
-}
-
 // Lowers in both forms. Whether the same went down.
 fn lower(
-    alloc: Global,
     graph: &Graph,
     map: &mut PhaseMap,
     kept: &mut PhaseRoots,
@@ -115,13 +101,11 @@ fn lower(
     requires held { Holds graph.now node }
     ensures { IfSome result (λ _. AreSideBySide graph.now map.new kept.new) }
 {
-    let told = lowered_copy(graph, map, node, phase)?;
-    let mut log = LoweringLog::new(alloc);
     match (
-        map.lower_logged(graph, &mut log, node, phase),
+        map.lower(graph, node, phase),
         kept.lower(graph, node, phase),
     ) {
-        (Ok(()), Ok(lowered)) => Some(are_same(&told, &lowered.nodes)),
+        (Ok(told), Ok(lowered)) => Some(are_same(&told.nodes, &lowered.nodes)),
         _ => None,
     }
 }
@@ -140,7 +124,7 @@ fn step(
 {
     let place = dice.roll(graph.len());
     match graph.node_at(place) {
-        Some(node) if number % 3 == 2 => lower(alloc, graph, map, kept, node, dice.phase()),
+        Some(node) if number % 3 == 2 => lower(graph, map, kept, node, dice.phase()),
         _ => {
             let changeset = dice.changeset(alloc, graph, number)?;
             add(graph, map, kept, &changeset)?;
