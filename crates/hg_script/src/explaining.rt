@@ -15,6 +15,13 @@ use hg_view::PinRefusal;
 use hg_world::{Answer, EventRefusal};
 use std::alloc::{AllocError, Global};
 
+// What a fold or a relocation has to be.
+const NOT_LINEAR: &str =
+    ": a fold takes a line, each on the one before alone; nothing is relocated onto itself or what stands on it";
+
+// How many changesets a split makes and a fold takes.
+const COUNT: &str = ": a split makes 2 to 255, and a fold takes 2 or more";
+
 /// Puts behind the line of a refusal, with which the text ends, what the refusal is about, where lines are explained,
 /// and the line was refused.
 pub fn explain(
@@ -132,7 +139,10 @@ fn push_rewrite(fleet: &Fleet, refusal: Refusal, text: &mut Vec<u8>) -> Result<(
             text.extend_from_slice(b": ")?;
             text.extend_from_slice(cause_text(cause).as_bytes())
         }
-        Refusal::NotLinear | Refusal::Count | Refusal::Raise | Refusal::NoMemory => Ok(()),
+        Refusal::NotLinear => text.extend_from_slice(NOT_LINEAR.as_bytes()),
+        Refusal::Count => text.extend_from_slice(COUNT.as_bytes()),
+        Refusal::Raise => text.extend_from_slice(b": no phase goes up"),
+        Refusal::NoMemory => Ok(()),
     }
 }
 

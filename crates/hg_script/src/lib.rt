@@ -36,6 +36,7 @@ mod event;
 mod explaining;
 mod fault;
 mod fleet;
+mod hint;
 mod input;
 mod limits;
 mod lines;

@@ -20,6 +20,7 @@ use crate::command_fault::CommandFault;
 use crate::explaining::explain;
 use crate::fault::{LineFault, RunFault};
 use crate::fleet::Fleet;
+use crate::hint::{Hint, hint_at_fault};
 use crate::input::read_script;
 use crate::lines::{count_nodes, cut_line, is_short, words_of};
 use crate::script::run_line;
@@ -47,7 +48,7 @@ pub struct Notes {
 #[derive(Debug, Drop)]
 pub struct ToldFault {
     pub fault: RunFault,
-    /// The word that the fault is about, as it is printed.
+    /// The word that the fault is about, as it is printed, with what helps.
     pub word: Option<String>,
 }
 
@@ -291,9 +292,24 @@ fn word_of(
         _ => return Ok(None),
     };
     match word_at_fault(alloc, fleet, words, fault)? {
-        Some(word) => Ok(Some(printable(alloc, word)?)),
+        Some(word) => Ok(Some(helpful(alloc, word, hint_at_fault(words, fault))?)),
         None => Ok(None),
     }
+}
+
+// The word as it is printed, with what helps.
+fn helpful(alloc: Global, word: &[u8], hint: Option<Hint>) -> Result<String, AllocError> {
+    let (help, end) = match hint {
+        Some(Hint::Form(form)) => return String::from_str(alloc, form),
+        Some(Hint::Behind(help)) => (help, ")"),
+        Some(Hint::Nearest(command)) => (command, "?)"),
+        None => return printable(alloc, word),
+    };
+    let mut text = printable(alloc, word)?;
+    text.push_str(" (")?;
+    text.push_str(help)?;
+    text.push_str(end)?;
+    Ok(text)
 }
 
 // The word, where bytes that aren't printed, quotes and backslashes are escaped.
