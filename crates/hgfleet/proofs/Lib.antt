@@ -1,6 +1,7 @@
 mod AnswerLemmas
 mod ArgumentLemmas
 mod BuilderLemmas
+mod CommandLemmas
 mod NumberLemmas
 mod OptionLemmas
 mod PlaceLemmas

@@ -1,135 +1,171 @@
-//! What the program does, from standard input to standard output.
-ghost use Rattle.std.specs.Prelude.{◌≤◌};
+//! What the program does, from what a reader has to a writer.
+ghost use Rattle.std.specs.Prelude.{◌≡◌, List, ℕ, string_bytes, MatchOption, IfOk, IfErr, IsSome, OnOk, All, map};
+ghost use Rattle.std.specs.Io.KnownBytes.{Appends};
+ghost use Rattle.hg_script.specs.declared.fleet.Fleet.{Fleet as FleetValue};
+ghost use Rattle.hg_script.specs.Scripts.{IsLeftFleet};
+ghost use Rattle.hg_script.specs.Scripts.{node_named};
+ghost use Rattle.hgfleet.specs.Arguments.{IsWithinBounds, texts_of};
+ghost use Rattle.hgfleet.specs.Commands.{AreDrawn, EndsAfterScript, IsDone, IsDrawing, IsDrawn, IsFailure};
+ghost use Rattle.hgfleet.specs.Commands.{IsFormOf, IsUnknownAmong, IsUnknownOf, drawn_names, heading};
 
+use crate::arguments::Wanted;
 use crate::failure::Failure;
-use hg_log::{draw_graph, draw_log};
+use clap::Error;
+use hg_log::{DrawFault, draw_graph, draw_log};
 use hg_node_set::IdKeys;
 use hg_race::run_race;
-use hg_script::{Fleet, Notes, RunFault, run_fleet, run_script};
-use hg_show::{Form, write_roots, write_store};
+use hg_script::{Fleet, Notes, RunFault, run_fleet, run_script, run_told};
+use hg_show::{Form, show, write_bytes, write_roots, write_store};
 use hg_view::Kept;
 use std::alloc::{AllocError, Global};
-use std::io;
-use std::io::{BufWriter, Write, sink};
+use std::io::{BufRead, Read, Write, sink};
 use std::random::RandomSource;
 use std::sync::Wait;
 use std::thread::Threads;
 
-/// Runs the script of standard input. What was printed before a fault stays.
-pub fn run(rt: &(impl Print + Input + AllocGlobal + RandomSource)) -> Result<(), Failure<'static>> {
-    let keys = secret_keys(rt)?;
-    let mut writer = match BufWriter::new(rt.alloc(), io::writer(rt)) {
-        Ok(writer) => writer,
-        Err(_) => return Err(Failure::Run(RunFault::NoMemory)),
-    };
-    let done = run_script(rt.alloc(), keys, &mut rt.reader(), &mut writer);
-    let flushed = writer.flush().map_err(|_| RunFault::Write);
-    done.and(flushed)?;
-    Ok(())
-}
-
-/// Runs the script of standard input with notes. What was printed before a fault stays.
-pub fn run_told(
-    rt: &(impl Print + Input + AllocGlobal + RandomSource),
-    notes: Notes,
-) -> Result<(), Failure<'static>> {
-    let keys = secret_keys(rt)?;
-    let mut writer = match BufWriter::new(rt.alloc(), io::writer(rt)) {
-        Ok(writer) => writer,
-        Err(_) => return Err(Failure::Run(RunFault::NoMemory)),
-    };
-    let done = hg_script::run_told(rt.alloc(), keys, &mut rt.reader(), &mut writer, notes);
-    let flushed = writer.flush().map_err(|_| Failure::Run(RunFault::Write));
-    match done {
-        Ok(_) => flushed,
-        Err(told) => Err(Failure::Told(told)),
+/// Does what is wanted with the script, or the bytes, that the reader has, and writes what comes of it. What was
+/// written before a fault stays, and may be in a buffer of the writer.
+pub fn perform<'a, H: AllocGlobal + RandomSource + Threads + Wait + Sync, R: BufRead, W: Write>(
+    rt: &H,
+    wanted: &'a Wanted,
+    reader: &mut R,
+    writer: &mut W,
+) -> Result<(), Failure<'a>>
+    requires { IsWithinBounds wanted.now }
+    ensures done { OnOk result
+        (IsDone wanted.now (R.remaining reader.old) (W.contents writer.old) (W.contents writer.new)) }
+    ensures failed { IfErr result (IsFailure wanted.now (R.remaining reader.old) (R.remaining reader.new)
+        (W.contents writer.old) (W.contents writer.new)) }
+{
+    let alloc = rt.alloc();
+    match wanted {
+        Wanted::Run => Ok(run_script(alloc, secret_keys(rt)?, reader, writer)?),
+        Wanted::RunTold { explains, traces } => {
+            let notes = Notes {
+                explains: *explains,
+                traces: *traces,
+            };
+            run_told(alloc, secret_keys(rt)?, reader, writer, notes)?;
+            Ok(())
+        }
+        Wanted::Race { nodes, rounds } => Ok(run_race(rt, alloc, *nodes, *rounds, writer)?),
+        Wanted::Log {
+            nodes,
+            shows_hidden,
+            is_graph,
+        } => {
+            let drawing = Drawing {
+                shows_hidden: *shows_hidden,
+                is_graph: *is_graph,
+            };
+            log(alloc, secret_keys(rt)?, reader, writer, nodes, drawing)
+        }
+        Wanted::Show(form) => Ok(show(alloc, *form, reader, writer)?),
+        Wanted::Write { form, name } => {
+            write(alloc, secret_keys(rt)?, reader, writer, *form, name)
+        }
+        Wanted::Help(text) | Wanted::Version(text) => write_text(text, writer),
     }
 }
 
-/// Runs a race of so many nodes for so many rounds.
-pub fn race(
-    rt: &(impl Print + AllocGlobal + RandomSource + Threads + Wait + Sync),
-    nodes: u8,
-    rounds: u16,
-) -> Result<(), Failure<'static>>
-    requires nodes { (2 ≤ nodes) × (nodes ≤ 16) }
-    requires rounds { (1 ≤ rounds) × (rounds ≤ 1000) }
-{
-    let mut writer = match BufWriter::new(rt.alloc(), io::writer(rt)) {
-        Ok(writer) => writer,
-        Err(_) => return Err(Failure::Run(RunFault::NoMemory)),
-    };
-    let done = run_race(rt, rt.alloc(), nodes, rounds, &mut writer);
-    let flushed = writer.flush().map_err(|_| RunFault::Write);
-    done.and(flushed)?;
-    Ok(())
-}
-
-/// Draws the histories of these nodes as the script of standard input leaves them, or those of all its nodes where none
-/// is named. Nothing is drawn where one of the names is unknown.
-pub fn log<'a>(
-    rt: &(impl Print + Input + AllocGlobal + RandomSource),
-    nodes: &'a [String],
-    drawing: Drawing,
-) -> Result<(), Failure<'a>> {
-    let alloc = rt.alloc();
-    let fleet = left_by_script(rt)?;
-    check_names(&fleet, nodes)?;
-    let names = if nodes.is_empty() {
-        fleet.node_names()?
-    } else {
-        bytes_of(alloc, nodes)?
-    };
-    let mut writer = match BufWriter::new(alloc, io::writer(rt)) {
-        Ok(writer) => writer,
-        Err(_) => return Err(Failure::Run(RunFault::NoMemory)),
-    };
-    let done = draw_all(alloc, &fleet, &names, drawing, &mut writer);
-    let flushed = writer.flush().map_err(|_| Failure::Run(RunFault::Write));
-    done.and(flushed)
-}
-
-/// How histories are drawn.
-#[derive(Clone, Copy, PartialEq, Eq, Debug)]
-pub struct Drawing {
-    /// With what is hidden.
-    pub shows_hidden: bool,
-    /// As a graph for Graphviz, in place of a text.
-    pub is_graph: bool,
-}
-
 // Keys that no writer of a script knows. Where the system draws none, the answer is that of a failed read.
-fn secret_keys(rt: &impl RandomSource) -> Result<IdKeys, RunFault> {
+fn secret_keys(rt: &impl RandomSource) -> Result<IdKeys, RunFault>
+    ensures { IfErr result (λ fault. fault ≡ RunFault.Read) }
+{
     match IdKeys::secret(rt) {
         Ok(keys) => Ok(keys),
         Err(_) => Err(RunFault::Read),
     }
 }
 
-// The fleet as the script of standard input leaves it. What the script prints goes nowhere.
-fn left_by_script(rt: &(impl Input + AllocGlobal + RandomSource)) -> Result<Fleet, RunFault> {
-    let keys = secret_keys(rt)?;
-    run_fleet(rt.alloc(), keys, &mut rt.reader(), &mut sink())
+// Writes the text of the help, or of the version.
+fn write_text<W: Write>(text: &Error, writer: &mut W) -> Result<(), Failure<'static>>
+    ensures { IfErr result (λ failure. failure ≡ Failure.Run RunFault.Write) }
+{
+    match write!(writer, "{text}") {
+        Ok(()) => Ok(()),
+        Err(_) => Err(Failure::Run(RunFault::Write)),
+    }
 }
 
-// Whether the fleet has a node of each name.
-fn check_names<'a>(fleet: &Fleet, names: &'a [String]) -> Result<(), Failure<'a>> {
-    for name in names {
-        kept_of(fleet, name)?;
+// How histories are drawn.
+#[derive(Clone, Copy)]
+struct Drawing {
+    // With what is hidden.
+    shows_hidden: bool,
+    // As a graph for Graphviz, in place of a text.
+    is_graph: bool,
+}
+
+// Draws the histories of these nodes as the script that the reader has leaves them, or those of all its nodes where
+// none is named. Nothing is drawn where one of the names is unknown. What the script prints goes nowhere.
+fn log<'a, R: Read, W: Write>(
+    alloc: Global,
+    keys: IdKeys,
+    reader: &mut R,
+    writer: &mut W,
+    nodes: &'a [String],
+    drawing: Drawing,
+) -> Result<(), Failure<'a>>
+    ensures drawn { OnOk result ((fleet : FleetValue) × (text : List ℕ) × IsLeftFleet (R.remaining reader.old) fleet
+        × All (λ name. IsSome (node_named fleet (string_bytes name))) nodes.entry.now
+        × AreDrawn fleet drawing (drawn_names fleet (texts_of nodes.entry.now)) text
+        × Appends (W.contents writer.old) (W.contents writer.new) text) }
+    ensures failed { IfErr result
+        (EndsAfterScript (R.remaining reader.old) (IsUnknownAmong nodes.entry.now)) }
+{
+    let fleet = run_fleet(alloc, keys, reader, &mut sink())?;
+    match unknown_name(&fleet, nodes) {
+        Some(name) => Err(Failure::UnknownName(name)),
+        None => {
+            draw_nodes(alloc, &fleet, nodes, drawing, writer)?;
+            Ok(())
+        }
     }
+}
+
+// The first of these names that no node of the fleet has.
+fn unknown_name<'a>(fleet: &Fleet, names: &'a [String]) -> Option<&'a str>
+    ensures { MatchOption result
+        (All (λ name. IsSome (node_named fleet.now (string_bytes name))) names.entry.now)
+        (λ name. IsUnknownAmong names.entry.now fleet.now name.now) }
+{
+    for name in names {
+        match fleet.kept_of(name.as_bytes()) {
+            Some(_) => {}
+            None => return Some(name.as_str()),
+        }
+    }
+    None
+}
+
+fn draw_nodes<W: Write>(
+    alloc: Global,
+    fleet: &Fleet,
+    nodes: &[String],
+    drawing: Drawing,
+    writer: &mut W,
+) -> Result<(), DrawFault>
+    ensures { OnOk result ((text : List ℕ)
+        × AreDrawn fleet.now drawing (drawn_names fleet.now (texts_of nodes.now)) text
+        × Appends (W.contents writer.old) (W.contents writer.new) text) }
+{
+    if nodes.is_empty() {
+        draw_all(alloc, fleet, &fleet.node_names()?, drawing, writer)?;
+        return Ok(());
+    }
+    draw_all(alloc, fleet, &bytes_of(alloc, nodes)?, drawing, writer)?;
     Ok(())
 }
 
-fn bytes_of<'a>(alloc: Global, names: &'a [String]) -> Result<Vec<&'a [u8]>, AllocError> {
-    names.iter().map(|name| name.as_bytes()).collect(alloc)
-}
-
-// The replica of the node with this name.
-fn kept_of<'a, 'b>(fleet: &'a Fleet, name: &'b str) -> Result<&'a Kept, Failure<'b>> {
-    match fleet.kept_of(name.as_bytes()) {
-        Some(kept) => Ok(kept),
-        None => Err(Failure::UnknownName(name)),
+fn bytes_of<'a>(alloc: Global, names: &'a [String]) -> Result<Vec<&'a [u8]>, AllocError>
+    ensures { IfOk result (λ bytes. map (λ name. name.now) bytes.items ≡ texts_of names.entry.now) }
+{
+    let mut bytes = Vec::with_capacity(alloc, names.len())?;
+    for name in names {
+        bytes.push(name.as_bytes())?;
     }
+    Ok(bytes)
 }
 
 fn draw_all<W: Write>(
@@ -138,96 +174,103 @@ fn draw_all<W: Write>(
     names: &[&[u8]],
     drawing: Drawing,
     writer: &mut W,
-) -> Result<(), Failure<'static>> {
+) -> Result<(), DrawFault>
+    ensures { OnOk result ((text : List ℕ) × AreDrawn fleet.now drawing (map (λ name. name.now) names.now) text
+        × Appends (W.contents writer.old) (W.contents writer.new) text) }
+{
     for name in names {
-        match fleet.kept_of(*name) {
-            Some(kept) => draw(alloc, *name, kept, drawing, writer)?,
-            None => {}
-        }
+        draw_node(alloc, fleet, *name, drawing, writer)?;
     }
     Ok(())
 }
 
+// Draws the history of the node of this name, nothing where there is none.
+fn draw_node<W: Write>(
+    alloc: Global,
+    fleet: &Fleet,
+    name: &[u8],
+    drawing: Drawing,
+    writer: &mut W,
+) -> Result<(), DrawFault>
+    ensures { OnOk result ((text : List ℕ) × IsDrawn fleet.now drawing name.now text
+        × Appends (W.contents writer.old) (W.contents writer.new) text) }
+{
+    match fleet.kept_of(name) {
+        Some(kept) => draw(alloc, name, kept, drawing, writer),
+        None => Ok(()),
+    }
+}
+
+// Draws a history as a graph, or as a text below a line with the node's name.
 fn draw<W: Write>(
     alloc: Global,
     name: &[u8],
     kept: &Kept,
     drawing: Drawing,
     writer: &mut W,
-) -> Result<(), Failure<'static>> {
+) -> Result<(), DrawFault>
+    ensures { OnOk result ((text : List ℕ)
+        × IsDrawing drawing.is_graph drawing.shows_hidden name.now kept.now text
+        × Appends (W.contents writer.old) (W.contents writer.new) text) }
+{
     if drawing.is_graph {
         draw_graph(alloc, name, kept, drawing.shows_hidden, writer)?;
         return Ok(());
     }
-    draw_text(alloc, name, kept, drawing.shows_hidden, writer)
+    write_heading(alloc, name, writer)?;
+    draw_log(alloc, kept, drawing.shows_hidden, writer)?;
+    Ok(())
 }
 
-// Draws a history as a text, below a line with the node's name.
-fn draw_text<W: Write>(
-    alloc: Global,
-    name: &[u8],
-    kept: &Kept,
-    shows_hidden: bool,
-    writer: &mut W,
-) -> Result<(), Failure<'static>> {
+// Writes the line with a node's name.
+fn write_heading<W: Write>(alloc: Global, name: &[u8], writer: &mut W) -> Result<(), DrawFault>
+    ensures { OnOk result (Appends (W.contents writer.old) (W.contents writer.new) (heading name.now)) }
+{
     let mut heading = Vec::from_slice(alloc, b"log ")?;
     heading.extend_from_slice(name)?;
     heading.push(b'\n')?;
-    write_bytes(&heading, writer)?;
-    draw_log(alloc, kept, shows_hidden, writer)?;
-    Ok(())
-}
-
-fn write_bytes<W: Write>(bytes: &[u8], writer: &mut W) -> Result<(), Failure<'static>> {
-    match writer.write_all(bytes) {
+    match writer.write_all(&heading) {
         Ok(()) => Ok(()),
-        Err(_) => Err(Failure::Run(RunFault::Write)),
+        Err(_) => Err(DrawFault::Write),
     }
 }
 
-/// Reads the bytes of standard input in this form, and prints them as text.
-pub fn show(rt: &(impl Print + Input + AllocGlobal), form: Form) -> Result<(), Failure<'static>> {
-    let mut writer = match BufWriter::new(rt.alloc(), io::writer(rt)) {
-        Ok(writer) => writer,
-        Err(_) => return Err(Failure::Run(RunFault::NoMemory)),
-    };
-    let mut reader = rt.reader();
-    let done = hg_show::show(rt.alloc(), form, &mut reader, &mut writer);
-    let flushed = writer.flush().map_err(|_| Failure::Run(RunFault::Write));
-    done?;
-    flushed
-}
-
-/// Writes the store or the roots of the node of this name, or the message of this name, as the script of standard input
-/// leaves them.
-pub fn write<'a>(
-    rt: &(impl Print + Input + AllocGlobal + RandomSource),
-    form: Form,
-    name: &'a str,
-) -> Result<(), Failure<'a>> {
-    let fleet = left_by_script(rt)?;
-    let mut writer = match BufWriter::new(rt.alloc(), io::writer(rt)) {
-        Ok(writer) => writer,
-        Err(_) => return Err(Failure::Run(RunFault::NoMemory)),
-    };
-    let done = write_form(&fleet, form, name, &mut writer);
-    let flushed = writer.flush().map_err(|_| Failure::Run(RunFault::Write));
-    done.and(flushed)
-}
-
-fn write_form<'a, W: Write>(
-    fleet: &Fleet,
-    form: Form,
-    name: &'a str,
+// Writes the store or the roots of the node of this name, or the message of this name, as the script that the reader
+// has leaves them. What the script prints goes nowhere.
+fn write<'a, R: Read, W: Write>(
+    alloc: Global,
+    keys: IdKeys,
+    reader: &mut R,
     writer: &mut W,
-) -> Result<(), Failure<'a>> {
+    form: Form,
+    name: &'a str,
+) -> Result<(), Failure<'a>>
+    ensures written { OnOk result ((fleet : FleetValue) × (text : List ℕ) × IsLeftFleet (R.remaining reader.old) fleet
+        × IsFormOf fleet form name.entry.now text × Appends (W.contents writer.old) (W.contents writer.new) text) }
+    ensures failed { IfErr result (EndsAfterScript (R.remaining reader.old) (IsUnknownOf form name.entry.now)) }
+{
+    let fleet = run_fleet(alloc, keys, reader, &mut sink())?;
     match form {
-        Form::Store => write_store(kept_of(fleet, name)?, writer)?,
-        Form::Roots => write_roots(kept_of(fleet, name)?, writer)?,
+        Form::Store => match fleet.kept_of(name.as_bytes()) {
+            Some(kept) => {
+                write_store(kept, writer)?;
+                Ok(())
+            }
+            None => Err(Failure::UnknownName(name)),
+        },
+        Form::Roots => match fleet.kept_of(name.as_bytes()) {
+            Some(kept) => {
+                write_roots(kept, writer)?;
+                Ok(())
+            }
+            None => Err(Failure::UnknownName(name)),
+        },
         Form::Message => match fleet.message_of(name.as_bytes()) {
-            Some(bytes) => write_bytes(bytes, writer)?,
-            None => return Err(Failure::UnknownName(name)),
+            Some(bytes) => {
+                write_bytes(bytes, writer)?;
+                Ok(())
+            }
+            None => Err(Failure::UnknownName(name)),
         },
     }
-    Ok(())
 }

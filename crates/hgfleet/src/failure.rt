@@ -1,8 +1,10 @@
 //! Why a command ended early.
+ghost use Rattle.std.specs.Prelude.{◌≡◌};
+ghost use Rattle.hgfleet.specs.Commands.{failure_status};
+
 use hg_log::DrawFault;
 use hg_script::{RunFault, ToldFault};
 use hg_show::{ShowFault, WriteFault};
-use std::alloc::{AllocError, AllocFailed};
 use std::fmt;
 
 /// Why a command ended early. What was printed before stays.
@@ -20,7 +22,9 @@ pub enum Failure<'a> {
 
 impl Failure<'_> {
     /// The exit status.
-    pub fn status(&self) -> u8 {
+    pub fn status(&self) -> u8
+        ensures { result ≡ failure_status self.now }
+    {
         match self {
             Failure::Run(fault) => fault.status(),
             Failure::Told(fault) => fault.status(),
@@ -42,18 +46,40 @@ impl fmt::Display for Failure<'_> {
 }
 
 impl From<RunFault> for Failure<'_> {
+    ghost use Rattle.hgfleet.specs.declared.failure.Failure.TheVariants.{Run};
+
+    ghost from_gives = { λ fault e. e ≡ Run fault };
+
     fn from(fault: RunFault) -> Self {
         Failure::Run(fault)
     }
 }
 
+impl From<ToldFault> for Failure<'_> {
+    ghost use Rattle.hgfleet.specs.declared.failure.Failure.TheVariants.{Told};
+
+    ghost from_gives = { λ told e. e ≡ Told told };
+
+    fn from(told: ToldFault) -> Self {
+        Failure::Told(told)
+    }
+}
+
 impl From<ShowFault> for Failure<'_> {
+    ghost use Rattle.hgfleet.specs.declared.failure.Failure.TheVariants.{Show};
+
+    ghost from_gives = { λ fault e. e ≡ Show fault };
+
     fn from(fault: ShowFault) -> Self {
         Failure::Show(fault)
     }
 }
 
 impl From<WriteFault> for Failure<'_> {
+    ghost use Rattle.hgfleet.specs.Commands.{IsOutputFailure};
+
+    ghost from_gives = { λ _ e. IsOutputFailure e };
+
     fn from(fault: WriteFault) -> Self {
         match fault {
             WriteFault::Write => Failure::Run(RunFault::Write),
@@ -63,22 +89,14 @@ impl From<WriteFault> for Failure<'_> {
 }
 
 impl From<DrawFault> for Failure<'_> {
+    ghost use Rattle.hgfleet.specs.Commands.{IsOutputFailure};
+
+    ghost from_gives = { λ _ e. IsOutputFailure e };
+
     fn from(fault: DrawFault) -> Self {
         match fault {
             DrawFault::Write => Failure::Run(RunFault::Write),
             DrawFault::NoMemory => Failure::Run(RunFault::NoMemory),
         }
-    }
-}
-
-impl From<AllocError> for Failure<'_> {
-    fn from(_error: AllocError) -> Self {
-        Failure::Run(RunFault::NoMemory)
-    }
-}
-
-impl<T: Drop> From<AllocFailed<T>> for Failure<'_> {
-    fn from(_error: AllocFailed<T>) -> Self {
-        Failure::Run(RunFault::NoMemory)
     }
 }

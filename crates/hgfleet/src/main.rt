@@ -1,52 +1,48 @@
 //! `hgfleet` runs scripts of a fleet of Mercurial repositories, draws the histories that they leave, shows and writes
 //! bytes of Mercurial's formats, and lets nodes that threads share race.
 //!
-//! The arguments say what is wanted (`arguments`), and each command goes from standard input to standard output
-//! (`commands`): scripts by `hg_script`, drawings by `hg_log`, bytes by `hg_show`, and a race by `hg_race`. The status
-//! says what came of it.
+//! The arguments say what is wanted (`arguments`), and each command goes from a reader to a writer (`commands`), here
+//! from standard input to standard output: scripts by `hg_script`, drawings by `hg_log`, bytes by `hg_show`, and a race
+//! by `hg_race`. The status says what came of it.
 #![tactic(auto)]
 
-ghost use Rattle.std.specs.Prelude.{IfOk};
+ghost use Rattle.std.specs.Prelude.{◌≡◌, IfOk, MatchResult};
+ghost use Rattle.std.specs.Process.{exit_status};
 ghost use Rattle.hgfleet.specs.Arguments.{IsWithinBounds};
+ghost use Rattle.hgfleet.specs.Commands.{failure_status};
 
 mod arguments;
 mod commands;
 mod failure;
+mod terminal;
 
 use arguments::{ArgumentFault, Wanted, read_args};
-use clap::Error;
-use commands::{Drawing, log, race, run, run_told, show, write};
+use commands::perform;
 use failure::Failure;
-use hg_script::{Notes, RunFault};
-use std::env;
+use hg_script::RunFault;
 use std::env::Env;
-use std::io::ErrorKind;
+use std::io::{BufWriter, ErrorKind, IsTerminal, Write};
 use std::process::ExitCode;
+use std::random::RandomSource;
+use std::sync::Wait;
+use std::thread::Threads;
+use std::{env, io};
+use terminal::{invitation, objection};
 
 fn main(rt: HostRuntime) -> ExitCode {
     match read_wanted(&rt) {
-        Ok(Wanted::Run) => finish(&rt, run(&rt)),
-        Ok(Wanted::RunTold { explains, traces }) => {
-            finish(&rt, run_told(&rt, Notes { explains, traces }))
-        }
-        Ok(Wanted::Race { nodes, rounds }) => finish(&rt, race(&rt, nodes, rounds)),
-        Ok(
-            Wanted::Log {
-                nodes,
-                shows_hidden,
-                is_graph,
-            },
-        ) => {
-            let drawing = Drawing {
-                shows_hidden,
-                is_graph,
-            };
-            finish(&rt, log(&rt, &nodes, drawing))
-        }
-        Ok(Wanted::Show(form)) => finish(&rt, show(&rt, form)),
-        Ok(Wanted::Write { form, name }) => finish(&rt, write(&rt, form, &name)),
-        Ok(Wanted::Help(text)) => finish(&rt, print_text(&rt, &text)),
-        Ok(Wanted::Version(text)) => finish(&rt, print_text(&rt, &text)),
+        Ok(wanted) => match objection(&wanted) {
+            Some(text) if rt.stdout().is_terminal() => {
+                let _ = eprintln!(rt; "{text}");
+                ExitCode::from(2)
+            }
+            _ => {
+                if rt.stdin().is_terminal() {
+                    invite(&rt, &wanted);
+                }
+                finish(&rt, answer(&rt, &wanted))
+            }
+        },
         Err(fault) => {
             // The status says what was wrong, also where the text can't be written.
             let _ = eprint!(rt; "{fault}");
@@ -55,8 +51,34 @@ fn main(rt: HostRuntime) -> ExitCode {
     }
 }
 
+// Says that standard input is read, if it is.
+fn invite(rt: &impl Eprint, wanted: &Wanted) {
+    if let Some(text) = invitation(wanted) {
+        let _ = eprintln!(rt; "{text}");
+    }
+}
+
+// Does what is wanted, from standard input to standard output.
+fn answer<'a>(
+    rt: &(impl Print + Input + AllocGlobal + RandomSource + Threads + Wait + Sync),
+    wanted: &'a Wanted,
+) -> Result<(), Failure<'a>>
+    requires { IsWithinBounds wanted.now }
+{
+    let mut writer = match BufWriter::new(rt.alloc(), io::writer(rt)) {
+        Ok(writer) => writer,
+        Err(_) => return Err(Failure::Run(RunFault::NoMemory)),
+    };
+    let done = perform(rt, wanted, &mut rt.reader(), &mut writer);
+    let flushed = writer.flush().map_err(|_| Failure::Run(RunFault::Write));
+    done.and(flushed)
+}
+
 // The status of a command, after its failure was told. One that can't be written leaves the status as it is.
-fn finish(rt: &impl Eprint, done: Result<(), Failure<'_>>) -> ExitCode {
+fn finish(rt: &impl Eprint, done: Result<(), Failure<'_>>) -> ExitCode
+    ensures { MatchResult done.entry (λ _. exit_status result ≡ 0)
+        (λ failure. exit_status result ≡ failure_status failure) }
+{
     match done {
         Ok(()) => ExitCode::SUCCESS,
         Err(failure) => {
@@ -80,12 +102,4 @@ fn read_wanted(rt: &(impl Env + AllocGlobal)) -> Result<Wanted, ArgumentFault>
         texts.push(word.as_str())?;
     }
     read_args(rt.alloc(), &texts)
-}
-
-// Prints a text that was asked for.
-fn print_text(rt: &impl Print, text: &Error) -> Result<(), Failure<'static>> {
-    match print!(rt; "{text}") {
-        Ok(()) => Ok(()),
-        Err(_) => Err(Failure::Run(RunFault::Write)),
-    }
 }

@@ -1,0 +1,32 @@
+-- Drawings one after the other, and of what.
+use Rattle.std.proofs.Common.{◌≡◌, ◌==◌, ◌+◌, ◌<◌, ◌≤◌, ℕ, List, [], ◌∷◌, ◌++◌, String, false, true≢false}
+use Rattle.std.proofs.Common.{length, get_or, drop, map, refl, sym, subst}
+use Rattle.std.specs.Borrow.{Bor}
+use Rattle.std.specs.declared.alloc.Global.{Global}
+use Rattle.std.proofs.lemmas.List.{drop_more, drop_all}
+use Rattle.hg_log.specs.Drawings.{Text}
+use Rattle.hg_script.specs.declared.fleet.Fleet.{Fleet}
+use Rattle.hgfleet.specs.declared.commands.Drawing.{Drawing}
+use Rattle.hgfleet.specs.Arguments.{texts_of}
+use Rattle.hgfleet.specs.Commands.{AreDrawn, IsDrawn, drawn_names}
+
+-- the drawing of the next name, and those of the ones after it
+pub next_drawn : (fleet : Fleet) (drawing : Drawing) (names : List (Bor Text)) (i : ℕ) (d : Bor Text)
+    (first rest : Text) → i < length names → IsDrawn fleet drawing (get_or names i d).now first
+    → AreDrawn fleet drawing (map (λ name. name.now) (drop (i + 1) names)) rest
+    → AreDrawn fleet drawing (map (λ name. name.now) (drop i names)) (first ++ rest)
+next_drawn fleet drawing names i d first rest within drawn later =
+    let P : List (Bor Text) → Type 0 = λ ns. AreDrawn fleet drawing (map (λ name. name.now) ns) (first ++ rest) in
+    subst P (sym (drop_more names i d within)) (first, rest, drawn, later, refl)
+
+pub none_drawn : (fleet : Fleet) (drawing : Drawing) (names : List (Bor Text)) (i : ℕ) → length names ≤ i
+    → AreDrawn fleet drawing (map (λ name. name.now) (drop i names)) []
+none_drawn fleet drawing names i end =
+    let P : List (Bor Text) → Type 0 = λ ns. AreDrawn fleet drawing (map (λ name. name.now) ns) [] in
+    subst P (sym (drop_all i names end)) refl
+
+-- where names are given, those are drawn
+pub given_drawn : (fleet : Fleet) (nodes : List (String Global)) → (length nodes == 0) ≡ false
+    → texts_of nodes ≡ drawn_names fleet (texts_of nodes)
+given_drawn fleet [] e = absurd (true≢false e)
+given_drawn fleet (node ∷ nodes) e = refl

@@ -1,0 +1,32 @@
+//! What is said to somebody who sits at a terminal.
+use crate::arguments::Wanted;
+use hg_show::Form;
+
+/// What is said before standard input is read from a terminal. Nothing where it isn't read.
+pub fn invitation(wanted: &Wanted) -> Option<&'static str> {
+    match wanted {
+        Wanted::Run | Wanted::RunTold { .. } | Wanted::Log { .. } | Wanted::Write { .. } => Some(
+            "hgfleet: reading a script from standard input; end it with Ctrl-D. For the language: hgfleet run --help",
+        ),
+        Wanted::Show(_) => {
+            Some("hgfleet: reading bytes from standard input; end them with Ctrl-D")
+        }
+        Wanted::Race { .. } | Wanted::Help(_) | Wanted::Version(_) => None,
+    }
+}
+
+/// Why what is wanted isn't written to a terminal. Nothing where it may be.
+pub fn objection(wanted: &Wanted) -> Option<&'static str> {
+    match wanted {
+        Wanted::Write { form, .. } => match form {
+            Form::Store => {
+                Some("hgfleet: these are bytes; send them to a file, or to: hgfleet show store")
+            }
+            Form::Message => {
+                Some("hgfleet: these are bytes; send them to a file, or to: hgfleet show message")
+            }
+            Form::Roots => None,
+        },
+        _ => None,
+    }
+}
