@@ -3,10 +3,10 @@
 
     gate/plain.py < SCRIPT
 
-This is written from docs/DEFINITIONS.md, docs/FORMATS.md and the help text of scripts alone. It shares no step with
-the program: it keeps nothing but changesets, phases, markers and pins, and tells each definition from scratch, by sets
-and by steps that are repeated until nothing changes. So it is slow, and easy to compare with the definitions.
-`gate/soak` compares the program with it.
+This is written from docs/DEFINITIONS.md, docs/FORMATS.md, docs/SCRIPTS.md and the help text of scripts alone. It
+shares no step with the program: it keeps nothing but changesets, phases, markers and pins, and tells each definition
+from scratch, by sets and by steps that are repeated until nothing changes. So it is slow, and easy to compare with the
+definitions. `gate/soak` compares the program with it.
 
 Want of memory, and streams that can't be read or written, are left out, and so are the bytes of messages: a message
 is kept as what it says.
