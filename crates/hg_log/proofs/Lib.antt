@@ -1,2 +1,2 @@
-mod DrawingLemmas
-mod KindLemmas
+pub mod DrawingLemmas
+pub mod KindLemmas

@@ -8,7 +8,7 @@ use hg_view::Status;
 use std::alloc::AllocError;
 
 /// Appends the first 12 hexadecimal digits of an id, as Mercurial writes ids for people.
-pub(crate) fn push_short_id(line: &mut Vec<u8>, node: Node) -> Result<(), AllocError>
+pub fn push_short_id(line: &mut Vec<u8>, node: Node) -> Result<(), AllocError>
     ensures { OnOk result (line.new.items ≡ line.old.items ++ short_id node) }
 {
     line.extend_from_slice(&node.to_hex()[..12])?;
@@ -16,7 +16,7 @@ pub(crate) fn push_short_id(line: &mut Vec<u8>, node: Node) -> Result<(), AllocE
 }
 
 /// Appends a label. Bytes that aren't printed, quotes and backslashes are written as `escape_ascii` has them.
-pub(crate) fn push_label(line: &mut Vec<u8>, label: &[u8]) -> Result<(), AllocError>
+pub fn push_label(line: &mut Vec<u8>, label: &[u8]) -> Result<(), AllocError>
     ensures { OnOk result (Extends line.old.items line.new.items) }
 {
     line.extend(label.escape_ascii())?;

@@ -32,38 +32,39 @@ pub(crate) fn push_fate(
 ) -> Result<(), AllocError> {
     match replica.store().get(place) {
         Some(marker) => {
-            line.extend_from_slice(verb(marker))?;
+            line.extend_from_slice(rewriting_word(marker))?;
             push_successors(line, replica, marker.successors())
         }
         None => Ok(()),
     }
 }
 
-// How a marker rewrites: as it notes, where one changeset takes the place of its predecessor.
-fn verb(marker: &Marker) -> &'static [u8] {
+/// The word for how a marker rewrites: as it notes, where one changeset takes the place of its predecessor; else
+/// `pruned` or `split`.
+pub fn rewriting_word(marker: &Marker) -> &'static [u8] {
     match marker.successors().len() {
         0 => b"pruned",
-        1 => single_verb(marker.meta().get(b"operation")),
-        _ => b"split as ",
+        1 => single_word(marker.meta().get(b"operation")),
+        _ => b"split",
     }
 }
 
-fn single_verb(operation: Option<&[u8]>) -> &'static [u8] {
+fn single_word(operation: Option<&[u8]>) -> &'static [u8] {
     match operation {
-        Some(b"amend") => b"amended as ",
-        Some(b"fold") => b"folded as ",
-        Some(b"relocate") => b"relocated as ",
-        _ => b"rewritten as ",
+        Some(b"amend") => b"amended",
+        Some(b"fold") => b"folded",
+        Some(b"relocate") => b"relocated",
+        _ => b"rewritten",
     }
 }
 
-// Appends what the successors are called.
+// Appends what the successors are called, where there are any.
 fn push_successors(
     line: &mut Vec<u8>,
     replica: &Replica,
     successors: &[Node],
 ) -> Result<(), AllocError> {
-    let mut divider: &[u8] = b"";
+    let mut divider: &[u8] = b" as ";
     for node in successors {
         line.extend_from_slice(divider)?;
         push_name(line, replica, *node)?;

@@ -2,7 +2,8 @@
 //!
 //! Both show a replica as it is, under the pins of its node: what each changeset is called, its phase, what is unstable
 //! about it, and what became of what was rewritten. [`draw_log`] is the picture that `hg log -G` gives, and
-//! [`draw_graph`] the input of `dot`. Either is written as it is drawn, a line at a time.
+//! [`draw_graph`] the input of `dot`. Either is written as it is drawn, a line at a time. What else tells of changesets
+//! takes the same words: [`push_short_id`], [`push_label`], [`rewriting_word`], and [`write_line`] for a line.
 //!
 //! # Example
 //!
@@ -28,6 +29,10 @@ mod line;
 mod log;
 mod shown;
 
+pub use described::{push_label, push_short_id};
 pub use dot::draw_graph;
+pub use fate::rewriting_word;
 pub use fault::DrawFault;
+pub use line::write_line;
 pub use log::draw_log;
+pub use shown::node_at;

@@ -8,7 +8,7 @@ use std::alloc::AllocError;
 use std::io::Write;
 
 /// Writes a line without the blanks at its end, and empties it for the next one.
-pub(crate) fn write_line<W: Write>(line: &mut Vec<u8>, writer: &mut W) -> Result<(), DrawFault>
+pub fn write_line<W: Write>(line: &mut Vec<u8>, writer: &mut W) -> Result<(), DrawFault>
     ensures written { OnOk result ((text : Text) × IsLine line.old.items text
         × Appends (W.contents writer.old) (W.contents writer.new) text) }
     ensures emptied { OnOk result (line.new.items ≡ []) }

@@ -40,7 +40,7 @@ impl<'a> Shown<'a> {
 }
 
 /// The id of the changeset at a place.
-pub(crate) fn node_at(kept: &Kept, place: usize) -> Node
+pub fn node_at(kept: &Kept, place: usize) -> Node
     requires { place < length (changesets kept.now.replica.history) }
     ensures { StandsAt kept.now place result }
 {

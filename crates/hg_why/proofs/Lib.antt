@@ -1,0 +1,3 @@
+pub mod BeforeLemmas
+pub mod CauseLemmas
+pub mod BlockLemmas

@@ -1,0 +1,4 @@
+pub mod Before
+pub mod Causes
+pub mod Fate
+pub mod Blocks

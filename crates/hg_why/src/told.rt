@@ -1,0 +1,351 @@
+//! What is written of one reason.
+ghost use Rattle.std.specs.Prelude.{OnOk};
+ghost use Rattle.std.specs.Io.KnownBytes.{Appends};
+ghost use Rattle.hg_log.specs.Drawings.{Grows};
+
+use crate::named::{push_each_named, push_name, push_named, push_successors};
+use crate::reason::Reason;
+use hg_changeset::Node;
+use hg_log::{DrawFault, push_short_id, rewriting_word, write_line};
+use hg_marker::Marker;
+use hg_replica::Replica;
+use hg_succ::{Sets, successors_sets};
+use hg_view::Kept;
+use std::alloc::{AllocError, Global};
+use std::io::Write;
+
+/// Of what reasons are told, and what that is called.
+#[derive(Clone, Copy)]
+pub(crate) struct Telling<'a> {
+    pub(crate) alloc: Global,
+    pub(crate) name: &'a [u8],
+    pub(crate) kept: &'a Kept,
+}
+
+impl<'a> Telling<'a> {
+    /// Writes lines with a reason, of which the earlier ones are given, by means of the empty line that is lent.
+    pub(crate) fn write_reason<W: Write>(
+        &self,
+        node: Node,
+        reason: &Reason,
+        earlier: &[Reason],
+        line: &mut Vec<u8>,
+        writer: &mut W,
+    ) -> Result<(), DrawFault>
+        ensures { OnOk result (Grows (W.contents writer.old) (W.contents writer.new)) }
+    {
+        match reason {
+            Reason::Orphan {
+                parent,
+                is_obsolete,
+            } => { self.write_orphan(node, *parent, *is_obsolete, line, writer) }
+            Reason::PhaseDivergent { predecessor } => {
+                self.write_phase_divergent(node, *predecessor, line, writer)
+            }
+            Reason::ContentDivergent { predecessor, sets } => {
+                self.write_content_divergent(node, *predecessor, sets, earlier, line, writer)
+            }
+        }
+    }
+
+    // Writes by which parent it is an orphan, and to where it is moved.
+    fn write_orphan<W: Write>(
+        &self,
+        node: Node,
+        parent: Node,
+        is_obsolete: bool,
+        line: &mut Vec<u8>,
+        writer: &mut W,
+    ) -> Result<(), DrawFault>
+        ensures { OnOk result (Grows (W.contents writer.old) (W.contents writer.new)) }
+    {
+        let replica = self.kept.replica();
+        line.extend_from_slice(b"  orphan: its parent ")?;
+        push_named(line, replica, parent)?;
+        if !is_obsolete {
+            line.extend_from_slice(b" is an orphan")?;
+            write_line(line, writer)?;
+            return Ok(());
+        }
+        line.extend_from_slice(b" is obsolete,")?;
+        push_ways(line, replica, parent)?;
+        write_line(line, writer)?;
+        self.write_move(node, parent, line, writer)
+    }
+
+    // Writes to where an orphan is moved, if its parent's successors sets tell a changeset.
+    fn write_move<W: Write>(
+        &self,
+        node: Node,
+        parent: Node,
+        line: &mut Vec<u8>,
+        writer: &mut W,
+    ) -> Result<(), DrawFault>
+        ensures { OnOk result (Grows (W.contents writer.old) (W.contents writer.new)) }
+    {
+        let sets = successors_sets(self.alloc, self.kept.replica(), parent)?;
+        match target_of(&sets) {
+            Some(target) => {
+                self.push_move(line, node, target)?;
+                line.extend_from_slice(choice(&sets))?;
+                write_line(line, writer)?;
+                Ok(())
+            }
+            None => Ok(()),
+        }
+    }
+
+    // Appends the command by which a changeset is moved.
+    fn push_move(&self, line: &mut Vec<u8>, node: Node, target: Node) -> Result<(), AllocError> {
+        line.extend_from_slice(b"  relocate ")?;
+        line.extend_from_slice(self.name)?;
+        line.push(b' ')?;
+        push_name(line, self.kept.replica(), node)?;
+        line.extend_from_slice(b" NEW ")?;
+        push_name(line, self.kept.replica(), target)
+    }
+
+    // Writes from which public changeset it comes.
+    fn write_phase_divergent<W: Write>(
+        &self,
+        node: Node,
+        predecessor: Node,
+        line: &mut Vec<u8>,
+        writer: &mut W,
+    ) -> Result<(), DrawFault>
+        ensures { OnOk result (Grows (W.contents writer.old) (W.contents writer.new)) }
+    {
+        line.extend_from_slice(b"  phase-divergent: it ")?;
+        push_way_from(line, self.kept.replica(), predecessor, node)?;
+        push_named(line, self.kept.replica(), predecessor)?;
+        line.extend_from_slice(b", which is public")?;
+        write_line(line, writer)?;
+        Ok(())
+    }
+
+    // Writes from what it comes that became other changesets too, a line for each of the sets without it, unless an
+    // earlier reason has that.
+    fn write_content_divergent<W: Write>(
+        &self,
+        node: Node,
+        predecessor: Node,
+        sets: &Sets,
+        earlier: &[Reason],
+        line: &mut Vec<u8>,
+        writer: &mut W,
+    ) -> Result<(), DrawFault>
+        ensures { OnOk result (Grows (W.contents writer.old) (W.contents writer.new)) }
+    {
+        match sets {
+            Sets::Family(family) => {
+                for set in family {
+                    self.write_set(node, predecessor, set, earlier, line, writer)?;
+                }
+                Ok(())
+            }
+            Sets::Overfull => {
+                line.extend_from_slice(
+                    b"  content-divergent: too many changesets are successors of ",
+                )?;
+                push_named(line, self.kept.replica(), predecessor)?;
+                write_line(line, writer)?;
+                Ok(())
+            }
+        }
+    }
+
+    // Writes from what it comes that became these changesets too, unless it is one of them, or an earlier reason has
+    // them.
+    fn write_set<W: Write>(
+        &self,
+        node: Node,
+        predecessor: Node,
+        set: &[Node],
+        earlier: &[Reason],
+        line: &mut Vec<u8>,
+        writer: &mut W,
+    ) -> Result<(), DrawFault>
+        ensures { OnOk result (Grows (W.contents writer.old) (W.contents writer.new)) }
+    {
+        if set.contains(&node) || is_told(earlier, set) {
+            return Ok(());
+        }
+        self.write_other(node, predecessor, set, line, writer)
+    }
+
+    // Writes from what it comes that became these changesets too.
+    fn write_other<W: Write>(
+        &self,
+        node: Node,
+        predecessor: Node,
+        others: &[Node],
+        line: &mut Vec<u8>,
+        writer: &mut W,
+    ) -> Result<(), DrawFault>
+        ensures { OnOk result (Grows (W.contents writer.old) (W.contents writer.new)) }
+    {
+        let replica = self.kept.replica();
+        line.extend_from_slice(b"  content-divergent with ")?;
+        push_each_named(line, replica, others)?;
+        line.extend_from_slice(all_of(others))?;
+        if replica.graph().contains(predecessor) {
+            line.extend_from_slice(b" are successors of ")?;
+            push_named(line, replica, predecessor)?;
+            push_both_ways(line, replica, predecessor, node, others)?;
+        } else {
+            line.extend_from_slice(b" lead back to ")?;
+            push_short_id(line, predecessor)?;
+            line.extend_from_slice(b", which ")?;
+            line.extend_from_slice(self.name)?;
+            line.extend_from_slice(b" doesn't hold")?;
+        }
+        write_line(line, writer)?;
+        Ok(())
+    }
+}
+
+// With the changeset itself how many there are.
+fn all_of(others: &[Node]) -> &'static [u8] {
+    match others.len() {
+        1 => b": both",
+        _ => b": all",
+    }
+}
+
+// Whether one of the reasons has this successors set.
+fn is_told(reasons: &[Reason], set: &[Node]) -> bool {
+    reasons.iter().any(|reason| match reason {
+        Reason::ContentDivergent {
+            predecessor: _,
+            sets,
+        } => has_set(sets, set),
+        _ => false,
+    })
+}
+
+fn has_set(sets: &Sets, set: &[Node]) -> bool {
+    match sets {
+        Sets::Family(family) => family.iter().any(|other| other.as_slice() == set),
+        Sets::Overfull => false,
+    }
+}
+
+// The changeset to which an orphan is moved: the first successors set, where that is of one alone.
+fn target_of(sets: &Sets) -> Option<Node> {
+    match sets {
+        Sets::Family(family) => match family.first() {
+            Some(set) => only_of(set),
+            None => None,
+        },
+        Sets::Overfull => None,
+    }
+}
+
+fn only_of(set: &[Node]) -> Option<Node> {
+    match set {
+        [node] => Some(*node),
+        _ => None,
+    }
+}
+
+// What is said of a choice, where there is one.
+fn choice(sets: &Sets) -> &'static [u8] {
+    match sets {
+        Sets::Family(family) => match family.len() {
+            1 => b"",
+            2 => b"   (two successors: choose)",
+            _ => b"   (several successors: choose)",
+        },
+        Sets::Overfull => b"",
+    }
+}
+
+// Appends how a changeset was rewritten, and to what.
+fn push_ways(line: &mut Vec<u8>, replica: &Replica, node: Node) -> Result<(), AllocError> {
+    let mut divider: &[u8] = b"";
+    let mut before: &[u8] = b"";
+    for place in replica.store().with_predecessor(node) {
+        match replica.store().get(*place) {
+            Some(marker) => {
+                let word = rewriting_word(marker);
+                line.extend_from_slice(divider)?;
+                push_other_word(line, word, before)?;
+                push_successors(line, replica, marker.successors())?;
+                before = word;
+            }
+            None => {}
+        }
+        divider = b"; and";
+    }
+    Ok(())
+}
+
+// Appends a word behind a blank, unless it is that of before.
+fn push_other_word(line: &mut Vec<u8>, word: &[u8], before: &[u8]) -> Result<(), AllocError> {
+    if word != before {
+        line.push(b' ')?;
+        line.extend_from_slice(word)?;
+    }
+    Ok(())
+}
+
+// Appends how a changeset was rewritten from the other, where one marker says that.
+fn push_way_from(
+    line: &mut Vec<u8>,
+    replica: &Replica,
+    predecessor: Node,
+    node: Node,
+) -> Result<(), AllocError> {
+    match marker_between(replica, predecessor, node) {
+        Some(marker) => {
+            line.extend_from_slice(b"was ")?;
+            line.extend_from_slice(rewriting_word(marker))?;
+            line.extend_from_slice(b" from ")?;
+            Ok(())
+        }
+        None => {
+            line.extend_from_slice(b"comes from ")?;
+            Ok(())
+        }
+    }
+}
+
+// Appends how a changeset, and the one other, were rewritten from a third, where a marker says each.
+fn push_both_ways(
+    line: &mut Vec<u8>,
+    replica: &Replica,
+    predecessor: Node,
+    node: Node,
+    others: &[Node],
+) -> Result<(), AllocError> {
+    let Some(other) = only_of(others) else {
+        return Ok(());
+    };
+    let Some(marker) = marker_between(replica, predecessor, node) else {
+        return Ok(());
+    };
+    let Some(another) = marker_between(replica, predecessor, other) else {
+        return Ok(());
+    };
+    line.extend_from_slice(b" (")?;
+    line.extend_from_slice(rewriting_word(marker))?;
+    line.extend_from_slice(b", ")?;
+    line.extend_from_slice(rewriting_word(another))?;
+    line.push(b')')?;
+    Ok(())
+}
+
+// The first marker that rewrote the one to the other.
+fn marker_between(replica: &Replica, predecessor: Node, node: Node) -> Option<&Marker> {
+    for place in replica.store().with_predecessor(predecessor) {
+        match replica.store().get(*place) {
+            Some(marker) => {
+                if marker.successors().contains(&node) {
+                    return Some(marker);
+                }
+            }
+            None => {}
+        }
+    }
+    None
+}
