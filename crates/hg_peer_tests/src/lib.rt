@@ -1,5 +1,6 @@
-//! Tests of `hg_message`, `hg_discovery`, `hg_rewrite`, `hg_peer`, `hg_log` and `hg_show`, as a caller from outside sees
-//! them: messages, what two replicas have in common, operations, worlds of peers, drawings, and what bytes are shown as.
+//! Tests of `hg_message`, `hg_discovery`, `hg_rewrite`, `hg_peer`, `hg_log`, `hg_why` and `hg_show`, as a caller from
+//! outside sees them: messages, what two replicas have in common, operations, worlds of peers, drawings, why changesets
+//! are unstable, and what bytes are shown as.
 #![tactic(auto)]
 
 #[cfg(test)]
@@ -22,5 +23,7 @@ mod scene;
 mod showing;
 #[cfg(test)]
 mod states;
+#[cfg(test)]
+mod unstable;
 #[cfg(test)]
 mod writing;
