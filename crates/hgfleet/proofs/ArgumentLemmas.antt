@@ -13,7 +13,7 @@ use Rattle.hgfleet.specs.Arguments.{ArgumentsAnswer, IsRun, IsWithinBounds, Name
 use Rattle.hgfleet.specs.Arguments.{program_at, race_numbers, reference}
 use Rattle.hgfleet.specs.declared.arguments.ArgumentFault.{ArgumentFault}
 use Rattle.hgfleet.specs.declared.arguments.Wanted.{Wanted}
-use Rattle.hgfleet.specs.declared.arguments.Wanted.TheVariants.{Run, RunTold, Race, Log, Show, Write, Help}
+use Rattle.hgfleet.specs.declared.arguments.Wanted.TheVariants.{Run, RunTold, Race, Log, Show, Write, Why, Help}
 use Rattle.hgfleet.specs.declared.arguments.Wanted.TheVariants.{Version}
 
 pub at_help : (name : Text) → faults_at (name ∷ codes "--help" ∷ []) ≡ DisplayHelp ∷ []
@@ -142,6 +142,7 @@ answer_within words (Ok (Race nodes rounds)) h = h.2
 answer_within words (Ok (Log nodes shows_hidden is_graph)) h = tt
 answer_within words (Ok (Show form)) h = tt
 answer_within words (Ok (Write form name)) h = tt
+answer_within words (Ok (Why nodes)) h = tt
 answer_within words (Ok (Help e)) h = tt
 answer_within words (Ok (Version e)) h = tt
 answer_within words (Err e) h = tt

@@ -5,7 +5,7 @@ use Rattle.clap.specs.Words.{Text}
 use Rattle.clap.specs.declared.error.kind.ErrorKind.TheVariants.{DisplayHelp, InvalidValue, MissingRequiredArgument}
 use Rattle.clap.specs.declared.error.kind.ErrorKind.TheVariants.{UnknownArgument}
 use Rattle.clap.proofs.OnLiterals.{clap_on_literals}
-use Rattle.hgfleet.specs.Arguments.{faults_at, log_options, run_notes, shown_form, written_form}
+use Rattle.hgfleet.specs.Arguments.{faults_at, log_options, run_notes, shown_form, why_names, written_form}
 use Rattle.hg_show.specs.declared.form.Form.TheVariants.{Store, Message}
 
 pub at_no_notes : (name : Text) → run_notes (name ∷ codes "run" ∷ []) ≡ None
@@ -104,3 +104,11 @@ at_write_no_name name = refl
 pub at_help_of_write : (name : Text) → faults_at (name ∷ codes "write" ∷ codes "--help" ∷ []) ≡ DisplayHelp ∷ []
 unfolding clap_on_literals faults_at
 at_help_of_write name = refl
+
+pub at_why : (name : Text) → faults_at (name ∷ codes "why" ∷ codes "A" ∷ []) ≡ []
+unfolding clap_on_literals faults_at
+at_why name = refl
+
+pub at_why_names : (name : Text) → why_names (name ∷ codes "why" ∷ codes "A" ∷ []) ≡ Some (codes "A" ∷ [])
+unfolding clap_on_literals why_names
+at_why_names name = refl

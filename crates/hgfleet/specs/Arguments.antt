@@ -18,7 +18,7 @@ use Rattle.clap.specs.declared.error.kind.ErrorKind.TheVariants.{DisplayHelp, Di
 use Rattle.hg_show.specs.declared.form.Form.{Form}
 use Rattle.hg_show.specs.declared.form.Form.TheVariants.{Store, Roots, Message}
 use Rattle.hgfleet.specs.declared.arguments.Wanted.{Wanted}
-use Rattle.hgfleet.specs.declared.arguments.Wanted.TheVariants.{Run, RunTold, Race, Log, Show, Write, Help}
+use Rattle.hgfleet.specs.declared.arguments.Wanted.TheVariants.{Run, RunTold, Race, Log, Show, Write, Why, Help}
 use Rattle.hgfleet.specs.declared.arguments.Wanted.TheVariants.{Version}
 use Rattle.hgfleet.specs.declared.arguments.ArgumentFault.{ArgumentFault}
 use Rattle.hgfleet.specs.declared.arguments.ArgumentFault.TheVariants.{BadArguments, NotText, NoMemory}
@@ -57,6 +57,10 @@ abbrev pub log : App
 log = with_rule (with_rule (with_rule (new_app (codes "log")) (flag_rule (codes "hidden"))) (flag_rule (codes "dot")))
     nodes_rule
 
+-- `why` with the names of nodes
+abbrev pub why : App
+why = with_rule (new_app (codes "why")) nodes_rule
+
 -- references to words, as the parser has them
 abbrev pub Words : Type 0
 Words = Bor (List (Bor Text))
@@ -94,7 +98,8 @@ abbrev pub program_at : Words → App
 program_at words =
     let with_run = with_subcommand program_alone run.top in
     let with_log = with_subcommand (with_subcommand with_run race.top) log.top in
-    with_subcommand (with_subcommand with_log (show_at words).top) (write_at words).top
+    let with_write = with_subcommand (with_subcommand with_log (show_at words).top) (write_at words).top in
+    with_subcommand with_write why.top
 
 -- a reference to a text; nothing that is said of the program depends on where the text lies
 abbrev pub reference : {T : Type 0} → T → Bor T
@@ -191,6 +196,15 @@ log_met (Some met) = if bytes_eq met.0 (codes "log") then Some (log_given met.1)
 unfoldable pub log_options : List Text → Option LogOptions
 log_options words = log_met (subcommand_of program words)
 
+-- the names that are given to be told why, where `why` is the command that was met
+abbrev pub why_met : Option (Text × List Row) → Option (List Text)
+why_met None = None
+why_met (Some met) = if bytes_eq met.0 (codes "why") then Some (names_given met.1) else None
+
+-- the names that words without a fault give to be told why, none where they don't ask for it
+unfoldable pub why_names : List Text → Option (List Text)
+why_names words = why_met (subcommand_of program words)
+
 -- the form that the word names
 abbrev pub form_named : Text → Option Form
 form_named word = if bytes_eq word (codes "store") then Some Store
@@ -253,6 +267,10 @@ abbrev pub IsLogOf : LogOptions → Option Wanted → Type 0
 IsLogOf options (Some (Log nodes shows_hidden is_graph)) = options ≡ (texts_of nodes.items, shows_hidden, is_graph)
 IsLogOf options _ = ⊥
 
+abbrev pub IsWhyOf : List Text → Option Wanted → Type 0
+IsWhyOf names (Some (Why nodes)) = names ≡ texts_of nodes.items
+IsWhyOf names _ = ⊥
+
 abbrev pub IsShowOf : Option Form → Option Wanted → Type 0
 IsShowOf form (Some (Show shown)) = form ≡ Some shown
 IsShowOf form None = form ≡ None
@@ -271,16 +289,17 @@ MeetsWanted met (Some (Log nodes shows_hidden is_graph)) =
     log_met met ≡ Some (texts_of nodes.items, shows_hidden, is_graph)
 MeetsWanted met (Some (Show form)) = show_met met ≡ Some form
 MeetsWanted met (Some (Write form name)) = write_met met ≡ Some (form, string_bytes name)
+MeetsWanted met (Some (Why nodes)) = why_met met ≡ Some (texts_of nodes.items)
 MeetsWanted met (Some _) = ⊥
 MeetsWanted met None =
     (run_met met ≡ None) × (race_met met ≡ None) × (log_met met ≡ None) × (show_met met ≡ None)
-    × (write_met met ≡ None)
+    × (write_met met ≡ None) × (why_met met ≡ None)
 
--- the words give nothing for a run with notes, a race, a log, what is shown and what is written
+-- the words give nothing for a run with notes, a race, a log, what is shown, what is written and what is told
 abbrev pub GivesNothing : List Text → Type 0
 GivesNothing words =
     (run_notes words ≡ None) × (race_numbers words ≡ None) × (log_options words ≡ None) × (shown_form words ≡ None)
-    × (written_form words ≡ None)
+    × (written_form words ≡ None) × (why_names words ≡ None)
 
 -- the parser finds no fault, and what is wanted is what the command that the words name asks for; or it tells a fault
 -- of the words, or that memory ran out
@@ -295,7 +314,7 @@ IsMistake e = (kind_of e ≢ DisplayHelp) × (kind_of e ≢ DisplayVersion) × (
 -- the words of a run ask for a run, and no others do; a run with notes is asked for by words without a fault that give
 -- its flags; a race is asked for by words without a fault that give its
 -- numbers, and these are within their bounds; a log by words without a fault that give its options, what is shown by
--- such that give a form, what is written by such that give a form and a name; help and the version are given where the
+-- such that give a form, what is written by such that give a form and a name, and why by such that give names; help and the version are given where the
 -- parser says that they are asked for; all else is bad, and is what the parser says, or words that it passes over and
 -- that give nothing for any of these
 abbrev pub ArgumentsAnswer : List Text → Result Wanted ArgumentFault → Type 0
@@ -309,6 +328,7 @@ ArgumentsAnswer words (Ok (Log nodes shows_hidden is_graph)) =
 ArgumentsAnswer words (Ok (Show form)) = (faults_at words ≡ []) × (shown_form words ≡ Some form)
 ArgumentsAnswer words (Ok (Write form name)) =
     (faults_at words ≡ []) × (written_form words ≡ Some (form, string_bytes name))
+ArgumentsAnswer words (Ok (Why nodes)) = (faults_at words ≡ []) × (why_names words ≡ Some (texts_of nodes.items))
 ArgumentsAnswer words (Ok (Help e)) = IsAmong DisplayHelp (faults_at words)
 ArgumentsAnswer words (Ok (Version e)) = IsAmong DisplayVersion (faults_at words)
 ArgumentsAnswer words (Err (BadArguments e)) = ¬ (IsRun words) × IsMistake e

@@ -1,6 +1,6 @@
 -- What the program does, and why it ends early.
 use Rattle.std.specs.Prelude.{◌≡◌, ◌⊎◌, ◌++◌, ◌∷◌, [], ℕ, Bool, true, false, List, Option, None, Some, Err, MatchOption}
-use Rattle.std.specs.Prelude.{All, IsSome, String, codes, string_bytes}
+use Rattle.std.specs.Prelude.{All, IsSome, String, codes, if◌then◌else◌, string_bytes}
 use Rattle.std.specs.declared.alloc.Global.{Global}
 use Rattle.std.specs.Io.KnownBytes.{Appends}
 use Rattle.std.specs.List.{Contains}
@@ -29,8 +29,12 @@ use Rattle.hg_show.specs.Printing.{IsShown}
 use Rattle.hg_view.specs.Kept.{KeptValue}
 use Rattle.hg_world.specs.Runs.{Snapshot}
 use Rattle.hgfleet.specs.declared.arguments.Wanted.{Wanted}
-use Rattle.hgfleet.specs.declared.arguments.Wanted.TheVariants.{Run, RunTold, Race, Log, Show, Write, Help, Version}
+use Rattle.hgfleet.specs.declared.arguments.Wanted.TheVariants as wanted
+use Rattle.hgfleet.specs.declared.arguments.Wanted.TheVariants.{Run, RunTold, Race, Show, Write, Why, Help, Version}
+use Rattle.hg_why.specs.Blocks.{IsWhy}
 use Rattle.hgfleet.specs.declared.commands.Drawing.{Drawing}
+use Rattle.hgfleet.specs.declared.commands.Drawing.TheVariants as drawn
+use Rattle.hgfleet.specs.declared.commands.Drawing.TheVariants.{Log, Graph}
 use Rattle.hgfleet.specs.declared.failure.Failure.{Failure}
 use Rattle.hgfleet.specs.declared.failure.Failure.TheVariants as failed
 use Rattle.hgfleet.specs.declared.failure.Failure.TheVariants.{Told, UnknownName}
@@ -54,17 +58,26 @@ IsOutputFailure failure = (failure ≡ failed.Run run.Write) ⊎ (failure ≡ fa
 abbrev pub heading : Text → Text
 heading name = codes "log " ++ name ++ 10 ∷ []
 
--- a graph, or the history below a line with the node's name
-abbrev pub IsDrawing : Bool → Bool → Text → KeptValue → Text → Type 0
-IsDrawing true shows_hidden name kept text = IsGraph kept shows_hidden text
-IsDrawing false shows_hidden name kept text =
+-- as a graph where one is asked for
+abbrev pub drawing_of : Bool → Bool → Drawing
+drawing_of shows_hidden is_graph = if is_graph then Graph shows_hidden else Log shows_hidden
+
+-- the history below a line with the node's name
+abbrev pub IsHistory : Bool → Text → KeptValue → Text → Type 0
+IsHistory shows_hidden name kept text =
     (history : Text) × AreAllDrawn kept shows_hidden history × (text ≡ heading name ++ history)
+
+-- a history, a graph, or why changesets are unstable
+abbrev pub IsDrawing : Drawing → Text → KeptValue → Text → Type 0
+IsDrawing (Log shows_hidden) name kept text = IsHistory shows_hidden name kept text
+IsDrawing (Graph shows_hidden) name kept text = IsGraph kept shows_hidden text
+IsDrawing drawn.Why name kept text = IsWhy name kept text
 
 -- the drawing of the node of this name, none where there is no such node
 abbrev pub IsDrawn : Fleet → Drawing → Text → Text → Type 0
 IsDrawn fleet drawing name text =
     MatchOption (node_named fleet name) (text ≡ [])
-    (λ kept. IsDrawing drawing.is_graph drawing.shows_hidden name kept text)
+    (λ kept. IsDrawing drawing name kept text)
 
 -- the drawings of the nodes of these names, in their order
 abbrev pub AreDrawn : Fleet → Drawing → List Text → Text → Type 0
@@ -109,6 +122,13 @@ IsUnknownOf form given fleet name = (name ≡ given) × HasNone form fleet name
 abbrev pub notes_of : Bool → Bool → Notes
 notes_of explains traces = record { explains = explains; traces = traces }
 
+-- of what the script leaves, which has nodes of these names, those are drawn, or all where none is named
+abbrev pub DrawsNodes : List (String Global) → Drawing → Option Text → Option Text → Option Text → Type 0
+DrawsNodes nodes drawing known held holds =
+    (fleet : Fleet) × (text : Text) × IsLeftFleet known fleet
+    × All (λ name. IsSome (node_named fleet (string_bytes name))) nodes
+    × AreDrawn fleet drawing (drawn_names fleet (texts_of nodes)) text × Appends held holds text
+
 -- what is wanted is done: the script, or the bytes, is what was to be read, where that is known, and what was held by
 -- the writer, where that is known, grew by what came of it
 abbrev pub IsDone : Wanted → Option Text → Option Text → Option Text → Type 0
@@ -118,11 +138,9 @@ IsDone (RunTold explains traces) known held holds =
 IsDone (Race nodes rounds) known held holds =
     (written : ℕ) × (read_back : ℕ) × (agreeing : ℕ) × IsOfPairs nodes agreeing
     × Appends held holds (race_lines nodes rounds written read_back agreeing)
-IsDone (Log nodes shows_hidden is_graph) known held holds =
-    let drawing : Drawing = record { shows_hidden = shows_hidden; is_graph = is_graph } in
-    (fleet : Fleet) × (text : Text) × IsLeftFleet known fleet
-    × All (λ name. IsSome (node_named fleet (string_bytes name))) nodes.items
-    × AreDrawn fleet drawing (drawn_names fleet (texts_of nodes.items)) text × Appends held holds text
+IsDone (wanted.Log nodes shows_hidden is_graph) known held holds =
+    DrawsNodes nodes.items (drawing_of shows_hidden is_graph) known held holds
+IsDone (Why nodes) known held holds = DrawsNodes nodes.items drawn.Why known held holds
 IsDone (Show form) known held holds =
     (bytes : Text) × (text : Text) × IsInput known bytes × IsShown form bytes text × Appends held holds text
 IsDone (Write form name) known held holds =
@@ -149,8 +167,9 @@ IsFailure (RunTold explains traces) known left held holds (Told told) =
     IsStop (notes_of explains traces) known told.fault held holds
 IsFailure (Race nodes rounds) known left held holds (failed.Run fault) =
     (fault ≡ Read) ⊎ (fault ≡ run.Write) ⊎ (fault ≡ NoMemory)
-IsFailure (Log nodes shows_hidden is_graph) known left held holds failure =
+IsFailure (wanted.Log nodes shows_hidden is_graph) known left held holds failure =
     EndsAfterScript known (IsUnknownAmong nodes.items) failure
+IsFailure (Why nodes) known left held holds failure = EndsAfterScript known (IsUnknownAmong nodes.items) failure
 IsFailure (Show form) known left held holds (failed.Show fault) =
     EndsInput {A = Unit {0}} known left (Err fault)
     ⊎ ((bytes : Text) × IsInput known bytes × ShowAnswer {A = Unit {0}} (fault_in form bytes) (Err fault))

@@ -7,12 +7,13 @@ ghost use Rattle.hgfleet.specs.declared.arguments.ArgumentFault.TheVariants.{NoM
 ghost use Rattle.hg_show.specs.declared.form.Form.TheVariants.{Store, Message};
 ghost use Rattle.hgfleet.specs.Arguments.{ArgumentsAnswer, IsRun, MeetsWanted, ParseAnswer, faults_at};
 ghost use Rattle.hgfleet.specs.Arguments.{program_at, program_alone};
-ghost use Rattle.hgfleet.specs.Arguments.{run, race, log, show_at, write_at, flag_rule, form_rule, nodes_rule};
+ghost use Rattle.hgfleet.specs.Arguments.{run, race, log, show_at, write_at, why, flag_rule, form_rule, nodes_rule};
 ghost use Rattle.hgfleet.specs.Arguments.{IsRunTold, notes_given, run_notes};
 ghost use Rattle.hgfleet.specs.Arguments.{IsRaceOf, number_given, numbers_given, race_numbers};
 ghost use Rattle.hgfleet.specs.Arguments.{IsLogOf, flag_given, log_given, log_options, names_given, texts_of};
 ghost use Rattle.hgfleet.specs.Arguments.{IsShowOf, form_given, form_named, shown_form};
 ghost use Rattle.hgfleet.specs.Arguments.{IsWriteOf, write_given, written_form};
+ghost use Rattle.hgfleet.specs.Arguments.{IsWhyOf, why_names};
 ghost use Rattle.hgfleet.specs.Arguments.{argument_fault_number, argument_fault_status, argument_fault_text};
 
 use clap::error::ErrorKind;
@@ -51,6 +52,9 @@ pub enum Wanted {
         form: Form,
         name: String,
     },
+    /// That it is told why changesets of these nodes are unstable as the script of standard input leaves them, of all
+    /// nodes where none is named.
+    Why(Vec<String>),
     /// The text of the help, which is the message of this answer.
     Help(Error),
     /// The version, which is the message of this answer.
@@ -213,12 +217,28 @@ can't be written, 2 wrong arguments, 3 want of memory.
 For example:
   printf 'node A\\ncommit A a draft\\namend A a b\\n' | hgfleet write store A > markers";
 
+// What is told of unstable changesets.
+const WHY_HELP: &str = "\
+Does the script of standard input, and then tells of each node that is named, as it is at the end, why changesets are
+unstable; where none is named, of every node. Each unstable changeset has its name and its short id, and below that
+  orphan                  of which parent, and what became of that
+  phase-divergent         from which public changeset it was made
+  content-divergent       with which changesets, and from which one all of them come
+Below an orphan stands the line of a script that moves it to where its parent went, where there is such a changeset.
+
+Statuses: 0 done, 1 a script that ended early or leaves no such name, or a text that
+can't be written, 2 wrong arguments, 3 want of memory.
+
+For example:
+  printf 'node A\\ncommit A a draft\\ncommit A b draft a\\namend A a c\\n' | hgfleet why";
+
 // The words that name the forms.
 static FORMS: [&str; 3] = ["store", "roots", "message"];
 
 /// Reads the words of a command line, the program's name first. A run has the word `run` alone, and one with notes a
 /// flag or two behind it. A race has the number of its nodes, from 2 to 16, and that of its rounds, from 1 to 1,000. A
-/// log may have names of nodes and two flags, what is shown has a form, and what is written a form and a name.
+/// log may have names of nodes and two flags, what is shown has a form, what is written a form and a name, and what is
+/// told names of nodes.
 pub fn read_args(alloc: Global, words: &[&str]) -> Result<Wanted, ArgumentFault>
     ensures { ArgumentsAnswer (map (λ s. s.now) words.now) result }
 {
@@ -294,6 +314,7 @@ fn given_to(alloc: Global, name: &str, given: &ArgMatches<'_>) -> Result<Option<
         "log" => log_of(alloc, given),
         "show" => Ok(show_of(given)),
         "write" => write_of(alloc, given),
+        "why" => why_of(alloc, given),
         _ => Ok(None),
     }
 }
@@ -352,6 +373,13 @@ fn log_of(alloc: Global, log: &ArgMatches<'_>) -> Result<Option<Wanted>, AllocEr
         shows_hidden,
         is_graph,
     }))
+}
+
+// That it is told why of these nodes.
+fn why_of(alloc: Global, why: &ArgMatches<'_>) -> Result<Option<Wanted>, AllocError>
+    ensures { IfOk result (IsWhyOf (names_given (rows_of (found_of why.now)))) }
+{
+    Ok(Some(Wanted::Why(names_of(alloc, why)?)))
 }
 
 // The names of nodes that are given.
@@ -438,7 +466,8 @@ fn program<'a>(alloc: Global, forms: &'a [&'a str]) -> Result<Command<'a>, Alloc
         .subcommand(race(alloc)?)?
         .subcommand(log(alloc)?)?
         .subcommand(show(alloc, forms)?)?
-        .subcommand(write(alloc, forms)?)?;
+        .subcommand(write(alloc, forms)?)?
+        .subcommand(why(alloc)?)?;
     Ok(command)
 }
 
@@ -516,7 +545,7 @@ fn nodes_argument<'a>(alloc: Global) -> Arg<'a>
     Arg::new(alloc, "nodes")
         .value_name("NODE")
         .num_args(0..)
-        .help("The nodes whose histories are drawn, all where none is named")
+        .help("The nodes that are meant, all where none is named")
 }
 
 fn show<'a>(alloc: Global, forms: &'a [&'a str]) -> Result<Command<'a>, AllocError>
@@ -542,6 +571,15 @@ fn write<'a>(alloc: Global, forms: &'a [&'a str]) -> Result<Command<'a>, AllocEr
         .after_help(WRITE_HELP)
         .arg(form_argument(alloc, forms))?
         .arg(name)
+}
+
+fn why<'a>(alloc: Global) -> Result<Command<'a>, AllocError>
+    ensures { IfOk result (λ command. (app_of command ≡ why) × ((out-Command command).has_globals ≡ false)) }
+{
+    Command::new(alloc, "why")
+        .about("Tells why changesets of a script's nodes are unstable")
+        .after_help(WHY_HELP)
+        .arg(nodes_argument(alloc))
 }
 
 // The form of bytes, which must be given.
@@ -621,4 +659,6 @@ pub fn what_words_ask_for()
         → faults_at (name ∷ codes "write" ∷ codes "store" ∷ []) ≡ ErrorKind.MissingRequiredArgument ∷ [] }
     ensures help_of_write { (name : Text)
         → faults_at (name ∷ codes "write" ∷ codes "--help" ∷ []) ≡ ErrorKind.DisplayHelp ∷ [] }
+    ensures why { (name : Text) → faults_at (name ∷ codes "why" ∷ codes "A" ∷ []) ≡ [] }
+    ensures why_names { (name : Text) → why_names (name ∷ codes "why" ∷ codes "A" ∷ []) ≡ Some (codes "A" ∷ []) }
 {}

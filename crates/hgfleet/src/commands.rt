@@ -5,8 +5,8 @@ ghost use Rattle.hg_script.specs.declared.fleet.Fleet.{Fleet as FleetValue};
 ghost use Rattle.hg_script.specs.Scripts.{IsLeftFleet};
 ghost use Rattle.hg_script.specs.Scripts.{node_named};
 ghost use Rattle.hgfleet.specs.Arguments.{IsWithinBounds, texts_of};
-ghost use Rattle.hgfleet.specs.Commands.{AreDrawn, EndsAfterScript, IsDone, IsDrawing, IsDrawn, IsFailure};
-ghost use Rattle.hgfleet.specs.Commands.{IsFormOf, IsUnknownAmong, IsUnknownOf, drawn_names, heading};
+ghost use Rattle.hgfleet.specs.Commands.{AreDrawn, EndsAfterScript, IsDone, IsDrawing, IsDrawn, IsFailure, IsHistory};
+ghost use Rattle.hgfleet.specs.Commands.{IsFormOf, IsUnknownAmong, IsUnknownOf, drawn_names, drawing_of, heading};
 
 use crate::arguments::Wanted;
 use crate::failure::Failure;
@@ -17,6 +17,7 @@ use hg_race::run_race;
 use hg_script::{Fleet, Notes, RunFault, run_fleet, run_script, run_told};
 use hg_show::{Form, show, write_bytes, write_roots, write_store};
 use hg_view::Kept;
+use hg_why::write_why;
 use std::alloc::{AllocError, Global};
 use std::io::{BufRead, Read, Write, sink};
 use std::random::RandomSource;
@@ -54,11 +55,11 @@ pub fn perform<'a, H: AllocGlobal + RandomSource + Threads + Wait + Sync, R: Buf
             shows_hidden,
             is_graph,
         } => {
-            let drawing = Drawing {
-                shows_hidden: *shows_hidden,
-                is_graph: *is_graph,
-            };
-            log(alloc, secret_keys(rt)?, reader, writer, nodes, drawing)
+            let drawing = drawing_of(*shows_hidden, *is_graph);
+            draw_script(alloc, secret_keys(rt)?, reader, writer, nodes, drawing)
+        }
+        Wanted::Why(nodes) => {
+            draw_script(alloc, secret_keys(rt)?, reader, writer, nodes, Drawing::Why)
         }
         Wanted::Show(form) => Ok(show(alloc, *form, reader, writer)?),
         Wanted::Write { form, name } => {
@@ -88,18 +89,30 @@ fn write_text<W: Write>(text: &Error, writer: &mut W) -> Result<(), Failure<'sta
     }
 }
 
-// How histories are drawn.
+// What is drawn, or told, of a node.
 #[derive(Clone, Copy)]
-struct Drawing {
-    // With what is hidden.
-    shows_hidden: bool,
-    // As a graph for Graphviz, in place of a text.
-    is_graph: bool,
+enum Drawing {
+    // Its history as a text.
+    Log { shows_hidden: bool },
+    // Its history as a graph for Graphviz.
+    Graph { shows_hidden: bool },
+    // Why changesets are unstable.
+    Why,
 }
 
-// Draws the histories of these nodes as the script that the reader has leaves them, or those of all its nodes where
-// none is named. Nothing is drawn where one of the names is unknown. What the script prints goes nowhere.
-fn log<'a, R: Read, W: Write>(
+fn drawing_of(shows_hidden: bool, is_graph: bool) -> Drawing
+    ensures { result ≡ drawing_of shows_hidden is_graph }
+{
+    if is_graph {
+        Drawing::Graph { shows_hidden }
+    } else {
+        Drawing::Log { shows_hidden }
+    }
+}
+
+// Draws these nodes as the script that the reader has leaves them, or all its nodes where none is named. Nothing is
+// drawn where one of the names is unknown. What the script prints goes nowhere.
+fn draw_script<'a, R: Read, W: Write>(
     alloc: Global,
     keys: IdKeys,
     reader: &mut R,
@@ -184,7 +197,7 @@ fn draw_all<W: Write>(
     Ok(())
 }
 
-// Draws the history of the node of this name, nothing where there is none.
+// Draws the node of this name, nothing where there is none.
 fn draw_node<W: Write>(
     alloc: Global,
     fleet: &Fleet,
@@ -201,7 +214,7 @@ fn draw_node<W: Write>(
     }
 }
 
-// Draws a history as a graph, or as a text below a line with the node's name.
+// Draws what is asked for of a node.
 fn draw<W: Write>(
     alloc: Global,
     name: &[u8],
@@ -209,17 +222,29 @@ fn draw<W: Write>(
     drawing: Drawing,
     writer: &mut W,
 ) -> Result<(), DrawFault>
-    ensures { OnOk result ((text : List ℕ)
-        × IsDrawing drawing.is_graph drawing.shows_hidden name.now kept.now text
+    ensures { OnOk result ((text : List ℕ) × IsDrawing drawing name.now kept.now text
         × Appends (W.contents writer.old) (W.contents writer.new) text) }
 {
-    if drawing.is_graph {
-        draw_graph(alloc, name, kept, drawing.shows_hidden, writer)?;
-        return Ok(());
+    match drawing {
+        Drawing::Log { shows_hidden } => draw_below(alloc, name, kept, shows_hidden, writer),
+        Drawing::Graph { shows_hidden } => draw_graph(alloc, name, kept, shows_hidden, writer),
+        Drawing::Why => write_why(alloc, name, kept, writer),
     }
+}
+
+// Draws a history below a line with the node's name.
+fn draw_below<W: Write>(
+    alloc: Global,
+    name: &[u8],
+    kept: &Kept,
+    shows_hidden: bool,
+    writer: &mut W,
+) -> Result<(), DrawFault>
+    ensures { OnOk result ((text : List ℕ) × IsHistory shows_hidden name.now kept.now text
+        × Appends (W.contents writer.old) (W.contents writer.new) text) }
+{
     write_heading(alloc, name, writer)?;
-    draw_log(alloc, kept, drawing.shows_hidden, writer)?;
-    Ok(())
+    draw_log(alloc, kept, shows_hidden, writer)
 }
 
 // Writes the line with a node's name.

@@ -5,7 +5,11 @@ use hg_show::Form;
 /// What is said before standard input is read from a terminal. Nothing where it isn't read.
 pub fn invitation(wanted: &Wanted) -> Option<&'static str> {
     match wanted {
-        Wanted::Run | Wanted::RunTold { .. } | Wanted::Log { .. } | Wanted::Write { .. } => Some(
+        Wanted::Run
+        | Wanted::RunTold { .. }
+        | Wanted::Log { .. }
+        | Wanted::Why(_)
+        | Wanted::Write { .. } => Some(
             "hgfleet: reading a script from standard input; end it with Ctrl-D. For the language: hgfleet run --help",
         ),
         Wanted::Show(_) => {

@@ -1,6 +1,6 @@
 use Rattle.std.proofs.Common.{ap, ap₂, ◌≡◌, ◌∙◌}
 use Rattle.clap.specs.Words.{App, Shape, app_of, with_subcommand}
-use Rattle.hgfleet.specs.Arguments.{log, program_alone, race, run, show_at}
+use Rattle.hgfleet.specs.Arguments.{log, program_alone, race, run, show_at, write_at}
 use Rattle.hgfleet.proofs.arguments.program.Goals as goal
 
 abbrev top_of : App → Shape
@@ -29,5 +29,9 @@ returns c =
     let show_in : app_of c.in_ok-subcommand-4.field-0 ≡ with_subcommand with_log (show_at c.args.forms).top =
     c.in_ok-subcommand-4.ensures.shape c.in_ok-show.ensures.1
     ∙ ap₂ with_subcommand log_in (ap top_of c.in_ok-show.ensures.0) in
-    c.in_ok-command.ensures.shape c.in_ok-write.ensures.1
-    ∙ ap₂ with_subcommand show_in (ap top_of c.in_ok-write.ensures.0)
+    let write_in : app_of c.in_ok-subcommand-5.field-0
+    ≡ with_subcommand (with_subcommand with_log (show_at c.args.forms).top) (write_at c.args.forms).top =
+    c.in_ok-subcommand-5.ensures.shape c.in_ok-write.ensures.1
+    ∙ ap₂ with_subcommand show_in (ap top_of c.in_ok-write.ensures.0) in
+    c.in_ok-command.ensures.shape c.in_ok-why.ensures.1
+    ∙ ap₂ with_subcommand write_in (ap top_of c.in_ok-why.ensures.0)

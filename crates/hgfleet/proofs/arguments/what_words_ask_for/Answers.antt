@@ -7,7 +7,7 @@ use Rattle.hgfleet.proofs.RowLemmas.{at_help_of_log, at_show_store, at_shown_sto
 use Rattle.hgfleet.proofs.RowLemmas.{at_show_alone, at_help_of_show, at_write_store, at_written_store}
 use Rattle.hgfleet.proofs.RowLemmas.{at_written_message, at_write_no_name, at_help_of_write}
 use Rattle.hgfleet.proofs.RowLemmas.{at_no_notes, at_explain, at_explained, at_traced, at_both_notes}
-use Rattle.hgfleet.proofs.RowLemmas.{at_explain_more}
+use Rattle.hgfleet.proofs.RowLemmas.{at_explain_more, at_why, at_why_names}
 use Rattle.hgfleet.proofs.arguments.what_words_ask_for.Goals as goal
 
 pub returns-clause-help : goal.returns-clause-help
@@ -126,3 +126,9 @@ returns-clause-both_notes c = at_both_notes
 
 pub returns-clause-explain_more : goal.returns-clause-explain_more
 returns-clause-explain_more c = at_explain_more
+
+pub returns-clause-why : goal.returns-clause-why
+returns-clause-why c = at_why
+
+pub returns-clause-why_names : goal.returns-clause-why_names
+returns-clause-why_names c = at_why_names

@@ -1,13 +1,9 @@
-use Rattle.std.proofs.Common.{All, IsSome, List, OnOk, String, string_bytes, subst, sym}
-use Rattle.std.specs.Io.KnownBytes.{Appends}
+use Rattle.std.proofs.Common.{List, OnOk, String, subst, sym}
 use Rattle.std.specs.declared.alloc.Global.{Global}
-use Rattle.hg_log.specs.Drawings.{Text}
-use Rattle.hg_script.specs.declared.fleet.Fleet.{Fleet}
-use Rattle.hg_script.specs.Scripts.{IsLeftFleet, node_named}
 use Rattle.hgfleet.specs.declared.arguments.Wanted.{Wanted}
 use Rattle.hgfleet.specs.declared.commands.Drawing.{Drawing}
-use Rattle.hgfleet.specs.Arguments.{texts_of}
-use Rattle.hgfleet.specs.Commands.{AreDrawn, IsDone, drawn_names}
+use Rattle.hgfleet.specs.declared.commands.Drawing.TheVariants.{Why}
+use Rattle.hgfleet.specs.Commands.{DrawsNodes, IsDone}
 use Rattle.hgfleet.proofs.commands.perform.Goals as goal
 
 pub returns-in_ok-run_race-in-Race-clause-done : goal.returns-in_ok-run_race-in-Race-clause-done
@@ -31,10 +27,20 @@ pub returns-in_ok-secret_keys-in-Log-clause-done : goal.returns-in_ok-secret_key
 returns-in_ok-secret_keys-in-Log-clause-done g c =
     let known = g.R.Read.remaining c.args.reader.now in
     let held = g.W.Write.contents c.args.writer.now in
-    let holds = g.W.Write.contents c.log.new.writer in
-    let drawing : Drawing = record { shows_hidden = c.in-Log.shows_hidden; is_graph = c.in-Log.is_graph } in
-    let P : List (String Global) → Type 0 = λ nodes. OnOk c.log.result ((fleet : Fleet) × (text : Text)
-    × IsLeftFleet known fleet × All (λ name. IsSome (node_named fleet (string_bytes name))) nodes
-    × AreDrawn fleet drawing (drawn_names fleet (texts_of nodes)) text × Appends held holds text) in
-    subst (λ (wanted : Wanted). OnOk c.log.result (IsDone wanted known held holds)) (sym c.in-Log.is)
-    (subst P c.deref.ensures.value c.log.ensures.drawn)
+    let holds = g.W.Write.contents c.draw_script.new.writer in
+    let P : List (String Global) → Type 0 = λ nodes. OnOk c.draw_script.result
+    (DrawsNodes nodes c.drawing_of-drawing.result known held holds) in
+    let Q : Drawing → Type 0 = λ drawing. OnOk c.draw_script.result
+    (DrawsNodes c.in-Log.nodes.items drawing known held holds) in
+    subst (λ (wanted : Wanted). OnOk c.draw_script.result (IsDone wanted known held holds)) (sym c.in-Log.is)
+    (subst Q c.drawing_of-drawing.ensures (subst P c.deref.ensures.value c.draw_script.ensures.drawn))
+
+pub returns-in_ok-secret_keys-in-Why-clause-done : goal.returns-in_ok-secret_keys-in-Why-clause-done
+returns-in_ok-secret_keys-in-Why-clause-done g c =
+    let known = g.R.Read.remaining c.args.reader.now in
+    let held = g.W.Write.contents c.args.writer.now in
+    let holds = g.W.Write.contents c.draw_script-in-Why.new.writer in
+    let P : List (String Global) → Type 0 = λ nodes. OnOk c.draw_script-in-Why.result
+    (DrawsNodes nodes Why known held holds) in
+    subst (λ (wanted : Wanted). OnOk c.draw_script-in-Why.result (IsDone wanted known held holds)) (sym c.in-Why.is)
+    (subst P c.deref-in-Why.ensures.value c.draw_script-in-Why.ensures.drawn)
