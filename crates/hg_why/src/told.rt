@@ -138,6 +138,9 @@ impl<'a> Telling<'a> {
     {
         match sets {
             Sets::Family(family) => {
+                if are_all_with(family, node) {
+                    return self.write_shared(predecessor, line, writer);
+                }
                 for set in family {
                     self.write_set(node, predecessor, set, earlier, line, writer)?;
                 }
@@ -152,6 +155,21 @@ impl<'a> Telling<'a> {
                 Ok(())
             }
         }
+    }
+
+    // Writes from what it comes that became different changesets with it in each way.
+    fn write_shared<W: Write>(
+        &self,
+        predecessor: Node,
+        line: &mut Vec<u8>,
+        writer: &mut W,
+    ) -> Result<(), DrawFault>
+        ensures { OnOk result (Grows (W.contents writer.old) (W.contents writer.new)) }
+    {
+        line.extend_from_slice(b"  content-divergent: it is in each successors set of ")?;
+        push_named(line, self.kept.replica(), predecessor)?;
+        write_line(line, writer)?;
+        Ok(())
     }
 
     // Writes from what it comes that became these changesets too, unless it is one of them, or an earlier reason has
@@ -202,6 +220,11 @@ impl<'a> Telling<'a> {
         write_line(line, writer)?;
         Ok(())
     }
+}
+
+// Whether each of the successors sets has the changeset.
+fn are_all_with(family: &[Vec<Node>], node: Node) -> bool {
+    family.iter().all(|set| set.contains(&node))
 }
 
 // With the changeset itself how many there are.
