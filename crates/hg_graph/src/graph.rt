@@ -13,7 +13,7 @@ ghost use Rattle.hg_graph.specs.Answers.{IsFirstMissing, IsNew, AddAnswer, LookU
 use crate::error::GraphError;
 use crate::links::Links;
 use hg_changeset::{Changeset, Node};
-use hg_node_set::{IdKeys, give_back_table};
+use hg_node_set::{IdKeys, find_if_last, give_back_table};
 use indexmap::IndexMap;
 use std::alloc::{AllocError, Global};
 use std::marker::Model;
@@ -140,32 +140,20 @@ impl Graph {
         }
     }
 
-    /// Where the changeset with this id stands. The null id is answered without a look-up, and so is what was added
-    /// last, which most is asked of.
+    /// Where the changeset with this id stands. What was added last, which most is asked of, is found without a look-up,
+    /// and so the null id is answered.
     pub fn place(&self, node: Node) -> Option<usize>
         ensures place { MatchOption result (¬ (Holds self.now node)) (IsOnlyAt self.now node) }
         ensures graph { IsGraph self.now }
     {
         let changesets = &self.changesets;
+        if let Some((last, _)) = find_if_last(changesets, node) {
+            return Some(last);
+        }
         if node.is_null() {
             return None;
         }
-        if let Some(last) = self.last_place_of(node) {
-            return Some(last);
-        }
         changesets.get_index_of(&node)
-    }
-
-    // The last place, where the changeset with this id stands there.
-    #[inline(always)]
-    fn last_place_of(&self, node: Node) -> Option<usize>
-        ensures { IfSome result (IsOnlyAt self.now node) }
-    {
-        let last = self.len().checked_sub(1)?;
-        match self.node_at(last) {
-            Some(newest) if newest == node => Some(last),
-            _ => None,
-        }
     }
 
     /// The id of the changeset at a place.

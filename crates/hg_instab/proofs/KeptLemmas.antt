@@ -1,6 +1,6 @@
 -- What a change turns in each kept set is what the set of the content after it is to have.
 use Rattle.std.proofs.Common.{◌≡◌, ◌↔◌, ◌⊎◌, ◌++◌, inl, inr, List, Contains, sym, subst}
-use Rattle.std.proofs.lemmas.List.Elements.{Contains-append_left, Contains-append_right}
+use Rattle.std.proofs.lemmas.List.Elements.{Contains-append_left, Contains-append_right, Contains-append_cases}
 use Rattle.hg_changeset.specs.declared.node.Node.{Node}
 use Rattle.hg_obsstore.proofs.IndexLemmas.{among_or_not}
 use Rattle.hg_replica.specs.State.{ReplicaState, IsValid}
@@ -87,6 +87,29 @@ pub asked-of : (Is : Node → Type 0) (asked nodes now : List Node) → asked �
     → ((n : Node) → Contains now n ↔ (Contains asked n × Is n)) → (n : Node)
     → Contains now n ↔ (Contains nodes n × Is n)
 asked-of Is asked nodes now same is n = subst (λ ns. Contains now n ↔ (Contains ns n × Is n)) same (is n)
+
+-- where something holds of those of the seeds alone that were chosen, they stand for all of them
+pub chosen-of : (Is Chosen : Node → Type 0) (front seeds chosen now : List Node)
+    → ((n : Node) → Contains chosen n ↔ (Contains seeds n × Chosen n)) → ((n : Node) → Is n → Chosen n)
+    → ((n : Node) → Contains now n ↔ (Contains (front ++ chosen) n × Is n)) → (n : Node)
+    → Contains now n ↔ (Contains (front ++ seeds) n × Is n)
+chosen-of Is Chosen front seeds chosen now is within told n = (
+  λ h.
+      let those = (told n).0 h in (
+        elim (Contains-append_cases front chosen n those.0) [
+          | inl a ↦ Contains-append_left front seeds n a
+          | inr b ↦ Contains-append_right front seeds n ((is n).0 b).0
+        ],
+        those.1,
+      ),
+  λ h. (told n).1 (
+    elim (Contains-append_cases front seeds n h.0) [
+      | inl a ↦ Contains-append_left front chosen n a
+      | inr b ↦ Contains-append_right front chosen n ((is n).1 (b, within n h.1))
+    ],
+    h.1,
+  ),
+)
 
 -- in the region it was found, and outside it was so and is current
 pub divergent-is : (f g : Content) (region found set : List Node)

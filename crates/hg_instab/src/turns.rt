@@ -75,12 +75,13 @@ impl Turns {
         let touched = seeds(alloc, replica, change)?;
         let seeds = touched.as_slice();
         let met = newly_after_public(alloc, replica, change, sets.after_public())?;
-        let obsolete = obsolete_turn(alloc, replica, sets.obsolete(), seeds)?;
+        let now = obsolete_among(alloc, replica, seeds)?;
         let places = replica.graph().places_of(seeds)?;
-        let orphan = orphan_turn(alloc, replica, sets.orphan(), &places, &obsolete)?;
         let held = turned_extinct(alloc, replica, sets.extinct(), holders, &places)?;
         let extinct = Turn::of(alloc, sets.extinct(), &held)?;
-        let suspended = suspended_turn(alloc, replica, sets, seeds, &held)?;
+        let suspended = suspended_turn(alloc, replica, sets, seeds, &now, &held)?;
+        let obsolete = Turn::to(alloc, sets.obsolete(), seeds, now)?;
+        let orphan = orphan_turn(alloc, replica, sets.orphan(), &places, &obsolete)?;
         let phase_divergent = phase_turn(alloc, replica, sets, seeds, &met)?;
         let (content_divergent, near_forks) = divergence_turns(
             alloc, replica, change, sets, seeds,
@@ -97,23 +98,6 @@ impl Turns {
             near_forks,
         })
     }
-}
-
-// The obsolete changesets: those of the seeds are asked again.
-fn obsolete_turn(
-    alloc: Global,
-    replica: &Replica,
-    set: &BTreeSet<Node>,
-    seeds: &[Node],
-) -> Result<Turn, AllocError>
-    ensures turn { IfOk result (IsTurn set.now.keys) }
-    ensures told { IfOk result (λ turn. (f : Content)
-        → ((n : Node) → ¬ (Contains seeds.now n) → IsObsolete (content_of replica.now) n ↔ IsObsolete f n)
-        → ((n : Node) → Contains set.now.keys n ↔ IsObsolete f n)
-        → (n : Node) → IsThen set.now.keys turn n ↔ IsObsolete (content_of replica.now) n) }
-{
-    let now = obsolete_among(alloc, replica, seeds)?;
-    Turn::to(alloc, set, seeds, now)
 }
 
 // The orphans: a walk upwards from the places of the seeds, and from what stands on those whose obsolescence turned.
@@ -138,14 +122,17 @@ fn orphan_turn(
     Turn::of(alloc, set, &turned)
 }
 
-// The suspended changesets: those of the seeds, and those that turned extinct or no longer are, are asked again.
+// The suspended changesets: those of the seeds, of which these are obsolete now, and those that turned extinct or no
+// longer are, are asked again.
 fn suspended_turn(
     alloc: Global,
     replica: &Replica,
     sets: &Instabilities,
     seeds: &[Node],
+    obsolete: &[Node],
     turned: &BTreeSet<Node>,
 ) -> Result<Turn, AllocError>
+    requires { (n : Node) → Contains obsolete.now n ↔ (Contains seeds.now n × IsObsolete (content_of replica.now) n) }
     ensures turn { IfOk result (IsTurn sets.now.suspended) }
     ensures told { IfOk result (λ turn. (f : Content)
         → ((n : Node) → ¬ (Contains seeds.now n) → IsObsolete (content_of replica.now) n ↔ IsObsolete f n)
@@ -154,9 +141,11 @@ fn suspended_turn(
         → (n : Node) → IsThen sets.now.suspended turn n
         ↔ (IsObsolete (content_of replica.now) n × ¬ (IsNow sets.now.extinct turned.now.keys n))) }
 {
+    let mut kept = list_of(alloc, turned)?;
+    kept.extend_from_slice(obsolete)?;
+    let now = still_kept(alloc, replica, sets.extinct(), turned, &kept)?;
     let mut nodes = list_of(alloc, turned)?;
     nodes.extend_from_slice(seeds)?;
-    let now = still_kept(alloc, replica, sets.extinct(), turned, &nodes)?;
     Turn::to(alloc, sets.suspended(), &nodes, now)
 }
 

@@ -4,15 +4,13 @@
 //! keys ascend and hold nothing that would end them, so that it is written as metadata one key behind the other, and it
 //! is known before that how many bytes it takes.
 ghost use Rattle.std.specs.Prelude.{◌≡◌, ◌≤◌, ◌+◌, ◌-◌, ◌^◌, ℕ, List, [], ◌∷◌, min, length, OnOk};
-ghost use Rattle.hg_changeset.specs.EntryText.{date_text};
 ghost use Rattle.hg_marker.specs.Making.{has_bad_value};
 ghost use Rattle.hg_marker.specs.Metadata.{written};
 ghost use Rattle.hg_marker.specs.Operation.{note_entries, note_texts, parents_entries};
 ghost use Rattle.hg_marker.specs.Written.{with_pieces};
 
 use crate::text_map::{has_nul, push_entry};
-use hg_changeset::{Node, push_date};
-use itoa::Buffer;
+use hg_changeset::{Node, date_len, push_date};
 use std::alloc::AllocError;
 
 // Bytes of the keys `date`, `operation` and `user`, and of what joins them.
@@ -78,16 +76,6 @@ fn hold_nul(parents: Option<(Node, Node)>) -> bool
         }
         None => false,
     }
-}
-
-// How many bytes a date takes.
-fn date_len(secs: i64, offset: i32) -> usize
-    ensures len { result ≡ length (date_text secs offset) }
-    ensures short { result ≤ 81 }
-{
-    let mut digits = Buffer::new();
-    let secs_len = digits.format(secs).len();
-    secs_len + 1 + digits.format(offset).len()
 }
 
 // How many bytes the parents take behind what was noted before.

@@ -4,7 +4,8 @@
 //! is made with, [`IdKeys`]: a rule that everybody knows, or one with a secret, which ids that were chosen to meet don't
 //! meet under. Tables of the crates above that are looked up by ids or labels take the same keys.
 //!
-//! A list or a table that was cut gives memory back by one rule: [`give_back_list`], [`give_back_table`].
+//! A list or a table that was cut gives memory back by one rule: [`give_back_list`], [`give_back_table`]. A table tells
+//! the id that came last without a hash: [`find_if_last`].
 //!
 //! # Example
 //!
@@ -22,9 +23,11 @@
 #![tactic(auto)]
 
 mod keys;
+mod last;
 mod room;
 mod set;
 
 pub use keys::IdKeys;
+pub use last::find_if_last;
 pub use room::{give_back_list, give_back_table};
 pub use set::NodeSet;

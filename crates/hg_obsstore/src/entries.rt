@@ -12,7 +12,7 @@ ghost use Rattle.hg_obsstore.specs.Index.{with_last, without_last};
 
 use crate::index::{Role, Roles};
 use hg_changeset::Node;
-use hg_node_set::{IdKeys, give_back_table};
+use hg_node_set::{IdKeys, find_if_last, give_back_table};
 use indexmap::IndexMap;
 use std::alloc::{AllocError, Global};
 use std::marker::Model;
@@ -64,9 +64,9 @@ impl Entries {
     pub fn find(&self, node: Node) -> Option<&Roles>
         ensures { option_copied result ≡ known self.now node }
     {
-        match self.table.last() {
-            Some((newest, roles)) if *newest == node => Some(roles),
-            _ => self.table.get(&node),
+        match find_if_last(&self.table, node) {
+            Some((_, roles)) => Some(roles),
+            None => self.table.get(&node),
         }
     }
 

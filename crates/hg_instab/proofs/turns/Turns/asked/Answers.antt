@@ -12,19 +12,24 @@ use Rattle.hg_instab.proofs.ChangedLemmas.{obsolete-untouched, current-untouched
 use Rattle.hg_instab.proofs.KeptLemmas.{changed-follows, now-or, suspended-told, both-same, set-along}
 use Rattle.hg_instab.proofs.KeptLemmas.{then-along, flip}
 use Rattle.hg_instab.proofs.SetLemmas.{along}
-use Rattle.hg_instab.proofs.TurnLemmas.{grown-to}
+use Rattle.hg_instab.proofs.TurnLemmas.{asked-then, grown-to}
 use Rattle.hg_instab.proofs.WaitingLemmas.{placed-along, placed-in}
 use Rattle.hg_instab.proofs.turns.Turns.asked.Goals as goal
 
 pub orphan_turn-requires : goal.orphan_turn-requires
 orphan_turn-requires c = placed-in c.graph.result.now (changesets c.args.replica.now.history) c.graph.ensures.graph
-    c.as_slice-seeds.result.now c.in_ok-places.places.items c.deref.result.now c.deref.ensures.value
+    c.as_slice-seeds.result.now c.in_ok-places.places.items c.deref-3.result.now c.deref-3.ensures.value
     c.in_ok-places.ensures.answer
 
 pub turned_extinct-requires : goal.turned_extinct-requires
 turned_extinct-requires c = placed-in c.graph.result.now (changesets c.args.replica.now.history) c.graph.ensures.graph
-    c.as_slice-seeds.result.now c.in_ok-places.places.items c.deref-2.result.now c.deref-2.ensures.value
+    c.as_slice-seeds.result.now c.in_ok-places.places.items c.deref.result.now c.deref.ensures.value
     c.in_ok-places.ensures.answer
+
+pub suspended_turn-requires : goal.suspended_turn-requires
+suspended_turn-requires c n = subst (λ (xs : List Node). Contains xs n
+    ↔ (Contains c.as_slice-seeds.result.now n × IsObsolete (content_of c.args.replica.now) n))
+    (sym c.deref-2.ensures.value) (c.in_ok-now.ensures n)
 
 pub returns-clause-turns : goal.returns-clause-turns
 returns-clause-turns c = record {
@@ -71,18 +76,19 @@ returns-clause-told c s is at =
     λ n not. current-untouched f g change t.markers follows n (λ h. not (seeded n h)) in
     let obsolete : (n : Node) → IsThen sets.obsolete c.in_ok-obsolete.obsolete n ↔ IsObsolete g n =
     then-along c.obsolete.result.now.keys sets.obsolete c.in_ok-obsolete.obsolete (IsObsolete g) c.obsolete.ensures
-    (c.in_ok-obsolete.ensures.told f obsolete-as
-    (set-along c.obsolete.result.now.keys sets.obsolete (IsObsolete f) c.obsolete.ensures at.obsolete)) in
+    (asked-then c.obsolete.result.now.keys seeds c.in_ok-now.now.items c.in_ok-obsolete.obsolete (IsObsolete f)
+    (IsObsolete g) c.in_ok-obsolete.ensures.then c.in_ok-now.ensures
+    (set-along c.obsolete.result.now.keys sets.obsolete (IsObsolete f) c.obsolete.ensures at.obsolete) obsolete-as) in
     let orphan : (n : Node) → IsThen sets.orphan c.in_ok-orphan.orphan n ↔ IsOrphan g n =
     then-along c.orphan.result.now.keys sets.orphan c.in_ok-orphan.orphan (IsOrphan g) c.orphan.ensures
     (c.in_ok-orphan.ensures.told s change sets.obsolete is.valid follows
-    (λ n k seed there. (placed c.deref.result.now c.deref.ensures.value k).1 (n, seeded n seed, there)) at.obsolete
+    (λ n k seed there. (placed c.deref-3.result.now c.deref-3.ensures.value k).1 (n, seeded n seed, there)) at.obsolete
     obsolete
     (set-along c.orphan.result.now.keys sets.orphan (IsOrphan f) c.orphan.ensures at.orphan)) in
     let extinct_now : (n : Node) → IsNow sets.extinct held n ↔ IsExtinct g n =
     λ n. subst (λ (xs : List Node). IsNow xs held n ↔ IsExtinct g n) c.extinct.ensures
     (c.in_ok-held.ensures s change is.valid follows
-    (λ n k seed there. (placed c.deref-2.result.now c.deref-2.ensures.value k).1 (n, seeded n seed, there))
+    (λ n k seed there. (placed c.deref.result.now c.deref.ensures.value k).1 (n, seeded n seed, there))
     (set-along c.extinct.result.now.keys sets.extinct (IsExtinct f) c.extinct.ensures at.extinct) n) in
     let extinct : (n : Node) → IsThen sets.extinct c.in_ok-extinct.extinct n ↔ IsExtinct g n =
     λ n. along (subst (λ (xs : List Node). IsThen xs c.in_ok-extinct.extinct n ↔ IsNow xs held n) c.extinct-2.ensures
@@ -103,8 +109,8 @@ returns-clause-told c s is at =
           (both-same (flip (after n)));
       content_divergent = divergence.content_divergent;
       after_public = λ n. along
-          (grown-to c.after_public-2.result.now.keys sets.after_public c.deref-3.result.now met c.in_ok-growing.field-0
-          c.after_public-2.ensures (c.deref-3.ensures.value ∙ c.in_ok-new.ensures) c.in_ok-growing.ensures.then n)
+          (grown-to c.after_public-2.result.now.keys sets.after_public c.deref-4.result.now met c.in_ok-growing.field-0
+          c.after_public-2.ensures (c.deref-4.ensures.value ∙ c.in_ok-new.ensures) c.in_ok-growing.ensures.then n)
           (flip (after n));
       near_forks = divergence.near_forks;
     }
