@@ -25,7 +25,7 @@ ends_line b s = is_one_of line_ends b && not (begins_with_cr_lf s)
 
 -- ---- white space at the end
 
-suffix_len-push : (p : ℕ → Bool) (x : List ℕ) (b : ℕ) → p b ≡ true → suffix_len p (x ++ b ∷ []) ≡ 1 + suffix_len p x
+pub suffix_len-push : (p : ℕ → Bool) (x : List ℕ) (b : ℕ) → p b ≡ true → suffix_len p (x ++ b ∷ []) ≡ 1 + suffix_len p x
 suffix_len-push p x b h = rw (reverse-append x (b ∷ []), h) refl
 
 trimmed_end-push : (x : List ℕ) (b : ℕ) → is_one_of white_space b ≡ true → trimmed_end white_space
@@ -46,7 +46,7 @@ onto_nothing [] h = absurd (omega arith)
 onto_nothing (line ∷ rest) h = refl
 
 -- nothing was read yet
-at_start : (s : List ℕ) → rest_text [] s ≡ lines_text (lines s)
+pub at_start : (s : List ℕ) → rest_text [] s ≡ lines_text (lines s)
 at_start s = ap lines_text (onto_nothing (lines s) (there_are_lines s))
 
 joined : (x : List ℕ) (ls : List (List ℕ)) → 0 < length ls → join_with_byte 10 (x ∷ ls) ≡ x ++ 10 ∷ join_with_byte 10 ls
@@ -65,7 +65,7 @@ left_out : (b : ℕ) (s : List ℕ) → begins_with_cr_lf (b ∷ s) ≡ true →
 left_out b s h = ap (λ (c : Bool). if c then with_lf_for_cr_lf s else b ∷ with_lf_for_cr_lf s) h
 
 -- the byte b ends the line
-line_done : (x : List ℕ) (b : ℕ) (s : List ℕ) → is_one_of line_ends b ≡ true → begins_with_cr_lf (b ∷ s) ≡ false
+pub line_done : (x : List ℕ) (b : ℕ) (s : List ℕ) → is_one_of line_ends b ≡ true → begins_with_cr_lf (b ∷ s) ≡ false
     → rest_text x (b ∷ s) ≡ trimmed_end white_space x ++ 10 ∷ rest_text [] s
 line_done x b s is_end single =
     let cut : lines (b ∷ s) ≡ [] ∷ lines s = ap (slice_split (is_one_of line_ends)) (kept b s single)
@@ -109,13 +109,25 @@ left_false true h = h
 left_false false h = refl
 
 -- the byte b ends no line
-no_end : (x : List ℕ) (b : ℕ) (s : List ℕ) (c : Bool)
+pub no_end : (x : List ℕ) (b : ℕ) (s : List ℕ) (c : Bool)
     → begins_with_cr_lf (b ∷ s) ≡ c → (is_one_of line_ends b && not c) ≡ false → rest_text x
     (b ∷ s) ≡ rest_text (x ++ b ∷ []) s
 no_end x b s true e h = before_lf x b s e
 no_end x b s false e h = line_goes_on x b s (left_false (is_one_of line_ends b) h) e
 
 -- ---- the steps of the loop: the line from `start` on was read up to i
+
+-- the line is longer by the byte at i
+pub longer_line : (s : List ℕ) (start i : ℕ) → start ≤ i → i < length s
+    → take (i + 1 - start) (drop start s) ≡ take (i - start) (drop start s) ++ get_or s i 0 ∷ []
+longer_line s start i h within =
+    let more : i + 1 - start ≡ (i - start) + 1 = omega arith in
+    let there : start + (i - start) ≡ i = omega arith in
+    let at : get_or (drop start s) (i - start) 0 ≡ get_or s i 0 = get_or-drop start s (i - start) 0
+    ∙ ap (λ (k : ℕ). get_or s k 0) there in
+    ap (λ (n : ℕ). take n (drop start s)) more
+    ∙ take_more (drop start s) (i - start) 0 (omega (arith, length-drop start s))
+    ∙ ap (λ (a : ℕ). take (i - start) (drop start s) ++ a ∷ []) at
 
 module _ (s text all : List ℕ) (start i : ℕ)
     (rest : text ++ rest_text (take (i - start) (drop start s)) (drop i s) ≡ all) where
@@ -151,15 +163,7 @@ module _ (s text all : List ℕ) (start i : ℕ)
       let t = drop (i + 1) s in
       let x = take (i - start) (drop start s) in
       let front : drop i s ≡ b ∷ t = drop_more s i 0 within in
-      let more : i + 1 - start ≡ (i - start) + 1 = omega arith in
-      let there : start + (i - start) ≡ i = omega arith in
-      let at : get_or (drop start s) (i - start) 0 ≡ b = get_or-drop start s (i - start) 0
-      ∙ ap (λ (k : ℕ). get_or s k 0) there in
-      let longer : take (i + 1 - start) (drop start s) ≡ x ++ b ∷ [] =
-      ap (λ (n : ℕ). take n (drop start s)) more
-      ∙ take_more (drop start s) (i - start) 0 (omega (arith, length-drop start s))
-      ∙ ap (λ (a : ℕ). x ++ a ∷ []) at in
-      ap (λ (l : List ℕ). text ++ rest_text l t) longer
+      ap (λ (l : List ℕ). text ++ rest_text l t) (longer_line s start i h within)
       ∙ ap (λ (l : List ℕ). text ++ l)
       (sym (no_end x b t (begins_with_cr_lf (b ∷ t)) refl
       (ap (λ (l : List ℕ). is_one_of line_ends b && not (begins_with_cr_lf l)) (sym front) ∙ goes_on))

@@ -5,4 +5,6 @@ pub mod ChangesetLemmas
 pub mod ExtrasLemmas
 pub mod DescriptionLemmas
 pub mod EntryLemmas
+pub mod NotedLemmas
+pub mod LengthLemmas
 pub mod ListLemmas

@@ -70,3 +70,10 @@ changeset_fault p q text =
     else if nat_lt text_limit (length text) then Some TextTooLong
     else if node_eq (node_of (changeset_of p q text)) null_node then Some NullNode
     else None
+
+-- what is seen of that before an id is hashed
+abbrev pub fault_before_hashing : Node → Node → List ℕ → Option ChangesetError
+fault_before_hashing p q text =
+    if is_given_twice p q then Some SameParent
+    else if nat_lt text_limit (length text) then Some TextTooLong
+    else None

@@ -3,7 +3,7 @@
 //! A changeset has at most two parents and a text, and is named by the SHA-1 of these. Its parents are an unordered
 //! pair, which is kept in normal form: an absent parent, the null id, stands last, otherwise the lesser stands first.
 ghost use Rattle.std.specs.Prelude.{◌≡◌, ◌++◌, ◌↔◌, ◌≤◌, ◌-◌, ◌==◌, not, length, Some, None, IsTrue, MatchOption, IfOk};
-ghost use Rattle.std.specs.Prelude.{Ok, Err};
+ghost use Rattle.std.specs.Prelude.{MatchResult, Ok, Err};
 ghost use Rattle.std.specs.List.{suffix_len};
 ghost use Rattle.hex.specs.Hex.{IsBytes};
 ghost use Rattle.hg_changeset.specs.Contents.{contents};
@@ -113,8 +113,16 @@ impl Changeset {
             (result ≡ Ok (changeset_of p q text.items))
             (λ fault. result ≡ Err fault) }
     {
-        let node = Changeset::id_of(p, q, &text)?;
-        Ok(Changeset::with_id(node, p, q, text))
+        let Some((first, second)) = normal_form(p, q) else {
+            return Err(ChangesetError::SameParent);
+        };
+        let node = checked_id(first, second, &text)?;
+        Ok(Changeset {
+            node,
+            first,
+            second,
+            text,
+        })
     }
 
     /// The id of the changeset of these parents, in either order, and this text. It takes no memory.
@@ -126,18 +134,10 @@ impl Changeset {
             (λ fault. result ≡ Err fault) }
         ensures node { IfOk result IsNode }
     {
-        let (first, second) = match normal_form(p, q) {
-            Some(parents) => parents,
-            None => return Err(ChangesetError::SameParent),
+        let Some((first, second)) = normal_form(p, q) else {
+            return Err(ChangesetError::SameParent);
         };
-        if text.len() > TEXT_LIMIT {
-            return Err(ChangesetError::TextTooLong);
-        }
-        let node = id_of(first, second, text);
-        if node.is_null() {
-            return Err(ChangesetError::NullNode);
-        }
-        Ok(node)
+        checked_id(first, second, text)
     }
 
     /// The changeset of these parents, in either order, and this text, where its id is known already. Nothing is
@@ -211,6 +211,13 @@ impl Changeset {
     }
 }
 
+/// Whether two parents are one changeset. The null id, which stands for an absent parent, is none.
+pub fn is_given_twice(p: Node, q: Node) -> bool
+    ensures { result ≡ is_given_twice p q }
+{
+    p == q && !p.is_null()
+}
+
 // Where what follows the last LF begins.
 fn start_of_last_line(text: &[u8]) -> usize
     ensures start { result ≡ length text.now - suffix_len (λ b. not (b == 10)) text.now }
@@ -243,6 +250,24 @@ fn normal_form(p: Node, q: Node) -> Option<(Node, Node)>
     }
 }
 
+// The id of the changeset with these parents in normal form and this text.
+fn checked_id(first: Node, second: Node, text: &[u8]) -> Result<Node, ChangesetError>
+    ensures answer { (p q : Node) → IsNormalFormOf p q first second → MatchResult result
+        (λ node. (changeset_fault p q text.now ≡ None) × (node ≡ node_of (contents first second text.now))
+        × IsChangeset (contents first second text.now))
+        (λ fault. changeset_fault p q text.now ≡ Some fault) }
+    ensures node { IfOk result IsNode }
+{
+    if text.len() > TEXT_LIMIT {
+        return Err(ChangesetError::TextTooLong);
+    }
+    let node = id_of(first, second, text);
+    if node.is_null() {
+        return Err(ChangesetError::NullNode);
+    }
+    Ok(node)
+}
+
 // The id of the changeset with these parents and this text: its SHA-1, the lesser parent first.
 fn id_of(p: Node, q: Node, text: &[u8]) -> Node
     ensures id { result ≡ node_of (contents p q text.now) }
@@ -258,20 +283,15 @@ fn id_of(p: Node, q: Node, text: &[u8]) -> Node
 fn parent_bytes(p: Node, q: Node) -> [u8; 40]
     ensures { result ≡ (lesser p q).0 ++ (greater p q).0 }
 {
+    let (lesser, greater) = in_order(p, q);
     let mut bytes = [0; 40];
-    bytes[..20].copy_from_slice(&lesser(p, q).0);
-    bytes[20..].copy_from_slice(&greater(p, q).0);
+    bytes[..20].copy_from_slice(&lesser.0);
+    bytes[20..].copy_from_slice(&greater.0);
     bytes
 }
 
-fn lesser(p: Node, q: Node) -> Node
-    ensures { result ≡ lesser p q }
+fn in_order(p: Node, q: Node) -> (Node, Node)
+    ensures { result ≡ (lesser p q, greater p q) }
 {
-    if p.cmp(&q).is_gt() { q } else { p }
-}
-
-fn greater(p: Node, q: Node) -> Node
-    ensures { result ≡ greater p q }
-{
-    if p.cmp(&q).is_gt() { p } else { q }
+    if p.cmp(&q).is_gt() { (q, p) } else { (p, q) }
 }

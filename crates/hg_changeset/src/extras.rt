@@ -2,12 +2,13 @@
 //!
 //! In the text of an entry they are items `key:value`, ascending by key and joined by NUL. A byte that would end an
 //! item or a line is written as two characters, and so is the backslash that begins such a pair.
-ghost use Rattle.std.specs.Prelude.{◌≡◌, ◌++◌, ◌∷◌, OnOk};
+ghost use Rattle.std.specs.Prelude.{◌≡◌, ◌+◌, ◌-◌, ◌^◌, ◌++◌, ◌∷◌, min, length, OnOk};
 ghost use Rattle.std.specs.List.{list_any, list_all, flat_map};
 ghost use Rattle.hg_changeset.specs.EntryValue.{extra_bytes};
 ghost use Rattle.hg_changeset.specs.Extras.{escape, is_plain, item, extras_text, AscendByKey};
 ghost use Rattle.hg_changeset.specs.Noted.{listed};
 ghost use Rattle.hg_changeset.specs.EntryAnswer.{is_bad_key};
+ghost use Rattle.hg_changeset.specs.Lengths.{is_left_out, len_without};
 
 use std::alloc::AllocError;
 use std::collections::BTreeMap;
@@ -113,5 +114,60 @@ fn push_escape(text: &mut Vec<u8>, b: u8) -> Result<(), AllocError>
         b'\r' => text.extend_from_slice(b"\\r"),
         0 => text.extend_from_slice(b"\\0"),
         _ => Ok(text.push(b)?),
+    }
+}
+
+/// How many bytes the extras take in a text, without the one at a key that is left out. The space before the first, or
+/// the NUL before any other, counts as a byte of each.
+pub(crate) fn extras_len(extra: &BTreeMap<Vec<u8>, Vec<u8>>, left_out: Option<&[u8]>) -> usize
+    ensures len { result ≡ min (len_without left_out.entry (extra_bytes extra.now.entries)) (2 ^ 64 - 1) }
+    ensures ascending { AscendByKey (extra_bytes extra.now.entries) }
+{
+    let mut len: usize = 0;
+    for (key, value) in extra {
+        if !is_left_out(left_out, key) {
+            len = len.saturating_add(extra_len(key, value));
+        }
+    }
+    len
+}
+
+fn is_left_out(left_out: Option<&[u8]>, key: &[u8]) -> bool
+    ensures { result ≡ is_left_out left_out.entry key.now }
+{
+    match left_out {
+        Some(other) => other == key,
+        None => false,
+    }
+}
+
+/// How many bytes an extra takes, and the byte before it.
+pub(crate) fn extra_len(key: &[u8], value: &[u8]) -> usize
+    ensures { result ≡ min (1 + length (item (key.now, value.now))) (2 ^ 64 - 1) }
+{
+    escaped_len(key)
+        .saturating_add(escaped_len(value))
+        .saturating_add(2)
+}
+
+fn escaped_len(bytes: &[u8]) -> usize
+    ensures { result ≡ min (length (flat_map escape bytes.now)) (2 ^ 64 - 1) }
+{
+    if are_plain(bytes) {
+        return bytes.len();
+    }
+    let mut len: usize = 0;
+    for b in bytes {
+        len = len.saturating_add(escape_len(*b));
+    }
+    len
+}
+
+fn escape_len(b: u8) -> usize
+    ensures { result ≡ length (escape b) }
+{
+    match b {
+        b'\\' | b'\n' | b'\r' | 0 => 2,
+        _ => 1,
     }
 }

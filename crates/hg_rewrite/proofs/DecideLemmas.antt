@@ -12,8 +12,10 @@ use Rattle.hg_rewrite.specs.Refusals.{Row, NoneApplies, IsFirstRefusal, unknown_
 use Rattle.hg_rewrite.specs.Refusals.{obsolete_nodes, not_linear, wrong_count, raise, bad_entries, bad_users}
 use Rattle.hg_rewrite.specs.Refusals.{changeset_refused, marker_refused, not_written, not_marked, existing_ids}
 use Rattle.hg_rewrite.specs.Refusals.{refusals}
+use Rattle.hg_rewrite.specs.Memory.{bad_first}
 use Rattle.hg_rewrite.specs.Answer.{IsRefusal, DecideAnswer}
-use Rattle.hg_rewrite.proofs.RowLemmas.{none_both, none_sooner, sooner, later}
+use Rattle.hg_rewrite.proofs.RowLemmas.{none_both, none_sooner, none_later, sooner, later}
+use Rattle.hg_rewrite.proofs.FirstLemmas.{none_first}
 use Rattle.hg_rewrite.proofs.PartLemmas.{admitted}
 
 -- what names a user outside of an entry writes nothing
@@ -32,6 +34,11 @@ module _ (s : ReplicaState) (op : Op) where
   -- what is written has entries that have texts
   pub entries_written : NoneApplies (not_written s op) → NoneApplies (bad_entries op)
   entries_written written = none_sooner (bad_entries op) (map changeset_refused (new_changesets s.history op)) written
+
+  -- and a first changeset that is at fault in nothing
+  pub first_written : NoneApplies (not_written s op) → NoneApplies (bad_first s op)
+  first_written written = none_first (new_changesets s.history op)
+      (none_later (bad_entries op) (map changeset_refused (new_changesets s.history op)) written)
 
   -- the users are some, and so are the markers
   pub none_unmarked : NoneApplies (bad_users op) → NoneApplies (map marker_refused (markers s.history op))

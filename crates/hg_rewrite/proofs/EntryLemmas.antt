@@ -1,13 +1,11 @@
 -- An entry with one extra more.
-use Rattle.std.proofs.Common.{◌≡◌, ℕ, ℤ, Bool, true, false, List, [], ◌∷◌, length, map, Option, Some, None, inl, inr}
+use Rattle.std.proofs.Common.{◌≡◌, ℕ, ℤ, true, false, List, [], ◌∷◌, length, map, Option, Some, inl, inr}
 use Rattle.std.proofs.Common.{refl, sym, ap, subst, ◌∙◌, arith}
-use Rattle.std.specs.Prelude.{◌==◌, ◌||◌, if◌then◌else◌}
-use Rattle.std.proofs.lemmas.Bool.{false≢true, or_right}
-use Rattle.std.proofs.lemmas.Option.{none-some}
+use Rattle.std.specs.Prelude.{◌==◌}
+use Rattle.std.proofs.lemmas.Bool.{false≢true}
 use Rattle.std.proofs.lemmas.Bool.Decides.{nat_tests}
-use Rattle.std.specs.List.{AllZip, each_same, list_any}
+use Rattle.std.specs.List.{AllZip, each_same}
 use Rattle.std.specs.Vec.{vec_len}
-use Rattle.std.specs.Option.{option_or}
 use Rattle.std.specs.declared.cmp.Ordering.TheVariants.{Less, Equal, Greater}
 use Rattle.std.specs.declared.vec.Vec.{Vec}
 use Rattle.std.specs.declared.alloc.Global.{Global}
@@ -19,10 +17,9 @@ use Rattle.hex.specs.Hex.{encode_lower}
 use Rattle.hg_changeset.specs.declared.node.Node.{Node}
 use Rattle.hg_changeset.specs.EntryValue.{EntryValue, extra_bytes}
 use Rattle.hg_changeset.specs.declared.entry.EntryError.{EntryError}
-use Rattle.hg_changeset.specs.declared.entry.EntryError.TheVariants.{BadExtraKey}
-use Rattle.hg_changeset.specs.EntryText.{trimmed_user}
-use Rattle.hg_changeset.specs.Noted.{noting}
-use Rattle.hg_changeset.specs.EntryAnswer.{is_bad_key, user_fault, entry_fault}
+use Rattle.hg_changeset.specs.Noted.{also_noting, noting}
+use Rattle.hg_changeset.specs.EntryAnswer.{is_bad_key}
+use Rattle.hg_changeset.proofs.NotedLemmas.{fault_kept, fault_of_noted}
 use Rattle.hg_marker.specs.Texts.{bytes_cmp}
 use Rattle.hg_marker.proofs.TextsLemmas.{vec_cmp}
 use Rattle.hg_rewrite.specs.declared.refusal.Refusal.{Refusal}
@@ -72,11 +69,11 @@ pub noted_entry : (e : EntryValue) (key : List ℕ) (node : Node) (user : List �
 noted_entry e key node user secs offset extra desc a b c d f i =
     record { user = a i; secs = b i; offset = c i; extra = d i; desc = f i }
 
--- without other extras the node is the sole one
-pub noted_alone : (key : List ℕ) (node : Node) (e : EntryValue) → e.extra ≡ []
-    → noting key (encode_lower node.0) e ≡ with_extra key node e
-noted_alone key node e none =
-    ap (λ (extra : List (List ℕ × List ℕ)). record e { extra = put bytes_cmp key (encode_lower node.0) extra }) (sym none)
+-- without other extras it is the sole one
+pub noted_alone : (key value : List ℕ) (e : EntryValue) → e.extra ≡ []
+    → noting key value e ≡ also_noting key value e
+noted_alone key value e none =
+    ap (λ (extra : List (List ℕ × List ℕ)). record e { extra = put bytes_cmp key value extra }) (sym none)
 
 pub none_counted : (xs : List (List ℕ × List ℕ)) → (length xs == 0) ≡ true → xs ≡ []
 none_counted [] h = refl
@@ -86,69 +83,18 @@ none_counted (x ∷ xs) h =
 
 -- ---- what is noted among the extras mends no fault of the entry
 
-abbrev bad : List ℕ × List ℕ → Bool
-bad x = is_bad_key x.0
-
-or_more : (b c d : Bool) → (c ≡ true → d ≡ true) → (b || c) ≡ true → (b || d) ≡ true
-or_more true c d more h = refl
-or_more false c d more h = more h
-
-bad_kept : (key value : List ℕ) (es : List (List ℕ × List ℕ)) → list_any bad es ≡ true
-    → list_any bad (put bytes_cmp key value es) ≡ true
-bad_kept key value [] h = absurd (false≢true h)
-bad_kept key value (e ∷ es) h =
-    elim (bytes_cmp key e.0) as
-    (λ r. list_any bad (by_order r ((key, value) ∷ e ∷ es) ((e.0, value) ∷ es) (e ∷ put bytes_cmp key value es))
-    ≡ true) [
-      | Less ↦ or_right (is_bad_key key) (list_any bad (e ∷ es)) h
-      | Equal ↦ h
-      | Greater ↦ or_more (is_bad_key e.0) (list_any bad es) (list_any bad (put bytes_cmp key value es))
-          (bad_kept key value es) h
-    ]
-
-fault_of_either : (user : Option EntryError) (b c : Bool) (f : EntryError) → (b ≡ true → c ≡ true)
-    → option_or user (if b then Some BadExtraKey else None) ≡ Some f
-    → option_or user (if c then Some BadExtraKey else None) ≡ Some f
-fault_of_either (Some u) b c f more h = h
-fault_of_either None true c f more h = ap (λ (t : Bool). if t then Some BadExtraKey else None) (more refl) ∙ h
-fault_of_either None false c f more h = absurd (none-some f h)
-
-fault_kept : (key : List ℕ) (node : Node) (e : EntryValue) (f : EntryError) → entry_fault e ≡ Some f
-    → entry_fault (with_extra key node e) ≡ Some f
-fault_kept key node e f h =
-    fault_of_either (user_fault (trimmed_user e.user)) (list_any bad e.extra)
-    (list_any bad (put bytes_cmp key (encode_lower node.0) e.extra)) f (bad_kept key (encode_lower node.0) e.extra) h
-
 -- an entry that is refused without what is noted is refused with it
 pub refused_noted : (key : List ℕ) (node : Node) (e : EntryValue) (r : Refusal)
     → IsFirstRefusal (entry_refused e ∷ []) r → IsFirstRefusal (entry_refused (with_extra key node e) ∷ []) r
-refused_noted key node e r (inl h) = inl (h.0, fault_kept key node e h.0 h.1, h.2)
+refused_noted key node e r (inl h) = inl (h.0, fault_kept key (encode_lower node.0) e h.0 h.1, h.2)
 refused_noted key node e r (inr h) = absurd h.1
 
 -- one that isn't refused with it isn't without
-pub fine_unnoted : (key : List ℕ) (node : Node) (e : EntryValue) → ¬ (Applies (entry_refused (with_extra key node e)))
+pub fine_unnoted : (key value : List ℕ) (e : EntryValue) → ¬ (Applies (entry_refused (also_noting key value e)))
     → ¬ (Applies (entry_refused e))
-fine_unnoted key node e fine a = fine (a.0, (a.1.0, fault_kept key node e a.1.0 a.1.1, a.1.2))
+fine_unnoted key value e fine a = fine (a.0, (a.1.0, fault_kept key value e a.1.0 a.1.1, a.1.2))
 
 -- ---- a source that is noted among the extras makes no fault either
-
-bad_of_put : (key value : List ℕ) → is_bad_key key ≡ false → (es : List (List ℕ × List ℕ))
-    → list_any bad (put bytes_cmp key value es) ≡ list_any bad es
-bad_of_put key value good [] = rw good refl
-bad_of_put key value good (e ∷ es) =
-    elim (bytes_cmp key e.0) as
-    (λ r. list_any bad (by_order r ((key, value) ∷ e ∷ es) ((e.0, value) ∷ es) (e ∷ put bytes_cmp key value es))
-    ≡ list_any bad (e ∷ es)) [
-      | Less ↦ rw good refl
-      | Equal ↦ refl
-      | Greater ↦ ap (λ (b : Bool). is_bad_key e.0 || b) (bad_of_put key value good es)
-    ]
-
-fault_of_noted : (key : List ℕ) → is_bad_key key ≡ false → (node : Node) (e : EntryValue)
-    → entry_fault (with_extra key node e) ≡ entry_fault e
-fault_of_noted key good node e =
-    ap (λ (b : Bool). option_or (user_fault (trimmed_user e.user)) (if b then Some BadExtraKey else None))
-    (bad_of_put key (encode_lower node.0) good e.extra)
 
 -- the row of an entry with this fault
 abbrev row_of : Option EntryError → Row
@@ -157,4 +103,5 @@ row_of fault r = (f : EntryError) × (fault ≡ Some f) × (r ≡ Fault (Entry f
 pub fine_noted : (key : List ℕ) → is_bad_key key ≡ false → (node : Node) (e : EntryValue)
     → NoneApplies (entry_refused e ∷ []) → NoneApplies (entry_refused (with_extra key node e) ∷ [])
 fine_noted key good node e none =
-    subst (λ (o : Option EntryError). NoneApplies (row_of o ∷ [])) (sym (fault_of_noted key good node e)) none
+    subst (λ (o : Option EntryError). NoneApplies (row_of o ∷ []))
+    (sym (fault_of_noted key (encode_lower node.0) e good)) none

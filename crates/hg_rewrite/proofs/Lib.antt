@@ -1,6 +1,7 @@
 pub mod ListLemmas
 pub mod ReadingLemmas
 pub mod RowLemmas
+mod FirstLemmas
 pub mod LineLemmas
 pub mod EntryLemmas
 pub mod ChainLemmas

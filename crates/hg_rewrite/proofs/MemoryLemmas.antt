@@ -13,7 +13,7 @@ use Rattle.hg_rewrite.specs.Refusals.{Row, NoneApplies, IsFirstRefusal, new_pare
 use Rattle.hg_rewrite.specs.Refusals.{public_nodes, obsolete_nodes, not_linear, wrong_count, raise, bad_entries}
 use Rattle.hg_rewrite.specs.Refusals.{bad_users, marker_refused}
 use Rattle.hg_rewrite.specs.Memory.{WalksForHidden, WalksForDescendants, rows_before_descendants, MayWantMemory}
-use Rattle.hg_rewrite.specs.Memory.{MayWantMemoryLater, bad_prune}
+use Rattle.hg_rewrite.specs.Memory.{MayWantMemoryLater, bad_first, bad_prune}
 use Rattle.hg_rewrite.specs.Parts.{made, marker, markers, metadata, new_ids, rewritten, chain}
 use Rattle.hg_rewrite.proofs.RowLemmas.{none_both}
 use Rattle.hg_rewrite.proofs.DecideLemmas.{ArePassed}
@@ -62,17 +62,19 @@ module _ (s : ReplicaState) (pins : List Node) (op : Op) where
       → MayWantMemoryLater s pins op
   wanting_descendants known visible unpublished current walks = inl (before known visible unpublished current, walks)
 
-  pub wanting_later : ArePassed s pins op → NoneApplies (bad_entries op) → NoneApplies (bad_users op)
-      → NoneApplies (bad_prune s op) → MayWantMemoryLater s pins op
-  wanting_later passed entered named pruned =
-      let written = bad_entries op ++ (bad_users op ++ bad_prune s op) in
+  pub wanting_later : ArePassed s pins op → NoneApplies (bad_entries op) → NoneApplies (bad_first s op)
+      → NoneApplies (bad_users op) → NoneApplies (bad_prune s op) → MayWantMemoryLater s pins op
+  wanting_later passed entered begun named pruned =
+      let marked = bad_users op ++ bad_prune s op in
+      let written = bad_entries op ++ (bad_first s op ++ marked) in
       inr (
         before passed.known passed.visible passed.unpublished passed.current,
         none_both (not_linear s op) (wrong_count op ++ (raise s op ++ written)) passed.linear
             (none_both (wrong_count op) (raise s op ++ written) passed.counted
             (none_both (raise s op) written passed.lowered
-            (none_both (bad_entries op) (bad_users op ++ bad_prune s op) entered
-            (none_both (bad_users op) (bad_prune s op) named pruned)))),
+            (none_both (bad_entries op) (bad_first s op ++ marked) entered
+            (none_both (bad_first s op) marked begun
+            (none_both (bad_users op) (bad_prune s op) named pruned))))),
       )
 
 -- ---- the marker of a prune

@@ -30,6 +30,10 @@ pub none_sooner : (xs ys : List Row) → NoneApplies (xs ++ ys) → NoneApplies 
 none_sooner [] ys none = tt
 none_sooner (x ∷ xs) ys none = (none.0, none_sooner xs ys none.1)
 
+pub none_later : (xs ys : List Row) → NoneApplies (xs ++ ys) → NoneApplies ys
+none_later [] ys none = none
+none_later (x ∷ xs) ys none = none_later xs ys none.1
+
 -- none of the first rows applies
 pub later : (xs ys : List Row) (r : Refusal) → NoneApplies xs → IsRefusal ys r → IsRefusal (xs ++ ys) r
 later xs ys r none (inl e) = inl e

@@ -15,13 +15,13 @@ use Rattle.hg_rewrite.specs.declared.refusal.Refusal.TheVariants.{Unknown, Hidde
 use Rattle.hg_rewrite.specs.declared.refusal.Refusal.TheVariants.{Count, Raise, Fault, Exists, NoMemory}
 use Rattle.hg_rewrite.specs.declared.refusal.Cause.{Cause}
 use Rattle.hg_rewrite.specs.declared.refusal.Cause.TheVariants.{Entry, Changeset, Marker}
-use Rattle.hg_rewrite.specs.Parts.{entries, new_changesets, new_ids, markers, rewritten}
+use Rattle.hg_rewrite.specs.Parts.{NewChangeset, entries, new_changesets, new_ids, markers, rewritten}
 use Rattle.hg_rewrite.specs.Refusals.{Row, NoneApplies, IsFirstRefusal, where_so, unknown, unknown_parent}
 use Rattle.hg_rewrite.specs.Refusals.{unknown_nodes}
 use Rattle.hg_rewrite.specs.Refusals.{targets, new_parents, hidden, hidden_parents, is_public, public_nodes}
 use Rattle.hg_rewrite.specs.Refusals.{is_obsolete}
 use Rattle.hg_rewrite.specs.Refusals.{obsolete_nodes, not_linear, wrong_count, raise, entry_refused, changeset_refused}
-use Rattle.hg_rewrite.specs.Refusals.{user_refused, marker_refused, users, bad_entries, bad_users, not_written}
+use Rattle.hg_rewrite.specs.Refusals.{user_refused, marker_refused, users, bad_users, not_written, unwritten}
 use Rattle.hg_rewrite.specs.Refusals.{not_marked}
 use Rattle.hg_rewrite.specs.Refusals.{existing, existing_ids, refusals}
 
@@ -88,6 +88,11 @@ existing_tells s (n ∷ ns) = (where_so_tells _ (Exists n) (λ e. cc), existing_
 pub entries_tell : (es : List EntryValue) → AreTelling (map entry_refused es)
 entries_tell es = mapped entry_refused (λ e. fault_tells (entry_fault e) Entry) es
 
+pub written_tell : (es : List EntryValue) (new : List NewChangeset) → AreTelling (unwritten es new)
+written_tell es new =
+    both (map entry_refused es) (map changeset_refused new) (entries_tell es)
+    (mapped changeset_refused (λ n. fault_tells (changeset_fault n.p n.q n.text) Changeset) new)
+
 pub users_tell : (op : Op) → AreTelling (bad_users op)
 users_tell op = mapped user_refused (λ user. fault_tells (user_fault (trimmed_user user)) Entry) (users op)
 
@@ -117,11 +122,7 @@ module _ (s : ReplicaState) (op : Op) where
   raise_tells = (where_so_tells _ Raise (λ e. cc), tt)
 
   unwritten_tells : AreTelling (not_written s op)
-  unwritten_tells =
-      both (bad_entries op) (map changeset_refused (new_changesets s.history op))
-      (entries_tell (entries op))
-      (mapped changeset_refused (λ n. fault_tells (changeset_fault n.p n.q n.text) Changeset)
-      (new_changesets s.history op))
+  unwritten_tells = written_tell (entries op) (new_changesets s.history op)
 
   unmarked_tells : AreTelling (not_marked s op)
   unmarked_tells =

@@ -1,16 +1,19 @@
 //! The new changesets of an operation.
 //!
-//! Memory is taken only where each entry has a text: a sole entry is looked at as it is written, which comes first, and
-//! several are looked at before the first of them is. All are written before the first changeset is made, since the
-//! refusals of entries come first. Each changeset after the first stands on the one before.
-ghost use Rattle.std.specs.Prelude.{◌≡◌, ◌==◌, ◌<◌, ◌∷◌, [], Contains, IfOk, OnErr, IsErrOf, length, map};
+//! Memory is taken only where each entry has a text, and the first of them is short enough for a changeset on its
+//! parents: a sole entry is looked at as it is written, which comes first, and several are looked at before the first
+//! of them is. All are written before the first changeset is made, since the refusals of entries come first. Each
+//! changeset after the first stands on the one before.
+ghost use Rattle.std.specs.Prelude.{◌≡◌, ◌==◌, ◌<◌, ◌∷◌, [], Contains, IfOk, OnErr, IsErrOf, MatchResult, ℕ, List};
+ghost use Rattle.std.specs.Prelude.{length, map, nat_lt};
 ghost use Rattle.hg_changeset.specs.Contents.{Contents};
-ghost use Rattle.hg_changeset.specs.Changeset.{IsChangeset};
+ghost use Rattle.hg_changeset.specs.Changeset.{IsChangeset, fault_before_hashing, text_limit};
 ghost use Rattle.hg_changeset.specs.EntryAnswer.{EntryAnswer};
+ghost use Rattle.hg_changeset.specs.Noted.{also_noting};
 ghost use Rattle.hg_rewrite.specs.Parts.{with_extra, parents_of_first, made, chain, contents_of, on_parents, written};
-ghost use Rattle.hg_rewrite.specs.Memory.{bad_prune};
-ghost use Rattle.hg_rewrite.specs.Refusals.{NoneApplies, bad_entries, entry_refused, changeset_refused, unwritten};
-ghost use Rattle.hg_rewrite.specs.Refusals.{not_written};
+ghost use Rattle.hg_rewrite.specs.Memory.{bad_first, bad_prune, refused_first};
+ghost use Rattle.hg_rewrite.specs.Refusals.{NoneApplies, IsFirstRefusal, bad_entries, entry_refused};
+ghost use Rattle.hg_rewrite.specs.Refusals.{changeset_refused, not_written, unwritten};
 ghost use Rattle.hg_rewrite.specs.Answer.{Gives, TextsAnswer, entry_refusal};
 ghost use Rattle.hg_graph.specs.Graph.{nodes};
 
@@ -18,7 +21,10 @@ use crate::check::check_entries;
 use crate::op::Op;
 use crate::query::parents_in;
 use crate::refusal::{Cause, Refusal};
-use hg_changeset::{Changeset, Entry, EntryError, Node, entry_text, noted_text};
+use hg_changeset::{
+    Changeset, ChangesetError, Entry, EntryError, Node, check_noted, entry_text, is_given_twice,
+    is_noted_text_too_long, is_text_too_long, noted_text,
+};
 use hg_replica::Replica;
 use smallvec::SmallVec;
 use std::alloc::{AllocError, Global};
@@ -33,6 +39,7 @@ pub(crate) fn new_changesets(
 ) -> Result<Vec<Changeset>, Refusal>
     ensures answer { Gives (not_written replica.now op.now) (made replica.now.history op.now) result }
     ensures memory { IsErrOf result Refusal.NoMemory → NoneApplies (bad_entries op.now) }
+    ensures first { IsErrOf result Refusal.NoMemory → NoneApplies (bad_first replica.now op.now) }
     ensures prune { IsErrOf result Refusal.NoMemory → NoneApplies (bad_prune replica.now op.now) }
     ensures each { IfOk result (λ made. (c : Contents) → Contains made.items c → IsChangeset c) }
 {
@@ -61,6 +68,60 @@ fn parents_of_first(replica: &Replica, nodes: &[Node]) -> (Node, Node)
     }
 }
 
+// Refuses the changesets of these entries where the first, on these parents, is at fault in what is seen before its
+// text is written. The refusals of all entries come before that.
+fn check_first(parents: (Node, Node), entries: &[Entry]) -> Result<(), Refusal>
+    ensures { MatchResult result
+        (λ _. NoneApplies (refused_first (written parents entries.now)))
+        (λ r. IsFirstRefusal (unwritten entries.now (written parents entries.now)) r) }
+{
+    match entries {
+        [] => Ok(()),
+        [first, ..] => match seen_fault(parents, is_text_too_long(first)) {
+            None => Ok(()),
+            Some(fault) => {
+                check_entries(entries)?;
+                Err(Refusal::Fault(Cause::Changeset(fault)))
+            }
+        },
+    }
+}
+
+// The same of the entry with this extra noted.
+fn check_first_noted(
+    parents: (Node, Node),
+    key: &[u8],
+    value: &[u8],
+    entry: &Entry,
+) -> Result<(), Refusal>
+    ensures { let e = also_noting key.now value.now entry.now in MatchResult result
+        (λ _. NoneApplies (refused_first (written parents (e ∷ []))))
+        (λ r. IsFirstRefusal (unwritten (e ∷ []) (written parents (e ∷ []))) r) }
+{
+    match seen_fault(parents, is_noted_text_too_long(entry, key, value)) {
+        None => Ok(()),
+        Some(fault) => match check_noted(entry, key) {
+            Ok(()) => Err(Refusal::Fault(Cause::Changeset(fault))),
+            Err(fault) => Err(Refusal::Fault(Cause::Entry(fault))),
+        },
+    }
+}
+
+// What is seen of a changeset on these parents before its text is written, if it is known whether that is too long.
+fn seen_fault(parents: (Node, Node), is_too_long: bool) -> Option<ChangesetError>
+    ensures { (text : List ℕ) → is_too_long ≡ nat_lt text_limit (length text)
+        → result ≡ fault_before_hashing parents.0 parents.1 text }
+{
+    let (p, q) = parents;
+    if is_given_twice(p, q) {
+        return Some(ChangesetError::SameParent);
+    }
+    if is_too_long {
+        return Some(ChangesetError::TextTooLong);
+    }
+    None
+}
+
 // The changeset of the entry with the node noted among its extras, on these parents. The entry is copied for it only
 // where it has others, and looked at before.
 fn write_noting(
@@ -73,14 +134,18 @@ fn write_noting(
     ensures answer { let e = with_extra key.now node entry.now in
         Gives (unwritten (e ∷ []) (written parents (e ∷ []))) (map contents_of (written parents (e ∷ []))) result }
     ensures memory { IsErrOf result Refusal.NoMemory → NoneApplies (entry_refused entry.now ∷ []) }
+    ensures first { IsErrOf result Refusal.NoMemory
+        → NoneApplies (refused_first (written parents (with_extra key.now node entry.now ∷ []))) }
     ensures each { IfOk result (λ made. (c : Contents) → Contains made.items c → IsChangeset c) }
 {
+    let digits = node.to_hex();
+    check_first_noted(parents, key, &digits, entry)?;
     if has_no_extra(entry) {
-        return write_noted(alloc, parents, key, node, entry);
+        return write_noted(alloc, parents, key, &digits, entry);
     }
     check_entries(slice::from_ref(entry))?;
     let noted = with_extra(alloc, key, node, entry)?;
-    write_one(alloc, parents, &noted)
+    write_seen(alloc, parents, &noted)
 }
 
 fn has_no_extra(entry: &Entry) -> bool
@@ -89,31 +154,36 @@ fn has_no_extra(entry: &Entry) -> bool
     entry.extra.is_empty()
 }
 
-// The same of an entry without extras.
+// The changeset of an entry without extras with this one noted, after what is seen before was looked at.
 fn write_noted(
     alloc: Global,
     parents: (Node, Node),
     key: &[u8],
-    node: Node,
+    value: &[u8],
     entry: &Entry,
 ) -> Result<Vec<Changeset>, Refusal>
     requires { entry.now.extra ≡ [] }
-    ensures answer { let e = with_extra key.now node entry.now in
+    ensures answer { let e = also_noting key.now value.now entry.now in
         Gives (unwritten (e ∷ []) (written parents (e ∷ []))) (map contents_of (written parents (e ∷ []))) result }
     ensures memory { IsErrOf result Refusal.NoMemory → NoneApplies (entry_refused entry.now ∷ []) }
     ensures each { IfOk result (λ made. (c : Contents) → Contains made.items c → IsChangeset c) }
 {
-    match text_noting(alloc, key, node, entry) {
+    match text_noting(alloc, key, value, entry) {
         Ok(text) => chain_one(alloc, parents, text),
         Err(fault) => Err(entry_refusal(fault)),
     }
 }
 
-fn text_noting(alloc: Global, key: &[u8], node: Node, entry: &Entry) -> Result<Vec<u8>, EntryError>
+fn text_noting(
+    alloc: Global,
+    key: &[u8],
+    value: &[u8],
+    entry: &Entry,
+) -> Result<Vec<u8>, EntryError>
     requires { entry.now.extra ≡ [] }
-    ensures { EntryAnswer (with_extra key.now node entry.now) result }
+    ensures { EntryAnswer (also_noting key.now value.now entry.now) result }
 {
-    noted_text(alloc, entry, key, &node.to_hex())
+    noted_text(alloc, entry, key, value)
 }
 
 // A copy of the entry, with the node noted among its extras.
@@ -147,8 +217,10 @@ fn write(alloc: Global, parents: (Node, Node), entries: &[Entry]) -> Result<Vec<
     ensures answer { Gives (unwritten entries.now (written parents entries.now))
         (map contents_of (written parents entries.now)) result }
     ensures memory { IsErrOf result Refusal.NoMemory → NoneApplies (map entry_refused entries.now) }
+    ensures first { IsErrOf result Refusal.NoMemory → NoneApplies (refused_first (written parents entries.now)) }
     ensures each { IfOk result (λ made. (c : Contents) → Contains made.items c → IsChangeset c) }
 {
+    check_first(parents, entries)?;
     check_entries(entries)?;
     let texts = texts(alloc, entries)?;
     chain(alloc, parents, texts)
@@ -156,6 +228,23 @@ fn write(alloc: Global, parents: (Node, Node), entries: &[Entry]) -> Result<Vec<
 
 // The changeset of the entry, on these parents. No list of texts is made for it.
 fn write_one(alloc: Global, parents: (Node, Node), entry: &Entry) -> Result<Vec<Changeset>, Refusal>
+    ensures answer { Gives (unwritten (entry.now ∷ []) (written parents (entry.now ∷ [])))
+        (map contents_of (written parents (entry.now ∷ []))) result }
+    ensures memory { IsErrOf result Refusal.NoMemory → NoneApplies (entry_refused entry.now ∷ []) }
+    ensures first { IsErrOf result Refusal.NoMemory
+        → NoneApplies (refused_first (written parents (entry.now ∷ []))) }
+    ensures each { IfOk result (λ made. (c : Contents) → Contains made.items c → IsChangeset c) }
+{
+    check_first(parents, slice::from_ref(entry))?;
+    write_seen(alloc, parents, entry)
+}
+
+// The same, after what is seen before its text is written was looked at.
+fn write_seen(
+    alloc: Global,
+    parents: (Node, Node),
+    entry: &Entry,
+) -> Result<Vec<Changeset>, Refusal>
     ensures answer { Gives (unwritten (entry.now ∷ []) (written parents (entry.now ∷ [])))
         (map contents_of (written parents (entry.now ∷ []))) result }
     ensures memory { IsErrOf result Refusal.NoMemory → NoneApplies (entry_refused entry.now ∷ []) }

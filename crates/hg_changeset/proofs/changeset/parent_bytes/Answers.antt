@@ -16,6 +16,6 @@ returns c =
       halves c.copy_from_slice.new.self c.copy_from_slice-2.new.self _ c.copy_from_slice.ensures.len refl,
       c.copy_from_slice.ensures.after,
       c.copy_from_slice-2.ensures.after,
-      c.lesser.ensures,
-      c.greater.ensures,
+      ap (λ pair. pair.0) c.in_order.ensures,
+      ap (λ pair. pair.1) c.in_order.ensures,
     )

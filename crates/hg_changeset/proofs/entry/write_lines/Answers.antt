@@ -5,11 +5,11 @@ use Rattle.hg_changeset.proofs.entry.write_lines.Goals as goal
 pub returns : goal.returns
 returns c =
     rw (
-      c.in_ok-push_line-4.ensures,
-      c.in_ok-push_line-3.ensures,
-      c.in_ok-push.ensures,
-      c.in_ok-push_date_of.ensures,
       c.in_ok-push_line-2.ensures,
+      c.in_ok-push-3.ensures.items,
+      c.in_ok-push-2.ensures,
+      c.in_ok-push_date_of.ensures,
+      c.in_ok-push.ensures.items,
       c.in_ok-push_line.ensures,
       c.in_ok-extend_from_slice.ensures.items,
       c.in_ok-text.ensures.items,

@@ -1,28 +1,35 @@
-use Rattle.std.proofs.Common.{List, ◌∷◌, [], map, ap, subst, ◌∙◌, Err}
-use Rattle.hg_changeset.specs.EntryText.{entry_text}
-use Rattle.hg_rewrite.specs.Parts.{NewChangeset, contents_of, on_parents, written}
-use Rattle.hg_rewrite.specs.Refusals.{entry_refused, changeset_refused}
-use Rattle.hg_rewrite.specs.Answer.{Gives}
-use Rattle.hg_rewrite.proofs.ChainLemmas.{chain_of_one, wanting_entry, written_entry}
-use Rattle.hg_rewrite.proofs.MemoryLemmas.{told}
-use Rattle.hg_rewrite.proofs.RowLemmas.{gives_later}
+use Rattle.std.proofs.Common.{List, inr, subst}
+use Rattle.std.proofs.lemmas.Result.{err_from_is_err_and}
+use Rattle.hg_changeset.specs.EntryValue.{EntryValue}
+use Rattle.hg_rewrite.specs.Parts.{written}
+use Rattle.hg_rewrite.specs.Refusals.{NoneApplies, IsFirstRefusal, unwritten}
+use Rattle.hg_rewrite.specs.Memory.{refused_first}
+use Rattle.hg_rewrite.proofs.MemoryLemmas.{told, never}
+use Rattle.hg_rewrite.proofs.TableLemmas.{written_tell}
 use Rattle.hg_rewrite.proofs.changesets.write_one.Goals as goal
 
-pub returns-in-Ok-clause-answer : goal.returns-in-Ok-clause-answer
-returns-in-Ok-clause-answer c =
-    let e = c.args.entry.now in
-    let on = c.args.parents in
-    gives_later (entry_refused e ∷ []) (map changeset_refused (written on (e ∷ [])))
-    (map contents_of (written on (e ∷ []))) c.chain_one.result (written_entry e c.in-Ok.text c.in-Ok.ensures, tt)
-    (subst (λ (ns : List NewChangeset). Gives (map changeset_refused ns) (map contents_of ns) c.chain_one.result)
-    (ap (λ t. on_parents on t ∷ []) c.in-Ok.ensures.2 ∙ chain_of_one on (entry_text e)) c.chain_one.ensures.answer)
+pub returns-in_err-check_first-clause-answer : goal.returns-in_err-check_first-clause-answer
+returns-in_err-check_first-clause-answer c =
+    let p = err_from_is_err_and c.from_residual.result c.from_residual.ensures.1 in
+    let r = c.in_err-check_first.field-0.0 in
+    rw (p.1, p.2) (inr (subst (λ (es : List EntryValue). IsFirstRefusal (unwritten es (written c.args.parents es)) r)
+    c.from_ref.ensures.value c.in_err-check_first.ensures))
 
-pub returns-in-Ok-clause-memory : goal.returns-in-Ok-clause-memory
-returns-in-Ok-clause-memory c = λ e. (written_entry c.args.entry.now c.in-Ok.text c.in-Ok.ensures, tt)
+pub returns-in_err-check_first-clause-memory : goal.returns-in_err-check_first-clause-memory
+returns-in_err-check_first-clause-memory c =
+    let es = c.from_ref.result.now in
+    let r = c.in_err-check_first.field-0.0 in
+    λ e. never (unwritten es (written c.args.parents es)) r (written_tell es (written c.args.parents es))
+    c.in_err-check_first.ensures (told _ r c.from_residual.ensures.1 e)
 
-pub returns-in-Err-clause-memory : goal.returns-in-Err-clause-memory
-returns-in-Err-clause-memory c = λ e. (
-  wanting_entry c.args.entry.now c.in-Err.fault c.in-Err.ensures
-      (told (Err c.entry_refusal.result) _ c.entry_refusal.ensures e),
-  tt,
-)
+pub returns-in_err-check_first-clause-first : goal.returns-in_err-check_first-clause-first
+returns-in_err-check_first-clause-first c =
+    let es = c.from_ref.result.now in
+    let r = c.in_err-check_first.field-0.0 in
+    λ e. never (unwritten es (written c.args.parents es)) r (written_tell es (written c.args.parents es))
+    c.in_err-check_first.ensures (told _ r c.from_residual.ensures.1 e)
+
+pub returns-clause-first : goal.returns-clause-first
+returns-clause-first c = λ e.
+    subst (λ (es : List EntryValue). NoneApplies (refused_first (written c.args.parents es))) c.from_ref.ensures.value
+    c.in_ok-check_first.ensures

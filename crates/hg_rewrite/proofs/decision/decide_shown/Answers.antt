@@ -10,7 +10,7 @@ use Rattle.hg_rewrite.proofs.PartLemmas.{part_is}
 use Rattle.hg_rewrite.proofs.DecideLemmas.{ArePassed, refused_public, refused_obsolete}
 use Rattle.hg_rewrite.proofs.DecideLemmas.{refused_not_linear, refused_count, refused_raise, refused_unwritten}
 use Rattle.hg_rewrite.proofs.DecideLemmas.{refused_unmarked, refused_user, refused_existing}
-use Rattle.hg_rewrite.proofs.DecideLemmas.{entries_written, none_unmarked, marks_refused, decided}
+use Rattle.hg_rewrite.proofs.DecideLemmas.{entries_written, first_written, none_unmarked, marks_refused, decided}
 use Rattle.hg_rewrite.proofs.TableLemmas.{public_tells, obsolete_tells, count_tells, raise_tells, users_tell}
 use Rattle.hg_rewrite.proofs.MemoryLemmas.{told, never, wanting_descendants, wanting_later}
 use Rattle.hg_rewrite.proofs.MemoryLemmas.{no_prune, prune_marked, all_marked}
@@ -150,14 +150,16 @@ returns-in_err-changesets-clause-later c = λ pins shown e.
     (told _ c.in_err-changesets.field-0.0 c.from_residual-in_err-changesets.ensures.1 e) in
     wanting_later c.args.replica.now pins c.args.op.now
     (passed (goal.at.returns-in_err-changesets-clause-later c).In_ok-check_raise pins shown)
-    (c.in_err-changesets.ensures.memory memory) c.in_ok-check_pruner.ensures (c.in_err-changesets.ensures.prune memory)
+    (c.in_err-changesets.ensures.memory memory) (c.in_err-changesets.ensures.first memory) c.in_ok-check_pruner.ensures
+    (c.in_err-changesets.ensures.prune memory)
 
 pub returns-in_err-made-clause-later : goal.returns-in_err-made-clause-later
 returns-in_err-made-clause-later c = λ pins shown e.
     let s = c.args.replica.now in
     let op = c.args.op.now in
     wanting_later s pins op (passed (goal.at.returns-in_err-made-clause-later c).In_ok-check_raise pins shown)
-    (entries_written s op c.in_ok-changesets.ensures.answer.0) c.in_ok-check_pruner.ensures
+    (entries_written s op c.in_ok-changesets.ensures.answer.0)
+    (first_written s op c.in_ok-changesets.ensures.answer.0) c.in_ok-check_pruner.ensures
     (no_prune s op (subst (λ cs. 1 < length cs)
     (c.deref.ensures.value ∙ c.in_ok-changesets.ensures.answer.1) c.in_err-made.ensures.memory))
 
@@ -166,7 +168,8 @@ returns-in_err-markers-clause-later c = λ pins shown e.
     let s = c.args.replica.now in
     let op = c.args.op.now in
     wanting_later s pins op (passed (goal.at.returns-in_err-markers-clause-later c).In_ok-check_raise pins shown)
-    (entries_written s op c.in_ok-changesets.ensures.answer.0) c.in_ok-check_pruner.ensures
+    (entries_written s op c.in_ok-changesets.ensures.answer.0)
+    (first_written s op c.in_ok-changesets.ensures.answer.0) c.in_ok-check_pruner.ensures
     (prune_marked s op (c.in_err-markers.ensures.memory (ap (λ x. Err x)
     (told _ c.in_err-markers.field-0.0 c.from_residual-in_err-markers.ensures.1 e))))
 
@@ -174,7 +177,8 @@ returns-in_err-markers-clause-later c = λ pins shown e.
 wanting : (c : In_ok-markers) (pins : List Node) → ArePassed c.args.replica.now pins c.args.op.now
     → MayWantMemoryLater c.args.replica.now pins c.args.op.now
 wanting c pins all = wanting_later c.args.replica.now pins c.args.op.now all
-    (entries_written c.args.replica.now c.args.op.now c.in_ok-changesets.ensures.answer.0) c.in_ok-check_pruner.ensures
+    (entries_written c.args.replica.now c.args.op.now c.in_ok-changesets.ensures.answer.0)
+    (first_written c.args.replica.now c.args.op.now c.in_ok-changesets.ensures.answer.0) c.in_ok-check_pruner.ensures
     (all_marked c.args.replica.now c.args.op.now c.in_ok-markers.ensures.answer.0)
 
 pub returns-in_err-check_new-clause-later : goal.returns-in_err-check_new-clause-later
