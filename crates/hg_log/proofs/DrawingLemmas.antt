@@ -1,14 +1,13 @@
 -- Texts that grow, and places that are drawn one after the other.
-use Rattle.std.proofs.Common.{◌≡◌, ◌+◌, ◌-◌, ◌<◌, ℕ, suc, ◌++◌, [], Bool, Option, refl, ap, ◌∙◌, append_assoc}
-use Rattle.std.proofs.Common.{arith, inl, inr, length, subst, sym}
+use Rattle.std.proofs.Common.{◌≡◌, ◌+◌, ◌-◌, ◌<◌, ℕ, suc, ◌++◌, ◌∷◌, [], Bool, Option, refl, ap, ◌∙◌, sym}
+use Rattle.std.proofs.Common.{arith, append_assoc, append-nil, inl, inr, length, subst, List}
 use Rattle.std.specs.Io.KnownBytes.{Appends}
 use Rattle.std.proofs.KnownBytes.{Appends-trans, Appends-nil}
-use Rattle.std.proofs.lemmas.Option.{same_Some}
 use Rattle.hg_changeset.specs.declared.node.Node.{Node}
 use Rattle.hg_phases.specs.State.{changesets}
 use Rattle.hg_view.specs.Kept.{KeptValue}
-use Rattle.hg_log.specs.Drawings.{ArePlacesDrawn, Extends, Grows, HasId, IsDrawnText, IsLine, IsPlaceDrawn}
-use Rattle.hg_log.specs.Drawings.{IsPlaceShown, IsShown, StandsAt, Text, short_id}
+use Rattle.hg_log.specs.Drawings.{ArePieces, ArePlacesGiven, Extends, Grows, HasId, IsDrawnAt, IsDrawnText, IsLine}
+use Rattle.hg_log.specs.Drawings.{IsPlaceGiven, IsPlaceShown, StandsAt, Text, short_id}
 
 -- ---- texts that grow
 
@@ -42,40 +41,76 @@ drawn_text n line a b c has written below = (
   Appends-trans a b c written.0 below.0 written.2 below.1,
 )
 
+-- ---- pieces
+
+-- one more of these
+pub pieces_more : {A B : Type 0} (Gives : A → List B → Type 0) (xs : List A) (x : A) (items others : List B)
+    → ArePieces Gives xs items → Gives x others → ArePieces Gives (xs ++ x ∷ []) (items ++ others)
+pieces_more {B = B} Gives [] x items others none next =
+    (others, [], next, refl, ap (λ (l : List B). l ++ others) none ∙ sym (append-nil others))
+pieces_more {B = B} Gives (y ∷ xs) x items others (first, rest, is, are, same) next = (
+  first,
+  rest ++ others,
+  is,
+  pieces_more Gives xs x rest others are next,
+  ap (λ (l : List B). l ++ others) same ∙ append_assoc first rest others,
+)
+
 -- ---- places
+
+-- the places from this one on gave so much
+abbrev pub AreGivenFrom : {A : Type 0} → (ℕ → List A → Type 0) → KeptValue → Bool → ℕ → List A → Type 0
+AreGivenFrom Gives kept shows_hidden place items =
+    (count : ℕ) × (place + count ≡ length (changesets kept.replica.history))
+    × ArePlacesGiven Gives kept shows_hidden place count items
+
+-- no place gave nothing
+pub none_given : {A : Type 0} (Gives : ℕ → List A → Type 0) (kept : KeptValue) (shows_hidden : Bool) (place : ℕ)
+    → place ≡ length (changesets kept.replica.history) → AreGivenFrom {A = A} Gives kept shows_hidden place []
+none_given Gives kept shows_hidden place end = (0, omega (arith, end), refl)
+
+-- the place below those that gave so much
+pub next_given : {A : Type 0} (Gives : ℕ → List A → Type 0) (kept : KeptValue) (shows_hidden : Bool) (place : ℕ)
+    (items here : List A) → 0 < place → AreGivenFrom Gives kept shows_hidden place items
+    → IsPlaceGiven Gives kept shows_hidden (place - 1) here
+    → AreGivenFrom Gives kept shows_hidden (place - 1) (items ++ here)
+next_given Gives kept shows_hidden place items here within given next =
+    let same : place ≡ (place - 1) + 1 = omega arith in
+    let count : (place - 1) + suc given.0 ≡ length (changesets kept.replica.history) = omega (arith, given.1) in
+    let P : ℕ → Type 0 = λ k. ArePlacesGiven Gives kept shows_hidden k given.0 items in (
+      suc given.0,
+      count,
+      (items, here, subst P same given.2, next, refl),
+    )
 
 -- the places from this one on are drawn
 abbrev pub AreDrawnFrom : KeptValue → Bool → ℕ → Option Text → Option Text → Type 0
 AreDrawnFrom kept shows_hidden place held holds =
-    (count : ℕ) × (text : Text) × (place + count ≡ length (changesets kept.replica.history))
-    × ArePlacesDrawn kept shows_hidden place count text × Appends held holds text
+    (text : Text) × AreGivenFrom (IsDrawnAt kept) kept shows_hidden place text × Appends held holds text
+
+pub none_drawn : (kept : KeptValue) (shows_hidden : Bool) (place : ℕ) (held : Option Text)
+    → place ≡ length (changesets kept.replica.history) → AreDrawnFrom kept shows_hidden place held held
+none_drawn kept shows_hidden place held end =
+    ([], none_given (IsDrawnAt kept) kept shows_hidden place end, Appends-nil held)
 
 pub shown_place : (kept : KeptValue) (shows_hidden : Bool) (place : ℕ) (a b : Option Text)
     → IsPlaceShown kept shows_hidden place
     → ((n : Node) × (text : Text) × StandsAt kept place n × IsDrawnText n text × Appends a b text)
-    → (here : Text) × IsPlaceDrawn kept shows_hidden place here × Appends a b here
-shown_place kept shows_hidden place a b shown drawn =
-    let same = same_Some shown.0 drawn.0 (sym shown.1 ∙ drawn.2) in
-    let is_shown = subst (λ (n : Node). IsShown kept shows_hidden n) same shown.2 in
-    (drawn.1, inl (drawn.0, drawn.2, is_shown, drawn.3), drawn.4)
+    → (here : Text) × IsPlaceGiven (IsDrawnAt kept) kept shows_hidden place here × Appends a b here
+shown_place kept shows_hidden place a b shown drawn = (drawn.1, inl (shown, (drawn.0, drawn.2, drawn.3)), drawn.4)
 
 pub hidden_place : (kept : KeptValue) (shows_hidden : Bool) (place : ℕ) (a : Option Text)
     → ¬ (IsPlaceShown kept shows_hidden place)
-    → (here : Text) × IsPlaceDrawn kept shows_hidden place here × Appends a a here
+    → (here : Text) × IsPlaceGiven (IsDrawnAt kept) kept shows_hidden place here × Appends a a here
 hidden_place kept shows_hidden place a hidden = ([], inr (hidden, refl), Appends-nil a)
 
 -- the place below those that are drawn
 pub next_place : (kept : KeptValue) (shows_hidden : Bool) (place : ℕ) (a b c : Option Text) → 0 < place
     → AreDrawnFrom kept shows_hidden place a b
-    → ((here : Text) × IsPlaceDrawn kept shows_hidden (place - 1) here × Appends b c here)
+    → ((here : Text) × IsPlaceGiven (IsDrawnAt kept) kept shows_hidden (place - 1) here × Appends b c here)
     → AreDrawnFrom kept shows_hidden (place - 1) a c
-next_place kept shows_hidden place a b c within drawn next =
-    let same : place ≡ (place - 1) + 1 = omega arith in
-    let count : (place - 1) + suc drawn.0 ≡ length (changesets kept.replica.history) = omega (arith, drawn.2) in
-    let P : ℕ → Type 0 = λ k. ArePlacesDrawn kept shows_hidden k drawn.0 drawn.1 in (
-      suc drawn.0,
-      drawn.1 ++ next.0,
-      count,
-      (drawn.1, next.0, subst P same drawn.3, next.1, refl),
-      Appends-trans a b c drawn.1 next.0 drawn.4 next.2,
-    )
+next_place kept shows_hidden place a b c within drawn next = (
+  drawn.0 ++ next.0,
+  next_given (IsDrawnAt kept) kept shows_hidden place drawn.0 next.0 within drawn.1 next.1,
+  Appends-trans a b c drawn.0 next.0 drawn.2 next.2,
+)

@@ -1,2 +1,6 @@
 pub mod DrawingLemmas
+pub mod EntryLemmas
+pub mod GraphLemmas
+pub mod JsonLemmas
 pub mod KindLemmas
+pub mod NamedLemmas

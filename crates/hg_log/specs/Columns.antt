@@ -1,5 +1,5 @@
 -- How rows follow one another.
-use Rattle.std.specs.Prelude.{ℕ, ◌≡◌, ◌+◌, ◌<◌, List, Option, Some, slice_get, length, IfSome}
+use Rattle.std.specs.Prelude.{ℕ, ◌≡◌, ◌⊎◌, ◌+◌, ◌<◌, ◌≤◌, List, Option, Some, slice_get, length, IfSome}
 use Rattle.hg_graph.specs.declared.graph.ParentPlaces.{ParentPlaces}
 use Rattle.hg_log.specs.declared.columns.Change.{Change}
 use Rattle.hg_log.specs.declared.columns.Change.TheVariants.{Closing, Staying, Opening}
@@ -11,6 +11,15 @@ abbrev pub HasBelow : Change → ℕ → ℕ → Type 0
 HasBelow Closing width below = below + 1 ≡ width
 HasBelow Staying width below = below ≡ width
 HasBelow Opening width below = below ≡ width + 1
+
+-- the parents are these, in one order or the other
+abbrev pub IsSameParents : ParentPlaces → ParentPlaces → Type 0
+IsSameParents given parents =
+    (parents ≡ given) ⊎ ((parents.first ≡ given.second) × (parents.second ≡ given.first))
+
+-- of two parents the lower one is the first
+abbrev pub IsInOrder : ParentPlaces → Type 0
+IsInOrder parents = (p : ℕ) (q : ℕ) → parents.first ≡ Some p → parents.second ≡ Some q → p ≤ q
 
 -- the column stands for this changeset
 abbrev pub StandsFor : List ℕ → Option ℕ → ℕ → Type 0

@@ -60,25 +60,35 @@ IsDrawnText n text =
 
 -- ---- all that is drawn
 
--- what is drawn of the place: the changeset there, and nothing where it isn't to be drawn
-abbrev pub IsPlaceDrawn : KeptValue → Bool → ℕ → Text → Type 0
-IsPlaceDrawn kept shows_hidden place text =
-    ((n : Node) × StandsAt kept place n × IsShown kept shows_hidden n × IsDrawnText n text)
-    ⊎ ((¬ (IsPlaceShown kept shows_hidden place)) × (text ≡ []))
+-- what the place gives: so much where what stands there is to be drawn, and nothing where it isn't
+abbrev pub IsPlaceGiven : {A : Type 0} → (ℕ → List A → Type 0) → KeptValue → Bool → ℕ → List A → Type 0
+IsPlaceGiven Gives kept shows_hidden place items =
+    (IsPlaceShown kept shows_hidden place × Gives place items)
+    ⊎ ((¬ (IsPlaceShown kept shows_hidden place)) × (items ≡ []))
 
 -- the same of so many places, from this one on, the last first
-abbrev pub ArePlacesDrawn : KeptValue → Bool → ℕ → ℕ → Text → Type 0
-ArePlacesDrawn kept shows_hidden place zero text = text ≡ []
-ArePlacesDrawn kept shows_hidden place (suc count) text =
-    (above : Text) × (here : Text) × ArePlacesDrawn kept shows_hidden (place + 1) count above
-    × IsPlaceDrawn kept shows_hidden place here × (text ≡ above ++ here)
+abbrev pub ArePlacesGiven : {A : Type 0} → (ℕ → List A → Type 0) → KeptValue → Bool → ℕ → ℕ → List A → Type 0
+ArePlacesGiven Gives kept shows_hidden place zero items = items ≡ []
+ArePlacesGiven {A = A} Gives kept shows_hidden place (suc count) items =
+    (above : List A) × (here : List A) × ArePlacesGiven Gives kept shows_hidden (place + 1) count above
+    × IsPlaceGiven Gives kept shows_hidden place here × (items ≡ above ++ here)
 
--- the same of all places: each changeset that is to be drawn comes before its parents
+-- what each of these gives, one after the other
+abbrev pub ArePieces : {A B : Type 0} → (A → List B → Type 0) → List A → List B → Type 0
+ArePieces Gives [] items = items ≡ []
+ArePieces {B = B} Gives (x ∷ xs) items =
+    (first : List B) × (others : List B) × Gives x first × ArePieces Gives xs others × (items ≡ first ++ others)
+
+-- what is drawn of a place: lines of the changeset there
+abbrev pub IsDrawnAt : KeptValue → ℕ → Text → Type 0
+IsDrawnAt kept place text = (n : Node) × StandsAt kept place n × IsDrawnText n text
+
+-- what is drawn of all places: each changeset that is to be drawn comes before its parents
 abbrev pub AreAllDrawn : KeptValue → Bool → Text → Type 0
 AreAllDrawn kept shows_hidden text =
-    ArePlacesDrawn kept shows_hidden 0 (length (changesets kept.replica.history)) text
+    ArePlacesGiven (IsDrawnAt kept) kept shows_hidden 0 (length (changesets kept.replica.history)) text
 
--- a graph has its changesets between other lines
+-- the changesets stand between other lines
 abbrev pub IsGraph : KeptValue → Bool → Text → Type 0
 IsGraph kept shows_hidden text =
     (before : Text) × (boxes : Text) × (after : Text) × AreAllDrawn kept shows_hidden boxes

@@ -24,4 +24,4 @@ abbrev pub mark_of : Kind → List ℕ
 mark_of Ordinary = codes "o"
 mark_of Unstable = codes "*"
 mark_of Obsolete = codes "x"
-mark_of Hidden = codes "%"
+mark_of Hidden = codes "#"

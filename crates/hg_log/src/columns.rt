@@ -2,10 +2,10 @@
 //!
 //! Changesets are drawn from the newest to the oldest. A column stands for each changeset that something above it is a
 //! child of, and that isn't drawn yet. A changeset is drawn in its own column, or in a new one to the right where it is
-//! a head. Its column then goes to its first parent that has none yet, and a new column beside it to the second; where
+//! a head. Its column then goes to its lower parent that has none yet, and a new column beside it to the other; where
 //! its parents have columns already, or it has none, its own closes, and those to the right of it move to the left.
 ghost use Rattle.std.specs.Prelude.{◌≡◌, ◌<◌, ◌++◌, ◌∷◌, [], IfOk, IfSome, OnOk, Some, is_some, length};
-ghost use Rattle.hg_log.specs.Columns.{AreFound, HasBelow, IsRow, StandsFor};
+ghost use Rattle.hg_log.specs.Columns.{AreFound, HasBelow, IsInOrder, IsRow, IsSameParents, StandsFor};
 
 use hg_graph::ParentPlaces;
 use std::alloc::{AllocError, Global};
@@ -111,9 +111,23 @@ impl Columns {
     ) -> Result<Row, AllocError>
         ensures { IfOk result IsRow }
     {
-        let row = next_row(&mut self.places, self.above, place, parents)?;
+        let row = next_row(&mut self.places, self.above, place, in_order(parents))?;
         self.above = row.turn;
         Ok(row)
+    }
+}
+
+// The places of the parents, the lower one first, as Mercurial's graphs have them. An id that is lesser may stand above.
+fn in_order(parents: ParentPlaces) -> ParentPlaces
+    ensures same { IsSameParents parents result }
+    ensures order { IsInOrder result }
+{
+    match (parents.first, parents.second) {
+        (Some(first), Some(second)) if second < first => ParentPlaces {
+            first: parents.second,
+            second: parents.first,
+        },
+        _ => parents,
     }
 }
 

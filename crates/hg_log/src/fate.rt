@@ -1,4 +1,9 @@
 //! What became of a changeset, by the markers that rewrote it.
+ghost use Rattle.std.specs.Prelude.{◌≡◌, codes, option_copied};
+ghost use Rattle.std.specs.Option.{option_map_or};
+ghost use Rattle.std.specs.Str.{bytes_eq};
+ghost use Rattle.hg_log.specs.Fates.{rewriting_of, word_of};
+
 use crate::described::push_name;
 use crate::kind::Kind;
 use hg_changeset::Node;
@@ -41,7 +46,9 @@ pub(crate) fn push_fate(
 
 /// The word for how a marker rewrites: as it notes, where one changeset takes the place of its predecessor; else
 /// `pruned` or `split`.
-pub fn rewriting_word(marker: &Marker) -> &'static [u8] {
+pub fn rewriting_word(marker: &Marker) -> &'static [u8]
+    ensures { result.now ≡ rewriting_of marker.now }
+{
     match marker.successors().len() {
         0 => b"pruned",
         1 => single_word(marker.meta().get(b"operation")),
@@ -49,13 +56,35 @@ pub fn rewriting_word(marker: &Marker) -> &'static [u8] {
     }
 }
 
-fn single_word(operation: Option<&[u8]>) -> &'static [u8] {
+fn single_word(operation: Option<&[u8]>) -> &'static [u8]
+    ensures { result.now ≡ option_map_or word_of (option_copied operation.entry) (codes "rewritten") }
+{
     match operation {
-        Some(b"amend") => b"amended",
-        Some(b"fold") => b"folded",
-        Some(b"relocate") => b"relocated",
-        _ => b"rewritten",
+        Some(operation) => word_of(operation),
+        None => b"rewritten",
     }
+}
+
+// The word for an operation that puts one changeset in place of another.
+fn word_of(operation: &[u8]) -> &'static [u8]
+    ensures { result.now ≡ word_of operation.now }
+{
+    if is_word(operation, b"amend") {
+        return b"amended";
+    }
+    if is_word(operation, b"fold") {
+        return b"folded";
+    }
+    if is_word(operation, b"relocate") {
+        return b"relocated";
+    }
+    b"rewritten"
+}
+
+fn is_word(operation: &[u8], word: &[u8]) -> bool
+    ensures { result ≡ bytes_eq operation.now word.now }
+{
+    operation == word
 }
 
 // Appends what the successors are called, where there are any.

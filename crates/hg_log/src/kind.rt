@@ -20,7 +20,7 @@ pub(crate) enum Kind {
 }
 
 impl Kind {
-    /// The mark in its column: Mercurial's, and `%` for what it wouldn't draw.
+    /// The mark in its column: Mercurial's, and for what it wouldn't draw `#`, which stands for nothing else there.
     pub(crate) fn mark(self) -> u8
         ensures { result ∷ [] ≡ mark_of self }
     {
@@ -28,7 +28,7 @@ impl Kind {
             Kind::Ordinary => b'o',
             Kind::Unstable => b'*',
             Kind::Obsolete => b'x',
-            Kind::Hidden => b'%',
+            Kind::Hidden => b'#',
         }
     }
 }

@@ -2,7 +2,7 @@
 //!
 //! Both show a replica as it is, under the pins of its node: what each changeset is called, its phase, what is unstable
 //! about it, and what became of what was rewritten. [`draw_log`] is the picture that `hg log -G` gives, and
-//! [`draw_graph`] the input of `dot`. Either is written as it is drawn, a line at a time. What else tells of changesets
+//! [`draw_graphs`] the input of `dot`. Either is written as it is drawn, a line at a time. What else tells of changesets
 //! takes the same words: [`push_short_id`], [`push_label`], [`rewriting_word`], and [`write_line`] for a line.
 //!
 //! # Example
@@ -13,26 +13,33 @@
 //!     draw_log(alloc, kept, false, writer)?;
 //!     // All that is held, with every marker, as input of `dot`. Either ends as `DrawFault::Write` where the writer
 //!     // refuses a line, and as `DrawFault::NoMemory` for want of memory. The lines before stay written.
-//!     draw_graph(alloc, b"A", kept, true, writer)
+//!     draw_graphs(alloc, &[NamedNode { name: b"A", kept }], true, writer)
 //! }
 //! ```
 #![tactic(auto)]
 
+mod boxes;
 mod cells;
 mod columns;
 mod described;
 mod dot;
+mod entry;
 mod fate;
 mod fault;
+mod json;
 mod kind;
 mod line;
 mod log;
+mod named;
+mod objects;
 mod shown;
 
 pub use described::{push_label, push_short_id};
-pub use dot::draw_graph;
+pub use dot::draw_graphs;
 pub use fate::rewriting_word;
 pub use fault::DrawFault;
 pub use line::write_line;
 pub use log::draw_log;
+pub use named::NamedNode;
+pub use objects::draw_objects;
 pub use shown::node_at;

@@ -29,8 +29,8 @@ fn end_line(line: &mut Vec<u8>) -> Result<(), AllocError>
     Ok(())
 }
 
-// Writes bytes: only what the writer refuses is a fault here.
-fn write_bytes<W: Write>(bytes: &[u8], writer: &mut W) -> Result<(), DrawFault>
+/// Writes bytes: only what the writer refuses is a fault here.
+pub(crate) fn write_bytes<W: Write>(bytes: &[u8], writer: &mut W) -> Result<(), DrawFault>
     ensures ok { OnOk result (Appends (W.contents writer.old) (W.contents writer.new) bytes.now) }
     ensures err { IfErr result (λ fault. fault ≡ DrawFault.Write) }
 {

@@ -24,7 +24,7 @@ use std::io::Write;
 ///
 /// The changesets come from the last place to the first, so each before its parents, in columns as Mercurial's `log -G`
 /// draws them. A row begins with the columns, where the changeset has `o`, or `*` where it is an orphan or divergent,
-/// `x` where it is obsolete, and `%` where it is hidden. Behind them stand the first 12 digits of its id, its label,
+/// `x` where it is obsolete, and `#` where it is hidden. Behind them stand the first 12 digits of its id, its label,
 /// which is the last line of its text, its phase, and the words for what is unstable. The next line has the edges to
 /// the next row. On it and on lines below stands what became of an obsolete changeset, a line for each marker, by the
 /// labels of its successors or, where they aren't held, by their ids. Say `b` stood on `a`, and `c` on `b`, when `b`

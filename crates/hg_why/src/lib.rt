@@ -38,5 +38,6 @@ mod why;
 
 pub use causes::reasons;
 pub use fate::{Fate, fate_of};
+pub use named::push_named;
 pub use reason::Reason;
 pub use why::write_why;

@@ -11,11 +11,7 @@ use std::alloc::AllocError;
 const MANIFEST_DIGITS: usize = 40;
 
 /// Appends what a changeset is called, if it is held and its text tells that, and its short id.
-pub(crate) fn push_named(
-    line: &mut Vec<u8>,
-    replica: &Replica,
-    node: Node,
-) -> Result<(), AllocError>
+pub fn push_named(line: &mut Vec<u8>, replica: &Replica, node: Node) -> Result<(), AllocError>
     ensures { OnOk result (HasId node line.new.items) }
 {
     push_title(line, replica, node)?;

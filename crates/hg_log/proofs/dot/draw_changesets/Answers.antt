@@ -1,6 +1,9 @@
-use Rattle.std.proofs.Common.{◌-◌, true≢false, sym, ◌∙◌}
-use Rattle.hg_log.proofs.DrawingLemmas.{hidden_place, next_place, shown_place}
+use Rattle.std.proofs.Common.{rules, ◌-◌, true≢false, sym, ◌∙◌}
+use Rattle.hg_log.proofs.DrawingLemmas.{hidden_place, next_place, none_drawn, shown_place}
 use Rattle.hg_log.proofs.dot.draw_changesets.Goals as goal
+
+pub loop-place-init : goal.loop-place-init
+loop-place-init g c = search (rules, none_drawn)
 
 pub loop-place-preserved-in-Continue-1 : goal.loop-place-preserved-in-Continue-1
 loop-place-preserved-in-Continue-1 g c =
