@@ -2,7 +2,7 @@
 use Rattle.std.proofs.Common.{◌≡◌, ◌⊎◌, inl, inr, ℕ, ◌+◌, ◌≤◌, ◌<◌, List, [], ◌∷◌, ◌++◌, length, get_or, slice_get}
 use Rattle.std.proofs.Common.{Bool, true, false, IsTrue, Option, Some, None, IsSome, is_some, IfSome, IsErrOf}
 use Rattle.std.proofs.Common.{Result, Ok, Err, IfOk, IfErr, refl, sym, ap, subst, ◌∙◌, arith, zero-add, zero, suc}
-use Rattle.std.proofs.Common.{true≢false, count_by}
+use Rattle.std.proofs.Common.{true≢false, count_by, cond}
 use Rattle.std.specs.List.{AllByRecursion}
 use Rattle.std.specs.Option.{option_and_then}
 use Rattle.std.specs.Str.Lines.{lines}
@@ -10,6 +10,7 @@ use Rattle.std.specs.declared.vec.Vec.{Vec}
 use Rattle.std.specs.declared.alloc.Global.{Global}
 use Rattle.std.proofs.KnownBytes.{Appends-nil, Appends-trans}
 use Rattle.std.proofs.lemmas.List.{append-nil, length-map}
+use Rattle.std.proofs.lemmas.List.Sums.{sum_by-append}
 use Rattle.std.proofs.lemmas.Bool.{cases_lt}
 use Rattle.std.proofs.lemmas.Option.{same_Some}
 use mathlib.Core.Logic.{⊎_elim}
@@ -47,7 +48,7 @@ use Rattle.hg_script.specs.Endings.{UsesUnknown, AreLabelsFree, IsTakenFault, Is
 use Rattle.hg_script.specs.Endings.{IsCommandFault, IsFaultOf, IsLeftBy, HasWords, Says, IsLineFault, IsOfLine, EndsAt}
 use Rattle.hg_script.specs.Endings.{StaysAtLine, StaysAtName}
 use Rattle.hg_script.specs.Events.{Trace, PeerAnswer, no_trace, joined, Meaning, HasUnknown, IsUnknownWhere}
-use Rattle.hg_script.specs.Events.{IsOperation, TellAbsence, brought, new_labels}
+use Rattle.hg_script.specs.Events.{IsOperation, TellAbsence, brought, is_refusal, new_labels, refusals}
 use Rattle.hg_script.specs.Faults.{IsInputFault, at_line}
 use Rattle.hg_script.specs.Limits.{script_limit}
 use Rattle.hg_names.specs.Names.{AreDistinct}
@@ -301,46 +302,59 @@ stops_later notes number f mid line ls here first fault held between holds wrote
       printed = λ own. Appends-trans held between holds first s.output grew (s.printed own);
     }
 
--- whatever the rest does to the fleet as it is now, behind what is written already, the whole text does to the fleet as
--- it was, and so where it stops
+-- what is refused in two runs, one after the other, is what is refused in both
+refusals_joined : (t u : Trace) → refusals (joined t u) ≡ refusals t + refusals u
+refusals_joined t u = sum_by-append (λ (answer : PeerAnswer). cond (is_refusal answer) 1 0) t.answers u.answers
+
+-- whatever the rest does to the fleet as it is now, behind what is written already and beside so many refusals, the
+-- whole text does to the fleet as it was, and so where it stops
 pub record GoesOn (notes : Notes) (start : Fleet) (all : List Text) (held : Option Text) (number : ℕ) (f : Fleet)
-    (rest : List Text) (holding : Option Text) : Type 0 where
+    (rest : List Text) (holding : Option Text) (refused : ℕ) : Type 0 where
   pub done : (t : Trace) (end : Fleet) (output : Text) (holds : Option Text)
       → WritesLines notes number f rest t end output → Printed holding output holds
       → (whole : Trace) × (text : Text) × WritesLines notes 1 start all whole end text × Printed held text holds
+      × (refused + refusals t ≡ refusals whole)
   pub stopped : (fault : RunFault) (holds : Option Text) → StopsAmong notes number f rest fault holding holds
       → StopsAmong notes 1 start all fault held holds
 
 pub goes_on-start : (notes : Notes) (start : Fleet) (all : List Text) (held : Option Text)
-    → GoesOn notes start all held 1 start all held
+    → GoesOn notes start all held 1 start all held 0
 goes_on-start notes start all held = record {
-  done = λ t end output holds did grew. (t, output, did, grew);
+  done = λ t end output holds did grew. (t, output, did, grew, zero-add (refusals t));
   stopped = λ fault holds s. s;
 }
 
 pub goes_on-more : (notes : Notes) (start : Fleet) (all : List Text) (held : Option Text) (number : ℕ) (f : Fleet)
     (rest : List Text) (holding : Option Text) (line : Text) (more : List Text) (here : Trace) (mid : Fleet)
-    (first : Text) (between : Option Text) → rest ≡ line ∷ more
-    → WritesLine notes number f line here mid first → Printed holding first between
-    → GoesOn notes start all held number f rest holding
-    → GoesOn notes start all held (number + 1) mid more between
-goes_on-more notes start all held number f rest holding line more here mid first between e wrote grew goes = record {
-  done = λ t end output holds did rest_grew. goes.done (joined here t) end (first ++ output) holds
-      (subst (λ (ls : List Text). WritesLines notes number f ls (joined here t) end (first ++ output)) (sym e)
-      (mid, here, t, first, output, wrote, did, refl, refl))
-      (Appends-trans holding between holds first output grew rest_grew);
-  stopped = λ fault holds s. goes.stopped fault holds
-      (subst (λ (ls : List Text). StopsAmong notes number f ls fault holding holds) (sym e)
-      (stops_later notes number f mid line more here first fault holding between holds wrote grew s));
-}
+    (first : Text) (between : Option Text) (refused some : ℕ) → rest ≡ line ∷ more
+    → WritesLine notes number f line here mid first → Printed holding first between → some ≡ refusals here
+    → GoesOn notes start all held number f rest holding refused
+    → GoesOn notes start all held (number + 1) mid more between (refused + some)
+goes_on-more notes start all held number f rest holding line more here mid first between count n e wrote grew is g =
+    record {
+      done = λ t end output holds did rest_grew.
+          let d = g.done (joined here t) end (first ++ output) holds
+          (subst (λ (ls : List Text). WritesLines notes number f ls (joined here t) end (first ++ output)) (sym e)
+          (mid, here, t, first, output, wrote, did, refl, refl))
+          (Appends-trans holding between holds first output grew rest_grew) in
+          let both = refusals_joined here t in
+          (d.0, d.1, d.2, d.3, omega (arith, is, both, d.4));
+      stopped = λ fault holds s. g.stopped fault holds
+          (subst (λ (ls : List Text). StopsAmong notes number f ls fault holding holds) (sym e)
+          (stops_later notes number f mid line more here first fault holding between holds wrote grew s));
+    }
 
 pub goes_on-end : (notes : Notes) (start : Fleet) (all : List Text) (held : Option Text) (number : ℕ) (f : Fleet)
-    (rest : List Text) (holding : Option Text) → rest ≡ [] → GoesOn notes start all held number f rest holding
+    (rest : List Text) (holding : Option Text) (refused : ℕ) → rest ≡ []
+    → GoesOn notes start all held number f rest holding refused
     → (t : Trace) × (text : Text) × WritesLines notes 1 start all t f text × Printed held text holding
-goes_on-end notes start all held number f rest holding none goes =
-    goes.done no_trace f [] holding
+    × (refused ≡ refusals t)
+goes_on-end notes start all held number f rest holding refused none goes =
+    let d = goes.done no_trace f [] holding
     (subst (λ (ls : List Text). WritesLines notes number f ls no_trace f []) (sym none) (refl, refl, refl))
-    (Appends-nil holding)
+    (Appends-nil holding) in
+    let counted : refused + 0 ≡ refusals d.0 = d.4 in
+    (d.0, d.1, d.2, d.3, omega (arith, counted))
 
 -- ---- faults of lines
 
@@ -376,6 +390,13 @@ pub told_of : (number : ℕ) (f : Fleet) (line : Text) (fault told : RunFault) �
     → EndsAt number f line fault → (told ≡ NoMemory) ⊎ EndsAt number f line told
 told_of number f line fault told (inl same) ends = inr (subst (EndsAt number f line) (sym same) ends)
 told_of number f line fault told (inr none) ends = inl none
+
+-- and of one that want of memory may stand for already
+pub told_again : (number : ℕ) (f : Fleet) (line : Text) (fault told : RunFault) → (told ≡ fault) ⊎ (told ≡ NoMemory)
+    → (fault ≡ NoMemory) ⊎ EndsAt number f line fault → (told ≡ NoMemory) ⊎ EndsAt number f line told
+told_again number f line fault told (inl same) (inl none) = inl (same ∙ none)
+told_again number f line fault told (inr want) (inl none) = inl want
+told_again number f line fault told is (inr ends) = told_of number f line fault told is ends
 
 -- ---- whole scripts
 

@@ -1,6 +1,6 @@
 -- Single events, single commands, and whole scripts as one run.
-use Rattle.std.proofs.Common.{◌≡◌, ◌↔◌, ℕ, ◌+◌, List, [], ◌∷◌, ◌++◌, Option, Some, None, Bool, IsTrue, count_by}
-use Rattle.std.proofs.Common.{is_some, ◌≢◌, ◌≤◌, inl, inr, length, map}
+use Rattle.std.proofs.Common.{◌≡◌, ◌↔◌, ℕ, ◌+◌, List, [], ◌∷◌, ◌++◌, Option, Some, None, Bool, true, false, IsTrue}
+use Rattle.std.proofs.Common.{count_by, is_some, ◌≢◌, ◌≤◌, inl, inr, length, map}
 use Rattle.std.proofs.Common.{Result, Ok, Err, OnOk, IfOk, IsOkAnd}
 use Rattle.std.proofs.Common.{refl, sym, ap, subst, ◌∙◌}
 use Rattle.std.specs.Str.Lines.{lines}
@@ -26,20 +26,22 @@ use Rattle.hg_script.specs.declared.command.Command.{Command}
 use Rattle.hg_script.specs.declared.command.Command.TheVariants.{Node as node, Operation as operation, Mark, Offer}
 use Rattle.hg_script.specs.declared.command.Command.TheVariants.{Take, Pull, Report, Agree}
 use Rattle.hg_script.specs.declared.fleet.Fleet.{Fleet}
+use Rattle.hg_script.specs.declared.output.LineName.{LineName}
+use Rattle.hg_script.specs.declared.output.LineName.TheVariants.{Number}
 use Rattle.hg_script.specs.declared.telling.Notes.{Notes}
 use Rattle.hg_script.specs.declared.told.Told.{Told}
 use Rattle.hg_script.specs.declared.told.Told.TheVariants.{Nothing}
 use Rattle.hg_script.specs.Commands.{Text, Word}
 use Rattle.hg_script.specs.Endings.{Says}
 use Rattle.hg_script.specs.Limits.{line_limit}
-use Rattle.hg_script.specs.Events.{Trace, PeerEvent, PeerAnswer, AreTold, no_trace, joined, Ran}
+use Rattle.hg_script.specs.Events.{Trace, PeerEvent, PeerAnswer, AreTold, no_trace, joined, Ran, refusals}
 use Rattle.hg_script.specs.Outputs.{Printed}
-use Rattle.hg_script.specs.Printing.{answer_line, answer_lines, agree_line, IsDone, Prints, PrintsLine}
-use Rattle.hg_script.specs.Printing.{WritesLine, WritesLines, WritesRun, no_notes}
+use Rattle.hg_script.specs.Printing.{answer_line, answer_lines, agree_line, Prints, PrintsLine}
+use Rattle.hg_script.specs.Printing.{ShowsLine, WritesLine, WritesLines, WritesRun, no_notes}
 use Rattle.hg_script.proofs.NoteLemmas.{same_explained, same_traced}
 use Rattle.hg_script.specs.Reports.{IsReport}
 use Rattle.hg_script.specs.Scripts.{places, node_named, Does, DoesWords, DoesLine, DoesLines, IsNewFleet, IsRunTo}
-use Rattle.hg_script.specs.Told.{IsAnswered, IsAskedOf, Shows, told_answers}
+use Rattle.hg_script.specs.Told.{IsAnswered, IsAskedOf, IsDone, Shows, told_answers}
 use Rattle.hg_script.specs.Words.{has_node, words_of}
 
 -- two runs, one after the other, are one
@@ -124,14 +126,14 @@ pulls_ran old taker giver scope answers new p = (
 -- ---- what a command shows
 
 -- the line of an answer alone
-pub one_line : {T E : Type 0} (line : ℕ) (answer : PeerAnswer) (held holds : Option Text) (r : Result T E)
+pub one_line : {T E : Type 0} (line : LineName) (answer : PeerAnswer) (held holds : Option Text) (r : Result T E)
     → OnOk r (Printed held (answer_line line answer) holds)
     → OnOk r (Printed held (answer_lines line (answer ∷ [])) holds)
 one_line line answer held holds r h =
     on_ok_weaker r (subst (λ (u : Text). Printed held u holds) (sym (append-nil (answer_line line answer)))) h
 
 -- and after another
-pub next_line : {T E : Type 0} (line : ℕ) (first answer : PeerAnswer) (held between holds : Option Text)
+pub next_line : {T E : Type 0} (line : LineName) (first answer : PeerAnswer) (held between holds : Option Text)
     (r : Result T E) → Printed held (answer_line line first) between
     → OnOk r (Printed between (answer_line line answer) holds)
     → OnOk r (Printed held (answer_lines line (first ∷ answer ∷ [])) holds)
@@ -142,7 +144,7 @@ next_line line first answer held between holds r grew h =
     (one_line line answer between holds r h)
 
 -- what was shown, where nothing was answered
-alone : (line : ℕ) (t : Trace) (text : Text) → t.answers ≡ [] → text ++ answer_lines line t.answers ≡ text
+alone : (line : LineName) (t : Trace) (text : Text) → t.answers ≡ [] → text ++ answer_lines line t.answers ≡ text
 alone line t text none = ap (λ (answers : List PeerAnswer). text ++ answer_lines line answers) none ∙ append-nil text
 
 -- a command that shows nothing
@@ -154,28 +156,31 @@ quiet old command new held (Err e) shows h = tt
 
 -- what a command shows, and then the refusals of its events, are what it prints
 prints_shown : (line : ℕ) (f : Fleet) (command : Command) (t : Trace) (text : Text) → Shows f command t text
-    → Prints line f command t (text ++ answer_lines line t.answers)
-prints_shown line f (node at) t text e = ap (λ (u : Text). u ++ answer_lines line t.answers) e
-prints_shown line f (operation at op) t text e = ap (λ (u : Text). u ++ answer_lines line t.answers) e
-prints_shown line f (Mark at marking) t text e = ap (λ (u : Text). u ++ answer_lines line t.answers) e
-prints_shown line f (Offer scope at message labels) t text e = ap (λ (u : Text). u ++ answer_lines line t.answers) e
-prints_shown line f (Take at message) t text e = ap (λ (u : Text). u ++ answer_lines line t.answers) e
-prints_shown line f (Pull scope to from) t text e = ap (λ (u : Text). u ++ answer_lines line t.answers) e
+    → Prints line f command t (text ++ answer_lines (Number line) t.answers)
+prints_shown line f (node at) t text e = ap (λ (u : Text). u ++ answer_lines (Number line) t.answers) e
+prints_shown line f (operation at op) t text e = ap (λ (u : Text). u ++ answer_lines (Number line) t.answers) e
+prints_shown line f (Mark at marking) t text e = ap (λ (u : Text). u ++ answer_lines (Number line) t.answers) e
+prints_shown line f (Offer scope at message labels) t text e =
+    ap (λ (u : Text). u ++ answer_lines (Number line) t.answers) e
+prints_shown line f (Take at message) t text e = ap (λ (u : Text). u ++ answer_lines (Number line) t.answers) e
+prints_shown line f (Pull scope to from) t text e = ap (λ (u : Text). u ++ answer_lines (Number line) t.answers) e
 prints_shown line f (Report at) t text (none, (state, there, report)) =
-    (state, there, subst (IsReport at.now state) (sym (alone line t text none)) report)
+    (state, there, subst (IsReport at.now state) (sym (alone (Number line) t text none)) report)
 prints_shown line f (Agree one other) t text (none, (first, second, answer, there, too, same, is)) =
-    (first, second, answer, there, too, same, alone line t text none ∙ is)
+    (first, second, answer, there, too, same, alone (Number line) t text none ∙ is)
 
 pub done : (line : ℕ) (old : Fleet) (command : Command) (told : Told) (new : Fleet) (held between holds : Option Text)
-    → IsAnswered old command told new held between → Printed between (answer_lines line (told_answers told)) holds
-    → IsDone line old command new held holds
+    → IsAnswered old command told new held between
+    → Printed between (answer_lines (Number line) (told_answers told)) holds
+    → IsDone line old command told new held holds
 done line old command told new held between holds (t, text, is, does, shows, grew) more = (
   t,
-  text ++ answer_lines line t.answers,
+  text ++ answer_lines (Number line) t.answers,
+  is,
   does,
   prints_shown line old command t text shows,
-  Appends-trans held between holds text (answer_lines line t.answers) grew
-      (subst (λ (answers : List PeerAnswer). Printed between (answer_lines line answers) holds) is more),
+  Appends-trans held between holds text (answer_lines (Number line) t.answers) grew
+      (subst (λ (answers : List PeerAnswer). Printed between (answer_lines (Number line) answers) holds) is more),
 )
 
 pub reported : (f : Fleet) (at : Word) (state : KeptValue) (held holds : Option Text)
@@ -224,6 +229,12 @@ pub bare_line : (number : ℕ) (old : Fleet) (line : Text) (t : Trace) (new : Fl
     → PrintsLine number old line t text → WritesLine no_notes number old line t new text
 bare_line number old line t new text does prints = (does, (text, prints, (text, refl, refl)))
 
+-- a line of no words shows nothing
+none_shown : (alone : Bool) (number : ℕ) (old : Fleet) (line : Text) → words_of line ≡ []
+    → ShowsLine alone number old line no_trace []
+none_shown false number old line none = inl (none, refl)
+none_shown true number old line none = refl
+
 -- a line of no words is written as nothing
 pub wordless_line : (notes : Notes) (number : ℕ) (old : Fleet) (line : Text) (words : List Word)
     → length line ≤ line_limit → map (λ (w : Word). w.now) words ≡ words_of line → words ≡ []
@@ -232,7 +243,7 @@ wordless_line notes number old line words short mapped none = (
   (short, (words, mapped, inl (none, refl, refl))),
   (
     [],
-    inl (sym mapped ∙ ap (map (λ (w : Word). w.now)) none, refl),
+    none_shown notes.refusals_alone number old line (sym mapped ∙ ap (map (λ (w : Word). w.now)) none),
     ([], same_explained notes.explains [], same_traced notes.traces []),
   ),
 )
@@ -280,3 +291,12 @@ written_run compose notes text start t end output held holds new writes grew = r
   writes = writes;
   printed = grew;
 }
+
+-- and so many of its events were refused
+pub counted_run : (compose : Compose) (notes : Notes) (text : Text) (start : Fleet) (t : Trace) (end : Fleet)
+    (output : Text) (held holds : Option Text) (refused : ℕ) → IsNewFleet (count_by has_node (lines text)) start
+    → WritesLines notes 1 start (lines text) t end output → Printed held output holds → refused ≡ refusals t
+    → (written : WritesRun notes text end.world held holds) × (refused ≡ refusals written.run.trace)
+unfolding run_to written_run
+counted_run compose notes text start t end output held holds refused new writes grew counted =
+    (written_run compose notes text start t end output held holds new writes grew, counted)

@@ -1,5 +1,6 @@
 -- What the commands of a script ask of its world.
-use Rattle.std.specs.Prelude.{ℕ, ◌≡◌, ◌⊎◌, List, [], ◌∷◌, ◌++◌, map, slice_get, Option, Some, None, IsSome}
+use Rattle.std.specs.Prelude.{ℕ, ◌≡◌, ◌⊎◌, List, [], ◌∷◌, ◌++◌, map, slice_get, count_by, Option, Some, None, IsSome}
+use Rattle.std.specs.Prelude.{Bool, true, false}
 use Rattle.std.specs.declared.vec.Vec.{Vec}
 use Rattle.std.specs.declared.alloc.Global.{Global}
 use Rattle.std.specs.List.{AllByRecursion}
@@ -82,6 +83,17 @@ IsTold (Refused refusal) = HasNumber refusal
 
 abbrev pub AreTold : List PeerAnswer → Type 0
 AreTold answers = AllByRecursion IsTold answers
+
+abbrev pub is_refusal : PeerAnswer → Bool
+is_refusal (Accepted change) = false
+is_refusal (Offered number) = false
+is_refusal Marked = false
+is_refusal (Refused refusal) = true
+
+-- how many events were refused. Of the events of a line that is the last alone, since the refusal of an offer ends a
+-- pull, so it is how many lines were
+abbrev pub refusals : Trace → ℕ
+refusals t = count_by is_refusal t.answers
 
 -- the ids of the changesets that the accepted parts bring, in order
 abbrev pub brought : List (Option PartValue) → List Node

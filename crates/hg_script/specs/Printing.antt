@@ -17,22 +17,29 @@ use Rattle.hg_peer.specs.Refusals.{peer_refusal_number, peer_refusal_text}
 use Rattle.hg_script.specs.declared.command.Command.{Command}
 use Rattle.hg_script.specs.declared.command.Command.TheVariants.{Report, Agree}
 use Rattle.hg_script.specs.declared.fleet.Fleet.{Fleet}
+use Rattle.hg_script.specs.declared.output.LineName.{LineName}
+use Rattle.hg_script.specs.declared.output.LineName.TheVariants.{Number, Sentence}
 use Rattle.hg_script.specs.declared.telling.Notes.{Notes}
 use Rattle.hg_script.specs.Commands.{Text}
 use Rattle.hg_script.specs.Endings.{Says}
-use Rattle.hg_script.specs.Events.{Trace, PeerAnswer, no_trace, joined}
+use Rattle.hg_script.specs.Events.{Trace, PeerAnswer, no_trace, joined, refusals}
 use Rattle.hg_script.specs.Outputs.{Printed}
 use Rattle.hg_script.specs.Reports.{line_of, IsReport}
-use Rattle.hg_script.specs.Scripts.{node_named, Does, DoesLine, IsRunOf, IsScriptOf}
+use Rattle.hg_script.specs.Scripts.{node_named, DoesLine, IsRunOf, IsScriptOf}
 use Rattle.hg_script.specs.Words.{words_of}
 
 -- ---- refusals
 
--- the number of the line, what refuses, and the refusal's number and name. Want of memory has no number, and no line
-abbrev pub refusal_line : ℕ → Text → Option ℕ → Text → Text
+-- how a refused line is called: by its number, or by a sentence
+abbrev pub name_of : LineName → Text
+name_of (Number line) = decimal line
+name_of (Sentence line) = codes "hgfleet: line " ++ (decimal line ++ codes " was refused")
+
+-- how the line is called, what refuses, and the refusal's number and name. Want of memory has no number, and no line
+abbrev pub refusal_line : LineName → Text → Option ℕ → Text → Text
 refusal_line line word None name = []
 refusal_line line word (Some number) name =
-    line_of (decimal line ++ (codes ": " ++ (word ++ (codes " " ++ (decimal number ++ (codes " " ++ name))))))
+    line_of (name_of line ++ (codes ": " ++ (word ++ (codes " " ++ (decimal number ++ (codes " " ++ name))))))
 
 -- what refuses: an operation, an offer, the bytes of a message or a pin
 abbrev pub refusing_word : PeerRefusal → Text
@@ -43,7 +50,7 @@ refusing_word (View refusal) = codes "view"
 refusing_word NoMemory = codes "memory"
 
 -- the line of a refused event: by the peer, or by its replica
-abbrev pub refused_line : ℕ → EventRefusal PeerRefusal Fault → Text
+abbrev pub refused_line : LineName → EventRefusal PeerRefusal Fault → Text
 refused_line line NoNode = []
 refused_line line NoMessage = []
 refused_line line (ByActor refusal) =
@@ -51,14 +58,14 @@ refused_line line (ByActor refusal) =
 refused_line line (ByState fault) = refusal_line line (codes "replica") (fault_number fault) (fault_name fault)
 
 -- what is printed of an answer
-abbrev pub answer_line : ℕ → PeerAnswer → Text
+abbrev pub answer_line : LineName → PeerAnswer → Text
 answer_line line (Accepted change) = []
 answer_line line (Offered message) = []
 answer_line line Marked = []
 answer_line line (Refused refusal) = refused_line line refusal
 
 -- what is printed of answers, in order
-abbrev pub answer_lines : ℕ → List PeerAnswer → Text
+abbrev pub answer_lines : LineName → List PeerAnswer → Text
 answer_lines line answers = flat_map (answer_line line) answers
 
 -- ---- commands
@@ -77,12 +84,7 @@ Prints line f (Agree one other) t text =
     (first : KeptValue) × (second : KeptValue) × (answer : Bool) × (node_named f one.now ≡ Some first)
     × (node_named f other.now ≡ Some second) × (IsTrue answer ↔ IsSameState first.replica second.replica)
     × (text ≡ agree_line one.now other.now answer)
-Prints line f command t text = text ≡ answer_lines line t.answers
-
--- the command of the line with this number is done, and what the writer holds grew by what it prints
-abbrev pub IsDone : ℕ → Fleet → Command → Fleet → Option Text → Option Text → Type 0
-IsDone line old command new held holds =
-    (t : Trace) × (text : Text) × Does old command t new × Prints line old command t text × Printed held text holds
+Prints line f command t text = text ≡ answer_lines (Number line) t.answers
 
 -- ---- lines
 
@@ -109,12 +111,18 @@ abbrev pub IsAnnotated : Notes → Text → Text → Type 0
 IsAnnotated notes text written =
     (explained : Text) × IsExplained notes.explains text explained × IsTraced notes.traces explained written
 
--- the line with this number is done, and what it prints is written so
+-- what a line shows before its notes: what it prints, or, where refusals alone are told, a sentence for each
+abbrev pub ShowsLine : Bool → ℕ → Fleet → Text → Trace → Text → Type 0
+ShowsLine false number old line t text = PrintsLine number old line t text
+ShowsLine true number old line t text = text ≡ answer_lines (Sentence number) t.answers
+
+-- the line with this number is done, and what it shows is written so
 abbrev pub WritesLine : Notes → ℕ → Fleet → Text → Trace → Fleet → Text → Type 0
 WritesLine notes number old line t new written =
-    DoesLine old line t new × ((text : Text) × PrintsLine number old line t text × IsAnnotated notes text written)
+    DoesLine old line t new
+    × ((text : Text) × ShowsLine notes.refusals_alone number old line t text × IsAnnotated notes text written)
 
--- the lines, the first of which has this number, are done one after another, and what they print is written so
+-- the lines, the first of which has this number, are done one after another, and what they show is written so
 abbrev pub WritesLines : Notes → ℕ → Fleet → List Text → Trace → Fleet → Text → Type 0
 WritesLines notes number old [] t new written = (t ≡ no_trace) × (new ≡ old) × (written ≡ [])
 WritesLines notes number old (line ∷ lines) t new written =
@@ -136,6 +144,12 @@ abbrev pub WritesScript : Notes → Option Text → Snapshot KeptValue → Optio
 WritesScript notes known world held holds =
     (text : Text) × IsScriptOf known text × WritesRun notes text world held holds
 
+-- the same, where so many of the script's events were refused
+abbrev pub WritesCounted : Notes → Option Text → Snapshot KeptValue → ℕ → Option Text → Option Text → Type 0
+WritesCounted notes known world refused held holds =
+    (text : Text) × IsScriptOf known text
+    × ((written : WritesRun notes text world held holds) × (refused ≡ refusals written.run.trace))
+
 -- nothing is explained or traced, so what is written of a line is what it prints
 abbrev pub no_notes : Notes
-no_notes = record { explains = false; traces = false }
+no_notes = record { explains = false; traces = false; refusals_alone = false }

@@ -1,5 +1,5 @@
 -- What a command was answered, and what it shows beside that.
-use Rattle.std.specs.Prelude.{◌≡◌, ◌↔◌, List, [], ◌∷◌, Option, Some, Bool, IsTrue}
+use Rattle.std.specs.Prelude.{ℕ, ◌≡◌, ◌↔◌, List, [], ◌∷◌, Option, Some, Bool, IsTrue}
 use Rattle.hg_replica.specs.State.{IsSameState}
 use Rattle.hg_view.specs.Kept.{KeptValue}
 use Rattle.hg_fleet.specs.Pulls.{answers_of}
@@ -13,9 +13,9 @@ use Rattle.hg_script.specs.Commands.{Text}
 use Rattle.hg_script.specs.Endings.{IsFaultOf}
 use Rattle.hg_script.specs.Events.{Trace, PeerAnswer, Ran}
 use Rattle.hg_script.specs.Outputs.{Printed}
-use Rattle.hg_script.specs.Printing.{agree_line}
+use Rattle.hg_script.specs.Printing.{agree_line, Prints, PrintsLine, ShowsLine}
 use Rattle.hg_script.specs.Reports.{IsReport}
-use Rattle.hg_script.specs.Scripts.{Does, node_named}
+use Rattle.hg_script.specs.Scripts.{Does, DoesLine, node_named}
 
 -- the answers to the events of a line
 abbrev pub told_answers : Told → List PeerAnswer
@@ -44,6 +44,19 @@ abbrev pub IsAnswered : Fleet → Command → Told → Fleet → Option Text →
 IsAnswered old command told new held holds =
     (t : Trace) × (text : Text) × (told_answers told ≡ t.answers) × Does old command t new × Shows old command t text
     × Printed held text holds
+
+-- the command of the line with this number is done and was answered so, and what the writer holds grew by what it
+-- prints
+abbrev pub IsDone : ℕ → Fleet → Command → Told → Fleet → Option Text → Option Text → Type 0
+IsDone line old command told new held holds =
+    (t : Trace) × (text : Text) × (told_answers told ≡ t.answers) × Does old command t new
+    × Prints line old command t text × Printed held text holds
+
+-- the line with this number is done and was answered so, and shows this, whatever it prints
+abbrev pub IsShown : Bool → ℕ → Fleet → Text → Told → Fleet → Text → Type 0
+IsShown alone number old line told new text =
+    (t : Trace) × (output : Text) × DoesLine old line t new × PrintsLine number old line t output
+    × ShowsLine alone number old line t text × (told_answers told ≡ t.answers)
 
 -- the command ended so, and what the world did until then is a run
 abbrev pub IsEndedBy : Fleet → Command → CommandFault → Fleet → Type 0

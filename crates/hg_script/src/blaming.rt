@@ -10,6 +10,31 @@ use hg_changeset::Changeset;
 use hg_names::are_distinct;
 use std::alloc::Global;
 
+/// A word that the fault of a line is about.
+#[derive(Clone, Copy)]
+pub enum Blamed<'a> {
+    /// A command, or what isn't a name or a phase.
+    Word(&'a [u8]),
+    /// The name of a node.
+    Node(&'a [u8]),
+    /// The label of a changeset.
+    Label(&'a [u8]),
+    /// The name of a message.
+    Message(&'a [u8]),
+}
+
+impl<'a> Blamed<'a> {
+    /// The word itself.
+    pub fn word(self) -> &'a [u8] {
+        match self {
+            Blamed::Word(word) => word,
+            Blamed::Node(name) => name,
+            Blamed::Label(label) => label,
+            Blamed::Message(name) => name,
+        }
+    }
+}
+
 /// The word that the fault of a line is about, if it is about one: the word that is unknown, taken
 /// or bad, or the command whose number of words is wrong. The fleet is as it was before the line.
 pub fn word_at_fault<'a>(
@@ -17,7 +42,7 @@ pub fn word_at_fault<'a>(
     fleet: &Fleet,
     words: &'a [&'a [u8]],
     fault: LineFault,
-) -> Result<Option<&'a [u8]>, CommandFault> {
+) -> Result<Option<Blamed<'a>>, CommandFault> {
     match fault {
         LineFault::TooLong => Ok(None),
         LineFault::UnknownCommand | LineFault::WordCount => Ok(word_at(words, 0)),
@@ -37,20 +62,20 @@ pub fn word_at_fault<'a>(
 // Where the phase stands in the line of a commit or an advance.
 const PHASE: usize = 3;
 
-fn word_at<'a>(words: &'a [&'a [u8]], place: usize) -> Option<&'a [u8]> {
+fn word_at<'a>(words: &'a [&'a [u8]], place: usize) -> Option<Blamed<'a>> {
     match words.get(place) {
-        Some(word) => Some(*word),
+        Some(word) => Some(Blamed::Word(*word)),
         None => None,
     }
 }
 
 // The first word in a name's place that is no name.
-fn bad_name<'a>(words: &'a [&'a [u8]]) -> Option<&'a [u8]> {
+fn bad_name<'a>(words: &'a [&'a [u8]]) -> Option<Blamed<'a>> {
     let has_phase = has_phase(words);
     for place in 1..words.len() {
         let is_phase = has_phase && place == PHASE;
         if !is_phase && !is_name(words[place]) {
-            return Some(words[place]);
+            return Some(Blamed::Word(words[place]));
         }
     }
     None
@@ -65,7 +90,7 @@ fn has_phase(words: &[&[u8]]) -> bool {
 }
 
 // The first name that stands for nothing, in the order in which the command looks them up.
-fn unknown_name<'a>(fleet: &Fleet, command: Command<'a>) -> Option<&'a [u8]> {
+fn unknown_name<'a>(fleet: &Fleet, command: Command<'a>) -> Option<Blamed<'a>> {
     match command {
         Command::Node(_) => None,
         Command::Operation(at, operation) => {
@@ -86,28 +111,28 @@ fn unknown_name<'a>(fleet: &Fleet, command: Command<'a>) -> Option<&'a [u8]> {
     }
 }
 
-fn unknown_node<'a>(fleet: &Fleet, name: &'a [u8]) -> Option<&'a [u8]> {
+fn unknown_node<'a>(fleet: &Fleet, name: &'a [u8]) -> Option<Blamed<'a>> {
     match fleet.place_of(name) {
         Some(_) => None,
-        None => Some(name),
+        None => Some(Blamed::Node(name)),
     }
 }
 
-fn unknown_message<'a>(fleet: &Fleet, name: &'a [u8]) -> Option<&'a [u8]> {
+fn unknown_message<'a>(fleet: &Fleet, name: &'a [u8]) -> Option<Blamed<'a>> {
     match fleet.number_of(name) {
         Some(_) => None,
-        None => Some(name),
+        None => Some(Blamed::Message(name)),
     }
 }
 
-fn unknown_label<'a>(fleet: &Fleet, label: &'a [u8]) -> Option<&'a [u8]> {
+fn unknown_label<'a>(fleet: &Fleet, label: &'a [u8]) -> Option<Blamed<'a>> {
     match fleet.node_of(label) {
         Some(_) => None,
-        None => Some(label),
+        None => Some(Blamed::Label(label)),
     }
 }
 
-fn unknown_among<'a>(fleet: &Fleet, labels: &'a [&'a [u8]]) -> Option<&'a [u8]> {
+fn unknown_among<'a>(fleet: &Fleet, labels: &'a [&'a [u8]]) -> Option<Blamed<'a>> {
     for label in labels {
         match unknown_label(fleet, *label) {
             Some(unknown) => return Some(unknown),
@@ -117,7 +142,7 @@ fn unknown_among<'a>(fleet: &Fleet, labels: &'a [&'a [u8]]) -> Option<&'a [u8]> 
     None
 }
 
-fn unknown_parent<'a>(fleet: &Fleet, parents: Parents<'a>) -> Option<&'a [u8]> {
+fn unknown_parent<'a>(fleet: &Fleet, parents: Parents<'a>) -> Option<Blamed<'a>> {
     match parents {
         Parents::NoParent => None,
         Parents::One(p) => unknown_label(fleet, p),
@@ -126,7 +151,7 @@ fn unknown_parent<'a>(fleet: &Fleet, parents: Parents<'a>) -> Option<&'a [u8]> {
 }
 
 // The first label of what is to be there already that stands for nothing.
-fn unknown_old<'a>(fleet: &Fleet, operation: Operation<'a>) -> Option<&'a [u8]> {
+fn unknown_old<'a>(fleet: &Fleet, operation: Operation<'a>) -> Option<Blamed<'a>> {
     match operation {
         Operation::Commit { parents, .. } => unknown_parent(fleet, parents),
         Operation::Amend { old, .. } | Operation::Split { old, .. } | Operation::Prune { old } => {
@@ -145,14 +170,14 @@ fn taken_name<'a>(
     alloc: Global,
     fleet: &Fleet,
     command: Command<'a>,
-) -> Result<Option<&'a [u8]>, CommandFault> {
+) -> Result<Option<Blamed<'a>>, CommandFault> {
     match command {
-        Command::Node(at) => Ok(Some(at)),
-        Command::Offer(_, _, message, _) => Ok(Some(message)),
+        Command::Node(at) => Ok(Some(Blamed::Node(at))),
+        Command::Offer(_, _, message, _) => Ok(Some(Blamed::Message(message))),
         Command::Operation(at, operation) => {
             let labels = operation.new_labels();
             match twice(alloc, labels)? {
-                Some(label) => Ok(Some(label)),
+                Some(label) => Ok(Some(Blamed::Label(label))),
                 None => match fleet.part_of(at, operation)? {
                     Some(part) => Ok(first_taken(fleet, labels, &part.changesets)),
                     None => Ok(None),
@@ -178,12 +203,12 @@ fn first_taken<'a>(
     fleet: &Fleet,
     labels: &[&'a [u8]],
     changesets: &[Changeset],
-) -> Option<&'a [u8]> {
+) -> Option<Blamed<'a>> {
     for (label, changeset) in labels.iter().zip(changesets) {
         match fleet.node_of(*label) {
             Some(named) => {
                 if named != changeset.node() {
-                    return Some(*label);
+                    return Some(Blamed::Label(*label));
                 }
             }
             None => {}

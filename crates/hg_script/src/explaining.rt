@@ -1,8 +1,11 @@
-//! What a refusal is about, in words that are put behind it.
+//! What a refusal is about, and why nodes don't agree, in words that are put behind what a line prints.
 ghost use Rattle.std.specs.Prelude.{OnOk, true};
 ghost use Rattle.hg_script.specs.Printing.{IsExplained};
 
+use crate::command::Command;
+use crate::disagreement::disagreement;
 use crate::fleet::Fleet;
+use crate::reading::read_command;
 use crate::told::Told;
 use hg_changeset::{Changeset, ChangesetError, EntryError, Node};
 use hg_fleet::PeerAnswer;
@@ -22,11 +25,12 @@ const NOT_LINEAR: &str =
 // How many changesets a split makes and a fold takes.
 const COUNT: &str = ": a split makes 2 to 255, and a fold takes 2 or more";
 
-/// Puts behind the line of a refusal, with which the text ends, what the refusal is about, where lines are explained,
-/// and the line was refused.
+/// Puts a reason behind the line with which the text ends, where lines are explained: what a refusal is about, or why
+/// nodes don't agree. The line has these words.
 pub fn explain(
     alloc: Global,
     fleet: &Fleet,
+    words: &[&[u8]],
     told: &Told,
     explains: bool,
     text: &mut Vec<u8>,
@@ -36,7 +40,7 @@ pub fn explain(
     if !explains {
         return Ok(());
     }
-    match reason_of(alloc, fleet, told)? {
+    match reason_of(alloc, fleet, words, told)? {
         Some(reason) => put_behind(&reason, text),
         None => Ok(()),
     }
@@ -59,10 +63,18 @@ fn put_behind(reason: &[u8], text: &mut Vec<u8>) -> Result<(), AllocError>
     }
 }
 
-// What the refusal of a line is about, where it was refused.
-fn reason_of(alloc: Global, fleet: &Fleet, told: &Told) -> Result<Option<Vec<u8>>, AllocError> {
+// What the refusal of a line is about, where it was refused, and why nodes don't agree, where it asks that.
+fn reason_of(
+    alloc: Global,
+    fleet: &Fleet,
+    words: &[&[u8]],
+    told: &Told,
+) -> Result<Option<Vec<u8>>, AllocError> {
     match told {
-        Told::Nothing => Ok(None),
+        Told::Nothing => match read_command(words) {
+            Ok(Some(Command::Agree(one, other))) => disagreement(alloc, fleet, one, other),
+            _ => Ok(None),
+        },
         Told::Event { at: _, answer } => reason_in(alloc, fleet, answer, None),
         Told::Taken {
             at: _,

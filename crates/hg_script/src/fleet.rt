@@ -10,11 +10,11 @@ ghost use Rattle.hg_script.specs.Endings.{AreLabelsFree, IsDecided, IsFaultOf, I
 ghost use Rattle.hg_script.specs.Endings.{StaysAtLine, StaysAtName};
 ghost use Rattle.hg_names.specs.Labels.{labelled};
 ghost use Rattle.hg_script.specs.Outputs.{Printed};
-ghost use Rattle.hg_script.specs.Printing.{IsDone, agree_line};
+ghost use Rattle.hg_script.specs.Printing.{agree_line};
 ghost use Rattle.hg_script.specs.Scripts.{AreLabelled, IsKept, IsNewFleet, bound_to, each_may_name, ids};
 ghost use Rattle.hg_script.specs.Scripts.{may_name, message_named, node_named, node_names};
 ghost use Rattle.hg_script.specs.Scripts.{places};
-ghost use Rattle.hg_script.specs.Told.{IsAnswered, IsAskedOf, IsEndedBy};
+ghost use Rattle.hg_script.specs.Told.{IsAnswered, IsAskedOf, IsDone, IsEndedBy};
 
 use crate::command::Command;
 use crate::command_fault::CommandFault;
@@ -22,7 +22,7 @@ use crate::event::{check_pulled, run_event};
 use crate::fault::{LineFault, RunFault};
 use crate::marking::Marking;
 use crate::operation::{Names, Operation};
-use crate::output::print_line;
+use crate::output::{LineName, print_line};
 use crate::report::print_report;
 use crate::spare::Spare;
 use crate::told::{Told, print_told};
@@ -176,13 +176,13 @@ impl Fleet {
         spare: &mut Spare,
         writer: &mut W,
     ) -> Result<Told, RunFault>
-        ensures ok { OnOk result (IsDone number self.old command.entry self.new
+        ensures ok { IfOk result (λ told. IsDone number self.old command.entry told self.new
             (W.contents writer.old) (W.contents writer.new)) }
         ensures err { IfErr result (λ fault. IsLeftBy number self.old command.entry fault self.new) }
         ensures unprinted { StaysAtLine result (W.contents writer.old) (W.contents writer.new) }
     {
         match self.answer(command, spare, writer) {
-            Ok(told) => match print_told(self.alloc, writer, number, &told) {
+            Ok(told) => match print_told(self.alloc, writer, LineName::Number(number), &told) {
                 Ok(()) => Ok(told),
                 Err(fault) => Err(fault.at_line(number)),
             },

@@ -44,8 +44,11 @@ const ELSEWHERE: [(&str, &str); 7] = [
     ("log", "hgfleet log AT < SCRIPT"),
 ];
 
-/// What helps with the fault of a line of these words.
-pub fn hint_at_fault(words: &[&[u8]], fault: LineFault) -> Option<Hint> {
+// What helps with a comment behind a command.
+const COMMENT: &str = "a comment takes a line of its own";
+
+/// What helps with the fault of a line of these words, which is about this one.
+pub fn hint_at_fault(words: &[&[u8]], fault: LineFault, word: &[u8]) -> Option<Hint> {
     let command = match words.first() {
         Some(word) => *word,
         None => return None,
@@ -53,6 +56,7 @@ pub fn hint_at_fault(words: &[&[u8]], fault: LineFault) -> Option<Hint> {
     match fault {
         LineFault::UnknownCommand => command_hint(command),
         LineFault::WordCount => count_hint(command, words),
+        LineFault::BadName | LineFault::BadPhase if word.starts_with(b"#") => behind(Some(COMMENT)),
         LineFault::BadName => behind(Some("1 to 32 of A-Z a-z 0-9 _ . -")),
         LineFault::BadPhase => behind(Some(phases_of(command))),
         LineFault::TooLong | LineFault::UnknownName | LineFault::NameTaken => None,
@@ -155,7 +159,7 @@ fn common_back(one: &[u8], other: &[u8]) -> usize {
 fn count_hint(command: &[u8], words: &[&[u8]]) -> Option<Hint> {
     for word in words {
         if word.starts_with(b"#") {
-            return behind(Some("a comment takes a line of its own"));
+            return behind(Some(COMMENT));
         }
     }
     match text_of(&FORMS, command) {

@@ -3,7 +3,7 @@ ghost use Rattle.std.specs.Prelude.{◌≡◌, ◌⊎◌, [], ◌∷◌, ◌++�
 ghost use Rattle.hg_changeset.specs.declared.node.Node.{Node};
 ghost use Rattle.hg_view.specs.declared.refusal.PinRefusal.{PinRefusal};
 ghost use Rattle.hg_script.specs.Outputs.{Printed};
-ghost use Rattle.hg_script.specs.Printing.{agree_line, refusal_line, refused_line, refusing_word};
+ghost use Rattle.hg_script.specs.Printing.{agree_line, name_of, refusal_line, refused_line, refusing_word};
 ghost use Rattle.hg_script.specs.Reports.{heading, line_of, row_line, totals};
 
 use crate::command_fault::CommandFault;
@@ -12,17 +12,41 @@ use hg_peer::PeerRefusal;
 use hg_phases::Phase;
 use hg_world::EventRefusal;
 use std::alloc::Global;
+use std::fmt;
 use std::fmt::Display;
 use std::io::Write;
 
+/// How a refused line is called where its refusal is told.
+#[derive(Clone, Copy)]
+pub enum LineName {
+    /// By its number.
+    Number(usize),
+    /// By a sentence, which says that it was refused.
+    Sentence(usize),
+}
+
+impl fmt::Display for LineName {
+    ghost output = { λ line. Some (name_of line) };
+
+    fn fmt<W: fmt::Write>(&self, f: &mut fmt::Formatter<W>) -> fmt::Result {
+        match *self {
+            LineName::Number(line) => write!(f, "{line}"),
+            LineName::Sentence(line) => write!(f, "hgfleet: line {line} was refused"),
+        }
+    }
+}
+
 /// What the definitions of printed lines give: a refusal, whether two replicas agree, and rows of a report.
 pub fn printed_lines_are_those_of_the_format()
-    ensures refusal { refusal_line 4 (codes "rewrite") (Some 1) (codes "Unknown")
+    ensures refusal { refusal_line (LineName.Number 4) (codes "rewrite") (Some 1) (codes "Unknown")
         ≡ codes "4: rewrite 1 Unknown" ++ 10 ∷ [] }
-    ensures replica { refused_line 12 (EventRefusal.ByState Fault.NullBound)
+    ensures replica { refused_line (LineName.Number 12) (EventRefusal.ByState Fault.NullBound)
         ≡ codes "12: replica 4 NullBound" ++ 10 ∷ [] }
-    ensures view { (n : Node) → refused_line 12 (EventRefusal.ByActor (PeerRefusal.View (PinRefusal.NotPinned n)))
+    ensures view { (n : Node)
+        → refused_line (LineName.Number 12) (EventRefusal.ByActor (PeerRefusal.View (PinRefusal.NotPinned n)))
         ≡ codes "12: view 2 NotPinned" ++ 10 ∷ [] }
+    ensures sentence { refused_line (LineName.Sentence 12) (EventRefusal.ByState Fault.NullBound)
+        ≡ codes "hgfleet: line 12 was refused: replica 4 NullBound" ++ 10 ∷ [] }
     ensures agrees { agree_line (codes "A") (codes "B") true ≡ codes "agree A B: yes" ++ 10 ∷ [] }
     ensures differs { agree_line (codes "A") (codes "B") false ≡ codes "agree A B: no" ++ 10 ∷ [] }
     ensures heading { heading (codes "A") ≡ codes "report A" ++ 10 ∷ [] }
@@ -54,11 +78,11 @@ pub fn print_line<W: Write>(writer: &mut W, line: &mut Vec<u8>) -> Result<(), Co
     Ok(())
 }
 
-/// Writes the line that says which refusal the line with this number met, if the refusal has a number.
+/// Writes the line that says which refusal the line that is called so met, if the refusal has a number.
 pub fn print_refusal<W: Write, D: Display>(
     alloc: Global,
     writer: &mut W,
-    line: usize,
+    line: LineName,
     word: &str,
     number: Option<u8>,
     name: &D,
@@ -76,11 +100,11 @@ pub fn print_refusal<W: Write, D: Display>(
     print_line(writer, &mut bytes)
 }
 
-/// Writes the line that says why the event of the line with this number was refused, if the refusal has a number.
+/// Writes the line that says why the event of the line that is called so was refused, if the refusal has a number.
 pub fn print_refused<W: Write>(
     alloc: Global,
     writer: &mut W,
-    line: usize,
+    line: LineName,
     refusal: &EventRefusal<PeerRefusal, Fault>,
 ) -> Result<(), CommandFault>
     ensures printed { OnOk result

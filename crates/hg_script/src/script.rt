@@ -10,6 +10,7 @@ ghost use Rattle.hg_script.specs.Outputs.{Printed};
 ghost use Rattle.hg_script.specs.Printing.{PrintsLine, WritesLines, WritesRun, WritesScript, no_notes};
 ghost use Rattle.hg_script.specs.Scripts.{DoesLine, IsLeftFleet, IsLeftWorld, IsRunTo};
 ghost use Rattle.hg_script.specs.Stops.{IsStop, IsStoppedBy, StopsAmong};
+ghost use Rattle.hg_script.specs.Told.{told_answers};
 
 use crate::fault::{LineFault, RunFault};
 use crate::fleet::Fleet;
@@ -115,9 +116,9 @@ pub(crate) fn run_line<W: Write>(
     spare: &mut Spare,
     writer: &mut W,
 ) -> Result<Told, RunFault>
-    ensures done { OnOk result ((t : Trace) × (output : Text) × DoesLine fleet.old line.now t fleet.new
+    ensures done { IfOk result (λ told. (t : Trace) × (output : Text) × DoesLine fleet.old line.now t fleet.new
         × PrintsLine number fleet.old line.now t output
-        × Printed (W.contents writer.old) output (W.contents writer.new)) }
+        × Printed (W.contents writer.old) output (W.contents writer.new) × (told_answers told ≡ t.answers)) }
     ensures stopped { IfErr result (EndsAt number fleet.old line.now) }
     ensures unprinted { StaysAtLine result (W.contents writer.old) (W.contents writer.new) }
 {

@@ -2,16 +2,17 @@
 //!
 //! A script with notes does what it does without them, line by line; the notes of a line are written with what it
 //! prints.
-ghost use Rattle.std.specs.Prelude.{◌≡◌, ◌≢◌, ◌≤◌, ◌+◌, ◌⊎◌, [], IfOk, IfErr, OnOk};
+ghost use Rattle.std.specs.Prelude.{◌≡◌, ◌≢◌, ◌≤◌, ◌+◌, ◌⊎◌, [], IfOk, IfErr, OnOk, true, false};
 ghost use Rattle.std.specs.Str.Lines.{lines};
 ghost use Rattle.hg_script.specs.Commands.{Text};
 ghost use Rattle.hg_script.specs.Endings.{EndsAt, IsOfLine};
-ghost use Rattle.hg_script.specs.Events.{Trace};
+ghost use Rattle.hg_script.specs.Events.{Trace, refusals};
 ghost use Rattle.hg_script.specs.Faults.{status_of};
 ghost use Rattle.hg_script.specs.Outputs.{Printed};
-ghost use Rattle.hg_script.specs.Printing.{IsAnnotated, WritesLine, WritesLines, WritesRun, WritesScript};
+ghost use Rattle.hg_script.specs.Printing.{IsAnnotated, WritesCounted, WritesLine, WritesLines, WritesRun};
 ghost use Rattle.hg_script.specs.Scripts.{IsLeftFleet, IsRunTo};
 ghost use Rattle.hg_script.specs.Stops.{IsStop, IsStoppedBy, StopsAmong};
+ghost use Rattle.hg_script.specs.Told.{IsShown};
 ghost use Rattle.hg_script.specs.Words.{words_of};
 ghost use Rattle.hg_script.specs.declared.fault.RunFault.TheVariants.{NoMemory};
 
@@ -23,9 +24,11 @@ use crate::fleet::Fleet;
 use crate::hint::{Hint, hint_at_fault};
 use crate::input::read_script;
 use crate::lines::{count_nodes, cut_line, is_short, words_of};
+use crate::origin::origin_of;
+use crate::output::LineName;
 use crate::script::run_line;
 use crate::spare::Spare;
-use crate::told::Told;
+use crate::told::{Told, print_told};
 use crate::tracing::trace;
 use hg_node_set::IdKeys;
 use hg_peer::Peer;
@@ -33,7 +36,7 @@ use hg_world::runs_compose;
 use std::alloc::{AllocError, Global};
 use std::error::Error;
 use std::fmt;
-use std::io::{Read, Write};
+use std::io::{Read, Write, sink};
 
 /// Which notes a script is run with.
 #[derive(Clone, Copy, PartialEq, Eq, Debug)]
@@ -42,6 +45,17 @@ pub struct Notes {
     pub explains: bool,
     /// Behind what a line prints that was accepted stands a line of what it did.
     pub traces: bool,
+    /// In place of what lines print a sentence is written of each that was refused, and nothing else.
+    pub refusals_alone: bool,
+}
+
+/// What a script with notes leaves.
+#[derive(Drop)]
+pub struct Outcome {
+    /// The fleet as the script leaves it.
+    pub fleet: Fleet,
+    /// How many of its lines were refused.
+    pub refused: usize,
 }
 
 /// What ended a script with notes.
@@ -103,17 +117,17 @@ impl From<hg_join::NoMemory> for ToldFault {
 }
 
 /// [`run_fleet`](crate::run_fleet), with notes on its lines. The lines of the script are done as without notes, and
-/// what they print is written with its notes.
+/// what they show is written with its notes. Beside the fleet it counts the lines that were refused.
 pub fn run_told<R: Read, W: Write>(
     alloc: Global,
     keys: IdKeys,
     reader: &mut R,
     writer: &mut W,
     notes: Notes,
-) -> Result<Fleet, ToldFault>
-    ensures ran { IfOk result (IsLeftFleet (R.remaining reader.old)) }
-    ensures written { IfOk result (λ fleet.
-        WritesScript notes (R.remaining reader.old) fleet.world (W.contents writer.old) (W.contents writer.new)) }
+) -> Result<Outcome, ToldFault>
+    ensures ran { IfOk result (λ outcome. IsLeftFleet (R.remaining reader.old) outcome.fleet) }
+    ensures written { IfOk result (λ outcome. WritesCounted notes (R.remaining reader.old) outcome.fleet.world
+        outcome.refused (W.contents writer.old) (W.contents writer.new)) }
     ensures stopped { IfErr result (λ told.
         IsStop notes (R.remaining reader.old) told.fault (W.contents writer.old) (W.contents writer.new)) }
 {
@@ -127,44 +141,104 @@ fn tell_text<W: Write>(
     text: &[u8],
     writer: &mut W,
     notes: Notes,
-) -> Result<Fleet, ToldFault>
-    ensures ran { IfOk result (IsRunTo text.now) }
-    ensures written { IfOk result (λ fleet.
-        WritesRun notes text.now fleet.world (W.contents writer.old) (W.contents writer.new)) }
+) -> Result<Outcome, ToldFault>
+    ensures ran { IfOk result (λ outcome. IsRunTo text.now outcome.fleet) }
+    ensures written { IfOk result (λ outcome.
+        (written : WritesRun notes text.now outcome.fleet.world (W.contents writer.old) (W.contents writer.new))
+        × (outcome.refused ≡ refusals written.run.trace)) }
     ensures stopped { IfErr result (λ told. (told.fault ≡ NoMemory)
         ⊎ IsStoppedBy notes text.now told.fault (W.contents writer.old) (W.contents writer.new)) }
 {
     let mut fleet = Fleet::new(alloc, keys, count_nodes(text))?;
     runs_compose::<Peer>();
-    tell_lines(alloc, &mut fleet, text, writer, notes)?;
-    Ok(fleet)
+    let mut lost = Vec::new(alloc);
+    match tell_lines(alloc, &mut fleet, text, writer, notes, &mut lost) {
+        Ok(refused) => Ok(Outcome { fleet, refused }),
+        Err(told) => Err(with_origin(alloc, &fleet, text, &lost, told, notes)),
+    }
 }
 
+// The fault that ended the script of this text, with the line that gave the name which it is about, where that is asked
+// for. The lines with these numbers were refused.
+fn with_origin(
+    alloc: Global,
+    fleet: &Fleet,
+    text: &[u8],
+    lost: &[usize],
+    told: ToldFault,
+    notes: Notes,
+) -> ToldFault
+    ensures { (result.fault ≡ told.fault) ⊎ (result.fault ≡ NoMemory) }
+{
+    let ToldFault { fault, word } = told;
+    match word {
+        Some(word) if notes.explains => {
+            match put_origin(alloc, fleet, text, lost, fault, word) {
+                Ok(word) => ToldFault {
+                    fault,
+                    word: Some(word),
+                },
+                Err(_) => ToldFault::from(AllocError),
+            }
+        }
+        word => ToldFault { fault, word },
+    }
+}
+
+// The word, and behind it what is told of the line that gave it.
+fn put_origin(
+    alloc: Global,
+    fleet: &Fleet,
+    text: &[u8],
+    lost: &[usize],
+    fault: RunFault,
+    mut word: String,
+) -> Result<String, CommandFault> {
+    match origin_of(alloc, fleet, text, lost, fault)? {
+        Some(origin) => word.push_str(&origin)?,
+        None => {}
+    }
+    Ok(word)
+}
+
+// It counts the lines that were refused, and notes their numbers.
 fn tell_lines<W: Write>(
     alloc: Global,
     fleet: &mut Fleet,
     text: &[u8],
     writer: &mut W,
     notes: Notes,
-) -> Result<(), ToldFault>
-    ensures done { OnOk result ((t : Trace) × (output : Text)
+    lost: &mut Vec<usize>,
+) -> Result<usize, ToldFault>
+    ensures done { IfOk result (λ refused. (t : Trace) × (output : Text)
         × WritesLines notes 1 fleet.old (lines text.now) t fleet.new output
-        × Printed (W.contents writer.old) output (W.contents writer.new)) }
+        × Printed (W.contents writer.old) output (W.contents writer.new) × (refused ≡ refusals t)) }
     ensures stopped { IfErr result (λ told. (told.fault ≡ NoMemory)
         ⊎ StopsAmong notes 1 fleet.old (lines text.now) told.fault (W.contents writer.old) (W.contents writer.new)) }
 {
     let mut rest = text;
     let mut number = 0usize;
+    let mut refused = 0usize;
     while !rest.is_empty() {
         let (line, after) = cut_line(rest);
         number += 1;
-        tell_line(alloc, fleet, number, line, writer, notes)?;
+        let count = tell_line(alloc, fleet, number, line, writer, notes)?;
+        note_lost(count, number, lost)?;
+        refused += count;
         rest = after;
+    }
+    Ok(refused)
+}
+
+// Notes the number of a line of which so much was refused.
+fn note_lost(count: usize, number: usize, lost: &mut Vec<usize>) -> Result<(), AllocError> {
+    if count > 0 {
+        lost.push(number)?;
     }
     Ok(())
 }
 
-// A line without words does nothing.
+// A line without words does nothing. It counts what was refused.
 fn tell_line<W: Write>(
     alloc: Global,
     fleet: &mut Fleet,
@@ -172,10 +246,11 @@ fn tell_line<W: Write>(
     line: &[u8],
     writer: &mut W,
     notes: Notes,
-) -> Result<(), ToldFault>
-    ensures done { OnOk result ((t : Trace) × (output : Text)
+) -> Result<usize, ToldFault>
+    ensures done { IfOk result (λ refused. (t : Trace) × (output : Text)
         × WritesLine notes number fleet.old line.now t fleet.new output
-        × Printed (W.contents writer.old) output (W.contents writer.new)) }
+        × Printed (W.contents writer.old) output (W.contents writer.new) × (refused ≡ refusals t)) }
+    ensures few { IfOk result (λ refused. refused ≤ 2) }
     ensures stopped { IfErr result (λ told. (told.fault ≡ NoMemory) ⊎ EndsAt number fleet.old line.now told.fault) }
     ensures unwritten { IfErr result (λ told. IsOfLine told.fault → W.contents writer.new ≡ W.contents writer.old) }
 {
@@ -185,12 +260,12 @@ fn tell_line<W: Write>(
     let words = words_of(alloc, line)?;
     let words = words.as_slice();
     if words.is_empty() {
-        return Ok(());
+        return Ok(0);
     }
     tell_words(alloc, fleet, number, line, words, writer, notes)
 }
 
-// Does the line of these words, and writes what it prints with its notes.
+// Does the line of these words, and writes what it shows with its notes. It counts what was refused.
 fn tell_words<W: Write>(
     alloc: Global,
     fleet: &mut Fleet,
@@ -199,26 +274,91 @@ fn tell_words<W: Write>(
     words: &[&[u8]],
     writer: &mut W,
     notes: Notes,
-) -> Result<(), ToldFault>
+) -> Result<usize, ToldFault>
     requires { words_of line.now ≢ [] }
-    ensures done { OnOk result ((t : Trace) × (output : Text)
+    ensures done { IfOk result (λ refused. (t : Trace) × (output : Text)
         × WritesLine notes number fleet.old line.now t fleet.new output
-        × Printed (W.contents writer.old) output (W.contents writer.new)) }
+        × Printed (W.contents writer.old) output (W.contents writer.new) × (refused ≡ refusals t)) }
+    ensures few { IfOk result (λ refused. refused ≤ 2) }
     ensures stopped { IfErr result (λ told. (told.fault ≡ NoMemory) ⊎ EndsAt number fleet.old line.now told.fault) }
     ensures unwritten { IfErr result (λ told. IsOfLine told.fault → W.contents writer.new ≡ W.contents writer.old) }
 {
     let mut text = Vec::new(alloc);
-    let mut spare = Spare::new(alloc);
-    match run_line(alloc, fleet, number, line, &mut spare, &mut text) {
+    match show_line(alloc, fleet, number, line, notes, &mut text) {
         Ok(told) => {
             push_notes(alloc, fleet, number, words, &told, notes, &mut text)?;
             write_text(&text, writer)?;
-            Ok(())
+            Ok(told.refusals())
         }
         Err(fault) => {
             keep_printed(&text, writer);
             Err(blamed(alloc, fleet, words, in_text(fault), notes))
         }
+    }
+}
+
+// Does the line, and puts what it shows into the empty text.
+fn show_line(
+    alloc: Global,
+    fleet: &mut Fleet,
+    number: usize,
+    line: &[u8],
+    notes: Notes,
+    text: &mut Vec<u8>,
+) -> Result<Told, RunFault>
+    requires { text.old.items ≡ [] }
+    ensures done { IfOk result (λ told.
+        IsShown notes.refusals_alone number fleet.old line.now told fleet.new text.new.items) }
+    ensures stopped { IfErr result (λ fault. (fault ≡ NoMemory) ⊎ EndsAt number fleet.old line.now fault) }
+    ensures unshown { IfErr result (λ fault. IsOfLine fault → text.new.items ≡ []) }
+{
+    if notes.refusals_alone {
+        show_refusals(alloc, fleet, number, line, text)
+    } else {
+        show_printed(alloc, fleet, number, line, text)
+    }
+}
+
+// Does the line, and puts what it prints into the empty text.
+fn show_printed(
+    alloc: Global,
+    fleet: &mut Fleet,
+    number: usize,
+    line: &[u8],
+    text: &mut Vec<u8>,
+) -> Result<Told, RunFault>
+    requires { text.old.items ≡ [] }
+    ensures done { IfOk result (λ told. IsShown false number fleet.old line.now told fleet.new text.new.items) }
+    ensures stopped { IfErr result (λ fault. (fault ≡ NoMemory) ⊎ EndsAt number fleet.old line.now fault) }
+    ensures unshown { IfErr result (λ fault. IsOfLine fault → text.new.items ≡ []) }
+{
+    let mut spare = Spare::new(alloc);
+    match run_line(alloc, fleet, number, line, &mut spare, text) {
+        Ok(told) => Ok(told),
+        Err(fault) => Err(fault),
+    }
+}
+
+// Does the line, and puts a sentence of each of its refusals into the empty text.
+fn show_refusals(
+    alloc: Global,
+    fleet: &mut Fleet,
+    number: usize,
+    line: &[u8],
+    text: &mut Vec<u8>,
+) -> Result<Told, RunFault>
+    requires { text.old.items ≡ [] }
+    ensures done { IfOk result (λ told. IsShown true number fleet.old line.now told fleet.new text.new.items) }
+    ensures stopped { IfErr result (λ fault. (fault ≡ NoMemory) ⊎ EndsAt number fleet.old line.now fault) }
+    ensures unshown { IfErr result (λ fault. IsOfLine fault → text.new.items ≡ []) }
+{
+    let mut spare = Spare::new(alloc);
+    match run_line(alloc, fleet, number, line, &mut spare, &mut sink()) {
+        Ok(told) => match print_told(alloc, text, LineName::Sentence(number), &told) {
+            Ok(()) => Ok(told),
+            Err(_) => Err(RunFault::NoMemory),
+        },
+        Err(fault) => Err(fault),
     }
 }
 
@@ -263,7 +403,7 @@ fn push_notes(
 ) -> Result<(), AllocError>
     ensures { OnOk result (IsAnnotated notes text.old.items text.new.items) }
 {
-    explain(alloc, fleet, told, notes.explains, text)?;
+    explain(alloc, fleet, words, told, notes.explains, text)?;
     trace(alloc, fleet, number, words, told, notes.traces, text)
 }
 
@@ -292,7 +432,10 @@ fn word_of(
         _ => return Ok(None),
     };
     match word_at_fault(alloc, fleet, words, fault)? {
-        Some(word) => Ok(Some(helpful(alloc, word, hint_at_fault(words, fault))?)),
+        Some(blamed) => {
+            let word = blamed.word();
+            Ok(Some(helpful(alloc, word, hint_at_fault(words, fault, word))?))
+        }
         None => Ok(None),
     }
 }

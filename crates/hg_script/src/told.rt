@@ -1,12 +1,13 @@
 //! What a line was answered.
-ghost use Rattle.std.specs.Prelude.{◌≡◌, ◌⊎◌, IfErr, OnOk};
+ghost use Rattle.std.specs.Prelude.{◌≡◌, ◌≤◌, ◌⊎◌, IfErr, OnOk, count_by};
+ghost use Rattle.hg_script.specs.Events.{is_refusal};
 ghost use Rattle.hg_script.specs.Outputs.{Printed};
 ghost use Rattle.hg_script.specs.Printing.{answer_line, answer_lines};
 ghost use Rattle.hg_fleet.specs.Pulls.{answers_of};
 ghost use Rattle.hg_script.specs.Told.{told_answers};
 
 use crate::command_fault::CommandFault;
-use crate::output::print_refused;
+use crate::output::{LineName, print_refused};
 use hg_fleet::{PeerAnswer, Pulled};
 use hg_world::Answer;
 use std::alloc::Global;
@@ -35,11 +36,50 @@ pub enum Told {
     },
 }
 
-/// Prints why events of the line with this number were refused, one write for each line.
+impl Told {
+    /// How many of the events were refused.
+    pub fn refusals(&self) -> usize
+        ensures count { result ≡ count_by is_refusal (told_answers self.now) }
+        ensures few { result ≤ 2 }
+    {
+        match self {
+            Told::Nothing => 0,
+            Told::Event { at: _, answer } => usize::from(is_refusal(answer)),
+            Told::Taken {
+                at: _,
+                message: _,
+                answer,
+            } => usize::from(is_refusal(answer)),
+            Told::Pulled { at: _, pulled } => refusals_of(pulled),
+        }
+    }
+}
+
+fn refusals_of(pulled: &Pulled) -> usize
+    ensures count { result ≡ count_by is_refusal (answers_of pulled.now) }
+    ensures few { result ≤ 2 }
+{
+    let offered = usize::from(is_refusal(&pulled.offered));
+    match &pulled.taken {
+        Some(answer) => offered + usize::from(is_refusal(answer)),
+        None => offered,
+    }
+}
+
+fn is_refusal(answer: &PeerAnswer) -> bool
+    ensures { result ≡ is_refusal answer.now }
+{
+    match answer {
+        Answer::Refused(_) => true,
+        Answer::Accepted(_) | Answer::Offered(_) | Answer::Marked => false,
+    }
+}
+
+/// Prints why events of the line that is called so were refused, one write for each line.
 pub fn print_told<W: Write>(
     alloc: Global,
     writer: &mut W,
-    line: usize,
+    line: LineName,
     told: &Told,
 ) -> Result<(), CommandFault>
     ensures printed { OnOk result
@@ -61,7 +101,7 @@ pub fn print_told<W: Write>(
 fn print_pulled<W: Write>(
     alloc: Global,
     writer: &mut W,
-    line: usize,
+    line: LineName,
     pulled: &Pulled,
 ) -> Result<(), CommandFault>
     ensures printed { OnOk result
@@ -78,7 +118,7 @@ fn print_pulled<W: Write>(
 fn print_answer<W: Write>(
     alloc: Global,
     writer: &mut W,
-    line: usize,
+    line: LineName,
     answer: &PeerAnswer,
 ) -> Result<(), CommandFault>
     ensures printed { OnOk result

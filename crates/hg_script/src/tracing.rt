@@ -9,6 +9,7 @@ use crate::marking::Marking;
 use crate::reading::read_command;
 use crate::told::Told;
 use hg_changeset::Node;
+use hg_peer::Scope;
 use hg_phases::Phase;
 use hg_replica::Change;
 use hg_world::Answer;
@@ -80,10 +81,9 @@ fn push_note(
         Told::Pulled { at, pulled } => match (&pulled.offered, &pulled.taken) {
             (Answer::Offered(message), Some(Answer::Accepted(change))) => {
                 push_number(alloc, number, text)?;
-                text.extend_from_slice(b" pulled")?;
-                push_message(alloc, fleet, *message, text)?;
-                text.extend_from_slice(b",")?;
-                push_change(alloc, fleet, *at, change, text)
+                push_sides(command, text)?;
+                push_change(alloc, fleet, *at, change, text)?;
+                push_size(alloc, fleet, *message, text)
             }
             _ => Ok(()),
         },
@@ -125,6 +125,22 @@ fn push_number(alloc: Global, number: usize, text: &mut Vec<u8>) -> Result<(), A
     text.extend_from_slice(shown.as_bytes())
 }
 
+// Appends who took from whom, in a pull or a share.
+fn push_sides(command: Command<'_>, text: &mut Vec<u8>) -> Result<(), AllocError> {
+    let (scope, to, from) = match command {
+        Command::Pull(scope, to, from) => (scope, to, from),
+        _ => return Ok(()),
+    };
+    text.extend_from_slice(b" ")?;
+    text.extend_from_slice(to)?;
+    text.extend_from_slice(match scope {
+        Scope::Served => b" pulled from ".as_slice(),
+        Scope::Whole => b" took the whole of ".as_slice(),
+    })?;
+    text.extend_from_slice(from)?;
+    text.extend_from_slice(b":")
+}
+
 // Appends the number and the size of a message.
 fn push_message(
     alloc: Global,
@@ -132,12 +148,29 @@ fn push_message(
     message: usize,
     text: &mut Vec<u8>,
 ) -> Result<(), AllocError> {
-    let size = match fleet.message_at(message) {
-        Some(bytes) => bytes.len(),
-        None => 0,
-    };
+    let size = size_of(fleet, message);
     let shown = format!(in alloc; " message {message} of {size} bytes")?;
     text.extend_from_slice(shown.as_bytes())
+}
+
+// Appends the size of a message in brackets.
+fn push_size(
+    alloc: Global,
+    fleet: &Fleet,
+    message: usize,
+    text: &mut Vec<u8>,
+) -> Result<(), AllocError> {
+    let size = size_of(fleet, message);
+    let shown = format!(in alloc; " ({size} bytes)")?;
+    text.extend_from_slice(shown.as_bytes())
+}
+
+// How many bytes a message has.
+fn size_of(fleet: &Fleet, message: usize) -> usize {
+    match fleet.message_at(message) {
+        Some(bytes) => bytes.len(),
+        None => 0,
+    }
 }
 
 // Appends what was added, what went to a lower phase and how many markers are new, or that there is nothing of these.

@@ -25,3 +25,6 @@ returns-clause-view c = λ n. rw (twelve, two) refl
 
 pub returns-clause-totals : goal.returns-clause-totals
 returns-clause-totals c = rw (four, one) refl
+
+pub returns-clause-sentence : goal.returns-clause-sentence
+returns-clause-sentence c = rw (twelve, four) refl

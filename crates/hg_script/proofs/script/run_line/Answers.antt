@@ -24,6 +24,7 @@ returns-in-Ok-None-clause-done g c =
       (c.is_short.ensures.0 c.if-not-is_short.false, (c.as_slice.result.now, mapped, inl (none, refl, refl))),
       inl (sym mapped ∙ ap (map (λ (w : Word). w.now)) none, refl),
       Appends-nil _,
+      refl,
     )
 
 pub returns-clause-done : goal.returns-clause-done
@@ -35,9 +36,10 @@ returns-clause-done g c =
     let d = c.in_ok-told.ensures.ok in (
       d.0,
       d.1,
-      (short, (c.as_slice.result.now, mapped, inr (command, says, d.2))),
-      inr (command, (c.as_slice.result.now, (short, mapped), says), d.3),
-      d.4,
+      (short, (c.as_slice.result.now, mapped, inr (command, says, d.3))),
+      inr (command, (c.as_slice.result.now, (short, mapped), says), d.4),
+      d.5,
+      d.2,
     )
 
 pub returns-in-Err-clause-stopped : goal.returns-in-Err-clause-stopped

@@ -1,7 +1,9 @@
 use Rattle.std.proofs.lemmas.Result.{err_from_is_err_and}
+use Rattle.std.proofs.Common.{◌≡◌}
+use Rattle.hg_script.specs.declared.telling.Outcome.{Outcome}
 use Rattle.hg_script.specs.declared.telling.ToldFault.{ToldFault}
-use Rattle.hg_script.specs.declared.fleet.Fleet.{Fleet}
 use Rattle.hg_script.specs.Commands.{Text}
+use Rattle.hg_script.specs.Events.{refusals}
 use Rattle.hg_script.specs.Printing.{WritesRun}
 use Rattle.hg_script.specs.Scripts.{IsRunTo}
 use Rattle.hg_script.proofs.EndingLemmas.{input_stop, script_of, stops_of, of_script}
@@ -14,7 +16,7 @@ returns-in_err-text-clause-stopped g c =
 
 pub returns-clause-ran : goal.returns-clause-ran
 returns-clause-ran g c =
-    of_script IsRunTo _ _ c.tell_text.result
+    of_script (λ (text : Text) (outcome : Outcome). IsRunTo text outcome.fleet) _ _ c.tell_text.result
     (script_of _ _ _ c.deref.ensures.value c.in_ok-text.ensures.limit c.in_ok-text.ensures.whole)
     c.tell_text.ensures.ran
 
@@ -22,7 +24,9 @@ pub returns-clause-written : goal.returns-clause-written
 returns-clause-written g c =
     let held = g.W.Write.contents c.args.writer.now in
     let holds = g.W.Write.contents c.tell_text.new.writer in
-    of_script (λ (text : Text) (fleet : Fleet). WritesRun c.args.notes text fleet.world held holds) _ _ c.tell_text.result
+    of_script (λ (text : Text) (outcome : Outcome).
+    (written : WritesRun c.args.notes text outcome.fleet.world held holds)
+    × (outcome.refused ≡ refusals written.run.trace)) _ _ c.tell_text.result
     (script_of _ _ _ c.deref.ensures.value c.in_ok-text.ensures.limit c.in_ok-text.ensures.whole)
     c.tell_text.ensures.written
 

@@ -21,4 +21,5 @@ returns-then-is_empty-clause-done g c =
       [],
       wordless_line _ _ _ _ words (c.is_short.ensures.0 c.if-not-is_short.false) mapped none,
       Appends-nil _,
+      refl,
     )

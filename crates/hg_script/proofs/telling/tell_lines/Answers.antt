@@ -7,29 +7,30 @@ use Rattle.hg_script.proofs.EndingLemmas.{goes_on-end, goes_on-more, goes_on-sta
 use Rattle.hg_script.proofs.telling.tell_lines.Goals as goal
 
 pub loop-rest-init : goal.loop-rest-init
-loop-rest-init g c = record { goes = goes_on-start _ _ _ _; counted = omega arith }
+loop-rest-init g c = record { goes = goes_on-start _ _ _ _; counted = omega arith; few = omega arith }
 
 pub loop-rest-preserved : goal.loop-rest-preserved
 loop-rest-preserved g c =
-    let (t, output, wrote, grew) = c.in_ok-tell_line.ensures.done in
+    let (t, output, wrote, grew, refused) = c.in_ok-count.ensures.done in
     record {
-      goes = goes_on-more _ _ _ _ _ _ _ _ _ _ t _ output _ c.cut_line.ensures.lines wrote grew
+      goes = goes_on-more _ _ _ _ _ _ _ _ _ _ t _ output _ _ _ c.cut_line.ensures.lines wrote grew refused
           c.loop-rest.invariant.goes;
       counted = omega (arith, c.cut_line.ensures.shorter, c.loop-rest.invariant.counted);
+      few = omega (arith, c.in_ok-count.ensures.few, c.loop-rest.invariant.few);
     }
 
-pub returns-in_err-tell_line-clause-stopped : goal.returns-in_err-tell_line-clause-stopped
-returns-in_err-tell_line-clause-stopped g c =
+pub returns-in_err-count-clause-stopped : goal.returns-in_err-count-clause-stopped
+returns-in_err-count-clause-stopped g c =
     let p = err_from_is_err_and c.from_residual.result c.from_residual.ensures.1 in
-    rw (p.1, p.2) (elim c.in_err-tell_line.ensures.stopped [
+    rw (p.1, p.2) (elim c.in_err-count.ensures.stopped [
       | inl none ↦ inl none
       | inr ends ↦ inr (c.loop-rest.invariant.goes.stopped _ _
-          (stops_here _ _ _ _ _ _ _ _ _ c.cut_line.ensures.lines ends c.in_err-tell_line.ensures.unwritten))
+          (stops_here _ _ _ _ _ _ _ _ _ c.cut_line.ensures.lines ends c.in_err-count.ensures.unwritten))
     ])
 
 pub returns-clause-done : goal.returns-clause-done
 returns-clause-done g c =
-    goes_on-end _ _ _ _ _ _ _ _
+    goes_on-end _ _ _ _ _ _ _ _ _
     (ap lines
     (nil_from_length c.loop-rest.rest.now
     (eqb-true (length c.loop-rest.rest.now) 0 (sym c.is_empty.ensures ∙ c.loop-rest-test.false))))
