@@ -1,0 +1,4 @@
+mod ComparingLemmas
+mod ComparisonLemmas
+mod LineLemmas
+mod MessageLemmas

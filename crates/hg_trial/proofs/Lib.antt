@@ -1,0 +1,2 @@
+mod MovedLemmas
+pub mod TrialLemmas

@@ -1,0 +1,3 @@
+pub mod Moved
+pub mod Refusals
+pub mod Trials
