@@ -14,7 +14,7 @@ use Rattle.hgfleet.specs.Arguments.{program_at, race_numbers, reference}
 use Rattle.hgfleet.specs.declared.arguments.ArgumentFault.{ArgumentFault}
 use Rattle.hgfleet.specs.declared.arguments.Wanted.{Wanted}
 use Rattle.hgfleet.specs.declared.arguments.Wanted.TheVariants.{Run, RunTold, Race, Log, Show, Write, Why, Help}
-use Rattle.hgfleet.specs.declared.arguments.Wanted.TheVariants.{Version}
+use Rattle.hgfleet.specs.declared.arguments.Wanted.TheVariants.{Version, Try, Compare}
 
 pub at_help : (name : Text) → faults_at (name ∷ codes "--help" ∷ []) ≡ DisplayHelp ∷ []
 unfolding clap_on_literals faults_at
@@ -137,12 +137,14 @@ second_alone (a ∷ b ∷ x ∷ xs) d l = absurd (omega (arith, l))
 pub answer_within : (words : List Text) (r : Result Wanted ArgumentFault) → ArgumentsAnswer words r
     → IfOk r IsWithinBounds
 answer_within words (Ok Run) h = tt
-answer_within words (Ok (RunTold explains traces)) h = tt
+answer_within words (Ok (RunTold explains traces is_strict)) h = tt
 answer_within words (Ok (Race nodes rounds)) h = h.2
-answer_within words (Ok (Log nodes shows_hidden is_graph)) h = tt
+answer_within words (Ok (Log nodes shows_hidden picture)) h = tt
 answer_within words (Ok (Show form)) h = tt
 answer_within words (Ok (Write form name)) h = tt
 answer_within words (Ok (Why nodes)) h = tt
+answer_within words (Ok (Try names)) h = tt
+answer_within words (Ok (Compare first second)) h = tt
 answer_within words (Ok (Help e)) h = tt
 answer_within words (Ok (Version e)) h = tt
 answer_within words (Err e) h = tt

@@ -1,14 +1,15 @@
 -- Drawings one after the other, and of what.
 use Rattle.std.proofs.Common.{◌≡◌, ◌==◌, ◌+◌, ◌<◌, ◌≤◌, ℕ, List, [], ◌∷◌, ◌++◌, String, false, true≢false}
-use Rattle.std.proofs.Common.{length, get_or, drop, map, refl, sym, subst}
+use Rattle.std.proofs.Common.{◌∙◌, ap, length, get_or, drop, map, refl, sym, subst}
 use Rattle.std.specs.Borrow.{Bor}
 use Rattle.std.specs.declared.alloc.Global.{Global}
-use Rattle.std.proofs.lemmas.List.{drop_more, drop_all}
+use Rattle.std.proofs.lemmas.List.{append-nil, append_assoc, drop_more, drop_all}
 use Rattle.hg_log.specs.Drawings.{Text}
+use Rattle.hg_log.specs.Objects.{NodeState}
 use Rattle.hg_script.specs.declared.fleet.Fleet.{Fleet}
 use Rattle.hgfleet.specs.declared.commands.Drawing.{Drawing}
 use Rattle.hgfleet.specs.Arguments.{texts_of}
-use Rattle.hgfleet.specs.Commands.{AreDrawn, IsDrawn, drawn_names}
+use Rattle.hgfleet.specs.Commands.{AreDrawn, IsDrawn, drawn_names, state_of, states_of}
 
 -- the drawing of the next name, and those of the ones after it
 pub next_drawn : (fleet : Fleet) (drawing : Drawing) (names : List (Bor Text)) (i : ℕ) (d : Bor Text)
@@ -30,3 +31,20 @@ pub given_drawn : (fleet : Fleet) (nodes : List (String Global)) → (length nod
     → texts_of nodes ≡ drawn_names fleet (texts_of nodes)
 given_drawn fleet [] e = absurd (true≢false e)
 given_drawn fleet (node ∷ nodes) e = refl
+
+-- the nodes of the names that are left, after the next one was added
+pub next_state : (fleet : Fleet) (names : List (Bor Text)) (i : ℕ) (d : Bor Text) (before after all : List NodeState)
+    → i < length names → after ≡ before ++ state_of fleet (get_or names i d).now
+    → before ++ states_of fleet (map (λ name. name.now) (drop i names)) ≡ all
+    → after ++ states_of fleet (map (λ name. name.now) (drop (i + 1) names)) ≡ all
+next_state fleet names i d before after all within grew held =
+    let P : List (Bor Text) → Type 0 = λ ns. before ++ states_of fleet (map (λ name. name.now) ns) ≡ all in
+    let rest = states_of fleet (map (λ name. name.now) (drop (i + 1) names)) in
+    ap (λ (states : List NodeState). states ++ rest) grew
+    ∙ append_assoc before (state_of fleet (get_or names i d).now) rest ∙ subst P (drop_more names i d within) held
+
+pub no_state : (fleet : Fleet) (names : List (Bor Text)) (i : ℕ) (states all : List NodeState) → length names ≤ i
+    → states ++ states_of fleet (map (λ name. name.now) (drop i names)) ≡ all → states ≡ all
+no_state fleet names i states all end held =
+    let P : List (Bor Text) → Type 0 = λ ns. states ++ states_of fleet (map (λ name. name.now) ns) ≡ all in
+    sym (append-nil states) ∙ subst P (drop_all i names end) held

@@ -2,7 +2,9 @@ mod AnswerLemmas
 mod ArgumentLemmas
 mod BuilderLemmas
 mod CommandLemmas
+mod FileLemmas
 mod NumberLemmas
 mod OptionLemmas
 mod PlaceLemmas
 mod RowLemmas
+mod TryingLemmas

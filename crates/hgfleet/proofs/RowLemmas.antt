@@ -6,6 +6,7 @@ use Rattle.clap.specs.declared.error.kind.ErrorKind.TheVariants.{DisplayHelp, In
 use Rattle.clap.specs.declared.error.kind.ErrorKind.TheVariants.{UnknownArgument}
 use Rattle.clap.proofs.OnLiterals.{clap_on_literals}
 use Rattle.hgfleet.specs.Arguments.{faults_at, log_options, run_notes, shown_form, why_names, written_form}
+use Rattle.hgfleet.specs.declared.arguments.Picture.TheVariants as pictures
 use Rattle.hg_show.specs.declared.form.Form.TheVariants.{Store, Message}
 
 pub at_no_notes : (name : Text) → run_notes (name ∷ codes "run" ∷ []) ≡ None
@@ -16,16 +17,20 @@ pub at_explain : (name : Text) → faults_at (name ∷ codes "run" ∷ codes "--
 unfolding clap_on_literals faults_at
 at_explain name = refl
 
-pub at_explained : (name : Text) → run_notes (name ∷ codes "run" ∷ codes "--explain" ∷ []) ≡ Some (true, false)
+pub at_explained : (name : Text) → run_notes (name ∷ codes "run" ∷ codes "--explain" ∷ []) ≡ Some (true, false, false)
 unfolding clap_on_literals run_notes
 at_explained name = refl
 
-pub at_traced : (name : Text) → run_notes (name ∷ codes "run" ∷ codes "--trace" ∷ []) ≡ Some (false, true)
+pub at_traced : (name : Text) → run_notes (name ∷ codes "run" ∷ codes "--trace" ∷ []) ≡ Some (false, true, false)
 unfolding clap_on_literals run_notes
 at_traced name = refl
 
+pub at_strict : (name : Text) → run_notes (name ∷ codes "run" ∷ codes "--strict" ∷ []) ≡ Some (false, false, true)
+unfolding clap_on_literals run_notes
+at_strict name = refl
+
 pub at_both_notes : (name : Text)
-    → run_notes (name ∷ codes "run" ∷ codes "--trace" ∷ codes "--explain" ∷ []) ≡ Some (true, true)
+    → run_notes (name ∷ codes "run" ∷ codes "--trace" ∷ codes "--explain" ∷ []) ≡ Some (true, true, false)
 unfolding clap_on_literals run_notes
 at_both_notes name = refl
 
@@ -38,7 +43,7 @@ pub at_log : (name : Text) → faults_at (name ∷ codes "log" ∷ []) ≡ []
 unfolding clap_on_literals faults_at
 at_log name = refl
 
-pub at_log_options : (name : Text) → log_options (name ∷ codes "log" ∷ []) ≡ Some ([], false, false)
+pub at_log_options : (name : Text) → log_options (name ∷ codes "log" ∷ []) ≡ Some ([], false, pictures.Text)
 unfolding clap_on_literals log_options
 at_log_options name = refl
 
@@ -49,14 +54,26 @@ at_log_of_two name = refl
 
 pub at_options_of_two : (name : Text)
     → log_options (name ∷ codes "log" ∷ codes "--hidden" ∷ codes "A" ∷ codes "B" ∷ [])
-    ≡ Some (codes "A" ∷ codes "B" ∷ [], true, false)
+    ≡ Some (codes "A" ∷ codes "B" ∷ [], true, pictures.Text)
 unfolding clap_on_literals log_options
 at_options_of_two name = refl
 
 pub at_graph : (name : Text)
-    → log_options (name ∷ codes "log" ∷ codes "A" ∷ codes "--dot" ∷ []) ≡ Some (codes "A" ∷ [], false, true)
+    → log_options (name ∷ codes "log" ∷ codes "A" ∷ codes "--dot" ∷ []) ≡ Some (codes "A" ∷ [], false, pictures.Graph)
 unfolding clap_on_literals log_options
 at_graph name = refl
+
+pub at_json : (name : Text) → log_options (name ∷ codes "log" ∷ codes "--json" ∷ []) ≡ Some ([], false, pictures.Json)
+unfolding clap_on_literals log_options
+at_json name = refl
+
+pub at_two_pictures : (name : Text) → faults_at (name ∷ codes "log" ∷ codes "--json" ∷ codes "--dot" ∷ []) ≡ []
+unfolding clap_on_literals faults_at
+at_two_pictures name = refl
+
+pub at_no_picture : (name : Text) → log_options (name ∷ codes "log" ∷ codes "--json" ∷ codes "--dot" ∷ []) ≡ None
+unfolding clap_on_literals log_options
+at_no_picture name = refl
 
 pub at_help_of_log : (name : Text) → faults_at (name ∷ codes "log" ∷ codes "--help" ∷ []) ≡ DisplayHelp ∷ []
 unfolding clap_on_literals faults_at

@@ -1,14 +1,14 @@
 -- The command line of the program, and what its words ask for.
 use Rattle.std.specs.Prelude.{ℕ, Bool, List, ◌∷◌, [], ◌≡◌, ◌≢◌, ◌⊎◌, ◌≤◌, codes, true, false, pos, drop, map}
 use Rattle.std.specs.Prelude.{if◌then◌else◌, Option, Some, None, Result, Ok, Err, option_and_then}
-use Rattle.std.specs.Prelude.{unwrap_or, String, string_bytes, ◌||◌}
+use Rattle.std.specs.Prelude.{String, string_bytes, ◌||◌}
 use Rattle.std.specs.Borrow.{Bor}
 use Rattle.std.specs.Option.{option_map_or}
 use Rattle.std.specs.Str.{bytes_eq}
 use Rattle.std.specs.Str.Parse.{digits_value, without_leading_plus}
 use Rattle.std.specs.declared.alloc.Global.{Global}
 use Rattle.clap.specs.Lexer.{usize_max}
-use Rattle.clap.specs.Words.{App, Row, Rule, Text, Kinds, IsAmong, HasKind, all_of, fault_of, first_of, kind_of}
+use Rattle.clap.specs.Words.{App, Row, Rule, Text, Kinds, IsAmong, HasKind, fault_of, first_of, kind_of}
 use Rattle.clap.specs.Words.{new_app, new_rule, one_of, subcommand_of, with_rule, with_subcommand}
 use Rattle.clap.specs.ValueTests.{is_unsigned_in}
 use Rattle.clap.specs.declared.builder.action.ArgAction.TheVariants.{SetTrue}
@@ -17,9 +17,12 @@ use Rattle.clap.specs.declared.error.Error.{Error}
 use Rattle.clap.specs.declared.error.kind.ErrorKind.TheVariants.{DisplayHelp, DisplayVersion, OutOfMemory}
 use Rattle.hg_show.specs.declared.form.Form.{Form}
 use Rattle.hg_show.specs.declared.form.Form.TheVariants.{Store, Roots, Message}
+use Rattle.hgfleet.specs.declared.arguments.Picture.{Picture}
+use Rattle.hgfleet.specs.declared.arguments.Picture.TheVariants as pictures
 use Rattle.hgfleet.specs.declared.arguments.Wanted.{Wanted}
 use Rattle.hgfleet.specs.declared.arguments.Wanted.TheVariants.{Run, RunTold, Race, Log, Show, Write, Why, Help}
-use Rattle.hgfleet.specs.declared.arguments.Wanted.TheVariants.{Version}
+use Rattle.hgfleet.specs.declared.arguments.Wanted.TheVariants.{Version, Try, Compare}
+use Rattle.hgfleet.specs.TryArguments.{compare_app, files_compared, try_app, words_given}
 use Rattle.hgfleet.specs.declared.arguments.ArgumentFault.{ArgumentFault}
 use Rattle.hgfleet.specs.declared.arguments.ArgumentFault.TheVariants.{BadArguments, NotText, NoMemory}
 
@@ -41,9 +44,10 @@ race = with_rule (with_rule (new_app (codes "race")) (wanted_number (codes "node
 abbrev pub flag_rule : Text → Rule
 flag_rule name = record (new_rule name) { long = Some name; action = Some SetTrue }
 
--- `run` with its two flags
+-- `run` with its flags
 abbrev pub run : App
-run = with_rule (with_rule (new_app (codes "run")) (flag_rule (codes "explain"))) (flag_rule (codes "trace"))
+run = with_rule (with_rule (with_rule (new_app (codes "run")) (flag_rule (codes "explain")))
+    (flag_rule (codes "trace"))) (flag_rule (codes "strict"))
 
 -- the names of nodes, any number of them
 abbrev pub nodes_rule : Rule
@@ -52,10 +56,10 @@ nodes_rule = record (new_rule (codes "nodes")) {
   value_names = 1;
 }
 
--- `log` with its two flags and the names of nodes
+-- `log` with its flags and the names of nodes
 abbrev pub log : App
-log = with_rule (with_rule (with_rule (new_app (codes "log")) (flag_rule (codes "hidden"))) (flag_rule (codes "dot")))
-    nodes_rule
+log = with_rule (with_rule (with_rule (with_rule (new_app (codes "log")) (flag_rule (codes "hidden")))
+    (flag_rule (codes "dot"))) (flag_rule (codes "json"))) nodes_rule
 
 -- `why` with the names of nodes
 abbrev pub why : App
@@ -99,7 +103,8 @@ program_at words =
     let with_run = with_subcommand program_alone run.top in
     let with_log = with_subcommand (with_subcommand with_run race.top) log.top in
     let with_write = with_subcommand (with_subcommand with_log (show_at words).top) (write_at words).top in
-    with_subcommand with_write why.top
+    let with_why = with_subcommand with_write why.top in
+    with_subcommand (with_subcommand with_why try_app.top) compare_app.top
 
 -- a reference to a text; nothing that is said of the program depends on where the text lies
 abbrev pub reference : {T : Type 0} → T → Bor T
@@ -152,23 +157,26 @@ IsRaceSize nodes rounds = (2 ≤ nodes) × (nodes ≤ 16) × (1 ≤ rounds) × (
 
 -- the names of nodes that are given for a log, in their order
 abbrev pub names_given : List Row → List Text
-names_given rows = unwrap_or (all_of (codes "nodes") rows) []
+names_given rows = words_given (codes "nodes") rows
 
 -- the flag of this name is given
 abbrev pub flag_given : Text → List Row → Bool
 flag_given name rows = option_map_or (λ text. bytes_eq text (codes "true")) (one_of name rows) false
 
--- whether a run says what refusals are about, and whether it says what accepted lines did
+-- whether a run says what refusals are about, whether it says what accepted lines did, and whether a refused line is a
+-- failure
 abbrev pub RunNotes : Type 0
-RunNotes = Bool × Bool
+RunNotes = Bool × Bool × Bool
 
--- two flags, where one is given
-abbrev pub any_note : Bool → Bool → Option RunNotes
-any_note explains traces = if explains || traces then Some (explains, traces) else None
+-- three flags, where one is given
+abbrev pub any_note : Bool → Bool → Bool → Option RunNotes
+any_note explains traces is_strict =
+    if (explains || traces) || is_strict then Some (explains, traces, is_strict) else None
 
 -- the notes that are given for a run, none where no flag is given
 abbrev pub notes_given : List Row → Option RunNotes
-notes_given rows = any_note (flag_given (codes "explain") rows) (flag_given (codes "trace") rows)
+notes_given rows =
+    any_note (flag_given (codes "explain") rows) (flag_given (codes "trace") rows) (flag_given (codes "strict") rows)
 
 -- the notes that are given for a run, where `run` is the command that was met
 abbrev pub run_met : Option (Text × List Row) → Option RunNotes
@@ -179,18 +187,32 @@ run_met (Some met) = if bytes_eq met.0 (codes "run") then notes_given met.1 else
 unfoldable pub run_notes : List Text → Option RunNotes
 run_notes words = run_met (subcommand_of program words)
 
--- the names that are given for a log, whether it shows what is hidden, and whether it is a graph
-abbrev pub LogOptions : Type 0
-LogOptions = List Text × Bool × Bool
+-- the picture that the flags of a graph and of JSON ask for, none where they ask for two
+abbrev pub picture_of : Bool → Bool → Option Picture
+picture_of false false = Some pictures.Text
+picture_of true false = Some pictures.Graph
+picture_of false true = Some pictures.Json
+picture_of true true = None
 
--- what is given for a log
-abbrev pub log_given : List Row → LogOptions
-log_given rows = (names_given rows, flag_given (codes "hidden") rows, flag_given (codes "dot") rows)
+-- the names that are given for a log, whether it shows what is hidden, and what it is drawn as
+abbrev pub LogOptions : Type 0
+LogOptions = List Text × Bool × Picture
+
+-- with the picture, where there is one
+abbrev pub options_of : List Text → Bool → Option Picture → Option LogOptions
+options_of names shows_hidden (Some picture) = Some (names, shows_hidden, picture)
+options_of names shows_hidden None = None
+
+-- what is given for a log, none where two pictures are asked for
+abbrev pub log_given : List Row → Option LogOptions
+log_given rows =
+    options_of (names_given rows) (flag_given (codes "hidden") rows)
+    (picture_of (flag_given (codes "dot") rows) (flag_given (codes "json") rows))
 
 -- what is given for a log, where `log` is the command that was met
 abbrev pub log_met : Option (Text × List Row) → Option LogOptions
 log_met None = None
-log_met (Some met) = if bytes_eq met.0 (codes "log") then Some (log_given met.1) else None
+log_met (Some met) = if bytes_eq met.0 (codes "log") then log_given met.1 else None
 
 -- what words without a fault give for a log, none where they ask for no log
 unfoldable pub log_options : List Text → Option LogOptions
@@ -204,6 +226,24 @@ why_met (Some met) = if bytes_eq met.0 (codes "why") then Some (names_given met.
 -- the names that words without a fault give to be told why, none where they don't ask for it
 unfoldable pub why_names : List Text → Option (List Text)
 why_names words = why_met (subcommand_of program words)
+
+-- the files whose messages are tried, where `try` is the command that was met
+abbrev pub try_met : Option (Text × List Row) → Option (List Text)
+try_met None = None
+try_met (Some met) = if bytes_eq met.0 (codes "try") then Some (words_given (codes "files") met.1) else None
+
+-- the files that words without a fault give to be tried, none where they don't ask for it
+unfoldable pub tried_files : List Text → Option (List Text)
+tried_files words = try_met (subcommand_of program words)
+
+-- the two files that are compared, where `compare` is the command that was met
+abbrev pub compare_met : Option (Text × List Row) → Option (Text × Text)
+compare_met None = None
+compare_met (Some met) = if bytes_eq met.0 (codes "compare") then files_compared met.1 else None
+
+-- the two files that words without a fault give to be compared, none where they don't ask for it
+unfoldable pub compared_files : List Text → Option (Text × Text)
+compared_files words = compare_met (subcommand_of program words)
 
 -- the form that the word names
 abbrev pub form_named : Text → Option Form
@@ -259,17 +299,28 @@ IsRaceOf numbers None = numbers ≡ None
 IsRaceOf numbers _ = ⊥
 
 abbrev pub IsRunTold : Option RunNotes → Option Wanted → Type 0
-IsRunTold notes (Some (RunTold explains traces)) = notes ≡ Some (explains, traces)
+IsRunTold notes (Some (RunTold explains traces is_strict)) = notes ≡ Some (explains, traces, is_strict)
 IsRunTold notes None = notes ≡ None
 IsRunTold notes _ = ⊥
 
-abbrev pub IsLogOf : LogOptions → Option Wanted → Type 0
-IsLogOf options (Some (Log nodes shows_hidden is_graph)) = options ≡ (texts_of nodes.items, shows_hidden, is_graph)
+abbrev pub IsLogOf : Option LogOptions → Option Wanted → Type 0
+IsLogOf options (Some (Log nodes shows_hidden picture)) =
+    options ≡ Some (texts_of nodes.items, shows_hidden, picture)
+IsLogOf options None = options ≡ None
 IsLogOf options _ = ⊥
 
 abbrev pub IsWhyOf : List Text → Option Wanted → Type 0
 IsWhyOf names (Some (Why nodes)) = names ≡ texts_of nodes.items
 IsWhyOf names _ = ⊥
+
+abbrev pub IsTryOf : List Text → Option Wanted → Type 0
+IsTryOf files (Some (Try names)) = files ≡ texts_of names.items
+IsTryOf files _ = ⊥
+
+abbrev pub IsCompareOf : Option (Text × Text) → Option Wanted → Type 0
+IsCompareOf files (Some (Compare first second)) = files ≡ Some (string_bytes first, string_bytes second)
+IsCompareOf files None = files ≡ None
+IsCompareOf files _ = ⊥
 
 abbrev pub IsShowOf : Option Form → Option Wanted → Type 0
 IsShowOf form (Some (Show shown)) = form ≡ Some shown
@@ -283,23 +334,27 @@ IsWriteOf given _ = ⊥
 
 -- the command that was met, with its rows, asks for this; none where it asks for nothing more than a run
 abbrev pub MeetsWanted : Option (Text × List Row) → Option Wanted → Type 0
-MeetsWanted met (Some (RunTold explains traces)) = run_met met ≡ Some (explains, traces)
+MeetsWanted met (Some (RunTold explains traces is_strict)) = run_met met ≡ Some (explains, traces, is_strict)
 MeetsWanted met (Some (Race nodes rounds)) = race_met met ≡ Some (nodes, rounds)
-MeetsWanted met (Some (Log nodes shows_hidden is_graph)) =
-    log_met met ≡ Some (texts_of nodes.items, shows_hidden, is_graph)
+MeetsWanted met (Some (Log nodes shows_hidden picture)) =
+    log_met met ≡ Some (texts_of nodes.items, shows_hidden, picture)
 MeetsWanted met (Some (Show form)) = show_met met ≡ Some form
 MeetsWanted met (Some (Write form name)) = write_met met ≡ Some (form, string_bytes name)
 MeetsWanted met (Some (Why nodes)) = why_met met ≡ Some (texts_of nodes.items)
+MeetsWanted met (Some (Try names)) = try_met met ≡ Some (texts_of names.items)
+MeetsWanted met (Some (Compare first second)) = compare_met met ≡ Some (string_bytes first, string_bytes second)
 MeetsWanted met (Some _) = ⊥
 MeetsWanted met None =
     (run_met met ≡ None) × (race_met met ≡ None) × (log_met met ≡ None) × (show_met met ≡ None)
-    × (write_met met ≡ None) × (why_met met ≡ None)
+    × (write_met met ≡ None) × (why_met met ≡ None) × (try_met met ≡ None) × (compare_met met ≡ None)
 
--- the words give nothing for a run with notes, a race, a log, what is shown, what is written and what is told
+-- the words give nothing for a run with notes, a race, a log, what is shown, what is written, what is told, what is
+-- tried and what is compared
 abbrev pub GivesNothing : List Text → Type 0
 GivesNothing words =
     (run_notes words ≡ None) × (race_numbers words ≡ None) × (log_options words ≡ None) × (shown_form words ≡ None)
-    × (written_form words ≡ None) × (why_names words ≡ None)
+    × (written_form words ≡ None) × (why_names words ≡ None) × (tried_files words ≡ None)
+    × (compared_files words ≡ None)
 
 -- the parser finds no fault, and what is wanted is what the command that the words name asks for; or it tells a fault
 -- of the words, or that memory ran out
@@ -312,23 +367,26 @@ abbrev pub IsMistake : Error → Type 0
 IsMistake e = (kind_of e ≢ DisplayHelp) × (kind_of e ≢ DisplayVersion) × (kind_of e ≢ OutOfMemory)
 
 -- the words of a run ask for a run, and no others do; a run with notes is asked for by words without a fault that give
--- its flags; a race is asked for by words without a fault that give its
--- numbers, and these are within their bounds; a log by words without a fault that give its options, what is shown by
--- such that give a form, what is written by such that give a form and a name, and why by such that give names; help and the version are given where the
--- parser says that they are asked for; all else is bad, and is what the parser says, or words that it passes over and
--- that give nothing for any of these
+-- its flags; a race is asked for by words without a fault that give its numbers, and these are within their bounds; a
+-- log by words without a fault that give its options, what is shown by such that give a form, what is written by such
+-- that give a form and a name, why by such that give names, and a trial and a comparison by such that give files; help
+-- and the version are given where the parser says that they are asked for; all else is bad, and is what the parser
+-- says, or words that it takes and that give nothing for any of these, as a log that two pictures are asked of
 abbrev pub ArgumentsAnswer : List Text → Result Wanted ArgumentFault → Type 0
 ArgumentsAnswer words (Ok Run) = IsRun words
-ArgumentsAnswer words (Ok (RunTold explains traces)) =
-    (faults_at words ≡ []) × (run_notes words ≡ Some (explains, traces))
+ArgumentsAnswer words (Ok (RunTold explains traces is_strict)) =
+    (faults_at words ≡ []) × (run_notes words ≡ Some (explains, traces, is_strict))
 ArgumentsAnswer words (Ok (Race nodes rounds)) =
     (faults_at words ≡ []) × (race_numbers words ≡ Some (nodes, rounds)) × IsRaceSize nodes rounds
-ArgumentsAnswer words (Ok (Log nodes shows_hidden is_graph)) =
-    (faults_at words ≡ []) × (log_options words ≡ Some (texts_of nodes.items, shows_hidden, is_graph))
+ArgumentsAnswer words (Ok (Log nodes shows_hidden picture)) =
+    (faults_at words ≡ []) × (log_options words ≡ Some (texts_of nodes.items, shows_hidden, picture))
 ArgumentsAnswer words (Ok (Show form)) = (faults_at words ≡ []) × (shown_form words ≡ Some form)
 ArgumentsAnswer words (Ok (Write form name)) =
     (faults_at words ≡ []) × (written_form words ≡ Some (form, string_bytes name))
 ArgumentsAnswer words (Ok (Why nodes)) = (faults_at words ≡ []) × (why_names words ≡ Some (texts_of nodes.items))
+ArgumentsAnswer words (Ok (Try names)) = (faults_at words ≡ []) × (tried_files words ≡ Some (texts_of names.items))
+ArgumentsAnswer words (Ok (Compare first second)) =
+    (faults_at words ≡ []) × (compared_files words ≡ Some (string_bytes first, string_bytes second))
 ArgumentsAnswer words (Ok (Help e)) = IsAmong DisplayHelp (faults_at words)
 ArgumentsAnswer words (Ok (Version e)) = IsAmong DisplayVersion (faults_at words)
 ArgumentsAnswer words (Err (BadArguments e)) = ¬ (IsRun words) × IsMistake e

@@ -10,27 +10,43 @@ ghost use Rattle.hgfleet.specs.Arguments.{program_at, program_alone};
 ghost use Rattle.hgfleet.specs.Arguments.{run, race, log, show_at, write_at, why, flag_rule, form_rule, nodes_rule};
 ghost use Rattle.hgfleet.specs.Arguments.{IsRunTold, notes_given, run_notes};
 ghost use Rattle.hgfleet.specs.Arguments.{IsRaceOf, number_given, numbers_given, race_numbers};
-ghost use Rattle.hgfleet.specs.Arguments.{IsLogOf, flag_given, log_given, log_options, names_given, texts_of};
+ghost use Rattle.hgfleet.specs.Arguments.{IsLogOf, flag_given, log_given, log_options, names_given, picture_of};
+ghost use Rattle.hgfleet.specs.Arguments.{texts_of};
 ghost use Rattle.hgfleet.specs.Arguments.{IsShowOf, form_given, form_named, shown_form};
 ghost use Rattle.hgfleet.specs.Arguments.{IsWriteOf, write_given, written_form};
 ghost use Rattle.hgfleet.specs.Arguments.{IsWhyOf, why_names};
+ghost use Rattle.hgfleet.specs.TryArguments.{words_given};
 ghost use Rattle.hgfleet.specs.Arguments.{argument_fault_number, argument_fault_status, argument_fault_text};
 
+use crate::try_arguments::{compare_command, compare_of, try_command, try_of};
 use clap::error::ErrorKind;
 use clap::{Arg, ArgAction, ArgMatches, Command, Error, value_parser};
 use hg_show::Form;
 use std::alloc::{AllocError, AllocFailed, Global};
 use std::fmt;
 
+/// What histories are drawn as.
+#[derive(Clone, Copy)]
+pub enum Picture {
+    /// Columns of text.
+    Text,
+    /// A graph for Graphviz.
+    Graph,
+    /// One array of JSON.
+    Json,
+}
+
 /// What the arguments ask for.
 #[derive(Drop)]
 pub enum Wanted {
     /// That the script of standard input is run.
     Run,
-    /// That it is run with notes: what refusals are about, what accepted lines did, or both.
+    /// That it is run with notes, of what refusals are about and of what accepted lines did, or so that a refused line
+    /// is a failure.
     RunTold {
         explains: bool,
         traces: bool,
+        is_strict: bool,
     },
     /// That so many nodes race for so many rounds.
     Race {
@@ -38,11 +54,11 @@ pub enum Wanted {
         rounds: u16,
     },
     /// That the histories of these nodes are drawn as the script of standard input leaves them, those of all nodes
-    /// where none is named; with what is hidden, or as a graph for Graphviz.
+    /// where none is named; with what is hidden, or without it.
     Log {
         nodes: Vec<String>,
         shows_hidden: bool,
-        is_graph: bool,
+        picture: Picture,
     },
     /// That the bytes of standard input are read in this form and printed as text.
     Show(Form),
@@ -55,6 +71,13 @@ pub enum Wanted {
     /// That it is told why changesets of these nodes are unstable as the script of standard input leaves them, of all
     /// nodes where none is named.
     Why(Vec<String>),
+    /// That the messages of these files are taken one after the other into a repository that holds nothing at first.
+    Try(Vec<String>),
+    /// That it is told in what the repositories of the messages of two files differ.
+    Compare {
+        first: String,
+        second: String,
+    },
     /// The text of the help, which is the message of this answer.
     Help(Error),
     /// The version, which is the message of this answer.
@@ -152,7 +175,8 @@ with the line's number, a word, and the refusal's number and name; the script go
 A line that can't be read ends the script, and says so on standard error, as
   line 7: unknown command
 
-Statuses: 0 done, 1 a script that ended early, 2 wrong arguments, 3 want of memory.
+Statuses: 0 done, 1 a script that ended early, or a refused line where that is strict,
+2 wrong arguments, 3 want of memory.
 
 For example:
   printf 'node A\\ncommit A a draft\\nreport A\\n' | hgfleet run";
@@ -180,9 +204,10 @@ none is named, that of every node. The newest changeset comes first. Each has a 
   o  what is neither obsolete nor unstable
   x  what is obsolete
   *  what is unstable: an orphan, phase-divergent or content-divergent
-  %  what is hidden, with --hidden alone
+  #  what is hidden, with --hidden alone
 Lines lead from it to its parents. Beside it stand its short id, its label, its phase and its instabilities, and below
-an obsolete one what it was rewritten to. With --dot the same is a graph in the language of Graphviz.
+an obsolete one what it was rewritten to. With --dot the same is a graph in the language of Graphviz, with --json an
+array that has an object for each changeset. Lines that were refused are told on standard error.
 
 Statuses: 0 done, 1 a script that ended early or leaves no such name, or a text that
 can't be written, 2 wrong arguments, 3 want of memory.
@@ -210,6 +235,7 @@ Does the script of standard input, and then writes bytes to standard output. Wha
   store    the obsolescence markers of the node NAME, in Mercurial's format 0
   roots    the text of the phase roots of the node NAME
   message  the message that an offer of the script keeps as NAME
+Lines that were refused are told on standard error.
 
 Statuses: 0 done, 1 a script that ended early or leaves no such name, or a text that
 can't be written, 2 wrong arguments, 3 want of memory.
@@ -225,6 +251,7 @@ unstable; where none is named, of every node. Each unstable changeset has its na
   phase-divergent         from which public changeset it was made
   content-divergent       with which changesets, and from which one all of them come
 Below an orphan stands the line of a script that moves it to where its parent went, where there is such a changeset.
+Lines that were refused are told on standard error.
 
 Statuses: 0 done, 1 a script that ended early or leaves no such name, or a text that
 can't be written, 2 wrong arguments, 3 want of memory.
@@ -235,10 +262,10 @@ For example:
 // The words that name the forms.
 static FORMS: [&str; 3] = ["store", "roots", "message"];
 
-/// Reads the words of a command line, the program's name first. A run has the word `run` alone, and one with notes a
-/// flag or two behind it. A race has the number of its nodes, from 2 to 16, and that of its rounds, from 1 to 1,000. A
-/// log may have names of nodes and two flags, what is shown has a form, what is written a form and a name, and what is
-/// told names of nodes.
+/// Reads the words of a command line, the program's name first. A run has the word `run` alone, and one with notes some
+/// flags behind it. A race has the number of its nodes, from 2 to 16, and that of its rounds, from 1 to 1,000. A log
+/// may have names of nodes and flags, of which those of two pictures exclude each other. What is shown has a form, what
+/// is written a form and a name, and what is told names of nodes.
 pub fn read_args(alloc: Global, words: &[&str]) -> Result<Wanted, ArgumentFault>
     ensures { ArgumentsAnswer (map (λ s. s.now) words.now) result }
 {
@@ -247,6 +274,8 @@ pub fn read_args(alloc: Global, words: &[&str]) -> Result<Wanted, ArgumentFault>
         Ok(None) => {
             if is_run(words) {
                 Ok(Wanted::Run)
+            } else if is_log(words) {
+                Err(ArgumentFault::BadArguments(two_pictures(alloc)?))
             } else {
                 Err(ArgumentFault::BadArguments(further_words(alloc)?))
             }
@@ -273,14 +302,26 @@ fn names_run(word: &str) -> bool
     word == "run"
 }
 
+// Whether the words are those of a log. Without a fault they ask for nothing only where they ask for two pictures.
+fn is_log(words: &[&str]) -> bool {
+    words.len() >= 2 && words[1] == "log"
+}
+
+// The fault of a log that two pictures are asked of.
+fn two_pictures(alloc: Global) -> Result<Error, AllocError>
+    ensures { IfOk result (λ e. kind_of e ≡ ErrorKind.ArgumentConflict) }
+{
+    log(alloc)?.error(
+        ErrorKind::ArgumentConflict,
+        "the argument '--dot' cannot be used with '--json'",
+    )
+}
+
 // The fault of a run with words that the parser passes over, as `--`.
 fn further_words(alloc: Global) -> Result<Error, AllocError>
     ensures { IfOk result (λ e. kind_of e ≡ ErrorKind.UnknownArgument) }
 {
-    Command::new(alloc, "hgfleet run").error(
-        ErrorKind::UnknownArgument,
-        "a run takes no further words",
-    )
+    run(alloc)?.error(ErrorKind::UnknownArgument, "a run takes no further words")
 }
 
 // What the words ask for, where that is more than a run.
@@ -315,18 +356,25 @@ fn given_to(alloc: Global, name: &str, given: &ArgMatches<'_>) -> Result<Option<
         "show" => Ok(show_of(given)),
         "write" => write_of(alloc, given),
         "why" => why_of(alloc, given),
+        "try" => try_of(alloc, given),
+        "compare" => compare_of(alloc, given),
         _ => Ok(None),
     }
 }
 
-// The run with notes of these flags, none where no flag is given.
+// The run of these flags, none where no flag is given.
 fn run_of(run: &ArgMatches<'_>) -> Option<Wanted>
     ensures { IsRunTold (notes_given (rows_of (found_of run.now))) result }
 {
     let explains = flag_of(run, "explain");
     let traces = flag_of(run, "trace");
-    if explains || traces {
-        Some(Wanted::RunTold { explains, traces })
+    let is_strict = flag_of(run, "strict");
+    if explains || traces || is_strict {
+        Some(Wanted::RunTold {
+            explains,
+            traces,
+            is_strict,
+        })
     } else {
         None
     }
@@ -361,33 +409,53 @@ fn rounds_of(race: &ArgMatches<'_>) -> Option<u16>
     }
 }
 
-// The log of these nodes, with these flags.
+// The log of these nodes, with these flags, none where they ask for two pictures.
 fn log_of(alloc: Global, log: &ArgMatches<'_>) -> Result<Option<Wanted>, AllocError>
     ensures { IfOk result (IsLogOf (log_given (rows_of (found_of log.now)))) }
 {
-    let nodes = names_of(alloc, log)?;
-    let shows_hidden = flag_of(log, "hidden");
-    let is_graph = flag_of(log, "dot");
-    Ok(Some(Wanted::Log {
-        nodes,
-        shows_hidden,
-        is_graph,
-    }))
+    match picture_of(flag_of(log, "dot"), flag_of(log, "json")) {
+        Some(picture) => {
+            let nodes = words_of(alloc, log, "nodes")?;
+            let shows_hidden = flag_of(log, "hidden");
+            Ok(Some(Wanted::Log {
+                nodes,
+                shows_hidden,
+                picture,
+            }))
+        }
+        None => Ok(None),
+    }
+}
+
+// The one picture that is asked for: columns of text, where neither other one is.
+fn picture_of(is_graph: bool, is_json: bool) -> Option<Picture>
+    ensures { result ≡ picture_of is_graph is_json }
+{
+    match (is_graph, is_json) {
+        (false, false) => Some(Picture::Text),
+        (true, false) => Some(Picture::Graph),
+        (false, true) => Some(Picture::Json),
+        (true, true) => None,
+    }
 }
 
 // That it is told why of these nodes.
 fn why_of(alloc: Global, why: &ArgMatches<'_>) -> Result<Option<Wanted>, AllocError>
     ensures { IfOk result (IsWhyOf (names_given (rows_of (found_of why.now)))) }
 {
-    Ok(Some(Wanted::Why(names_of(alloc, why)?)))
+    Ok(Some(Wanted::Why(words_of(alloc, why, "nodes")?)))
 }
 
-// The names of nodes that are given.
-fn names_of(alloc: Global, log: &ArgMatches<'_>) -> Result<Vec<String>, AllocError>
-    ensures { IfOk result (λ names. texts_of names.items ≡ names_given (rows_of (found_of log.now))) }
+/// The words that are given for the argument of this name.
+pub(crate) fn words_of(
+    alloc: Global,
+    given: &ArgMatches<'_>,
+    name: &str,
+) -> Result<Vec<String>, AllocError>
+    ensures { IfOk result (λ words. texts_of words.items ≡ words_given name.now (rows_of (found_of given.now))) }
 {
-    match log.get_strs("nodes") {
-        Some(names) => copies_of(alloc, names),
+    match given.get_strs(name) {
+        Some(words) => copies_of(alloc, words),
         None => Ok(Vec::new(alloc)),
     }
 }
@@ -467,7 +535,9 @@ fn program<'a>(alloc: Global, forms: &'a [&'a str]) -> Result<Command<'a>, Alloc
         .subcommand(log(alloc)?)?
         .subcommand(show(alloc, forms)?)?
         .subcommand(write(alloc, forms)?)?
-        .subcommand(why(alloc)?)?;
+        .subcommand(why(alloc)?)?
+        .subcommand(try_command(alloc)?)?
+        .subcommand(compare_command(alloc)?)?;
     Ok(command)
 }
 
@@ -488,12 +558,18 @@ fn run<'a>(alloc: Global) -> Result<Command<'a>, AllocError>
     Command::new(alloc, "run")
         .about("Does the script of standard input and prints its reports")
         .after_help(SCRIPT_HELP)
+        .override_usage("hgfleet run [OPTIONS] < SCRIPT")
         .arg(flag(
             alloc,
             "explain",
             "Says what each refusal is about, and which word is at fault",
         ))?
-        .arg(flag(alloc, "trace", "Says what each accepted line did"))
+        .arg(flag(alloc, "trace", "Says what each accepted line did"))?
+        .arg(flag(
+            alloc,
+            "strict",
+            "Ends with status 1 where a line was refused",
+        ))
 }
 
 fn race<'a>(alloc: Global) -> Result<Command<'a>, AllocError>
@@ -524,8 +600,10 @@ fn log<'a>(alloc: Global) -> Result<Command<'a>, AllocError>
     Command::new(alloc, "log")
         .about("Draws the histories of the nodes of a script")
         .after_help(LOG_HELP)
+        .override_usage("hgfleet log [OPTIONS] [NODE]... < SCRIPT")
         .arg(flag(alloc, "hidden", "Draws what is hidden, too"))?
         .arg(flag(alloc, "dot", "Prints a graph in the language of Graphviz"))?
+        .arg(flag(alloc, "json", "Prints an array of JSON"))?
         .arg(nodes_argument(alloc))
 }
 
@@ -555,6 +633,7 @@ fn show<'a>(alloc: Global, forms: &'a [&'a str]) -> Result<Command<'a>, AllocErr
     Command::new(alloc, "show")
         .about("Prints the bytes of markers, phase roots or a message as text")
         .after_help(SHOW_HELP)
+        .override_usage("hgfleet show <FORM> < BYTES")
         .arg(form_argument(alloc, forms))
 }
 
@@ -569,6 +648,7 @@ fn write<'a>(alloc: Global, forms: &'a [&'a str]) -> Result<Command<'a>, AllocEr
     Command::new(alloc, "write")
         .about("Writes markers, phase roots or a message of a script as bytes")
         .after_help(WRITE_HELP)
+        .override_usage("hgfleet write <FORM> <NAME> < SCRIPT")
         .arg(form_argument(alloc, forms))?
         .arg(name)
 }
@@ -579,6 +659,7 @@ fn why<'a>(alloc: Global) -> Result<Command<'a>, AllocError>
     Command::new(alloc, "why")
         .about("Tells why changesets of a script's nodes are unstable")
         .after_help(WHY_HELP)
+        .override_usage("hgfleet why [NODE]... < SCRIPT")
         .arg(nodes_argument(alloc))
 }
 
@@ -607,10 +688,13 @@ pub fn what_words_ask_for()
     ensures no_notes { (name : Text) → run_notes (name ∷ codes "run" ∷ []) ≡ None }
     ensures explain { (name : Text) → faults_at (name ∷ codes "run" ∷ codes "--explain" ∷ []) ≡ [] }
     ensures explained { (name : Text)
-        → run_notes (name ∷ codes "run" ∷ codes "--explain" ∷ []) ≡ Some (true, false) }
-    ensures traced { (name : Text) → run_notes (name ∷ codes "run" ∷ codes "--trace" ∷ []) ≡ Some (false, true) }
+        → run_notes (name ∷ codes "run" ∷ codes "--explain" ∷ []) ≡ Some (true, false, false) }
+    ensures traced { (name : Text) → run_notes (name ∷ codes "run" ∷ codes "--trace" ∷ [])
+        ≡ Some (false, true, false) }
+    ensures strict { (name : Text) → run_notes (name ∷ codes "run" ∷ codes "--strict" ∷ [])
+        ≡ Some (false, false, true) }
     ensures both_notes { (name : Text)
-        → run_notes (name ∷ codes "run" ∷ codes "--trace" ∷ codes "--explain" ∷ []) ≡ Some (true, true) }
+        → run_notes (name ∷ codes "run" ∷ codes "--trace" ∷ codes "--explain" ∷ []) ≡ Some (true, true, false) }
     ensures explain_more { (name : Text)
         → faults_at (name ∷ codes "run" ∷ codes "--explain" ∷ codes "x" ∷ []) ≡ ErrorKind.UnknownArgument ∷ [] }
     ensures race { (name : Text) → faults_at (name ∷ codes "race" ∷ codes "--nodes" ∷ codes "4" ∷ codes "--rounds"
@@ -632,13 +716,19 @@ pub fn what_words_ask_for()
     ensures help_of_race { (name : Text)
         → faults_at (name ∷ codes "race" ∷ codes "--help" ∷ []) ≡ ErrorKind.DisplayHelp ∷ [] }
     ensures log { (name : Text) → faults_at (name ∷ codes "log" ∷ []) ≡ [] }
-    ensures log_options { (name : Text) → log_options (name ∷ codes "log" ∷ []) ≡ Some ([], false, false) }
+    ensures log_options { (name : Text) → log_options (name ∷ codes "log" ∷ []) ≡ Some ([], false, Picture.Text) }
     ensures log_of_two { (name : Text) → faults_at (name ∷ codes "log" ∷ codes "--hidden" ∷ codes "A" ∷ codes "B" ∷ [])
         ≡ [] }
     ensures options_of_two { (name : Text) → log_options (name ∷ codes "log" ∷ codes "--hidden" ∷ codes "A"
-        ∷ codes "B" ∷ []) ≡ Some (codes "A" ∷ codes "B" ∷ [], true, false) }
+        ∷ codes "B" ∷ []) ≡ Some (codes "A" ∷ codes "B" ∷ [], true, Picture.Text) }
     ensures graph { (name : Text) → log_options (name ∷ codes "log" ∷ codes "A" ∷ codes "--dot" ∷ [])
-        ≡ Some (codes "A" ∷ [], false, true) }
+        ≡ Some (codes "A" ∷ [], false, Picture.Graph) }
+    ensures json { (name : Text)
+        → log_options (name ∷ codes "log" ∷ codes "--json" ∷ []) ≡ Some ([], false, Picture.Json) }
+    ensures two_pictures { (name : Text)
+        → faults_at (name ∷ codes "log" ∷ codes "--json" ∷ codes "--dot" ∷ []) ≡ [] }
+    ensures no_picture { (name : Text)
+        → log_options (name ∷ codes "log" ∷ codes "--json" ∷ codes "--dot" ∷ []) ≡ None }
     ensures help_of_log { (name : Text)
         → faults_at (name ∷ codes "log" ∷ codes "--help" ∷ []) ≡ ErrorKind.DisplayHelp ∷ [] }
     ensures show_store { (name : Text) → faults_at (name ∷ codes "show" ∷ codes "store" ∷ []) ≡ [] }

@@ -1,72 +1,167 @@
 //! What the program does, from what a reader has to a writer.
-ghost use Rattle.std.specs.Prelude.{◌≡◌, List, ℕ, string_bytes, MatchOption, IfOk, IfErr, IsSome, OnOk, All, map};
+ghost use Rattle.std.specs.Prelude.{◌≡◌, ◌++◌, List, ℕ, Some, string_bytes, MatchOption, IfOk, IfErr, IsSome, OnOk};
+ghost use Rattle.std.specs.Prelude.{All, map};
 ghost use Rattle.std.specs.Io.KnownBytes.{Appends};
-ghost use Rattle.hg_script.specs.declared.fleet.Fleet.{Fleet as FleetValue};
+ghost use Rattle.hg_log.specs.Graphs.{IsGraphOf};
+ghost use Rattle.hg_log.specs.Objects.{IsArray, names_and_states};
 ghost use Rattle.hg_script.specs.Scripts.{IsLeftFleet};
 ghost use Rattle.hg_script.specs.Scripts.{node_named};
+ghost use Rattle.hg_script.specs.Stops.{IsStop};
 ghost use Rattle.hgfleet.specs.Arguments.{IsWithinBounds, texts_of};
-ghost use Rattle.hgfleet.specs.Commands.{AreDrawn, EndsAfterScript, IsDone, IsDrawing, IsDrawn, IsFailure, IsHistory};
-ghost use Rattle.hgfleet.specs.Commands.{IsFormOf, IsUnknownAmong, IsUnknownOf, drawn_names, drawing_of, heading};
+ghost use Rattle.hgfleet.specs.Commands.{AreDrawn, AreShown, DrawsNodes, EndsAfterScript, EndsNoted, IsDone, IsDrawing};
+ghost use Rattle.hgfleet.specs.Commands.{IsDrawn, IsFailure, IsHistory, IsNoted, IsUnknownAmong, IsUnknownOf, IsUntold};
+ghost use Rattle.hgfleet.specs.Commands.{TellsRefused, WritesForm, closing, drawn_names, heading, notes_of};
+ghost use Rattle.hgfleet.specs.Commands.{overview_of, refusals_told, state_of, states_of};
 
-use crate::arguments::Wanted;
+use crate::arguments::{Picture, Wanted};
 use crate::failure::Failure;
+use crate::trying::{compare_files, try_files};
 use clap::Error;
-use hg_log::{DrawFault, draw_graph, draw_log};
+use hg_log::{DrawFault, NamedNode, draw_graphs, draw_log, draw_objects};
 use hg_node_set::IdKeys;
 use hg_race::run_race;
-use hg_script::{Fleet, Notes, RunFault, run_fleet, run_script, run_told};
+use hg_script::{Fleet, Notes, Outcome, RunFault, ToldFault, run_script, run_told};
 use hg_show::{Form, show, write_bytes, write_roots, write_store};
 use hg_view::Kept;
 use hg_why::write_why;
 use std::alloc::{AllocError, Global};
-use std::io::{BufRead, Read, Write, sink};
+use std::io::{BufRead, Read, Write};
 use std::random::RandomSource;
+use std::rt::Files;
 use std::sync::Wait;
 use std::thread::Threads;
 
 /// Does what is wanted with the script, or the bytes, that the reader has, and writes what comes of it. What was
-/// written before a fault stays, and may be in a buffer of the writer.
-pub fn perform<'a, H: AllocGlobal + RandomSource + Threads + Wait + Sync, R: BufRead, W: Write>(
+/// written before a fault stays, and may be in a buffer of the writer. Of a script whose own lines aren't printed it
+/// puts into the text why lines were refused, and that what is shown is without them.
+pub fn perform<
+    'a,
+    H: AllocGlobal + RandomSource + Files + Threads + Wait + Sync,
+    R: BufRead,
+    W: Write,
+>(
     rt: &H,
     wanted: &'a Wanted,
     reader: &mut R,
     writer: &mut W,
+    told: &mut Vec<u8>,
 ) -> Result<(), Failure<'a>>
     requires { IsWithinBounds wanted.now }
     ensures done { OnOk result
-        (IsDone wanted.now (R.remaining reader.old) (W.contents writer.old) (W.contents writer.new)) }
+        (IsDone wanted.now (R.remaining reader.old) (W.contents writer.old) (W.contents writer.new)
+        told.old.items told.new.items) }
     ensures failed { IfErr result (IsFailure wanted.now (R.remaining reader.old) (R.remaining reader.new)
-        (W.contents writer.old) (W.contents writer.new)) }
+        (W.contents writer.old) (W.contents writer.new) told.old.items told.new.items) }
+    ensures untold { IsUntold wanted.now told.old.items told.new.items }
 {
     let alloc = rt.alloc();
     match wanted {
-        Wanted::Run => Ok(run_script(alloc, secret_keys(rt)?, reader, writer)?),
-        Wanted::RunTold { explains, traces } => {
-            let notes = Notes {
-                explains: *explains,
-                traces: *traces,
-            };
-            run_told(alloc, secret_keys(rt)?, reader, writer, notes)?;
-            Ok(())
+        Wanted::Run => return Ok(run_script(alloc, secret_keys(rt)?, reader, writer)?),
+        Wanted::RunTold {
+            explains,
+            traces,
+            is_strict,
+        } => {
+            return run_noted(rt, reader, writer, *explains, *traces, *is_strict);
         }
-        Wanted::Race { nodes, rounds } => Ok(run_race(rt, alloc, *nodes, *rounds, writer)?),
+        Wanted::Race { nodes, rounds } => return Ok(run_race(rt, alloc, *nodes, *rounds, writer)?),
         Wanted::Log {
             nodes,
             shows_hidden,
-            is_graph,
+            picture,
         } => {
-            let drawing = drawing_of(*shows_hidden, *is_graph);
-            draw_script(alloc, secret_keys(rt)?, reader, writer, nodes, drawing)
+            let overview = overview_of(*shows_hidden, *picture);
+            return draw_script(rt, reader, writer, told, nodes, overview);
         }
         Wanted::Why(nodes) => {
-            draw_script(alloc, secret_keys(rt)?, reader, writer, nodes, Drawing::Why)
+            let overview = Overview::Each(Drawing::Why);
+            return draw_script(rt, reader, writer, told, nodes, overview);
         }
-        Wanted::Show(form) => Ok(show(alloc, *form, reader, writer)?),
+        Wanted::Show(form) => return Ok(show(alloc, *form, reader, writer)?),
         Wanted::Write { form, name } => {
-            write(alloc, secret_keys(rt)?, reader, writer, *form, name)
+            return write(rt, reader, writer, told, *form, name);
         }
-        Wanted::Help(text) | Wanted::Version(text) => write_text(text, writer),
+        Wanted::Try(names) => return try_files(rt, secret_keys(rt)?, names, reader, writer),
+        Wanted::Compare { first, second } => {
+            return compare_files(rt, secret_keys(rt)?, first, second, reader, writer);
+        }
+        Wanted::Help(text) | Wanted::Version(text) => return write_text(text, writer),
     }
+}
+
+// Runs the script with these notes. Where that is strict, refused lines are a failure.
+fn run_noted<R: Read, W: Write>(
+    rt: &(impl AllocGlobal + RandomSource),
+    reader: &mut R,
+    writer: &mut W,
+    explains: bool,
+    traces: bool,
+    is_strict: bool,
+) -> Result<(), Failure<'static>>
+    ensures done { OnOk result (IsNoted is_strict (notes_of explains traces) (R.remaining reader.old)
+        (W.contents writer.old) (W.contents writer.new)) }
+    ensures failed { IfErr result (EndsNoted is_strict (notes_of explains traces) (R.remaining reader.old)
+        (W.contents writer.old) (W.contents writer.new)) }
+{
+    let notes = Notes {
+        explains,
+        traces,
+        refusals_alone: false,
+    };
+    let outcome = run_told(rt.alloc(), secret_keys(rt)?, reader, writer, notes)?;
+    if outcome.refused == 0 {
+        return Ok(());
+    }
+    if is_strict {
+        return Err(Failure::Refused(outcome.refused));
+    }
+    Ok(())
+}
+
+// The fleet as the script that the reader has leaves it. Why lines were refused is put into the text, and behind that,
+// where any was, that they are left out of what is shown.
+fn run_apart<R: Read>(
+    alloc: Global,
+    keys: IdKeys,
+    reader: &mut R,
+    told: &mut Vec<u8>,
+) -> Result<Fleet, ToldFault>
+    ensures ran { IfOk result (IsLeftFleet (R.remaining reader.old)) }
+    ensures told { IfOk result (λ fleet.
+        TellsRefused (R.remaining reader.old) fleet told.old.items told.new.items) }
+    ensures stopped { IfErr result (λ ended.
+        IsStop refusals_told (R.remaining reader.old) ended.fault (Some told.old.items) (Some told.new.items)) }
+{
+    let notes = Notes {
+        explains: true,
+        traces: false,
+        refusals_alone: true,
+    };
+    match run_told(alloc, keys, reader, told, notes) {
+        Ok(outcome) => {
+            let Outcome { fleet, refused } = outcome;
+            match close(told, refused) {
+                Ok(()) => Ok(fleet),
+                Err(_) => Err(ToldFault::from(RunFault::NoMemory)),
+            }
+        }
+        Err(ended) => match ended.fault {
+            // A text refuses what is put into it for want of memory alone.
+            RunFault::Write => Err(ToldFault::from(RunFault::NoMemory)),
+            _ => Err(ended),
+        },
+    }
+}
+
+// Says behind the refusals of so many lines that these are left out.
+fn close(told: &mut Vec<u8>, refused: usize) -> Result<(), AllocError>
+    ensures { OnOk result (told.new.items ≡ told.old.items ++ closing refused) }
+{
+    if refused == 0 {
+        return Ok(());
+    }
+    told.extend_from_slice(b"hgfleet: what is shown is without the lines that were refused\n")?;
+    Ok(())
 }
 
 // Keys that no writer of a script knows. Where the system draws none, the answer is that of a failed read.
@@ -89,49 +184,57 @@ fn write_text<W: Write>(text: &Error, writer: &mut W) -> Result<(), Failure<'sta
     }
 }
 
+// What is shown of nodes.
+#[derive(Clone, Copy)]
+enum Overview {
+    // A drawing of each.
+    Each(Drawing),
+    // One graph for Graphviz.
+    Graph { shows_hidden: bool },
+    // One array of JSON.
+    Array { shows_hidden: bool },
+}
+
 // What is drawn, or told, of a node.
 #[derive(Clone, Copy)]
 enum Drawing {
     // Its history as a text.
     Log { shows_hidden: bool },
-    // Its history as a graph for Graphviz.
-    Graph { shows_hidden: bool },
     // Why changesets are unstable.
     Why,
 }
 
-fn drawing_of(shows_hidden: bool, is_graph: bool) -> Drawing
-    ensures { result ≡ drawing_of shows_hidden is_graph }
+fn overview_of(shows_hidden: bool, picture: Picture) -> Overview
+    ensures { result ≡ overview_of shows_hidden picture }
 {
-    if is_graph {
-        Drawing::Graph { shows_hidden }
-    } else {
-        Drawing::Log { shows_hidden }
+    match picture {
+        Picture::Text => Overview::Each(Drawing::Log { shows_hidden }),
+        Picture::Graph => Overview::Graph { shows_hidden },
+        Picture::Json => Overview::Array { shows_hidden },
     }
 }
 
-// Draws these nodes as the script that the reader has leaves them, or all its nodes where none is named. Nothing is
-// drawn where one of the names is unknown. What the script prints goes nowhere.
+// Shows these nodes as the script that the reader has leaves them, or all its nodes where none is named. Nothing is
+// shown where one of the names is unknown.
 fn draw_script<'a, R: Read, W: Write>(
-    alloc: Global,
-    keys: IdKeys,
+    rt: &(impl AllocGlobal + RandomSource),
     reader: &mut R,
     writer: &mut W,
+    told: &mut Vec<u8>,
     nodes: &'a [String],
-    drawing: Drawing,
+    overview: Overview,
 ) -> Result<(), Failure<'a>>
-    ensures drawn { OnOk result ((fleet : FleetValue) × (text : List ℕ) × IsLeftFleet (R.remaining reader.old) fleet
-        × All (λ name. IsSome (node_named fleet (string_bytes name))) nodes.entry.now
-        × AreDrawn fleet drawing (drawn_names fleet (texts_of nodes.entry.now)) text
-        × Appends (W.contents writer.old) (W.contents writer.new) text) }
-    ensures failed { IfErr result
-        (EndsAfterScript (R.remaining reader.old) (IsUnknownAmong nodes.entry.now)) }
+    ensures drawn { OnOk result (DrawsNodes nodes.entry.now overview (R.remaining reader.old)
+        (W.contents writer.old) (W.contents writer.new) told.old.items told.new.items) }
+    ensures failed { IfErr result (EndsAfterScript (R.remaining reader.old) (IsUnknownAmong nodes.entry.now)
+        told.old.items told.new.items) }
 {
-    let fleet = run_fleet(alloc, keys, reader, &mut sink())?;
+    let alloc = rt.alloc();
+    let fleet = run_apart(alloc, secret_keys(rt)?, reader, told)?;
     match unknown_name(&fleet, nodes) {
         Some(name) => Err(Failure::UnknownName(name)),
         None => {
-            draw_nodes(alloc, &fleet, nodes, drawing, writer)?;
+            draw_nodes(alloc, &fleet, nodes, overview, writer)?;
             Ok(())
         }
     }
@@ -156,19 +259,111 @@ fn draw_nodes<W: Write>(
     alloc: Global,
     fleet: &Fleet,
     nodes: &[String],
-    drawing: Drawing,
+    overview: Overview,
     writer: &mut W,
 ) -> Result<(), DrawFault>
     ensures { OnOk result ((text : List ℕ)
-        × AreDrawn fleet.now drawing (drawn_names fleet.now (texts_of nodes.now)) text
+        × AreShown fleet.now overview (drawn_names fleet.now (texts_of nodes.now)) text
         × Appends (W.contents writer.old) (W.contents writer.new) text) }
 {
     if nodes.is_empty() {
-        draw_all(alloc, fleet, &fleet.node_names()?, drawing, writer)?;
+        draw_named(alloc, fleet, &fleet.node_names()?, overview, writer)?;
         return Ok(());
     }
-    draw_all(alloc, fleet, &bytes_of(alloc, nodes)?, drawing, writer)?;
+    draw_named(alloc, fleet, &bytes_of(alloc, nodes)?, overview, writer)?;
     Ok(())
+}
+
+// Shows the nodes of these names, those that there are.
+fn draw_named<W: Write>(
+    alloc: Global,
+    fleet: &Fleet,
+    names: &[&[u8]],
+    overview: Overview,
+    writer: &mut W,
+) -> Result<(), DrawFault>
+    ensures { OnOk result ((text : List ℕ) × AreShown fleet.now overview (map (λ name. name.now) names.now) text
+        × Appends (W.contents writer.old) (W.contents writer.new) text) }
+{
+    match overview {
+        Overview::Each(drawing) => draw_all(alloc, fleet, names, drawing, writer),
+        Overview::Graph { shows_hidden } => draw_graph(alloc, fleet, names, shows_hidden, writer),
+        Overview::Array { shows_hidden } => draw_array(alloc, fleet, names, shows_hidden, writer),
+    }
+}
+
+fn draw_graph<W: Write>(
+    alloc: Global,
+    fleet: &Fleet,
+    names: &[&[u8]],
+    shows_hidden: bool,
+    writer: &mut W,
+) -> Result<(), DrawFault>
+    ensures { OnOk result ((text : List ℕ)
+        × IsGraphOf shows_hidden (states_of fleet.now (map (λ name. name.now) names.now)) text
+        × Appends (W.contents writer.old) (W.contents writer.new) text) }
+{
+    draw_graphs(
+        alloc,
+        &named_nodes(alloc, fleet, names)?,
+        shows_hidden,
+        writer,
+    )?;
+    Ok(())
+}
+
+fn draw_array<W: Write>(
+    alloc: Global,
+    fleet: &Fleet,
+    names: &[&[u8]],
+    shows_hidden: bool,
+    writer: &mut W,
+) -> Result<(), DrawFault>
+    ensures { OnOk result ((text : List ℕ)
+        × IsArray shows_hidden (states_of fleet.now (map (λ name. name.now) names.now)) text
+        × Appends (W.contents writer.old) (W.contents writer.new) text) }
+{
+    draw_objects(
+        alloc,
+        &named_nodes(alloc, fleet, names)?,
+        shows_hidden,
+        writer,
+    )?;
+    Ok(())
+}
+
+// The nodes of these names, those that there are.
+fn named_nodes<'a>(
+    alloc: Global,
+    fleet: &'a Fleet,
+    names: &[&'a [u8]],
+) -> Result<Vec<NamedNode<'a>>, AllocError>
+    ensures { IfOk result (λ nodes.
+        names_and_states nodes.items ≡ states_of fleet.entry.now (map (λ name. name.now) names.now)) }
+{
+    let mut nodes = Vec::with_capacity(alloc, names.len())?;
+    for name in names {
+        push_node(&mut nodes, fleet, *name)?;
+    }
+    Ok(nodes)
+}
+
+// Appends the node of this name, if there is one.
+fn push_node<'a>(
+    nodes: &mut Vec<NamedNode<'a>>,
+    fleet: &'a Fleet,
+    name: &'a [u8],
+) -> Result<(), AllocError>
+    ensures { OnOk result (names_and_states nodes.new.items
+        ≡ names_and_states nodes.old.items ++ state_of fleet.entry.now name.entry.now) }
+{
+    match fleet.kept_of(name) {
+        Some(kept) => {
+            nodes.push(NamedNode { name, kept })?;
+            Ok(())
+        }
+        None => Ok(()),
+    }
 }
 
 fn bytes_of<'a>(alloc: Global, names: &'a [String]) -> Result<Vec<&'a [u8]>, AllocError>
@@ -227,7 +422,6 @@ fn draw<W: Write>(
 {
     match drawing {
         Drawing::Log { shows_hidden } => draw_below(alloc, name, kept, shows_hidden, writer),
-        Drawing::Graph { shows_hidden } => draw_graph(alloc, name, kept, shows_hidden, writer),
         Drawing::Why => write_why(alloc, name, kept, writer),
     }
 }
@@ -261,20 +455,21 @@ fn write_heading<W: Write>(alloc: Global, name: &[u8], writer: &mut W) -> Result
 }
 
 // Writes the store or the roots of the node of this name, or the message of this name, as the script that the reader
-// has leaves them. What the script prints goes nowhere.
+// has leaves them.
 fn write<'a, R: Read, W: Write>(
-    alloc: Global,
-    keys: IdKeys,
+    rt: &(impl AllocGlobal + RandomSource),
     reader: &mut R,
     writer: &mut W,
+    told: &mut Vec<u8>,
     form: Form,
     name: &'a str,
 ) -> Result<(), Failure<'a>>
-    ensures written { OnOk result ((fleet : FleetValue) × (text : List ℕ) × IsLeftFleet (R.remaining reader.old) fleet
-        × IsFormOf fleet form name.entry.now text × Appends (W.contents writer.old) (W.contents writer.new) text) }
-    ensures failed { IfErr result (EndsAfterScript (R.remaining reader.old) (IsUnknownOf form name.entry.now)) }
+    ensures written { OnOk result (WritesForm form name.entry.now (R.remaining reader.old)
+        (W.contents writer.old) (W.contents writer.new) told.old.items told.new.items) }
+    ensures failed { IfErr result (EndsAfterScript (R.remaining reader.old) (IsUnknownOf form name.entry.now)
+        told.old.items told.new.items) }
 {
-    let fleet = run_fleet(alloc, keys, reader, &mut sink())?;
+    let fleet = run_apart(rt.alloc(), secret_keys(rt)?, reader, told)?;
     match form {
         Form::Store => match fleet.kept_of(name.as_bytes()) {
             Some(kept) => {

@@ -2,9 +2,11 @@
 ghost use Rattle.std.specs.Prelude.{◌≡◌};
 ghost use Rattle.hgfleet.specs.Commands.{failure_status};
 
+use crate::files::FileFault;
 use hg_log::DrawFault;
 use hg_script::{RunFault, ToldFault};
 use hg_show::{ShowFault, WriteFault};
+use std::alloc::{AllocError, AllocFailed};
 use std::fmt;
 
 /// Why a command ended early. What was printed before stays.
@@ -14,10 +16,20 @@ pub enum Failure<'a> {
     Run(RunFault),
     /// What ended a script with notes.
     Told(ToldFault),
+    /// So many lines of a strict run were refused.
+    Refused(usize),
     /// Why bytes weren't shown.
     Show(ShowFault),
     /// The script leaves no node, or no message, of this name.
     UnknownName(&'a str),
+    /// The file of this name wasn't read.
+    File(&'a str, FileFault),
+    /// A message of files was refused.
+    NotTaken,
+    /// Two repositories differ.
+    Differ,
+    /// Nobody reads what is written any more, so that isn't told.
+    Unread,
 }
 
 impl Failure<'_> {
@@ -28,8 +40,23 @@ impl Failure<'_> {
         match self {
             Failure::Run(fault) => fault.status(),
             Failure::Told(fault) => fault.status(),
+            Failure::Refused(_) => 1,
             Failure::Show(fault) => fault.status(),
             Failure::UnknownName(_) => 1,
+            Failure::File(_, _) => 1,
+            Failure::NotTaken => 1,
+            Failure::Differ => 1,
+            Failure::Unread => 1,
+        }
+    }
+
+    /// Whether a text couldn't be written.
+    pub fn is_unwritten(&self) -> bool {
+        match self {
+            Failure::Run(fault) => *fault == RunFault::Write,
+            Failure::Told(told) => told.fault == RunFault::Write,
+            Failure::Show(ShowFault::Write) => true,
+            _ => false,
         }
     }
 }
@@ -39,8 +66,14 @@ impl fmt::Display for Failure<'_> {
         match self {
             Failure::Run(fault) => write!(f, "{fault}"),
             Failure::Told(fault) => write!(f, "{fault}"),
+            Failure::Refused(1) => write!(f, "hgfleet: 1 line was refused"),
+            Failure::Refused(count) => write!(f, "hgfleet: {count} lines were refused"),
             Failure::Show(fault) => write!(f, "{fault}"),
             Failure::UnknownName(name) => write!(f, "unknown name: {name}"),
+            Failure::File(name, fault) => write!(f, "{name}: {fault}"),
+            Failure::NotTaken => write!(f, "hgfleet: a message was refused"),
+            Failure::Differ => write!(f, "hgfleet: the repositories differ"),
+            Failure::Unread => Ok(()),
         }
     }
 }
@@ -98,5 +131,25 @@ impl From<DrawFault> for Failure<'_> {
             DrawFault::Write => Failure::Run(RunFault::Write),
             DrawFault::NoMemory => Failure::Run(RunFault::NoMemory),
         }
+    }
+}
+
+impl From<AllocError> for Failure<'_> {
+    ghost use Rattle.hgfleet.specs.Trying.{IsWantOfMemory};
+
+    ghost from_gives = { λ _ e. IsWantOfMemory e };
+
+    fn from(_error: AllocError) -> Self {
+        Failure::Run(RunFault::NoMemory)
+    }
+}
+
+impl<T: Drop> From<AllocFailed<T>> for Failure<'_> {
+    ghost use Rattle.hgfleet.specs.Trying.{IsWantOfMemory};
+
+    ghost from_gives = { λ _ e. IsWantOfMemory e };
+
+    fn from(_error: AllocFailed<T>) -> Self {
+        Failure::Run(RunFault::NoMemory)
     }
 }

@@ -14,7 +14,10 @@ ghost use Rattle.hgfleet.specs.Commands.{failure_status};
 mod arguments;
 mod commands;
 mod failure;
+mod files;
 mod terminal;
+mod try_arguments;
+mod trying;
 
 use arguments::{ArgumentFault, Wanted, read_args};
 use commands::perform;
@@ -24,6 +27,7 @@ use std::env::Env;
 use std::io::{BufWriter, ErrorKind, IsTerminal, Write};
 use std::process::ExitCode;
 use std::random::RandomSource;
+use std::rt::Files;
 use std::sync::Wait;
 use std::thread::Threads;
 use std::{env, io};
@@ -40,7 +44,11 @@ fn main(rt: HostRuntime) -> ExitCode {
                 if rt.stdin().is_terminal() {
                     invite(&rt, &wanted);
                 }
-                finish(&rt, answer(&rt, &wanted))
+                let mut told = Vec::new(rt.alloc());
+                let done = answer(&rt, &wanted, &mut told);
+                // What is shown stands where it can't be told what it is without.
+                let _ = rt.stderr().write_all(&told);
+                finish(&rt, done)
             }
         },
         Err(fault) => {
@@ -58,10 +66,11 @@ fn invite(rt: &impl Eprint, wanted: &Wanted) {
     }
 }
 
-// Does what is wanted, from standard input to standard output.
+// Does what is wanted, from standard input to standard output. What is told of refused lines is put into the text.
 fn answer<'a>(
-    rt: &(impl Print + Input + AllocGlobal + RandomSource + Threads + Wait + Sync),
+    rt: &(impl Print + Input + AllocGlobal + RandomSource + Files + Threads + Wait + Sync),
     wanted: &'a Wanted,
+    told: &mut Vec<u8>,
 ) -> Result<(), Failure<'a>>
     requires { IsWithinBounds wanted.now }
 {
@@ -69,9 +78,24 @@ fn answer<'a>(
         Ok(writer) => writer,
         Err(_) => return Err(Failure::Run(RunFault::NoMemory)),
     };
-    let done = perform(rt, wanted, &mut rt.reader(), &mut writer);
-    let flushed = writer.flush().map_err(|_| Failure::Run(RunFault::Write));
-    done.and(flushed)
+    let done = perform(rt, wanted, &mut rt.reader(), &mut writer, told);
+    match writer.flush() {
+        Ok(()) => done,
+        Err(error) => {
+            if error.kind() == ErrorKind::BrokenPipe && is_only_unwritten(&done) {
+                return Err(Failure::Unread);
+            }
+            done.and(Err(Failure::Run(RunFault::Write)))
+        }
+    }
+}
+
+// Whether nothing but the writing of a text ended the command, if anything did.
+fn is_only_unwritten(done: &Result<(), Failure<'_>>) -> bool {
+    match done {
+        Ok(()) => true,
+        Err(failure) => failure.is_unwritten(),
+    }
 }
 
 // The status of a command, after its failure was told. One that can't be written leaves the status as it is.
@@ -81,6 +105,7 @@ fn finish(rt: &impl Eprint, done: Result<(), Failure<'_>>) -> ExitCode
 {
     match done {
         Ok(()) => ExitCode::SUCCESS,
+        Err(Failure::Unread) => ExitCode::from(1),
         Err(failure) => {
             let _ = eprintln!(rt; "{failure}");
             ExitCode::from(failure.status())

@@ -15,7 +15,11 @@ pub fn invitation(wanted: &Wanted) -> Option<&'static str> {
         Wanted::Show(_) => {
             Some("hgfleet: reading bytes from standard input; end them with Ctrl-D")
         }
-        Wanted::Race { .. } | Wanted::Help(_) | Wanted::Version(_) => None,
+        Wanted::Race { .. }
+        | Wanted::Try(_)
+        | Wanted::Compare { .. }
+        | Wanted::Help(_)
+        | Wanted::Version(_) => None,
     }
 }
 

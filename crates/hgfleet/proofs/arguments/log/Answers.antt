@@ -8,11 +8,14 @@ use Rattle.hgfleet.proofs.arguments.log.Goals as goal
 
 pub returns : goal.returns
 returns c =
-    let bare : app_of c.after_help.result ≡ new_app (codes "log") =
-    ap app_of_fields c.after_help.ensures ∙ ap app_of_fields c.about.ensures ∙ c.new.ensures.app in
-    let local = ap has_globals c.after_help.ensures ∙ ap has_globals c.about.ensures ∙ c.new.ensures.local in
+    let bare : app_of c.override_usage.result ≡ new_app (codes "log") =
+    ap app_of_fields c.override_usage.ensures ∙ ap app_of_fields c.after_help.ensures
+    ∙ ap app_of_fields c.about.ensures ∙ c.new.ensures.app in
+    let local = ap has_globals c.override_usage.ensures ∙ ap has_globals c.after_help.ensures
+    ∙ ap has_globals c.about.ensures ∙ c.new.ensures.local in
     let hidden = c.flag.ensures in
     let dot = c.flag-2.ensures in
+    let json = c.flag-3.ensures in
     let nodes = c.nodes_argument.ensures in
     let with_hidden : app_of c.in_ok-arg.field-0 ≡ with_rule (new_app (codes "log")) (flag_rule (codes "hidden")) =
     c.in_ok-arg.ensures.shape hidden.1 ∙ ap₂ with_rule bare hidden.0 in
@@ -21,9 +24,14 @@ returns c =
     ≡ with_rule (with_rule (new_app (codes "log")) (flag_rule (codes "hidden"))) (flag_rule (codes "dot")) =
     c.in_ok-arg-2.ensures.shape dot.1 ∙ ap₂ with_rule with_hidden dot.0 in
     let dot_local = c.in_ok-arg-2.ensures.globals ∙ ap₂ either hidden_local dot.1 in
-    IfOk-weaker c.arg-3.result _ _
+    let with_json : app_of c.in_ok-arg-3.field-0
+    ≡ with_rule (with_rule (with_rule (new_app (codes "log")) (flag_rule (codes "hidden"))) (flag_rule (codes "dot")))
+    (flag_rule (codes "json")) =
+    c.in_ok-arg-3.ensures.shape json.1 ∙ ap₂ with_rule with_dot json.0 in
+    let json_local = c.in_ok-arg-3.ensures.globals ∙ ap₂ either dot_local json.1 in
+    IfOk-weaker c.arg-4.result _ _
     (λ command h. (
-      h.shape nodes.1 ∙ ap₂ with_rule with_dot nodes.0,
-      h.globals ∙ ap₂ either dot_local nodes.1,
+      h.shape nodes.1 ∙ ap₂ with_rule with_json nodes.0,
+      h.globals ∙ ap₂ either json_local nodes.1,
     ))
-    c.arg-3.ensures
+    c.arg-4.ensures

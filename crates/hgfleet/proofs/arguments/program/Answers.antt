@@ -1,6 +1,7 @@
 use Rattle.std.proofs.Common.{ap, ap₂, ◌≡◌, ◌∙◌}
 use Rattle.clap.specs.Words.{App, Shape, app_of, with_subcommand}
-use Rattle.hgfleet.specs.Arguments.{log, program_alone, race, run, show_at, write_at}
+use Rattle.hgfleet.specs.Arguments.{Words, log, program_alone, race, run, show_at, why, write_at}
+use Rattle.hgfleet.specs.TryArguments.{try_app}
 use Rattle.hgfleet.proofs.arguments.program.Goals as goal
 
 abbrev top_of : App → Shape
@@ -14,6 +15,10 @@ with_race = with_subcommand with_run race.top
 
 abbrev with_log : App
 with_log = with_subcommand with_race log.top
+
+abbrev with_why : Words → App
+with_why forms =
+    with_subcommand (with_subcommand (with_subcommand with_log (show_at forms).top) (write_at forms).top) why.top
 
 pub returns : goal.returns
 returns c =
@@ -33,5 +38,11 @@ returns c =
     ≡ with_subcommand (with_subcommand with_log (show_at c.args.forms).top) (write_at c.args.forms).top =
     c.in_ok-subcommand-5.ensures.shape c.in_ok-write.ensures.1
     ∙ ap₂ with_subcommand show_in (ap top_of c.in_ok-write.ensures.0) in
-    c.in_ok-command.ensures.shape c.in_ok-why.ensures.1
-    ∙ ap₂ with_subcommand write_in (ap top_of c.in_ok-why.ensures.0)
+    let why_in : app_of c.in_ok-subcommand-6.field-0 ≡ with_why c.args.forms =
+    c.in_ok-subcommand-6.ensures.shape c.in_ok-why.ensures.1
+    ∙ ap₂ with_subcommand write_in (ap top_of c.in_ok-why.ensures.0) in
+    let try_in : app_of c.in_ok-subcommand-7.field-0 ≡ with_subcommand (with_why c.args.forms) try_app.top =
+    c.in_ok-subcommand-7.ensures.shape c.in_ok-try_command.ensures.1
+    ∙ ap₂ with_subcommand why_in (ap top_of c.in_ok-try_command.ensures.0) in
+    c.in_ok-command.ensures.shape c.in_ok-compare_command.ensures.1
+    ∙ ap₂ with_subcommand try_in (ap top_of c.in_ok-compare_command.ensures.0)

@@ -7,7 +7,8 @@ use Rattle.hgfleet.proofs.RowLemmas.{at_help_of_log, at_show_store, at_shown_sto
 use Rattle.hgfleet.proofs.RowLemmas.{at_show_alone, at_help_of_show, at_write_store, at_written_store}
 use Rattle.hgfleet.proofs.RowLemmas.{at_written_message, at_write_no_name, at_help_of_write}
 use Rattle.hgfleet.proofs.RowLemmas.{at_no_notes, at_explain, at_explained, at_traced, at_both_notes}
-use Rattle.hgfleet.proofs.RowLemmas.{at_explain_more, at_why, at_why_names}
+use Rattle.hgfleet.proofs.RowLemmas.{at_explain_more, at_why, at_why_names, at_strict, at_json}
+use Rattle.hgfleet.proofs.RowLemmas.{at_two_pictures, at_no_picture}
 use Rattle.hgfleet.proofs.arguments.what_words_ask_for.Goals as goal
 
 pub returns-clause-help : goal.returns-clause-help
@@ -76,6 +77,15 @@ returns-clause-options_of_two c = at_options_of_two
 pub returns-clause-graph : goal.returns-clause-graph
 returns-clause-graph c = at_graph
 
+pub returns-clause-json : goal.returns-clause-json
+returns-clause-json c = at_json
+
+pub returns-clause-two_pictures : goal.returns-clause-two_pictures
+returns-clause-two_pictures c = at_two_pictures
+
+pub returns-clause-no_picture : goal.returns-clause-no_picture
+returns-clause-no_picture c = at_no_picture
+
 pub returns-clause-help_of_log : goal.returns-clause-help_of_log
 returns-clause-help_of_log c = at_help_of_log
 
@@ -120,6 +130,9 @@ returns-clause-explained c = at_explained
 
 pub returns-clause-traced : goal.returns-clause-traced
 returns-clause-traced c = at_traced
+
+pub returns-clause-strict : goal.returns-clause-strict
+returns-clause-strict c = at_strict
 
 pub returns-clause-both_notes : goal.returns-clause-both_notes
 returns-clause-both_notes c = at_both_notes

@@ -13,9 +13,11 @@ returns c =
     ap rule_of c.help-name.ensures ∙ ap rule_of c.required.ensures ∙ ap wanted named in
     let name_local = ap is_global c.help-name.ensures ∙ ap is_global c.required.ensures
     ∙ ap is_global c.value_name.ensures ∙ c.new.ensures.optional.1 in
-    let bare : app_of c.after_help.result ≡ new_app (codes "write") =
-    ap app_of_fields c.after_help.ensures ∙ ap app_of_fields c.about.ensures ∙ c.new-2.ensures.app in
-    let local = ap has_globals c.after_help.ensures ∙ ap has_globals c.about.ensures ∙ c.new-2.ensures.local in
+    let bare : app_of c.override_usage.result ≡ new_app (codes "write") =
+    ap app_of_fields c.override_usage.ensures ∙ ap app_of_fields c.after_help.ensures
+    ∙ ap app_of_fields c.about.ensures ∙ c.new-2.ensures.app in
+    let local = ap has_globals c.override_usage.ensures ∙ ap has_globals c.after_help.ensures
+    ∙ ap has_globals c.about.ensures ∙ c.new-2.ensures.local in
     let form = c.in_ok-arg.ensures in
     let with_form = form.shape c.form_argument.ensures.1 ∙ ap₂ with_rule bare c.form_argument.ensures.0 in
     let form_local = form.globals ∙ ap₂ either local c.form_argument.ensures.1 in

@@ -7,18 +7,16 @@ use Rattle.hgfleet.proofs.commands.draw.Goals as goal
 
 pub returns-in-Log : goal.returns-in-Log
 returns-in-Log g c =
-    subst (λ (d : Drawing). OnOk c.draw_below.result ((text : Text) × IsDrawing d c.args.name.now c.args.kept.now text
-    × Appends (g.W.Write.contents c.args.writer.now) (g.W.Write.contents c.draw_below.new.writer) text)) (sym c.in-Log.is)
-    c.draw_below.ensures
-
-pub returns-in-Graph : goal.returns-in-Graph
-returns-in-Graph g c =
-    subst (λ (d : Drawing). OnOk c.draw_graph.result ((text : Text) × IsDrawing d c.args.name.now c.args.kept.now text
-    × Appends (g.W.Write.contents c.args.writer.now) (g.W.Write.contents c.draw_graph.new.writer) text)) (sym c.in-Graph.is)
-    c.draw_graph.ensures
+    let held = g.W.Write.contents c.args.writer.now in
+    let holds = g.W.Write.contents c.draw_below.new.writer in
+    subst (λ (d : Drawing). OnOk c.draw_below.result
+    ((text : Text) × IsDrawing d c.args.name.now c.args.kept.now text × Appends held holds text))
+    (sym c.in-Log.is) c.draw_below.ensures
 
 pub returns-in-Why : goal.returns-in-Why
 returns-in-Why g c =
-    subst (λ (d : Drawing). OnOk c.write_why.result ((text : Text) × IsDrawing d c.args.name.now c.args.kept.now text
-    × Appends (g.W.Write.contents c.args.writer.now) (g.W.Write.contents c.write_why.new.writer) text)) (sym c.in-Why.is)
-    c.write_why.ensures
+    let held = g.W.Write.contents c.args.writer.now in
+    let holds = g.W.Write.contents c.write_why.new.writer in
+    subst (λ (d : Drawing). OnOk c.write_why.result
+    ((text : Text) × IsDrawing d c.args.name.now c.args.kept.now text × Appends held holds text))
+    (sym c.in-Why.is) c.write_why.ensures

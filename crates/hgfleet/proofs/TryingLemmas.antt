@@ -1,0 +1,119 @@
+-- What a trial of files is, and why trials and comparisons end early.
+use Rattle.std.proofs.Common.{◌≡◌, ◌<◌, ◌∙◌, ℕ, List, Option, String, ap, get_or, inl, inr, length, map, refl, subst}
+use Rattle.std.proofs.Common.{sym}
+use Rattle.std.specs.Borrow.{Bor}
+use Rattle.std.specs.Io.KnownBytes.{Appends}
+use Rattle.std.specs.Prelude.{string_bytes}
+use Rattle.std.proofs.lemmas.List.{length-map}
+use Rattle.std.specs.declared.alloc.Global.{Global}
+use Rattle.std.proofs.lemmas.List.Elements.{Contains-get_or}
+use Rattle.hg_log.specs.Drawings.{Text}
+use Rattle.hg_preview.specs.declared.messages.NamedMessage.{NamedMessage}
+use Rattle.hg_preview.specs.Answers.{AreAnswersText, texts_of}
+use Rattle.hg_replica.specs.State.{ReplicaState, nothing_held}
+use Rattle.hg_trial.specs.declared.tried.Answer.{Answer}
+use Rattle.hg_trial.specs.Trials.{AnswersTo, IsLeastOfTaken}
+use Rattle.hgfleet.specs.declared.failure.Failure.{Failure}
+use Rattle.hgfleet.specs.declared.failure.Failure.TheVariants as failed
+use Rattle.hgfleet.specs.Commands.{IsOutputFailure}
+use Rattle.hgfleet.specs.Trying.{EndsCompared, EndsComparison, EndsTrial, IsTrial, IsUnread, IsUnreadAmong}
+use Rattle.hgfleet.specs.Trying.{IsWantOfMemory}
+
+-- ---- why it ends
+
+pub output_ends_trial : (names : List (String Global)) (held holds : Option Text) (failure : Failure)
+    → IsOutputFailure failure → EndsTrial names held holds failure
+output_ends_trial names held holds failure (inl is) =
+    subst (EndsTrial names held holds) (sym is) (inr (inl refl))
+output_ends_trial names held holds failure (inr is) =
+    subst (EndsTrial names held holds) (sym is) (inr (inr refl))
+
+pub output_ends_comparison : (held holds : Option Text) (failure : Failure) → IsOutputFailure failure
+    → EndsCompared held holds failure
+output_ends_comparison held holds failure (inl is) = subst (EndsCompared held holds) (sym is) (inr (inl refl))
+output_ends_comparison held holds failure (inr is) = subst (EndsCompared held holds) (sym is) (inr (inr refl))
+
+pub memory_ends_trial : (names : List (String Global)) (held holds : Option Text) (failure : Failure)
+    → IsWantOfMemory failure → EndsTrial names held holds failure
+memory_ends_trial names held holds failure is = output_ends_trial names held holds failure (inr is)
+
+pub memory_unread : (names : List (String Global)) (failure : Failure) → IsWantOfMemory failure
+    → IsUnreadAmong names failure
+memory_unread names failure is = subst (IsUnreadAmong names) (sym is) refl
+
+-- ---- files that weren't read
+
+pub unread_among : (names : List (String Global)) (i : ℕ) (d : String Global) (failure : Failure) → i < length names
+    → IsUnread (string_bytes (get_or names i d)) failure → IsUnreadAmong names failure
+unread_among names i d (failed.File told fault) within is = (get_or names i d, Contains-get_or names i d within, is)
+unread_among names i d (failed.Run fault) within is = is
+unread_among names i d (failed.Told told) within is = absurd is
+unread_among names i d (failed.Refused count) within is = absurd is
+unread_among names i d (failed.Show fault) within is = absurd is
+unread_among names i d (failed.UnknownName name) within is = absurd is
+unread_among names i d failed.Unread within is = absurd is
+unread_among names i d failed.NotTaken within is = absurd is
+unread_among names i d failed.Differ within is = absurd is
+
+pub unread_ends_trial : (names : List (String Global)) (held : Option Text) (failure : Failure)
+    → IsUnreadAmong names failure → EndsTrial names held held failure
+unread_ends_trial names held (failed.File told fault) is = (is, refl)
+unread_ends_trial names held (failed.Run fault) is = inr (inr is)
+unread_ends_trial names held (failed.Told told) is = absurd is
+unread_ends_trial names held (failed.Refused count) is = absurd is
+unread_ends_trial names held (failed.Show fault) is = absurd is
+unread_ends_trial names held (failed.UnknownName name) is = absurd is
+unread_ends_trial names held failed.Unread is = absurd is
+unread_ends_trial names held failed.NotTaken is = absurd is
+unread_ends_trial names held failed.Differ is = absurd is
+
+pub first_ends : (first second : Text) (held : Option Text) (failure : Failure) → IsUnread first failure
+    → EndsComparison first second held held failure
+first_ends first second held (failed.File told fault) is = (inl is, refl)
+first_ends first second held (failed.Run fault) is = inr (inr is)
+first_ends first second held (failed.Told told) is = absurd is
+first_ends first second held (failed.Refused count) is = absurd is
+first_ends first second held (failed.Show fault) is = absurd is
+first_ends first second held (failed.UnknownName name) is = absurd is
+first_ends first second held failed.Unread is = absurd is
+first_ends first second held failed.NotTaken is = absurd is
+first_ends first second held failed.Differ is = absurd is
+
+pub second_ends : (first second : Text) (held : Option Text) (failure : Failure) → IsUnread second failure
+    → EndsComparison first second held held failure
+second_ends first second held (failed.File told fault) is = (inr is, refl)
+second_ends first second held (failed.Run fault) is = inr (inr is)
+second_ends first second held (failed.Told told) is = absurd is
+second_ends first second held (failed.Refused count) is = absurd is
+second_ends first second held (failed.Show fault) is = absurd is
+second_ends first second held (failed.UnknownName name) is = absurd is
+second_ends first second held failed.Unread is = absurd is
+second_ends first second held failed.NotTaken is = absurd is
+second_ends first second held failed.Differ is = absurd is
+
+-- a comparison that ends as one of read files does
+pub compared_ends : (first second : Text) (held holds : Option Text) (failure : Failure)
+    → EndsCompared held holds failure → EndsComparison first second held holds failure
+compared_ends first second held holds (failed.File told fault) h = absurd h
+compared_ends first second held holds (failed.Run fault) h = h
+compared_ends first second held holds (failed.Told told) h = absurd h
+compared_ends first second held holds (failed.Refused count) h = absurd h
+compared_ends first second held holds (failed.Show fault) h = absurd h
+compared_ends first second held holds (failed.UnknownName name) h = absurd h
+compared_ends first second held holds failed.Unread h = absurd h
+compared_ends first second held holds failed.NotTaken h = h
+compared_ends first second held holds failed.Differ h = h
+
+-- ---- a trial
+
+-- there are as many messages as names
+pub trial_told : (names : List (String Global)) (named messages : List NamedMessage) (answers : List Answer)
+    (trial : ReplicaState) (held holds : Option Text) → length named ≡ length names → messages ≡ named
+    → AnswersTo nothing_held (texts_of messages) answers trial → IsLeastOfTaken (texts_of messages) answers trial
+    → ((text : Text) × AreAnswersText answers text × Appends held holds text)
+    → IsTrial (length names) answers held holds
+trial_told names named messages answers trial held holds count same answered least written =
+    let bytes_of : NamedMessage → Bor Text = λ message. message.bytes in
+    let text_of : Bor Text → Text = λ bytes. bytes.now in
+    let all = length-map (map bytes_of messages) text_of ∙ length-map messages bytes_of ∙ ap length same ∙ count in
+    (texts_of messages, trial, written.0, all, answered, least, written.1, written.2)

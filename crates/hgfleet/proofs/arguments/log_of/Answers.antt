@@ -1,0 +1,19 @@
+use Rattle.std.proofs.Common.{Bool, List, Some, ap, ap₂, codes, sym, ◌∙◌, ◌≡◌}
+use Rattle.clap.specs.Words.{Text, found_of, rows_of}
+use Rattle.hgfleet.specs.Arguments.{flag_given, names_given, options_of, picture_of}
+use Rattle.hgfleet.proofs.arguments.log_of.Goals as goal
+
+pub returns-in_ok-nodes-in-Some : goal.returns-in_ok-nodes-in-Some
+returns-in_ok-nodes-in-Some c =
+    let rows = rows_of (found_of c.args.log.now) in
+    let asked : picture_of (flag_given (codes "dot") rows) (flag_given (codes "json") rows) ≡ Some c.in-Some.picture =
+    sym (c.picture_of.ensures ∙ ap₂ picture_of c.flag_of.ensures c.flag_of-2.ensures) ∙ c.in-Some.is in
+    ap (options_of (names_given rows) (flag_given (codes "hidden") rows)) asked
+    ∙ ap₂ (λ (names : List Text) (shows_hidden : Bool). options_of names shows_hidden (Some c.in-Some.picture))
+    (sym c.in_ok-nodes-in-Some.ensures) (sym c.flag_of-shows_hidden.ensures)
+
+pub returns-in-None : goal.returns-in-None
+returns-in-None c =
+    let rows = rows_of (found_of c.args.log.now) in
+    ap (options_of (names_given rows) (flag_given (codes "hidden") rows))
+    (sym (c.picture_of.ensures ∙ ap₂ picture_of c.flag_of.ensures c.flag_of-2.ensures) ∙ c.in-None.is)
