@@ -2,7 +2,7 @@
 //! reads it. Those of scripts are drawn by cases of `examples/`. The ids are the SHA-1 of parents and labels.
 use crate::scene::{commit, rewrite};
 use hg_changeset::Node;
-use hg_log::{draw_graph, draw_log};
+use hg_log::{NamedNode, draw_graphs, draw_log};
 use hg_phases::Phase;
 use hg_replica::Replica;
 use hg_view::Kept;
@@ -85,7 +85,7 @@ fn columns_go_on_beside_a_tall_text(rt: HostRuntime) {
             |\n\
             | *  9cfa07613306 x draft content-divergent\n\
             |/\n\
-            | %  544d83e6863f b draft\n\
+            | #  544d83e6863f b draft\n\
             |/   amended as x\n\
             |    amended as y\n\
             |    rewritten as 111111111111\n\
@@ -113,18 +113,28 @@ fn pruned(alloc: Global) -> Option<Kept> {
     Kept::new(alloc, replica).ok()
 }
 
+// Its graph, up to the end of the cluster.
+const QUOTED: &[u8] = b"digraph fleet {
+    node [shape=box];
+    subgraph \"cluster_A\" {
+        label=\"A\";
+        \"A e92259e19409\" [label=\"e92259e19409\\n\\\\\\\"\\\\\\\\\\\\t\\\\xff\\ndraft\", \
+            color=gray, style=\"dashed,diagonals\"];
+        \"A 111111111111\" [label=\"111111111111\\nnot held\", style=dotted];
+        \"A 222222222222\" [label=\"222222222222\\nnot held\", style=dotted];
+        \"A 111111111111\" -> \"A 222222222222\" [style=dashed, constraint=false, label=\"amended\"];
+    }
+";
+
 #[test]
 fn what_isnt_held_is_dotted_and_labels_are_quoted(rt: HostRuntime) {
     let alloc = rt.alloc();
     let kept = pruned(alloc).expect(&rt, "memory");
-    let graph = b"digraph \"A\" {\n    node [shape=box];\n    \
-            \"e92259e19409\" [label=\"e92259e19409\\n\\\\\\\"\\\\\\\\\\\\t\\\\xff\", \
-            color=gray, style=diagonals];\n    \
-            \"111111111111\" [label=\"111111111111\", style=dotted];\n    \
-            \"222222222222\" [label=\"222222222222\", style=dotted];\n    \
-            \"111111111111\" -> \"222222222222\" [style=dashed, constraint=false];\n\
-            }\n";
+    let nodes = [NamedNode {
+        name: b"A",
+        kept: &kept,
+    }];
     let mut drawn = Vec::new(alloc);
-    draw_graph(alloc, b"A", &kept, true, &mut drawn).expect(&rt, "memory");
-    assert!(rt; drawn.as_slice() == graph.as_slice());
+    draw_graphs(alloc, &nodes, true, &mut drawn).expect(&rt, "memory");
+    assert!(rt; drawn.starts_with(QUOTED));
 }

@@ -1,10 +1,13 @@
-//! Tests of `hg_message`, `hg_discovery`, `hg_rewrite`, `hg_peer`, `hg_log`, `hg_why` and `hg_show`, as a caller from
-//! outside sees them: messages, what two replicas have in common, operations, worlds of peers, drawings, why changesets
-//! are unstable, and what bytes are shown as.
+//! Tests of `hg_message`, `hg_discovery`, `hg_rewrite`, `hg_peer`, `hg_trial`, `hg_log`, `hg_why`, `hg_preview` and
+//! `hg_show`, as a caller from outside sees them: messages, what two replicas have in common, operations, worlds of
+//! peers, what becomes of a repository that takes messages in, drawings, why changesets are unstable, in what two
+//! repositories differ, and what bytes are shown as.
 #![tactic(auto)]
 
 #[cfg(test)]
 mod calls;
+#[cfg(test)]
+mod comparisons;
 #[cfg(test)]
 mod discovery;
 #[cfg(test)]
@@ -23,6 +26,8 @@ mod scene;
 mod showing;
 #[cfg(test)]
 mod states;
+#[cfg(test)]
+mod trials;
 #[cfg(test)]
 mod unstable;
 #[cfg(test)]

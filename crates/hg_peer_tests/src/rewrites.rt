@@ -1,11 +1,11 @@
 //! Worked operations, whose ids and bytes were computed outside, and each growth of an operation refused in turn.
 use crate::rows::{EMPTY, SERVED, holder, one_changeset};
 use crate::scene::entry;
-use hg_changeset::{Entry, Node};
+use hg_changeset::{ChangesetError, Entry, Node};
 use hg_marker::encode;
 use hg_phases::Phase;
 use hg_replica::{Part, Replica};
-use hg_rewrite::{Op, Refusal, decide, decide_kept};
+use hg_rewrite::{Cause, Op, Refusal, decide, decide_kept};
 use hg_view::{Kept, Pins};
 use std::alloc::Global;
 
@@ -84,9 +84,9 @@ fn split_in_two(alloc: Global, node: Node) -> Option<Op> {
     Some(Op::Split { node, entries })
 }
 
-// `b` in place of the root without a text, with an extra.
-fn amend_with_an_extra(alloc: Global) -> Option<Op> {
-    let mut entry = entry(alloc, b"b")?;
+// A description in place of the root without a text, with an extra.
+fn amend_with_an_extra(alloc: Global, desc: &[u8]) -> Option<Op> {
+    let mut entry = entry(alloc, desc)?;
     let key = Vec::from_slice(alloc, b"topic").ok()?;
     let value = Vec::from_slice(alloc, b"t").ok()?;
     entry.extra.insert(key, value).ok()?;
@@ -104,7 +104,7 @@ fn operations_on_the_empty_root_give_these_bytes(rt: HostRuntime) {
     assert!(rt; part.changesets.is_empty() && part.bounds.is_empty() && part.markers.len() == 1);
     let written = encode(&part.markers[0]).expect(&rt, "memory");
     assert!(rt; written.as_slice() == PRUNED);
-    let op = amend_with_an_extra(alloc).expect(&rt, "memory");
+    let op = amend_with_an_extra(alloc, b"b").expect(&rt, "memory");
     let part = decide(alloc, &replica, &pins, &op).expect(&rt, "a part");
     assert!(rt; part.changesets.len() == 1 && part.changesets[0].text() == AMENDED);
 }
@@ -199,5 +199,34 @@ fn refused_growth_is_told_by_each_operation(rt: HostRuntime) {
         };
         assert!(rt; told_at_last(alloc, &kept, &op) == answer);
         assert!(rt; told_at_last_of_kept(alloc, &kept, &op) == answer);
+    }
+}
+
+// A commit, or the root without a text amended with an extra, where the description has so many bytes.
+fn of_length(alloc: Global, len: usize, is_amend: bool) -> Option<Op> {
+    let desc = vec![in alloc; b'x'; len].ok()?;
+    if is_amend {
+        return amend_with_an_extra(alloc, &desc);
+    }
+    Some(commit(Node::NULL, Node::NULL, entry(alloc, &desc)?))
+}
+
+// A text has 52 bytes beside its description, and 62 more for the two extras: that makes 1,048,577 bytes.
+#[test]
+fn refused_growth_hides_no_text_that_is_too_long(rt: HostRuntime) {
+    let alloc = rt.alloc();
+    let pins = Pins::new(alloc);
+    let Some(bytes) = one_changeset(alloc, SERVED) else {
+        return;
+    };
+    let Some(replica) = holder(alloc, &bytes) else {
+        return;
+    };
+    let fault = Refusal::Fault(Cause::Changeset(ChangesetError::TextTooLong));
+    for (len, is_amend) in [(1_048_525, false), (1_048_463, true)] {
+        let Some(op) = of_length(alloc, len, is_amend) else {
+            return;
+        };
+        assert!(rt; told(decide(alloc, &replica, &pins, &op)) == Err(fault));
     }
 }
