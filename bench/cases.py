@@ -611,7 +611,8 @@ for _nodes, _count in ((1, "one node"), (10, "ten"), (50, "fifty")):
         lambda size, nodes=_nodes: nodes,
     ))
 CASES += [
-    ("1,000 refusals of a hidden parent below a hidden stack", refused_below_a_hidden_stack, SMALL, lambda size: REFUSALS),
+    ("1,000 refusals of a hidden parent below a hidden stack", refused_below_a_hidden_stack, SMALL,
+        lambda size: REFUSALS),
     ("a chain pulled into an empty node", pull_into_an_empty_node, SIZES, lambda size: 0),
     ("that, and 100 new ones pulled above it", pulls_of_a_hundred, SIZES, lambda size: 1),
     ("that, and 10 pulls of nothing", pulls_of_nothing, SIZES, lambda size: 0),

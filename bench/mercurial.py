@@ -1,20 +1,23 @@
 """A Mercurial extension with one command, which does the lines of a script in process and tells what they took.
 
-    hg --config extensions.evolve= --config extensions.fleet=bench/mercurial.py fleet [--told] [SCRIPT]
+    hg -q --config extensions.evolve= --config extensions.fleet=bench/mercurial.py --config phases.publish=no \\
+        fleet [--told] [SCRIPT]
 
 prints the seconds of processor time that the script took, from its first line to its last, and how many lines it would
 have printed: one for each that was refused, and those of reports and of `agree`. With --told they are printed too, of a
 refusal what Mercurial says. Without a script the command prints the version.
 
-The lines between two exchanges are one transaction. Changesets have no files. Repositories are temporary. Where Mercurial
-has a cheap way to ask and a dear one, the cheap one is taken: what is hidden is only found out for new parents.
+The lines between two exchanges are one transaction. Changesets have no files. Repositories are temporary. Where
+Mercurial has a cheap way to ask and a dear one, the cheap one is taken: what is hidden is only found out for new
+parents.
 """
 import io
 import os
 import tempfile
 import time
 
-from mercurial import bundle2, context, error, exchange, extensions, hg, obsolete, phases, registrar, repoview, rewriteutil, util
+from mercurial import bundle2, context, error, exchange, extensions, hg, obsolete, phases
+from mercurial import registrar, repoview, rewriteutil, util
 
 cmdtable = {}
 command = registrar.command(cmdtable)
@@ -90,7 +93,8 @@ class Fleet:
         return repo[self.labels[label]]
 
     def mark(self, repo, old, new, word):
-        obsolete.createmarkers(repo, [(tuple(old), tuple(new))], date=(0, 0), metadata={b"user": b"fleet"}, operation=word)
+        metadata = {b"user": b"fleet"}
+        obsolete.createmarkers(repo, [(tuple(old), tuple(new))], date=(0, 0), metadata=metadata, operation=word)
 
     def old(self, repo, label, word):
         """The changeset of a label, where it may be rewritten."""

@@ -106,7 +106,7 @@ def of_amended_stack(work, fleet, size):
 
 
 def of_offer(work, fleet, size):
-    """A work on what is served of a chain of changesets, each of which is what an id that isn't held was rewritten to."""
+    """A work on what is served of a chain of changesets, each of which an id that isn't held was rewritten to."""
     repo = chain(fleet, size)
     add(fleet, repo, [marker(id_of(number), repo[number].node()) for number in range(size)])
     fleet.do_node(b"B")

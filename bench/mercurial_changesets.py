@@ -3,40 +3,33 @@
     hg --config extensions.fleetchangesets=bench/mercurial_changesets.py fleetfill MESSAGE FOLDER
 
 fails where Mercurial computes another id for a changeset than the message has for it. All is public: the bounds and the
-markers of the message aren't read.
+markers of the message aren't put in.
 """
-import struct
+import os
+import sys
 
 from mercurial import error, hg, registrar
 
+sys.path.append(os.path.join(os.path.dirname(os.path.dirname(os.path.realpath(__file__))), "tools"))
+import formats  # noqa: E402
+
 cmdtable = {}
 command = registrar.command(cmdtable)
-
-# What stands before the records of a message in version 2 but their number: the magic, the version and the scope.
-BEGIN = b"HGFX\2"
-COUNT = struct.Struct(">6xI")
-RECORD = struct.Struct(">20s20s20sI")
-
-
-def records(message):
-    """The changesets of a message: of each its id, its parents and its text."""
-    if not message.startswith(BEGIN):
-        raise error.Abort(b"not a message in version 2")
-    place = COUNT.size
-    for _ in range(*COUNT.unpack_from(message)):
-        node, first, second, length = RECORD.unpack_from(message, place)
-        place += RECORD.size + length
-        yield node, first, second, message[place - length:place]
 
 
 @command(b"fleetfill", [], b"MESSAGE FOLDER", norepo=True)
 def fleetfill(ui, message, folder):
     """makes a repository of the changesets of a message"""
+    try:
+        with open(message, "rb") as it:
+            changesets = formats.read_message(it.read()).changesets
+    except formats.Fault as fault:
+        raise error.Abort(str(fault).encode())
     repo = hg.repository(ui, folder, create=True)
-    with open(message, "rb") as it, repo.lock(), repo.transaction(b"fill") as transaction:
+    with repo.lock(), repo.transaction(b"fill") as transaction:
         log = repo.unfiltered().changelog
-        for place, (node, first, second, text) in enumerate(records(it.read())):
-            log.addrevision(text, transaction, place, first, second)
-            if len(log) != place + 1 or log.node(place) != node:
+        for place, found in enumerate(changesets):
+            log.addrevision(found.text, transaction, place, found.first, found.second)
+            if len(log) != place + 1 or log.node(place) != found.node:
                 raise error.Abort(b"another id at record %d" % place)
     return 0

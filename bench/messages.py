@@ -1,54 +1,18 @@
-"""Messages as bytes of docs/FORMATS.md, and the cases of hg_bench: each does something with a message of a size."""
+#!/usr/bin/env python3
+"""Messages as bytes of docs/FORMATS.md, and the cases of hg_bench: each does something with a message of a size.
+
+    bench/messages.py repository SIZE > FILE     writes the message of a repository of so many changesets, in twenties
+"""
 import hashlib
-import struct
+import os
+import sys
 
-from hashing import START, fed, hash_of_id
-
-NULL = bytes(20)
-SERVED = 0
-DRAFT = 1
+sys.path.append(os.path.join(os.path.dirname(os.path.dirname(os.path.realpath(__file__))), "tools"))
+from formats import DRAFT, NULL, PUBLIC, WHOLE, bound, marker, message, node_of, record, store, written  # noqa: E402
+from hashing import START, fed, hash_of_id  # noqa: E402
 
 # The bytes of metadata that make a marker with one successor 200 bytes long.
 FILLING = b"user:" + b"x" * 149
-
-
-# ---- the format
-
-
-def node_of(text, parent=NULL):
-    """The id of a changeset with one parent, or none."""
-    return hashlib.sha1(NULL + parent + text).digest()
-
-
-def record(text, parent=NULL):
-    """A changeset with one parent, or none."""
-    return node_of(text, parent) + parent + NULL + struct.pack(">I", len(text)) + text
-
-
-def bound(node):
-    """That a changeset is a draft, and so its ancestors."""
-    return struct.pack(">I", DRAFT) + node
-
-
-def marker(old, new, metadata=b""):
-    """That an id was rewritten to these, all together."""
-    return struct.pack(">BIB", len(new), len(metadata), 0) + old + b"".join(new) + metadata
-
-
-def store(markers):
-    """The store of these markers."""
-    return b"\0" + b"".join(markers)
-
-
-def message(records=(), bounds=(), markers=()):
-    """The message of these, each in its form."""
-    told = store(markers)
-    return b"".join((
-        b"HGFX", struct.pack(">BB", 2, SERVED),
-        struct.pack(">I", len(records)), *records,
-        struct.pack(">I", len(bounds)), *bounds,
-        struct.pack(">I", len(told)), told,
-    ))
 
 
 # ---- what is in the messages
@@ -155,6 +119,46 @@ def pairs_of_chains(size, id_of=scattered):
     return chains_of_markers(size, are_paired=True, id_of=id_of)
 
 
+# A repository is made of blocks. Of each changeset of a block but the first, which others of the block it stands on:
+# the fourth is what the third was amended to, and the thirteenth begins a branch, which the last merges.
+BLOCK = [(place - 1,) for place in range(20)]
+BLOCK[3], BLOCK[12], BLOCK[19] = (1,), (5,), (11, 18)
+AMENDED = 2
+
+# The metadata that Mercurial gives to the marker of an amend.
+AMEND = written({b"date": b"1600000000.0 -7200", b"ef1": b"9", b"operation": b"amend", b"user": b"somebody"})
+
+
+def described(number):
+    """The text of an entry that changes a file, of 150 bytes."""
+    front = b"%040x\nSomebody <somebody@example.org>\n%d -7200\nsrc/file\n\n" % (number, 1_600_000_000 + number)
+    return front.ljust(150, b".")
+
+
+def block(begin, below):
+    """The records of a block that stands on an id, whose first changeset has this number."""
+    records = []
+    for place, parents in enumerate(BLOCK):
+        nodes = [records[parent][:20] for parent in parents] if place else [below]
+        records.append(record(described(begin + place), *nodes))
+    return records
+
+
+def repository(size):
+    """A history as of a real one, in blocks: a line with branches and merges, and in each block a changeset that
+    was amended, is hidden, and stands beside what it became. All but the last twentieth of the line is public."""
+    records, markers, hidden, tips = [], [], [], [NULL]
+    for begin in range(0, size - size % len(BLOCK), len(BLOCK)):
+        its = block(begin, tips[-1])
+        old, new, last = (its[place][:20] for place in (AMENDED, AMENDED + 1, -1))
+        records += its
+        markers.append(marker(old, [new], AMEND))
+        hidden.append(bound(old))
+        tips.append(last)
+    bounds = [bound(tips[len(tips) * 19 // 20], PUBLIC), *hidden, bound(tips[-1], DRAFT)]
+    return message(records, bounds, markers, WHOLE)
+
+
 SIZES = (10_000, 20_000, 40_000)
 MARKER_SIZES = (25_000, 50_000, 100_000)
 
@@ -174,7 +178,8 @@ CASES = {
         lambda size: markers_in_a_chain(size, meeting), MARKER_SIZES),
     "add-fan": ("markers added, all of one predecessor", "take", markers_of_one, MARKER_SIZES),
     "write": ("markers written, as a message of the whole", "send-whole", markers_in_a_chain, MARKER_SIZES),
-    "sets-of-chains": ("successors sets of all predecessors, in chains of 1,000", "sets", chains_of_markers, MARKER_SIZES),
+    "sets-of-chains": ("successors sets of all predecessors, in chains of 1,000", "sets",
+        chains_of_markers, MARKER_SIZES),
     "sets-of-pairs": ("the same, in chains that begin in pairs", "sets", pairs_of_chains, MARKER_SIZES),
     "sets-of-one-chain": ("the same, in one chain", "sets", one_chain_of_markers, MARKER_SIZES),
     "divergence-of-chains": ("instabilities with markers in chains of 1,000", "tell", chains_of_markers, MARKER_SIZES),
@@ -188,12 +193,25 @@ CASES = {
     "find-offer": ("that offer found, and no more", "find-offer", marked_chain, SIZES),
     "send-offer": ("that offer found and written straight from the replica", "send-offer", marked_chain, SIZES),
     "send-whole": ("the whole found and written straight from the replica", "send-whole", marked_chain, SIZES),
-    "find-prunes": ("an offer of one changeset found, below so many pruned in a chain", "find-offer", pruned, MARKER_SIZES),
+    "find-prunes": ("an offer of one changeset found, below so many pruned in a chain", "find-offer",
+        pruned, MARKER_SIZES),
 }
 
 # Those in which threads work beside each other at a node, which holds a chain of this size.
 SIDE_BY_SIDE = {
-    f"reads-beside-writer-{threads}": (f"1,000,000 looks of each of {threads} at a node of this size, beside one that commits",
+    f"reads-beside-writer-{threads}": (
+        f"1,000,000 looks of each of {threads} at a node of this size, beside one that commits",
         f"reads-beside-writer-{threads}", chain, SIZES)
     for threads in (1, 2, 4)
 }
+
+
+def main():
+    words = sys.argv[1:]
+    if len(words) != 2 or words[0] != "repository" or not words[1].isdigit() or int(words[1]) < len(BLOCK):
+        sys.exit(f"usage: messages.py repository SIZE > FILE, with a size from {len(BLOCK)} on")
+    sys.stdout.buffer.write(repository(int(words[1])))
+
+
+if __name__ == "__main__":
+    main()
