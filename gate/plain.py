@@ -57,11 +57,12 @@ class Changeset(NamedTuple):
 
 
 class Marker(NamedTuple):
-    """Two markers are equal where all of this is. Flags are always 0 here."""
+    """Two markers are equal where all of this is. Flags are always 0 where a script makes it."""
 
     predecessor: bytes
     successors: tuple
     metadata: frozenset
+    flags: int = 0
 
     @property
     def recorded_parents(self):
@@ -162,10 +163,13 @@ class Replica:
     def extinct(self):
         return self.obsolete() - self.suspended()
 
-    def preceding(self, node):
-        """What precedes a node: one or more steps from a successor of a marker to its predecessor."""
+    def preceding(self, node, without_fixes=False):
+        """What precedes a node: one or more steps from a successor of a marker to its predecessor. Where asked so, no
+        step is over a marker with bumpedfix, the lowest bit of flags."""
         predecessors = {}
         for marker in self.markers:
+            if without_fixes and marker.flags % 2:
+                continue
             for successor in marker.successors:
                 predecessors.setdefault(successor, set()).add(marker.predecessor)
         step = lambda one: predecessors.get(one, ())
@@ -181,7 +185,7 @@ class Replica:
 
     def phase_divergent(self):
         public = {node for node, phase in self.phases.items() if phase == PUBLIC}
-        return {node for node in self.may_be_unstable() if self.preceding(node) & public}
+        return {node for node in self.may_be_unstable() if self.preceding(node, without_fixes=True) & public}
 
     def content_divergent(self):
         several = {node for node, sets in self.successors_sets().items() if sets == OVERFULL or len(sets) > 1}
