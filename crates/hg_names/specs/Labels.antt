@@ -38,6 +38,10 @@ labelled labels label = labelled_in (get nat_eq labels.short) (text_value labels
 abbrev pub BindsNode : (List ℕ → Option Node) → List ℕ → Node → (List ℕ → Option Node) → Type 0
 BindsNode old label node new = (other : List ℕ) → new other ≡ update bytes_eq old label (Some node) other
 
+-- each label stands for what it did
+abbrev pub AreSameLabels : (List ℕ → Option Node) → (List ℕ → Option Node) → Type 0
+AreSameLabels old new = (label : List ℕ) → new label ≡ old label
+
 -- the number stands for the node, and each other for what it did
 pub record BindsKey (old : ℕ → Option Node) (key : ℕ) (node : Node) (new : ℕ → Option Node) : Type 0 where
   pub here : new key ≡ Some node

@@ -15,6 +15,10 @@ module _ {V : Type 0} where
   abbrev pub value_of : BTreeMap (Vec ℕ Global) V → List ℕ → Option V
   value_of names name = get_by (λ k. slice_cmp nat_cmp name k.items) names
 
+  -- each name stands for what it did
+  abbrev pub AreSameNames : BTreeMap (Vec ℕ Global) V → BTreeMap (Vec ℕ Global) V → Type 0
+  AreSameNames old new = (name : List ℕ) → value_of new name ≡ value_of old name
+
   -- the name stands for the value, and each other for what it did; a name that is new is one more
   pub record Binds (old : BTreeMap (Vec ℕ Global) V) (name : List ℕ) (value : V)
       (new : BTreeMap (Vec ℕ Global) V) : Type 0 where

@@ -1,7 +1,8 @@
 //! What labels stand for.
-ghost use Rattle.std.specs.Prelude.{◌≡◌, ◌<◌, List, ℕ, None, Some, OnOk, if◌then◌else◌, true, length};
+ghost use Rattle.std.specs.Prelude.{◌≡◌, ◌<◌, List, ℕ, None, Some, OnErr, OnOk, if◌then◌else◌, true, length};
 ghost use Rattle.std.specs.List.{list_all};
-ghost use Rattle.hg_names.specs.Labels.{digits_behind, is_byte, is_short, labelled, text_value, BindsNode};
+ghost use Rattle.hg_names.specs.Labels.{digits_behind, is_byte, is_short, labelled, text_value, AreSameLabels};
+ghost use Rattle.hg_names.specs.Labels.{BindsNode};
 
 use hg_changeset::Node;
 use hg_node_set::IdKeys;
@@ -57,9 +58,10 @@ impl Labels {
         }
     }
 
-    /// Binds the label to the node, in place of what it stood for.
+    /// Binds the label to the node, in place of what it stood for. Where memory is refused all labels stay as they were.
     pub fn bind(&mut self, label: &[u8], node: Node) -> Result<(), AllocError>
-        ensures { OnOk result (BindsNode (labelled self.old) label.now node (labelled self.new)) }
+        ensures bound { OnOk result (BindsNode (labelled self.old) label.now node (labelled self.new)) }
+        ensures unchanged { OnErr result (AreSameLabels (labelled self.old) (labelled self.new)) }
     {
         match short_key(label) {
             Some(key) => {
@@ -77,7 +79,8 @@ fn bind_text(
     text: &[u8],
     node: Node,
 ) -> Result<(), AllocError>
-    ensures { OnOk result (BindsNode (text_value texts.old) text.now node (text_value texts.new)) }
+    ensures bound { OnOk result (BindsNode (text_value texts.old) text.now node (text_value texts.new)) }
+    ensures unchanged { OnErr result (AreSameLabels (text_value texts.old) (text_value texts.new)) }
 {
     let text = Vec::from_slice(*texts.allocator(), text)?;
     texts.insert(text, node)?;

@@ -1,6 +1,6 @@
 //! Names of a script, and what each stands for.
-ghost use Rattle.std.specs.Prelude.{◌≡◌, ◌↔◌, IfOk, IsTrue, OnOk};
-ghost use Rattle.hg_names.specs.Names.{AreDistinct, value_of, Binds};
+ghost use Rattle.std.specs.Prelude.{◌≡◌, ◌↔◌, IfOk, IsTrue, OnErr, OnOk};
+ghost use Rattle.hg_names.specs.Names.{AreDistinct, AreSameNames, value_of, Binds};
 
 use std::alloc::{AllocError, Global};
 use std::collections::{BTreeMap, BTreeSet};
@@ -12,14 +12,15 @@ pub fn bound<V: Copy>(names: &BTreeMap<Vec<u8>, V>, name: &[u8]) -> Option<V>
     names.get(name).copied()
 }
 
-/// Binds the name to the value, in place of what it stood for.
+/// Binds the name to the value, in place of what it stood for. Where memory is refused all names stay as they were.
 pub fn bind<V: Drop>(
     alloc: Global,
     names: &mut BTreeMap<Vec<u8>, V>,
     name: &[u8],
     value: V,
 ) -> Result<(), AllocError>
-    ensures { OnOk result (Binds names.old name.now value names.new) }
+    ensures bound { OnOk result (Binds names.old name.now value names.new) }
+    ensures unchanged { OnErr result (AreSameNames names.old names.new) }
 {
     let name = Vec::from_slice(alloc, name)?;
     names.insert(name, value)?;

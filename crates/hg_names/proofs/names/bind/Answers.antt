@@ -6,8 +6,8 @@ use Rattle.hg_names.specs.Names.{value_of}
 use Rattle.hg_names.proofs.NameLemmas.{value_of-bound}
 use Rattle.hg_names.proofs.names.bind.Goals as goal
 
-pub returns : goal.returns
-returns g c =
+pub returns-clause-bound : goal.returns-clause-bound
+returns-clause-bound g c =
     let old = c.args.names.now in
     let new = c.insert.new.self in
     let name = c.in_ok-name.name in

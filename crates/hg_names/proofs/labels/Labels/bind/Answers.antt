@@ -5,8 +5,8 @@ use Rattle.hg_names.specs.Labels.{text_value}
 use Rattle.hg_names.proofs.DigitLemmas.{bound_key}
 use Rattle.hg_names.proofs.labels.Labels.bind.Goals as goal
 
-pub returns-in_ok-insert-in-Some : goal.returns-in_ok-insert-in-Some
-returns-in_ok-insert-in-Some c =
+pub returns-in_ok-insert-in-Some-clause-bound : goal.returns-in_ok-insert-in-Some-clause-bound
+returns-in_ok-insert-in-Some-clause-bound c =
     let updates = c.in_ok-insert-in-Some.ensures.updates in
     bound_key (get nat_eq c.args.self.now.short) (get nat_eq c.insert.new.self)
     (text_value c.args.self.now.long) c.args.label.now c.args.node c.in-Some.key c.in-Some.ensures (record {
