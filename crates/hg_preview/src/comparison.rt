@@ -53,16 +53,9 @@ pub fn write_comparison<W: Write>(
     write_lack(alloc, first, second, &mut line, writer)?;
     write_lack(alloc, second, first, &mut line, writer)?;
     write_phases(alloc, first, second, &mut line, writer)?;
-    let answer = are_same(first.kept.replica(), second.kept.replica());
+    let answer = first.kept.replica().is_same_state(second.kept.replica());
     write_agreement(alloc, answer, writer)?;
     Ok(answer)
-}
-
-// Whether two replicas are in the same state.
-fn are_same(first: &Replica, second: &Replica) -> bool
-    ensures { IsTrue result ↔ IsSameState first.now second.now }
-{
-    first.is_below(second) && second.is_below(first)
 }
 
 // Writes what the one lacks of the other.

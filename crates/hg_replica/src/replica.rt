@@ -10,7 +10,7 @@ ghost use Rattle.hg_phases.specs.State.{Held, changesets, state_of, Holds, IsPha
 ghost use Rattle.hg_phases.specs.Roots.{AreRoots};
 ghost use Rattle.hg_obsstore.specs.Markers.{AreApart};
 ghost use Rattle.hg_history.specs.Open.{MayWantMemory};
-ghost use Rattle.hg_replica.specs.State.{ReplicaState, IsValid, Below};
+ghost use Rattle.hg_replica.specs.State.{ReplicaState, IsSameState, IsValid, Below};
 ghost use Rattle.hg_replica.specs.Least.{part_of};
 ghost use Rattle.hg_replica.specs.Answer.{AbsorbAnswer, KeepAnswer, IsGrowthBeforeFault, JoinAnswer, OpenAnswer};
 ghost use Rattle.hg_replica.specs.Change.{IsNothing};
@@ -283,6 +283,14 @@ impl Replica {
             return false;
         }
         self.history.is_below(&other.history) && self.store.is_below(&other.store)
+    }
+
+    /// Whether another replica is in the same state: it holds the same changesets in the same phases, and the same
+    /// markers.
+    pub fn is_same_state(&self, other: &Replica) -> bool
+        ensures { IsTrue result ↔ IsSameState self.now other.now }
+    {
+        self.is_below(other) && other.is_below(self)
     }
 }
 

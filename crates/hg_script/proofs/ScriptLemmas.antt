@@ -1,16 +1,14 @@
 -- Single events, single commands, and whole scripts as one run.
 use Rattle.std.proofs.Common.{◌≡◌, ◌↔◌, ℕ, ◌+◌, List, [], ◌∷◌, ◌++◌, Option, Some, None, Bool, true, false, IsTrue}
 use Rattle.std.proofs.Common.{count_by, is_some, ◌≢◌, ◌≤◌, inl, inr, length, map}
-use Rattle.std.proofs.Common.{Result, Ok, Err, OnOk, IfOk, IsOkAnd}
+use Rattle.std.proofs.Common.{Result, Ok, Err, OnOk, IfOk}
 use Rattle.std.proofs.Common.{refl, sym, ap, subst, ◌∙◌}
 use Rattle.std.specs.Str.Lines.{lines}
 use Rattle.std.proofs.KnownBytes.{Appends-nil, Appends-trans}
 use Rattle.std.proofs.lemmas.List.{append-nil}
 use Rattle.std.proofs.lemmas.Result.{on_ok_weaker}
 use mathlib.Core.Logic.{⊎_elim}
-use Rattle.hg_replica.specs.State.{ReplicaState, IsValid, Below, IsSameState}
-use Rattle.hg_replica.specs.Content.{ContentBelow, content_of}
-use Rattle.hg_replica.proofs.ContentLemmas.{below_from_content, content-below}
+use Rattle.hg_replica.specs.State.{IsSameState}
 use Rattle.hg_replica.specs.Least.{PartValue}
 use Rattle.hg_history.specs.declared.fault.Fault.{Fault}
 use Rattle.hg_view.specs.Kept.{KeptValue}
@@ -194,14 +192,6 @@ reported f at state held holds there (text, report, grew) = (
   (refl, (state, there, report)),
   grew,
 )
-
--- what is told of contents is told of states
-pub below_told : {E : Type 0} (s t : ReplicaState) (r : Result Bool E) → IsValid s → IsValid t
-    → IsOkAnd r (λ answer. IsTrue answer ↔ ContentBelow (content_of s) (content_of t))
-    → IfOk r (λ answer. IsTrue answer ↔ Below s t)
-below_told s t (Ok answer) v w told =
-    (λ h. below_from_content s t v (told.0 h), λ below. told.1 (content-below s t w below))
-below_told s t (Err e) v w told = tt
 
 pub agreed : (f : Fleet) (one other : Word) (first second : KeptValue) (answer : Bool)
     (held holds : Option Text) → node_named f one.now ≡ Some first → node_named f other.now ≡ Some second

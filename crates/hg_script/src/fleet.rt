@@ -4,7 +4,6 @@ ghost use Rattle.std.specs.Prelude.{◌↔◌, IsTrue, is_none, slice_get};
 ghost use Rattle.std.specs.List.{list_all};
 ghost use Rattle.std.specs.Option.{option_copied};
 ghost use Rattle.hg_graph.specs.Graph.{nodes};
-ghost use Rattle.hg_replica.specs.State.{Below, IsSameState};
 ghost use Rattle.hg_script.specs.Commands.{texts};
 ghost use Rattle.hg_script.specs.Endings.{AreLabelsFree, IsDecided, IsFaultOf, IsLeftBy, IsNodeFault, IsTakenFault};
 ghost use Rattle.hg_script.specs.Endings.{StaysAtLine, StaysAtName};
@@ -28,11 +27,11 @@ use crate::spare::Spare;
 use crate::told::{Told, print_told};
 use hg_changeset::{Changeset, Node};
 use hg_fleet::PeerAnswer;
-use hg_join::{JoinState, NoMemory};
+use hg_join::NoMemory;
 use hg_names::{Labels, are_distinct, bind, bound};
 use hg_node_set::IdKeys;
 use hg_peer::{Ask, Scope};
-use hg_replica::{Part, Replica};
+use hg_replica::Part;
 use hg_rewrite::{Op, decide_kept};
 use hg_view::Kept;
 use hg_world::{Answer, Event};
@@ -378,7 +377,7 @@ impl Fleet {
     {
         let first = self.kept(self.place(one)?)?;
         let second = self.kept(self.place(other)?)?;
-        let answer = are_same(first.replica(), second.replica())?;
+        let answer = first.replica().is_same_state(second.replica());
         print_agreement(self.alloc, one, other, answer, writer)?;
         Ok(Told::Nothing)
     }
@@ -416,22 +415,6 @@ impl Fleet {
             None => Err(CommandFault::Name(LineFault::UnknownName)),
         }
     }
-}
-
-// Whether two replicas are in the same state.
-fn are_same(first: &Replica, second: &Replica) -> Result<bool, NoMemory>
-    ensures { IfOk result (λ answer. IsTrue answer ↔ IsSameState first.now second.now) }
-{
-    Ok(is_below(first, second)? && is_below(second, first)?)
-}
-
-// Whether what the first replica holds the second holds too.
-fn is_below(first: &Replica, second: &Replica) -> Result<bool, NoMemory>
-    ensures { IfOk result (λ answer. IsTrue answer ↔ Below first.now second.now) }
-{
-    first.is_valid();
-    second.is_valid();
-    first.below(second)
 }
 
 // Writes the line that says whether the replicas of these names agree.
