@@ -7,6 +7,7 @@ use lib.Signed.{mag}
 use Rattle.std.specs.Fmt.{signed_decimal}
 use Rattle.std.specs.FinMap.{entries, from_entries}
 use Rattle.std.specs.List.{list_any}
+use Rattle.std.specs.Option.{is_some}
 use Rattle.std.proofs.lemmas.Bool.{ne_eqb}
 use Rattle.std.proofs.lemmas.Fmt.{decimal_by_steps}
 use Rattle.std.proofs.lemmas.List.{length-append}
@@ -22,6 +23,7 @@ use Rattle.hg_marker.specs.Metadata.{is_nul, piece, written}
 use Rattle.hg_marker.specs.Making.{has_bad_key, has_bad_value, is_writable}
 use Rattle.hg_marker.specs.declared.note.Note.{Note}
 use Rattle.hg_marker.specs.Operation.{operation_entries, parents_entries, note_entries, note_texts}
+use Rattle.hg_marker.specs.Parents.{is_parents_key, names_parents}
 use Rattle.hg_marker.specs.Written.{ascends, with_piece, with_pieces}
 use Rattle.hg_marker.proofs.FormLemmas.{writable_from}
 use Rattle.hg_marker.proofs.AscentLemmas.{laid, listed_so}
@@ -68,6 +70,17 @@ pub note_laid : (note : Note) → with_pieces [] (note_entries note) ≡ written
 note_laid note =
     laid (note_entries note)
     (keys_ascend (date_text note.secs note.offset) note.operation.now note.user.now note.parents)
+
+-- and name parents where there are some
+names : (date operation user : List ℕ) (parents : Option (Node × Node))
+    → list_any (λ e. is_parents_key e.0) (operation_entries date operation parents user) ≡ is_some parents
+names date operation user None = refl
+names date operation user (Some ps) = refl
+
+pub note_names : (note : Note) → names_parents (note_texts note) ≡ is_some note.parents
+note_names note =
+    ap (list_any (λ e. is_parents_key e.0)) (noted note)
+    ∙ names (date_text note.secs note.offset) note.operation.now note.user.now note.parents
 
 -- ---- the bytes
 

@@ -2,7 +2,8 @@
 use Rattle.std.specs.Prelude.{List, [], ◌∷◌, Option, Some, None, ℕ, Bool, ◌||◌, codes}
 use Rattle.std.specs.Str.{bytes_eq}
 use Rattle.std.specs.Option.{option_and_then}
-use Rattle.std.specs.FinMap.{get}
+use Rattle.std.specs.List.{list_any}
+use Rattle.std.specs.FinMap.{entries, get}
 use Rattle.hg_changeset.specs.declared.node.Node.{Node}
 use Rattle.hg_changeset.specs.Node.{id_value}
 use Rattle.hg_marker.specs.declared.parents.Parents.{Parents}
@@ -31,6 +32,10 @@ parents_by None None None = Unrecorded
 -- a key that says something of parents
 abbrev pub is_parents_key : List ℕ → Bool
 is_parents_key key = bytes_eq key (codes "p0") || bytes_eq key (codes "p1") || bytes_eq key (codes "p2")
+
+-- the metadata has such a key
+abbrev pub names_parents : Texts → Bool
+names_parents texts = list_any (λ e. is_parents_key e.0) (entries texts)
 
 -- the parents that the metadata records
 abbrev pub parents_of : Texts → Parents

@@ -37,6 +37,8 @@ pub struct Marker {
     predecessor: Node,
     successors: Successors,
     flags: u8,
+    // Whether a key of the metadata says something of parents.
+    has_parents_key: bool,
     metadata: Metadata,
 }
 
@@ -47,6 +49,7 @@ impl Drop for Marker {
             predecessor: _,
             successors: _,
             flags: _,
+            has_parents_key: _,
             metadata: _,
         } = self;
     }
@@ -66,14 +69,16 @@ impl Model for Marker {
       metadata = m.metadata;
     } };
 
+    ghost use Rattle.std.specs.Prelude.{◌≡◌};
     ghost use Rattle.hg_marker.specs.Grammar.{IsMarker};
+    ghost use Rattle.hg_marker.specs.Parents.{names_parents};
 
     ghost invariant = { λ m. IsMarker (record {
       predecessor = m.predecessor;
       successors = m.successors.items;
       flags = m.flags;
       metadata = m.metadata;
-    }) };
+    }) × (m.has_parents_key ≡ names_parents m.metadata) };
 }
 
 impl PartialEq for Marker {
@@ -185,6 +190,7 @@ impl Marker {
             predecessor,
             successors,
             flags,
+            has_parents_key: source.names_parents(&metadata),
             metadata,
         })
     }
@@ -213,6 +219,7 @@ impl Marker {
             predecessor,
             successors,
             flags,
+            has_parents_key: metadata.names_parents(),
             metadata,
         }
     }
@@ -250,6 +257,10 @@ impl Marker {
     pub fn parents(&self) -> Parents
         ensures { result ≡ parents_of self.now.metadata }
     {
+        // Few markers have such a key.
+        if !self.has_parents_key {
+            return Parents::Unrecorded;
+        }
         parents_of(&self.metadata)
     }
 
@@ -264,6 +275,7 @@ impl Marker {
             predecessor: self.predecessor,
             successors,
             flags: self.flags,
+            has_parents_key: self.has_parents_key,
             metadata,
         })
     }

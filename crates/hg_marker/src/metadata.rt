@@ -6,10 +6,10 @@
 ghost use Rattle.std.specs.Prelude.{◌≡◌, IfOk, option_copied, true, false};
 ghost use Rattle.std.specs.FinMap as finite;
 ghost use Rattle.std.specs.FinMap.{find};
-ghost use Rattle.std.specs.List.{list_any, list_all};
+ghost use Rattle.std.specs.List.{list_all};
 ghost use Rattle.hg_marker.specs.Texts.{bytes_cmp};
 ghost use Rattle.hg_marker.specs.Metadata.{written, texts, pieces, has_colon};
-ghost use Rattle.hg_marker.specs.Parents.{is_parents_key};
+ghost use Rattle.hg_marker.specs.Parents.{names_parents};
 ghost use Rattle.hg_marker.specs.Making.{has_bad_value, is_writable};
 ghost use Rattle.hg_marker.specs.Operation.{note_entries, note_texts};
 
@@ -114,7 +114,7 @@ impl Metadata {
 
     // Whether a key says something of parents.
     pub(crate) fn names_parents(&self) -> bool
-        ensures { result ≡ list_any (λ e. is_parents_key e.0) (finite.entries self.now) }
+        ensures { result ≡ names_parents self.now }
     {
         name_parents(&self.bytes)
     }

@@ -27,10 +27,6 @@ pub enum Parents {
 pub(crate) fn parents_of(metadata: &Metadata) -> Parents
     ensures { result ≡ parents_of metadata.now }
 {
-    // Few markers have one of these keys, and one walk tells.
-    if !metadata.names_parents() {
-        return Parents::Unrecorded;
-    }
     if let Some(second) = metadata.get(b"p2") {
         return match (id_at(metadata, b"p1"), id_value(second)) {
             (Some(first), Some(second)) => Parents::Two(first, second),

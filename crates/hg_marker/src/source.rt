@@ -3,6 +3,7 @@ ghost use Rattle.std.specs.Prelude.{◌≡◌, ◌-◌, ◌^◌, min, length, tr
 ghost use Rattle.std.specs.FinMap.{entries};
 ghost use Rattle.hg_marker.specs.Making.{has_bad_key, has_bad_value, is_writable};
 ghost use Rattle.hg_marker.specs.Metadata.{written};
+ghost use Rattle.hg_marker.specs.Parents.{names_parents};
 ghost use Rattle.hg_marker.specs.Source.{source_texts};
 
 use crate::metadata::Metadata;
@@ -58,6 +59,17 @@ impl Source<'_> {
         match self {
             Source::Map(texts) => Metadata::of_map(texts, len),
             Source::Note(note) => Metadata::of_note(alloc, note, len),
+        }
+    }
+
+    // Whether the metadata that was made of the texts says something of parents. A note tells it at once.
+    pub(crate) fn names_parents(self, metadata: &Metadata) -> bool
+        requires { metadata.now ≡ source_texts self }
+        ensures { result ≡ names_parents metadata.now }
+    {
+        match self {
+            Source::Map(_) => metadata.names_parents(),
+            Source::Note(note) => note.parents.is_some(),
         }
     }
 }

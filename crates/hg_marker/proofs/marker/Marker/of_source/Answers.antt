@@ -17,7 +17,7 @@ invariant_of-result c =
     let texts : source_texts c.args.source ≡ c.in_ok-metadata.metadata = sym c.in_ok-metadata.ensures in
     let short : length (written (source_texts c.args.source)) ≤ metadata_limit =
     omega (arith, c.written_len-len.ensures, c.if-len.false) in
-    subst IsMarker (λ i. record {
+    let marker = subst IsMarker (λ i. record {
       predecessor = c.args.predecessor;
       successors = nodes i;
       flags = c.args.flags;
@@ -33,4 +33,5 @@ invariant_of-result c =
       clean = tested_is_clean _ (sym c.has_bad_key.ensures ∙ c.if-has_bad_key.false)
           (sym c.has_bad_value.ensures ∙ c.if-has_bad_value.false);
       short = short;
-    })
+    }) in
+    (marker, c.names_parents.ensures)

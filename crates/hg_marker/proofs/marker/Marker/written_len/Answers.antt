@@ -17,5 +17,5 @@ returns-clause-len c =
     } in
     subst (λ (x : Fields). 26 + 20 * length c.as_slice.result.now + length c.as_bytes.result.now ≡ length (spelling x))
     c.self.view_is
-    (spelling_length m (length c.as_slice.result.now) (length c.as_bytes.result.now) c.self.invariant
+    (spelling_length m (length c.as_slice.result.now) (length c.as_bytes.result.now) c.self.invariant.0
     (ap length c.as_slice.ensures) (ap length c.as_bytes.ensures))
