@@ -1,11 +1,18 @@
 -- White space, and texts without some bytes at their ends.
 use Rattle.std.specs.Prelude.{ℕ, ◌-◌, ◌==◌, List, [], ◌∷◌, length, take, drop, Bool}
 use Rattle.std.specs.List.{prefix_len, suffix_len, list_any}
+use Rattle.hg_changeset.specs.declared.white_space.Cut.{Cut}
+use Rattle.hg_changeset.specs.declared.white_space.Cut.TheVariants.{WhiteSpace, LineFeed}
 use Rattle.hg_changeset.specs.Bytes.{space, tab, line_feed, vertical_tab, form_feed, carriage_return}
 
 -- the six bytes of white space
 abbrev pub white_space : List ℕ
 white_space = space ∷ tab ∷ line_feed ∷ vertical_tab ∷ form_feed ∷ carriage_return ∷ []
+
+-- the bytes that are cut off
+abbrev pub cut_bytes : Cut → List ℕ
+cut_bytes WhiteSpace = white_space
+cut_bytes LineFeed = line_feed ∷ []
 
 -- the byte is among them
 abbrev pub is_one_of : List ℕ → ℕ → Bool

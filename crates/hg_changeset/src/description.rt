@@ -9,7 +9,7 @@ ghost use Rattle.hg_changeset.specs.Bytes.{line_feed};
 ghost use Rattle.hg_changeset.specs.Description.{begins_with_cr_lf, description_text, line_ends, lines, lines_text};
 ghost use Rattle.hg_changeset.specs.Lengths.{Measures};
 
-use crate::white_space::{WHITE_SPACE, trimmed_end};
+use crate::white_space::{Cut, trimmed_end};
 use std::alloc::{AllocError, Global};
 
 /// The lines of a description without white space at their ends, joined by LF.
@@ -20,12 +20,12 @@ pub fn trimmed_lines(alloc: Global, desc: &[u8]) -> Result<Vec<u8>, AllocError>
     let mut start = 0;
     for (i, b) in desc.iter().enumerate() {
         if ends_line(*b, &desc[i..]) {
-            text.extend_from_slice(trimmed_end(&desc[start..i], &WHITE_SPACE))?;
+            text.extend_from_slice(trimmed_end(&desc[start..i], Cut::WhiteSpace))?;
             text.push(b'\n')?;
             start = i + 1;
         }
     }
-    text.extend_from_slice(trimmed_end(&desc[start..], &WHITE_SPACE))?;
+    text.extend_from_slice(trimmed_end(&desc[start..], Cut::WhiteSpace))?;
     Ok(text)
 }
 
@@ -41,12 +41,12 @@ pub fn description_len(desc: &[u8]) -> usize
     let mut start = 0;
     for (i, b) in desc.iter().enumerate() {
         if ends_line(*b, &desc[i..]) {
-            let line = trimmed_end(&desc[start..i], &WHITE_SPACE);
+            let line = trimmed_end(&desc[start..i], Cut::WhiteSpace);
             joined = joined.with_line(line.len()).with_line_feed();
             start = i + 1;
         }
     }
-    let line = trimmed_end(&desc[start..], &WHITE_SPACE);
+    let line = trimmed_end(&desc[start..], Cut::WhiteSpace);
     joined.with_line(line.len()).without_ends
 }
 
