@@ -1,9 +1,11 @@
 -- Extras, as they are written one after another, and the order of their keys.
-use Rattle.std.proofs.Common.{◌≡◌, ◌<◌, ℕ, List, [], ◌∷◌, ◌++◌, map, refl, ap, Vec, Global, true, false, arith}
+use Rattle.std.proofs.Common.{◌≡◌, ◌<◌, ◌≤◌, ◌+◌, ◌*◌, ℕ, List, [], ◌∷◌, ◌++◌, map, refl, ap, Vec, Global, true, false}
+use Rattle.std.proofs.Common.{arith, Bool, cond, codes, length}
 use Rattle.std.specs.Prelude.{◌==◌}
 use Rattle.std.proofs.lemmas.Bool.Decides.{nat_tests}
 use Rattle.std.proofs.lemmas.Bool.{and_parts, ltb-true, not-true}
-use Rattle.std.proofs.lemmas.List.{append-nil}
+use Rattle.std.proofs.lemmas.List.{append-nil, length-append}
+use Rattle.std.proofs.lemmas.Grind.{flat_map-append}
 use Rattle.std.specs.List.{join_with_byte, list_all, flat_map, AllByRecursion}
 use Rattle.std.specs.List.Sorted.{IsStrictlySortedBy}
 use Rattle.std.specs.Ordering.{nat_cmp}
@@ -59,3 +61,28 @@ all_plain [] h = refl
 all_plain (b ∷ bs) h =
     let p = and_parts (is_plain b) (list_all is_plain bs) h in
     rw (plain b p.0, all_plain bs p.1) refl
+
+-- ---- of a byte at most two are written
+
+one_of_five : (c d e f : Bool) (b : ℕ) → length (cond c (codes "\\\\") (cond d (codes "\\n") (cond e (codes "\\r")
+    (cond f (codes "\\0") (b ∷ []))))) ≤ 2
+one_of_five true d e f b = omega arith
+one_of_five false true e f b = omega arith
+one_of_five false false true f b = omega arith
+one_of_five false false false true b = omega arith
+one_of_five false false false false b = omega arith
+
+escaped_within : (bs : List ℕ) → length (flat_map escape bs) ≤ 2 * length bs
+escaped_within [] = omega arith
+escaped_within (b ∷ bs) =
+    let first : length (escape b) ≤ 2 = one_of_five (b == 92) (b == 10) (b == 13) (b == 0) b in
+    omega (arith, length-append (escape b) (flat_map escape bs), first, escaped_within bs)
+
+pub item_within : (key value : List ℕ) → 1 + length (item (key, value)) ≤ 2 * (length key + length value) + 2
+item_within key value = omega (
+  arith,
+  ap length (flat_map-append escape key (58 ∷ value)),
+  length-append (flat_map escape key) (58 ∷ flat_map escape value),
+  escaped_within key,
+  escaped_within value,
+)

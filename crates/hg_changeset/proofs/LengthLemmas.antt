@@ -76,6 +76,17 @@ none_behind left_out x (e ∷ es) apart h =
     rw (other_key left_out.now e.0 (apart e.0 h.0)) (ap (λ n. 1 + length (item e) + n)
     (none_behind left_out x es apart h.1))
 
+-- the others take no more than all
+pub others_within : (left_out : Bor (List ℕ)) (es : List (List ℕ × List ℕ))
+    → len_without (Some left_out) es ≤ len_without None es
+others_within left_out [] = omega arith
+others_within left_out (e ∷ es) =
+    elim (pointwise nat_eq left_out.now e.0) as (λ b. cond b 0 (1 + length (item e))
+    + len_without (Some left_out) es ≤ 1 + length (item e) + len_without None es) [
+      | true ↦ omega (arith, others_within left_out es)
+      | false ↦ omega (arith, others_within left_out es)
+    ]
+
 module _ (key : Bor (List ℕ)) (value : List ℕ) where
   -- the others, and one put among them
   pub one_put : (es : List (List ℕ × List ℕ)) → AscendByKey es
@@ -382,14 +393,9 @@ same_test m n e = elim (cases_lt text_limit m) [
   | inr within ↦ le-ltb text_limit m within ∙ sym (le-ltb text_limit n (omega (arith, e, within)))
 ]
 
-pub counted_alike : (e : EntryValue) (n extras : ℕ) → n ≡ min extras (2 ^ 64 - 1)
-    → nat_lt text_limit (text_len e n) ≡ nat_lt text_limit (text_len e extras)
-counted_alike e n extras h = same_test (text_len e n) (text_len e extras) (omega (arith, h))
-
--- what is within the limit where most of it is counted
-pub within_most : (most n : ℕ) → min n (2 ^ 64 - 1) ≤ most → most ≤ text_limit
-    → nat_lt text_limit most ≡ nat_lt text_limit n
-within_most most n le h = le-ltb text_limit most h ∙ sym (le-ltb text_limit n (omega (arith, le, h)))
+pub counted_alike : (e : EntryValue) (len n extras : ℕ) → len ≡ min (text_len e n) (2 ^ 64 - 1)
+    → n ≡ min extras (2 ^ 64 - 1) → nat_lt text_limit len ≡ nat_lt text_limit (text_len e extras)
+counted_alike e len n extras h k = same_test len (text_len e extras) (omega (arith, h, k))
 
 pub text_is : (e : EntryValue) → text_len e (length (extras_text e.extra)) ≡ length (entry_text e)
 unfolding entry_text

@@ -2,7 +2,7 @@
 //!
 //! In the text of an entry they are items `key:value`, ascending by key and joined by NUL. A byte that would end an
 //! item or a line is written as two characters, and so is the backslash that begins such a pair.
-ghost use Rattle.std.specs.Prelude.{◌≡◌, ◌+◌, ◌-◌, ◌^◌, ◌++◌, ◌∷◌, min, length, OnOk};
+ghost use Rattle.std.specs.Prelude.{◌≡◌, ◌≤◌, ◌+◌, ◌-◌, ◌^◌, ◌++◌, ◌∷◌, None, min, length, OnOk};
 ghost use Rattle.std.specs.List.{list_any, list_all, flat_map};
 ghost use Rattle.hg_changeset.specs.EntryValue.{extra_bytes};
 ghost use Rattle.hg_changeset.specs.Extras.{escape, is_plain, item, extras_text, AscendByKey};
@@ -120,8 +120,7 @@ fn push_escape(text: &mut Vec<u8>, b: u8) -> Result<(), AllocError>
 /// How many bytes the extras take in a text, without the one at a key that is left out. The space before the first, or
 /// the NUL before any other, counts as a byte of each.
 pub(crate) fn extras_len(extra: &BTreeMap<Vec<u8>, Vec<u8>>, left_out: Option<&[u8]>) -> usize
-    ensures len { result ≡ min (len_without left_out.entry (extra_bytes extra.now.entries)) (2 ^ 64 - 1) }
-    ensures ascending { AscendByKey (extra_bytes extra.now.entries) }
+    ensures { result ≡ min (len_without left_out.entry (extra_bytes extra.now.entries)) (2 ^ 64 - 1) }
 {
     let mut len: usize = 0;
     for (key, value) in extra {
@@ -139,6 +138,29 @@ fn is_left_out(left_out: Option<&[u8]>, key: &[u8]) -> bool
         Some(other) => other == key,
         None => false,
     }
+}
+
+/// No fewer bytes than the extras take in a text. They are told without a look at bytes: of a byte at most two are
+/// written.
+pub(crate) fn extras_len_bound(extra: &BTreeMap<Vec<u8>, Vec<u8>>) -> usize
+    ensures most { min (len_without None (extra_bytes extra.now.entries)) (2 ^ 64 - 1) ≤ result }
+    ensures ascending { AscendByKey (extra_bytes extra.now.entries) }
+{
+    let mut len: usize = 0;
+    for (key, value) in extra {
+        len = len.saturating_add(extra_len_bound(key, value));
+    }
+    len
+}
+
+/// No fewer bytes than an extra takes, and the byte before it.
+pub(crate) fn extra_len_bound(key: &[u8], value: &[u8]) -> usize
+    ensures { min (1 + length (item (key.now, value.now))) (2 ^ 64 - 1) ≤ result }
+{
+    key.len()
+        .saturating_add(value.len())
+        .saturating_mul(2)
+        .saturating_add(2)
 }
 
 /// How many bytes an extra takes, and the byte before it.
