@@ -180,11 +180,11 @@ impl Marker {
         if successors.len() > 255 {
             return Err(ReadError::Fault(MarkerError::TooManySuccessors));
         }
-        let len = source.written_len();
-        if len > METADATA_LIMIT as usize {
+        let room = source.len_bound();
+        if room > METADATA_LIMIT as usize && source.written_len() > METADATA_LIMIT as usize {
             return Err(ReadError::Fault(MarkerError::MetaTooLong));
         }
-        let metadata = source.to_metadata(alloc, len)?;
+        let metadata = source.to_metadata(alloc, room)?;
         let successors = SmallVec::from_slice(alloc, successors)?;
         Ok(Marker {
             predecessor,

@@ -56,26 +56,26 @@ impl PartialEq for Metadata {
 }
 
 impl Metadata {
-    // The metadata of a map, which takes so many bytes.
-    pub(crate) fn of_map(texts: &TextMap, len: usize) -> Result<Metadata, AllocError>
+    // The metadata of a map, for which so much room is made.
+    pub(crate) fn of_map(texts: &TextMap, room: usize) -> Result<Metadata, AllocError>
         requires { is_writable texts.now ≡ true }
         ensures { IfOk result (λ all. all ≡ texts.now) }
     {
-        let mut bytes = Vec::with_capacity(texts.allocator(), len)?;
+        let mut bytes = Vec::with_capacity(texts.allocator(), room)?;
         texts.write_onto(&mut bytes)?;
         Ok(Metadata { bytes })
     }
 
-    // The metadata of what is noted of an operation, which takes so many bytes.
+    // The metadata of what is noted of an operation, for which so much room is made.
     pub(crate) fn of_note(
         alloc: Global,
         note: &Note<'_>,
-        len: usize,
+        room: usize,
     ) -> Result<Metadata, AllocError>
         requires { has_bad_value (note_entries note.now) ≡ false }
         ensures { IfOk result (λ all. all ≡ note_texts note.now) }
     {
-        let mut bytes = Vec::with_capacity(alloc, len)?;
+        let mut bytes = Vec::with_capacity(alloc, room)?;
         note.write(&mut bytes)?;
         Ok(Metadata { bytes })
     }

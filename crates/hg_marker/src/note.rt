@@ -4,13 +4,14 @@
 //! keys ascend and hold nothing that would end them, so that it is written as metadata one key behind the other, and it
 //! is known before that how many bytes it takes.
 ghost use Rattle.std.specs.Prelude.{◌≡◌, ◌≤◌, ◌+◌, ◌-◌, ◌^◌, ℕ, List, [], ◌∷◌, min, length, OnOk};
+ghost use Rattle.hg_changeset.specs.EntryText.{date_text};
 ghost use Rattle.hg_marker.specs.Making.{has_bad_value};
 ghost use Rattle.hg_marker.specs.Metadata.{written};
 ghost use Rattle.hg_marker.specs.Operation.{note_entries, note_texts, parents_entries};
 ghost use Rattle.hg_marker.specs.Written.{with_pieces};
 
 use crate::text_map::{has_nul, push_entry};
-use hg_changeset::{Node, date_len, push_date};
+use hg_changeset::{Node, date_len, date_len_bound, push_date};
 use std::alloc::AllocError;
 
 // Bytes of the keys `date`, `operation` and `user`, and of what joins them.
@@ -46,7 +47,24 @@ impl Note<'_> {
     pub(crate) fn written_len(&self) -> usize
         ensures { result ≡ min (length (written (note_texts self.now))) (2 ^ 64 - 1) }
     {
-        let known = KEYS_LEN + date_len(self.secs, self.offset) + parents_len(self.parents);
+        self.len_with(date_len(self.secs, self.offset))
+    }
+
+    // No fewer bytes than that, told without a look at digits.
+    pub(crate) fn len_bound(&self) -> usize
+        ensures { min (length (written (note_texts self.now))) (2 ^ 64 - 1) ≤ result }
+    {
+        self.len_with(date_len_bound(self.secs, self.offset))
+    }
+
+    // How many bytes it would take if its date took so many.
+    fn len_with(&self, date: usize) -> usize
+        requires { date ≤ 81 }
+        ensures within { length (date_text self.now.secs self.now.offset) ≤ length (written (note_texts self.now)) }
+        ensures len { result ≡ min (length (written (note_texts self.now))
+            - length (date_text self.now.secs self.now.offset) + date) (2 ^ 64 - 1) }
+    {
+        let known = KEYS_LEN + date + parents_len(self.parents);
         self.operation
             .len()
             .saturating_add(self.user.len())

@@ -1,5 +1,5 @@
 //! What the metadata of a marker is made of.
-ghost use Rattle.std.specs.Prelude.{◌≡◌, ◌-◌, ◌^◌, min, length, true, IfOk};
+ghost use Rattle.std.specs.Prelude.{◌≡◌, ◌≤◌, ◌-◌, ◌^◌, min, length, true, IfOk};
 ghost use Rattle.std.specs.FinMap.{entries};
 ghost use Rattle.hg_marker.specs.Making.{has_bad_key, has_bad_value, is_writable};
 ghost use Rattle.hg_marker.specs.Metadata.{written};
@@ -51,14 +51,24 @@ impl Source<'_> {
         }
     }
 
-    // The metadata of the texts, which take so many bytes.
-    pub(crate) fn to_metadata(self, alloc: Global, len: usize) -> Result<Metadata, AllocError>
+    // No fewer bytes than that. Of a note it is told without a look at its date.
+    pub(crate) fn len_bound(self) -> usize
+        ensures { min (length (written (source_texts self.entry))) (2 ^ 64 - 2) ≤ result }
+    {
+        match self {
+            Source::Map(texts) => texts.written_len(),
+            Source::Note(note) => note.len_bound(),
+        }
+    }
+
+    // The metadata of the texts, for which so much room is made.
+    pub(crate) fn to_metadata(self, alloc: Global, room: usize) -> Result<Metadata, AllocError>
         requires { is_writable (source_texts self) ≡ true }
         ensures { IfOk result (λ all. all ≡ source_texts self.entry) }
     {
         match self {
-            Source::Map(texts) => Metadata::of_map(texts, len),
-            Source::Note(note) => Metadata::of_note(alloc, note, len),
+            Source::Map(texts) => Metadata::of_map(texts, room),
+            Source::Note(note) => Metadata::of_note(alloc, note, room),
         }
     }
 

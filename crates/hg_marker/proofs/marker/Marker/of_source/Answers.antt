@@ -5,6 +5,8 @@ use Rattle.hg_marker.specs.Grammar.{IsMarker, metadata_limit}
 use Rattle.hg_marker.proofs.FormLemmas.{writable_from}
 use Rattle.hg_marker.proofs.ReadLemmas.{tested_is_clean}
 use Rattle.hg_marker.proofs.marker.Marker.of_source.Goals as goal
+use Rattle.hg_marker.proofs.marker.Marker.of_source.Goals.{else-room-via-then-room+else-written_len}
+use Rattle.hg_marker.proofs.marker.Marker.of_source.Goals.{else-room-via-else-room}
 
 pub to_metadata-requires : goal.to_metadata-requires
 to_metadata-requires c =
@@ -16,7 +18,10 @@ invariant_of-result c =
     let nodes : c.args.successors.now ≡ c.in_ok-successors.successors.items = sym c.in_ok-successors.ensures.ok in
     let texts : source_texts c.args.source ≡ c.in_ok-metadata.metadata = sym c.in_ok-metadata.ensures in
     let short : length (written (source_texts c.args.source)) ≤ metadata_limit =
-    omega (arith, c.written_len-len.ensures, c.if-len.false) in
+    elim c.else-room.branch [
+      | else-room-via-then-room+else-written_len w ↦ omega (arith, w.written_len.ensures, w.if-written_len.false)
+      | else-room-via-else-room w ↦ omega (arith, c.len_bound-room.ensures, w.if-room.false)
+    ] in
     let marker = subst IsMarker (λ i. record {
       predecessor = c.args.predecessor;
       successors = nodes i;
