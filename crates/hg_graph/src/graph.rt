@@ -8,13 +8,14 @@ ghost use Rattle.hg_changeset.specs.Contents.{Contents};
 ghost use Rattle.hg_changeset.specs.Changeset.{node_of, IsChangeset};
 ghost use Rattle.hg_graph.specs.Graph.{nodes, Holds, HoldsParents, IsGraph};
 ghost use Rattle.hg_graph.specs.Places.{IsOnlyAt, IsParentPlace, IsPlaceOf, ArePlacesOf};
-ghost use Rattle.hg_graph.specs.Answers.{IsFirstMissing, IsNew, AddAnswer, LookUpAnswer};
+ghost use Rattle.hg_graph.specs.Answers.{IsFirstMissing, IsNew, AddAnswer, MetAnswer};
 
 use crate::error::GraphError;
 use crate::links::Links;
 use hg_changeset::{Changeset, Node};
 use hg_node_set::{IdKeys, find_if_last, give_back_table};
 use indexmap::IndexMap;
+use indexmap::map::Entry;
 use std::alloc::{AllocError, Global};
 use std::marker::Model;
 
@@ -201,13 +202,20 @@ impl Graph {
         ensures answer { AddAnswer self.old changeset result self.new }
         ensures memory { IsErrOf result GraphError.NoMemory → IsNew self.old changeset }
     {
-        match self.look_up(&changeset) {
-            Ok(Some(parents)) => {
-                self.push(changeset, parents)?;
+        if self.is_last(&changeset) {
+            return Ok(Added::Known);
+        }
+        let parents = match self.places_of_parents(&changeset) {
+            Ok(parents) => parents,
+            Err(missing) => return Err(GraphError::UnknownParent(missing)),
+        };
+        match self.changesets.entry(changeset.node())? {
+            Entry::Occupied(held) => known_or_collision(held.get(), &changeset),
+            Entry::Vacant(vacant) => {
+                self.links.push(parents)?;
+                vacant.insert(changeset);
                 Ok(Added::New)
             }
-            Ok(None) => Ok(Added::Known),
-            Err(refusal) => Err(refusal),
         }
     }
 
@@ -216,30 +224,32 @@ impl Graph {
         ensures answer { AddAnswer self.old changeset.now result self.new }
         ensures memory { IsErrOf result GraphError.NoMemory → IsNew self.old changeset.now }
     {
-        match self.look_up(changeset) {
-            Ok(Some(parents)) => {
-                self.push(changeset.copy()?, parents)?;
-                Ok(Added::New)
-            }
-            Ok(None) => Ok(Added::Known),
-            Err(refusal) => Err(refusal),
+        if self.is_last(changeset) {
+            return Ok(Added::Known);
         }
-    }
-
-    // Where the parents of a new changeset stand; nothing for a known one.
-    #[inline(always)]
-    fn look_up(&self, changeset: &Changeset) -> Result<Option<ParentPlaces>, GraphError>
-        ensures { LookUpAnswer self.now changeset.now result }
-    {
         let parents = match self.places_of_parents(changeset) {
             Ok(parents) => parents,
             Err(missing) => return Err(GraphError::UnknownParent(missing)),
         };
-        let node = changeset.node();
-        match self.changeset(node) {
-            Some(held) if held.is_same(changeset) => Ok(None),
-            Some(_) => Err(GraphError::Collision(node)),
-            None => Ok(Some(parents)),
+        match self.changesets.entry(changeset.node())? {
+            Entry::Occupied(held) => known_or_collision(held.get(), changeset),
+            Entry::Vacant(vacant) => {
+                let copy = changeset.copy()?;
+                self.links.push(parents)?;
+                vacant.insert(copy);
+                Ok(Added::New)
+            }
+        }
+    }
+
+    // Whether an equal changeset was added last. It takes no hash.
+    #[inline(always)]
+    fn is_last(&self, changeset: &Changeset) -> bool
+        ensures { IsTrue result → Contains self.now changeset.now }
+    {
+        match find_if_last(&self.changesets, changeset.node()) {
+            Some((_, last)) => last.is_same(changeset),
+            None => false,
         }
     }
 
@@ -312,5 +322,16 @@ impl Graph {
             }
         }
         Ok(graph)
+    }
+}
+
+// What is answered to a changeset with the id of one that is held.
+fn known_or_collision(held: &Changeset, changeset: &Changeset) -> Result<Added, GraphError>
+    ensures { MetAnswer held.now changeset.now result }
+{
+    if held.is_same(changeset) {
+        Ok(Added::Known)
+    } else {
+        Err(GraphError::Collision(changeset.node()))
     }
 }
