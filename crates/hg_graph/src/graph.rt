@@ -271,9 +271,11 @@ impl Graph {
         ensures held { IfOk result (IsPlaceOf self.now parent) }
         ensures missing { IfErr result (λ p. (p ≡ parent) × (p ≢ null_node) × ¬ (Holds self.now p)) }
     {
+        if parent.is_null() {
+            return Ok(None);
+        }
         match self.place(parent) {
             Some(place) => Ok(Some(place)),
-            None if parent.is_null() => Ok(None),
             None => Err(parent),
         }
     }
