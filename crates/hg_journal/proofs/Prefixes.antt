@@ -1,5 +1,6 @@
 -- Beginnings of one list.
-use Rattle.std.proofs.Common.{◌≡◌, ◌≤◌, ◌⊎◌, inl, inr, List, [], ◌∷◌, ◌++◌, length, refl, ap, sym, ◌∙◌, subst, arith, append_assoc, length-append}
+use Rattle.std.proofs.Common.{◌≡◌, ◌≤◌, ◌⊎◌, inl, inr, List, [], ◌∷◌, ◌++◌, length, refl, ap, sym, ◌∙◌, subst, arith}
+use Rattle.std.proofs.Common.{append_assoc, length-append}
 use Rattle.std.proofs.lemmas.List.{append-nil}
 use mathlib.Core.List.{IsPrefix}
 
@@ -16,7 +17,8 @@ prefix_line (x ∷ xs) [] zs p q = inr (x ∷ xs, refl)
 prefix_line (x ∷ xs) (y ∷ ys) [] p q = absurd (cc (p.1))
 prefix_line (x ∷ xs) (y ∷ ys) (z ∷ zs) p q =
     let heads : x ≡ y = cc (p.1, q.1) in
-    elim (prefix_line xs ys zs (p.0, cc (p.1)) (q.0, cc (q.1))) [ inl a ↦ inl (a.0, cc (heads, a.1)) | inr b ↦ inr (b.0, cc (heads, b.1)) ]
+    elim (prefix_line xs ys zs (p.0, cc (p.1)) (q.0, cc (q.1)))
+    [ inl a ↦ inl (a.0, cc (heads, a.1)) | inr b ↦ inr (b.0, cc (heads, b.1)) ]
 
 -- a beginning as long as the whole is the whole
 pub prefix_whole : {A : Type 0} (xs ys : List A) → IsPrefix xs ys → length ys ≤ length xs → xs ≡ ys
@@ -30,9 +32,11 @@ pub prefix_length : {A : Type 0} (xs ys : List A) → IsPrefix xs ys → length 
 prefix_length xs ys p = omega (arith, sym (ap length p.1) ∙ length-append xs p.0)
 
 -- of two in line the one that is no longer begins the other
-pub line_shorter : {A : Type 0} (xs ys : List A) → IsPrefix xs ys ⊎ IsPrefix ys xs → length xs ≤ length ys → IsPrefix xs ys
+pub line_shorter : {A : Type 0} (xs ys : List A) → IsPrefix xs ys ⊎ IsPrefix ys xs → length xs ≤ length ys →
+    IsPrefix xs ys
 line_shorter xs ys (inl p) le = p
-line_shorter xs ys (inr q) le = let same : ys ≡ xs = prefix_whole ys xs q le in subst (λ (w : List _). IsPrefix w ys) same (prefix_self ys)
+line_shorter xs ys (inr q) le =
+    let same : ys ≡ xs = prefix_whole ys xs q le in subst (λ (w : List _). IsPrefix w ys) same (prefix_self ys)
 
 pub line_swap : {A : Type 0} (xs ys : List A) → IsPrefix xs ys ⊎ IsPrefix ys xs → IsPrefix ys xs ⊎ IsPrefix xs ys
 line_swap xs ys (inl p) = inr p
