@@ -25,8 +25,8 @@ use Rattle.hg_phases.specs.declared.lowered.LoweredPlace.{LoweredPlace}
 use Rattle.hg_phases.specs.Log.{IsLog}
 use Rattle.hg_phases.specs.State.{Held, held_of, state_of}
 use Rattle.hg_phases.specs.Roots.{IsRoot, AreRootsAmong, AreRoots}
-use Rattle.hg_phases.specs.RootPlaces.{HasParentIn, IsRootPlace, AreRootPlaces, IsFamily, IsTouched, IsSettled}
-use Rattle.hg_phases.specs.RootPlaces.{AreSettled}
+use Rattle.hg_phases.specs.RootPlaces.{HasParentIn, IsRootPlace, AreRootPlaces, IsFamily, IsTouched, IsUpToDate}
+use Rattle.hg_phases.specs.RootPlaces.{AreRecomputed}
 use Rattle.hg_phases.proofs.PlaceLemmas.{held-at, parts-at}
 
 -- ---- the first places of a graph
@@ -75,39 +75,39 @@ pub roots-taken : (cs : List Contents) → IsGraph cs → (ks : List Phase) (n :
     → AreRootPlaces cs ks flags → AreRootPlaces (take n cs) (take n ks) (take n flags)
 roots-taken cs graph ks n flags le are = record {
   len = length-take-le n flags (omega (arith, le, are.len)) ∙ sym (length-take-le n cs le);
-  settled = λ p. (
-    λ at. let x = get-take flags n p true at in root-front cs graph ks n p x.0 ((are.settled p).0 x.1),
+  up_to_date = λ p. (
+    λ at. let x = get-take flags n p true at in root-front cs graph ks n p x.0 ((are.up_to_date p).0 x.1),
     λ root. slice_get-take flags n p true (get-take ks n p root.0 root.1).0
-        ((are.settled p).1 (root-whole cs graph ks n p root)),
+        ((are.up_to_date p).1 (root-whole cs graph ks n p root)),
   );
 }
 
--- ---- settling
+-- ---- recomputing
 
 module _ (cs : List Contents) (ks : List Phase) where
-  settled-same : (old new : List Bool) (p : ℕ) → IsSettled cs ks old p → slice_get new p ≡ slice_get old p
-      → IsSettled cs ks new p
-  settled-same old new p is e = ((λ at. is.0 (sym e ∙ at)), (λ root. e ∙ is.1 root))
+  up_to_date-same : (old new : List Bool) (p : ℕ) → IsUpToDate cs ks old p → slice_get new p ≡ slice_get old p
+      → IsUpToDate cs ks new p
+  up_to_date-same old new p is e = ((λ at. is.0 (sym e ∙ at)), (λ root. e ∙ is.1 root))
 
   -- a root was flagged
-  pub settle-root : (flags : List Bool) (place : ℕ) → place < length flags → IsRootPlace cs ks place
-      → (new : List Bool) → new ≡ set flags place true → AreSettled cs ks (λ p. place ≡ p) flags new
-  settle-root flags place l root new is = subst (AreSettled cs ks (λ p. place ≡ p) flags) (sym is) (record {
+  pub recompute-root : (flags : List Bool) (place : ℕ) → place < length flags → IsRootPlace cs ks place
+      → (new : List Bool) → new ≡ set flags place true → AreRecomputed cs ks (λ p. place ≡ p) flags new
+  recompute-root flags place l root new is = subst (AreRecomputed cs ks (λ p. place ≡ p) flags) (sym is) (record {
     len = length-set flags place true;
     each = λ p. elim (cases_eq p place) [
-      | inl e ↦ inl (subst (IsSettled cs ks (set flags place true)) (sym e)
+      | inl e ↦ inl (subst (IsUpToDate cs ks (set flags place true)) (sym e)
           ((λ at. root), (λ x. get-set_same flags place true l)))
       | inr ne ↦ inr ((λ e. ne (sym e)), get-set_other flags place p true ne)
     ];
   })
 
   -- the flag was taken down where no root stands
-  pub settle-other : (flags : List Bool) (place : ℕ) → place < length flags → ¬ (IsRootPlace cs ks place)
-      → (new : List Bool) → new ≡ set flags place false → AreSettled cs ks (λ p. place ≡ p) flags new
-  settle-other flags place l none new is = subst (AreSettled cs ks (λ p. place ≡ p) flags) (sym is) (record {
+  pub recompute-other : (flags : List Bool) (place : ℕ) → place < length flags → ¬ (IsRootPlace cs ks place)
+      → (new : List Bool) → new ≡ set flags place false → AreRecomputed cs ks (λ p. place ≡ p) flags new
+  recompute-other flags place l none new is = subst (AreRecomputed cs ks (λ p. place ≡ p) flags) (sym is) (record {
     len = length-set flags place false;
     each = λ p. elim (cases_eq p place) [
-      | inl e ↦ inl (subst (IsSettled cs ks (set flags place false)) (sym e) (
+      | inl e ↦ inl (subst (IsUpToDate cs ks (set flags place false)) (sym e) (
         (λ at. absurd
             (true≢false (same_Some true false (sym at ∙ get-set_same flags place false l)))),
         (λ root. absurd (none root)),
@@ -116,35 +116,35 @@ module _ (cs : List Contents) (ks : List Phase) where
     ];
   })
 
-  pub settled-none : (P : ℕ → Type 0) (flags : List Bool) → ((p : ℕ) → ¬ (P p)) → AreSettled cs ks P flags flags
-  settled-none P flags none = record { len = refl; each = λ p. inr (none p, refl) }
+  pub recomputed-none : (P : ℕ → Type 0) (flags : List Bool) → ((p : ℕ) → ¬ (P p)) → AreRecomputed cs ks P flags flags
+  recomputed-none P flags none = record { len = refl; each = λ p. inr (none p, refl) }
 
-  -- one settling after another
-  pub settled-then : (P Q R : ℕ → Type 0) (old mid new : List Bool) → AreSettled cs ks P old mid
-      → AreSettled cs ks Q mid new → ((p : ℕ) → R p → P p ⊎ Q p) → AreSettled cs ks R old new
-  settled-then P Q R old mid new first second covers = record {
+  -- one recomputation after another
+  pub recomputed-then : (P Q R : ℕ → Type 0) (old mid new : List Bool) → AreRecomputed cs ks P old mid
+      → AreRecomputed cs ks Q mid new → ((p : ℕ) → R p → P p ⊎ Q p) → AreRecomputed cs ks R old new
+  recomputed-then P Q R old mid new first second covers = record {
     len = second.len ∙ first.len;
     each = λ p. elim (second.each p) [
       | inl is ↦ inl is
       | inr x ↦ elim (first.each p) [
-        | inl is ↦ inl (settled-same mid new p is x.1)
+        | inl is ↦ inl (up_to_date-same mid new p is x.1)
         | inr y ↦ inr ((λ r. elim (covers p r) [ inl a ↦ y.0 a | inr b ↦ x.0 b ]), x.1 ∙ y.1)
       ]
     ];
   }
 
-  -- fewer are settled
-  pub settled-less : (P R : ℕ → Type 0) (old new : List Bool) → AreSettled cs ks P old new
-      → ((p : ℕ) → R p → P p) → AreSettled cs ks R old new
-  settled-less P R old new s fewer = record {
+  -- fewer are recomputed
+  pub recomputed-less : (P R : ℕ → Type 0) (old new : List Bool) → AreRecomputed cs ks P old new
+      → ((p : ℕ) → R p → P p) → AreRecomputed cs ks R old new
+  recomputed-less P R old new s fewer = record {
     len = s.len;
     each = λ p. elim (s.each p) [ inl is ↦ inl is | inr x ↦ inr ((λ r. x.0 (fewer p r)), x.1) ];
   }
 
   -- all places from one on
-  pub settled-from : (n m : ℕ) (old new : List Bool) → length ks ≡ length cs → length old ≡ length cs
-      → AreSettled cs ks (λ p. (n ≤ p) × (p < m)) old new → length cs ≤ m → AreSettled cs ks (λ p. n ≤ p) old new
-  settled-from n m old new len long s le = record {
+  pub recomputed-from : (n m : ℕ) (old new : List Bool) → length ks ≡ length cs → length old ≡ length cs
+      → AreRecomputed cs ks (λ p. (n ≤ p) × (p < m)) old new → length cs ≤ m → AreRecomputed cs ks (λ p. n ≤ p) old new
+  recomputed-from n m old new len long s le = record {
     len = s.len;
     each = λ p. elim (s.each p) [
       | inl is ↦ inl is
@@ -187,44 +187,44 @@ other-way : (ks ls : List Phase) (D : ℕ → Type 0) → ((j : ℕ) → (slice_
     → (j : ℕ) → (slice_get ks j ≡ slice_get ls j) ⊎ D j
 other-way ks ls D same j = elim (same j) [ inl e ↦ inl (sym e) | inr d ↦ inr d ]
 
--- one phase was set, and its family settled
+-- one phase was set, and its family recomputed
 pub roots-set : (cs : List Contents) (ks ls : List Phase) (place : ℕ) (k : Phase) (old new : List Bool)
-    → ls ≡ set ks place k → AreRootPlaces cs ks old → AreSettled cs ls (IsFamily cs place) old new
+    → ls ≡ set ks place k → AreRootPlaces cs ks old → AreRecomputed cs ls (IsFamily cs place) old new
     → AreRootPlaces cs ls new
-roots-set cs ks ls place k old new is are settled =
+roots-set cs ks ls place k old new is are recomputed =
     let D : ℕ → Type 0 = λ j. place ≡ j in
     let same : (j : ℕ) → (slice_get ls j ≡ slice_get ks j) ⊎ (place ≡ j) = λ j. elim (cases_eq j place) [
       | inl e ↦ inr (sym e)
       | inr ne ↦ inl (ap (λ xs. slice_get xs j) is ∙ get-set_other ks place j k ne)
     ] in
     record {
-      len = settled.len ∙ are.len;
-      settled = λ p. elim (settled.each p) [
+      len = recomputed.len ∙ are.len;
+      up_to_date = λ p. elim (recomputed.each p) [
         | inl x ↦ x
         | inr x ↦
             let un : (j : ℕ) → place ≡ j → ¬ (IsFamily cs j p) =
             λ j e f. x.0 (subst (λ q. IsFamily cs q p) (sym e) f) in (
-              λ at. alike-root cs ks ls (λ j. place ≡ j) same p un ((are.settled p).0 (sym x.1 ∙ at)),
-              λ root. x.1 ∙ (are.settled p).1
+              λ at. alike-root cs ks ls (λ j. place ≡ j) same p un ((are.up_to_date p).0 (sym x.1 ∙ at)),
+              λ root. x.1 ∙ (are.up_to_date p).1
                   (alike-root cs ls ks (λ j. place ≡ j) (other-way ks ls (λ j. place ≡ j) same) p un root),
             )
       ];
     }
 
--- changesets were added, phases went down, and all that touches was settled
+-- changesets were added, phases went down, and all that touches was recomputed
 pub roots-updated : (cs : List Contents) → IsGraph cs → (phase : Phase) (start now : List Phase)
     (log : List LoweredPlace) → IsLog phase start now log → (n : ℕ) (old grown mid new : List Bool) → n ≤ length cs
     → AreRootPlaces (take n cs) (take n start) old → length grown ≡ length cs → take (length old) grown ≡ old
-    → AreSettled cs now (λ p. n ≤ p) grown mid → AreSettled cs now (IsTouched cs log) mid new
+    → AreRecomputed cs now (λ p. n ≤ p) grown mid → AreRecomputed cs now (IsTouched cs log) mid new
     → AreRootPlaces cs now new
 roots-updated cs graph phase start now log l n old grown mid new le are long front first second =
-    let all = settled-then cs now (λ p. n ≤ p) (IsTouched cs log) (λ p. (n ≤ p) ⊎ IsTouched cs log p) grown mid new
+    let all = recomputed-then cs now (λ p. n ≤ p) (IsTouched cs log) (λ p. (n ≤ p) ⊎ IsTouched cs log p) grown mid new
     first second (λ p r. r) in
     let old_len : length old ≡ n = are.len ∙ length-take-le n cs le in
     let front_n : take n grown ≡ old = ap (λ m. take m grown) (sym old_len) ∙ front in
     record {
       len = all.len ∙ long;
-      settled = λ p. elim (all.each p) [
+      up_to_date = λ p. elim (all.each p) [
         | inl x ↦ x
         | inr x ↦ elim (cases_lt p n) [
           | inr ge ↦ absurd (x.0 (inl ge))
@@ -233,12 +233,12 @@ roots-updated cs graph phase start now log l n old grown mid new le are long fro
               λ j d f. x.0 (inr (d.0, d.1, subst (λ q. IsFamily cs q p) (sym d.2) f)) in (
                 λ at. alike-root cs start now (λ j. (e : LoweredPlace) × Contains log e × (e.place ≡ j)) l.rest p un
                     (root-whole cs graph start n p
-                    ((are.settled p).0
+                    ((are.up_to_date p).0
                     (subst (λ xs. slice_get xs p ≡ Some true) front_n
                     (slice_get-take grown n p true less (sym x.1 ∙ at))))),
                 λ root. x.1 ∙ (get-take grown n p true
                     (subst (λ xs. slice_get xs p ≡ Some true) (sym front_n)
-                    ((are.settled p).1
+                    ((are.up_to_date p).1
                     (root-front cs graph start n p less
                     (alike-root cs now start (λ j. (e : LoweredPlace) × Contains log e × (e.place ≡ j))
                     (other-way start now (λ j. (e : LoweredPlace) × Contains log e × (e.place ≡ j)) l.rest) p un
@@ -442,7 +442,8 @@ module _ (cs : List Contents) (ks : List Phase) where
       ]
 
   pub listed-are : (places : List ℕ) (out : List (Phase × Node)) → IsStrictlySortedBy nat_cmp places
-      → ((p : ℕ) → Contains places p ↔ IsRootPlace cs ks p) → ListsRoots cs ks places out → AreRoots (state_of cs ks) out
+      → ((p : ℕ) → Contains places p ↔ IsRootPlace cs ks p) → ListsRoots cs ks places out
+      → AreRoots (state_of cs ks) out
   listed-are places out sorted are lists =
       listed_from (held_of cs ks) 0 refl places out (λ i j l within. below_from_sorted places i j 0 sorted l within)
       (λ p. ((λ h. (omega arith, (are p).0 h)), (λ h. (are p).1 h.1))) lists

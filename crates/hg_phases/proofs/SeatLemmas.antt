@@ -1,13 +1,14 @@
 -- Places and their seats: two seats are changed, and places come and go at the end.
 use Rattle.std.proofs.Common.{◌≡◌, ◌≢◌, ℕ, zero, suc, ◌+◌, ◌-◌, ◌<◌, ◌≤◌, ◌↔◌, inl, inr, Bool, true, false}
-use Rattle.std.proofs.Common.{nat_lt, get_or, List, [], ◌∷◌, ◌++◌, length, map, set, take, replicate, slice_get, Some, None, Contains}
-use Rattle.std.proofs.Common.{refl, sym, ap, subst, ◌∙◌, arith, true≢false, append-nil, append_assoc}
+use Rattle.std.proofs.Common.{nat_lt, get_or, List, [], ◌∷◌, ◌++◌, length, map, set, take, replicate, slice_get}
+use Rattle.std.proofs.Common.{Some, None, Contains, refl, sym, ap, subst, ◌∙◌, arith, true≢false, append-nil}
+use Rattle.std.proofs.Common.{append_assoc}
 use Rattle.std.specs.Option.{option_map}
 use Rattle.std.proofs.lemmas.Bool.{cases_eq, cases_lt}
 use Rattle.std.proofs.lemmas.List.{length-set, length-map, length-append, length-take-le, take-map, take_at}
 use Rattle.std.proofs.lemmas.List.{map-append, replicate_more}
-use Rattle.std.proofs.lemmas.Option.{none-some, same_Some, slice_get-map, slice_get_within, slice_get_past, slice_get_cases}
-use Rattle.std.proofs.lemmas.Option.{slice_get-get_or}
+use Rattle.std.proofs.lemmas.Option.{none-some, same_Some, slice_get-map, slice_get_within, slice_get_past}
+use Rattle.std.proofs.lemmas.Option.{slice_get_cases, slice_get-get_or}
 use Rattle.hg_changeset.proofs.ListLemmas.{slice_get-take, slice_get-push_cases, slice_get-append}
 use Rattle.hg_changeset.proofs.ListLemmas.{slice_get-append_seam}
 use Rattle.hg_graph.proofs.GraphLemmas.{get-take, Contains-from_place, place_from_Contains}
@@ -168,13 +169,15 @@ module _ (order seats : List ℕ) (seated : AreSeated order seats) where
     swapped-at : (p s : ℕ) → slice_get seats p ≡ Some s → slice_get after_seats p ≡ Some (swapped one other s)
     swapped-at p s at = elim (cases_eq p second) [
       | inl is_second ↦
-          let s_is : other ≡ s = one_seat second other s seat_of_second (subst (λ q. slice_get seats q ≡ Some s) is_second
+          let s_is : other ≡ s =
+          one_seat second other s seat_of_second (subst (λ q. slice_get seats q ≡ Some s) is_second
           at) in
           subst (λ q. slice_get after_seats q ≡ Some (swapped one other s)) (sym is_second)
           (seats-second ∙ ap (λ r. Some r) (sym (swapped-other one other) ∙ ap (swapped one other) s_is))
       | inr not_second ↦ elim (cases_eq p first) [
         | inl is_first ↦
-            let s_is : one ≡ s = one_seat first one s seat_of_first (subst (λ q. slice_get seats q ≡ Some s) is_first at)
+            let s_is : one ≡ s =
+            one_seat first one s seat_of_first (subst (λ q. slice_get seats q ≡ Some s) is_first at)
             in
             subst (λ q. slice_get after_seats q ≡ Some (swapped one other s)) (sym is_first)
             (seats-first (λ e. not_second (is_first ∙ e))
@@ -330,7 +333,8 @@ module _ (order seats : List ℕ) (count : ℕ) (seated : AreSeated order seats)
     | inl is ↦
         ap (slice_get (set (flags_of seats count) place b)) is
         ∙ get-set_same (flags_of seats count) place b within_flags
-        ∙ ap (λ x. Some x) (sym e) ∙ sym (flags-at seats count place seat at) ∙ ap (slice_get (flags_of seats count)) (sym is)
+        ∙ ap (λ x. Some x) (sym e) ∙ sym (flags-at seats count place seat at)
+        ∙ ap (slice_get (flags_of seats count)) (sym is)
     | inr isnt ↦ get-set_other (flags_of seats count) place i b isnt
   ])
 

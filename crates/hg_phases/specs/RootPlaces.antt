@@ -17,18 +17,18 @@ abbrev pub IsRootPlace : List Contents → List Phase → ℕ → Type 0
 IsRootPlace cs ks p = (k : Phase) × (slice_get ks p ≡ Some k) × (k ≢ Public) × ¬ (HasParentIn cs ks p k)
 
 -- the place is flagged exactly where a root stands there
-abbrev pub IsSettled : List Contents → List Phase → List Bool → ℕ → Type 0
-IsSettled cs ks flags p = (slice_get flags p ≡ Some true) ↔ IsRootPlace cs ks p
+abbrev pub IsUpToDate : List Contents → List Phase → List Bool → ℕ → Type 0
+IsUpToDate cs ks flags p = (slice_get flags p ≡ Some true) ↔ IsRootPlace cs ks p
 
 -- there is a flag for each place, and exactly those of the roots are up
 pub record AreRootPlaces (cs : List Contents) (ks : List Phase) (flags : List Bool) : Type 0 where
   pub len : length flags ≡ length cs
-  pub settled : (p : ℕ) → IsSettled cs ks flags p
+  pub up_to_date : (p : ℕ) → IsUpToDate cs ks flags p
 
--- the flags of the places of which P holds were settled; others stayed, unless they are settled as well
-pub record AreSettled (cs : List Contents) (ks : List Phase) (P : ℕ → Type 0) (old new : List Bool) : Type 0 where
+-- the flags of the places of which P holds were recomputed; others stayed, unless they are up to date as well
+pub record AreRecomputed (cs : List Contents) (ks : List Phase) (P : ℕ → Type 0) (old new : List Bool) : Type 0 where
   pub len : length new ≡ length old
-  pub each : (p : ℕ) → IsSettled cs ks new p ⊎ (¬ (P p) × (slice_get new p ≡ slice_get old p))
+  pub each : (p : ℕ) → IsUpToDate cs ks new p ⊎ (¬ (P p) × (slice_get new p ≡ slice_get old p))
 
 -- the place, or that of a child of the changeset there
 abbrev pub IsFamily : List Contents → ℕ → ℕ → Type 0

@@ -8,7 +8,8 @@ ghost use Rattle.hg_phases.specs.declared.phase.Phase.{Phase};
 ghost use Rattle.hg_phases.specs.State.{state_of};
 ghost use Rattle.hg_phases.specs.Log.{IsLog, restored};
 ghost use Rattle.hg_phases.specs.Roots.{AreRoots};
-ghost use Rattle.hg_phases.specs.RootPlaces.{HasParentIn, IsRootPlace, AreRootPlaces, IsFamily, IsTouched, AreSettled};
+ghost use Rattle.hg_phases.specs.RootPlaces.{HasParentIn, IsRootPlace, AreRootPlaces, IsFamily, IsTouched};
+ghost use Rattle.hg_phases.specs.RootPlaces.{AreRecomputed};
 
 use crate::lowered::{LoweredPlace, LoweredPlaces};
 use crate::phase::Phase;
@@ -38,8 +39,8 @@ pub(crate) fn update_roots(
     ensures memory { OnErr result (before < length graph.now) }
 {
     roots.grow(graph.len())?;
-    settle_added(graph, phases, roots, before);
-    settle_logged(graph, phases, roots, log);
+    recompute_added(graph, phases, roots, before);
+    recompute_logged(graph, phases, roots, log);
     Ok(())
 }
 
@@ -59,55 +60,55 @@ pub(crate) fn take_back_logged(
 {
     while let Some(LoweredPlace { place, had }) = log.pop() {
         phases.set(place, had);
-        settle_family(graph, phases, roots, place);
+        recompute_family(graph, phases, roots, place);
     }
 }
 
-// Settles the places from one on.
+// Recomputes the flags of the places from one on.
 #[inline(always)]
-fn settle_added(graph: &Graph, phases: &PhaseMap, roots: &mut PlaceSet, before: usize)
+fn recompute_added(graph: &Graph, phases: &PhaseMap, roots: &mut PlaceSet, before: usize)
     requires len { length phases.now ≡ length graph.now }
     requires seats { length roots.old ≡ length graph.now }
-    ensures { AreSettled graph.now phases.now (λ p. before ≤ p) roots.old roots.new }
+    ensures { AreRecomputed graph.now phases.now (λ p. before ≤ p) roots.old roots.new }
 {
     for place in before..graph.len() {
-        settle(graph, phases, roots, place);
+        recompute(graph, phases, roots, place);
     }
 }
 
-// Settles the places of what was logged, and of the children of that.
+// Recomputes the flags of the places of what was logged, and of the children of that.
 #[inline(always)]
-fn settle_logged(graph: &Graph, phases: &PhaseMap, roots: &mut PlaceSet, log: &[LoweredPlace])
+fn recompute_logged(graph: &Graph, phases: &PhaseMap, roots: &mut PlaceSet, log: &[LoweredPlace])
     requires len { length phases.now ≡ length graph.now }
     requires seats { length roots.old ≡ length graph.now }
     requires logged { All (λ e. e.place < length graph.now) log.now }
-    ensures { AreSettled graph.now phases.now (IsTouched graph.now log.now) roots.old roots.new }
+    ensures { AreRecomputed graph.now phases.now (IsTouched graph.now log.now) roots.old roots.new }
 {
     for lowered in log {
-        settle_family(graph, phases, roots, lowered.place);
+        recompute_family(graph, phases, roots, lowered.place);
     }
 }
 
-// Settles a place and those of the children of the changeset there.
-fn settle_family(graph: &Graph, phases: &PhaseMap, roots: &mut PlaceSet, place: usize)
+// Recomputes the flags of a place and of those of the children of the changeset there.
+fn recompute_family(graph: &Graph, phases: &PhaseMap, roots: &mut PlaceSet, place: usize)
     requires len { length phases.now ≡ length graph.now }
     requires seats { length roots.old ≡ length graph.now }
     requires within { place < length graph.now }
-    ensures { AreSettled graph.now phases.now (IsFamily graph.now place) roots.old roots.new }
+    ensures { AreRecomputed graph.now phases.now (IsFamily graph.now place) roots.old roots.new }
 {
-    settle(graph, phases, roots, place);
+    recompute(graph, phases, roots, place);
     for child in graph.children(place) {
-        settle(graph, phases, roots, *child);
+        recompute(graph, phases, roots, *child);
     }
 }
 
 // Makes the place one of the roots exactly where a root stands there.
 #[inline(always)]
-fn settle(graph: &Graph, phases: &PhaseMap, roots: &mut PlaceSet, place: usize)
+fn recompute(graph: &Graph, phases: &PhaseMap, roots: &mut PlaceSet, place: usize)
     requires len { length phases.now ≡ length graph.now }
     requires seats { length roots.old ≡ length graph.now }
     requires within { place < length graph.now }
-    ensures { AreSettled graph.now phases.now (λ p. place ≡ p) roots.old roots.new }
+    ensures { AreRecomputed graph.now phases.now (λ p. place ≡ p) roots.old roots.new }
 {
     if is_root(graph, phases, place) {
         roots.insert(place);

@@ -21,5 +21,5 @@ loop-place-preserved c =
       rest = ap (λ ks. restored ks rest) set_is ∙ sym (restored-push phases rest e) ∙ ap (restored phases) (sym items)
           ∙ c.loop-place.invariant.rest;
       rooted = roots-set c.args.graph.now phases c.set.new.self e.place e.had c.loop-place.roots
-          c.settle_family.new.roots set_is c.loop-place.invariant.rooted c.settle_family.ensures;
+          c.recompute_family.new.roots set_is c.loop-place.invariant.rooted c.recompute_family.ensures;
     }

@@ -5,8 +5,8 @@ use Rattle.hg_phases.proofs.LogLemmas.{within_log}
 use Rattle.hg_phases.proofs.RootPlaceLemmas.{roots-updated}
 use Rattle.hg_phases.proofs.root_places.update_roots.Goals as goal
 
-pub settle_logged-requires-clause-logged : goal.settle_logged-requires-clause-logged
-settle_logged-requires-clause-logged c =
+pub recompute_logged-requires-clause-logged : goal.recompute_logged-requires-clause-logged
+recompute_logged-requires-clause-logged c =
     λ k d h. omega (arith, within_log _ _ _ _ c.requires.logged.1 k d h, c.requires.len)
 
 pub returns-clause-updated : goal.returns-clause-updated
@@ -25,5 +25,5 @@ returns-clause-updated c =
       length-take-le c.args.before cs c.requires.within,
       c.requires.within,
       c.len.ensures.len,
-    )) (ap (take (length old)) grown ∙ take_at old more (length old) refl) c.settle_added.ensures
-    c.settle_logged.ensures
+    )) (ap (take (length old)) grown ∙ take_at old more (length old) refl) c.recompute_added.ensures
+    c.recompute_logged.ensures

@@ -26,4 +26,5 @@ returns-clause-valid c = c.in_ok-lower_logged.ensures.valid
 
 pub returns-clause-logged : goal.returns-clause-logged
 returns-clause-logged c =
-    c.lower_logged.ensures.logged c.args.self.now (fresh_log c.args.phase c.args.self.now c.args.log.now c.requires.fresh)
+    c.lower_logged.ensures.logged c.args.self.now
+    (fresh_log c.args.phase c.args.self.now c.args.log.now c.requires.fresh)

@@ -5,18 +5,18 @@ use Rattle.std.proofs.lemmas.Option.{slice_get_within}
 use Rattle.hg_changeset.proofs.ListLemmas.{Contains-none}
 use Rattle.hg_graph.proofs.WalkLemmas.{taken_one}
 use Rattle.hg_phases.specs.RootPlaces.{IsFamily}
-use Rattle.hg_phases.proofs.RootPlaceLemmas.{settled-less, settled-then}
-use Rattle.hg_phases.proofs.root_places.settle_family.Goals as goal
+use Rattle.hg_phases.proofs.RootPlaceLemmas.{recomputed-less, recomputed-then}
+use Rattle.hg_phases.proofs.root_places.recompute_family.Goals as goal
 
 pub loop-child-init : goal.loop-child-init
 loop-child-init c =
-    settled-less _ _ _ _ _ _ c.settle.ensures (λ p r. elim r [ inl e ↦ e | inr h ↦ absurd (Contains-none _ h) ])
+    recomputed-less _ _ _ _ _ _ c.recompute.ensures (λ p r. elim r [ inl e ↦ e | inr h ↦ absurd (Contains-none _ h) ])
 
-pub settle-requires-in-loop-child-clause-seats : goal.settle-requires-in-loop-child-clause-seats
-settle-requires-in-loop-child-clause-seats c = c.loop-child.invariant.len ∙ c.requires.seats
+pub recompute-requires-in-loop-child-clause-seats : goal.recompute-requires-in-loop-child-clause-seats
+recompute-requires-in-loop-child-clause-seats c = c.loop-child.invariant.len ∙ c.requires.seats
 
-pub settle-requires-in-loop-child-clause-within : goal.settle-requires-in-loop-child-clause-within
-settle-requires-in-loop-child-clause-within c =
+pub recompute-requires-in-loop-child-clause-within : goal.recompute-requires-in-loop-child-clause-within
+recompute-requires-in-loop-child-clause-within c =
     let items = c.children-child-items.result.now in
     let child = get_or items c.loop-child.child-index 0 in
     let parent = (c.children-child-items.ensures.exact child).0
@@ -25,7 +25,7 @@ settle-requires-in-loop-child-clause-within c =
 
 pub loop-child-preserved : goal.loop-child-preserved
 loop-child-preserved c =
-    settled-then _ _ _ _ _ _ _ _ c.loop-child.invariant c.settle-in-loop-child.ensures (λ p r. elim r [
+    recomputed-then _ _ _ _ _ _ _ _ c.loop-child.invariant c.recompute-in-loop-child.ensures (λ p r. elim r [
       | inl e ↦ inl (inl e)
       | inr h ↦ elim ((taken_one _ _ _ _ c.loop-child-test.true).0 h) [ inl old ↦ inl (inr old) | inr e ↦ inr e ]
     ])
@@ -35,7 +35,7 @@ returns c =
     let items = c.children-child-items.result.now in
     let i = c.loop-child.child-index in
     let all : take i items ≡ items = take_all i items c.loop-child-test.false in
-    settled-less _ _ _ _ _ _ c.loop-child.invariant (λ p r. elim r [
+    recomputed-less _ _ _ _ _ _ c.loop-child.invariant (λ p r. elim r [
       | inl e ↦ inl e
       | inr parent ↦ inr (subst (λ xs. Contains xs p) (sym all) ((c.children-child-items.ensures.exact p).1 parent))
     ])
