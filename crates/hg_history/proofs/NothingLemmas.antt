@@ -57,7 +57,8 @@ same_list (g ∷ gs) (h ∷ hs) e phases =
     let phase = phases g h (0, omega arith, refl) (0, omega arith, refl) first in
     let more =
     same_list gs hs rest
-    (λ x y at_x at_y. phases x y (Contains-append_right (g ∷ []) gs x at_x) (Contains-append_right (h ∷ []) hs y at_y)) in
+    (λ x y at_x at_y. phases x y (Contains-append_right (g ∷ []) gs x at_x)
+    (Contains-append_right (h ∷ []) hs y at_y)) in
     λ i. record { changeset = first i; phase = phase i } ∷ more i
 
 -- where nothing is told, nothing changed
@@ -72,7 +73,8 @@ nothing_changed s t k change a none =
     phase : (g h : Held) → Contains t.held g → Contains s.held h → g.changeset ≡ h.changeset → g.phase ≡ h.phase
     phase g h at_g at_h e =
         let low = least-above s (k ∷ []) t a.least h at_h in
-        let low_is = ap (λ x. rank x.phase) (same_held t a.least.graph g low.0 at_g low.1 (ap node_of (e ∙ sym low.2))) in
+        let low_is =
+        ap (λ x. rank x.phase) (same_held t a.least.graph g low.0 at_g low.1 (ap node_of (e ∙ sym low.2))) in
         elim (cases_lt (rank g.phase) (rank h.phase)) [
           | inr le ↦ rank-apart g.phase h.phase (omega (arith, le, low.3, low_is))
           | inl less ↦

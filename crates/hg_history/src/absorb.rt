@@ -173,8 +173,8 @@ fn add_arriving(
 ) -> Result<(), Fault>
     requires len { length (phases_at graph.old phases.old) ≡ length graph.old }
     requires valid { IsValid (kept_state graph.old phases.old) }
-    ensures { AddAllAnswer graph.old (phases_at graph.old phases.old) (cow_slice_items changesets.entry) result graph.new
-        (phases_at graph.new phases.new) }
+    ensures { AddAllAnswer graph.old (phases_at graph.old phases.old) (cow_slice_items changesets.entry) result
+        graph.new (phases_at graph.new phases.new) }
 {
     match changesets {
         CowSlice::Borrowed(changesets) => add_changesets(graph, phases, changesets),

@@ -13,4 +13,5 @@ returns-clause-nothing c =
     let s : State = state_of c.self.inside.graph c.self.inside.kept.phases in
     let t : State = state_of told.new.graph told.new.kept.phases in
     subst (λ u. IfOk told.result (λ (absorbed : Absorbed ChangeValue UndoValue). IsNothing absorbed.change → t ≡ u))
-    c.self.view_is (nothing_answered s t (part_with c.args.changesets c.args.bounds.now) told.result told.ensures.answer)
+    c.self.view_is
+    (nothing_answered s t (part_with c.args.changesets c.args.bounds.now) told.result told.ensures.answer)

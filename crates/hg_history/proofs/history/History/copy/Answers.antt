@@ -10,7 +10,8 @@ invariant_of-result c =
     let same_graph = c.in_ok-copy.ensures in
     let same = c.in_ok-copy-2.ensures in
     let kept = c.self.invariant.0 in
-    let rooted = subst (λ ps. AreRootPlaces c.self.inside.graph c.self.inside.kept.phases ps) (sym same.1) kept.roots in (
+    let rooted =
+    subst (λ ps. AreRootPlaces c.self.inside.graph c.self.inside.kept.phases ps) (sym same.1) kept.roots in (
       record {
         len = ap length same.0 ∙ kept.len ∙ sym (ap length same_graph);
         roots = subst (λ ds. AreRootPlaces ds new.phases new.roots) (sym same_graph)
