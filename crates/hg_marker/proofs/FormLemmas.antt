@@ -2,7 +2,7 @@
 use Rattle.std.proofs.Common.{◌≡◌, ℕ, suc, ◌+◌, Bool, true, false, cond, eqb, List, [], ◌∷◌, ◌++◌, length, map, Some}
 use Rattle.std.proofs.Common.{refl, sym, ap, subst, ◌∙◌, arith, append_assoc}
 use Rattle.std.specs.Prelude.{nat_eq}
-use Rattle.std.specs.List.{join_with_byte, AllByRecursion}
+use Rattle.std.specs.List.{join_with_byte, list_all, AllByRecursion}
 use Rattle.std.specs.Ordering.{is_eq}
 use Rattle.std.specs.declared.cmp.Ordering.{Ordering}
 use Rattle.std.specs.declared.cmp.Ordering.TheVariants.{Less, Equal, Greater}
@@ -16,7 +16,7 @@ use Rattle.std.proofs.lemmas.List.Folds.{list_any_none}
 use Rattle.hg_marker.specs.Texts.{Texts, bytes_cmp}
 use Rattle.hg_marker.specs.Same.{same_texts, texts_decides}
 use Rattle.hg_marker.specs.Making.{ends_key, has_bad_key, has_bad_value, is_writable}
-use Rattle.hg_marker.specs.Metadata.{is_nul, piece, pieces, entry, texts, written, IsClean}
+use Rattle.hg_marker.specs.Metadata.{is_nul, has_colon, piece, pieces, entry, texts, written, IsClean}
 use Rattle.hg_marker.specs.Written.{IsWritten, with_piece, with_pieces}
 use Rattle.hg_marker.proofs.TextsLemmas.{to_true}
 use Rattle.hg_marker.proofs.ReadLemmas.{tested_is_clean}
@@ -74,6 +74,12 @@ written_entries bytes h =
     let clean = writable_is_clean m h.writable in
     let parts : pieces bytes ≡ map piece (entries m) = ap pieces h.same ∙ pieces_joined (entries m) clean in
     ap (map entry) parts ∙ entries_again (entries m) clean
+
+-- and have colons
+pub written_colons : (bytes : List ℕ) → IsWritten bytes → list_all has_colon (pieces bytes) ≡ true
+written_colons bytes h =
+    let m = texts (pieces bytes) in
+    ap (λ b. list_all has_colon (pieces b)) h.same ∙ (is_written m (writable_is_clean m h.writable)).colons
 
 pub from_own : (m : Texts) → from_entries {R = bytes_cmp} (entries m) ≡ m
 from_own m = same_entries_map _ _ (same_entries (entries m) (to_true _ (entries_sorted m)))

@@ -12,3 +12,4 @@ pub mod FormLemmas
 pub mod AscentLemmas
 pub mod OperationLemmas
 pub mod ParentsLemmas
+pub mod SurveyLemmas

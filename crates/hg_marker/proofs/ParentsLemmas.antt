@@ -7,9 +7,10 @@ use Rattle.std.specs.Str.{bytes_eq}
 use Rattle.std.proofs.lemmas.Bool.{or_parts}
 use Rattle.hg_marker.specs.declared.parents.Parents.TheVariants.{Unrecorded}
 use Rattle.hg_marker.specs.Texts.{Texts, bytes_cmp}
-use Rattle.hg_marker.specs.Metadata.{entry}
-use Rattle.hg_marker.specs.Parents.{is_parents_key, parents_by, parents_of}
-use Rattle.hg_marker.proofs.FormLemmas.{found_later, get_is}
+use Rattle.hg_marker.specs.Metadata.{entry, pieces, texts}
+use Rattle.hg_marker.specs.Parents.{is_parents_key, names_parents, parents_by, parents_of}
+use Rattle.hg_marker.specs.Written.{IsWritten}
+use Rattle.hg_marker.proofs.FormLemmas.{found_later, get_is, written_entries}
 
 not_found : (q : List ℕ) → ((k : List ℕ) → is_parents_key k ≡ false → bytes_eq k q ≡ false)
     → (es : List (List ℕ × List ℕ)) → list_any (λ e. is_parents_key e.0) es ≡ false → find bytes_cmp q es ≡ None
@@ -28,7 +29,12 @@ none_recorded m h =
     λ i. parents_by (p0 i) (p1 i) (p2 i)
 
 -- what the keys of the pieces tell, their entries do
-pub piece_keys : (ps : List (List ℕ)) → list_any (λ p. is_parents_key (entry p).0) ps
+piece_keys : (ps : List (List ℕ)) → list_any (λ p. is_parents_key (entry p).0) ps
     ≡ list_any (λ e. is_parents_key e.0) (map entry ps)
 piece_keys [] = refl
 piece_keys (p ∷ ps) = ap (λ b. is_parents_key (entry p).0 || b) (piece_keys ps)
+
+pub written_names : (bytes : List ℕ) → IsWritten bytes
+    → list_any (λ p. is_parents_key (entry p).0) (pieces bytes) ≡ names_parents (texts (pieces bytes))
+written_names bytes h =
+    piece_keys (pieces bytes) ∙ ap (list_any (λ e. is_parents_key e.0)) (written_entries bytes h)

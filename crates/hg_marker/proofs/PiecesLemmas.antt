@@ -1,13 +1,13 @@
 -- Pieces of metadata, one after another.
 use Rattle.std.proofs.Common.{◌≡◌, ℕ, ◌+◌, Bool, true, false, cond, not, eqb, List, [], ◌∷◌, ◌++◌, length, take, drop}
 use Rattle.std.proofs.Common.{map, reverse, Option, Some, None, ltb, refl, sym, ap, ◌∙◌, arith, append_assoc}
-use Rattle.std.specs.Prelude.{position, ◌&&◌}
+use Rattle.std.specs.Prelude.{position}
 use Rattle.memchr.specs.Find.{IsFirstByte, is_byte}
-use Rattle.std.specs.List.{list_all, position_or_len, slice_split, before_first, after_first}
+use Rattle.std.specs.List.{position_or_len, slice_split, before_first, after_first}
 use Rattle.std.proofs.lemmas.List.Splits.{slice_split_first, slice_split_none}
 use Rattle.std.proofs.lemmas.List.{map-append, reverse-append, append-nil, nil_from_length, take_all, length-drop}
 use Rattle.std.proofs.lemmas.List.Elements.{filter-append}
-use Rattle.std.proofs.lemmas.List.Folds.{list_all-append, list_any_none, list_any_at}
+use Rattle.std.proofs.lemmas.List.Folds.{list_any_none, list_any_at}
 use Rattle.std.proofs.lemmas.List.Sums.{fails_before_first, position_or_len_is}
 use Rattle.std.proofs.lemmas.Bool.{false_from_ne_true, le-ltb, lt-ltb}
 use Rattle.std.proofs.lemmas.List.Quantifiers.{position-Some}
@@ -101,32 +101,13 @@ split_nowhere p e =
 
 -- ---- colons
 
-lacks_none : (p : List ℕ) → position is_colon p ≡ None → has_colon p ≡ false
+pub lacks_none : (p : List ℕ) → position is_colon p ≡ None → has_colon p ≡ false
 lacks_none p e =
     let past = position-none is_colon p e in
     list_any_none is_colon p (λ k d lt. fails_before_first is_colon p k d (omega arith))
 
-has_some : (p : List ℕ) (i : ℕ) → position is_colon p ≡ Some i → has_colon p ≡ true
+pub has_some : (p : List ℕ) (i : ℕ) → position is_colon p ≡ Some i → has_colon p ≡ true
 has_some p i e = let at = position-Some is_colon p i 0 e in list_any_at is_colon p i 0 at.0 at.1
-
-pub with_colon : (p : List ℕ) (i : ℕ) → position is_colon p ≡ Some i → list_all has_colon (nonempty (p ∷ [])) ≡ true
-with_colon p i e = elim (eqb (length p) 0) as (λ b. list_all has_colon (cond (not b) (p ∷ []) []) ≡ true) [
-  | true ↦ refl
-  | false ↦ rw (has_some p i e) refl
-]
-
-pub without_colon : (p : List ℕ) → position is_colon p ≡ None
-    → list_all has_colon (nonempty (p ∷ [])) ≡ eqb (length p) 0
-without_colon p e = elim (eqb (length p) 0) as (λ b. list_all has_colon (cond (not b) (p ∷ []) []) ≡ b) [
-  | true ↦ refl
-  | false ↦ rw (lacks_none p e) refl
-]
-
--- the pieces have colons as far as this one has and those after it have
-pub colons_split : (rest p after : List ℕ) → pieces rest ≡ nonempty (p ∷ []) ++ pieces after
-    → list_all has_colon (pieces rest) ≡ (list_all has_colon (nonempty (p ∷ [])) && list_all has_colon (pieces after))
-colons_split rest p after split =
-    ap (list_all has_colon) split ∙ list_all-append has_colon (nonempty (p ∷ [])) (pieces after)
 
 -- the first byte that passes stands at its position
 pub first_is_position : (wanted : ℕ) (bytes : List ℕ) (place : Option ℕ) → IsFirstByte (is_byte wanted) bytes place

@@ -13,3 +13,4 @@ pub mod Laid
 pub mod ReadErrors
 pub mod Operation
 pub mod Source
+pub mod Survey

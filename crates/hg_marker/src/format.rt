@@ -4,13 +4,12 @@
 //! spelling. Metadata may be spelled in further ways, which are read, so that equal markers may come from different
 //! bytes.
 ghost use Rattle.std.specs.Prelude.{◌≡◌, ◌≤◌, ◌+◌, ◌++◌, ◌*◌, List, ℕ, length, take, IfOk, OnOk, OnErr, IsErrOf, Ok};
-ghost use Rattle.std.specs.Prelude.{true, vec_len, vec_capacity};
+ghost use Rattle.std.specs.Prelude.{vec_len, vec_capacity};
 ghost use Rattle.hg_marker.specs.declared.error.MarkerFault.{MarkerFault};
 ghost use Rattle.hg_marker.specs.declared.error.ReadError.TheVariants.{Fault};
-ghost use Rattle.std.specs.List.{list_all};
 ghost use Rattle.hg_marker.specs.Fields.{Fields};
-ghost use Rattle.hg_marker.specs.Metadata.{pieces, has_colon};
 ghost use Rattle.hg_marker.specs.Reading.{Gives, IsReading};
+ghost use Rattle.hg_marker.specs.Survey.{IsSurvey};
 ghost use Rattle.hg_marker.specs.Laid.{fields_of};
 ghost use Rattle.hg_marker.specs.Grammar.{IsSpelling, IsMarker, spelling, ids};
 ghost use Rattle.hg_marker.specs.Faults.{marker_at, after_marker, marker_and_length, IsFault, IfFault};
@@ -18,7 +17,7 @@ ghost use Rattle.hg_marker.specs.Faults.{marker_at, after_marker, marker_and_len
 use crate::error::{MarkerFault, ReadError};
 use crate::marker::{METADATA_LIMIT, Marker};
 use crate::metadata::Metadata;
-use crate::pieces::have_colons;
+use crate::pieces::{Survey, survey_of};
 use crate::reading::{
     copy_ids, holds_null, read_byte, read_field, read_ids, read_node, read_number, write_number,
 };
@@ -81,19 +80,26 @@ struct FieldBytes<'a> {
     ids: &'a [u8],
     flags: u8,
     metadata: &'a [u8],
+    found: Survey,
 }
 
 impl<'a> FieldBytes<'a> {
     // The marker of the fields.
     fn to_marker(&self, alloc: Global) -> Result<Marker, AllocError>
         requires ids { 20 * self.now.count ≤ length self.now.ids.now }
-        requires colons { list_all has_colon (pieces self.now.metadata.now) ≡ true }
+        requires survey { IsSurvey self.now.found self.now.metadata.now }
         requires marker { IsMarker (fields_of self.now) }
         ensures { IfOk result (λ marker. marker ≡ fields_of self.now) }
     {
         let successors = copy_ids(alloc, self.ids, self.count)?;
-        let metadata = Metadata::read(alloc, self.metadata)?;
-        Ok(Marker::of_fields(self.predecessor, successors, self.flags, metadata))
+        let (metadata, names_parents) = Metadata::read(alloc, self.metadata, self.found)?;
+        Ok(Marker::of_fields(
+            self.predecessor,
+            successors,
+            self.flags,
+            metadata,
+            names_parents,
+        ))
     }
 }
 
@@ -102,7 +108,7 @@ impl<'a> FieldBytes<'a> {
 fn split_marker(bytes: &[u8]) -> Result<(FieldBytes<'_>, &[u8]), MarkerFault>
     ensures exact { IsReading (λ x. (fields_of x.0, x.1.now)) result (marker_at bytes.now) }
     ensures ids { IfOk result (λ x. 20 * x.0.count ≤ length x.0.ids.now) }
-    ensures colons { IfOk result (λ x. list_all has_colon (pieces x.0.metadata.now) ≡ true) }
+    ensures survey { IfOk result (λ x. IsSurvey x.0.found x.0.metadata.now) }
     ensures marker { IfOk result (λ x. IsMarker (fields_of x.0)) }
 {
     let (count, rest) = read_byte(bytes, MarkerFault::Truncated)?;
@@ -114,19 +120,23 @@ fn split_marker(bytes: &[u8]) -> Result<(FieldBytes<'_>, &[u8]), MarkerFault>
     if holds_null(ids, count) {
         return Err(MarkerFault::NullSuccessor);
     }
-    if len > METADATA_LIMIT || !have_colons(metadata) {
+    if len > METADATA_LIMIT {
         return Err(MarkerFault::BadMetadata);
     }
-    Ok((
-        FieldBytes {
-            predecessor,
-            count,
-            ids,
-            flags,
-            metadata,
-        },
-        rest,
-    ))
+    match survey_of(metadata) {
+        Some(found) => {
+            let fields = FieldBytes {
+                predecessor,
+                count,
+                ids,
+                flags,
+                metadata,
+                found,
+            };
+            Ok((fields, rest))
+        }
+        None => Err(MarkerFault::BadMetadata),
+    }
 }
 
 /// The bytes after the marker at their front. It takes no memory.

@@ -10,7 +10,7 @@ ghost use Rattle.hg_changeset.specs.Node.{IsNode, null_node, node_eq};
 ghost use Rattle.hg_marker.specs.Grammar.{IsMarker, spelling};
 ghost use Rattle.hg_marker.specs.Making.{marker_of};
 ghost use Rattle.hg_marker.specs.Operation.{note_texts};
-ghost use Rattle.hg_marker.specs.Parents.{parents_of};
+ghost use Rattle.hg_marker.specs.Parents.{names_parents, parents_of};
 ghost use Rattle.hg_marker.specs.Reading.{Gives};
 ghost use Rattle.hg_marker.specs.Source.{source_texts};
 
@@ -201,8 +201,10 @@ impl Marker {
         successors: Successors,
         flags: u8,
         metadata: Metadata,
+        has_parents_key: bool,
     ) -> Marker
-        requires { IsMarker (record {
+        requires parents { has_parents_key ≡ names_parents metadata }
+        requires marker { IsMarker (record {
           predecessor = predecessor;
           successors = successors.items;
           flags = flags;
@@ -219,7 +221,7 @@ impl Marker {
             predecessor,
             successors,
             flags,
-            has_parents_key: metadata.names_parents(),
+            has_parents_key,
             metadata,
         }
     }

@@ -6,15 +6,15 @@
 ghost use Rattle.std.specs.Prelude.{◌≡◌, IfOk, option_copied, true, false};
 ghost use Rattle.std.specs.FinMap as finite;
 ghost use Rattle.std.specs.FinMap.{find};
-ghost use Rattle.std.specs.List.{list_all};
 ghost use Rattle.hg_marker.specs.Texts.{bytes_cmp};
-ghost use Rattle.hg_marker.specs.Metadata.{written, texts, pieces, has_colon};
+ghost use Rattle.hg_marker.specs.Metadata.{written, texts, pieces};
 ghost use Rattle.hg_marker.specs.Parents.{names_parents};
+ghost use Rattle.hg_marker.specs.Survey.{IsSurvey};
 ghost use Rattle.hg_marker.specs.Making.{has_bad_value, is_writable};
 ghost use Rattle.hg_marker.specs.Operation.{note_entries, note_texts};
 
 use crate::note::Note;
-use crate::pieces::{Entries, is_written, name_parents, read_texts};
+use crate::pieces::{Entries, Survey, read_texts, survey_of};
 use crate::text_map::TextMap;
 use std::alloc::{AllocError, Global};
 use std::marker::Model;
@@ -80,17 +80,24 @@ impl Metadata {
         Ok(Metadata { bytes })
     }
 
-    // The metadata that bytes spell.
-    pub(crate) fn read(alloc: Global, bytes: &[u8]) -> Result<Metadata, AllocError>
-        requires colons { list_all has_colon (pieces bytes.now) ≡ true }
-        ensures { IfOk result (λ all. all ≡ texts (pieces bytes.now)) }
+    // The metadata that bytes spell, of which this was found, and whether a key says something of parents.
+    pub(crate) fn read(
+        alloc: Global,
+        bytes: &[u8],
+        found: Survey,
+    ) -> Result<(Metadata, bool), AllocError>
+        requires { IsSurvey found bytes.now }
+        ensures metadata { IfOk result (λ read. read.0 ≡ texts (pieces bytes.now)) }
+        ensures parents { IfOk result (λ read. read.1 ≡ names_parents read.0) }
     {
-        if !is_written(bytes) {
-            let texts = read_texts(alloc, bytes)?;
-            return Metadata::of_map(&texts, texts.written_len());
+        if found.is_written {
+            let bytes = Vec::from_slice(alloc, bytes)?;
+            return Ok((Metadata { bytes }, found.names_parents));
         }
-        let bytes = Vec::from_slice(alloc, bytes)?;
-        Ok(Metadata { bytes })
+        let texts = read_texts(alloc, bytes)?;
+        let metadata = Metadata::of_map(&texts, texts.written_len())?;
+        let names_parents = metadata.names_parents();
+        Ok((metadata, names_parents))
     }
 
     // Where the memory comes from.
@@ -116,7 +123,10 @@ impl Metadata {
     pub(crate) fn names_parents(&self) -> bool
         ensures { result ≡ names_parents self.now }
     {
-        name_parents(&self.bytes)
+        match survey_of(&self.bytes) {
+            Some(found) => found.names_parents,
+            None => false,
+        }
     }
 
     /// The value of a key.

@@ -3,12 +3,12 @@
 //! Metadata is spelled as pieces between NULs, each a key, a colon and its value. A piece is split at its first colon,
 //! so a value may hold further ones; an empty piece says nothing; and of equal keys the later one wins. The bytes are
 //! walked piece by piece, so that no list of pieces is kept: metadata of NULs alone takes no memory.
-ghost use Rattle.std.specs.Prelude.{◌≡◌, ◌==◌, ◌++◌, ◌<◌, [], ◌∷◌, length, position, map, option_copied, IfOk, IfSome};
-ghost use Rattle.std.specs.Prelude.{IfNone, true};
-ghost use Rattle.std.specs.List.{list_all, list_any};
+ghost use Rattle.std.specs.Prelude.{◌≡◌, ◌==◌, ◌||◌, ◌++◌, ◌+◌, ◌<◌, [], ◌∷◌, length, position, map, option_copied, IfOk};
+ghost use Rattle.std.specs.Prelude.{IfSome, IfNone, true, false};
+ghost use Rattle.std.specs.List.{list_all};
 ghost use Rattle.hg_marker.specs.Metadata.{pieces, nonempty, has_colon, entry, texts};
-ghost use Rattle.hg_marker.specs.Parents.{is_parents_key};
-ghost use Rattle.hg_marker.specs.Written.{IsWritten, is_behind};
+ghost use Rattle.hg_marker.specs.Survey.{IsSurvey};
+ghost use Rattle.hg_marker.specs.Written.{is_behind};
 
 use crate::parents::is_parents_key;
 use crate::text_map::TextMap;
@@ -62,9 +62,19 @@ impl<'a> Iterator for Entries<'a> {
     }
 }
 
+/// What one walk over the pieces finds of bytes that spell metadata.
+#[derive(Clone, Copy)]
+pub(crate) struct Survey {
+    /// They are its one written spelling: the keys ascend, and nothing stands beside the pieces.
+    pub(crate) is_written: bool,
+    /// A key says something of parents.
+    pub(crate) names_parents: bool,
+}
+
 // The first piece that isn't empty, and what stands behind it.
 fn first_piece(bytes: &[u8]) -> Option<(&[u8], &[u8])>
     ensures some { IfSome result (λ x. pieces bytes.now ≡ x.0.now ∷ pieces x.1.now) }
+    ensures shorter { IfSome result (λ x. length x.1.now < length bytes.now) }
     ensures none { IfNone result (pieces bytes.now ≡ []) }
 {
     let mut rest = bytes;
@@ -78,74 +88,49 @@ fn first_piece(bytes: &[u8]) -> Option<(&[u8], &[u8])>
     None
 }
 
-// Whether each piece has a colon, so that the bytes spell metadata.
-pub(crate) fn have_colons(bytes: &[u8]) -> bool
-    ensures { result ≡ list_all has_colon (pieces bytes.now) }
+// What one walk over the pieces finds; nothing where one has no colon, so that the bytes spell no metadata.
+pub(crate) fn survey_of(bytes: &[u8]) -> Option<Survey>
+    ensures some { IfSome result (λ found. IsSurvey found bytes.now) }
+    ensures none { IfNone result (list_all has_colon (pieces bytes.now) ≡ false) }
 {
-    let mut rest = bytes;
-    while !rest.is_empty() {
-        let (piece, after) = next_piece(rest);
-        if !is_well_formed(piece) {
-            return false;
-        }
-        rest = after;
-    }
-    true
-}
-
-// Whether the piece has a colon, or is empty.
-fn is_well_formed(piece: &[u8]) -> bool
-    ensures { result ≡ list_all has_colon (nonempty (piece.now ∷ [])) }
-{
-    match place_of(piece, b':') {
-        Some(_) => true,
-        None => piece.is_empty(),
-    }
-}
-
-// Whether the key of a piece says something of parents.
-pub(crate) fn name_parents(bytes: &[u8]) -> bool
-    ensures { result ≡ list_any (λ p. is_parents_key (entry p).0) (pieces bytes.now) }
-{
-    let mut rest = bytes;
-    while !rest.is_empty() {
-        let (piece, after) = next_piece(rest);
-        if names_parents(piece) {
-            return true;
-        }
-        rest = after;
-    }
-    false
-}
-
-// Whether the key of the piece, if it isn't empty, says something of parents. Only what begins as such a key is split.
-fn names_parents(piece: &[u8]) -> bool
-    ensures { result ≡ list_any (λ p. is_parents_key (entry p).0) (nonempty (piece.now ∷ [])) }
-{
-    match piece {
-        [b'p', ..] => {
-            let (key, _) = split_piece(piece);
-            is_parents_key(key)
-        }
-        _ => false,
-    }
-}
-
-// Whether bytes that spell metadata are its one written spelling: the keys ascend, and nothing stands beside the
-// pieces.
-pub(crate) fn is_written(bytes: &[u8]) -> bool
-    requires colons { list_all has_colon (pieces bytes.now) ≡ true }
-    ensures { result ≡ true → IsWritten bytes.now }
-{
+    let mut ascends = true;
+    let mut names_parents = false;
     let mut len: usize = 0;
     let mut last: Option<&[u8]> = None;
-    for (key, value) in Entries::new(bytes) {
-        if !is_behind(key, last) {
-            return false;
+    let mut rest = bytes;
+    while let Some((piece, after)) = first_piece(rest) {
+        match key_of(piece) {
+            Some(key) => {
+                ascends &= is_behind(key, last);
+                names_parents |= is_parents_key(key);
+                len = len.saturating_add(piece.len() + 1);
+                last = Some(key);
+            }
+            None => return None,
         }
-        last = Some(key);
-        len += key.len() + value.len() + 2;
+        rest = after;
     }
+    Some(Survey {
+        is_written: ascends && is_whole(len, bytes),
+        names_parents,
+    })
+}
+
+// What stands before the first colon of a piece that has one.
+fn key_of(piece: &[u8]) -> Option<&[u8]>
+    ensures some { IfSome result (λ key. (key.now ≡ (entry piece.now).0) × (has_colon piece.now ≡ true)) }
+    ensures none { IfNone result (has_colon piece.now ≡ false) }
+{
+    match place_of(piece, b':') {
+        Some(place) => Some(&piece[..place]),
+        None => None,
+    }
+}
+
+// Whether pieces that take so many bytes, each with a NUL behind it, are all of the bytes, but for the last NUL.
+fn is_whole(len: usize, bytes: &[u8]) -> bool
+    ensures { result ≡ (len == length bytes.now + 1 || length bytes.now == 0) }
+{
     len == bytes.len() + 1 || bytes.is_empty()
 }
 
