@@ -7,7 +7,7 @@ use Rattle.std.proofs.lemmas.List.{append-nil, append_assoc, drop_more, drop_all
 use Rattle.hg_log.specs.Drawings.{Text}
 use Rattle.hg_log.specs.Objects.{NodeState}
 use Rattle.hg_script.specs.declared.fleet.Fleet.{Fleet}
-use Rattle.hgfleet.specs.declared.commands.Drawing.{Drawing}
+use Rattle.hgfleet.specs.declared.drawing.Drawing.{Drawing}
 use Rattle.hgfleet.specs.Arguments.{texts_of}
 use Rattle.hgfleet.specs.Commands.{AreDrawn, IsDrawn, drawn_names, state_of, states_of}
 

@@ -12,8 +12,8 @@ use Rattle.clap.specs.declared.parser.matches.ArgMatches.{ArgMatches}
 use Rattle.clap.proofs.OnLiterals.{clap_on_literals}
 use Rattle.clap.proofs.WalkLemmas.{one_text-rows}
 use Rattle.hgfleet.proofs.PlaceLemmas.{met_alike_at}
-use Rattle.hgfleet.specs.Arguments.{MeetsWanted, NamesForms, Words, flag_given, form_words, program, program_at}
-use Rattle.hgfleet.specs.Arguments.{reference}
+use Rattle.hgfleet.specs.Arguments.{MeetsWanted, NamesForms, Words, form_words, program, program_at, reference}
+use Rattle.hgfleet.specs.TryArguments.{flag_given}
 use Rattle.hgfleet.specs.declared.arguments.Wanted.{Wanted}
 
 program_is_simple : (forms : Words) → is_simple (program_at forms) ≡ true

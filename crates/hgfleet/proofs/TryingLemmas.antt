@@ -9,33 +9,34 @@ use Rattle.std.specs.declared.alloc.Global.{Global}
 use Rattle.std.proofs.lemmas.List.Elements.{Contains-get_or}
 use Rattle.hg_log.specs.Drawings.{Text}
 use Rattle.hg_preview.specs.declared.messages.NamedMessage.{NamedMessage}
-use Rattle.hg_preview.specs.Answers.{AreAnswersText, texts_of}
+use Rattle.hg_preview.specs.Answers.{texts_of}
 use Rattle.hg_replica.specs.State.{ReplicaState, nothing_held}
 use Rattle.hg_trial.specs.declared.tried.Answer.{Answer}
 use Rattle.hg_trial.specs.Trials.{AnswersTo, IsLeastOfTaken}
 use Rattle.hgfleet.specs.declared.failure.Failure.{Failure}
 use Rattle.hgfleet.specs.declared.failure.Failure.TheVariants as failed
 use Rattle.hgfleet.specs.Commands.{IsOutputFailure}
-use Rattle.hgfleet.specs.Trying.{EndsCompared, EndsComparison, EndsTrial, IsTrial, IsUnread, IsUnreadAmong}
+use Rattle.hgfleet.specs.declared.try_arguments.Account.{Account}
+use Rattle.hgfleet.specs.Trying.{EndsCompared, EndsComparison, EndsTrial, IsAccount, IsTrial, IsUnread, IsUnreadAmong}
 use Rattle.hgfleet.specs.Trying.{IsWantOfMemory}
 
 -- ---- why it ends
 
-pub output_ends_trial : (names : List (String Global)) (held holds : Option Text) (failure : Failure)
-    → IsOutputFailure failure → EndsTrial names held holds failure
-output_ends_trial names held holds failure (inl is) =
-    subst (EndsTrial names held holds) (sym is) (inr (inl refl))
-output_ends_trial names held holds failure (inr is) =
-    subst (EndsTrial names held holds) (sym is) (inr (inr refl))
+pub output_ends_trial : (names : List (String Global)) (account : Account) (held holds : Option Text)
+    (failure : Failure) → IsOutputFailure failure → EndsTrial names account held holds failure
+output_ends_trial names account held holds failure (inl is) =
+    subst (EndsTrial names account held holds) (sym is) (inr (inl refl))
+output_ends_trial names account held holds failure (inr is) =
+    subst (EndsTrial names account held holds) (sym is) (inr (inr refl))
 
 pub output_ends_comparison : (held holds : Option Text) (failure : Failure) → IsOutputFailure failure
     → EndsCompared held holds failure
 output_ends_comparison held holds failure (inl is) = subst (EndsCompared held holds) (sym is) (inr (inl refl))
 output_ends_comparison held holds failure (inr is) = subst (EndsCompared held holds) (sym is) (inr (inr refl))
 
-pub memory_ends_trial : (names : List (String Global)) (held holds : Option Text) (failure : Failure)
-    → IsWantOfMemory failure → EndsTrial names held holds failure
-memory_ends_trial names held holds failure is = output_ends_trial names held holds failure (inr is)
+pub memory_ends_trial : (names : List (String Global)) (account : Account) (held holds : Option Text)
+    (failure : Failure) → IsWantOfMemory failure → EndsTrial names account held holds failure
+memory_ends_trial names account held holds failure is = output_ends_trial names account held holds failure (inr is)
 
 pub memory_unread : (names : List (String Global)) (failure : Failure) → IsWantOfMemory failure
     → IsUnreadAmong names failure
@@ -55,17 +56,17 @@ unread_among names i d failed.Unread within is = absurd is
 unread_among names i d failed.NotTaken within is = absurd is
 unread_among names i d failed.Differ within is = absurd is
 
-pub unread_ends_trial : (names : List (String Global)) (held : Option Text) (failure : Failure)
-    → IsUnreadAmong names failure → EndsTrial names held held failure
-unread_ends_trial names held (failed.File told fault) is = (is, refl)
-unread_ends_trial names held (failed.Run fault) is = inr (inr is)
-unread_ends_trial names held (failed.Told told) is = absurd is
-unread_ends_trial names held (failed.Refused count) is = absurd is
-unread_ends_trial names held (failed.Show fault) is = absurd is
-unread_ends_trial names held (failed.UnknownName name) is = absurd is
-unread_ends_trial names held failed.Unread is = absurd is
-unread_ends_trial names held failed.NotTaken is = absurd is
-unread_ends_trial names held failed.Differ is = absurd is
+pub unread_ends_trial : (names : List (String Global)) (account : Account) (held : Option Text) (failure : Failure)
+    → IsUnreadAmong names failure → EndsTrial names account held held failure
+unread_ends_trial names account held (failed.File told fault) is = (is, refl)
+unread_ends_trial names account held (failed.Run fault) is = inr (inr is)
+unread_ends_trial names account held (failed.Told told) is = absurd is
+unread_ends_trial names account held (failed.Refused count) is = absurd is
+unread_ends_trial names account held (failed.Show fault) is = absurd is
+unread_ends_trial names account held (failed.UnknownName name) is = absurd is
+unread_ends_trial names account held failed.Unread is = absurd is
+unread_ends_trial names account held failed.NotTaken is = absurd is
+unread_ends_trial names account held failed.Differ is = absurd is
 
 pub first_ends : (first second : Text) (held : Option Text) (failure : Failure) → IsUnread first failure
     → EndsComparison first second held held failure
@@ -107,12 +108,13 @@ compared_ends first second held holds failed.Differ h = h
 -- ---- a trial
 
 -- there are as many messages as names
-pub trial_told : (names : List (String Global)) (named messages : List NamedMessage) (answers : List Answer)
-    (trial : ReplicaState) (held holds : Option Text) → length named ≡ length names → messages ≡ named
-    → AnswersTo nothing_held (texts_of messages) answers trial → IsLeastOfTaken (texts_of messages) answers trial
-    → ((text : Text) × AreAnswersText answers text × Appends held holds text)
-    → IsTrial (length names) answers held holds
-trial_told names named messages answers trial held holds count same answered least written =
+pub trial_told : (names : List (String Global)) (named messages : List NamedMessage) (account : Account)
+    (answers : List Answer) (trial : ReplicaState) (held holds : Option Text) → length named ≡ length names
+    → messages ≡ named → AnswersTo nothing_held (texts_of messages) answers trial
+    → IsLeastOfTaken (texts_of messages) answers trial
+    → ((text : Text) × IsAccount account answers trial text × Appends held holds text)
+    → IsTrial (length names) account answers held holds
+trial_told names named messages account answers trial held holds count same answered least written =
     let bytes_of : NamedMessage → Bor Text = λ message. message.bytes in
     let text_of : Bor Text → Text = λ bytes. bytes.now in
     let all = length-map (map bytes_of messages) text_of ∙ length-map messages bytes_of ∙ ap length same ∙ count in

@@ -3,7 +3,6 @@ use Rattle.std.specs.Prelude.{ℕ, Bool, List, ◌∷◌, [], ◌≡◌, ◌≢�
 use Rattle.std.specs.Prelude.{if◌then◌else◌, Option, Some, None, Result, Ok, Err, option_and_then}
 use Rattle.std.specs.Prelude.{String, string_bytes, ◌||◌}
 use Rattle.std.specs.Borrow.{Bor}
-use Rattle.std.specs.Option.{option_map_or}
 use Rattle.std.specs.Str.{bytes_eq}
 use Rattle.std.specs.Str.Parse.{digits_value, without_leading_plus}
 use Rattle.std.specs.declared.alloc.Global.{Global}
@@ -11,7 +10,6 @@ use Rattle.clap.specs.Lexer.{usize_max}
 use Rattle.clap.specs.Words.{App, Row, Rule, Text, Kinds, IsAmong, HasKind, fault_of, first_of, kind_of}
 use Rattle.clap.specs.Words.{new_app, new_rule, one_of, subcommand_of, with_rule, with_subcommand}
 use Rattle.clap.specs.ValueTests.{is_unsigned_in}
-use Rattle.clap.specs.declared.builder.action.ArgAction.TheVariants.{SetTrue}
 use Rattle.clap.specs.declared.builder.value_parser.ValueParser.TheVariants.{Names, Signed}
 use Rattle.clap.specs.declared.error.Error.{Error}
 use Rattle.clap.specs.declared.error.kind.ErrorKind.TheVariants.{DisplayHelp, DisplayVersion, OutOfMemory}
@@ -22,7 +20,8 @@ use Rattle.hgfleet.specs.declared.arguments.Picture.TheVariants as pictures
 use Rattle.hgfleet.specs.declared.arguments.Wanted.{Wanted}
 use Rattle.hgfleet.specs.declared.arguments.Wanted.TheVariants.{Run, RunTold, Race, Log, Show, Write, Why, Help}
 use Rattle.hgfleet.specs.declared.arguments.Wanted.TheVariants.{Version, Try, Compare}
-use Rattle.hgfleet.specs.TryArguments.{compare_app, files_compared, try_app, words_given}
+use Rattle.hgfleet.specs.TryArguments.{TrialOptions, compare_app, files_compared, flag_given, flag_rule, try_app}
+use Rattle.hgfleet.specs.TryArguments.{try_given, words_given}
 use Rattle.hgfleet.specs.declared.arguments.ArgumentFault.{ArgumentFault}
 use Rattle.hgfleet.specs.declared.arguments.ArgumentFault.TheVariants.{BadArguments, NotText, NoMemory}
 
@@ -39,10 +38,6 @@ wanted_number name low high = record (new_rule name) {
 abbrev pub race : App
 race = with_rule (with_rule (new_app (codes "race")) (wanted_number (codes "nodes") 2 16))
     (wanted_number (codes "rounds") 1 1000)
-
--- a flag `--NAME`
-abbrev pub flag_rule : Text → Rule
-flag_rule name = record (new_rule name) { long = Some name; action = Some SetTrue }
 
 -- `run` with its flags
 abbrev pub run : App
@@ -159,10 +154,6 @@ IsRaceSize nodes rounds = (2 ≤ nodes) × (nodes ≤ 16) × (1 ≤ rounds) × (
 abbrev pub names_given : List Row → List Text
 names_given rows = words_given (codes "nodes") rows
 
--- the flag of this name is given
-abbrev pub flag_given : Text → List Row → Bool
-flag_given name rows = option_map_or (λ text. bytes_eq text (codes "true")) (one_of name rows) false
-
 -- whether a run says what refusals are about, whether it says what accepted lines did, and whether a refused line is a
 -- failure
 abbrev pub RunNotes : Type 0
@@ -227,14 +218,14 @@ why_met (Some met) = if bytes_eq met.0 (codes "why") then Some (names_given met.
 unfoldable pub why_names : List Text → Option (List Text)
 why_names words = why_met (subcommand_of program words)
 
--- the files whose messages are tried, where `try` is the command that was met
-abbrev pub try_met : Option (Text × List Row) → Option (List Text)
+-- what is given for a trial, where `try` is the command that was met
+abbrev pub try_met : Option (Text × List Row) → Option TrialOptions
 try_met None = None
-try_met (Some met) = if bytes_eq met.0 (codes "try") then Some (words_given (codes "files") met.1) else None
+try_met (Some met) = if bytes_eq met.0 (codes "try") then try_given met.1 else None
 
--- the files that words without a fault give to be tried, none where they don't ask for it
-unfoldable pub tried_files : List Text → Option (List Text)
-tried_files words = try_met (subcommand_of program words)
+-- what words without a fault give for a trial, none where they ask for no trial
+unfoldable pub trial_options : List Text → Option TrialOptions
+trial_options words = try_met (subcommand_of program words)
 
 -- the two files that are compared, where `compare` is the command that was met
 abbrev pub compare_met : Option (Text × List Row) → Option (Text × Text)
@@ -313,9 +304,10 @@ abbrev pub IsWhyOf : List Text → Option Wanted → Type 0
 IsWhyOf names (Some (Why nodes)) = names ≡ texts_of nodes.items
 IsWhyOf names _ = ⊥
 
-abbrev pub IsTryOf : List Text → Option Wanted → Type 0
-IsTryOf files (Some (Try names)) = files ≡ texts_of names.items
-IsTryOf files _ = ⊥
+abbrev pub IsTryOf : Option TrialOptions → Option Wanted → Type 0
+IsTryOf options (Some (Try files account)) = options ≡ Some (texts_of files.items, account)
+IsTryOf options None = options ≡ None
+IsTryOf options _ = ⊥
 
 abbrev pub IsCompareOf : Option (Text × Text) → Option Wanted → Type 0
 IsCompareOf files (Some (Compare first second)) = files ≡ Some (string_bytes first, string_bytes second)
@@ -341,19 +333,19 @@ MeetsWanted met (Some (Log nodes shows_hidden picture)) =
 MeetsWanted met (Some (Show form)) = show_met met ≡ Some form
 MeetsWanted met (Some (Write form name)) = write_met met ≡ Some (form, string_bytes name)
 MeetsWanted met (Some (Why nodes)) = why_met met ≡ Some (texts_of nodes.items)
-MeetsWanted met (Some (Try names)) = try_met met ≡ Some (texts_of names.items)
+MeetsWanted met (Some (Try files account)) = try_met met ≡ Some (texts_of files.items, account)
 MeetsWanted met (Some (Compare first second)) = compare_met met ≡ Some (string_bytes first, string_bytes second)
 MeetsWanted met (Some _) = ⊥
 MeetsWanted met None =
     (run_met met ≡ None) × (race_met met ≡ None) × (log_met met ≡ None) × (show_met met ≡ None)
     × (write_met met ≡ None) × (why_met met ≡ None) × (try_met met ≡ None) × (compare_met met ≡ None)
 
--- the words give nothing for a run with notes, a race, a log, what is shown, what is written, what is told, what is
--- tried and what is compared
+-- the words give nothing for a run with notes, a race, a log, what is shown, what is written, what is told, a trial and
+-- what is compared
 abbrev pub GivesNothing : List Text → Type 0
 GivesNothing words =
     (run_notes words ≡ None) × (race_numbers words ≡ None) × (log_options words ≡ None) × (shown_form words ≡ None)
-    × (written_form words ≡ None) × (why_names words ≡ None) × (tried_files words ≡ None)
+    × (written_form words ≡ None) × (why_names words ≡ None) × (trial_options words ≡ None)
     × (compared_files words ≡ None)
 
 -- the parser finds no fault, and what is wanted is what the command that the words name asks for; or it tells a fault
@@ -369,9 +361,10 @@ IsMistake e = (kind_of e ≢ DisplayHelp) × (kind_of e ≢ DisplayVersion) × (
 -- the words of a run ask for a run, and no others do; a run with notes is asked for by words without a fault that give
 -- its flags; a race is asked for by words without a fault that give its numbers, and these are within their bounds; a
 -- log by words without a fault that give its options, what is shown by such that give a form, what is written by such
--- that give a form and a name, why by such that give names, and a trial and a comparison by such that give files; help
--- and the version are given where the parser says that they are asked for; all else is bad, and is what the parser
--- says, or words that it takes and that give nothing for any of these, as a log that two pictures are asked of
+-- that give a form and a name, why by such that give names, a trial by such that give its options, and a comparison by
+-- such that give files; help and the version are given where the parser says that they are asked for; all else is bad,
+-- and is what the parser says, or words that it takes and that give nothing for any of these, as a log that two
+-- pictures are asked of, or a trial with flags that exclude each other
 abbrev pub ArgumentsAnswer : List Text → Result Wanted ArgumentFault → Type 0
 ArgumentsAnswer words (Ok Run) = IsRun words
 ArgumentsAnswer words (Ok (RunTold explains traces is_strict)) =
@@ -384,7 +377,8 @@ ArgumentsAnswer words (Ok (Show form)) = (faults_at words ≡ []) × (shown_form
 ArgumentsAnswer words (Ok (Write form name)) =
     (faults_at words ≡ []) × (written_form words ≡ Some (form, string_bytes name))
 ArgumentsAnswer words (Ok (Why nodes)) = (faults_at words ≡ []) × (why_names words ≡ Some (texts_of nodes.items))
-ArgumentsAnswer words (Ok (Try names)) = (faults_at words ≡ []) × (tried_files words ≡ Some (texts_of names.items))
+ArgumentsAnswer words (Ok (Try files account)) =
+    (faults_at words ≡ []) × (trial_options words ≡ Some (texts_of files.items, account))
 ArgumentsAnswer words (Ok (Compare first second)) =
     (faults_at words ≡ []) × (compared_files words ≡ Some (string_bytes first, string_bytes second))
 ArgumentsAnswer words (Ok (Help e)) = IsAmong DisplayHelp (faults_at words)

@@ -5,7 +5,7 @@ use Rattle.std.specs.declared.alloc.Global.{Global}
 use Rattle.std.specs.Io.KnownBytes.{Appends}
 use Rattle.std.specs.List.{Contains}
 use Rattle.std.specs.Option.{option_map_or}
-use Rattle.hg_log.specs.Drawings.{AreAllDrawn, Text}
+use Rattle.hg_log.specs.Drawings.{Text}
 use Rattle.hg_log.specs.Graphs.{IsGraphOf}
 use Rattle.hg_log.specs.Objects.{IsArray, NodeState}
 use Rattle.hg_obsstore.specs.Spelling.{store_spelling}
@@ -38,17 +38,17 @@ use Rattle.hgfleet.specs.declared.arguments.Wanted.TheVariants as wanted
 use Rattle.hgfleet.specs.declared.arguments.Wanted.TheVariants.{Run, RunTold, Race, Show, Write, Why, Help, Version}
 use Rattle.hgfleet.specs.declared.arguments.Wanted.TheVariants.{Compare, Try}
 use Rattle.hgfleet.specs.Trying.{EndsComparison, EndsTrial, IsComparison, IsTakenTrial}
-use Rattle.hg_why.specs.Blocks.{IsWhy}
-use Rattle.hgfleet.specs.declared.commands.Drawing.{Drawing}
-use Rattle.hgfleet.specs.declared.commands.Drawing.TheVariants as drawn
-use Rattle.hgfleet.specs.declared.commands.Drawing.TheVariants.{Log}
 use Rattle.hgfleet.specs.declared.commands.Overview.{Overview}
 use Rattle.hgfleet.specs.declared.commands.Overview.TheVariants.{Each, Graph, Array}
+use Rattle.hgfleet.specs.declared.drawing.Drawing.{Drawing}
+use Rattle.hgfleet.specs.declared.drawing.Drawing.TheVariants as drawn
+use Rattle.hgfleet.specs.declared.drawing.Drawing.TheVariants.{Log}
 use Rattle.hgfleet.specs.declared.failure.Failure.{Failure}
 use Rattle.hgfleet.specs.declared.failure.Failure.TheVariants as failed
 use Rattle.hgfleet.specs.declared.failure.Failure.TheVariants.{Told, Refused, UnknownName, Unread, Differ, File}
 use Rattle.hgfleet.specs.declared.failure.Failure.TheVariants.{NotTaken}
 use Rattle.hgfleet.specs.Arguments.{texts_of}
+use Rattle.hgfleet.specs.Drawings.{IsDrawing}
 
 -- ---- why a command ends early
 
@@ -70,24 +70,11 @@ IsOutputFailure failure = (failure ≡ failed.Run run.Write) ⊎ (failure ≡ fa
 
 -- ---- what is drawn
 
-abbrev pub heading : Text → Text
-heading name = codes "log " ++ name ++ 10 ∷ []
-
 -- what is shown for a picture: a drawing of each node, one graph, or one array
 abbrev pub overview_of : Bool → Picture → Overview
 overview_of shows_hidden pictures.Text = Each (Log shows_hidden)
 overview_of shows_hidden pictures.Graph = Graph shows_hidden
 overview_of shows_hidden pictures.Json = Array shows_hidden
-
--- the history below a line with the node's name
-abbrev pub IsHistory : Bool → Text → KeptValue → Text → Type 0
-IsHistory shows_hidden name kept text =
-    (history : Text) × AreAllDrawn kept shows_hidden history × (text ≡ heading name ++ history)
-
--- a history, or why changesets are unstable
-abbrev pub IsDrawing : Drawing → Text → KeptValue → Text → Type 0
-IsDrawing (Log shows_hidden) name kept text = IsHistory shows_hidden name kept text
-IsDrawing drawn.Why name kept text = IsWhy name kept text
 
 -- the drawing of the node of this name, none where there is no such node
 abbrev pub IsDrawn : Fleet → Drawing → Text → Text → Type 0
@@ -213,7 +200,7 @@ IsDone (Show form) known held holds before after =
     (bytes : Text) × (text : Text) × IsInput known bytes × IsShown form bytes text × Appends held holds text
 IsDone (Write form name) known held holds before after =
     WritesForm form (string_bytes name) known held holds before after
-IsDone (Try names) known held holds before after = IsTakenTrial (length names.items) held holds
+IsDone (Try files account) known held holds before after = IsTakenTrial (length files.items) account held holds
 IsDone (Compare first second) known held holds before after = IsComparison (Some true) held holds
 IsDone (Help error) known held holds before after = Unit {0}
 IsDone (Version error) known held holds before after = Unit {0}
@@ -267,7 +254,8 @@ IsFailure (Show form) known left held holds before after (failed.Show fault) =
     ⊎ ((bytes : Text) × IsInput known bytes × ShowAnswer {A = Unit {0}} (fault_in form bytes) (Err fault))
 IsFailure (Write form name) known left held holds before after failure =
     EndsAfterScript known (IsUnknownOf form (string_bytes name)) before after failure
-IsFailure (Try names) known left held holds before after failure = EndsTrial names.items held holds failure
+IsFailure (Try files account) known left held holds before after failure =
+    EndsTrial files.items account held holds failure
 IsFailure (Compare first second) known left held holds before after failure =
     EndsComparison (string_bytes first) (string_bytes second) held holds failure
 IsFailure (Help error) known left held holds before after failure = failure ≡ failed.Run run.Write

@@ -1,9 +1,11 @@
 -- What is answered of files of messages.
-use Rattle.std.specs.Prelude.{◌≡◌, ◌⊎◌, ◌≤◌, ℕ, List, All, Bool, Contains, Option, None, Some, IfSome, String}
-use Rattle.std.specs.Prelude.{false, length, string_bytes}
+use Rattle.std.specs.Prelude.{◌≡◌, ◌⊎◌, ◌≤◌, ◌++◌, ◌∷◌, [], ℕ, List, All, Bool, Contains, Option, None, Some, IfSome}
+use Rattle.std.specs.Prelude.{String, codes, false, if◌then◌else◌, length, string_bytes, true}
 use Rattle.std.specs.declared.alloc.Global.{Global}
 use Rattle.std.specs.Io.KnownBytes.{Appends}
 use Rattle.hg_log.specs.Drawings.{Text}
+use Rattle.hg_log.specs.Graphs.{IsGraphOf}
+use Rattle.hg_log.specs.Objects.{IsArray, NodeState}
 use Rattle.hg_preview.specs.Answers.{AreAnswersText}
 use Rattle.hg_preview.specs.Comparisons.{ComparesMessages}
 use Rattle.hg_replica.specs.State.{ReplicaState, nothing_held}
@@ -13,6 +15,9 @@ use Rattle.hg_trial.specs.declared.tried.Answer.TheVariants.{Taken, Refused}
 use Rattle.hg_trial.specs.Trials.{AnswersTo, IsLeastOfTaken}
 use Rattle.hgfleet.specs.declared.failure.Failure.{Failure}
 use Rattle.hgfleet.specs.declared.failure.Failure.TheVariants.{Differ, File, NotTaken, Run}
+use Rattle.hgfleet.specs.declared.try_arguments.Account.{Account}
+use Rattle.hgfleet.specs.declared.try_arguments.Account.TheVariants.{Answers, Drawn, Graph, Array}
+use Rattle.hgfleet.specs.Drawings.{IsDrawing}
 
 -- 1 GiB
 abbrev pub file_limit : ℕ
@@ -31,20 +36,50 @@ IsTakenOne (Refused refusal) = ⊥
 abbrev pub AreTaken : List Answer → Type 0
 AreTaken = All IsTakenOne
 
--- so many messages were answered so, one after the other, and that was written
-abbrev pub IsTrial : ℕ → List Answer → Option Text → Option Text → Type 0
-IsTrial count answers held holds =
+-- what messages were answered is told but where a graph or an array is all that is printed
+abbrev pub tells_answers : Account → Bool
+tells_answers Answers = true
+tells_answers (Drawn drawing) = true
+tells_answers (Graph shows_hidden) = false
+tells_answers Array = false
+
+-- what messages were answered, where that is told
+abbrev pub AreTold : Account → List Answer → Text → Type 0
+AreTold account answers text = if tells_answers account then AreAnswersText answers text else (text ≡ [])
+
+-- what stands after a trial, where nothing is pinned, and what it is called
+abbrev pub standing : ReplicaState → NodeState
+standing trial = (codes "trial", record { replica = trial; pins = [] })
+
+-- what is shown of what stands after a trial
+abbrev pub IsShownOf : Account → ReplicaState → Text → Type 0
+IsShownOf Answers trial text = text ≡ []
+IsShownOf (Drawn drawing) trial text = IsDrawing drawing (standing trial).0 (standing trial).1 text
+IsShownOf (Graph shows_hidden) trial text = IsGraphOf shows_hidden (standing trial ∷ []) text
+IsShownOf Array trial text = IsArray true (standing trial ∷ []) text
+
+-- what messages were answered, and below it what stands then
+abbrev pub IsAccount : Account → List Answer → ReplicaState → Text → Type 0
+IsAccount account answers trial text =
+    (told : Text) × (shown : Text) × AreTold account answers told × IsShownOf account trial shown
+    × (text ≡ told ++ shown)
+
+-- so many messages were answered so, one after the other, and this account was written of it
+abbrev pub IsTrial : ℕ → Account → List Answer → Option Text → Option Text → Type 0
+IsTrial count account answers held holds =
     (messages : List Text) × (trial : ReplicaState) × (text : Text) × (length messages ≡ count)
     × AnswersTo nothing_held messages answers trial × IsLeastOfTaken messages answers trial
-    × AreAnswersText answers text × Appends held holds text
+    × IsAccount account answers trial text × Appends held holds text
 
 -- so many messages were taken
-abbrev pub IsTakenTrial : ℕ → Option Text → Option Text → Type 0
-IsTakenTrial count held holds = (answers : List Answer) × IsTrial count answers held holds × AreTaken answers
+abbrev pub IsTakenTrial : ℕ → Account → Option Text → Option Text → Type 0
+IsTakenTrial count account held holds =
+    (answers : List Answer) × IsTrial count account answers held holds × AreTaken answers
 
 -- so many messages were answered, and one was refused
-abbrev pub IsRefusedTrial : ℕ → Option Text → Option Text → Type 0
-IsRefusedTrial count held holds = (answers : List Answer) × IsTrial count answers held holds × ¬ (AreTaken answers)
+abbrev pub IsRefusedTrial : ℕ → Account → Option Text → Option Text → Type 0
+IsRefusedTrial count account held holds =
+    (answers : List Answer) × IsTrial count account answers held holds × ¬ (AreTaken answers)
 
 -- two messages were compared with this answer
 abbrev pub IsComparison : Option Bool → Option Text → Option Text → Type 0
@@ -70,11 +105,11 @@ IsUnreadAmong names _ = ⊥
 
 -- a trial of these files: a message was refused; or a file wasn't read, and nothing was written; or there are no keys,
 -- or a write failed, or memory was wanting
-abbrev pub EndsTrial : List (String Global) → Option Text → Option Text → Failure → Type 0
-EndsTrial names held holds NotTaken = IsRefusedTrial (length names) held holds
-EndsTrial names held holds (File told fault) = IsUnreadAmong names (File told fault) × (holds ≡ held)
-EndsTrial names held holds (Run fault) = (fault ≡ Read) ⊎ ((fault ≡ Write) ⊎ (fault ≡ NoMemory))
-EndsTrial names held holds _ = ⊥
+abbrev pub EndsTrial : List (String Global) → Account → Option Text → Option Text → Failure → Type 0
+EndsTrial names account held holds NotTaken = IsRefusedTrial (length names) account held holds
+EndsTrial names account held holds (File told fault) = IsUnreadAmong names (File told fault) × (holds ≡ held)
+EndsTrial names account held holds (Run fault) = (fault ≡ Read) ⊎ ((fault ≡ Write) ⊎ (fault ≡ NoMemory))
+EndsTrial names account held holds _ = ⊥
 
 -- a comparison, once both files are read: they differ, or one of the messages was refused
 abbrev pub EndsCompared : Option Text → Option Text → Failure → Type 0

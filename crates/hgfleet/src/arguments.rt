@@ -5,20 +5,22 @@ ghost use Rattle.clap.specs.Words.{app_of, found_of, kind_of, new_app, rows_of, 
 ghost use Rattle.clap.specs.declared.builder.command.Command.TheViews.{out-Command};
 ghost use Rattle.hgfleet.specs.declared.arguments.ArgumentFault.TheVariants.{NoMemory};
 ghost use Rattle.hg_show.specs.declared.form.Form.TheVariants.{Store, Message};
-ghost use Rattle.hgfleet.specs.Arguments.{ArgumentsAnswer, IsRun, MeetsWanted, ParseAnswer, faults_at};
+ghost use Rattle.hgfleet.specs.Arguments.{ArgumentsAnswer, IsRun, IsMistake, MeetsWanted, ParseAnswer, faults_at};
 ghost use Rattle.hgfleet.specs.Arguments.{program_at, program_alone};
-ghost use Rattle.hgfleet.specs.Arguments.{run, race, log, show_at, write_at, why, flag_rule, form_rule, nodes_rule};
+ghost use Rattle.hgfleet.specs.Arguments.{run, race, log, show_at, write_at, why, form_rule, nodes_rule};
 ghost use Rattle.hgfleet.specs.Arguments.{IsRunTold, notes_given, run_notes};
 ghost use Rattle.hgfleet.specs.Arguments.{IsRaceOf, number_given, numbers_given, race_numbers};
-ghost use Rattle.hgfleet.specs.Arguments.{IsLogOf, flag_given, log_given, log_options, names_given, picture_of};
+ghost use Rattle.hgfleet.specs.Arguments.{IsLogOf, log_given, log_options, names_given, picture_of};
 ghost use Rattle.hgfleet.specs.Arguments.{texts_of};
 ghost use Rattle.hgfleet.specs.Arguments.{IsShowOf, form_given, form_named, shown_form};
 ghost use Rattle.hgfleet.specs.Arguments.{IsWriteOf, write_given, written_form};
 ghost use Rattle.hgfleet.specs.Arguments.{IsWhyOf, why_names};
-ghost use Rattle.hgfleet.specs.TryArguments.{words_given};
+ghost use Rattle.hgfleet.specs.TryArguments.{flag_given, flag_rule, words_given};
 ghost use Rattle.hgfleet.specs.Arguments.{argument_fault_number, argument_fault_status, argument_fault_text};
 
-use crate::try_arguments::{compare_command, compare_of, try_command, try_of};
+use crate::try_arguments::{
+    Account, compare_command, compare_of, excluding_flags, try_command, try_of,
+};
 use clap::error::ErrorKind;
 use clap::{Arg, ArgAction, ArgMatches, Command, Error, value_parser};
 use hg_show::Form;
@@ -71,8 +73,12 @@ pub enum Wanted {
     /// That it is told why changesets of these nodes are unstable as the script of standard input leaves them, of all
     /// nodes where none is named.
     Why(Vec<String>),
-    /// That the messages of these files are taken one after the other into a repository that holds nothing at first.
-    Try(Vec<String>),
+    /// That the messages of these files are taken one after the other into a repository that holds nothing at first,
+    /// and what is printed of that.
+    Try {
+        files: Vec<String>,
+        account: Account,
+    },
     /// That it is told in what the repositories of the messages of two files differ.
     Compare {
         first: String,
@@ -265,7 +271,8 @@ static FORMS: [&str; 3] = ["store", "roots", "message"];
 /// Reads the words of a command line, the program's name first. A run has the word `run` alone, and one with notes some
 /// flags behind it. A race has the number of its nodes, from 2 to 16, and that of its rounds, from 1 to 1,000. A log
 /// may have names of nodes and flags, of which those of two pictures exclude each other. What is shown has a form, what
-/// is written a form and a name, and what is told names of nodes.
+/// is written a form and a name, and what is told names of nodes. A trial has names of files and flags, of which those
+/// of two accounts exclude each other, and a comparison has two names of files.
 pub fn read_args(alloc: Global, words: &[&str]) -> Result<Wanted, ArgumentFault>
     ensures { ArgumentsAnswer (map (λ s. s.now) words.now) result }
 {
@@ -274,10 +281,8 @@ pub fn read_args(alloc: Global, words: &[&str]) -> Result<Wanted, ArgumentFault>
         Ok(None) => {
             if is_run(words) {
                 Ok(Wanted::Run)
-            } else if is_log(words) {
-                Err(ArgumentFault::BadArguments(two_pictures(alloc)?))
             } else {
-                Err(ArgumentFault::BadArguments(further_words(alloc)?))
+                Err(ArgumentFault::BadArguments(nothing_asked(alloc, words)?))
             }
         }
         Err(error) => match error.kind() {
@@ -302,9 +307,23 @@ fn names_run(word: &str) -> bool
     word == "run"
 }
 
-// Whether the words are those of a log. Without a fault they ask for nothing only where they ask for two pictures.
-fn is_log(words: &[&str]) -> bool {
-    words.len() >= 2 && words[1] == "log"
+// The fault of words that the parser takes and that ask for nothing. Those of a log ask for two pictures, and those of
+// a trial have flags that exclude each other.
+fn nothing_asked(alloc: Global, words: &[&str]) -> Result<Error, AllocError>
+    ensures { IfOk result IsMistake }
+{
+    if is_command(words, "log") {
+        return two_pictures(alloc);
+    }
+    if is_command(words, "try") {
+        return excluding_flags(alloc, words);
+    }
+    further_words(alloc)
+}
+
+// Whether the words are those of this command.
+fn is_command(words: &[&str], name: &str) -> bool {
+    words.len() >= 2 && words[1] == name
 }
 
 // The fault of a log that two pictures are asked of.
@@ -470,11 +489,11 @@ fn copies_of(alloc: Global, names: &[&str]) -> Result<Vec<String>, AllocError>
     Ok(copies)
 }
 
-// Whether the flag is given. `get_flag` promises nothing of a text that is neither `true` nor `false`.
-fn flag_of(log: &ArgMatches<'_>, flag: &str) -> bool
-    ensures { result ≡ flag_given flag.now (rows_of (found_of log.now)) }
+/// Whether the flag is given. `get_flag` promises nothing of a text that is neither `true` nor `false`.
+pub(crate) fn flag_of(given: &ArgMatches<'_>, flag: &str) -> bool
+    ensures { result ≡ flag_given flag.now (rows_of (found_of given.now)) }
 {
-    match log.get_one::<bool>(flag) {
+    match given.get_one::<bool>(flag) {
         Some(is_given) => is_given,
         None => false,
     }
@@ -607,7 +626,8 @@ fn log<'a>(alloc: Global) -> Result<Command<'a>, AllocError>
         .arg(nodes_argument(alloc))
 }
 
-fn flag<'a>(alloc: Global, name: &'a str, help: &'a str) -> Arg<'a>
+/// A flag `--NAME`.
+pub(crate) fn flag<'a>(alloc: Global, name: &'a str, help: &'a str) -> Arg<'a>
     ensures { (rule_of result ≡ flag_rule name.entry.now) × (result.global ≡ false) }
 {
     Arg::new(alloc, name)

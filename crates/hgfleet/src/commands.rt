@@ -8,22 +8,21 @@ ghost use Rattle.hg_script.specs.Scripts.{IsLeftFleet};
 ghost use Rattle.hg_script.specs.Scripts.{node_named};
 ghost use Rattle.hg_script.specs.Stops.{IsStop};
 ghost use Rattle.hgfleet.specs.Arguments.{IsWithinBounds, texts_of};
-ghost use Rattle.hgfleet.specs.Commands.{AreDrawn, AreShown, DrawsNodes, EndsAfterScript, EndsNoted, IsDone, IsDrawing};
-ghost use Rattle.hgfleet.specs.Commands.{IsDrawn, IsFailure, IsHistory, IsNoted, IsUnknownAmong, IsUnknownOf, IsUntold};
-ghost use Rattle.hgfleet.specs.Commands.{TellsRefused, WritesForm, closing, drawn_names, heading, notes_of};
+ghost use Rattle.hgfleet.specs.Commands.{AreDrawn, AreShown, DrawsNodes, EndsAfterScript, EndsNoted, IsDone};
+ghost use Rattle.hgfleet.specs.Commands.{IsDrawn, IsFailure, IsNoted, IsUnknownAmong, IsUnknownOf, IsUntold};
+ghost use Rattle.hgfleet.specs.Commands.{TellsRefused, WritesForm, closing, drawn_names, notes_of};
 ghost use Rattle.hgfleet.specs.Commands.{overview_of, refusals_told, state_of, states_of};
 
 use crate::arguments::{Picture, Wanted};
+use crate::drawing::{Drawing, draw};
 use crate::failure::Failure;
 use crate::trying::{compare_files, try_files};
 use clap::Error;
-use hg_log::{DrawFault, NamedNode, draw_graphs, draw_log, draw_objects};
+use hg_log::{DrawFault, NamedNode, draw_graphs, draw_objects};
 use hg_node_set::IdKeys;
 use hg_race::run_race;
 use hg_script::{Fleet, Notes, Outcome, RunFault, ToldFault, run_script, run_told};
 use hg_show::{Form, show, write_bytes, write_roots, write_store};
-use hg_view::Kept;
-use hg_why::write_why;
 use std::alloc::{AllocError, Global};
 use std::io::{BufRead, Read, Write};
 use std::random::RandomSource;
@@ -81,7 +80,9 @@ pub fn perform<
         Wanted::Write { form, name } => {
             return write(rt, reader, writer, told, *form, name);
         }
-        Wanted::Try(names) => return try_files(rt, secret_keys(rt)?, names, reader, writer),
+        Wanted::Try { files, account } => {
+            return try_files(rt, secret_keys(rt)?, files, *account, reader, writer);
+        }
         Wanted::Compare { first, second } => {
             return compare_files(rt, secret_keys(rt)?, first, second, reader, writer);
         }
@@ -193,15 +194,6 @@ enum Overview {
     Graph { shows_hidden: bool },
     // One array of JSON.
     Array { shows_hidden: bool },
-}
-
-// What is drawn, or told, of a node.
-#[derive(Clone, Copy)]
-enum Drawing {
-    // Its history as a text.
-    Log { shows_hidden: bool },
-    // Why changesets are unstable.
-    Why,
 }
 
 fn overview_of(shows_hidden: bool, picture: Picture) -> Overview
@@ -406,51 +398,6 @@ fn draw_node<W: Write>(
     match fleet.kept_of(name) {
         Some(kept) => draw(alloc, name, kept, drawing, writer),
         None => Ok(()),
-    }
-}
-
-// Draws what is asked for of a node.
-fn draw<W: Write>(
-    alloc: Global,
-    name: &[u8],
-    kept: &Kept,
-    drawing: Drawing,
-    writer: &mut W,
-) -> Result<(), DrawFault>
-    ensures { OnOk result ((text : List ℕ) × IsDrawing drawing name.now kept.now text
-        × Appends (W.contents writer.old) (W.contents writer.new) text) }
-{
-    match drawing {
-        Drawing::Log { shows_hidden } => draw_below(alloc, name, kept, shows_hidden, writer),
-        Drawing::Why => write_why(alloc, name, kept, writer),
-    }
-}
-
-// Draws a history below a line with the node's name.
-fn draw_below<W: Write>(
-    alloc: Global,
-    name: &[u8],
-    kept: &Kept,
-    shows_hidden: bool,
-    writer: &mut W,
-) -> Result<(), DrawFault>
-    ensures { OnOk result ((text : List ℕ) × IsHistory shows_hidden name.now kept.now text
-        × Appends (W.contents writer.old) (W.contents writer.new) text) }
-{
-    write_heading(alloc, name, writer)?;
-    draw_log(alloc, kept, shows_hidden, writer)
-}
-
-// Writes the line with a node's name.
-fn write_heading<W: Write>(alloc: Global, name: &[u8], writer: &mut W) -> Result<(), DrawFault>
-    ensures { OnOk result (Appends (W.contents writer.old) (W.contents writer.new) (heading name.now)) }
-{
-    let mut heading = Vec::from_slice(alloc, b"log ")?;
-    heading.extend_from_slice(name)?;
-    heading.push(b'\n')?;
-    match writer.write_all(&heading) {
-        Ok(()) => Ok(()),
-        Err(_) => Err(DrawFault::Write),
     }
 }
 

@@ -13,6 +13,7 @@ ghost use Rattle.hgfleet.specs.Commands.{failure_status};
 
 mod arguments;
 mod commands;
+mod drawing;
 mod failure;
 mod files;
 mod terminal;

@@ -1,13 +1,29 @@
 //! The arguments of a trial and of a comparison.
 ghost use Rattle.std.specs.Prelude.{◌≡◌, IfOk, codes, false};
-ghost use Rattle.clap.specs.Words.{app_of, found_of, rows_of, rule_of};
+ghost use Rattle.clap.specs.Words.{app_of, found_of, kind_of, rows_of, rule_of};
 ghost use Rattle.clap.specs.declared.builder.command.Command.TheViews.{out-Command};
 ghost use Rattle.hgfleet.specs.Arguments.{IsCompareOf, IsTryOf};
-ghost use Rattle.hgfleet.specs.TryArguments.{compare_app, file_rule, files_compared, files_rule, try_app, words_given};
+ghost use Rattle.hgfleet.specs.TryArguments.{account_given, account_of_log, account_without_log, compare_app};
+ghost use Rattle.hgfleet.specs.TryArguments.{file_rule, files_compared, files_rule, try_app, try_given};
 
-use crate::arguments::{Wanted, words_of};
-use clap::{Arg, ArgMatches, Command};
+use crate::arguments::{Wanted, flag, flag_of, words_of};
+use crate::drawing::Drawing;
+use clap::error::ErrorKind;
+use clap::{Arg, ArgMatches, Command, Error};
 use std::alloc::{AllocError, Global};
+
+/// What is printed of a trial.
+#[derive(Clone, Copy)]
+pub enum Account {
+    /// What each message was answered.
+    Answers,
+    /// The same, and below it a drawing of what stands then.
+    Drawn(Drawing),
+    /// A graph for Graphviz of what stands then, and nothing else.
+    Graph { shows_hidden: bool },
+    /// An array of JSON of all that stands then, and nothing else.
+    Array,
+}
 
 // What would become of a repository.
 const TRY_HELP: &str = "\
@@ -20,11 +36,17 @@ answered is printed, as
     becomes suspended: b 80984185711b
 or why it is refused; the next ones are taken all the same. The file - is standard input.
 
+What stands then is shown below, where that is asked for, under the name trial: with --log its history, as `hgfleet log`
+draws that of a node, and with --why what is unstable, as `hgfleet why` tells it. With --log --dot a graph in the
+language of Graphviz is all that is printed, and with --json an array of all changesets, hidden or not; what messages
+were answered is then told by the status alone.
+
 Statuses: 0 done, 1 a message that is refused, a file that can't be read, or a text that can't be written,
 2 wrong arguments, 3 want of memory.
 
 For example:
-  hgfleet try mine.message theirs.message";
+  hgfleet try mine.message theirs.message
+  hgfleet try --log --hidden mine.message theirs.message";
 
 // In what two repositories differ.
 const COMPARE_HELP: &str = "\
@@ -42,13 +64,27 @@ written, 2 wrong arguments, 3 want of memory.
 For example:
   hgfleet compare mine.message theirs.message";
 
-/// The command that tries messages: the names of files, one at least.
+/// The command that tries messages: the names of files, one at least, and what is shown then.
 pub(crate) fn try_command<'a>(alloc: Global) -> Result<Command<'a>, AllocError>
     ensures { IfOk result (λ command. (app_of command ≡ try_app) × ((out-Command command).has_globals ≡ false)) }
 {
     Command::new(alloc, "try")
         .about("Tells what would become of a repository that takes messages in")
         .after_help(TRY_HELP)
+        .override_usage("hgfleet try [OPTIONS] <FILE>...")
+        .arg(flag(alloc, "log", "Draws what stands then"))?
+        .arg(flag(alloc, "hidden", "With --log: draws what is hidden, too"))?
+        .arg(flag(
+            alloc,
+            "dot",
+            "With --log: prints a graph in the language of Graphviz, and nothing else",
+        ))?
+        .arg(flag(alloc, "why", "Tells why changesets are unstable then"))?
+        .arg(flag(
+            alloc,
+            "json",
+            "Prints an array of JSON of what stands then, and nothing else",
+        ))?
         .arg(files_argument(alloc))
 }
 
@@ -84,11 +120,96 @@ fn file_argument<'a>(alloc: Global, name: &'a str, shown: &'a str, help: &'a str
         .help(help)
 }
 
-/// That the messages of these files are tried.
+/// That the messages of these files are tried, with this account of it, none where flags exclude each other.
 pub(crate) fn try_of(alloc: Global, given: &ArgMatches<'_>) -> Result<Option<Wanted>, AllocError>
-    ensures { IfOk result (IsTryOf (words_given (codes "files") (rows_of (found_of given.now)))) }
+    ensures { IfOk result (IsTryOf (try_given (rows_of (found_of given.now)))) }
 {
-    Ok(Some(Wanted::Try(words_of(alloc, given, "files")?)))
+    match account_of(given) {
+        Some(account) => {
+            let files = words_of(alloc, given, "files")?;
+            Ok(Some(Wanted::Try { files, account }))
+        }
+        None => Ok(None),
+    }
+}
+
+// What is printed of a trial with these flags, none where they exclude each other.
+fn account_of(given: &ArgMatches<'_>) -> Option<Account>
+    ensures { result ≡ account_given (rows_of (found_of given.now)) }
+{
+    let shows_hidden = flag_of(given, "hidden");
+    let is_graph = flag_of(given, "dot");
+    let tells_why = flag_of(given, "why");
+    let is_array = flag_of(given, "json");
+    if flag_of(given, "log") {
+        account_of_log(tells_why || is_array, shows_hidden, is_graph)
+    } else {
+        account_without_log(is_graph, is_array, shows_hidden, tells_why)
+    }
+}
+
+// What is printed where a log is asked for, none where something else is too.
+fn account_of_log(has_others: bool, shows_hidden: bool, is_graph: bool) -> Option<Account>
+    ensures { result ≡ account_of_log has_others shows_hidden is_graph }
+{
+    match (has_others, is_graph) {
+        (false, false) => Some(Account::Drawn(Drawing::Log { shows_hidden })),
+        (false, true) => Some(Account::Graph { shows_hidden }),
+        (true, _) => None,
+    }
+}
+
+// What is printed where no log is asked for, none where it is said how one is drawn, or two accounts are asked for. An
+// array has what is hidden anyway.
+fn account_without_log(
+    is_graph: bool,
+    is_array: bool,
+    shows_hidden: bool,
+    tells_why: bool,
+) -> Option<Account>
+    ensures { result ≡ account_without_log is_graph is_array shows_hidden tells_why }
+{
+    match (is_graph, is_array, shows_hidden, tells_why) {
+        (false, false, false, false) => Some(Account::Answers),
+        (false, false, false, true) => Some(Account::Drawn(Drawing::Why)),
+        (false, false, true, _) => None,
+        (false, true, _, false) => Some(Account::Array),
+        (false, true, _, true) => None,
+        (true, _, _, _) => None,
+    }
+}
+
+/// The fault of a trial whose flags exclude each other.
+pub(crate) fn excluding_flags(alloc: Global, words: &[&str]) -> Result<Error, AllocError>
+    ensures { IfOk result (λ e. kind_of e ≡ ErrorKind.ArgumentConflict) }
+{
+    try_command(alloc)?.error(ErrorKind::ArgumentConflict, exclusion(words))
+}
+
+// What is said of the first two flags that exclude each other, or of one that says how a log is drawn, without it.
+fn exclusion(words: &[&str]) -> &'static str {
+    let draws_log = has_flag(words, "--log");
+    let tells_why = has_flag(words, "--why");
+    match (draws_log, tells_why, has_flag(words, "--json")) {
+        (true, true, _) => "the argument '--log' cannot be used with '--why'",
+        (true, false, true) => "the argument '--log' cannot be used with '--json'",
+        (false, true, true) => "the argument '--why' cannot be used with '--json'",
+        _ if has_flag(words, "--dot") => "the argument '--dot' cannot be used without '--log'",
+        _ => "the argument '--hidden' cannot be used without '--log'",
+    }
+}
+
+// Whether the flag is among the words, of which those behind `--` are names.
+fn has_flag(words: &[&str], flag: &str) -> bool {
+    for word in words {
+        if *word == "--" {
+            return false;
+        }
+        if *word == flag {
+            return true;
+        }
+    }
+    false
 }
 
 /// That the repositories of these two are compared.

@@ -1,56 +1,148 @@
 //! What would become of a repository that takes messages in, and in what two differ, by files of messages.
-ghost use Rattle.std.specs.Prelude.{◌≡◌, ◌↔◌, IfErr, IfOk, IsTrue, OnOk, Some, length, true};
-ghost use Rattle.hgfleet.specs.Trying.{AreTaken, EndsCompared, EndsComparison, EndsTrial, IsComparison};
-ghost use Rattle.hgfleet.specs.Trying.{IsTakenOne, IsTakenTrial, IsUnread, IsUnreadAmong};
+ghost use Rattle.std.specs.Prelude.{◌≡◌, ◌↔◌, IfErr, IfOk, IsTrue, List, OnOk, Some, length, true, ℕ};
+ghost use Rattle.std.specs.Io.KnownBytes.{Appends};
+ghost use Rattle.hg_log.specs.Objects.{named};
+ghost use Rattle.hg_preview.specs.Answers.{texts_of};
+ghost use Rattle.hg_replica.specs.State.{nothing_held};
+ghost use Rattle.hg_trial.specs.Trials.{AnswersTo, IsLeastOfTaken};
+ghost use Rattle.hgfleet.specs.Trying.{AreTaken, AreTold, EndsCompared, EndsComparison, EndsTrial, IsAccount};
+ghost use Rattle.hgfleet.specs.Trying.{IsComparison, IsShownOf, IsTakenOne, IsTakenTrial, IsUnread, IsUnreadAmong};
+ghost use Rattle.hgfleet.specs.Trying.{standing, tells_answers};
 
+use crate::drawing::draw;
 use crate::failure::Failure;
 use crate::files::{FileFault, read_file};
+use crate::try_arguments::Account;
+use hg_log::{DrawFault, NamedNode, draw_graphs, draw_objects};
 use hg_node_set::IdKeys;
 use hg_preview::{NamedMessage, compare_messages, write_trial};
 use hg_script::RunFault;
-use hg_trial::Answer;
+use hg_trial::{Answer, Trial, Tried};
 use std::alloc::{AllocError, Global};
-use std::io::{Read, Write};
+use std::io::{Read, Write, sink};
 use std::rt::Files;
 
-/// Takes the messages of these files one after the other into what holds nothing, and writes what each was answered.
-/// All files are read before anything is written; the name `-` stands for what the reader has.
+/// Takes the messages of these files one after the other into what holds nothing, and writes this account of it. All
+/// files are read before anything is written; the name `-` stands for what the reader has.
 pub fn try_files<'a, H: AllocGlobal + Files, R: Read, W: Write>(
     rt: &H,
     keys: IdKeys,
     names: &'a [String],
+    account: Account,
     reader: &mut R,
     writer: &mut W,
 ) -> Result<(), Failure<'a>>
     ensures done { OnOk result
-        (IsTakenTrial (length names.entry.now) (W.contents writer.old) (W.contents writer.new)) }
-    ensures failed { IfErr result (EndsTrial names.entry.now (W.contents writer.old) (W.contents writer.new)) }
+        (IsTakenTrial (length names.entry.now) account (W.contents writer.old) (W.contents writer.new)) }
+    ensures failed { IfErr result
+        (EndsTrial names.entry.now account (W.contents writer.old) (W.contents writer.new)) }
 {
     let alloc = rt.alloc();
     match read_files(alloc, rt, names, reader) {
-        Ok(contents) => try_contents(alloc, keys, names, &contents, writer),
+        Ok(contents) => try_contents(alloc, keys, names, &contents, account, writer),
         Err(failure) => Err(failure),
     }
 }
 
-// Takes messages with these bytes, by the names of their files.
+// Takes messages with these bytes, by the names of their files, and writes this account of it.
 fn try_contents<W: Write>(
     alloc: Global,
     keys: IdKeys,
     names: &[String],
     contents: &[Vec<u8>],
+    account: Account,
     writer: &mut W,
 ) -> Result<(), Failure<'static>>
     requires { length names.now ≡ length contents.now }
-    ensures done { OnOk result (IsTakenTrial (length names.now) (W.contents writer.old) (W.contents writer.new)) }
-    ensures failed { IfErr result (EndsTrial names.now (W.contents writer.old) (W.contents writer.new)) }
+    ensures done { OnOk result
+        (IsTakenTrial (length names.now) account (W.contents writer.old) (W.contents writer.new)) }
+    ensures failed { IfErr result (EndsTrial names.now account (W.contents writer.old) (W.contents writer.new)) }
 {
     let messages = messages_of(alloc, names, contents)?;
-    let tried = write_trial(alloc, keys, &messages, writer)?;
+    let tried = write_account(alloc, keys, &messages, account, writer)?;
     if are_taken(&tried.answers) {
         Ok(())
     } else {
         Err(Failure::NotTaken)
+    }
+}
+
+// Takes the messages in, and writes this account of it.
+fn write_account<W: Write>(
+    alloc: Global,
+    keys: IdKeys,
+    messages: &[NamedMessage<'_>],
+    account: Account,
+    writer: &mut W,
+) -> Result<Tried, DrawFault>
+    ensures answers { IfOk result (λ tried. AnswersTo nothing_held (texts_of messages.now) tried.answers.items
+        tried.trial) }
+    ensures least { IfOk result (λ tried. IsLeastOfTaken (texts_of messages.now) tried.answers.items tried.trial) }
+    ensures written { IfOk result (λ tried. (text : List ℕ) × IsAccount account tried.answers.items tried.trial text
+        × Appends (W.contents writer.old) (W.contents writer.new) text) }
+{
+    let tried = take_messages(alloc, keys, messages, account, writer)?;
+    show_standing(alloc, &tried.trial, account, writer)?;
+    Ok(tried)
+}
+
+// Takes the messages in, and writes what each was answered, where the account tells that.
+fn take_messages<W: Write>(
+    alloc: Global,
+    keys: IdKeys,
+    messages: &[NamedMessage<'_>],
+    account: Account,
+    writer: &mut W,
+) -> Result<Tried, DrawFault>
+    ensures answers { IfOk result (λ tried. AnswersTo nothing_held (texts_of messages.now) tried.answers.items
+        tried.trial) }
+    ensures least { IfOk result (λ tried. IsLeastOfTaken (texts_of messages.now) tried.answers.items tried.trial) }
+    ensures written { IfOk result (λ tried. (text : List ℕ) × AreTold account tried.answers.items text
+        × Appends (W.contents writer.old) (W.contents writer.new) text) }
+{
+    if tells_answers(account) {
+        write_trial(alloc, keys, messages, writer)
+    } else {
+        write_trial(alloc, keys, messages, &mut sink())
+    }
+}
+
+// Whether the account tells what messages were answered.
+fn tells_answers(account: Account) -> bool
+    ensures { result ≡ tells_answers account }
+{
+    match account {
+        Account::Answers | Account::Drawn(_) => true,
+        Account::Graph { .. } | Account::Array => false,
+    }
+}
+
+// Writes what the account shows of what stands after a trial.
+fn show_standing<W: Write>(
+    alloc: Global,
+    trial: &Trial,
+    account: Account,
+    writer: &mut W,
+) -> Result<(), DrawFault>
+    ensures { OnOk result ((text : List ℕ) × IsShownOf account trial.now text
+        × Appends (W.contents writer.old) (W.contents writer.new) text) }
+{
+    let node = standing(trial);
+    match account {
+        Account::Answers => Ok(()),
+        Account::Drawn(drawing) => draw(alloc, node.name, node.kept, drawing, writer),
+        Account::Graph { shows_hidden } => draw_graphs(alloc, &[node], shows_hidden, writer),
+        Account::Array => draw_objects(alloc, &[node], true, writer),
+    }
+}
+
+// What stands after a trial, and what it is called.
+fn standing(trial: &Trial) -> NamedNode<'_>
+    ensures { named result ≡ standing trial.now }
+{
+    NamedNode {
+        name: b"trial",
+        kept: trial.kept(),
     }
 }
 

@@ -1,6 +1,7 @@
 use Rattle.std.proofs.Common.{Bool, List, Some, ap, ap₂, codes, sym, ◌∙◌, ◌≡◌}
 use Rattle.clap.specs.Words.{Text, found_of, rows_of}
-use Rattle.hgfleet.specs.Arguments.{flag_given, names_given, options_of, picture_of}
+use Rattle.hgfleet.specs.Arguments.{names_given, options_of, picture_of}
+use Rattle.hgfleet.specs.TryArguments.{flag_given}
 use Rattle.hgfleet.proofs.arguments.log_of.Goals as goal
 
 pub returns-in_ok-nodes-in-Some : goal.returns-in_ok-nodes-in-Some

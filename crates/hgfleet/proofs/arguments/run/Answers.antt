@@ -2,7 +2,7 @@ use Rattle.std.proofs.Common.{ap, ap₂, codes, ◌≡◌, ◌∙◌}
 use Rattle.std.proofs.lemmas.Result.{IfOk-weaker}
 use Rattle.clap.specs.Simple.{app_of_fields}
 use Rattle.clap.specs.Words.{app_of, new_app, with_rule}
-use Rattle.hgfleet.specs.Arguments.{flag_rule}
+use Rattle.hgfleet.specs.TryArguments.{flag_rule}
 use Rattle.hgfleet.proofs.BuilderLemmas.{either, has_globals}
 use Rattle.hgfleet.proofs.arguments.run.Goals as goal
 

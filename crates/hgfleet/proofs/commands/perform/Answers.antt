@@ -1,7 +1,7 @@
 use Rattle.std.proofs.Common.{List, OnOk, String, subst, sym}
 use Rattle.std.specs.declared.alloc.Global.{Global}
 use Rattle.hgfleet.specs.declared.arguments.Wanted.{Wanted}
-use Rattle.hgfleet.specs.declared.commands.Drawing.TheVariants.{Why}
+use Rattle.hgfleet.specs.declared.drawing.Drawing.TheVariants.{Why}
 use Rattle.hgfleet.specs.declared.commands.Overview.{Overview}
 use Rattle.hgfleet.specs.declared.commands.Overview.TheVariants.{Each}
 use Rattle.hgfleet.specs.Commands.{DrawsNodes, IsDone}

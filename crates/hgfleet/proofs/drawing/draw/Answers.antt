@@ -1,9 +1,9 @@
 use Rattle.std.proofs.Common.{OnOk, subst, sym}
 use Rattle.std.specs.Io.KnownBytes.{Appends}
 use Rattle.hg_log.specs.Drawings.{Text}
-use Rattle.hgfleet.specs.declared.commands.Drawing.{Drawing}
-use Rattle.hgfleet.specs.Commands.{IsDrawing}
-use Rattle.hgfleet.proofs.commands.draw.Goals as goal
+use Rattle.hgfleet.specs.declared.drawing.Drawing.{Drawing}
+use Rattle.hgfleet.specs.Drawings.{IsDrawing}
+use Rattle.hgfleet.proofs.drawing.draw.Goals as goal
 
 pub returns-in-Log : goal.returns-in-Log
 returns-in-Log g c =

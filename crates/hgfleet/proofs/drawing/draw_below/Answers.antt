@@ -1,8 +1,8 @@
 use Rattle.std.proofs.Common.{◌++◌, refl}
 use Rattle.std.proofs.KnownBytes.{Appends-trans}
 use Rattle.std.proofs.lemmas.Result.{on_ok_weaker}
-use Rattle.hgfleet.specs.Commands.{heading}
-use Rattle.hgfleet.proofs.commands.draw_below.Goals as goal
+use Rattle.hgfleet.specs.Drawings.{heading}
+use Rattle.hgfleet.proofs.drawing.draw_below.Goals as goal
 
 pub returns : goal.returns
 returns g c = on_ok_weaker c.draw_log.result

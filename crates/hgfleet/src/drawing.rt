@@ -1,0 +1,64 @@
+//! What is drawn, or told, of a node.
+ghost use Rattle.std.specs.Prelude.{List, ℕ, OnOk};
+ghost use Rattle.std.specs.Io.KnownBytes.{Appends};
+ghost use Rattle.hgfleet.specs.Drawings.{IsDrawing, IsHistory, heading};
+
+use hg_log::{DrawFault, draw_log};
+use hg_view::Kept;
+use hg_why::write_why;
+use std::alloc::Global;
+use std::io::Write;
+
+/// What is drawn, or told, of a node.
+#[derive(Clone, Copy)]
+pub enum Drawing {
+    /// Its history as a text.
+    Log { shows_hidden: bool },
+    /// Why changesets are unstable.
+    Why,
+}
+
+/// Draws what is asked for of a node of this name.
+pub fn draw<W: Write>(
+    alloc: Global,
+    name: &[u8],
+    kept: &Kept,
+    drawing: Drawing,
+    writer: &mut W,
+) -> Result<(), DrawFault>
+    ensures { OnOk result ((text : List ℕ) × IsDrawing drawing name.now kept.now text
+        × Appends (W.contents writer.old) (W.contents writer.new) text) }
+{
+    match drawing {
+        Drawing::Log { shows_hidden } => draw_below(alloc, name, kept, shows_hidden, writer),
+        Drawing::Why => write_why(alloc, name, kept, writer),
+    }
+}
+
+// Draws a history below a line with the node's name.
+fn draw_below<W: Write>(
+    alloc: Global,
+    name: &[u8],
+    kept: &Kept,
+    shows_hidden: bool,
+    writer: &mut W,
+) -> Result<(), DrawFault>
+    ensures { OnOk result ((text : List ℕ) × IsHistory shows_hidden name.now kept.now text
+        × Appends (W.contents writer.old) (W.contents writer.new) text) }
+{
+    write_heading(alloc, name, writer)?;
+    draw_log(alloc, kept, shows_hidden, writer)
+}
+
+// Writes the line with a node's name.
+fn write_heading<W: Write>(alloc: Global, name: &[u8], writer: &mut W) -> Result<(), DrawFault>
+    ensures { OnOk result (Appends (W.contents writer.old) (W.contents writer.new) (heading name.now)) }
+{
+    let mut heading = Vec::from_slice(alloc, b"log ")?;
+    heading.extend_from_slice(name)?;
+    heading.push(b'\n')?;
+    match writer.write_all(&heading) {
+        Ok(()) => Ok(()),
+        Err(_) => Err(DrawFault::Write),
+    }
+}
