@@ -4,3 +4,4 @@ pub mod GraphLemmas
 pub mod JsonLemmas
 pub mod KindLemmas
 pub mod NamedLemmas
+pub mod TitleLemmas

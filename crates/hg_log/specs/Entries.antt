@@ -4,7 +4,7 @@ use Rattle.std.specs.Prelude.{if◌then◌else◌}
 use Rattle.hg_changeset.specs.declared.node.Node.{Node}
 use Rattle.hg_changeset.specs.Node.{node_eq, null_node}
 use Rattle.hg_changeset.specs.Contents.{Contents}
-use Rattle.hg_changeset.specs.Changeset.{last_line, node_of}
+use Rattle.hg_changeset.specs.Changeset.{node_of}
 use Rattle.hg_marker.specs.Fields.{Fields}
 use Rattle.hg_obsstore.specs.Markers.{ArePlaces}
 use Rattle.hg_obsstore.specs.Places.{picked}
@@ -16,6 +16,7 @@ use Rattle.hg_view.specs.declared.status.Status.{Status}
 use Rattle.hg_log.specs.Drawings.{Text}
 use Rattle.hg_log.specs.Fates.{rewriting_of}
 use Rattle.hg_log.specs.Json.{id_text, ids_text, list_text, string_text, truth_text}
+use Rattle.hg_log.specs.Titles.{label_of}
 
 -- ---- what is told
 
@@ -85,7 +86,7 @@ markers_text ms = key_text (codes "successors") ++ list_text marker_text ms
 -- the first half, up to whether it is obsolete
 abbrev pub state_text : Contents → Status → Text
 state_text c status =
-    label_text (last_line c) ++ (key_text (codes "hidden") ++ truth_text (not status.visible)) ++ unstable_text status
+    label_text (label_of c) ++ (key_text (codes "hidden") ++ truth_text (not status.visible)) ++ unstable_text status
     ++ node_text (node_of c) ++ (key_text (codes "obsolete") ++ truth_text status.obsolete)
 
 -- the keys in the order of the alphabet

@@ -6,3 +6,4 @@ pub mod Graphs
 pub mod Json
 pub mod Kinds
 pub mod Objects
+pub mod Titles

@@ -6,6 +6,7 @@ ghost use Rattle.hg_log.specs.Drawings.{Extends, HasId};
 use crate::described::{push_short_id, push_unstable};
 use crate::fate::{fates, is_pruned, rewriting_word};
 use crate::kind::{Kind, kind_of};
+use crate::titles::label_of;
 use hg_changeset::{Changeset, Node};
 use hg_marker::Marker;
 use hg_phases::Phase;
@@ -26,7 +27,7 @@ pub(crate) fn push_box(
     push_key(line, cluster, node)?;
     line.extend_from_slice(b" [label=\"")?;
     push_short_id(line, node)?;
-    push_last_line(line, changeset)?;
+    push_label_below(line, changeset)?;
     Ok(())
 }
 
@@ -41,13 +42,13 @@ fn push_key(line: &mut Vec<u8>, cluster: &[u8], node: Node) -> Result<(), AllocE
 }
 
 // Appends what a changeset is called below its id, where it is held.
-fn push_last_line(line: &mut Vec<u8>, changeset: Option<&Changeset>) -> Result<(), AllocError>
+fn push_label_below(line: &mut Vec<u8>, changeset: Option<&Changeset>) -> Result<(), AllocError>
     ensures { OnOk result (Extends line.old.items line.new.items) }
 {
     match changeset {
         Some(changeset) => {
             line.extend_from_slice(b"\\n")?;
-            push_quoted(line, changeset.last_line())?;
+            push_quoted(line, label_of(changeset))?;
             Ok(())
         }
         None => Ok(()),

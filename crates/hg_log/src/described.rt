@@ -2,6 +2,7 @@
 ghost use Rattle.std.specs.Prelude.{◌≡◌, ◌++◌, OnOk};
 ghost use Rattle.hg_log.specs.Drawings.{Extends, short_id};
 
+use crate::titles::label_of;
 use hg_changeset::Node;
 use hg_replica::Replica;
 use hg_view::Status;
@@ -30,7 +31,7 @@ pub(crate) fn push_name(
     node: Node,
 ) -> Result<(), AllocError> {
     match replica.graph().changeset(node) {
-        Some(changeset) => push_label(line, changeset.last_line()),
+        Some(changeset) => push_label(line, label_of(changeset)),
         None => push_short_id(line, node),
     }
 }

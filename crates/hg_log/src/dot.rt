@@ -42,12 +42,12 @@ two frames: pinned\\l\"];
 /// cluster for each node: what is visible, or all that is held where `shows_hidden` is true.
 ///
 /// A changeset is a box, named by its node and the first 12 digits of its id, so that two of a node whose ids begin
-/// alike are one box. Its label has the id, the last line of the changeset's text, whatever bytes it holds, its phase
-/// and its instabilities. It is black where it is public, blue where it is a draft, red where it is secret, and gray
-/// where it is obsolete. What is unstable is filled, what is hidden is dashed, what was pruned has its corners cut, and
-/// what is pinned has two frames. A solid edge leads to each parent, and a dashed one from what was rewritten to each
-/// successor, with the word for how. Markers are those that rewrote what is drawn, or all where `shows_hidden` is true.
-/// What they name that isn't drawn is a dotted box. A box without a frame tells what all this means:
+/// alike are one box. Its label has the id, what [`draw_log`](crate::draw_log) calls it, whatever bytes that holds, its
+/// phase and its instabilities. It is black where it is public, blue where it is a draft, red where it is secret, and
+/// gray where it is obsolete. What is unstable is filled, what is hidden is dashed, what was pruned has its corners
+/// cut, and what is pinned has two frames. A solid edge leads to each parent, and a dashed one from what was rewritten
+/// to each successor, with the word for how. Markers are those that rewrote what is drawn, or all where `shows_hidden`
+/// is true. What they name that isn't drawn is a dotted box. A box without a frame tells what all this means:
 ///
 /// ```text
 /// digraph fleet {

@@ -11,6 +11,7 @@ ghost use Rattle.hg_log.specs.Json.{AreDivided, IsAppended, divided, ids_text, l
 use crate::fate::rewriting_word;
 use crate::json::{push_divider, push_id, push_ids, push_string, push_truth};
 use crate::named::NamedNode;
+use crate::titles::label_of;
 use hg_changeset::{Changeset, Node};
 use hg_obsstore::Store;
 use hg_view::Status;
@@ -46,7 +47,7 @@ pub(crate) fn push_object(
 fn push_state(line: &mut Vec<u8>, changeset: &Changeset, status: Status) -> Result<(), AllocError>
     ensures { OnOk result (IsAppended line.old.items (state_text changeset.now status) line.new.items) }
 {
-    push_label(line, changeset.last_line())?;
+    push_label(line, label_of(changeset))?;
     push_truth_field(line, b"hidden", !status.visible)?;
     push_unstable(line, status)?;
     push_node(line, changeset.node())?;

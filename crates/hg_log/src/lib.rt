@@ -2,8 +2,9 @@
 //!
 //! Both show a replica as it is, under the pins of its node: what each changeset is called, its phase, what is unstable
 //! about it, and what became of what was rewritten. [`draw_log`] is the picture that `hg log -G` gives, and
-//! [`draw_graphs`] the input of `dot`. Either is written as it is drawn, a line at a time. What else tells of changesets
-//! takes the same words: [`push_short_id`], [`push_label`], [`rewriting_word`], and [`write_line`] for a line.
+//! [`draw_graphs`] the input of `dot`. Either is written as it is drawn, a line at a time. What else tells of
+//! changesets takes the same words: [`push_short_id`], [`title_of`], [`push_label`], [`rewriting_word`], and
+//! [`write_line`] for a line.
 //!
 //! # Example
 //!
@@ -33,6 +34,7 @@ mod log;
 mod named;
 mod objects;
 mod shown;
+mod titles;
 
 pub use described::{push_label, push_short_id};
 pub use dot::draw_graphs;
@@ -43,3 +45,4 @@ pub use log::draw_log;
 pub use named::NamedNode;
 pub use objects::draw_objects;
 pub use shown::node_at;
+pub use titles::title_of;

@@ -13,6 +13,7 @@ use crate::fault::DrawFault;
 use crate::kind::kind_of;
 use crate::line::write_line;
 use crate::shown::{Shown, node_at};
+use crate::titles::label_of;
 use hg_changeset::Node;
 use hg_replica::Replica;
 use hg_view::Kept;
@@ -25,10 +26,10 @@ use std::io::Write;
 /// The changesets come from the last place to the first, so each before its parents, in columns as Mercurial's `log -G`
 /// draws them. A row begins with the columns, where the changeset has `o`, or `*` where it is an orphan or divergent,
 /// `x` where it is obsolete, and `#` where it is hidden. Behind them stand the first 12 digits of its id, its label,
-/// which is the last line of its text, its phase, and the words for what is unstable. The next line has the edges to
-/// the next row. On it and on lines below stands what became of an obsolete changeset, a line for each marker, by the
-/// labels of its successors or, where they aren't held, by their ids. Say `b` stood on `a`, and `c` on `b`, when `b`
-/// was amended:
+/// its phase, and the words for what is unstable. The label is the first line of its description, where its text is
+/// that of an entry, and else the last line of its text. The next line has the edges to the next row. On it and on
+/// lines below stands what became of an obsolete changeset, a line for each marker, by the labels of its successors or,
+/// where they aren't held, by their ids. Say `b` stood on `a`, and `c` on `b`, when `b` was amended:
 ///
 /// ```text
 /// o  6f1c9a0b27d4 b2 draft
@@ -107,7 +108,7 @@ fn push_description(
     let phase = replica.phase_at(place).unwrap();
     push_short_id(line, node)?;
     line.push(b' ')?;
-    push_label(line, changeset.last_line())?;
+    push_label(line, label_of(changeset))?;
     line.push(b' ')?;
     line.extend_from_slice(phase.word().as_bytes())?;
     push_unstable(line, kept.status(node))?;

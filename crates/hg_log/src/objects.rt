@@ -39,7 +39,7 @@ use std::io::Write;
 /// ]
 /// ```
 ///
-/// - `desc` is the label: the last line of the changeset's text. Where a text is UTF-8 its characters stand for
+/// - `desc` is the label, as [`draw_log`](crate::draw_log) has it. Where a label is UTF-8 its characters stand for
 ///   themselves, but quotes, backslashes and control characters are escaped. Where it isn't, a byte above 127 is a lone
 ///   surrogate, as Python's `surrogateescape` reads it.
 /// - `hidden` says that it isn't visible under the pins.

@@ -8,7 +8,7 @@ use Rattle.hg_log.proofs.entry.push_state.Goals as goal
 pub returns : goal.returns
 returns c =
     let label = subst (λ (t : List ℕ). IsAppended c.args.line.now.items (label_text t) c.push_label.new.line.items)
-    c.last_line.ensures c.in_ok-push_label.ensures in
+    c.label_of.ensures c.in_ok-push_label.ensures in
     let node = subst (λ (n : Node). IsAppended c.push_unstable.new.line.items (node_text n) c.push_node.new.line.items)
     c.node.ensures.id c.in_ok-push_node.ensures in
     then_appended (then_appended (then_appended (then_appended label c.in_ok-push_truth_field.ensures)

@@ -10,18 +10,10 @@ returns-in-Ok-Some c =
     answer_met (map (λ s. s.now) c.args.words.now) c.in-Ok-Some.wanted c.in-Ok-Some.field-0 c.in-Ok-Some.field-0-is
     c.in-Ok-Some.ensures
 
-pub returns-in_ok-two_pictures-in-Ok-None : goal.returns-in_ok-two_pictures-in-Ok-None
-returns-in_ok-two_pictures-in-Ok-None c = (
+pub returns-in_ok-nothing_asked-in-Ok-None : goal.returns-in_ok-nothing_asked-in-Ok-None
+returns-in_ok-nothing_asked-in-Ok-None c = (
   search rules,
-  (search rules, search rules, search rules),
-  inl (nothing_met (map
-      (λ s. s.now) c.args.words.now) c.in-Ok-None.field-0 c.in-Ok-None.field-0-is c.in-Ok-None.ensures),
-)
-
-pub returns-in_ok-further_words-in-Ok-None : goal.returns-in_ok-further_words-in-Ok-None
-returns-in_ok-further_words-in-Ok-None c = (
-  search rules,
-  (search rules, search rules, search rules),
+  c.in_ok-nothing_asked-in-Ok-None.ensures,
   inl (nothing_met (map
       (λ s. s.now) c.args.words.now) c.in-Ok-None.field-0 c.in-Ok-None.field-0-is c.in-Ok-None.ensures),
 )
