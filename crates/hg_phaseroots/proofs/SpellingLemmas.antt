@@ -128,8 +128,8 @@ line_read n number node line is = let p = parts_read number node line is in
     root_is n line ∙ rw (p.space_at, p.number_at, p.node_at) refl
 
 -- the line has the form, or it has not, and is told
-abbrev IsTold : ℕ → List ℕ → Type 0
-IsTold n line = ((number : ℕ) × (node : Node) × IsLine number node line)
+abbrev IsLineRead : ℕ → List ℕ → Type 0
+IsLineRead n line = ((number : ℕ) × (node : Node) × IsLine number node line)
     ⊎ (IsNoLine line × (root_in n line ≡ Err (BadLine n)))
 
 module _ (n : ℕ) (line : List ℕ) where
@@ -138,7 +138,7 @@ module _ (n : ℕ) (line : List ℕ) where
   same_place i number node e p = let both : Some p.at ≡ Some i = sym p.space_at ∙ e in cc
 
   by_node : (i number : ℕ) → position is_space line ≡ Some i → number_of (take i line) ≡ Some number → (o : Option Node)
-      → result_ok (node_of_hex (drop (i + 1) line)) ≡ o → IsTold n line
+      → result_ok (node_of_hex (drop (i + 1) line)) ≡ o → IsLineRead n line
   by_node i number e f None g = inr (
     (λ other node is.
         let p = parts_read other node line is in
@@ -150,7 +150,8 @@ module _ (n : ℕ) (line : List ℕ) where
   by_node i number e f (Some node) g =
       inl (number, node, parts_back number node line (record { at = i; space_at = e; number_at = f; node_at = g }))
 
-  by_number : (i : ℕ) → position is_space line ≡ Some i → (o : Option ℕ) → number_of (take i line) ≡ o → IsTold n line
+  by_number : (i : ℕ) → position is_space line ≡ Some i → (o : Option ℕ) → number_of (take i line) ≡ o
+      → IsLineRead n line
   by_number i e None f = inr (
     (λ number node is.
         let p = parts_read number node line is in
@@ -160,14 +161,14 @@ module _ (n : ℕ) (line : List ℕ) where
   )
   by_number i e (Some number) f = by_node i number e f (result_ok (node_of_hex (drop (i + 1) line))) refl
 
-  by_space : (o : Option ℕ) → position is_space line ≡ o → IsTold n line
+  by_space : (o : Option ℕ) → position is_space line ≡ o → IsLineRead n line
   by_space None e = inr (
     (λ number node is. let p = parts_read number node line is in none-some p.at (sym e ∙ p.space_at)),
     root_is n line ∙ rw e refl,
   )
   by_space (Some i) e = by_number i e (number_of (take i line)) refl
 
-  line_told : IsTold n line
+  line_told : IsLineRead n line
   line_told = by_space (position is_space line) refl
 
 -- ---- what a line lists
@@ -250,11 +251,12 @@ record Stops (n : ℕ) (lines : List (List ℕ)) (error : RootsError) : Type 0 w
   number_is : number ≡ n + length before
   wrong : ((error ≡ BadLine number) × IsNoLine line) ⊎ ((error ≡ BadPhase number) × HasBadPhase line)
 
-abbrev AreTold : ℕ → List (List ℕ) → Result (List Root) RootsError → Type 0
-AreTold n lines r = MatchResult r (λ roots. AreSpelled roots lines) (Stops n lines)
+abbrev AreLinesRead : ℕ → List (List ℕ) → Result (List Root) RootsError → Type 0
+AreLinesRead n lines r = MatchResult r (λ roots. AreSpelled roots lines) (Stops n lines)
 
 told_later : (n : ℕ) (line : List ℕ) (lines : List (List ℕ)) (first : List Root) → Lists first line
-    → (r : Result (List Root) RootsError) → AreTold (n + 1) lines r → AreTold n (line ∷ lines) (after_roots first r)
+    → (r : Result (List Root) RootsError) → AreLinesRead (n + 1) lines r
+    → AreLinesRead n (line ∷ lines) (after_roots first r)
 told_later n line lines first h (Ok roots) t = (first, roots, h, t, refl)
 told_later n line lines first h (Err e) t = record {
   before = line ∷ t.before;
@@ -270,7 +272,7 @@ told_later n line lines first h (Err e) t = record {
 
 stops_here : (n : ℕ) (line : List ℕ) (lines : List (List ℕ)) (error : RootsError) → root_in n line ≡ Err error
     → ((error ≡ BadLine n) × IsNoLine line) ⊎ ((error ≡ BadPhase n) × HasBadPhase line)
-    → AreTold n (line ∷ lines) (roots_in n (line ∷ lines))
+    → AreLinesRead n (line ∷ lines) (roots_in n (line ∷ lines))
 stops_here n line lines error e wrong =
     let stop : roots_in n (line ∷ lines) ≡ Err error =
     ap (λ (r : Result (Option Root) RootsError). then_roots r (roots_in (n + 1) lines)) e in
@@ -287,16 +289,16 @@ stops_here n line lines error e wrong =
       number_is = omega arith;
       wrong = wrong;
     } in
-    subst (λ (r : Result (List Root) RootsError). AreTold n (line ∷ lines) r) (sym stop) here
+    subst (λ (r : Result (List Root) RootsError). AreLinesRead n (line ∷ lines) r) (sym stop) here
 
-told : (n : ℕ) (lines : List (List ℕ)) → AreTold n lines (roots_in n lines)
+told : (n : ℕ) (lines : List (List ℕ)) → AreLinesRead n lines (roots_in n lines)
 told n [] = refl
 told n (line ∷ lines) = elim (line_told n line) [
   | inl form ↦ elim (listed_told n form.0 form.1) [
     | inl known ↦
         let lists : Lists (list_of known.0) line =
         record { number = form.0; node = form.1; is_line = form.2; listed = known.2 } in
-        subst (λ (r : Result (List Root) RootsError). AreTold n (line ∷ lines) r)
+        subst (λ (r : Result (List Root) RootsError). AreLinesRead n (line ∷ lines) r)
         (sym (first_read n line lines (list_of known.0) lists))
         (told_later n line lines (list_of known.0) lists (roots_in (n + 1) lines) (told (n + 1) lines))
     | inr above ↦ stops_here n line lines (BadPhase n) (line_read n form.0 form.1 line form.2 ∙ above.1)
@@ -314,12 +316,13 @@ spelling_read roots text h =
     ∙ ap (λ (rs : List Root). Ok rs) (append-nil roots)
 
 pub read_spelling : (roots : List Root) (text : List ℕ) → roots_of text ≡ Ok roots → IsSpelling roots text
-read_spelling roots text e = subst (λ (r : Result (List Root) RootsError). AreTold 1 (lines_of text) r) e
+read_spelling roots text e = subst (λ (r : Result (List Root) RootsError). AreLinesRead 1 (lines_of text) r) e
     (told 1 (lines_of text))
 
 pub fault_told : (text : List ℕ) (error : RootsError) → roots_of text ≡ Err error → IsRootsFault text error
 fault_told text error e =
-    let s : Stops 1 (lines_of text) error = subst (λ (r : Result (List Root) RootsError). AreTold 1 (lines_of text) r) e
+    let s : Stops 1 (lines_of text) error =
+    subst (λ (r : Result (List Root) RootsError). AreLinesRead 1 (lines_of text) r) e
     (told 1 (lines_of text)) in
     let number : s.number ≡ length s.before + 1 = omega (arith, s.number_is) in
     elim s.wrong [
