@@ -1,20 +1,15 @@
 -- Tables after a change at one node.
 use Rattle.std.proofs.Common.{◌≡◌, ◌≢◌, ◌∷◌, [], ◌∙◌, ⊎_elim, sym, ap, subst, ℕ, List}
-use Rattle.std.proofs.Common.{Option, None, Some, refl, slice_get, zero, suc, Bool, false, true, Contains, arith, ◌↔◌}
+use Rattle.std.proofs.Common.{Option, None, Some, refl, slice_get, zero, suc, false, Contains, arith, ◌↔◌}
 use Rattle.std.proofs.Common.{is_some}
 use Rattle.std.specs.Prelude.{IsSome, position}
 use Rattle.std.specs.Option.{option_map}
-use Rattle.std.specs.List.{IsDistinct, list_any, position_or_len}
+use Rattle.std.specs.List.{IsDistinct}
 use Rattle.std.specs.Map.{keys_of, values_of}
 use Rattle.std.proofs.lemmas.Bool.{false≢true}
-use Rattle.std.proofs.lemmas.List.Folds.{list_any_none}
-use Rattle.std.proofs.lemmas.List.Sums.{fails_before_first}
-use Rattle.std.proofs.lemmas.Map.Made.{is_some-lookup}
-use Rattle.hg_changeset.proofs.ListLemmas.{position-found, position-none}
 use Rattle.std.proofs.lemmas.Map.Views.{Contains-keys_from_lookup, IsSome-lookup_from_Contains}
-use Rattle.indexmap.specs.IndexMap.{IndexMap, ContainsKey, IsUnique, Updates, keys, values, with_value_at}
-use Rattle.indexmap.specs.IndexMap.{insert_entry, insert_index}
-use Rattle.indexmap.proofs.CallerLemmas.{updates-with_value_at, keys-with_value_at, keys-insert_entry-present}
+use Rattle.indexmap.specs.IndexMap.{IndexMap, IsUnique, Updates, keys, values, with_value_at}
+use Rattle.indexmap.proofs.CallerLemmas.{updates-with_value_at, keys-with_value_at}
 use Rattle.std.proofs.lemmas.Option.{same_Some, none-some, slice_get-map}
 use Rattle.hg_changeset.specs.declared.node.Node.{Node}
 use Rattle.hg_changeset.proofs.NodeLemmas.{node_apart, node_cases, node_eq_laws, same_node}
@@ -122,17 +117,6 @@ named_placed t all n = (λ h. there (known t n) refl (IsSome-lookup_from_Contain
     back : IsPlaced t n → Contains (keys_of t.entries) n
     back p = Contains-keys_from_lookup same_node n t.entries (found (known t n) p.0 p.1 p.2)
 
--- the first that passes, where one does
-somewhere : {X : Type 0} (p : X → Bool) (xs : List X) → list_any p xs ≡ true
-    → position p xs ≡ Some (position_or_len p xs)
-somewhere p xs h = by (position p xs) refl
-  where
-    by : (o : Option ℕ) → position p xs ≡ o → position p xs ≡ Some (position_or_len p xs)
-    by None e = let past = position-none p xs e in
-        absurd (false≢true (sym (list_any_none p xs (λ k d lt. fails_before_first p xs k d (omega (arith, past, lt))))
-        ∙ h))
-    by (Some j) e = e ∙ ap Some (sym (position-found p xs j e).1)
-
 module _ {H : Type 0} (m : IndexMap Node Roles H) where
   -- a map that is updated at a node
   pub sets : (n : IndexMap Node Roles H) (node : Node) (w : Option Roles) → Updates node_eq m n node w
@@ -178,16 +162,19 @@ module _ {H : Type 0} (m : IndexMap Node Roles H) where
       sets_none n u = let gone = removed n u in
           record { here = gone.1; others = λ q other. gone.2 q other ∙ sets_at.others q other }
 
--- a map whose entry of a node was put in place of the one that was there, and is written then
-pub sets_again : {H : Type 0} (m mid : IndexMap Node Roles H) (number : ℕ) (node : Node) (one v stood : Roles)
-    → Updates node_eq m mid node (Some one) → IsUnique node_eq mid
-    → mid.entries ≡ insert_entry node_eq m.entries node one → number ≡ insert_index node_eq m node
-    → ContainsKey node_eq m node → slice_get (values mid) number ≡ Some stood
-    → Sets (record { entries = m.entries }) (record { entries = (with_value_at mid number v).entries }) node (Some v)
-sets_again m mid number node one v stood u unique entries index held there =
-    let same : keys mid ≡ keys m = ap keys_of entries ∙ keys-insert_entry-present node_eq m node one held in
-    let at : position (node_eq node) (keys mid) ≡ Some number = ap (position (node_eq node)) same
-    ∙ somewhere (node_eq node) (keys m) (sym (is_some-lookup (node_eq node) m.entries) ∙ held)
-    ∙ ap Some (sym index) in
-    let again = sets_at mid number node unique v at stood there in
-    record { here = again.here; others = λ q other. again.others q other ∙ u.2 q other }
+-- the entries of a map that was written at a node
+module _ {H : Type 0} (m n : IndexMap Node Roles H) (node : Node) (v : Roles) (u : Updates node_eq m n node (Some v))
+    (es : List (Node × Roles)) (is : es ≡ n.entries) where
+  pub sets_written : Sets (record { entries = m.entries }) (record { entries = es }) node (Some v)
+  sets_written =
+      let old : Table = record { entries = m.entries } in
+      subst (λ (ds : List (Node × Roles)). Sets old (record { entries = ds }) node (Some v)) (sym is)
+      (sets m n node (Some v) u)
+
+  pub written : IsUnique node_eq n → ArePlaced (record { entries = m.entries }) → HasPlace v
+      → IsDistinct node_eq (keys_of es) × ArePlaced (record { entries = es })
+  written unique before has = (
+    subst (λ (ds : List (Node × Roles)). IsDistinct node_eq (keys_of ds)) (sym is) unique,
+    placed (record { entries = m.entries }) (record { entries = es }) node (Some v) sets_written before
+        (λ roles e. subst HasPlace (same_Some v roles e) has),
+  )

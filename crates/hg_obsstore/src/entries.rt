@@ -14,6 +14,7 @@ use crate::index::{Role, Roles};
 use hg_changeset::Node;
 use hg_node_set::{IdKeys, find_if_last, give_back_table};
 use indexmap::IndexMap;
+use indexmap::map::Entry;
 use std::alloc::{AllocError, Global};
 use std::marker::Model;
 
@@ -82,15 +83,12 @@ impl Entries {
             (with_last (places_at self.old role node) place)) }
         ensures err { OnErr result ((other : Role) → places_at self.new other ≡ places_at self.old other) }
     {
-        let (number, known) = self.table.insert_full(node, Roles::one(role, place))?;
-        match known {
-            Some(mut roles) => {
-                let put = roles.put(alloc, role, place);
-                self.table[number] = roles;
-                put?;
+        match self.table.entry(node)? {
+            Entry::Occupied(known) => known.into_mut().put(alloc, role, place),
+            Entry::Vacant(vacant) => {
+                vacant.insert(Roles::one(role, place));
                 Ok(())
             }
-            None => Ok(()),
         }
     }
 
