@@ -1,7 +1,7 @@
 -- Markers that are added in turn, and the set that they make.
 use Rattle.std.proofs.Common.{suc, ◌≡◌, ◌<◌, ◌≤◌, ◌+◌, ◌-◌, length-append, ◌++◌, ◌∷◌, [], ◌∙◌, ◌||◌, ⊎_elim, arith, sym}
 use Rattle.std.proofs.Common.{ap, subst, ℕ, List, Bool, true, false, cond, refl, length, get_or, Contains, All}
-use Rattle.std.proofs.Common.{append_assoc}
+use Rattle.std.proofs.Common.{append_assoc, ◌↔◌}
 use Rattle.std.specs.declared.alloc.AllocError.{AllocError}
 use Rattle.std.specs.Prelude.{Result, Ok, Err, IfOk, Option}
 use Rattle.std.specs.Iterator.{DrainsIf}
@@ -10,12 +10,12 @@ use Rattle.std.specs.List.{range_with_len}
 use Rattle.std.proofs.lemmas.Bool.{cases_Bool, false≢true}
 use Rattle.std.proofs.lemmas.List.{append-nil, get_or_append_left, map-id}
 use Rattle.std.proofs.lemmas.List.FromFn.{length-range_with_len, get_or-range_with_len}
-use Rattle.std.proofs.lemmas.Map.Keys.{apart_from_distinct}
+use Rattle.std.proofs.lemmas.Map.Keys.{IsDistinct-push, apart_from_distinct}
 use Rattle.std.proofs.lemmas.List.Folds.{list_any-append}
 use Rattle.std.proofs.lemmas.List.Elements.{All-contains, Contains-get_or}
 use Rattle.std.proofs.Math.Bool.{or_assoc}
 use Rattle.hg_marker.specs.Fields.{Fields}
-use Rattle.hg_marker.specs.Same.{same_fields, fields_decides}
+use Rattle.hg_marker.specs.Same.{same_fields, fields_decides, fields_equivalence}
 use Rattle.hg_obsstore.specs.declared.store.Added.{Added}
 use Rattle.hg_obsstore.specs.declared.store.Added.TheVariants.{New, Known}
 use Rattle.hg_obsstore.specs.Places.{ListsAll}
@@ -27,6 +27,16 @@ use Rattle.hg_obsstore.proofs.StoreLemmas.{held, held_back}
 pub not_held : (ms : List Fields) (m : Fields) → ¬ Contains ms m → holds ms m ≡ false
 not_held ms m absent = ⊎_elim (λ (t : holds ms m ≡ true). absurd (absent (held ms m t))) (λ (f : holds ms m ≡ false). f)
     (cases_Bool (holds ms m))
+
+-- what a look-up didn't find isn't there
+pub not_there : (ms xs : List Fields) (m : Fields) (found : Bool) → (found ≡ true ↔ Contains xs m)
+    → xs ≡ ms → found ≡ false → ¬ Contains ms m
+not_there ms xs m found told is missed there =
+    false≢true (sym missed ∙ told.1 (subst (λ (ys : List Fields). Contains ys m) (sym is) there))
+
+-- so it is apart from those that are held
+pub apart_push : (ms : List Fields) (m : Fields) → AreApart ms → ¬ Contains ms m → AreApart (ms ++ m ∷ [])
+apart_push ms m apart absent = IsDistinct-push fields_equivalence ms m apart (not_held ms m absent)
 
 -- one marker
 pub with_known : (ms : List Fields) (m : Fields) → Contains ms m → with_marker ms m ≡ ms

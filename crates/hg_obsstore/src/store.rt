@@ -3,8 +3,8 @@
 //! The markers stand in the order in which they came. An equal one is found by the index, under its predecessor, so no
 //! marker stands twice. A marker is named by its place. Places only grow, so what is new stands last, and a call
 //! that is refused half way is taken back by cutting off what it added.
-ghost use Rattle.std.specs.Prelude.{◌≡◌, ◌≢◌, ◌+◌, ◌<◌, ◌≤◌, ◌↔◌, [], length, take, All, IsTrue, IfOk, OnOk, OnErr};
-ghost use Rattle.std.specs.Prelude.{Contains, slice_get};
+ghost use Rattle.std.specs.Prelude.{◌≡◌, ◌≢◌, ◌+◌, ◌<◌, ◌≤◌, ◌↔◌, ◌++◌, ◌∷◌, [], length, take, All, Contains};
+ghost use Rattle.std.specs.Prelude.{IsTrue, IfOk, OnOk, OnErr, slice_get};
 ghost use Rattle.std.specs.Cow.{cow_slice_items};
 ghost use Rattle.std.specs.Option.{option_copied};
 ghost use Rattle.std.specs.List.{IsDistinct};
@@ -227,21 +227,14 @@ impl Store {
         if held {
             return Ok(Added::Known);
         }
-        let place = self.markers.len();
-        self.markers.push(marker)?;
-        let marker = &self.markers[place];
-        if let Err(_) = add_marker(
+        put_last(
             self.alloc,
+            &mut self.markers,
             &mut self.index,
             &mut self.digests,
             marker,
             before,
-            place,
-        ) {
-            self.markers.truncate(place);
-            give_back_all(&mut self.markers, &mut self.index);
-            return Err(NoMemory);
-        }
+        )?;
         Ok(Added::New)
     }
 
@@ -393,11 +386,19 @@ impl Store {
         ensures err { OnErr result (self.new ≡ self.old) }
         ensures memory { OnErr result (¬ Contains self.old marker.now) }
     {
-        if self.contains(marker) {
+        let (held, before) = look_up(&self.markers, &self.index, &self.digests, marker);
+        if held {
             return Ok(());
         }
         let copy = marker.copy()?;
-        self.add(copy)?;
+        put_last(
+            self.alloc,
+            &mut self.markers,
+            &mut self.index,
+            &mut self.digests,
+            copy,
+            before,
+        )?;
         Ok(())
     }
 }
@@ -412,6 +413,37 @@ fn look_up(markers: &[Marker], index: &Index, digests: &Digests, marker: &Marker
 {
     let places = index.mentions(marker.predecessor()).as_predecessor();
     (digests.hold(markers, places, marker), places.len())
+}
+
+// Puts a marker last, where `before` markers have its predecessor. After an error nothing has changed.
+#[inline(always)]
+fn put_last(
+    alloc: Global,
+    markers: &mut Vec<Marker>,
+    index: &mut Index,
+    digests: &mut Digests,
+    marker: Marker,
+    before: usize,
+) -> Result<(), NoMemory>
+    requires indexed { AreIndexed markers.old.items index.old }
+    requires digested { AreDigested markers.old.items index.old digests.old }
+    requires before { before ≡ length (places_of Predecessor index.old marker.predecessor) }
+    ensures ok { OnOk result (markers.new.items ≡ markers.old.items ++ marker ∷ []) }
+    ensures err { OnErr result (markers.new.items ≡ markers.old.items) }
+    ensures indexed { AreIndexed markers.new.items index.new }
+    ensures digested { AreDigested markers.new.items index.new digests.new }
+{
+    let place = markers.len();
+    markers.push(marker)?;
+    let marker = &markers[place];
+    match add_marker(alloc, index, digests, marker, before, place) {
+        Ok(()) => Ok(()),
+        Err(_) => {
+            markers.truncate(place);
+            give_back_all(markers, index);
+            Err(NoMemory)
+        }
+    }
 }
 
 // Adds a marker at a place that is above all others, where `before` markers have its predecessor. After an error
