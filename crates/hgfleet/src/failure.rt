@@ -4,6 +4,7 @@ ghost use Rattle.hgfleet.specs.Commands.{failure_status};
 
 use crate::files::FileFault;
 use hg_log::DrawFault;
+use hg_obsstore::StoreFault;
 use hg_script::{RunFault, ToldFault};
 use hg_show::{ShowFault, WriteFault};
 use std::alloc::{AllocError, AllocFailed};
@@ -68,6 +69,10 @@ impl fmt::Display for Failure<'_> {
             Failure::Told(fault) => write!(f, "{fault}"),
             Failure::Refused(1) => write!(f, "hgfleet: 1 line was refused"),
             Failure::Refused(count) => write!(f, "hgfleet: {count} lines were refused"),
+            Failure::Show(ShowFault::Store(fault)) => {
+                write!(f, "{}", ShowFault::Store(*fault))?;
+                f.write_str(tip_of(*fault))
+            }
             Failure::Show(fault) => write!(f, "{fault}"),
             Failure::UnknownName(name) => write!(f, "unknown name: {name}"),
             Failure::File(name, fault) => write!(f, "{name}: {fault}"),
@@ -75,6 +80,16 @@ impl fmt::Display for Failure<'_> {
             Failure::Differ => write!(f, "hgfleet: the repositories differ"),
             Failure::Unread => Ok(()),
         }
+    }
+}
+
+// What helps where a store isn't read: a further line, or nothing.
+fn tip_of(fault: StoreFault) -> &'static str {
+    match fault {
+        StoreFault::BadVersion(1) => {
+            "\nhgfleet: Mercurial writes format 0 with --config format.obsstore-version=0; tools/hg2fleet reads format 1"
+        }
+        _ => "",
     }
 }
 
