@@ -4,14 +4,14 @@ pub mod MarkerLists
 pub mod LookupLemmas
 pub mod TableLemmas
 pub mod SearchLemmas
-pub mod SettleLemmas
+pub mod CloseLemmas
 pub mod NumberLemmas
 pub mod FamilyLemmas
 pub mod SetLemmas
 pub mod HolderLemmas
 pub mod ApartLemmas
 pub mod CountLemmas
-pub mod SurveyLemmas
+pub mod RangeLemmas
 pub mod FactorLemmas
 pub mod SolveLemmas
 pub mod PathLemmas

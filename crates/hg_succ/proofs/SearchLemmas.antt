@@ -13,7 +13,7 @@ use Rattle.hg_succ.specs.Steps.{Reaches}
 use Rattle.hg_succ.specs.Steps.Reaches.{no_step, one_step_more}
 use Rattle.hg_succ.specs.Rows.{At, rows_of, Edge, AreWithin}
 use Rattle.hg_succ.specs.Search.{SearchState, EndsWith, IsAscending, AreJoined, IsAccounted, IsListed, IsSearch}
-use Rattle.hg_succ.specs.Search.{IsAtEnd, entered, KeepsUpTo, Settles, CanEnter, GoesTo, StaysMet, work}
+use Rattle.hg_succ.specs.Search.{IsAtEnd, entered, KeepsUpTo, Closes, CanEnter, GoesTo, StaysMet, work}
 use Rattle.hg_graph.proofs.MarkLemmas.{get-set_same, get-set_other}
 use Rattle.hg_succ.proofs.ListLemmas.{get_one, get_set_cases, ascending_push, ascending_front, ascending_last, sum_set}
 use Rattle.hg_succ.proofs.ListLemmas.{split_last, row_at}
@@ -510,9 +510,9 @@ inner_start R s so t u end not_last h = not_last (by s.starts so.starts_up (λ b
               split_last xs t (subst (λ i. At xs i t) e at.1))
         ]
 
-pub settled_within : (c : Bool) (old s : SearchState) → Settles (length s.waiting) c old s
+pub closed_within : (c : Bool) (old s : SearchState) → Closes (length s.waiting) c old s
     → ((p x : ℕ) → At old.waiting p x → x < length old.marks) → (p x : ℕ) → At s.waiting p x → x < length s.marks
-settled_within c old s so within p x h =
+closed_within c old s so within p x h =
     let w = get-take old.waiting (length s.waiting) p x (subst (λ (xs : List ℕ). At xs p x) so.waiting h) in
     omega (arith, within p x w.1, so.marks_long)
 

@@ -3,7 +3,7 @@ use Rattle.std.specs.Prelude.{◌≡◌, ℕ, ◌+◌, ◌*◌, ◌<◌, ◌≤�
 use Rattle.std.specs.Prelude.{slice_set, sum, Contains}
 use Rattle.hg_succ.specs.declared.search.Mark.{Mark}
 use Rattle.hg_succ.specs.declared.search.Mark.TheVariants.{New, Waiting, Done}
-use Rattle.hg_succ.specs.declared.search.Settled.{Settled}
+use Rattle.hg_succ.specs.declared.search.Closed.{Closed}
 use Rattle.hg_succ.specs.declared.search.Search.{Search}
 use Rattle.hg_succ.specs.Steps.{Reaches}
 use Rattle.hg_succ.specs.Rows.{At, Edge, IsOrder, StandsBefore}
@@ -12,13 +12,13 @@ pub record SearchState : Type 0 where
   -- how many of the first edges of each node aren't followed yet
   pub left : List ℕ
   pub marks : List Mark
-  -- the nodes that were met and aren't settled, in the order in which they were met
+  -- the nodes that were met and aren't closed, in the order in which they were met
   pub waiting : List ℕ
   -- the places there of the nodes from which the search still goes on
   pub path : List ℕ
   -- the places there at which a part begins
   pub starts : List ℕ
-  pub order : List Settled
+  pub order : List Closed
 
 abbrev pub state_of : Search → SearchState
 state_of s =
@@ -46,7 +46,7 @@ AreJoined starts p q = (b : ℕ) → Contains starts b → (b ≤ p) ⊎ (q < b)
 abbrev pub IsAccounted : SearchState → ℕ → ℕ → Type 0
 IsAccounted s p y = At s.marks y Done ⊎ ((q : ℕ) × At s.waiting q y × AreJoined s.starts q p)
 
-abbrev pub IsListed : List Settled → ℕ → Type 0
+abbrev pub IsListed : List Closed → ℕ → Type 0
 IsListed order x = StandsBefore order (length order) x
 
 pub record IsSearch (rows : List (List ℕ)) (s : SearchState) : Type 0 where
@@ -92,8 +92,8 @@ pub record KeepsUpTo (place : ℕ) (old new : List ℕ) : Type 0 where
   pub first : (more : List ℕ) × (old ≡ new ++ more) × ((b : ℕ) → Contains more b → place < b)
   pub last : (b : ℕ) → EndsWith new b → b ≤ place
 
--- the nodes that wait from the place on are settled
-pub record Settles (place : ℕ) (cyclic : Bool) (old new : SearchState) : Type 0 where
+-- the nodes that wait from the place on are closed
+pub record Closes (place : ℕ) (cyclic : Bool) (old new : SearchState) : Type 0 where
   pub left : new.left ≡ old.left
   pub waiting : new.waiting ≡ take place old.waiting
   pub path : new.path ≡ old.path
@@ -103,8 +103,8 @@ pub record Settles (place : ℕ) (cyclic : Bool) (old new : SearchState) : Type 
   pub others : (x : ℕ) → ((p : ℕ) → place ≤ p → ¬ (At old.waiting p x)) → slice_get new.marks x ≡ slice_get old.marks x
   pub from : (x : ℕ) (m : Mark) → At new.marks x m → ((m ≡ Done) × (p : ℕ) × (place ≤ p) × At old.waiting p x)
       ⊎ At old.marks x m
-  pub more : (more : List Settled) × (new.order ≡ old.order ++ more)
-      × ((k : ℕ) (e : Settled) → At more k e → (e.cyclic ≡ cyclic) × (p : ℕ) × (place ≤ p) × At old.waiting p e.node)
+  pub more : (more : List Closed) × (new.order ≡ old.order ++ more)
+      × ((k : ℕ) (e : Closed) → At more k e → (e.cyclic ≡ cyclic) × (p : ℕ) × (place ≤ p) × At old.waiting p e.node)
   pub listed : (p x : ℕ) → place ≤ p → At old.waiting p x → IsListed new.order x
 
 -- how much is left to do
@@ -121,8 +121,8 @@ GoesTo New node old new = new ≡ entered node old
 GoesTo (Waiting place) node old new = KeepsUpTo place old.starts new.starts × (new ≡ record old { starts = new.starts })
 GoesTo Done node old new = new ≡ old
 
--- the last node that waits is settled
-pub record SettlesLast (cyclic : Bool) (old new : SearchState) : Type 0 where
+-- the last node that waits is closed
+pub record ClosesLast (cyclic : Bool) (old new : SearchState) : Type 0 where
   pub node : ℕ
   pub left : new.left ≡ old.left
   pub waiting : old.waiting ≡ new.waiting ++ node ∷ []

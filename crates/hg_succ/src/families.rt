@@ -8,7 +8,7 @@ ghost use Rattle.std.specs.List.{flat_map};
 ghost use Rattle.hg_changeset.specs.declared.node.Node.{Node};
 ghost use Rattle.hg_replica.specs.Content.{Content, content_of};
 ghost use Rattle.hg_replica.specs.Evolution.{IsPredecessor};
-ghost use Rattle.hg_succ.specs.declared.search.Settled.{Settled};
+ghost use Rattle.hg_succ.specs.declared.search.Closed.{Closed};
 ghost use Rattle.hg_succ.specs.Rows.{At, rows_of, IsOrder};
 ghost use Rattle.hg_succ.specs.Successors.{IsRewrittenTo, IsOnCycle};
 ghost use Rattle.hg_succ.specs.Answer.{AreSets, sets_of};
@@ -24,7 +24,7 @@ ghost use Rattle.hg_succ.specs.Factors.{IsShared};
 
 use crate::numbered::{Numbered, number, successors_at};
 use crate::plan::{Asked, Plan};
-use crate::search::{Settled, order};
+use crate::search::{Closed, order};
 use crate::sets::{Sets, UNION_LIMIT};
 use crate::unions::{copy_of, largest, products};
 use hg_changeset::Node;
@@ -133,13 +133,13 @@ impl Table {
         }
     }
 
-    // Does the nodes in the order in which they are settled.
+    // Does the nodes in the order in which they are closed.
     fn add_all(
         &mut self,
         replica: &Replica,
         plan: &Plan,
         rows: &[Vec<usize>],
-        order: &[Settled],
+        order: &[Closed],
     ) -> Result<(), AllocError>
         requires table { IsTable (content_of replica.now) self.old }
         requires all { length rows.now ≡ length self.old.nodes.keys }
@@ -149,12 +149,12 @@ impl Table {
         requires kept { (n : Node) → Lists plan.now n → IsKept self.old n }
         ensures table { OnOk result (IsTable (content_of replica.now) self.new) }
         ensures kept { OnOk result ((n : Node) → Lists plan.now n → IsKept self.new n) }
-        ensures done { OnOk result ((k : ℕ) (e : Settled) (x : Node) → At order.now k e
+        ensures done { OnOk result ((k : ℕ) (e : Closed) (x : Node) → At order.now k e
             → At self.old.nodes.keys e.node x → HasEntry self.new x) }
     {
-        for settled in order {
-            let number = settled.node;
-            self.add(replica, plan, number, &rows[number], settled.cyclic)?;
+        for closed in order {
+            let number = closed.node;
+            self.add(replica, plan, number, &rows[number], closed.cyclic)?;
         }
         Ok(())
     }

@@ -34,10 +34,10 @@ mod holders;
 mod laws;
 mod numbered;
 mod plan;
+mod ranges;
 mod search;
 mod sets;
 mod successors;
-mod survey;
 mod unions;
 
 pub use laws::{

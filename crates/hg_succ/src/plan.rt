@@ -6,15 +6,15 @@
 ghost use Rattle.std.specs.Prelude.{◌≡◌, ◌↔◌, ◌<◌, ℕ, length, IsTrue, IfOk};
 ghost use Rattle.hg_changeset.specs.declared.node.Node.{Node};
 ghost use Rattle.hg_replica.specs.Content.{content_of};
-ghost use Rattle.hg_succ.specs.declared.search.Settled.{Settled};
+ghost use Rattle.hg_succ.specs.declared.search.Closed.{Closed};
 ghost use Rattle.hg_succ.specs.Rows.{rows_of, IsOrder};
 ghost use Rattle.hg_succ.specs.Search.{IsListed};
 ghost use Rattle.hg_succ.specs.Numbered.{AreOnce, AreRows};
 ghost use Rattle.hg_succ.specs.Plan.{Lists, Unites, IsPlan};
 
 use crate::numbered::{Numbered, number};
-use crate::search::Settled;
-use crate::survey::{Survey, survey_of};
+use crate::ranges::{Ranges, ranges_of};
+use crate::search::Closed;
 use hg_changeset::Node;
 use hg_node_set::{IdKeys, NodeSet};
 use hg_replica::Replica;
@@ -34,8 +34,8 @@ pub(crate) struct Plan {
     /// Whether those of all nodes are.
     is_whole: bool,
     /// The nodes whose ways may meet again: their unions are formed, and counted.
-    tangled: NodeSet,
-    /// The nodes whose families are formed and kept: all that the tangled ones lead to.
+    overlapping: NodeSet,
+    /// The nodes whose families are formed and kept: all that the overlapping ones lead to.
     listed: NodeSet,
 }
 
@@ -48,7 +48,7 @@ impl Plan {
         asked: Asked,
         nodes: &NodeSet,
         rows: &[Vec<usize>],
-        order: &[Settled],
+        order: &[Closed],
     ) -> Result<Plan, AllocError>
         requires once { AreOnce nodes.now.keys }
         requires all { length rows.now ≡ length nodes.now.keys }
@@ -70,7 +70,7 @@ impl Plan {
     {
         Plan {
             is_whole: true,
-            tangled: NodeSet::with_keys(alloc, keys),
+            overlapping: NodeSet::with_keys(alloc, keys),
             listed: NodeSet::with_keys(alloc, keys),
         }
     }
@@ -81,7 +81,7 @@ impl Plan {
         replica: &Replica,
         nodes: &NodeSet,
         rows: &[Vec<usize>],
-        order: &[Settled],
+        order: &[Closed],
     ) -> Result<Plan, AllocError>
         requires once { AreOnce nodes.now.keys }
         requires all { length rows.now ≡ length nodes.now.keys }
@@ -90,18 +90,18 @@ impl Plan {
         requires listed { (x : ℕ) → x < length rows.now → IsListed order.now x }
         ensures { IfOk result (IsPlan replica.now nodes.now.keys) }
     {
-        let Survey {
-            spans: _,
-            tangled,
+        let Ranges {
+            ranges: _,
+            overlapping,
             starts,
-        } = survey_of(alloc, replica, nodes, rows, order)?;
+        } = ranges_of(alloc, replica, nodes, rows, order)?;
         let Numbered {
             nodes: listed,
             rows: _,
         } = number(alloc, replica, starts)?;
         Ok(Plan {
             is_whole: false,
-            tangled,
+            overlapping,
             listed,
         })
     }
@@ -117,6 +117,6 @@ impl Plan {
     pub(crate) fn unites(&self, node: Node) -> bool
         ensures { IsTrue result ↔ Unites self.now node }
     {
-        self.lists(node) || self.tangled.contains(node)
+        self.lists(node) || self.overlapping.contains(node)
     }
 }

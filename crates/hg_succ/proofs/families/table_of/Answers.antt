@@ -4,7 +4,7 @@ use Rattle.std.proofs.lemmas.Option.{slice_get_within, none-some}
 use Rattle.hg_changeset.specs.declared.node.Node.{Node}
 use Rattle.hg_graph.proofs.GraphLemmas.{place_from_Contains}
 use Rattle.hg_replica.specs.Content.{content_of}
-use Rattle.hg_succ.specs.declared.search.Settled.{Settled}
+use Rattle.hg_succ.specs.declared.search.Closed.{Closed}
 use Rattle.hg_succ.specs.Rows.{At, rows_of, AreWithin}
 use Rattle.hg_succ.specs.Search.{IsListed}
 use Rattle.hg_succ.specs.Numbered.{AreOnce}
@@ -34,7 +34,7 @@ returns-clause-done c n h =
       ap length c.deref.ensures.value,
     )) in
     let listed = c.in_ok-order.ensures.all place.0 some in
-    let at : At c.deref-5.result.now listed.0 listed.1 = subst (λ (es : List Settled). At es listed.0 listed.1)
+    let at : At c.deref-5.result.now listed.0 listed.1 = subst (λ (es : List Closed). At es listed.0 listed.1)
     (sym c.deref-5.ensures.value) listed.3 in
     let here : At nodes listed.1.node n = subst (λ i. At nodes i n) (sym listed.4) place.1 in
     let same : nodes ≡ c.in_ok-table.table.nodes.keys = sym c.in_ok-table.ensures.nodes in
@@ -43,7 +43,7 @@ returns-clause-done c n h =
 pub new-requires-clause-listed : goal.new-requires-clause-listed
 new-requires-clause-listed c x l =
     let rows = c.in_ok-nodes.rows.items in
-    subst (λ (es : List Settled). IsListed es x) (sym c.deref-3.ensures.value)
+    subst (λ (es : List Closed). IsListed es x) (sym c.deref-3.ensures.value)
     (c.in_ok-order.ensures.all x (omega (
       arith,
       l,

@@ -1,5 +1,5 @@
 use Rattle.std.proofs.Common.{◌∙◌, inl, inr, sym, true≢false}
-use Rattle.hg_succ.proofs.SurveyLemmas.{among, test_among}
+use Rattle.hg_succ.proofs.RangeLemmas.{among, test_among}
 use Rattle.hg_succ.proofs.plan.Plan.lists.Goals as goal
 
 pub returns-else-self : goal.returns-else-self

@@ -5,7 +5,7 @@ use Rattle.hg_succ.specs.Rows.{rows_of}
 use Rattle.hg_succ.specs.Search.{state_of, IsSearch, IsAtEnd}
 use Rattle.hg_succ.proofs.ListLemmas.{popped}
 use Rattle.hg_succ.proofs.SearchLemmas.{waiting_within, inner_start}
-use Rattle.hg_succ.proofs.SettleLemmas.{leaves, settles}
+use Rattle.hg_succ.proofs.CloseLemmas.{leaves, closes}
 use Rattle.hg_succ.proofs.search.Search.leave.Goals as goal
 
 pub returns-then-not-starts_at-clause-search : goal.returns-then-not-starts_at-clause-search
@@ -31,12 +31,12 @@ is_cyclic-cyclic-requires c =
           omega (arith, l, c.requires.search.marks_long, length-map c.args.rows.now (λ row. row.items))),
     )
 
-pub settle-requires-clause-place : goal.settle-requires-clause-place
-settle-requires-clause-place c = let l = slice_get_within c.args.self.now.waiting.items c.args.place c.requires.end.0
+pub close-requires-clause-place : goal.close-requires-clause-place
+close-requires-clause-place c = let l = slice_get_within c.args.self.now.waiting.items c.args.place c.requires.end.0
     c.requires.end.1.waits in omega arith
 
-pub settle-requires-clause-within : goal.settle-requires-clause-within
-settle-requires-clause-within c p x h = waiting_within (rows_of c.args.rows.now) (state_of c.args.self.now)
+pub close-requires-clause-within : goal.close-requires-clause-within
+close-requires-clause-within c p x h = waiting_within (rows_of c.args.rows.now) (state_of c.args.self.now)
     c.requires.search p x h
 
 pub returns-clause-search : goal.returns-clause-search
@@ -55,6 +55,6 @@ returns-clause-search c =
     (sym (popped s.starts c.pop-2.new.self.items ends.0 c.args.self.now.starts.len c.args.place
     c.args.self.now.starts.ok.0 c.pop-2.ensures.rest ends.1)) in
     let end' : IsAtEnd s c.args.place u = record { last = (c.pop.new.self.items, path_is); waits = end.waits } in
-    settles R s c.requires.search c.args.place u end' c.requires.end.2 c.pop-2.new.self.items starts_are
-    c.is_cyclic-cyclic.result (c.is_cyclic-cyclic.ensures u end.waits) (state_of c.settle.new.self)
-    c.in_ok-settle.ensures
+    closes R s c.requires.search c.args.place u end' c.requires.end.2 c.pop-2.new.self.items starts_are
+    c.is_cyclic-cyclic.result (c.is_cyclic-cyclic.ensures u end.waits) (state_of c.close.new.self)
+    c.in_ok-close.ensures

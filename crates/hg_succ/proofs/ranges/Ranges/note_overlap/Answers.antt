@@ -7,8 +7,8 @@ use Rattle.hg_node_set.specs.Keys.{insert_key}
 use Rattle.hg_node_set.proofs.CallerLemmas.{Contains-insert_key, Contains-insert_key_kept, Contains-insert_key_cases}
 use Rattle.hg_succ.specs.Rows.{At}
 use Rattle.hg_succ.proofs.NumberLemmas.{more_of}
-use Rattle.hg_succ.proofs.SurveyLemmas.{node_there}
-use Rattle.hg_succ.proofs.survey.Survey.tangle.Goals as goal
+use Rattle.hg_succ.proofs.RangeLemmas.{node_there}
+use Rattle.hg_succ.proofs.ranges.Ranges.note_overlap.Goals as goal
 
 pub bounds-as_slice-successor : goal.bounds-as_slice-successor
 bounds-as_slice-successor c =
@@ -38,8 +38,8 @@ loop-successor-preserved c =
     let x : Node = get_or c.as_slice-in-loop-successor.result.now j (record { 0 = [] }) in
     let keys = c.in_ok-insert-2.ensures.keys in
     record {
-      spans = c.loop-successor.invariant.spans;
-      tangled = c.loop-successor.invariant.tangled;
+      ranges = c.loop-successor.invariant.ranges;
+      overlapping = c.loop-successor.invariant.overlapping;
       starts = λ k y h at. subst (λ (ks : List Node). Contains ks y) (sym keys)
           (elim ((more_of row i j c.loop-successor-test.true
           (get_or_default row i 0 j c.loop-successor-test.true) k).0 h) [
@@ -60,11 +60,11 @@ returns c n at =
     let nodes = c.args.nodes.now.keys in
     let x : Node = get_or c.as_slice.result.now c.args.number (record { 0 = [] }) in
     let is : x ≡ n = node_there nodes c.as_slice.result.now c.args.number n c.as_slice.ensures.keys at in
-    let old = c.args.self.now.tangled.keys in
-    let keys : c.loop-successor.self.tangled.keys ≡ insert_key old n =
-    c.loop-successor.invariant.tangled ∙ c.in_ok-insert.ensures.keys ∙ ap (insert_key old) is in
+    let old = c.args.self.now.overlapping.keys in
+    let keys : c.loop-successor.self.overlapping.keys ≡ insert_key old n =
+    c.loop-successor.invariant.overlapping ∙ c.in_ok-insert.ensures.keys ∙ ap (insert_key old) is in
     record {
-      spans = c.loop-successor.invariant.spans;
+      ranges = c.loop-successor.invariant.ranges;
       there = subst (λ (ks : List Node). Contains ks n) (sym keys) (Contains-insert_key old n);
       kept = λ y h. subst (λ (ks : List Node). Contains ks y) (sym keys) (Contains-insert_key_kept old n y h);
       only = λ y h. Contains-insert_key_cases old n y (subst (λ (ks : List Node). Contains ks y) keys h);

@@ -3,12 +3,12 @@ use Rattle.std.specs.List.{flat_map}
 use Rattle.std.specs.Cmp.{unsigned_Decides}
 use Rattle.hg_marker.specs.Fields.{Fields}
 use Rattle.hg_succ.specs.Numbered.{successors_at}
-use Rattle.hg_succ.specs.Plan.{gather_all, no_span, span_of, seen_at}
+use Rattle.hg_succ.specs.Plan.{gather_all, no_range, range_of, seen_at}
 use Rattle.hg_succ.proofs.SetLemmas.{empty_list}
 use Rattle.hg_succ.specs.Factors.{IsOnlySuccessor}
 use Rattle.std.proofs.lemmas.List.Elements.{Contains-get_or}
-use Rattle.hg_succ.proofs.SurveyLemmas.{node_there, places_of, seen_some, seen_only, some_numbers}
-use Rattle.hg_succ.proofs.survey.Survey.gathered.Goals as goal
+use Rattle.hg_succ.proofs.RangeLemmas.{node_there, places_of, seen_some, seen_only, some_numbers}
+use Rattle.hg_succ.proofs.ranges.Ranges.gathered.Goals as goal
 
 pub returns-then-is_empty-clause-seen : goal.returns-then-is_empty-clause-seen
 returns-then-is_empty-clause-seen c off n at =
@@ -20,7 +20,7 @@ returns-then-is_empty-clause-seen c off n at =
     ((unsigned_Decides (length places) 0).0 (sym c.is_empty.ensures ∙ c.if-is_empty.true)) in (
       places,
       are,
-      ap (seen_at c.args.rank c.args.self.now.spans.items c.args.nodes.now.keys c.args.replica.now.markers)
+      ap (seen_at c.args.rank c.args.self.now.ranges.items c.args.nodes.now.keys c.args.replica.now.markers)
           (sym none),
     )
 
@@ -35,10 +35,10 @@ returns-clause-seen c off n at =
       places,
       are,
       c.gather_all.ensures
-          ∙ ap (λ (ks : List Fields). gather_all no_span
-          (map (span_of c.args.self.now.spans.items c.args.nodes.now.keys)
+          ∙ ap (λ (ks : List Fields). gather_all no_range
+          (map (range_of c.args.self.now.ranges.items c.args.nodes.now.keys)
           (flat_map (successors_at ks) places))) ms
-          ∙ seen_some c.args.rank c.args.self.now.spans.items c.args.nodes.now.keys c.args.replica.now.markers places
+          ∙ seen_some c.args.rank c.args.self.now.ranges.items c.args.nodes.now.keys c.args.replica.now.markers places
           (λ e. true≢false (sym ((unsigned_Decides (length places) 0).1 e) ∙ sym c.is_empty.ensures
           ∙ c.if-is_empty.false)),
     )
@@ -62,6 +62,6 @@ returns-then-not-is_empty-clause-seen c off n at =
       places,
       are,
       c.passed_on.ensures
-          ∙ seen_only s nodes n places are c.args.self.now.spans.items c.args.rank told.0 only j y.0
+          ∙ seen_only s nodes n places are c.args.self.now.ranges.items c.args.rank told.0 only j y.0
           c.requires.once y.2 y.1,
     )

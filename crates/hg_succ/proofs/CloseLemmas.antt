@@ -1,4 +1,4 @@
--- What is so when a node is left, and when a part is settled.
+-- What is so when a node is left, and when a part is closed.
 use Rattle.std.proofs.Common.{◌≡◌, ◌≢◌, ℕ, ◌+◌, ◌<◌, ◌≤◌, Bool, true, false, IsTrue, List, [], ◌∷◌, ◌++◌, length, take}
 use Rattle.std.proofs.Common.{set, Some, Contains, ◌⊎◌, ◌↔◌, inl, inr, refl, sym, ap, subst, ◌∙◌, arith, slice_get}
 use Rattle.std.proofs.Common.{length-append, length-set, true≢false}
@@ -8,11 +8,11 @@ use Rattle.std.proofs.lemmas.Option.{slice_get_within, none-some}
 use Rattle.std.proofs.lemmas.List.Elements.{Contains-append_left, Contains-push, Contains-push_cases}
 use Rattle.hg_succ.specs.declared.search.Mark.{Mark}
 use Rattle.hg_succ.specs.declared.search.Mark.TheVariants.{New, Waiting, Done}
-use Rattle.hg_succ.specs.declared.search.Settled.{Settled}
+use Rattle.hg_succ.specs.declared.search.Closed.{Closed}
 use Rattle.hg_succ.specs.Steps.{Reaches, LeadsBack}
 use Rattle.hg_succ.specs.Steps.Reaches.{no_step}
 use Rattle.hg_succ.specs.Rows.{At, Edge, IsOrder, StandsBefore}
-use Rattle.hg_succ.specs.Search.{SearchState, IsAscending, AreJoined, IsListed, IsSearch, IsAtEnd, Settles, SettlesLast}
+use Rattle.hg_succ.specs.Search.{SearchState, IsAscending, AreJoined, IsListed, IsSearch, IsAtEnd, Closes, ClosesLast}
 use Rattle.hg_succ.specs.Search.{IsCyclicPart}
 use Rattle.hg_graph.proofs.MarkLemmas.{get-set_same, get-set_other}
 use Rattle.hg_succ.proofs.ListLemmas.{get_one, get_append_cases, get_set_cases, get_set_keeps, ascending_front}
@@ -62,12 +62,12 @@ module _ (R : List (List ℕ)) (s : SearchState) (so : IsSearch R s) (t u : ℕ)
     order = so.order;
   }
 
--- the end of the path is left, and the last part, which begins there, is settled
+-- the end of the path is left, and the last part, which begins there, is closed
 module _ (R : List (List ℕ)) (s : SearchState) (so : IsSearch R s) (t u : ℕ) (end : IsAtEnd s t u)
     (none : At s.left u 0)
     (front : List ℕ) (starts_are : s.starts ≡ front ++ t ∷ []) (c : Bool)
     (c_is : IsTrue c ↔ IsCyclicPart R s.waiting t u)
-    (new : SearchState) (st : Settles t c (record s { path = end.last.0; starts = front }) new) where
+    (new : SearchState) (st : Closes t c (record s { path = end.last.0; starts = front }) new) where
   t_within : t < length s.waiting
   t_within = slice_get_within s.waiting t u end.waits
 
@@ -92,7 +92,7 @@ module _ (R : List (List ℕ)) (s : SearchState) (so : IsSearch R s) (t u : ℕ)
         subst (λ v. At s.left v 0) (get_one s.waiting p u x (subst (λ k. At s.waiting k u) same end.waits) h) none)
   ]
 
-  -- an edge from the part leads to what is settled, or stays in it
+  -- an edge from the part leads to what is closed, or stays in it
   part_edge : (p x y : ℕ) → t ≤ p → At s.waiting p x → Edge R x y
       → At s.marks y Done ⊎ ((q : ℕ) × (t ≤ q) × At s.waiting q y)
   part_edge p x y le h edge =
@@ -102,7 +102,7 @@ module _ (R : List (List ℕ)) (s : SearchState) (so : IsSearch R s) (t u : ℕ)
         | inr w ↦ elim (w.2 t t_starts) [ inl later ↦ inr (w.0, later, w.1) | inr before ↦ absurd (omega arith) ]
       ]
 
-  -- where the part is one node, its edges lead to what is settled, or to itself
+  -- where the part is one node, its edges lead to what is closed, or to itself
   alone_edge : (p x y : ℕ) → length s.waiting ≤ t + 1 → t ≤ p → At s.waiting p x → Edge R x y
       → At s.marks y Done ⊎ Edge R u u
   alone_edge p x y short le h edge = elim (part_edge p x y le h edge) [
@@ -164,8 +164,8 @@ module _ (R : List (List ℕ)) (s : SearchState) (so : IsSearch R s) (t u : ℕ)
   longer : (k k' x : ℕ) → k ≤ k' → StandsBefore s.order k x → StandsBefore (s.order ++ st.more.0) k' x
   longer k k' x le h = (h.0, h.1, omega (arith, h.2), slice_get-append s.order st.more.0 h.0 h.1 h.3, h.4)
 
-  settled_order : IsOrder R (s.order ++ st.more.0)
-  settled_order = record {
+  after_order : IsOrder R (s.order ++ st.more.0)
+  after_order = record {
     nodes = λ k e h. elim (get_append_cases s.order st.more.0 k e h) [
       | inl old ↦ so.order.nodes k e old
       | inr more ↦
@@ -202,20 +202,20 @@ module _ (R : List (List ℕ)) (s : SearchState) (so : IsSearch R s) (t u : ℕ)
   front_start : (b : ℕ) → Contains front b → Contains s.starts b
   front_start b h = subst (λ (xs : List ℕ). Contains xs b) (sym starts_are) (Contains-append_left front (t ∷ []) b h)
 
-  settled_listed : (x : ℕ) → At new.marks x Done → IsListed (s.order ++ st.more.0) x
-  settled_listed x h = elim (st.from x Done h) [
-    | inl part ↦ subst (λ (o : List Settled). IsListed o x) st.more.1 (st.listed part.1 x part.2 part.3)
+  after_listed : (x : ℕ) → At new.marks x Done → IsListed (s.order ++ st.more.0) x
+  after_listed x h = elim (st.from x Done h) [
+    | inl part ↦ subst (λ (o : List Closed). IsListed o x) st.more.1 (st.listed part.1 x part.2 part.3)
     | inr old ↦ longer (length s.order) (length (s.order ++ st.more.0)) x
         (omega (arith, length-append s.order st.more.0)) (so.listed x old)
   ]
 
-  settled_met : (p x : ℕ) → At (take t s.waiting) p x → At new.marks x (Waiting p)
-  settled_met p x h =
+  after_met : (p x : ℕ) → At (take t s.waiting) p x → At new.marks x (Waiting p)
+  after_met p x h =
       let w = get-take s.waiting t p x h in
       st.others x (λ q le g. (let same = one_place R s so p q x w.1 g in omega (arith, w.0))) ∙ so.met p x w.1
 
-  settled_waits : (p x : ℕ) → At new.marks x (Waiting p) → At (take t s.waiting) p x
-  settled_waits p x h = elim (st.from x (Waiting p) h) [
+  after_waits : (p x : ℕ) → At new.marks x (Waiting p) → At (take t s.waiting) p x
+  after_waits p x h = elim (st.from x (Waiting p) h) [
     | inl part ↦ absurd (let e = part.0 in waiting_done p (ap (λ (m : Mark). Some m) e))
     | inr old ↦ elim (cases_lt p t) [
       | inl before ↦ slice_get-take s.waiting t p x before (so.waits p x old)
@@ -223,19 +223,19 @@ module _ (R : List (List ℕ)) (s : SearchState) (so : IsSearch R s) (t u : ℕ)
     ]
   ]
 
-  settled_fresh : (x : ℕ) → At new.marks x New → At s.marks x New
-  settled_fresh x h =
+  after_fresh : (x : ℕ) → At new.marks x New → At s.marks x New
+  after_fresh x h =
       elim (st.from x New h) [ inl part ↦ absurd (new_done (ap (λ (m : Mark). Some m) part.0)) | inr old ↦ old ]
 
-  settled_spent : (p x : ℕ) → At (take t s.waiting) p x → Contains end.last.0 p ⊎ At s.left x 0
-  settled_spent p x h =
+  after_spent : (p x : ℕ) → At (take t s.waiting) p x → Contains end.last.0 p ⊎ At s.left x 0
+  after_spent p x h =
       let w = get-take s.waiting t p x h in
       elim (so.spent p x w.1) [ inl on ↦ inl (not_end p w.0 on) | inr spent ↦ inr spent ]
 
-  settled_followed : (p x l e y : ℕ) (row : List ℕ) → At (take t s.waiting) p x → At s.left x l → At R x row
+  after_followed : (p x l e y : ℕ) (row : List ℕ) → At (take t s.waiting) p x → At s.left x l → At R x row
       → l ≤ e → At row e y
       → At new.marks y Done ⊎ ((q : ℕ) × At (take t s.waiting) q y × AreJoined front q p)
-  settled_followed p x l e y row h l_at r_at le y_at =
+  after_followed p x l e y row h l_at r_at le y_at =
       let w = get-take s.waiting t p x h in
       elim (so.followed p x l e y row w.1 l_at r_at le y_at) [
         | inl done ↦ inl (keeps_done y done)
@@ -245,22 +245,22 @@ module _ (R : List (List ℕ)) (s : SearchState) (so : IsSearch R s) (t u : ℕ)
         ]
       ]
 
-  settled_back : (p q x y : ℕ) → AreJoined front p q → p ≤ q → At (take t s.waiting) p x → At (take t s.waiting) q y
+  after_back : (p q x y : ℕ) → AreJoined front p q → p ≤ q → At (take t s.waiting) p x → At (take t s.waiting) q y
       → Reaches (Edge R) y x
-  settled_back p q x y j le at_p at_q =
+  after_back p q x y j le at_p at_q =
       let v = get-take s.waiting t p x at_p in
       let w = get-take s.waiting t q y at_q in
       so.back p q x y (λ b h. elim (Contains-push_cases front t b (subst (λ (xs : List ℕ). Contains xs b) starts_are h))
       [ inl before ↦ j b before | inr same ↦ inr (omega (arith, same, w.0)) ]) le v.1 w.1
 
-  settled_closed : (x y : ℕ) → At new.marks x Done → Edge R x y → At new.marks y Done
-  settled_closed x y h edge = elim (st.from x Done h) [
+  after_closed : (x y : ℕ) → At new.marks x Done → Edge R x y → At new.marks y Done
+  after_closed x y h edge = elim (st.from x Done h) [
     | inr old ↦ keeps_done y (so.closed x y old edge)
     | inl part ↦ elim (part_edge part.1 x y part.2 part.3 edge)
         [ inl done ↦ keeps_done y done | inr w ↦ st.done w.0 y w.1 w.2 ]
   ]
 
-  settles_so : IsSearch R
+  closes_so : IsSearch R
       (record {
         left = s.left;
         marks = new.marks;
@@ -270,16 +270,16 @@ module _ (R : List (List ℕ)) (s : SearchState) (so : IsSearch R s) (t u : ℕ)
         order =
             s.order ++ st.more.0;
       })
-  settles_so = record {
+  closes_so = record {
     left_long = so.left_long;
     marks_long = st.marks_long ∙ so.marks_long;
-    met = settled_met;
-    waits = settled_waits;
-    listed = settled_listed;
-    fresh = λ x row h r. so.fresh x row (settled_fresh x h) r;
+    met = after_met;
+    waits = after_waits;
+    listed = after_listed;
+    fresh = λ x row h r. so.fresh x row (after_fresh x h) r;
     bounded = so.bounded;
-    spent = settled_spent;
-    followed = settled_followed;
+    spent = after_spent;
+    followed = after_followed;
     path_up = ascending_front end.last.0 (t ∷ []) (subst IsAscending end.last.1 so.path_up);
     path_in = λ p h. (let l = ascending_last end.last.0 t (subst IsAscending end.last.1 so.path_up) p h in
         omega (arith, short_waiting));
@@ -293,9 +293,9 @@ module _ (R : List (List ℕ)) (s : SearchState) (so : IsSearch R s) (t u : ℕ)
         ];
     onward = λ p q x y le at_p at_q. so.onward p q x y le (get-take s.waiting t p x at_p).1
         (get-take s.waiting t q y at_q).1;
-    back = settled_back;
-    closed = settled_closed;
-    order = settled_order;
+    back = after_back;
+    closed = after_closed;
+    order = after_order;
   }
 
   new_is : new ≡ record {
@@ -315,12 +315,12 @@ module _ (R : List (List ℕ)) (s : SearchState) (so : IsSearch R s) (t u : ℕ)
     order = st.more.1 i;
   }
 
-  pub settles : IsSearch R new
-  settles = subst (IsSearch R) (sym new_is) settles_so
+  pub closes : IsSearch R new
+  closes = subst (IsSearch R) (sym new_is) closes_so
 
--- settling one by one, from the last
-pub settles_none : (c : Bool) (s : SearchState) → Settles (length s.waiting) c s s
-settles_none c s = record {
+-- closing one by one, from the last
+pub closes_none : (c : Bool) (s : SearchState) → Closes (length s.waiting) c s s
+closes_none c s = record {
   left = refl;
   waiting = sym (take_all (length s.waiting) s.waiting (omega arith));
   path = refl;
@@ -333,7 +333,7 @@ settles_none c s = record {
   listed = λ p x le h. absurd (omega (arith, slice_get_within s.waiting p x h));
 }
 
-module _ (c : Bool) (old s new : SearchState) (so : Settles (length s.waiting) c old s) (last : SettlesLast c s new)
+module _ (c : Bool) (old s new : SearchState) (so : Closes (length s.waiting) c old s) (last : ClosesLast c s new)
     (within : last.node < length s.marks) where
   longer_waiting : length s.waiting ≡ length new.waiting + 1
   longer_waiting = ap length last.waiting ∙ length_push new.waiting last.node
@@ -384,22 +384,22 @@ module _ (c : Bool) (old s new : SearchState) (so : Settles (length s.waiting) c
             [ inl part ↦ inl (part.0, part.1, omega (arith, part.2, longer_waiting), part.3) | inr first ↦ inr first ]
       ]
 
-  entry : Settled
+  entry : Closed
   entry = record { node = last.node; cyclic = c }
 
   order_is : new.order ≡ old.order ++ (so.more.0 ++ record { node = last.node; cyclic = c } ∷ [])
-  order_is = last.order ∙ ap (λ (o : List Settled). o ++ record { node = last.node; cyclic = c } ∷ []) so.more.1
+  order_is = last.order ∙ ap (λ (o : List Closed). o ++ record { node = last.node; cyclic = c } ∷ []) so.more.1
       ∙ append_assoc old.order so.more.0 (record { node = last.node; cyclic = c } ∷ [])
 
-  more_entries : (k : ℕ) (e : Settled) → At (so.more.0 ++ record { node = last.node; cyclic = c } ∷ []) k e
+  more_entries : (k : ℕ) (e : Closed) → At (so.more.0 ++ record { node = last.node; cyclic = c } ∷ []) k e
       → (e.cyclic ≡ c) × (p : ℕ) × (length new.waiting ≤ p) × At old.waiting p e.node
   more_entries k e h = elim (slice_get-push_cases so.more.0 (record { node = last.node; cyclic = c }) k e h) [
     | inl before ↦ (let w = so.more.2 k e before in (w.0, w.1, omega (arith, w.2, longer_waiting), w.3))
     | inr at ↦ (
-      ap (λ (d : Settled). d.cyclic) (sym at.1),
+      ap (λ (d : Closed). d.cyclic) (sym at.1),
       length new.waiting,
       omega arith,
-      subst (λ (d : Settled). At old.waiting (length new.waiting) d.node) at.1 last_at,
+      subst (λ (d : Closed). At old.waiting (length new.waiting) d.node) at.1 last_at,
     )
   ]
 
@@ -413,7 +413,7 @@ module _ (c : Bool) (old s new : SearchState) (so : Settles (length s.waiting) c
           b.0,
           b.1,
           omega (arith, b.2, longer_order),
-          subst (λ (o : List Settled). At o b.0 b.1) (sym last.order)
+          subst (λ (o : List Closed). At o b.0 b.1) (sym last.order)
               (slice_get-append s.order (record { node = last.node; cyclic = c } ∷ []) b.0 b.1 b.3),
           b.4,
         )
@@ -422,14 +422,14 @@ module _ (c : Bool) (old s new : SearchState) (so : Settles (length s.waiting) c
           length s.order,
           record { node = last.node; cyclic = c },
           omega (arith, longer_order),
-          subst (λ (o : List Settled). At o (length s.order) (record { node = last.node; cyclic = c })) (sym last.order)
+          subst (λ (o : List Closed). At o (length s.order) (record { node = last.node; cyclic = c })) (sym last.order)
               (slice_get-append_seam s.order (record { node = last.node; cyclic = c }) []),
           get_one old.waiting p last.node x (subst (λ k. At old.waiting k last.node) e last_at) h,
         )
   ]
 
-  pub settles_more : Settles (length new.waiting) c old new
-  settles_more = record {
+  pub closes_more : Closes (length new.waiting) c old new
+  closes_more = record {
     left = last.left ∙ so.left;
     waiting = shorter_waiting;
     path = last.path ∙ so.path;

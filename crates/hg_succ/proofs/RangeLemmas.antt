@@ -1,4 +1,4 @@
--- Spans that lie beside each other, and what their nodes then have in common.
+-- Disjoint ranges, and what their nodes then have in common.
 use Rattle.std.proofs.Common.{◌≡◌, ℕ, ◌<◌, ◌≤◌, true, false, nat_lt, ◌||◌, List, [], ◌∷◌, ◌++◌}
 use Rattle.std.proofs.Common.{length, map, get_or, Contains, Option, Some, None, ◌⊎◌, inl, inr, refl, sym, ap, subst}
 use Rattle.std.specs.Cmp.{unsigned_Decides}
@@ -23,10 +23,10 @@ use Rattle.hg_replica.specs.State.{ReplicaState}
 use Rattle.hg_replica.specs.Content.{Content, content_of}
 use Rattle.hg_replica.specs.Evolution.{IsMarker, IsPredecessor}
 use Rattle.hg_replica.proofs.MarkerLemmas.{holds-from, in_from_holds}
-use Rattle.hg_succ.specs.declared.survey.Span.{Span}
-use Rattle.hg_succ.specs.declared.survey.Gathered.{Gathered}
-use Rattle.hg_succ.specs.declared.survey.Survey.{Survey}
-use Rattle.hg_succ.specs.declared.search.Settled.{Settled}
+use Rattle.hg_succ.specs.declared.ranges.RankRange.{RankRange}
+use Rattle.hg_succ.specs.declared.ranges.Gathered.{Gathered}
+use Rattle.hg_succ.specs.declared.ranges.Ranges.{Ranges}
+use Rattle.hg_succ.specs.declared.search.Closed.{Closed}
 use Rattle.hg_succ.specs.Rows.{At, IsOrder}
 use Rattle.hg_succ.specs.Search.{IsListed}
 use Rattle.hg_succ.specs.Successors.{IsPick, IsPickOfEach, IsOnCycle, IsRewrittenTo}
@@ -35,8 +35,8 @@ use Rattle.hg_succ.specs.Successors.IsPickOfEach.{no_places, next_place}
 use Rattle.std.proofs.lemmas.List.{append-nil}
 use Rattle.hg_succ.specs.Factors.{IsOnlySuccessor}
 use Rattle.hg_succ.specs.Numbered.{successors_at, AreOnce, AreRows, IsNumbered}
-use Rattle.hg_succ.specs.Plan.{AreStrangers, IsApart, InSpan, IsSpan, IsSeen, rank_of, span_at, span_of, both}
-use Rattle.hg_succ.specs.Plan.{are_beside, no_span, gathered, gather_all, seen_at, IsSurveyed, HasStarts, Surveys}
+use Rattle.hg_succ.specs.Plan.{AreStrangers, IsApart, InRange, IsRange, IsSeen, rank_of, range_at, range_of, both}
+use Rattle.hg_succ.specs.Plan.{are_disjoint, no_range, gathered, gather_all, seen_at, AreSeen, HasStarts, AreJudged}
 use Rattle.hg_succ.proofs.ApartLemmas.{ArePairs, pairs_from_all, all_from_pairs}
 use Rattle.hg_succ.proofs.FamilyLemmas.{pick_on_cycle}
 use Rattle.hg_succ.proofs.ListLemmas.{get_one}
@@ -45,58 +45,59 @@ use Rattle.hg_succ.proofs.NumberLemmas.{rewritten_places}
 use Rattle.hg_succ.proofs.PathLemmas.{cycles_are, edge_from}
 use Rattle.hg_succ.proofs.SetLemmas.{flat_contains, contains_flat, has_any}
 
--- ---- spans
+-- ---- ranges
 
-in_both_left : (a b : Option Span) (r : ℕ) → InSpan r a → InSpan r (both a b)
+in_both_left : (a b : Option RankRange) (r : ℕ) → InRange r a → InRange r (both a b)
 in_both_left None b r h = absurd h
 in_both_left (Some a) None r h = h
 in_both_left (Some a) (Some b) r h = (omega (arith, h.0), omega (arith, h.1))
 
-in_both_right : (a b : Option Span) (r : ℕ) → InSpan r b → InSpan r (both a b)
+in_both_right : (a b : Option RankRange) (r : ℕ) → InRange r b → InRange r (both a b)
 in_both_right None b r h = h
 in_both_right (Some a) None r h = absurd h
 in_both_right (Some a) (Some b) r h = (omega (arith, h.0), omega (arith, h.1))
 
 -- no rank lies in both
-abbrev pub AreClear : Option Span → Option Span → Type 0
-AreClear a b = (r : ℕ) → InSpan r a → InSpan r b → ⊥
+abbrev pub AreClear : Option RankRange → Option RankRange → Type 0
+AreClear a b = (r : ℕ) → InRange r a → InRange r b → ⊥
 
-beside_clear : (a b : Option Span) → are_beside a b ≡ true → AreClear a b
-beside_clear None b e r h g = h
-beside_clear (Some a) None e r h g = g
-beside_clear (Some a) (Some b) e r h g = elim (cases_Bool (nat_lt a.last b.first)) [
+disjoint_clear : (a b : Option RankRange) → are_disjoint a b ≡ true → AreClear a b
+disjoint_clear None b e r h g = h
+disjoint_clear (Some a) None e r h g = g
+disjoint_clear (Some a) (Some b) e r h g = elim (cases_Bool (nat_lt a.last b.first)) [
   | inl before ↦ (let l = ltb-true a.last b.first before in omega (arith, l, h.1, g.0))
   | inr other ↦
       (let after : nat_lt b.last a.first ≡ true = sym (ap (λ c. c || nat_lt b.last a.first) other) ∙ e in
       let l = ltb-true b.last a.first after in omega (arith, l, h.0, g.1))
 ]
 
-gather_keeps : (g : Gathered) (spans : List (Option Span)) (r : ℕ) → InSpan r g.span
-    → InSpan r (gather_all g spans).span
+gather_keeps : (g : Gathered) (ranges : List (Option RankRange)) (r : ℕ) → InRange r g.range
+    → InRange r (gather_all g ranges).range
 gather_keeps g [] r h = h
-gather_keeps g (span ∷ spans) r h = gather_keeps (gathered g span) spans r (in_both_left g.span span r h)
+gather_keeps g (range ∷ ranges) r h = gather_keeps (gathered g range) ranges r (in_both_left g.range range r h)
 
-gather_has : (g : Gathered) (spans : List (Option Span)) (r : ℕ) (span : Option Span) → Contains spans span
-    → InSpan r span → InSpan r (gather_all g spans).span
-gather_has g [] r span h i = absurd (Contains-none span h)
-gather_has g (first ∷ spans) r span h i = elim (Contains-cons_cases first spans span h) [
-  | inl same ↦ gather_keeps (gathered g first) spans r (in_both_right g.span first r (subst (InSpan r) (sym same) i))
-  | inr later ↦ gather_has (gathered g first) spans r span later i
+gather_has : (g : Gathered) (ranges : List (Option RankRange)) (r : ℕ) (range : Option RankRange)
+    → Contains ranges range
+    → InRange r range → InRange r (gather_all g ranges).range
+gather_has g [] r range h i = absurd (Contains-none range h)
+gather_has g (first ∷ ranges) r range h i = elim (Contains-cons_cases first ranges range h) [
+  | inl same ↦ gather_keeps (gathered g first) ranges r (in_both_right g.range first r (subst (InRange r) (sym same) i))
+  | inr later ↦ gather_has (gathered g first) ranges r range later i
 ]
 
-gather_apart : (g : Gathered) (spans : List (Option Span)) → (gather_all g spans).are_apart ≡ true
-    → (g.are_apart ≡ true) × ((span : Option Span) → Contains spans span → AreClear g.span span)
-    × ArePairs AreClear spans
-gather_apart g [] e = (e, (λ span h. absurd (Contains-none span h)), tt)
-gather_apart g (first ∷ spans) e =
-    let w = gather_apart (gathered g first) spans e in
-    let parts = and_parts g.are_apart (are_beside g.span first) w.0 in (
+gather_apart : (g : Gathered) (ranges : List (Option RankRange)) → (gather_all g ranges).are_apart ≡ true
+    → (g.are_apart ≡ true) × ((range : Option RankRange) → Contains ranges range → AreClear g.range range)
+    × ArePairs AreClear ranges
+gather_apart g [] e = (e, (λ range h. absurd (Contains-none range h)), tt)
+gather_apart g (first ∷ ranges) e =
+    let w = gather_apart (gathered g first) ranges e in
+    let parts = and_parts g.are_apart (are_disjoint g.range first) w.0 in (
       parts.0,
-      (λ span h. elim (Contains-cons_cases first spans span h) [
-        | inl same ↦ subst (AreClear g.span) same (beside_clear g.span first parts.1)
-        | inr later ↦ (λ r i j. w.1 span later r (in_both_left g.span first r i) j)
+      (λ range h. elim (Contains-cons_cases first ranges range h) [
+        | inl same ↦ subst (AreClear g.range) same (disjoint_clear g.range first parts.1)
+        | inr later ↦ (λ r i j. w.1 range later r (in_both_left g.range first r i) j)
       ]),
-      ((λ span h r i j. w.1 span h r (in_both_right g.span first r i) j), w.2),
+      ((λ range h r i j. w.1 range h r (in_both_right g.range first r i) j), w.2),
     )
 
 pairs_back_map : {X Y : Type 0} (R : X → X → Type 0) (S : Y → Y → Type 0) (f : X → Y) (xs : List X)
@@ -169,10 +170,10 @@ module _ (s : ReplicaState) (ranks : List ℕ) (nodes : List Node) (n : Node) (p
   abbrev followers : List Node
   followers = flat_map (successors_at s.markers) places
 
-  -- what is told of each successor's span
-  abbrev AreSpans : List (Option Span) → Type 0
-  AreSpans spans = (y : Node) → IsRewrittenTo (content_of s) n y
-      → IsSpan (content_of s) ranks nodes y (span_of spans nodes y)
+  -- what is told of each successor's range
+  abbrev AreRanges : List (Option RankRange) → Type 0
+  AreRanges ranges = (y : Node) → IsRewrittenTo (content_of s) n y
+      → IsRange (content_of s) ranks nodes y (range_of ranges nodes y)
 
   follows : (y : Node) → Contains followers y → IsRewrittenTo (content_of s) n y
   follows y h = let p = flat_contains (successors_at s.markers) places y h in
@@ -182,17 +183,18 @@ module _ (s : ReplicaState) (ranks : List ℕ) (nodes : List Node) (n : Node) (p
   follower y h = let p = (rewritten_places s places n are y).1 h in
       contains_flat (successors_at s.markers) places p.0 y p.1 p.2
 
-  strangers : (spans : List (Option Span)) → AreSpans spans → ArePairs AreClear (map (span_of spans nodes) followers)
+  strangers : (ranges : List (Option RankRange)) → AreRanges ranges
+      → ArePairs AreClear (map (range_of ranges nodes) followers)
       → ArePairs (AreStrangers (content_of s)) followers
-  strangers spans told clear =
-      pairs_back_map (AreStrangers (content_of s)) AreClear (span_of spans nodes) followers clear
+  strangers ranges told clear =
+      pairs_back_map (AreStrangers (content_of s)) AreClear (range_of ranges nodes) followers clear
       (λ y z h g clear' p q pick_p pick_q x i j. clear' (rank_of ranks nodes x)
       (told y (follows y h) p x pick_p i) (told z (follows z g) q x pick_q j))
 
-  -- spans that lie beside each other are of successors that have nothing in common
-  pub apart_by_spans : (spans : List (Option Span)) (rank : ℕ) → AreSpans spans
-      → (seen_at rank spans nodes s.markers places).are_apart ≡ true → IsApart s n
-  apart_by_spans spans rank told e places' are' =
+  -- disjoint ranges are of successors that have nothing in common
+  pub apart_by_ranges : (ranges : List (Option RankRange)) (rank : ℕ) → AreRanges ranges
+      → (seen_at rank ranges nodes s.markers places).are_apart ≡ true → IsApart s n
+  apart_by_ranges ranges rank told e places' are' =
       subst (λ (ps : List ℕ). AllPairs (AreStrangers (content_of s)) (flat_map (successors_at s.markers) ps))
       (same_places (λ m. m.predecessor ≡ n) s.markers places places' are are') (by places refl)
     where
@@ -200,22 +202,23 @@ module _ (s : ReplicaState) (ranks : List ℕ) (nodes : List Node) (n : Node) (p
       by [] is = subst (λ (ps : List ℕ). AllPairs (AreStrangers (content_of s)) (flat_map (successors_at s.markers) ps))
           (sym is) (all_from_pairs (AreStrangers (content_of s)) [] tt)
       by (p ∷ ps) is = all_from_pairs (AreStrangers (content_of s)) followers
-          (strangers spans told
-          (gather_apart no_span (map (span_of spans nodes) followers)
-          (subst (λ (qs : List ℕ). (gather_all no_span
-          (map (span_of spans nodes) (flat_map (successors_at s.markers) qs))).are_apart ≡ true) (sym is)
-          (subst (λ (qs : List ℕ). (seen_at rank spans nodes s.markers qs).are_apart ≡ true) is e))).2)
+          (strangers ranges told
+          (gather_apart no_range (map (range_of ranges nodes) followers)
+          (subst (λ (qs : List ℕ). (gather_all no_range
+          (map (range_of ranges nodes) (flat_map (successors_at s.markers) qs))).are_apart ≡ true) (sym is)
+          (subst (λ (qs : List ℕ). (seen_at rank ranges nodes s.markers qs).are_apart ≡ true) is e))).2)
 
-  -- the rank lies in the span of the node, whose own rank stands at the number
-  abbrev IsOwn : List (Option Span) → ℕ → Node → List ℕ → Type 0
-  IsOwn spans number x qs = InSpan (rank_of ranks nodes x)
-      (seen_at (get_or ranks number 0) spans nodes s.markers qs).span
+  -- the rank lies in the range of the node, whose own rank stands at the number
+  abbrev IsOwn : List (Option RankRange) → ℕ → Node → List ℕ → Type 0
+  IsOwn ranges number x qs = InRange (rank_of ranks nodes x)
+      (seen_at (get_or ranks number 0) ranges nodes s.markers qs).range
 
-  -- a node's span is gathered from those of its successors
-  pub span_by_spans : (spans : List (Option Span)) (number : ℕ) → AreOnce nodes → At nodes number n
-      → ¬ (IsOnCycle (content_of s) n) → AreSpans spans
-      → IsSpan (content_of s) ranks nodes n (seen_at (get_or ranks number 0) spans nodes s.markers places).span
-  span_by_spans spans number once at off told p x pick h = by places refl (pick_cases (content_of s) n p x off pick h)
+  -- a node's range is gathered from those of its successors
+  pub range_by_ranges : (ranges : List (Option RankRange)) (number : ℕ) → AreOnce nodes → At nodes number n
+      → ¬ (IsOnCycle (content_of s) n) → AreRanges ranges
+      → IsRange (content_of s) ranks nodes n (seen_at (get_or ranks number 0) ranges nodes s.markers places).range
+  range_by_ranges ranges number once at off told p x pick h =
+      by places refl (pick_cases (content_of s) n p x off pick h)
     where
       rank_is : rank_of ranks nodes n ≡ get_or ranks number 0
       rank_is = ap (λ o. option_map_or (λ k. get_or ranks k 0) o 0) (number_at nodes number n once at)
@@ -232,8 +235,8 @@ module _ (s : ReplicaState) (ranks : List ℕ) (nodes : List Node) (n : Node) (p
 
       by : (ps : List ℕ) → places ≡ ps → ((x ≡ n) × (¬ (IsPredecessor (content_of s) n)))
           ⊎ ((m : Fields) × IsMarker (content_of s) m × (m.predecessor ≡ n) × (y : Node) × Contains m.successors y
-          × (q : List Node) × IsPick (content_of s) y q × Contains q x) → IsOwn spans number x places
-      by [] is (inl free) = subst (IsOwn spans number x) (sym is)
+          × (q : List Node) × IsPick (content_of s) y q × Contains q x) → IsOwn ranges number x places
+      by [] is (inl free) = subst (IsOwn ranges number x) (sym is)
           (let e : rank_of ranks nodes x ≡ get_or ranks number 0 = ap (rank_of ranks nodes) free.0 ∙ rank_is in
           (omega (arith, e), omega (arith, e)))
       by (k ∷ ks) is (inl free) = absurd (free.1 (some_marker k ks is))
@@ -241,30 +244,32 @@ module _ (s : ReplicaState) (ranks : List ℕ) (nodes : List Node) (n : Node) (p
           (let k = rewritten_at w.0 w.1 w.2 in Contains-none k.0 (subst (λ (qs : List ℕ). Contains qs k.0) is k.1))
       by (k ∷ ks) is (inr w) =
           let step : IsRewrittenTo (content_of s) n w.3 = (w.0, w.1, w.2, w.4) in
-          subst (IsOwn spans number x) (sym is)
-          (subst (λ (qs : List ℕ). InSpan (rank_of ranks nodes x)
-          (gather_all no_span (map (span_of spans nodes) (flat_map (successors_at s.markers) qs))).span) is
-          (gather_has no_span (map (span_of spans nodes) followers) (rank_of ranks nodes x) (span_of spans nodes w.3)
-          (Contains-map (span_of spans nodes) followers w.3 (follower w.3 step)) (told w.3 step w.5 x w.6 w.7)))
+          subst (IsOwn ranges number x) (sym is)
+          (subst (λ (qs : List ℕ). InRange (rank_of ranks nodes x)
+          (gather_all no_range (map (range_of ranges nodes) (flat_map (successors_at s.markers) qs))).range) is
+          (gather_has no_range (map (range_of ranges nodes) followers) (rank_of ranks nodes x)
+          (range_of ranges nodes w.3)
+          (Contains-map (range_of ranges nodes) followers w.3 (follower w.3 step)) (told w.3 step w.5 x w.6 w.7)))
 
--- a node on a cycle has no span
-pub span_on_cycle : (f : Content) (ranks : List ℕ) (nodes : List Node) (n : Node) → IsOnCycle f n
-    → ((p : List Node) → IsPick f n p → p ≡ []) → IsSpan f ranks nodes n None
-span_on_cycle f ranks nodes n on only p x pick h =
+-- a node on a cycle has no range
+pub range_on_cycle : (f : Content) (ranks : List ℕ) (nodes : List Node) (n : Node) → IsOnCycle f n
+    → ((p : List Node) → IsPick f n p → p ≡ []) → IsRange f ranks nodes n None
+range_on_cycle f ranks nodes n on only p x pick h =
     Contains-none x (subst (λ (zs : List Node). Contains zs x) (only p pick) h)
 
--- the span at the number of a node
-pub span_at_number : (spans : List (Option Span)) (nodes : List Node) (number : ℕ) (n : Node) → AreOnce nodes
-    → At nodes number n → span_of spans nodes n ≡ span_at spans number
-span_at_number spans nodes number n once at = ap (option_and_then (span_at spans)) (number_at nodes number n once at)
+-- the range at the number of a node
+pub range_at_number : (ranges : List (Option RankRange)) (nodes : List Node) (number : ℕ) (n : Node) → AreOnce nodes
+    → At nodes number n → range_of ranges nodes n ≡ range_at ranges number
+range_at_number ranges nodes number n once at =
+    ap (option_and_then (range_at ranges)) (number_at nodes number n once at)
 
-pub span_written : (spans : List (Option Span)) (number : ℕ) (span : Option Span) → number < length spans
-    → span_at (set spans number span) number ≡ span
-span_written spans number span l = ap (option_and_then (λ o. o)) (get-set_same spans number span l)
+pub range_written : (ranges : List (Option RankRange)) (number : ℕ) (range : Option RankRange) → number < length ranges
+    → range_at (set ranges number range) number ≡ range
+range_written ranges number range l = ap (option_and_then (λ o. o)) (get-set_same ranges number range l)
 
-pub span_kept : (spans : List (Option Span)) (number other : ℕ) (span : Option Span) → ¬ (other ≡ number)
-    → span_at (set spans number span) other ≡ span_at spans other
-span_kept spans number other span e = ap (option_and_then (λ o. o)) (get-set_other spans number other span e)
+pub range_kept : (ranges : List (Option RankRange)) (number other : ℕ) (range : Option RankRange) → ¬ (other ≡ number)
+    → range_at (set ranges number range) other ≡ range_at ranges other
+range_kept ranges number other range e = ap (option_and_then (λ o. o)) (get-set_other ranges number other range e)
 
 -- ---- tests
 
@@ -276,10 +281,10 @@ test_among keys n h = has_any (node_eq n) keys n h (node_itself n n refl)
 
 -- ---- one more
 
-pub gather_append : (g : Gathered) (spans more : List (Option Span))
-    → gather_all g (spans ++ more) ≡ gather_all (gather_all g spans) more
+pub gather_append : (g : Gathered) (ranges more : List (Option RankRange))
+    → gather_all g (ranges ++ more) ≡ gather_all (gather_all g ranges) more
 gather_append g [] more = refl
-gather_append g (span ∷ spans) more = gather_append (gathered g span) spans more
+gather_append g (range ∷ ranges) more = gather_append (gathered g range) ranges more
 
 -- ---- a node by its number
 
@@ -294,49 +299,50 @@ places_of s ms m n places same is are =
     subst (λ (ks : List Fields). ArePlaces (λ k. k.predecessor ≡ n) ks places) same
     (subst (λ (x : Node). ArePlaces (λ k. k.predecessor ≡ x) ms places) is are)
 
-pub seen_some : (rank : ℕ) (spans : List (Option Span)) (nodes : List Node) (markers : List Fields) (places : List ℕ)
+pub seen_some : (rank : ℕ) (ranges : List (Option RankRange)) (nodes : List Node) (markers : List Fields)
+    (places : List ℕ)
     → ¬ (length places ≡ 0)
-    → gather_all no_span (map (span_of spans nodes) (flat_map (successors_at markers) places))
-    ≡ seen_at rank spans nodes markers places
-seen_some rank spans nodes markers [] some = absurd (some refl)
-seen_some rank spans nodes markers (p ∷ ps) some = refl
+    → gather_all no_range (map (range_of ranges nodes) (flat_map (successors_at markers) places))
+    ≡ seen_at rank ranges nodes markers places
+seen_some rank ranges nodes markers [] some = absurd (some refl)
+seen_some rank ranges nodes markers (p ∷ ps) some = refl
 
--- one successor alone hands its span on
+-- one successor alone hands its range on
 pub seen_only : (s : ReplicaState) (nodes : List Node) (n : Node) (places : List ℕ)
-    → ArePlaces (λ m. m.predecessor ≡ n) s.markers places → (spans : List (Option Span)) (rank : ℕ) (x : Node)
+    → ArePlaces (λ m. m.predecessor ≡ n) s.markers places → (ranges : List (Option RankRange)) (rank : ℕ) (x : Node)
     → IsOnlySuccessor s.markers places x → (j : ℕ) (y : Node) → AreOnce nodes → At nodes j y
     → IsRewrittenTo (content_of s) n y
-    → gathered no_span (span_at spans j) ≡ seen_at rank spans nodes s.markers places
-seen_only s nodes n places are spans rank x only j y once at to =
+    → gathered no_range (range_at ranges j) ≡ seen_at rank ranges nodes s.markers places
+seen_only s nodes n places are ranges rank x only j y once at to =
     let w = (rewritten_places s places n are y).1 to in
     let p_is : only.0 ≡ w.0 = Contains-one only.0 w.0 (subst (λ (ps : List ℕ). Contains ps w.0) only.1 w.1) in
     let same : x ≡ y = Contains-one x y
     (subst (λ (ns : List Node). Contains ns y) (ap (successors_at s.markers) (sym p_is) ∙ only.2) w.2) in
-    let span : span_of spans nodes x ≡ span_at spans j = ap (span_of spans nodes) same
-    ∙ span_at_number spans nodes j y once at in
+    let range : range_of ranges nodes x ≡ range_at ranges j = ap (range_of ranges nodes) same
+    ∙ range_at_number ranges nodes j y once at in
     let flat : flat_map (successors_at s.markers) (only.0 ∷ []) ≡ x ∷ [] = append-nil (successors_at s.markers only.0)
     ∙ only.2 in
-    ap (gathered no_span) (sym span)
-    ∙ sym (ap (seen_at rank spans nodes s.markers) only.1
-    ∙ ap (λ (ns : List Node). gather_all no_span (map (span_of spans nodes) ns)) flat)
+    ap (gathered no_range) (sym range)
+    ∙ sym (ap (seen_at rank ranges nodes s.markers) only.1
+    ∙ ap (λ (ns : List Node). gather_all no_range (map (range_of ranges nodes) ns)) flat)
 
 -- ---- one node more is seen
 
-module _ (s : ReplicaState) (ranks : List ℕ) (nodes : List Node) (order : List Settled) (rows : List (List ℕ))
+module _ (s : ReplicaState) (ranks : List ℕ) (nodes : List Node) (order : List Closed) (rows : List (List ℕ))
     (once : AreOnce nodes) (all : length rows ≡ length nodes) (exact : AreRows (content_of s) nodes rows)
-    (is_order : IsOrder rows order) (i : ℕ) (e : Settled) (at : At order i e) (old : Survey)
-    (before : IsSurveyed s ranks nodes order i old) (g : Gathered)
-    (cyclic : IsTrue e.cyclic → g ≡ no_span)
+    (is_order : IsOrder rows order) (i : ℕ) (e : Closed) (at : At order i e) (old : Ranges)
+    (before : AreSeen s ranks nodes order i old) (g : Gathered)
+    (cyclic : IsTrue e.cyclic → g ≡ no_range)
     (seen : e.cyclic ≡ false → (n : Node) → At nodes e.node n
-    → IsSeen s old.spans.items nodes (get_or ranks e.node 0) n g) where
+    → IsSeen s old.ranges.items nodes (get_or ranks e.node 0) n g) where
   told : (x : Node) → At nodes e.node x → e.cyclic ≡ false → (y : Node) → IsRewrittenTo (content_of s) x y
-      → IsSpan (content_of s) ranks nodes y (span_of old.spans.items nodes y)
+      → IsRange (content_of s) ranks nodes y (range_of old.ranges.items nodes y)
   told x x_at off y to =
       let edge = edge_from (content_of s) nodes rows once all exact e.node x y x_at to in
       let earlier = is_order.after i e edge.0 at off edge.2 in
       let y_at : At nodes earlier.1.node y = subst (λ j. At nodes j y) (sym earlier.4) edge.1 in
-      subst (IsSpan (content_of s) ranks nodes y)
-      (sym (span_at_number old.spans.items nodes earlier.1.node y once y_at))
+      subst (IsRange (content_of s) ranks nodes y)
+      (sym (range_at_number old.ranges.items nodes earlier.1.node y once y_at))
       (before.seen earlier.0 earlier.1 y earlier.2 earlier.3 y_at)
 
   on_cycle_is : (x : Node) → At nodes e.node x → IsTrue e.cyclic ↔ IsOnCycle (content_of s) x
@@ -345,16 +351,16 @@ module _ (s : ReplicaState) (ranks : List ℕ) (nodes : List Node) (order : List
       let known = is_order.cyclic i e at in
       ((λ t. cycles.0 (known.0 t)), (λ on. known.1 (cycles.1 on)))
 
-  span_right : (x : Node) → At nodes e.node x → IsSpan (content_of s) ranks nodes x g.span
-  span_right x x_at = elim (cases_Bool e.cyclic) [
+  range_right : (x : Node) → At nodes e.node x → IsRange (content_of s) ranks nodes x g.range
+  range_right x x_at = elim (cases_Bool e.cyclic) [
     | inl t ↦
         let on = (on_cycle_is x x_at).0 t in
-        subst (λ (h : Gathered). IsSpan (content_of s) ranks nodes x h.span) (sym (cyclic t))
-        (span_on_cycle (content_of s) ranks nodes x on (λ p pick. pick_on_cycle (content_of s) x p on pick))
+        subst (λ (h : Gathered). IsRange (content_of s) ranks nodes x h.range) (sym (cyclic t))
+        (range_on_cycle (content_of s) ranks nodes x on (λ p pick. pick_on_cycle (content_of s) x p on pick))
     | inr off ↦
         let w = seen off x x_at in
-        subst (λ (h : Gathered). IsSpan (content_of s) ranks nodes x h.span) (sym w.2)
-        (span_by_spans s ranks nodes x w.0 w.1 old.spans.items e.node once x_at
+        subst (λ (h : Gathered). IsRange (content_of s) ranks nodes x h.range) (sym w.2)
+        (range_by_ranges s ranks nodes x w.0 w.1 old.ranges.items e.node once x_at
         (λ on. true≢false (sym ((on_cycle_is x x_at).1 on) ∙ off)) (told x x_at off))
   ]
 
@@ -363,30 +369,30 @@ module _ (s : ReplicaState) (ranks : List ℕ) (nodes : List Node) (order : List
     | inl t ↦ absurd (off ((on_cycle_is x x_at).0 t))
     | inr f ↦
         let w = seen f x x_at in
-        apart_by_spans s ranks nodes x w.0 w.1 old.spans.items (get_or ranks e.node 0) (told x x_at f)
+        apart_by_ranges s ranks nodes x w.0 w.1 old.ranges.items (get_or ranks e.node 0) (told x x_at f)
         (subst (λ (h : Gathered). h.are_apart ≡ true) w.2 apart)
   ]
 
-  pub surveyed_more : (new : Survey) → new.spans.items ≡ set old.spans.items e.node g.span
-      → ((x : Node) → Contains old.tangled.keys x → Contains new.tangled.keys x)
-      → (g.are_apart ≡ false → (x : Node) → At nodes e.node x → Contains new.tangled.keys x) → HasStarts s new
-      → IsSurveyed s ranks nodes order (i + 1) new
-  surveyed_more new spans kept tangled starts = record {
-    long = ap length spans ∙ length-set {A = Option Span} old.spans.items e.node g.span ∙ before.long;
-    seen = λ k d x l d_at x_at. subst (λ (ss : List (Option Span)). IsSpan (content_of s) ranks nodes x
-        (span_at ss d.node)) (sym spans) (elim (cases_eq d.node e.node) [
+  pub seen_more : (new : Ranges) → new.ranges.items ≡ set old.ranges.items e.node g.range
+      → ((x : Node) → Contains old.overlapping.keys x → Contains new.overlapping.keys x)
+      → (g.are_apart ≡ false → (x : Node) → At nodes e.node x → Contains new.overlapping.keys x) → HasStarts s new
+      → AreSeen s ranks nodes order (i + 1) new
+  seen_more new ranges kept overlapping starts = record {
+    long = ap length ranges ∙ length-set {A = Option RankRange} old.ranges.items e.node g.range ∙ before.long;
+    seen = λ k d x l d_at x_at. subst (λ (ss : List (Option RankRange)). IsRange (content_of s) ranks nodes x
+        (range_at ss d.node)) (sym ranges) (elim (cases_eq d.node e.node) [
           | inl same ↦
               let here' : At nodes e.node x = subst (λ j. At nodes j x) same x_at in
-              let written : span_at (set old.spans.items e.node g.span) d.node ≡ g.span =
-              ap (span_at (set old.spans.items e.node g.span)) same
-              ∙ span_written old.spans.items e.node g.span
+              let written : range_at (set old.ranges.items e.node g.range) d.node ≡ g.range =
+              ap (range_at (set old.ranges.items e.node g.range)) same
+              ∙ range_written old.ranges.items e.node g.range
               (let m = slice_get_within nodes e.node x here' in omega (arith, m, before.long)) in
-              subst (IsSpan (content_of s) ranks nodes x) (sym written) (span_right x here')
-          | inr other ↦ subst (IsSpan (content_of s) ranks nodes x)
-              (sym (span_kept old.spans.items e.node d.node g.span other))
+              subst (IsRange (content_of s) ranks nodes x) (sym written) (range_right x here')
+          | inr other ↦ subst (IsRange (content_of s) ranks nodes x)
+              (sym (range_kept old.ranges.items e.node d.node g.range other))
               (elim (cases_lt k i) [
                 | inl earlier ↦ before.seen k d x earlier d_at x_at
-                | inr last ↦ absurd (other (ap (λ (c : Settled). c.node) (same_entry k d l d_at last)))
+                | inr last ↦ absurd (other (ap (λ (c : Closed). c.node) (same_entry k d l d_at last)))
               ])
         ]);
     judged = λ k d x l d_at x_at off. elim (cases_lt k i) [
@@ -394,23 +400,23 @@ module _ (s : ReplicaState) (ranks : List ℕ) (nodes : List Node) (order : List
           [ inl apart ↦ inl apart | inr in' ↦ inr (kept x in') ]
       | inr last ↦
           let here' : At nodes e.node x =
-          subst (λ (c : Settled). At nodes c.node x) (same_entry k d l d_at last) x_at in
+          subst (λ (c : Closed). At nodes c.node x) (same_entry k d l d_at last) x_at in
           elim (cases_Bool g.are_apart) [
             | inl apart ↦ inl (apart_right x here' apart off)
-            | inr not' ↦ inr (tangled not' x here')
+            | inr not' ↦ inr (overlapping not' x here')
           ]
     ];
     starts = starts;
   }
     where
-      same_entry : (k : ℕ) (d : Settled) → k < i + 1 → At order k d → i ≤ k → d ≡ e
+      same_entry : (k : ℕ) (d : Closed) → k < i + 1 → At order k d → i ≤ k → d ≡ e
       same_entry k d l d_at last =
           let k_is : k ≡ i = omega (arith, l, last) in
           get_one order i d e (subst (λ j. At order j d) k_is d_at) at
 
-  -- what a tangled node was rewritten to is among the starts
-  pub starts_more : (row : List ℕ) (new : Survey) → At rows e.node row → (n : Node) → At nodes e.node n
-      → ((x : Node) → Contains new.tangled.keys x → Contains old.tangled.keys x ⊎ (n ≡ x))
+  -- what a overlapping node was rewritten to is among the starts
+  pub starts_more : (row : List ℕ) (new : Ranges) → At rows e.node row → (n : Node) → At nodes e.node n
+      → ((x : Node) → Contains new.overlapping.keys x → Contains old.overlapping.keys x ⊎ (n ≡ x))
       → ((j : ℕ) (y : Node) → Contains row j → At nodes j y → Contains new.starts.keys y)
       → ((x : Node) → Contains old.starts.keys x → Contains new.starts.keys x) → HasStarts s new
   starts_more row new row_at n n_at only listed kept x y h to = elim (only x h) [
@@ -423,26 +429,27 @@ module _ (s : ReplicaState) (ranks : List ℕ) (nodes : List Node) (order : List
 
 -- ---- the plan
 
--- each node that isn't tangled has successors with nothing in common, and what tangled ones lead to is listed
-module _ (s : ReplicaState) (nodes : List Node) (order : List Settled) (survey : Survey)
-    (seen : Surveys s nodes order survey) (count : ℕ) (all : count ≡ length nodes)
+-- each node that isn't overlapping has successors with nothing in common, and what overlapping ones lead to is listed
+module _ (s : ReplicaState) (nodes : List Node) (order : List Closed) (found : Ranges)
+    (seen : AreJudged s nodes order found) (count : ℕ) (all : count ≡ length nodes)
     (listed : (x : ℕ) → x < count → IsListed order x)
-    (closure : List Node) (first : (n : Node) → Contains survey.starts.keys n → Contains closure n)
+    (closure : List Node) (first : (n : Node) → Contains found.starts.keys n → Contains closure n)
     (closed : (n y : Node) → Contains closure n → IsRewrittenTo (content_of s) n y → Contains closure y) where
-  pub plan_closed : (n y : Node) → Contains closure n ⊎ Contains survey.tangled.keys n
+  pub plan_closed : (n y : Node) → Contains closure n ⊎ Contains found.overlapping.keys n
       → IsRewrittenTo (content_of s) n y → Contains closure y
   plan_closed n y h to = elim h [
     | inl in' ↦ closed n y in' to
-    | inr tangled ↦ first y (seen.starts n y tangled to)
+    | inr overlapping ↦ first y (seen.starts n y overlapping to)
   ]
 
-  pub plan_apart : (n : Node) → Contains nodes n → ¬ (IsOnCycle (content_of s) n) → ¬ (Contains survey.tangled.keys n)
+  pub plan_apart : (n : Node) → Contains nodes n → ¬ (IsOnCycle (content_of s) n)
+      → ¬ (Contains found.overlapping.keys n)
       → IsApart s n
   plan_apart n h off out =
       let at = place_from_Contains nodes n h in
       let w = listed at.0 (let l = slice_get_within nodes at.0 n at.1 in omega (arith, l, all)) in
       elim (seen.judged w.0 w.1 n w.3 (subst (λ j. At nodes j n) (sym w.4) at.1) off)
-      [ inl apart ↦ apart | inr tangled ↦ absurd (out tangled) ]
+      [ inl apart ↦ apart | inr overlapping ↦ absurd (out overlapping) ]
 
 -- numbered nodes are closed
 pub closed_nodes : (s : ReplicaState) (roots nodes : List Node) (rows : List (List ℕ))
