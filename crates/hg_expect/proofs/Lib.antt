@@ -1,0 +1,2 @@
+pub mod FilledLemmas
+pub mod LineLemmas
