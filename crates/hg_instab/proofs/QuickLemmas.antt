@@ -24,7 +24,7 @@ use Rattle.hg_instab.specs.Local.{IsParentOf, StandsUnstably, HoldsNothing}
 use Rattle.hg_instab.specs.Near.{IsAfterPublic, IsRegion}
 use Rattle.hg_instab.specs.Quick.{IsApart, IsLeaf, IsStable, AreStable, AreUnchanged, IsRewrittenLeaf}
 use Rattle.hg_instab.specs.Region.{IsTouched, AreStarts}
-use Rattle.hg_instab.specs.Turns.{GainsExtinct, IsTold}
+use Rattle.hg_instab.specs.Turns.{GainsExtinct, TurnsTo}
 use Rattle.hg_instab.proofs.AddedLemmas as touched
 use Rattle.hg_instab.proofs.AfterPublicLemmas.{after-unmet}
 use Rattle.hg_instab.proofs.ChangedLemmas.{held-after, parent-after, parent-before, predecessor-after}
@@ -355,7 +355,7 @@ module _ (s t : ReplicaState) (change : ChangeValue) (v : IsValid t) (is : IsCha
 
   -- ---- without a new marker
 
-  pub nothing-told : change.markers ≡ [] → IsTold After sets Nothing
+  pub nothing-told : change.markers ≡ [] → TurnsTo After sets Nothing
   nothing-told unmarked = now-told (λ m fresh. absurd (no-fresh m fresh)) (λ n. ⊥) (λ n. inr (λ h. h))
       (λ n seed. inl (elim seed [ inl moves ↦ moved-in n moves | inr fresh ↦ absurd (no-fresh fresh.0 fresh.1) ]))
       (λ n h. absurd h) sets (record {
@@ -408,7 +408,7 @@ module _ (s t : ReplicaState) (change : ChangeValue) (v : IsValid t) (is : IsCha
       λ h. elim h [ inl fork ↦ leaf.once fork | inr near ↦ leaf.away near ],
     )
 
-    pub extinct-told : IsTold After sets (NewlyExtinct from)
+    pub extinct-told : TurnsTo After sets (NewlyExtinct from)
     extinct-told = now-told (λ x fresh. subst IsQuiet (sym (fresh-is x fresh)) quiet-marker) (λ n. n ≡ from)
         (λ n. node_cases n from)
         (λ n seed. elim seed [

@@ -27,7 +27,7 @@ use Rattle.hg_instab.specs.declared.waiting.Beside.{Beside}
 use Rattle.hg_instab.specs.declared.waiting.Beside.TheVariants.{Children, Parents}
 use Rattle.hg_instab.specs.Changed.{IsNow}
 use Rattle.hg_instab.specs.Local.{IsParentOf, StandsUnstably, HoldsNothing}
-use Rattle.hg_instab.specs.Settling.{IsTurned, IsBeside, IsSoAt, IsAtEach, IsTold, beside_of, IsLater}
+use Rattle.hg_instab.specs.Settling.{IsTurned, IsBeside, IsSoAt, IsAtEach, IsSoBy, beside_of, IsLater}
 use Rattle.hg_instab.specs.Settling.{IsSettling, SettlesAt}
 use Rattle.hg_instab.proofs.TurnedLemmas.{now-alike, now-none, now-turned, others-alike}
 use Rattle.hg_instab.proofs.WaitingLemmas.{beside-within}
@@ -153,12 +153,12 @@ extinct-local s v A B n k at near h = (
 
 -- ---- by kind
 
-pub faithful : (kind : Kind) (f : Content) → IsFaithful (IsTold kind f)
+pub faithful : (kind : Kind) (f : Content) → IsFaithful (IsSoBy kind f)
 faithful Orphan f = orphans-faithful f
 faithful Extinct f = extinct-faithful f
 
 pub local : (kind : Kind) (s : ReplicaState) → IsValid s
-    → GoesBy (changesets s.history) (beside_of kind) (IsTold kind (content_of s))
+    → GoesBy (changesets s.history) (beside_of kind) (IsSoBy kind (content_of s))
 local Orphan s v = orphans-local s v
 local Extinct s v = extinct-local s v
 

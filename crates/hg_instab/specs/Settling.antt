@@ -34,10 +34,10 @@ WaitFrom beside cs places others waiting = (k : ℕ)
 
 -- ---- by kind
 
--- how it is told of a changeset by what is so of others
-abbrev pub IsTold : Kind → Content → (Node → Type 0) → Node → Type 0
-IsTold Orphan f = StandsUnstably f
-IsTold Extinct f = HoldsNothing f
+-- it is so of a changeset, by what is so of others
+abbrev pub IsSoBy : Kind → Content → (Node → Type 0) → Node → Type 0
+IsSoBy Orphan f = StandsUnstably f
+IsSoBy Extinct f = HoldsNothing f
 
 -- where those stand of which it is told by what is so here
 abbrev pub beside_of : Kind → Beside

@@ -121,7 +121,7 @@ pub record GainsExtinct (before : InstabilitySets) (P : Node → Type 0) (after 
   pub near_forks : after.near_forks ≡ before.near_forks
 
 -- what it leaves of the sets is what those of g are to have
-abbrev pub IsTold : Content → InstabilitySets → Turning → Type 0
-IsTold g sets Nothing = AreInstabilities g sets
-IsTold g sets (NewlyExtinct node) = (after : InstabilitySets) → GainsExtinct sets (λ n. n ≡ node) after
+abbrev pub TurnsTo : Content → InstabilitySets → Turning → Type 0
+TurnsTo g sets Nothing = AreInstabilities g sets
+TurnsTo g sets (NewlyExtinct node) = (after : InstabilitySets) → GainsExtinct sets (λ n. n ≡ node) after
     → AreInstabilities g after

@@ -13,7 +13,7 @@ ghost use Rattle.hg_instab.specs.Changed.{IsChangedTo};
 ghost use Rattle.hg_instab.specs.Instabilities.{AreInstabilities};
 ghost use Rattle.hg_instab.specs.Quick.{IsApart, IsLeaf, StandsStably, IsStable, IsAway, AreStable};
 ghost use Rattle.hg_instab.specs.Quick.{AreUnchanged, IsRewrittenLeaf};
-ghost use Rattle.hg_instab.specs.Turns.{IsTold};
+ghost use Rattle.hg_instab.specs.Turns.{TurnsTo};
 
 use crate::amend::only_fresh;
 use crate::among::is_missing;
@@ -43,7 +43,7 @@ pub(crate) fn quick_turning(
     change: &Change,
 ) -> Option<Turning>
     ensures { IfSome result (λ turning. (s : ReplicaState) → IsChangedTo s change.now replica.now
-        → AreInstabilities (content_of s) sets.now → IsTold (content_of replica.now) sets.now turning) }
+        → AreInstabilities (content_of s) sets.now → TurnsTo (content_of replica.now) sets.now turning) }
 {
     replica.is_valid();
     if change.markers.is_empty() {
@@ -67,7 +67,7 @@ fn by_marker(
 ) -> Option<Turning>
     ensures { IsOnlyFresh replica.now.markers change.now marker.now → IfSome result (λ turning. (s : ReplicaState)
         → IsChangedTo s change.now replica.now → AreInstabilities (content_of s) sets.now
-        → IsTold (content_of replica.now) sets.now turning) }
+        → TurnsTo (content_of replica.now) sets.now turning) }
 {
     let node = marker.predecessor();
     match replica.graph().place(node) {

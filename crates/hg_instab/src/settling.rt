@@ -9,7 +9,7 @@ ghost use Rattle.hg_phases.specs.State.{changesets};
 ghost use Rattle.hg_replica.specs.State.{IsValid};
 ghost use Rattle.hg_replica.specs.Content.{content_of};
 ghost use Rattle.hg_instab.specs.Changed.{IsNow};
-ghost use Rattle.hg_instab.specs.Settling.{IsTold, beside_of, TakesNext, IsSettling, SettlesAt};
+ghost use Rattle.hg_instab.specs.Settling.{IsSoBy, beside_of, TakesNext, IsSettling, SettlesAt};
 
 use crate::extinct_walk::is_extinct_now;
 use crate::holders::Holders;
@@ -40,7 +40,7 @@ pub(crate) fn settle_all(
 ) -> Result<BTreeSet<Node>, AllocError>
     requires { (k : ℕ) → Contains starts k → k < length (changesets replica.now.history) }
     ensures { IfOk result (λ turned. IsSettling (changesets replica.now.history)
-        (IsTold kind (content_of replica.now)) set.now.keys starts turned.keys []) }
+        (IsSoBy kind (content_of replica.now)) set.now.keys starts turned.keys []) }
 {
     let mut turned = BTreeSet::new(alloc);
     let mut waiting = starts;
@@ -80,7 +80,7 @@ fn settle_at(
 ) -> Result<(), AllocError>
     ensures valid { IsValid replica.now }
     ensures settled { OnOk result (SettlesAt (changesets replica.now.history) (beside_of kind)
-        (IsTold kind (content_of replica.now)) set.now.keys place turned.old.keys waiting.old turned.new.keys
+        (IsSoBy kind (content_of replica.now)) set.now.keys place turned.old.keys waiting.old turned.new.keys
         waiting.new) }
 {
     let graph = replica.graph();
@@ -109,7 +109,7 @@ fn is_so_now(
     node: Node,
 ) -> bool
     requires { IsAt (changesets replica.now.history) node place }
-    ensures { IsTrue result ↔ IsTold kind (content_of replica.now) (IsNow set.now.keys turned.now.keys) node }
+    ensures { IsTrue result ↔ IsSoBy kind (content_of replica.now) (IsNow set.now.keys turned.now.keys) node }
 {
     match kind {
         Kind::Orphan => is_orphan_now(replica, set, turned, place, node),

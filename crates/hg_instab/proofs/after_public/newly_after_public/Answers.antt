@@ -19,5 +19,6 @@ returns c =
     ↔ IsReached (IsRewrittenBeyond known c.store.result.now) starts n) (sym c.as_slice.ensures.keys)
     c.in_ok-seen.ensures) in
     IfOk-weaker c.set_of.result _ _ (λ met told s v follows exact. after-met s c.args.replica.now c.args.change.now
-    known starts seen follows exact c.in_ok-starts.ensures walked met.keys (λ n. along (told n) (c.in_ok-met.ensures n)))
+    known starts seen follows exact c.in_ok-starts.ensures walked met.keys
+    (λ n. along (told n) (c.in_ok-met.ensures n)))
     c.set_of.ensures

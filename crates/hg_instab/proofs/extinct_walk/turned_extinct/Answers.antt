@@ -24,7 +24,8 @@ returns c =
     let t = c.args.replica.now in
     let seeds = c.args.seeds.now in
     let starts = c.in_ok-waiting.waiting in
-    let from = wait-along Parents c.graph-graph.result.now (changesets t.history) c.graph-graph.ensures.graph seeds seeds
+    let from =
+    wait-along Parents c.graph-graph.result.now (changesets t.history) c.graph-graph.ensures.graph seeds seeds
     starts c.in_ok-waiting.ensures in
     IfOk-weaker c.settle_all.result _ _
     (λ turned settling s change valid follows given kept. extinct-settled s t change valid

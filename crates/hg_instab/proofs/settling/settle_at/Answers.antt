@@ -8,7 +8,7 @@ use Rattle.hg_graph.specs.Waiting.{Widens}
 use Rattle.hg_phases.specs.State.{changesets}
 use Rattle.hg_replica.specs.Content.{content_of}
 use Rattle.hg_instab.specs.declared.waiting.Beside.{Beside}
-use Rattle.hg_instab.specs.Settling.{IsBeside, IsTold, beside_of}
+use Rattle.hg_instab.specs.Settling.{IsBeside, IsSoBy, beside_of}
 use Rattle.hg_instab.proofs.SettlingLemmas.{settles-same, settles-turned, local, never-beside}
 use Rattle.hg_instab.proofs.settling.settle_at.Goals as goal
 
@@ -19,7 +19,7 @@ returns-then-is_so_now-has_now-clause-settled c =
     let at : IsAt (changesets s.history) node c.args.place =
     subst (λ (cs : List Contents). slice_get (nodes cs) c.args.place ≡ Some node) c.graph-graph.ensures.graph
     (sym c.node_at.ensures ∙ c.in-Some.is) in
-    settles-same (changesets s.history) (beside_of c.args.kind) (IsTold c.args.kind (content_of s)) c.args.set.now.keys
+    settles-same (changesets s.history) (beside_of c.args.kind) (IsSoBy c.args.kind (content_of s)) c.args.set.now.keys
     c.args.place c.args.turned.now.keys c.args.waiting.now node at c.is_so_now.result c.has_now.result
     c.is_so_now.ensures c.has_now.ensures c.if-is_so_now-has_now.true
 
@@ -40,7 +40,7 @@ returns-in_ok-turn-in-Some-clause-settled c =
     subst (λ (cs : List Contents). slice_get (nodes cs) place ≡ Some node) c.graph-graph.ensures.graph
     (sym c.node_at.ensures ∙ c.in-Some.is) in
     on_ok_weaker c.wait_beside_place.result
-    (settles-turned (changesets s.history) (beside_of kind) (IsTold kind (content_of s)) c.args.set.now.keys place
+    (settles-turned (changesets s.history) (beside_of kind) (IsSoBy kind (content_of s)) c.args.set.now.keys place
     c.args.turned.now.keys waiting node at c.is_so_now.result c.has_now.result c.is_so_now.ensures
     c.has_now.ensures v.graph (local kind s v) (never-beside kind (changesets s.history) v.graph place)
     c.if-is_so_now-has_now.false c.turn.new.turned.keys waiting_now c.in_ok-turn-in-Some.ensures)

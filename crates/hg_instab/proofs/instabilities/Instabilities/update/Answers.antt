@@ -3,7 +3,7 @@ use Rattle.std.proofs.lemmas.List.{nil_from_length}
 use Rattle.std.proofs.lemmas.Result.{on_ok_weaker}
 use Rattle.hg_replica.specs.Content.{content_of}
 use Rattle.hg_instab.specs.Instabilities.{InstabilitySets}
-use Rattle.hg_instab.specs.Turns.{AreThen, IsTold}
+use Rattle.hg_instab.specs.Turns.{AreThen, TurnsTo}
 use Rattle.hg_instab.proofs.KeptLemmas.{kept-then}
 use Rattle.hg_instab.proofs.UnmarkedLemmas.{unmarked-kept}
 use Rattle.hg_instab.proofs.instabilities.Instabilities.update.Goals as goal
@@ -17,7 +17,7 @@ returns-then-is_empty-clause-kept c =
 pub returns-in-Some-NewlyExtinct-clause-kept : goal.returns-in-Some-NewlyExtinct-clause-kept
 returns-in-Some-NewlyExtinct-clause-kept c =
     on_ok_weaker c.make_extinct.result
-    (λ gained s is at. subst (IsTold (content_of c.args.replica.now) c.args.self.now) c.in-Some-NewlyExtinct.field-0-is
+    (λ gained s is at. subst (TurnsTo (content_of c.args.replica.now) c.args.self.now) c.in-Some-NewlyExtinct.field-0-is
     (c.in-Some-NewlyExtinct.ensures s is at) c.make_extinct.new.self gained)
     c.make_extinct.ensures.gained
 
