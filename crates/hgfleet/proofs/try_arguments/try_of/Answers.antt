@@ -1,4 +1,4 @@
-use Rattle.std.proofs.Common.{List, Option, Some, ap, codes, sym, ◌∙◌}
+use Rattle.std.proofs.Common.{List, Some, ap, codes, sym, ◌∙◌}
 use Rattle.clap.specs.Words.{Text, found_of, rows_of}
 use Rattle.hgfleet.specs.TryArguments.{trial_of, words_given}
 use Rattle.hgfleet.proofs.try_arguments.try_of.Goals as goal
