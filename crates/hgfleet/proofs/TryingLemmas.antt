@@ -1,42 +1,44 @@
 -- What a trial of files is, and why trials and comparisons end early.
 use Rattle.std.proofs.Common.{◌≡◌, ◌<◌, ◌∙◌, ℕ, List, Option, String, ap, get_or, inl, inr, length, map, refl, subst}
-use Rattle.std.proofs.Common.{sym}
+use Rattle.std.proofs.Common.{ap₂, sym}
 use Rattle.std.specs.Borrow.{Bor}
 use Rattle.std.specs.Io.KnownBytes.{Appends}
-use Rattle.std.specs.Prelude.{string_bytes}
+use Rattle.std.specs.Prelude.{None, Some, [], option_map, string_bytes}
 use Rattle.std.proofs.lemmas.List.{length-map}
 use Rattle.std.specs.declared.alloc.Global.{Global}
 use Rattle.std.proofs.lemmas.List.Elements.{Contains-get_or}
+use Rattle.hg_changeset.specs.declared.node.Node.{Node}
 use Rattle.hg_log.specs.Drawings.{Text}
 use Rattle.hg_preview.specs.declared.messages.NamedMessage.{NamedMessage}
 use Rattle.hg_preview.specs.Answers.{texts_of}
 use Rattle.hg_replica.specs.State.{ReplicaState, nothing_held}
 use Rattle.hg_trial.specs.declared.tried.Answer.{Answer}
 use Rattle.hg_trial.specs.Trials.{AnswersTo, IsLeastOfTaken}
+use Rattle.hg_view.specs.Kept.{KeptValue}
 use Rattle.hgfleet.specs.declared.failure.Failure.{Failure}
 use Rattle.hgfleet.specs.declared.failure.Failure.TheVariants as failed
 use Rattle.hgfleet.specs.Commands.{IsOutputFailure}
-use Rattle.hgfleet.specs.declared.try_arguments.Account.{Account}
-use Rattle.hgfleet.specs.Trying.{EndsCompared, EndsComparison, EndsTrial, IsAccount, IsTrial, IsUnread, IsUnreadAmong}
-use Rattle.hgfleet.specs.Trying.{IsWantOfMemory}
+use Rattle.hgfleet.specs.declared.try_arguments.WantedTrial.{WantedTrial}
+use Rattle.hgfleet.specs.Trying.{EndsCompared, EndsComparison, EndsTrial, IsAccount, IsAnsweredTrial, IsTrial, IsUnread}
+use Rattle.hgfleet.specs.Trying.{IsTargetUnwritten, IsUnreadAmong, IsWantOfMemory, standing}
 
 -- ---- why it ends
 
-pub output_ends_trial : (names : List (String Global)) (account : Account) (held holds : Option Text)
-    (failure : Failure) → IsOutputFailure failure → EndsTrial names account held holds failure
-output_ends_trial names account held holds failure (inl is) =
-    subst (EndsTrial names account held holds) (sym is) (inr (inl refl))
-output_ends_trial names account held holds failure (inr is) =
-    subst (EndsTrial names account held holds) (sym is) (inr (inr refl))
+pub output_ends_trial : (wanted : WantedTrial) (held holds : Option Text) (failure : Failure)
+    → IsOutputFailure failure → EndsTrial wanted held holds failure
+output_ends_trial wanted held holds failure (inl is) =
+    subst (EndsTrial wanted held holds) (sym is) (inr (inl refl))
+output_ends_trial wanted held holds failure (inr is) =
+    subst (EndsTrial wanted held holds) (sym is) (inr (inr refl))
 
 pub output_ends_comparison : (held holds : Option Text) (failure : Failure) → IsOutputFailure failure
     → EndsCompared held holds failure
 output_ends_comparison held holds failure (inl is) = subst (EndsCompared held holds) (sym is) (inr (inl refl))
 output_ends_comparison held holds failure (inr is) = subst (EndsCompared held holds) (sym is) (inr (inr refl))
 
-pub memory_ends_trial : (names : List (String Global)) (account : Account) (held holds : Option Text)
-    (failure : Failure) → IsWantOfMemory failure → EndsTrial names account held holds failure
-memory_ends_trial names account held holds failure is = output_ends_trial names account held holds failure (inr is)
+pub memory_ends_trial : (wanted : WantedTrial) (held holds : Option Text) (failure : Failure)
+    → IsWantOfMemory failure → EndsTrial wanted held holds failure
+memory_ends_trial wanted held holds failure is = output_ends_trial wanted held holds failure (inr is)
 
 pub memory_unread : (names : List (String Global)) (failure : Failure) → IsWantOfMemory failure
     → IsUnreadAmong names failure
@@ -56,17 +58,17 @@ unread_among names i d failed.Unread within is = absurd is
 unread_among names i d failed.NotTaken within is = absurd is
 unread_among names i d failed.Differ within is = absurd is
 
-pub unread_ends_trial : (names : List (String Global)) (account : Account) (held : Option Text) (failure : Failure)
-    → IsUnreadAmong names failure → EndsTrial names account held held failure
-unread_ends_trial names account held (failed.File told fault) is = (is, refl)
-unread_ends_trial names account held (failed.Run fault) is = inr (inr is)
-unread_ends_trial names account held (failed.Told told) is = absurd is
-unread_ends_trial names account held (failed.Refused count) is = absurd is
-unread_ends_trial names account held (failed.Show fault) is = absurd is
-unread_ends_trial names account held (failed.UnknownName name) is = absurd is
-unread_ends_trial names account held failed.Unread is = absurd is
-unread_ends_trial names account held failed.NotTaken is = absurd is
-unread_ends_trial names account held failed.Differ is = absurd is
+pub unread_ends_trial : (wanted : WantedTrial) (held : Option Text) (failure : Failure)
+    → IsUnreadAmong wanted.files.items failure → EndsTrial wanted held held failure
+unread_ends_trial wanted held (failed.File told fault) is = inl (is, refl)
+unread_ends_trial wanted held (failed.Run fault) is = inr (inr is)
+unread_ends_trial wanted held (failed.Told told) is = absurd is
+unread_ends_trial wanted held (failed.Refused count) is = absurd is
+unread_ends_trial wanted held (failed.Show fault) is = absurd is
+unread_ends_trial wanted held (failed.UnknownName name) is = absurd is
+unread_ends_trial wanted held failed.Unread is = absurd is
+unread_ends_trial wanted held failed.NotTaken is = absurd is
+unread_ends_trial wanted held failed.Differ is = absurd is
 
 pub first_ends : (first second : Text) (held : Option Text) (failure : Failure) → IsUnread first failure
     → EndsComparison first second held held failure
@@ -108,14 +110,42 @@ compared_ends first second held holds failed.Differ h = h
 -- ---- a trial
 
 -- there are as many messages as names
-pub trial_told : (names : List (String Global)) (named messages : List NamedMessage) (account : Account)
-    (answers : List Answer) (trial : ReplicaState) (held holds : Option Text) → length named ≡ length names
-    → messages ≡ named → AnswersTo nothing_held (texts_of messages) answers trial
-    → IsLeastOfTaken (texts_of messages) answers trial
-    → ((text : Text) × IsAccount account answers trial text × Appends held holds text)
-    → IsTrial (length names) account answers held holds
-trial_told names named messages account answers trial held holds count same answered least written =
+pub trial_told : (wanted : WantedTrial) (named messages : List NamedMessage) (answers : List Answer)
+    (trial : ReplicaState) (held holds : Option Text) → length named ≡ length wanted.files.items → messages ≡ named
+    → AnswersTo nothing_held (texts_of messages) answers trial → IsLeastOfTaken (texts_of messages) answers trial
+    → ((text : Text) × IsAccount wanted.account answers trial text × Appends held holds text)
+    → IsTrial wanted answers held holds
+trial_told wanted named messages answers trial held holds count same answered least written =
     let bytes_of : NamedMessage → Bor Text = λ message. message.bytes in
     let text_of : Bor Text → Text = λ bytes. bytes.now in
     let all = length-map (map bytes_of messages) text_of ∙ length-map messages bytes_of ∙ ap length same ∙ count in
     (texts_of messages, trial, written.0, all, answered, least, written.1, written.2)
+
+-- where the file that is named wasn't written, all messages were answered
+unwritten_to : (wanted : WantedTrial) (target : Option (String Global)) (held holds : Option Text) (failure : Failure)
+    → wanted.target ≡ target → IsTargetUnwritten target failure → IsAnsweredTrial wanted held holds
+    → EndsTrial wanted held holds failure
+unwritten_to wanted (Some name) held holds (failed.File told fault) e is answered =
+    inr (ap (option_map string_bytes) e ∙ ap Some (sym is), answered)
+unwritten_to wanted (Some name) held holds (failed.Run fault) e is answered = inr (inr is)
+unwritten_to wanted (Some name) held holds (failed.Told told) e is answered = absurd is
+unwritten_to wanted (Some name) held holds (failed.Refused count) e is answered = absurd is
+unwritten_to wanted (Some name) held holds (failed.Show fault) e is answered = absurd is
+unwritten_to wanted (Some name) held holds (failed.UnknownName unknown) e is answered = absurd is
+unwritten_to wanted (Some name) held holds failed.Unread e is answered = absurd is
+unwritten_to wanted (Some name) held holds failed.NotTaken e is answered = absurd is
+unwritten_to wanted (Some name) held holds failed.Differ e is answered = absurd is
+unwritten_to wanted None held holds failure e is answered = absurd is
+
+pub unwritten_ends_trial : (wanted : WantedTrial) (held holds : Option Text) (failure : Failure)
+    → IsTargetUnwritten wanted.target failure → IsAnsweredTrial wanted held holds → EndsTrial wanted held holds failure
+unwritten_ends_trial wanted held holds failure is answered =
+    unwritten_to wanted wanted.target held holds failure refl is answered
+
+-- ---- what is shown
+
+-- a replica that pins nothing is what stands after a trial
+pub stands : (kept : KeptValue) (trial : ReplicaState) → kept.replica ≡ trial → kept.pins ≡ []
+    → (standing trial).1 ≡ kept
+stands kept trial same none =
+    ap₂ (λ (replica : ReplicaState) (pins : List Node). record { replica = replica; pins = pins }) (sym same) (sym none)

@@ -1,7 +1,7 @@
 -- The command line of the program, and what its words ask for.
 use Rattle.std.specs.Prelude.{ℕ, Bool, List, ◌∷◌, [], ◌≡◌, ◌≢◌, ◌⊎◌, ◌≤◌, codes, true, false, pos, drop, map}
 use Rattle.std.specs.Prelude.{if◌then◌else◌, Option, Some, None, Result, Ok, Err, option_and_then}
-use Rattle.std.specs.Prelude.{String, string_bytes, ◌||◌}
+use Rattle.std.specs.Prelude.{String, option_map, string_bytes, ◌||◌}
 use Rattle.std.specs.Borrow.{Bor}
 use Rattle.std.specs.Str.{bytes_eq}
 use Rattle.std.specs.Str.Parse.{digits_value, without_leading_plus}
@@ -22,6 +22,7 @@ use Rattle.hgfleet.specs.declared.arguments.Wanted.TheVariants.{Run, RunTold, Ra
 use Rattle.hgfleet.specs.declared.arguments.Wanted.TheVariants.{Version, Try, Compare}
 use Rattle.hgfleet.specs.TryArguments.{TrialOptions, compare_app, files_compared, flag_given, flag_rule, try_app}
 use Rattle.hgfleet.specs.TryArguments.{try_given, words_given}
+use Rattle.hgfleet.specs.declared.try_arguments.WantedTrial.{WantedTrial}
 use Rattle.hgfleet.specs.declared.arguments.ArgumentFault.{ArgumentFault}
 use Rattle.hgfleet.specs.declared.arguments.ArgumentFault.TheVariants.{BadArguments, NotText, NoMemory}
 
@@ -283,6 +284,10 @@ IsWithinBounds _ = Unit {0}
 abbrev pub texts_of : List (String Global) → List Text
 texts_of = map string_bytes
 
+-- the options that a trial has
+abbrev pub options_of_trial : WantedTrial → TrialOptions
+options_of_trial trial = (texts_of trial.files.items, trial.account, option_map string_bytes trial.target)
+
 -- the wanted is the race of these numbers, the log with these options, and so on
 abbrev pub IsRaceOf : Option (ℕ × ℕ) → Option Wanted → Type 0
 IsRaceOf numbers (Some (Race nodes rounds)) = numbers ≡ Some (nodes, rounds)
@@ -305,7 +310,7 @@ IsWhyOf names (Some (Why nodes)) = names ≡ texts_of nodes.items
 IsWhyOf names _ = ⊥
 
 abbrev pub IsTryOf : Option TrialOptions → Option Wanted → Type 0
-IsTryOf options (Some (Try files account)) = options ≡ Some (texts_of files.items, account)
+IsTryOf options (Some (Try trial)) = options ≡ Some (options_of_trial trial)
 IsTryOf options None = options ≡ None
 IsTryOf options _ = ⊥
 
@@ -333,7 +338,7 @@ MeetsWanted met (Some (Log nodes shows_hidden picture)) =
 MeetsWanted met (Some (Show form)) = show_met met ≡ Some form
 MeetsWanted met (Some (Write form name)) = write_met met ≡ Some (form, string_bytes name)
 MeetsWanted met (Some (Why nodes)) = why_met met ≡ Some (texts_of nodes.items)
-MeetsWanted met (Some (Try files account)) = try_met met ≡ Some (texts_of files.items, account)
+MeetsWanted met (Some (Try trial)) = try_met met ≡ Some (options_of_trial trial)
 MeetsWanted met (Some (Compare first second)) = compare_met met ≡ Some (string_bytes first, string_bytes second)
 MeetsWanted met (Some _) = ⊥
 MeetsWanted met None =
@@ -377,8 +382,8 @@ ArgumentsAnswer words (Ok (Show form)) = (faults_at words ≡ []) × (shown_form
 ArgumentsAnswer words (Ok (Write form name)) =
     (faults_at words ≡ []) × (written_form words ≡ Some (form, string_bytes name))
 ArgumentsAnswer words (Ok (Why nodes)) = (faults_at words ≡ []) × (why_names words ≡ Some (texts_of nodes.items))
-ArgumentsAnswer words (Ok (Try files account)) =
-    (faults_at words ≡ []) × (trial_options words ≡ Some (texts_of files.items, account))
+ArgumentsAnswer words (Ok (Try trial)) =
+    (faults_at words ≡ []) × (trial_options words ≡ Some (options_of_trial trial))
 ArgumentsAnswer words (Ok (Compare first second)) =
     (faults_at words ≡ []) × (compared_files words ≡ Some (string_bytes first, string_bytes second))
 ArgumentsAnswer words (Ok (Help e)) = IsAmong DisplayHelp (faults_at words)

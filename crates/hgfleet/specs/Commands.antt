@@ -1,6 +1,6 @@
 -- What the program does, and why it ends early.
 use Rattle.std.specs.Prelude.{◌≡◌, ◌⊎◌, ◌≤◌, ◌==◌, ◌++◌, ◌∷◌, [], ℕ, Bool, true, false, List, Option, None, Some, Err}
-use Rattle.std.specs.Prelude.{length, All, IsSome, MatchOption, String, codes, if◌then◌else◌, string_bytes}
+use Rattle.std.specs.Prelude.{All, IsSome, MatchOption, String, codes, if◌then◌else◌, string_bytes}
 use Rattle.std.specs.declared.alloc.Global.{Global}
 use Rattle.std.specs.Io.KnownBytes.{Appends}
 use Rattle.std.specs.List.{Contains}
@@ -200,7 +200,7 @@ IsDone (Show form) known held holds before after =
     (bytes : Text) × (text : Text) × IsInput known bytes × IsShown form bytes text × Appends held holds text
 IsDone (Write form name) known held holds before after =
     WritesForm form (string_bytes name) known held holds before after
-IsDone (Try files account) known held holds before after = IsTakenTrial (length files.items) account held holds
+IsDone (Try trial) known held holds before after = IsTakenTrial trial held holds
 IsDone (Compare first second) known held holds before after = IsComparison (Some true) held holds
 IsDone (Help error) known held holds before after = Unit {0}
 IsDone (Version error) known held holds before after = Unit {0}
@@ -254,8 +254,7 @@ IsFailure (Show form) known left held holds before after (failed.Show fault) =
     ⊎ ((bytes : Text) × IsInput known bytes × ShowAnswer {A = Unit {0}} (fault_in form bytes) (Err fault))
 IsFailure (Write form name) known left held holds before after failure =
     EndsAfterScript known (IsUnknownOf form (string_bytes name)) before after failure
-IsFailure (Try files account) known left held holds before after failure =
-    EndsTrial files.items account held holds failure
+IsFailure (Try trial) known left held holds before after failure = EndsTrial trial held holds failure
 IsFailure (Compare first second) known left held holds before after failure =
     EndsComparison (string_bytes first) (string_bytes second) held holds failure
 IsFailure (Help error) known left held holds before after failure = failure ≡ failed.Run run.Write

@@ -30,9 +30,17 @@ abbrev pub try_log_app : App
 try_log_app = with_rule (with_rule (with_rule (new_app (codes "try")) (flag_rule (codes "log")))
     (flag_rule (codes "hidden"))) (flag_rule (codes "dot"))
 
--- `try` with its flags and the names of files
+-- an option `--write TARGET`
+abbrev pub target_rule : Rule
+target_rule = record (new_rule (codes "write")) { long = Some (codes "write"); value_names = 1 }
+
+-- `try` with its flags
+abbrev pub try_flags_app : App
+try_flags_app = with_rule (with_rule try_log_app (flag_rule (codes "why"))) (flag_rule (codes "json"))
+
+-- `try` with its flags, the file that is written, and the names of files
 abbrev pub try_app : App
-try_app = with_rule (with_rule (with_rule try_log_app (flag_rule (codes "why"))) (flag_rule (codes "json"))) files_rule
+try_app = with_rule (with_rule try_flags_app target_rule) files_rule
 
 -- a file, which must be given
 abbrev pub file_rule : Text → Rule
@@ -71,18 +79,28 @@ account_given rows = if flag_given (codes "log") rows
     else account_without_log (flag_given (codes "dot") rows) (flag_given (codes "json") rows)
     (flag_given (codes "hidden") rows) (flag_given (codes "why") rows)
 
--- the names of files that are tried, and what is printed of that
+-- the names of files that are tried, what is printed of that, and which file is written, if any
 abbrev pub TrialOptions : Type 0
-TrialOptions = List Text × Account
+TrialOptions = List Text × Account × Option Text
 
 -- with the account, where there is one
-abbrev pub trial_of : List Text → Option Account → Option TrialOptions
-trial_of files (Some account) = Some (files, account)
-trial_of files None = None
+abbrev pub trial_of : List Text → Option Account → Option Text → Option TrialOptions
+trial_of files (Some account) target = Some (files, account, target)
+trial_of files None target = None
 
--- what is given for a trial, none where flags exclude each other
+-- the text is the name that stands for a stream
+abbrev pub is_hyphen : Option Text → Bool
+is_hyphen (Some text) = bytes_eq text (codes "-")
+is_hyphen None = false
+
+-- where no stream is to be the file that is written
+abbrev pub trial_to : List Text → Option Account → Option Text → Option TrialOptions
+trial_to files account target = if is_hyphen target then None else trial_of files account target
+
+-- what is given for a trial, none where flags exclude each other, or a stream is to be the file that is written
 abbrev pub try_given : List Row → Option TrialOptions
-try_given rows = trial_of (words_given (codes "files") rows) (account_given rows)
+try_given rows =
+    trial_to (words_given (codes "files") rows) (account_given rows) (first_of (codes "write") rows)
 
 -- two texts, where both are given
 abbrev pub both_texts : Option Text → Option Text → Option (Text × Text)

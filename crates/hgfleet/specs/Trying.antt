@@ -1,11 +1,18 @@
 -- What is answered of files of messages.
 use Rattle.std.specs.Prelude.{◌≡◌, ◌⊎◌, ◌≤◌, ◌++◌, ◌∷◌, [], ℕ, List, All, Bool, Contains, Option, None, Some, IfSome}
-use Rattle.std.specs.Prelude.{String, codes, false, if◌then◌else◌, length, string_bytes, true}
+use Rattle.std.specs.Prelude.{Err, Ok, Result, String, codes, false, if◌then◌else◌, length, option_map, string_bytes}
+use Rattle.std.specs.Prelude.{true}
 use Rattle.std.specs.declared.alloc.Global.{Global}
 use Rattle.std.specs.Io.KnownBytes.{Appends}
 use Rattle.hg_log.specs.Drawings.{Text}
 use Rattle.hg_log.specs.Graphs.{IsGraphOf}
 use Rattle.hg_log.specs.Objects.{IsArray, NodeState}
+use Rattle.hg_message.specs.declared.refusal.OfferRefusal.{OfferRefusal}
+use Rattle.hg_message.specs.declared.scope.Scope.TheVariants.{Whole}
+use Rattle.hg_message.specs.Offer.{IsOfferOf}
+use Rattle.hg_message.specs.Outgoing.{FindAnswer, WriteAnswer}
+use Rattle.hg_message.specs.Spelling.{message_spelling}
+use Rattle.hg_message.specs.Value.{MessageValue}
 use Rattle.hg_preview.specs.Answers.{AreAnswersText}
 use Rattle.hg_preview.specs.Comparisons.{ComparesMessages}
 use Rattle.hg_replica.specs.State.{ReplicaState, nothing_held}
@@ -13,10 +20,12 @@ use Rattle.hg_script.specs.declared.fault.RunFault.TheVariants.{NoMemory, Read, 
 use Rattle.hg_trial.specs.declared.tried.Answer.{Answer}
 use Rattle.hg_trial.specs.declared.tried.Answer.TheVariants.{Taken, Refused}
 use Rattle.hg_trial.specs.Trials.{AnswersTo, IsLeastOfTaken}
+use Rattle.hg_view.specs.Kept.{KeptValue}
 use Rattle.hgfleet.specs.declared.failure.Failure.{Failure}
 use Rattle.hgfleet.specs.declared.failure.Failure.TheVariants.{Differ, File, NotTaken, Run}
 use Rattle.hgfleet.specs.declared.try_arguments.Account.{Account}
 use Rattle.hgfleet.specs.declared.try_arguments.Account.TheVariants.{Answers, Drawn, Graph, Array}
+use Rattle.hgfleet.specs.declared.try_arguments.WantedTrial.{WantedTrial}
 use Rattle.hgfleet.specs.Drawings.{IsDrawing}
 
 -- 1 GiB
@@ -64,27 +73,43 @@ IsAccount account answers trial text =
     (told : Text) × (shown : Text) × AreTold account answers told × IsShownOf account trial shown
     × (text ≡ told ++ shown)
 
--- so many messages were answered so, one after the other, and this account was written of it
-abbrev pub IsTrial : ℕ → Account → List Answer → Option Text → Option Text → Type 0
-IsTrial count account answers held holds =
-    (messages : List Text) × (trial : ReplicaState) × (text : Text) × (length messages ≡ count)
+-- as many messages as files are named were answered so, one after the other, and the account was written of it
+abbrev pub IsTrial : WantedTrial → List Answer → Option Text → Option Text → Type 0
+IsTrial wanted answers held holds =
+    (messages : List Text) × (trial : ReplicaState) × (text : Text) × (length messages ≡ length wanted.files.items)
     × AnswersTo nothing_held messages answers trial × IsLeastOfTaken messages answers trial
-    × IsAccount account answers trial text × Appends held holds text
+    × IsAccount wanted.account answers trial text × Appends held holds text
 
--- so many messages were taken
-abbrev pub IsTakenTrial : ℕ → Account → Option Text → Option Text → Type 0
-IsTakenTrial count account held holds =
-    (answers : List Answer) × IsTrial count account answers held holds × AreTaken answers
+-- the messages were taken
+abbrev pub IsTakenTrial : WantedTrial → Option Text → Option Text → Type 0
+IsTakenTrial wanted held holds = (answers : List Answer) × IsTrial wanted answers held holds × AreTaken answers
 
--- so many messages were answered, and one was refused
-abbrev pub IsRefusedTrial : ℕ → Account → Option Text → Option Text → Type 0
-IsRefusedTrial count account held holds =
-    (answers : List Answer) × IsTrial count account answers held holds × ¬ (AreTaken answers)
+-- the messages were answered, and one was refused
+abbrev pub IsRefusedTrial : WantedTrial → Option Text → Option Text → Type 0
+IsRefusedTrial wanted held holds = (answers : List Answer) × IsTrial wanted answers held holds × ¬ (AreTaken answers)
+
+-- the messages were answered, whatever it was
+abbrev pub IsAnsweredTrial : WantedTrial → Option Text → Option Text → Type 0
+IsAnsweredTrial wanted held holds = (answers : List Answer) × IsTrial wanted answers held holds
 
 -- two messages were compared with this answer
 abbrev pub IsComparison : Option Bool → Option Text → Option Text → Type 0
 IsComparison answer held holds =
     (first : Text) × (second : Text) × ComparesMessages first second held holds answer
+
+-- ---- what is written to a file
+
+-- what the offer is of all that is held and isn't secret, hidden or not, with every marker
+abbrev pub IsWholeOffer : KeptValue → MessageValue → Type 0
+IsWholeOffer kept found = IsOfferOf kept.replica kept.pins [] Whole found
+
+-- the answer to a call that makes the bytes of that offer: they are its written form; or the offer isn't found, or not
+-- written, for the reason that is told
+abbrev pub WholeAnswer : {A : Type 0} → (A → Text) → KeptValue → Result A OfferRefusal → Type 0
+WholeAnswer bytes kept (Ok x) = (found : MessageValue) × IsWholeOffer kept found × (bytes x ≡ message_spelling found)
+WholeAnswer {A = A} bytes kept (Err refusal) =
+    FindAnswer kept.replica kept.pins [] Whole (Err refusal)
+    ⊎ ((found : MessageValue) × IsWholeOffer kept found × WriteAnswer bytes found (Err refusal))
 
 -- ---- why these end early
 
@@ -103,13 +128,26 @@ IsUnreadAmong names (File told fault) = (s : String Global) × Contains names s 
 IsUnreadAmong names (Run fault) = fault ≡ NoMemory
 IsUnreadAmong names _ = ⊥
 
--- a trial of these files: a message was refused; or a file wasn't read, and nothing was written; or there are no keys,
--- or a write failed, or memory was wanting
-abbrev pub EndsTrial : List (String Global) → Account → Option Text → Option Text → Failure → Type 0
-EndsTrial names account held holds NotTaken = IsRefusedTrial (length names) account held holds
-EndsTrial names account held holds (File told fault) = IsUnreadAmong names (File told fault) × (holds ≡ held)
-EndsTrial names account held holds (Run fault) = (fault ≡ Read) ⊎ ((fault ≡ Write) ⊎ (fault ≡ NoMemory))
-EndsTrial names account held holds _ = ⊥
+-- the file of this name wasn't written, or there was no memory for what is
+abbrev pub IsUnwritten : Text → Failure → Type 0
+IsUnwritten name (File told fault) = told.now ≡ name
+IsUnwritten name (Run fault) = fault ≡ NoMemory
+IsUnwritten name _ = ⊥
+
+-- the file that is named wasn't written
+abbrev pub IsTargetUnwritten : Option (String Global) → Failure → Type 0
+IsTargetUnwritten (Some name) failure = IsUnwritten (string_bytes name) failure
+IsTargetUnwritten None failure = ⊥
+
+-- a trial: a message was refused; or a file wasn't read, and nothing was printed; or all messages were answered, and the
+-- file that is written wasn't; or there are no keys, or a write failed, or memory was wanting
+abbrev pub EndsTrial : WantedTrial → Option Text → Option Text → Failure → Type 0
+EndsTrial wanted held holds NotTaken = IsRefusedTrial wanted held holds
+EndsTrial wanted held holds (File told fault) =
+    (IsUnreadAmong wanted.files.items (File told fault) × (holds ≡ held))
+    ⊎ ((option_map string_bytes wanted.target ≡ Some told.now) × IsAnsweredTrial wanted held holds)
+EndsTrial wanted held holds (Run fault) = (fault ≡ Read) ⊎ ((fault ≡ Write) ⊎ (fault ≡ NoMemory))
+EndsTrial wanted held holds _ = ⊥
 
 -- a comparison, once both files are read: they differ, or one of the messages was refused
 abbrev pub EndsCompared : Option Text → Option Text → Failure → Type 0

@@ -19,7 +19,7 @@ ghost use Rattle.hgfleet.specs.TryArguments.{flag_given, flag_rule, words_given}
 ghost use Rattle.hgfleet.specs.Arguments.{argument_fault_number, argument_fault_status, argument_fault_text};
 
 use crate::try_arguments::{
-    Account, compare_command, compare_of, excluding_flags, try_command, try_of,
+    WantedTrial, compare_command, compare_of, excluding_flags, try_command, try_of,
 };
 use clap::error::ErrorKind;
 use clap::{Arg, ArgAction, ArgMatches, Command, Error, value_parser};
@@ -73,12 +73,8 @@ pub enum Wanted {
     /// That it is told why changesets of these nodes are unstable as the script of standard input leaves them, of all
     /// nodes where none is named.
     Why(Vec<String>),
-    /// That the messages of these files are taken one after the other into a repository that holds nothing at first,
-    /// and what is printed of that.
-    Try {
-        files: Vec<String>,
-        account: Account,
-    },
+    /// That messages are taken one after the other into a repository that holds nothing at first.
+    Try(WantedTrial),
     /// That it is told in what the repositories of the messages of two files differ.
     Compare {
         first: String,
@@ -272,7 +268,7 @@ static FORMS: [&str; 3] = ["store", "roots", "message"];
 /// flags behind it. A race has the number of its nodes, from 2 to 16, and that of its rounds, from 1 to 1,000. A log
 /// may have names of nodes and flags, of which those of two pictures exclude each other. What is shown has a form, what
 /// is written a form and a name, and what is told names of nodes. A trial has names of files and flags, of which those
-/// of two accounts exclude each other, and a comparison has two names of files.
+/// of two accounts exclude each other, and maybe a file that is written, and a comparison has two names of files.
 pub fn read_args(alloc: Global, words: &[&str]) -> Result<Wanted, ArgumentFault>
     ensures { ArgumentsAnswer (map (λ s. s.now) words.now) result }
 {

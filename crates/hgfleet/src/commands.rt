@@ -80,9 +80,7 @@ pub fn perform<
         Wanted::Write { form, name } => {
             return write(rt, reader, writer, told, *form, name);
         }
-        Wanted::Try { files, account } => {
-            return try_files(rt, secret_keys(rt)?, files, *account, reader, writer);
-        }
+        Wanted::Try(trial) => return try_files(rt, secret_keys(rt)?, trial, reader, writer),
         Wanted::Compare { first, second } => {
             return compare_files(rt, secret_keys(rt)?, first, second, reader, writer);
         }

@@ -23,7 +23,7 @@ pub enum Failure<'a> {
     Show(ShowFault),
     /// The script leaves no node, or no message, of this name.
     UnknownName(&'a str),
-    /// The file of this name wasn't read.
+    /// The file of this name wasn't read, or written.
     File(&'a str, FileFault),
     /// A message of files was refused.
     NotTaken,

@@ -1,4 +1,4 @@
-//! Files, which are read whole.
+//! Files, which are read and written whole.
 ghost use Rattle.std.specs.Prelude.{◌≡◌, ◌≤◌, IfOk, length};
 ghost use Rattle.hgfleet.specs.Trying.{IsFileRead, file_limit};
 
@@ -10,13 +10,17 @@ use std::{fmt, fs};
 /// The most bytes that a file may have: 1 GiB.
 pub const FILE_LIMIT: u64 = 1_073_741_824;
 
-/// Why a file wasn't read.
+/// Why a file wasn't read, or written.
 #[derive(Clone, Copy, PartialEq, Eq, Debug)]
 pub enum FileFault {
     /// There is none, or it can't be read, as a folder.
     Unread,
     /// It has more than [`FILE_LIMIT`] bytes.
     TooLarge,
+    /// It can't be written.
+    Unwritten,
+    /// What is written to it is more than a message can hold.
+    TooMuch,
     /// There was no memory for its bytes.
     NoMemory,
 }
@@ -26,6 +30,8 @@ impl fmt::Display for FileFault {
         match *self {
             FileFault::Unread => write!(f, "can't be read"),
             FileFault::TooLarge => write!(f, "is larger than 1 GiB"),
+            FileFault::Unwritten => write!(f, "can't be written"),
+            FileFault::TooMuch => write!(f, "this is more than a message can hold"),
             FileFault::NoMemory => write!(f, "no memory"),
         }
     }

@@ -16,7 +16,7 @@ pub fn invitation(wanted: &Wanted) -> Option<&'static str> {
             Some("hgfleet: reading bytes from standard input; end them with Ctrl-D")
         }
         Wanted::Race { .. }
-        | Wanted::Try { .. }
+        | Wanted::Try(_)
         | Wanted::Compare { .. }
         | Wanted::Help(_)
         | Wanted::Version(_) => None,

@@ -1,10 +1,11 @@
 //! The arguments of a trial and of a comparison.
-ghost use Rattle.std.specs.Prelude.{◌≡◌, IfOk, codes, false};
+ghost use Rattle.std.specs.Prelude.{◌≡◌, IfOk, codes, false, option_map, string_bytes};
 ghost use Rattle.clap.specs.Words.{app_of, found_of, kind_of, rows_of, rule_of};
 ghost use Rattle.clap.specs.declared.builder.command.Command.TheViews.{out-Command};
 ghost use Rattle.hgfleet.specs.Arguments.{IsCompareOf, IsTryOf};
 ghost use Rattle.hgfleet.specs.TryArguments.{account_given, account_of_log, account_without_log, compare_app};
-ghost use Rattle.hgfleet.specs.TryArguments.{file_rule, files_compared, files_rule, try_app, try_given};
+ghost use Rattle.hgfleet.specs.TryArguments.{file_rule, files_compared, files_rule, is_hyphen, target_rule, try_app};
+ghost use Rattle.hgfleet.specs.TryArguments.{try_given};
 
 use crate::arguments::{Wanted, flag, flag_of, words_of};
 use crate::drawing::Drawing;
@@ -25,6 +26,17 @@ pub enum Account {
     Array,
 }
 
+/// What is tried, and what comes of that.
+#[derive(Drop)]
+pub struct WantedTrial {
+    /// The files whose messages are taken, in this order.
+    pub files: Vec<String>,
+    /// What is printed.
+    pub account: Account,
+    /// The file that a message of all that stands then is written to, if any.
+    pub target: Option<String>,
+}
+
 // What would become of a repository.
 const TRY_HELP: &str = "\
 Takes the messages of the files one after the other, each whole or not at all, into a repository that holds nothing at
@@ -41,12 +53,16 @@ draws that of a node, and with --why what is unstable, as `hgfleet why` tells it
 language of Graphviz is all that is printed, and with --json an array of all changesets, hidden or not; what messages
 were answered is then told by the status alone.
 
-Statuses: 0 done, 1 a message that is refused, a file that can't be read, or a text that can't be written,
+With --write TARGET a message of all that stands then goes to the file TARGET, whichever else is printed, also where a
+message was refused; other trials and comparisons take it in.
+
+Statuses: 0 done, 1 a message that is refused, a file that can't be read or written, or a text that can't be written,
 2 wrong arguments, 3 want of memory.
 
 For example:
   hgfleet try mine.message theirs.message
-  hgfleet try --log --hidden mine.message theirs.message";
+  hgfleet try --log --hidden mine.message theirs.message
+  hgfleet try --write both.message mine.message theirs.message";
 
 // In what two repositories differ.
 const COMPARE_HELP: &str = "\
@@ -85,7 +101,18 @@ pub(crate) fn try_command<'a>(alloc: Global) -> Result<Command<'a>, AllocError>
             "json",
             "Prints an array of JSON of what stands then, and nothing else",
         ))?
+        .arg(target_argument(alloc))?
         .arg(files_argument(alloc))
+}
+
+// The file that is written.
+fn target_argument<'a>(alloc: Global) -> Arg<'a>
+    ensures { (rule_of result ≡ target_rule) × (result.global ≡ false) }
+{
+    Arg::new(alloc, "write")
+        .long("write")
+        .value_name("TARGET")
+        .help("Writes a message of all that stands then to the file TARGET")
 }
 
 // The names of files, one at least.
@@ -120,14 +147,47 @@ fn file_argument<'a>(alloc: Global, name: &'a str, shown: &'a str, help: &'a str
         .help(help)
 }
 
-/// That the messages of these files are tried, with this account of it, none where flags exclude each other.
+/// That the messages of these files are tried, with this account of it, none where flags exclude each other, or
+/// standard output is to be the file that is written.
 pub(crate) fn try_of(alloc: Global, given: &ArgMatches<'_>) -> Result<Option<Wanted>, AllocError>
     ensures { IfOk result (IsTryOf (try_given (rows_of (found_of given.now)))) }
 {
+    let target = given.get_str("write");
+    if is_hyphen(target) {
+        return Ok(None);
+    }
     match account_of(given) {
         Some(account) => {
             let files = words_of(alloc, given, "files")?;
-            Ok(Some(Wanted::Try { files, account }))
+            let target = copy_of(alloc, target)?;
+            Ok(Some(Wanted::Try(WantedTrial {
+                files,
+                account,
+                target,
+            })))
+        }
+        None => Ok(None),
+    }
+}
+
+// Whether the text is the name that stands for a stream.
+fn is_hyphen(text: Option<&str>) -> bool
+    ensures { result ≡ is_hyphen (option_map (λ s. s.now) text.entry) }
+{
+    match text {
+        Some(text) => text == "-",
+        None => false,
+    }
+}
+
+// A copy of the text, where there is one.
+fn copy_of(alloc: Global, text: Option<&str>) -> Result<Option<String>, AllocError>
+    ensures { IfOk result (λ copy. option_map string_bytes copy ≡ option_map (λ s. s.now) text.entry) }
+{
+    match text {
+        Some(text) => {
+            let copy = String::from_str(alloc, text)?;
+            Ok(Some(copy))
         }
         None => Ok(None),
     }
@@ -186,7 +246,8 @@ pub(crate) fn excluding_flags(alloc: Global, words: &[&str]) -> Result<Error, Al
     try_command(alloc)?.error(ErrorKind::ArgumentConflict, exclusion(words))
 }
 
-// What is said of the first two flags that exclude each other, or of one that says how a log is drawn, without it.
+// What is said of the first two flags that exclude each other, of one that says how a log is drawn, without it, or of
+// standard output as the file that is written.
 fn exclusion(words: &[&str]) -> &'static str {
     let draws_log = has_flag(words, "--log");
     let tells_why = has_flag(words, "--why");
@@ -194,8 +255,13 @@ fn exclusion(words: &[&str]) -> &'static str {
         (true, true, _) => "the argument '--log' cannot be used with '--why'",
         (true, false, true) => "the argument '--log' cannot be used with '--json'",
         (false, true, true) => "the argument '--why' cannot be used with '--json'",
-        _ if has_flag(words, "--dot") => "the argument '--dot' cannot be used without '--log'",
-        _ => "the argument '--hidden' cannot be used without '--log'",
+        (false, _, _) if has_flag(words, "--dot") => {
+            "the argument '--dot' cannot be used without '--log'"
+        }
+        (false, _, false) if has_flag(words, "--hidden") => {
+            "the argument '--hidden' cannot be used without '--log'"
+        }
+        _ => "the argument '--write <TARGET>' cannot be used with '-'",
     }
 }
 

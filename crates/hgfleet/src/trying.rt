@@ -7,59 +7,63 @@ ghost use Rattle.hg_replica.specs.State.{nothing_held};
 ghost use Rattle.hg_trial.specs.Trials.{AnswersTo, IsLeastOfTaken};
 ghost use Rattle.hgfleet.specs.Trying.{AreTaken, AreTold, EndsCompared, EndsComparison, EndsTrial, IsAccount};
 ghost use Rattle.hgfleet.specs.Trying.{IsComparison, IsShownOf, IsTakenOne, IsTakenTrial, IsUnread, IsUnreadAmong};
-ghost use Rattle.hgfleet.specs.Trying.{standing, tells_answers};
+ghost use Rattle.hgfleet.specs.Trying.{IsTargetUnwritten, IsUnwritten, WholeAnswer, standing, tells_answers};
 
 use crate::drawing::draw;
 use crate::failure::Failure;
 use crate::files::{FileFault, read_file};
-use crate::try_arguments::Account;
+use crate::try_arguments::{Account, WantedTrial};
 use hg_log::{DrawFault, NamedNode, draw_graphs, draw_objects};
+use hg_message::{OfferRefusal, Outgoing, Scope};
 use hg_node_set::IdKeys;
 use hg_preview::{NamedMessage, compare_messages, write_trial};
 use hg_script::RunFault;
 use hg_trial::{Answer, Trial, Tried};
+use hg_view::Kept;
 use std::alloc::{AllocError, Global};
+use std::fs;
 use std::io::{Read, Write, sink};
 use std::rt::Files;
 
-/// Takes the messages of these files one after the other into what holds nothing, and writes this account of it. All
-/// files are read before anything is written; the name `-` stands for what the reader has.
+/// Takes the messages of files one after the other into what holds nothing, and writes the account that is wanted. All
+/// files are read before anything is written; the name `-` stands for what the reader has. Where a target is named, a
+/// message of all that stands then is written to the file of that name, also where a message was refused.
 pub fn try_files<'a, H: AllocGlobal + Files, R: Read, W: Write>(
     rt: &H,
     keys: IdKeys,
-    names: &'a [String],
-    account: Account,
+    wanted: &'a WantedTrial,
     reader: &mut R,
     writer: &mut W,
 ) -> Result<(), Failure<'a>>
-    ensures done { OnOk result
-        (IsTakenTrial (length names.entry.now) account (W.contents writer.old) (W.contents writer.new)) }
-    ensures failed { IfErr result
-        (EndsTrial names.entry.now account (W.contents writer.old) (W.contents writer.new)) }
+    ensures done { OnOk result (IsTakenTrial wanted.entry.now (W.contents writer.old) (W.contents writer.new)) }
+    ensures failed { IfErr result (EndsTrial wanted.entry.now (W.contents writer.old) (W.contents writer.new)) }
 {
-    let alloc = rt.alloc();
-    match read_files(alloc, rt, names, reader) {
-        Ok(contents) => try_contents(alloc, keys, names, &contents, account, writer),
+    match read_files(rt.alloc(), rt, &wanted.files, reader) {
+        Ok(contents) => try_contents(rt, keys, wanted, &contents, writer),
         Err(failure) => Err(failure),
     }
 }
 
-// Takes messages with these bytes, by the names of their files, and writes this account of it.
-fn try_contents<W: Write>(
-    alloc: Global,
+// Takes messages with these bytes, by the names of their files, writes the account, and a message of what stands then
+// to the target.
+fn try_contents<'a, H: AllocGlobal + Files, W: Write>(
+    rt: &H,
     keys: IdKeys,
-    names: &[String],
+    wanted: &'a WantedTrial,
     contents: &[Vec<u8>],
-    account: Account,
     writer: &mut W,
-) -> Result<(), Failure<'static>>
-    requires { length names.now ≡ length contents.now }
-    ensures done { OnOk result
-        (IsTakenTrial (length names.now) account (W.contents writer.old) (W.contents writer.new)) }
-    ensures failed { IfErr result (EndsTrial names.now account (W.contents writer.old) (W.contents writer.new)) }
+) -> Result<(), Failure<'a>>
+    requires { length wanted.now.files.items ≡ length contents.now }
+    ensures done { OnOk result (IsTakenTrial wanted.entry.now (W.contents writer.old) (W.contents writer.new)) }
+    ensures failed { IfErr result (EndsTrial wanted.entry.now (W.contents writer.old) (W.contents writer.new)) }
 {
-    let messages = messages_of(alloc, names, contents)?;
-    let tried = write_account(alloc, keys, &messages, account, writer)?;
+    let alloc = rt.alloc();
+    let messages = messages_of(alloc, &wanted.files, contents)?;
+    let tried = write_account(alloc, keys, &messages, wanted.account, writer)?;
+    match write_target(alloc, rt, tried.trial.kept(), &wanted.target) {
+        Ok(()) => {}
+        Err(failure) => return Err(failure),
+    }
     if are_taken(&tried.answers) {
         Ok(())
     } else {
@@ -133,6 +137,50 @@ fn show_standing<W: Write>(
         Account::Drawn(drawing) => draw(alloc, node.name, node.kept, drawing, writer),
         Account::Graph { shows_hidden } => draw_graphs(alloc, &[node], shows_hidden, writer),
         Account::Array => draw_objects(alloc, &[node], true, writer),
+    }
+}
+
+// Writes a message of what is held to the target, where there is one.
+fn write_target<'a, F: Files>(
+    alloc: Global,
+    files: &F,
+    kept: &Kept,
+    target: &'a Option<String>,
+) -> Result<(), Failure<'a>>
+    ensures { IfErr result (IsTargetUnwritten target.entry.now) }
+{
+    match target {
+        Some(name) => write_message(alloc, files, kept, name.as_str()),
+        None => Ok(()),
+    }
+}
+
+// Writes a message of what is held to the file of this name.
+fn write_message<'a, F: Files>(
+    alloc: Global,
+    files: &F,
+    kept: &Kept,
+    name: &'a str,
+) -> Result<(), Failure<'a>>
+    ensures { IfErr result (IsUnwritten name.entry.now) }
+{
+    match whole_offer(alloc, kept) {
+        Ok(bytes) => match fs::write(files, name, bytes) {
+            Ok(()) => Ok(()),
+            Err(_) => Err(Failure::File(name, FileFault::Unwritten)),
+        },
+        Err(OfferRefusal::NoMemory) => Err(Failure::Run(RunFault::NoMemory)),
+        Err(_) => Err(Failure::File(name, FileFault::TooMuch)),
+    }
+}
+
+// The bytes of a message of all that is held and isn't secret, hidden or not, with every marker.
+fn whole_offer(alloc: Global, kept: &Kept) -> Result<Vec<u8>, OfferRefusal>
+    ensures { WholeAnswer (λ bytes. bytes.items) kept.now result }
+{
+    match Outgoing::above_kept(alloc, kept, &[], Scope::Whole) {
+        Ok(found) => found.to_bytes(),
+        Err(refusal) => Err(refusal),
     }
 }
 
