@@ -187,7 +187,7 @@ module _ (s t : State) (valid : IsValid s) (graph : IsGraph (changesets t)) (abo
         let n_is : first ≡ length (changesets s) = counted ∙ count-before in
         let S : ℕ → Type 0 = IsTouched (changesets t) (length (changesets s)) change.lowered in
         record {
-          len = updated.taken.len ∙ updated.settled.len ∙ long;
+          len = updated.taken.len ∙ updated.recomputed.len ∙ long;
           exact = tops-after (changesets t) (IsPublicAt s) (IsPublicAt t) S public-fresh public-same public-kept
               public-closed (length (changesets s)) before old new (λ k le. inl le)
               (ap (λ m. take m old) (sym are.len) ∙ grown)
@@ -206,7 +206,7 @@ module _ (s t : State) (valid : IsValid s) (graph : IsGraph (changesets t)) (abo
         let S : ℕ → Type 0 = IsTouched (changesets t) (length (changesets s)) [] in
         let whole = ap length tells.order ∙ length-append (changesets s) tells.new in
         record {
-          len = updated.taken.len ∙ updated.settled.len ∙ long;
+          len = updated.taken.len ∙ updated.recomputed.len ∙ long;
           exact = tops-after (changesets t) (IsPlace s) (IsPlace t) S
               (λ k touched l. elim touched [
                 | inl past ↦ omega (arith, past, l)
@@ -228,11 +228,11 @@ module _ (s t : State) (valid : IsValid s) (graph : IsGraph (changesets t)) (abo
 
 -- ---- from scratch
 
--- where all places were settled, the tops are found
+-- where all places were recomputed, the tops are found
 pub tops-all : (cs : List Contents) (Q : ℕ → Type 0) (old new : List Bool) → length old ≡ length cs
     → AreUpdated cs (IsTouched cs 0 []) Q old new → AreFlags (length cs) (IsTop cs Q) new
 tops-all cs Q old new long updated = record {
-  len = updated.taken.len ∙ updated.settled.len ∙ long;
+  len = updated.taken.len ∙ updated.recomputed.len ∙ long;
   exact = tops-after cs (λ k. ⊥) Q (IsTouched cs 0 []) (λ k touched none. none)
       (λ k out q. absurd (out (inl (omega arith)))) (λ k none. absurd none) (λ j k parent none. none) 0 [] old new
       (λ k le. inl le) refl (λ k. ((λ up. absurd (none-some true up)), (λ top. absurd top.0))) updated;

@@ -1,4 +1,4 @@
--- Flags of places: steps that settle them and take some out, and tops after such steps.
+-- Flags of places: steps that recompute them and take some out, and tops after such steps.
 use Rattle.std.proofs.Common.{◌≡◌, ℕ, ◌+◌, ◌<◌, ◌≤◌, true, false, Bool, List, length, take, set, get_or}
 use Rattle.std.proofs.Common.{slice_get, ◌↔◌, ◌⊎◌, inl, inr, refl, sym}
 use Rattle.std.proofs.Common.{subst, ◌∙◌, arith, true≢false}
@@ -12,19 +12,19 @@ use Rattle.hg_graph.specs.Places.{IsAt, IsParentPlace, IsPlaceOfOne}
 use Rattle.hg_graph.proofs.GraphLemmas.{get-take}
 use Rattle.hg_graph.proofs.MarkLemmas.{get-set_same, get-set_other}
 use Rattle.hg_graph.proofs.WalkLemmas.{taken_one}
-use Rattle.hg_view.specs.Flags.{IsUp, AreSettled, AreTakenOut, IsParentOfOne, AreUpdated}
+use Rattle.hg_view.specs.Flags.{IsUp, AreRecomputed, AreTakenOut, IsParentOfOne, AreUpdated}
 use Rattle.hg_view.specs.Tops.{IsTop}
 
--- ---- settling
+-- ---- recomputing
 
-settled-same : (Q : ℕ → Type 0) (old new : List Bool) (k : ℕ) → slice_get new k ≡ slice_get old k
+up_to_date-same : (Q : ℕ → Type 0) (old new : List Bool) (k : ℕ) → slice_get new k ≡ slice_get old k
     → (IsUp old k ↔ Q k) → (IsUp new k ↔ Q k)
-settled-same Q old new k e is = ((λ at. is.0 (sym e ∙ at)), (λ q. e ∙ is.1 q))
+up_to_date-same Q old new k e is = ((λ at. is.0 (sym e ∙ at)), (λ q. e ∙ is.1 q))
 
 module _ (Q : ℕ → Type 0) where
-  pub settle-in : (flags : List Bool) (place : ℕ) → place < length flags → Q place → (new : List Bool)
-      → new ≡ set flags place true → AreSettled (λ k. place ≡ k) Q flags new
-  settle-in flags place l q new is = subst (AreSettled (λ k. place ≡ k) Q flags) (sym is) (record {
+  pub recompute-in : (flags : List Bool) (place : ℕ) → place < length flags → Q place → (new : List Bool)
+      → new ≡ set flags place true → AreRecomputed (λ k. place ≡ k) Q flags new
+  recompute-in flags place l q new is = subst (AreRecomputed (λ k. place ≡ k) Q flags) (sym is) (record {
     len = length-set flags place true;
     each = λ k. elim (cases_eq k place) [
       | inl e ↦ inl (
@@ -36,9 +36,9 @@ module _ (Q : ℕ → Type 0) where
     ];
   })
 
-  pub settle-out : (flags : List Bool) (place : ℕ) → place < length flags → ¬ (Q place) → (new : List Bool)
-      → new ≡ set flags place false → AreSettled (λ k. place ≡ k) Q flags new
-  settle-out flags place l none new is = subst (AreSettled (λ k. place ≡ k) Q flags) (sym is) (record {
+  pub recompute-out : (flags : List Bool) (place : ℕ) → place < length flags → ¬ (Q place) → (new : List Bool)
+      → new ≡ set flags place false → AreRecomputed (λ k. place ≡ k) Q flags new
+  recompute-out flags place l none new is = subst (AreRecomputed (λ k. place ≡ k) Q flags) (sym is) (record {
     len = length-set flags place false;
     each = λ k. elim (cases_eq k place) [
       | inl e ↦ inl (
@@ -52,41 +52,42 @@ module _ (Q : ℕ → Type 0) where
     ];
   })
 
-  pub settled-none : (S : ℕ → Type 0) (flags : List Bool) → ((k : ℕ) → ¬ (S k)) → AreSettled S Q flags flags
-  settled-none S flags none = record { len = refl; each = λ k. inr (none k, refl) }
+  pub recomputed-none : (S : ℕ → Type 0) (flags : List Bool) → ((k : ℕ) → ¬ (S k)) → AreRecomputed S Q flags flags
+  recomputed-none S flags none = record { len = refl; each = λ k. inr (none k, refl) }
 
-  -- one settling after another
-  pub settled-then : (R S T : ℕ → Type 0) (old mid new : List Bool) → AreSettled R Q old mid → AreSettled S Q mid new
-      → ((k : ℕ) → T k ↔ (R k ⊎ S k)) → AreSettled T Q old new
-  settled-then R S T old mid new first second both = record {
+  -- one recomputation after another
+  pub recomputed-then : (R S T : ℕ → Type 0) (old mid new : List Bool) → AreRecomputed R Q old mid
+      → AreRecomputed S Q mid new
+      → ((k : ℕ) → T k ↔ (R k ⊎ S k)) → AreRecomputed T Q old new
+  recomputed-then R S T old mid new first second both = record {
     len = second.len ∙ first.len;
     each = λ k. elim (second.each k) [
       | inl x ↦ inl ((both k).1 (inr x.0), x.1)
       | inr x ↦ elim (first.each k) [
-        | inl y ↦ inl ((both k).1 (inl y.0), settled-same Q mid new k x.1 y.1)
+        | inl y ↦ inl ((both k).1 (inl y.0), up_to_date-same Q mid new k x.1 y.1)
         | inr y ↦ inr ((λ t. elim ((both k).0 t) [ inl r ↦ y.0 r | inr s ↦ x.0 s ]), x.1 ∙ y.1)
       ]
     ];
   }
 
   -- the same places, in other words
-  pub settled-alike : (S T : ℕ → Type 0) (old new : List Bool) → AreSettled S Q old new → ((k : ℕ) → T k ↔ S k)
-      → AreSettled T Q old new
-  settled-alike S T old new settled alike = record {
-    len = settled.len;
-    each = λ k. elim (settled.each k) [
+  pub recomputed-alike : (S T : ℕ → Type 0) (old new : List Bool) → AreRecomputed S Q old new → ((k : ℕ) → T k ↔ S k)
+      → AreRecomputed T Q old new
+  recomputed-alike S T old new recomputed alike = record {
+    len = recomputed.len;
+    each = λ k. elim (recomputed.each k) [
       | inl x ↦ inl ((alike k).1 x.0, x.1)
       | inr x ↦ inr ((λ t. x.0 ((alike k).0 t)), x.1)
     ];
   }
 
   -- all places from one on: past the flags nothing is so
-  pub settled-from : (first end : ℕ) (old new : List Bool) → ((k : ℕ) → Q k → k < length old)
-      → AreSettled (λ k. (first ≤ k) × (k < end)) Q old new → length old ≤ end
-      → AreSettled (λ k. first ≤ k) Q old new
-  settled-from first end old new within settled le = record {
-    len = settled.len;
-    each = λ k. elim (settled.each k) [
+  pub recomputed-from : (first end : ℕ) (old new : List Bool) → ((k : ℕ) → Q k → k < length old)
+      → AreRecomputed (λ k. (first ≤ k) × (k < end)) Q old new → length old ≤ end
+      → AreRecomputed (λ k. first ≤ k) Q old new
+  recomputed-from first end old new within recomputed le = record {
+    len = recomputed.len;
+    each = λ k. elim (recomputed.each k) [
       | inl x ↦ inl (x.0.0, x.1)
       | inr x ↦ elim (cases_lt k end) [
         | inl l ↦ inr ((λ from. x.0 (from, l)), x.1)
@@ -95,7 +96,7 @@ module _ (Q : ℕ → Type 0) where
           | inr from ↦ inl (
             from,
             (
-              (λ at. let l = slice_get_within new k true at in absurd (omega (arith, l, settled.len, le, past))),
+              (λ at. let l = slice_get_within new k true at in absurd (omega (arith, l, recomputed.len, le, past))),
               (λ q. let l = within k q in absurd (omega (arith, l, le, past))),
             ),
           )
@@ -196,7 +197,7 @@ nodes-one cs ns i d l k = (
 
 -- ---- tops
 
--- places were settled of which P didn't hold and of which Q may hold, no others came or went, and P holds of all
+-- places were recomputed of which P didn't hold and of which Q may hold, no others came or went, and P holds of all
 -- parents of its places: then, with the parents of the new ones taken out, the tops are those of Q
 module _ (cs : List Contents) (P Q S : ℕ → Type 0) (fresh : (k : ℕ) → S k → ¬ (P k))
     (same : (k : ℕ) → ¬ (S k) → Q k → P k) (kept : (k : ℕ) → P k → Q k)
@@ -208,10 +209,10 @@ module _ (cs : List Contents) (P Q S : ℕ → Type 0) (fresh : (k : ℕ) → S 
       found : IsUp new k → IsTop cs Q k
       found up =
           let x = (updated.taken.each k).0 up in
-          elim (updated.settled.each k) [
+          elim (updated.recomputed.each k) [
             | inl is ↦ (
               is.1.0 x.0,
-              λ j parent q. elim (updated.settled.each j) [
+              λ j parent q. elim (updated.recomputed.each j) [
                 | inl it ↦ x.1 (j, it.0, q, parent)
                 | inr it ↦ fresh k is.0 (closed j k parent (same j it.0 q))
               ],
@@ -223,7 +224,7 @@ module _ (cs : List Contents) (P Q S : ℕ → Type 0) (fresh : (k : ℕ) → S 
                   | inr past ↦ absurd (is.0 (come k past))
                 ])) in (
                   kept k top.0,
-                  λ j parent q. elim (updated.settled.each j) [
+                  λ j parent q. elim (updated.recomputed.each j) [
                     | inl it ↦ x.1 (j, it.0, q, parent)
                     | inr it ↦ top.1 j parent (same j it.0 q)
                   ],
@@ -232,7 +233,7 @@ module _ (cs : List Contents) (P Q S : ℕ → Type 0) (fresh : (k : ℕ) → S 
 
       there : IsTop cs Q k → IsUp new k
       there top = (updated.taken.each k).1 (
-        elim (updated.settled.each k) [
+        elim (updated.recomputed.each k) [
           | inl is ↦ is.1.1 top.0
           | inr is ↦ is.1 ∙ (get-take old n k true (subst (λ fs. IsUp fs k) (sym front)
               ((are k).1 (same k is.0 top.0, λ j parent p. top.1 j parent (kept j p))))).1

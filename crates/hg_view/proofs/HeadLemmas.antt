@@ -6,7 +6,8 @@ use Rattle.std.proofs.lemmas.Option.{same_Some}
 use Rattle.hg_changeset.specs.Node.{null_node}
 use Rattle.hg_changeset.specs.Contents.{Contents}
 use Rattle.hg_changeset.proofs.NodeLemmas.{node_cases}
-use Rattle.hg_changeset.proofs.ListLemmas.{slice_get_some, Contains-none, Contains-first, Contains-later, Contains-cons_cases}
+use Rattle.hg_changeset.proofs.ListLemmas.{slice_get_some, Contains-none, Contains-first, Contains-later}
+use Rattle.hg_changeset.proofs.ListLemmas.{Contains-cons_cases}
 use Rattle.hg_graph.specs.Graph.{nodes, Holds, IsGraph}
 use Rattle.hg_graph.specs.Places.{IsParentPlace, IsAncestorPlace}
 use Rattle.hg_graph.proofs.GraphLemmas.{Contains-from_place, null_not_held}

@@ -61,7 +61,8 @@ module _ (s : ReplicaState) (v : IsValid s) where
   ]
 
   -- what is visible is held
-  pub visible-holds : (pins : List Node) (n : Node) → IsVisibleUnder (content_of s) pins n → Holds (changesets s.history) n
+  pub visible-holds : (pins : List Node) (n : Node) → IsVisibleUnder (content_of s) pins n
+      → Holds (changesets s.history) n
   visible-holds pins n seen = Holds-reaching (changesets s.history)
       (reach_from_leads s.history v.graph n seen.0 (node_in_content s.history v.graph seen.0 seen.1.0) seen.2)
 

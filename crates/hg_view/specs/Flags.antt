@@ -14,7 +14,7 @@ pub record AreFlags (n : ℕ) (P : ℕ → Type 0) (flags : List Bool) : Type 0 
   pub exact : (k : ℕ) → IsUp flags k ↔ P k
 
 -- the places of which S holds are flagged where Q holds of them; the other flags stayed
-pub record AreSettled (S Q : ℕ → Type 0) (old new : List Bool) : Type 0 where
+pub record AreRecomputed (S Q : ℕ → Type 0) (old new : List Bool) : Type 0 where
   pub len : length new ≡ length old
   pub each : (k : ℕ) → (S k × (IsUp new k ↔ Q k)) ⊎ (¬ (S k) × (slice_get new k ≡ slice_get old k))
 
@@ -31,8 +31,8 @@ IsParentOfOne cs S Q k = (j : ℕ) × S j × Q j × IsParentPlace cs j k
 abbrev pub IsTouched : List Contents → ℕ → List Node → ℕ → Type 0
 IsTouched cs first nodes k = (first ≤ k) ⊎ IsPlaceOfOne cs nodes k
 
--- the places of which S holds were settled, and then the parents of those of them of which Q holds were taken out
+-- the places of which S holds were recomputed, and then the parents of those of them of which Q holds were taken out
 pub record AreUpdated (cs : List Contents) (S Q : ℕ → Type 0) (old new : List Bool) : Type 0 where
   pub mid : List Bool
-  pub settled : AreSettled S Q old mid
+  pub recomputed : AreRecomputed S Q old mid
   pub taken : AreTakenOut (IsParentOfOne cs S Q) mid new

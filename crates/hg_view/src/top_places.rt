@@ -7,7 +7,7 @@ ghost use Rattle.std.specs.Prelude.{◌≡◌, ◌<◌, ◌≤◌, ◌↔◌, So
 ghost use Rattle.hg_graph.specs.Places.{IsAt, IsPlaceOfOne};
 ghost use Rattle.hg_phases.specs.declared.phase.Phase.{Phase};
 ghost use Rattle.hg_phases.specs.State.{changesets};
-ghost use Rattle.hg_view.specs.Flags.{AreSettled, AreTakenOut, AreUpdated, IsParentOfOne, IsTouched};
+ghost use Rattle.hg_view.specs.Flags.{AreRecomputed, AreTakenOut, AreUpdated, IsParentOfOne, IsTouched};
 ghost use Rattle.hg_view.specs.Tops.{IsAmong, IsPublicAt};
 
 use hg_changeset::Node;
@@ -38,50 +38,50 @@ pub(crate) fn update_tops(
         (IsTouched (changesets replica.now.history) first nodes.now) (IsAmong among replica.now.history) tops.old
         tops.new }
 {
-    settle_from(replica, among, tops, first);
-    settle_nodes(replica, among, tops, nodes);
+    recompute_from(replica, among, tops, first);
+    recompute_nodes(replica, among, tops, nodes);
     take_out_parents_from(replica, among, tops, first);
     take_out_parents_of_nodes(replica, among, tops, nodes);
 }
 
-// Settles the places from one on.
-fn settle_from(replica: &Replica, among: Among, tops: &mut PlaceSet, first: usize)
+// Recomputes the flags of the places from one on.
+fn recompute_from(replica: &Replica, among: Among, tops: &mut PlaceSet, first: usize)
     requires { length tops.old ≡ length (changesets replica.now.history) }
-    ensures { AreSettled (λ k. first ≤ k) (IsAmong among replica.now.history) tops.old tops.new }
+    ensures { AreRecomputed (λ k. first ≤ k) (IsAmong among replica.now.history) tops.old tops.new }
 {
     for place in first..replica.graph().len() {
-        settle(replica, among, tops, place);
+        recompute(replica, among, tops, place);
     }
 }
 
-// Settles the places of these nodes. Those that aren't held have none.
-fn settle_nodes(replica: &Replica, among: Among, tops: &mut PlaceSet, nodes: &[Node])
+// Recomputes the flags of the places of these nodes. Those that aren't held have none.
+fn recompute_nodes(replica: &Replica, among: Among, tops: &mut PlaceSet, nodes: &[Node])
     requires { length tops.old ≡ length (changesets replica.now.history) }
-    ensures { AreSettled (IsPlaceOfOne (changesets replica.now.history) nodes.now)
+    ensures { AreRecomputed (IsPlaceOfOne (changesets replica.now.history) nodes.now)
         (IsAmong among replica.now.history) tops.old tops.new }
 {
     for node in nodes {
-        settle_node(replica, among, tops, *node);
+        recompute_node(replica, among, tops, *node);
     }
 }
 
-// Settles the place of a node, if it is held.
-fn settle_node(replica: &Replica, among: Among, tops: &mut PlaceSet, node: Node)
+// Recomputes the flag of the place of a node, if it is held.
+fn recompute_node(replica: &Replica, among: Among, tops: &mut PlaceSet, node: Node)
     requires { length tops.old ≡ length (changesets replica.now.history) }
-    ensures { AreSettled (IsAt (changesets replica.now.history) node) (IsAmong among replica.now.history) tops.old
+    ensures { AreRecomputed (IsAt (changesets replica.now.history) node) (IsAmong among replica.now.history) tops.old
         tops.new }
 {
     match replica.graph().place(node) {
-        Some(place) => settle(replica, among, tops, place),
+        Some(place) => recompute(replica, among, tops, place),
         None => {}
     }
 }
 
 // Puts a place in where the changeset there is looked at, and takes it out otherwise.
-fn settle(replica: &Replica, among: Among, tops: &mut PlaceSet, place: usize)
+fn recompute(replica: &Replica, among: Among, tops: &mut PlaceSet, place: usize)
     requires len { length tops.old ≡ length (changesets replica.now.history) }
     requires within { place < length (changesets replica.now.history) }
-    ensures { AreSettled (λ k. place ≡ k) (IsAmong among replica.now.history) tops.old tops.new }
+    ensures { AreRecomputed (λ k. place ≡ k) (IsAmong among replica.now.history) tops.old tops.new }
 {
     if is_among(replica, among, place) {
         tops.insert(place);

@@ -21,8 +21,8 @@ use hg_replica::Replica;
 use std::alloc::{AllocError, Global};
 use std::collections::BTreeSet;
 
-// What would be upheld besides, were one more pinned: it and its ancestors, down to the public ones, at the cost of those
-// that aren't upheld yet.
+// What would be upheld besides, were one more pinned: it and its ancestors, down to the public ones, at the cost of
+// those that aren't upheld yet.
 pub(crate) fn upheld_besides(
     alloc: Global,
     replica: &Replica,

@@ -26,5 +26,7 @@ returns-then-not-has_phase_at c =
         (held, λ h. true≢false (sym (secret.1 h) ∙ c.if-not-has_phase_at.true)),
         c.is_served_by_guess.ensures.0 t,
       ),
-      λ h. c.is_served_by_guess.ensures.1 (subst (IsServedUnder (content_of c.args.other.now.replica) c.args.other.now.pins) (same_Some h.0 n (sym h.1 ∙ at)) h.3),
+      λ h. c.is_served_by_guess.ensures.1
+          (subst (IsServedUnder (content_of c.args.other.now.replica) c.args.other.now.pins)
+          (same_Some h.0 n (sym h.1 ∙ at)) h.3),
     )

@@ -3,7 +3,7 @@ use Rattle.hg_graph.specs.Places.{IsPlaceOfOne}
 use Rattle.hg_phases.specs.State.{changesets}
 use Rattle.hg_view.specs.Flags.{IsParentOfOne, IsTouched}
 use Rattle.hg_view.specs.Tops.{IsAmong}
-use Rattle.hg_view.proofs.FlagLemmas.{settled-then, taken-then, parents-then}
+use Rattle.hg_view.proofs.FlagLemmas.{recomputed-then, taken-then, parents-then}
 use Rattle.hg_view.proofs.top_places.update_tops.Goals as goal
 
 pub returns : goal.returns
@@ -15,10 +15,10 @@ returns c =
     let S : ℕ → Type 0 = IsPlaceOfOne cs c.args.nodes.now in
     let T : ℕ → Type 0 = IsTouched cs c.args.first c.args.nodes.now in
     record {
-      mid = c.settle_nodes.new.tops;
-      settled = settled-then Q R S T c.args.tops.now c.settle_from.new.tops c.settle_nodes.new.tops
-          c.settle_from.ensures c.settle_nodes.ensures (λ k. ((λ h. h), (λ h. h)));
-      taken = taken-then (IsParentOfOne cs R Q) (IsParentOfOne cs S Q) (IsParentOfOne cs T Q) c.settle_nodes.new.tops
+      mid = c.recompute_nodes.new.tops;
+      recomputed = recomputed-then Q R S T c.args.tops.now c.recompute_from.new.tops c.recompute_nodes.new.tops
+          c.recompute_from.ensures c.recompute_nodes.ensures (λ k. ((λ h. h), (λ h. h)));
+      taken = taken-then (IsParentOfOne cs R Q) (IsParentOfOne cs S Q) (IsParentOfOne cs T Q) c.recompute_nodes.new.tops
           c.take_out_parents_from.new.tops c.take_out_parents_of_nodes.new.tops c.take_out_parents_from.ensures
           c.take_out_parents_of_nodes.ensures (parents-then cs Q R S T (λ k. ((λ h. h), (λ h. h))));
     }

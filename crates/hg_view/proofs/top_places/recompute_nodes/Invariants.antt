@@ -1,10 +1,10 @@
 use Rattle.std.proofs.Common.{take}
 use Rattle.hg_graph.specs.Places.{IsPlaceOfOne}
 use Rattle.hg_phases.specs.State.{changesets}
-use Rattle.hg_view.specs.Flags.{AreSettled}
+use Rattle.hg_view.specs.Flags.{AreRecomputed}
 use Rattle.hg_view.specs.Tops.{IsAmong}
-use Rattle.hg_view.proofs.top_places.settle_nodes.Given as goal
+use Rattle.hg_view.proofs.top_places.recompute_nodes.Given as goal
 
 abbrev pub invariant-loop-node : goal.invariant-loop-node
-invariant-loop-node l = AreSettled (IsPlaceOfOne (changesets l.replica.history) (take l.node-index l.nodes))
+invariant-loop-node l = AreRecomputed (IsPlaceOfOne (changesets l.replica.history) (take l.node-index l.nodes))
     (IsAmong l.among l.replica.history) l.fn.tops l.tops

@@ -5,11 +5,11 @@ use Rattle.hg_graph.proofs.GraphLemmas.{Contains-from_place}
 use Rattle.hg_graph.proofs.PlaceLemmas.{placed_within}
 use Rattle.hg_phases.specs.State.{changesets}
 use Rattle.hg_view.specs.Tops.{IsAmong}
-use Rattle.hg_view.proofs.FlagLemmas.{settled-none, settled-alike}
-use Rattle.hg_view.proofs.top_places.settle_node.Goals as goal
+use Rattle.hg_view.proofs.FlagLemmas.{recomputed-none, recomputed-alike}
+use Rattle.hg_view.proofs.top_places.recompute_node.Goals as goal
 
-pub settle-requires-clause-within : goal.settle-requires-clause-within
-settle-requires-clause-within c =
+pub recompute-requires-clause-within : goal.recompute-requires-clause-within
+recompute-requires-clause-within c =
     let cs = changesets c.args.replica.now.history in
     let place = c.in-Some.place in
     let only = subst (λ ds. IsOnlyAt ds c.args.node place) c.graph.ensures.graph c.in-Some.ensures.place in
@@ -21,13 +21,14 @@ returns-in-Some c =
     let n = c.args.node in
     let place = c.in-Some.place in
     let only = subst (λ ds. IsOnlyAt ds n place) c.graph.ensures.graph c.in-Some.ensures.place in
-    settled-alike (IsAmong c.args.among t) (λ k. place ≡ k) (IsAt (changesets t) n) c.args.tops.now c.settle.new.tops
-    c.settle.ensures (λ k. ((λ at. sym ((only k).0 at)), (λ e. (only k).1 (sym e))))
+    recomputed-alike (IsAmong c.args.among t) (λ k. place ≡ k) (IsAt (changesets t) n) c.args.tops.now
+    c.recompute.new.tops
+    c.recompute.ensures (λ k. ((λ at. sym ((only k).0 at)), (λ e. (only k).1 (sym e))))
 
 pub returns-in-None : goal.returns-in-None
 returns-in-None c =
     let t = c.args.replica.now.history in
     let n = c.args.node in
     let out = subst (λ ds. ¬ (Holds ds n)) c.graph.ensures.graph c.in-None.ensures.place in
-    settled-none (IsAmong c.args.among t) (IsAt (changesets t) n) c.args.tops.now
+    recomputed-none (IsAmong c.args.among t) (IsAt (changesets t) n) c.args.tops.now
     (λ k at. out (Contains-from_place (nodes (changesets t)) k n at))
