@@ -1,8 +1,8 @@
+pub mod ByLineLemmas
 pub mod EndingLemmas
 pub mod GatherLemmas
 pub mod InputLemmas
 pub mod LabelLemmas
-pub mod LineLemmas
 pub mod NameLemmas
 pub mod NoteLemmas
 pub mod ReportLemmas

@@ -1,3 +1,4 @@
+pub mod ByLine
 pub mod Commands
 pub mod Endings
 pub mod Entries

@@ -29,6 +29,7 @@
 #![tactic(auto)]
 
 mod blaming;
+mod by_line;
 mod command;
 mod command_fault;
 mod counted;
@@ -54,6 +55,7 @@ mod telling;
 mod told;
 mod tracing;
 
+pub use by_line::{PrintedScript, run_by_line};
 pub use fault::{LineFault, RunFault};
 pub use fleet::Fleet;
 pub use limits::{LINE_LIMIT, NAME_LIMIT, SCRIPT_LIMIT, limits_are_those_of_the_format};

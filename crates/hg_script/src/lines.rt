@@ -1,46 +1,17 @@
 //! Lines and words.
-ghost use Rattle.std.specs.Prelude.{◌≡◌, ◌≤◌, ◌<◌, ◌↔◌, ◌==◌, ◌∷◌, IfOk, IsTrue, OnErr, length, map, count_by, position};
+ghost use Rattle.std.specs.Prelude.{◌≡◌, ◌≤◌, ◌<◌, ◌↔◌, IfOk, IsTrue, OnErr, length, map, count_by};
 ghost use Rattle.std.specs.Option.{option_copied};
-ghost use Rattle.std.specs.Str.Lines.{lines, strip_carriage_return};
+ghost use Rattle.std.specs.Str.Lines.{lines};
 ghost use Rattle.hg_script.specs.Words.{first_word, has_node, may_have_node, spaced, words_in_place, words_of};
 ghost use Rattle.hg_script.specs.Limits.{line_limit};
 
 use crate::limits::LINE_LIMIT;
-use memchr::memchr;
+use hg_expect::cut_line;
 use smallvec::SmallVec;
 use std::alloc::{AllocError, Global};
 
 /// The words of a line. Most lines have no more than eight, which take no memory.
 pub type Words<'a> = SmallVec<&'a [u8], 8>;
-
-/// The first line of the text, without its LF and without one CR before that, and what comes after it.
-pub fn cut_line(text: &[u8]) -> (&[u8], &[u8])
-    requires { 0 < length text.now }
-    ensures lines { lines text.now ≡ result.0.now ∷ lines result.1.now }
-    ensures shorter { length result.1.now < length text.now }
-{
-    match end_of_line(text) {
-        Some(end) => (without_return(&text[..end]), &text[end + 1..]),
-        None => (text, &text[text.len()..]),
-    }
-}
-
-// The place of the first LF.
-fn end_of_line(text: &[u8]) -> Option<usize>
-    ensures { result ≡ position (λ b. b == 10) text.now }
-{
-    memchr(b'\n', text)
-}
-
-// The line without one CR at its end.
-fn without_return(line: &[u8]) -> &[u8]
-    ensures { result.now ≡ strip_carriage_return line.now }
-{
-    match line {
-        [rest @ .., b'\r'] => rest,
-        _ => line,
-    }
-}
 
 /// How many lines of the text have `node` as their first word.
 pub fn count_nodes(text: &[u8]) -> usize

@@ -4,8 +4,9 @@ use crate::command::Command;
 use crate::command_fault::CommandFault;
 use crate::fault::{LineFault, RunFault};
 use crate::fleet::Fleet;
-use crate::lines::{cut_line, words_of};
+use crate::lines::words_of;
 use crate::reading::read_command;
+use hg_expect::cut_line;
 use std::alloc::{AllocError, Global};
 
 /// What is told of the line that would have made what is unknown at a fault, but was refused, or that made what is

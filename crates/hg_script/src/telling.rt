@@ -23,13 +23,14 @@ use crate::fault::{LineFault, RunFault};
 use crate::fleet::Fleet;
 use crate::hint::{Hint, hint_at_fault};
 use crate::input::read_script;
-use crate::lines::{count_nodes, cut_line, is_short, words_of};
+use crate::lines::{count_nodes, is_short, words_of};
 use crate::origin::origin_of;
 use crate::output::LineName;
 use crate::script::run_line;
 use crate::spare::Spare;
 use crate::told::{Told, print_told};
 use crate::tracing::trace;
+use hg_expect::cut_line;
 use hg_node_set::IdKeys;
 use hg_peer::Peer;
 use hg_world::runs_compose;
@@ -362,8 +363,8 @@ fn show_refusals(
     }
 }
 
-// What ended a line that printed into a text: such a write is refused for want of memory alone.
-fn in_text(fault: RunFault) -> RunFault
+/// What ended a line that printed into a text: such a write is refused for want of memory alone.
+pub(crate) fn in_text(fault: RunFault) -> RunFault
     ensures { (result ≡ fault) ⊎ (result ≡ NoMemory) }
 {
     match fault {

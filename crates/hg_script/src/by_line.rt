@@ -1,0 +1,101 @@
+//! Scripts whose lines' outputs are kept apart.
+ghost use Rattle.std.specs.Prelude.{◌≡◌, ◌⊎◌, IfOk, IfErr, None};
+ghost use Rattle.std.specs.Str.Lines.{lines};
+ghost use Rattle.hg_expect.specs.Expectations.{texts};
+ghost use Rattle.hg_script.specs.ByLine.{PrintsEach, PrintsLines};
+ghost use Rattle.hg_script.specs.Endings.{EndsAt};
+ghost use Rattle.hg_script.specs.Events.{Trace};
+ghost use Rattle.hg_script.specs.Printing.{PrintsLine, no_notes};
+ghost use Rattle.hg_script.specs.Scripts.{DoesLine, IsScriptOf};
+ghost use Rattle.hg_script.specs.Stops.{IsStop, IsStoppedBy, StopsAmong};
+ghost use Rattle.hg_script.specs.declared.fault.RunFault.TheVariants.{NoMemory};
+
+use crate::fault::RunFault;
+use crate::fleet::Fleet;
+use crate::input::read_script;
+use crate::lines::count_nodes;
+use crate::script::run_line;
+use crate::spare::Spare;
+use crate::telling::in_text;
+use hg_expect::cut_line;
+use hg_node_set::IdKeys;
+use hg_peer::Peer;
+use hg_world::runs_compose;
+use std::alloc::Global;
+use std::io::Read;
+
+/// A script that was run to its end.
+#[derive(Drop)]
+pub struct PrintedScript {
+    /// The script, as it was read.
+    pub text: Vec<u8>,
+    /// What each of its lines printed, a comment or an empty one too, in order.
+    pub outputs: Vec<Vec<u8>>,
+}
+
+/// [`run_script`](crate::run_script), which keeps what each line prints in place of writing it.
+pub fn run_by_line<R: Read>(
+    alloc: Global,
+    keys: IdKeys,
+    reader: &mut R,
+) -> Result<PrintedScript, RunFault>
+    ensures read { IfOk result (λ script. IsScriptOf (R.remaining reader.old) script.text.items) }
+    ensures printed { IfOk result (λ script. PrintsEach script.text.items (texts script.outputs.items)) }
+    ensures stopped { IfErr result (λ fault. IsStop no_notes (R.remaining reader.old) fault None None) }
+{
+    let text = read_script(alloc, reader)?;
+    match outputs_of(alloc, keys, &text) {
+        Ok(outputs) => Ok(PrintedScript { text, outputs }),
+        Err(fault) => Err(fault),
+    }
+}
+
+// What each line of this text prints.
+fn outputs_of(alloc: Global, keys: IdKeys, text: &[u8]) -> Result<Vec<Vec<u8>>, RunFault>
+    ensures printed { IfOk result (λ outputs. PrintsEach text.now (texts outputs.items)) }
+    ensures stopped { IfErr result (λ fault. (fault ≡ NoMemory) ⊎ IsStoppedBy no_notes text.now fault None None) }
+{
+    let mut fleet = Fleet::new(alloc, keys, count_nodes(text))?;
+    runs_compose::<Peer>();
+    outputs_in(alloc, &mut fleet, text)
+}
+
+// What each line of this text prints in the fleet.
+fn outputs_in(alloc: Global, fleet: &mut Fleet, text: &[u8]) -> Result<Vec<Vec<u8>>, RunFault>
+    ensures done { IfOk result (λ outputs. (t : Trace)
+        × PrintsLines 1 fleet.old (lines text.now) t fleet.new (texts outputs.items)) }
+    ensures stopped { IfErr result (λ fault.
+        (fault ≡ NoMemory) ⊎ StopsAmong no_notes 1 fleet.old (lines text.now) fault None None) }
+{
+    let mut outputs = Vec::new(alloc);
+    let mut spare = Spare::new(alloc);
+    let mut rest = text;
+    let mut number = 0usize;
+    while !rest.is_empty() {
+        let (line, after) = cut_line(rest);
+        number += 1;
+        let output = output_of(alloc, fleet, number, line, &mut spare)?;
+        outputs.push(output)?;
+        rest = after;
+    }
+    Ok(outputs)
+}
+
+// Does the line with this number, in the spare room where it makes a changeset, and gives what it prints.
+fn output_of(
+    alloc: Global,
+    fleet: &mut Fleet,
+    number: usize,
+    line: &[u8],
+    spare: &mut Spare,
+) -> Result<Vec<u8>, RunFault>
+    ensures done { IfOk result (λ output. (t : Trace) × DoesLine fleet.old line.now t fleet.new
+        × PrintsLine number fleet.old line.now t output.items) }
+    ensures stopped { IfErr result (λ fault. (fault ≡ NoMemory) ⊎ EndsAt number fleet.old line.now fault) }
+{
+    let mut output = Vec::new(alloc);
+    match run_line(alloc, fleet, number, line, spare, &mut output) {
+        Ok(_) => Ok(output),
+        Err(fault) => Err(in_text(fault)),
+    }
+}
