@@ -1,6 +1,6 @@
 -- The children of each changeset, one changeset more at a time.
-use Rattle.std.proofs.Common.{◌≡◌, ◌↔◌, ℕ, ◌≤◌, ◌+◌, inl, inr, List, [], ◌∷◌, ◌++◌, length, length-append, slice_get, Some}
-use Rattle.std.proofs.Common.{Contains, sym, ap, subst, ◌∙◌, arith}
+use Rattle.std.proofs.Common.{◌≡◌, ◌↔◌, ℕ, ◌≤◌, ◌+◌, inl, inr, List, [], ◌∷◌, ◌++◌, length, length-append}
+use Rattle.std.proofs.Common.{slice_get, Some, Contains, sym, ap, subst, ◌∙◌, arith}
 use Rattle.std.proofs.lemmas.Option.{slice_get_within}
 use Rattle.hg_changeset.specs.Contents.{Contents}
 use Rattle.hg_changeset.proofs.ListLemmas.{slice_get-append, slice_get-push_cases, slice_get_some}

@@ -27,14 +27,14 @@ use Rattle.hg_view.proofs.CommonLemmas.{common_within}
 use Rattle.hg_view.proofs.ShareLemmas.{shared-or}
 use Rattle.hg_discovery.specs.declared.status.Status.{Status}
 use Rattle.hg_discovery.specs.declared.status.Status.TheVariants.{Undecided, Common, Missing}
-use Rattle.hg_discovery.specs.declared.status.Spot.{Spot}
+use Rattle.hg_discovery.specs.declared.status.PlacedNode.{PlacedNode}
 use Rattle.hg_discovery.specs.Between.{AreHeadsInCommon}
-use Rattle.hg_discovery.specs.Order.{spot_cmp}
+use Rattle.hg_discovery.specs.Order.{placed_node_cmp}
 use Rattle.hg_discovery.specs.Search.{Is, IsClosed, IsHead, nodes_of}
-use Rattle.hg_discovery.specs.Start.{IsGround}
-use Rattle.hg_discovery.proofs.GroundLemmas.{ground_exists, top_head}
+use Rattle.hg_discovery.specs.Start.{IsSnapshot}
+use Rattle.hg_discovery.proofs.SnapshotLemmas.{snapshot_exists, top_head}
 use Rattle.hg_discovery.proofs.SortLemmas.{sorted_lists}
-use Rattle.hg_discovery.proofs.StartLemmas.{one_spot, phase_in_content}
+use Rattle.hg_discovery.proofs.StartLemmas.{one_placed_node, phase_in_content}
 use Rattle.hg_discovery.proofs.UnderLemmas.{under_common}
 use Rattle.hg_discovery.proofs.WholeLemmas.{AreToldApart, closed_told, told_in_common}
 
@@ -140,8 +140,8 @@ module _ (ours : ReplicaState) (other : KeptValue) (valid : IsValid ours)
     λ so. (told.1.common k (common_within ours other k so)).1 so,
   )
 
-  module _ (closed : IsClosedUnderParents cs (IsCommonAt ours other)) (ps : List ParentPlaces) (xs : List Spot)
-      (ds : List Status) (ground : IsGround ours.history ps xs ds) where
+  module _ (closed : IsClosedUnderParents cs (IsCommonAt ours other)) (ps : List ParentPlaces) (xs : List PlacedNode)
+      (ds : List Status) (snapshot : IsSnapshot ours.history ps xs ds) where
     apart : AreToldApart Served xs last
     apart = record {
       none_undecided = none_undecided;
@@ -149,11 +149,11 @@ module _ (ours : ReplicaState) (other : KeptValue) (valid : IsValid ours)
         λ c.
             let so = (common_at k).0 c in
             let phase = phase_in_content ours.history valid.graph so.0 Secret in
-            let x : Spot = record { node = so.0; place = k } in
-            (x, (ground.shared x).1 (so.1, λ secret. so.2.1 (phase.1 secret)), refl, so.3),
+            let x : PlacedNode = record { node = so.0; place = k } in
+            (x, (snapshot.shared x).1 (so.1, λ secret. so.2.1 (phase.1 secret)), refl, so.3),
         λ h.
             let x = h.0 in
-            let at = (ground.shared x).0 h.1 in
+            let at = (snapshot.shared x).0 h.1 in
             let held = content-node ours.history valid.graph x.node
             (Contains-from_place (nodes cs) x.place x.node at.0) in
             let phase = phase_in_content ours.history valid.graph x.node Secret in
@@ -163,35 +163,35 @@ module _ (ours : ReplicaState) (other : KeptValue) (valid : IsValid ours)
     }
 
     len : length last ≡ length ds
-    len = omega (arith, last_len, ground.shape.len, ground.len)
+    len = omega (arith, last_len, snapshot.shape.len, snapshot.len)
 
     last_closed : IsClosed ps last
-    last_closed = closed_told Served xs ds last ground.spots apart len ps (len ∙ ground.len)
-        (λ j k parent c. (common_at k).1 (closed j k ((ground.shape.parents j k).0 parent) ((common_at j).0 c)))
+    last_closed = closed_told Served xs ds last snapshot.placed_nodes apart len ps (len ∙ snapshot.len)
+        (λ j k parent c. (common_at k).1 (closed j k ((snapshot.shape.parents j k).0 parent) ((common_at j).0 c)))
 
-    -- what stands where one of the spots does is that spot
-    spot_at : (x : Spot) → Is last Common x.place → IsAt cs x.node x.place ↔ Contains xs x
-    spot_at x c =
+    -- what stands where one of the placed nodes does is that placed node
+    placed_node_at : (x : PlacedNode) → Is last Common x.place → IsAt cs x.node x.place ↔ Contains xs x
+    placed_node_at x c =
         let y = (apart.common x.place).0 c in (
           λ at.
-              let at_y : IsAt cs y.0.node x.place = subst (IsAt cs y.0.node) y.2 ((ground.shared y.0).0 y.1).0 in
-              subst (Contains xs) (one_spot y.0 x (same_Some y.0.node x.node (sym at_y ∙ at)) y.2) y.1,
-          λ in_xs. ((ground.shared x).0 in_xs).0,
+              let at_y : IsAt cs y.0.node x.place = subst (IsAt cs y.0.node) y.2 ((snapshot.shared y.0).0 y.1).0 in
+              subst (Contains xs) (one_placed_node y.0 x (same_Some y.0.node x.node (sym at_y ∙ at)) y.2) y.1,
+          λ in_xs. ((snapshot.shared x).0 in_xs).0,
         )
 
-    module _ (places : List ℕ) (tops : (k : ℕ) → Contains places k ↔ IsTop cs (IsCommonAt ours other) k)
-        (new : List Spot) (sorted : IsStrictlySortedBy spot_cmp new)
-        (same : (x : Spot) → Contains new x ↔ (Contains places x.place × IsAt cs x.node x.place)) where
-      abbrev Head : Spot → Type 0
-      Head = IsHead (record { parents = ps; spots = xs; decided = last; asked = new }) Common
+    module _ (places : List ℕ) (are_heads : (k : ℕ) → Contains places k ↔ IsTop cs (IsCommonAt ours other) k)
+        (new : List PlacedNode) (sorted : IsStrictlySortedBy placed_node_cmp new)
+        (same : (x : PlacedNode) → Contains new x ↔ (Contains places x.place × IsAt cs x.node x.place)) where
+      abbrev Head : PlacedNode → Type 0
+      Head = IsHead (record { parents = ps; placed_nodes = xs; decided = last; asked = new }) Common
 
-      found_heads : (x : Spot) → Contains new x ↔ Head x
+      found_heads : (x : PlacedNode) → Contains new x ↔ Head x
       found_heads x =
-          let head = top_head cs ps ground.shape ground.in_order xs last Common new spot_at
+          let head = top_head cs ps snapshot.shape snapshot.in_order xs last Common new placed_node_at
           (λ k m j low high at_k at_j. under_common ps last last_closed m j high at_j) x in (
             λ h.
                 let at = (same x).0 h in
-                let top = (tops x.place).0 at.0 in
+                let top = (are_heads x.place).0 at.0 in
                 head.0 (
                   at.1,
                   ((common_at x.place).1 top.0, λ j parent c. top.1 j parent ((common_at j).0 c)),
@@ -199,7 +199,7 @@ module _ (ours : ReplicaState) (other : KeptValue) (valid : IsValid ours)
             λ h.
                 let top = head.1 h in
                 (same x).1 (
-                  (tops x.place).1 (
+                  (are_heads x.place).1 (
                     (common_at x.place).0 top.1.0,
                     λ j parent so. top.1.1 j parent ((common_at j).1 so),
                   ),
@@ -208,14 +208,15 @@ module _ (ours : ReplicaState) (other : KeptValue) (valid : IsValid ours)
           )
 
       heads_in_common : AreHeadsInCommon ours other.replica other.pins (nodes_of new)
-      heads_in_common = told_in_common ours other.replica other.pins tell ps xs ds last ground apart len last_closed new
-          (sorted_lists xs Head ground.spots.distinct new sorted (λ x h. h.0.0) found_heads)
+      heads_in_common =
+          told_in_common ours other.replica other.pins tell ps xs ds last snapshot apart len last_closed new
+          (sorted_lists xs Head snapshot.placed_nodes.distinct new sorted (λ x h. h.0.0) found_heads)
 
   pub walked_in_common : IsClosedUnderParents cs (IsCommonAt ours other) → (places : List ℕ)
-      → ((k : ℕ) → Contains places k ↔ IsTop cs (IsCommonAt ours other) k) → (new : List Spot)
-      → IsStrictlySortedBy spot_cmp new
-      → ((x : Spot) → Contains new x ↔ (Contains places x.place × IsAt cs x.node x.place))
+      → ((k : ℕ) → Contains places k ↔ IsTop cs (IsCommonAt ours other) k) → (new : List PlacedNode)
+      → IsStrictlySortedBy placed_node_cmp new
+      → ((x : PlacedNode) → Contains new x ↔ (Contains places x.place × IsAt cs x.node x.place))
       → AreHeadsInCommon ours other.replica other.pins (nodes_of new)
-  walked_in_common closed places tops new sorted same =
-      let ground = ground_exists ours.history valid in
-      heads_in_common closed ground.0 ground.1 ground.2 ground.3 places tops new sorted same
+  walked_in_common closed places are_heads new sorted same =
+      let snapshot = snapshot_exists ours.history valid in
+      heads_in_common closed snapshot.0 snapshot.1 snapshot.2 snapshot.3 places are_heads new sorted same

@@ -11,7 +11,7 @@ use Rattle.hg_graph.proofs.GraphLemmas.{get-take, Contains-from_place, place_fro
 use Rattle.hg_graph.proofs.MarkLemmas.{get-set_other}
 use Rattle.hg_discovery.specs.declared.status.Status.{Status}
 use Rattle.hg_discovery.specs.declared.status.Status.TheVariants.{Undecided, Common, Missing}
-use Rattle.hg_discovery.specs.declared.status.Spot.{Spot}
+use Rattle.hg_discovery.specs.declared.status.PlacedNode.{PlacedNode}
 use Rattle.hg_discovery.specs.Search.{Search, Is, IsSearch, IsAscending}
 use Rattle.hg_discovery.specs.Answers.{IsRound}
 use Rattle.hg_discovery.specs.Rounds.{AreRounds, undecided}
@@ -70,13 +70,14 @@ one_less (Common ∷ ds) (suc k) d ne h = one_less ds k d ne h
 one_less (Missing ∷ ds) (suc k) d ne h = one_less ds k d ne h
 
 -- no two stand at one place
-abbrev AreApart : List Spot → Type 0
-AreApart xs = (i j : ℕ) (x y : Spot) → slice_get xs i ≡ Some x → slice_get xs j ≡ Some y → x.place ≡ y.place → i ≡ j
+abbrev AreApart : List PlacedNode → Type 0
+AreApart xs = (i j : ℕ) (x y : PlacedNode) → slice_get xs i ≡ Some x → slice_get xs j ≡ Some y → x.place ≡ y.place
+    → i ≡ j
 
 -- those who were asked about were undecided, and aren't any more
-decided_count : (xs : List Spot) (old new : List Status) → length new ≡ length old → AreApart xs
-    → ((i : ℕ) (x : Spot) → slice_get xs i ≡ Some x → Is old Undecided x.place)
-    → ((i : ℕ) (x : Spot) → slice_get xs i ≡ Some x → Is new Undecided x.place → ⊥)
+decided_count : (xs : List PlacedNode) (old new : List Status) → length new ≡ length old → AreApart xs
+    → ((i : ℕ) (x : PlacedNode) → slice_get xs i ≡ Some x → Is old Undecided x.place)
+    → ((i : ℕ) (x : PlacedNode) → slice_get xs i ≡ Some x → Is new Undecided x.place → ⊥)
     → ((k : ℕ) → Is new Undecided k → Is old Undecided k) → undecided new + length xs ≤ undecided old
 decided_count [] old new len apart was not_now within = let le = fewer old new len within in omega (arith, le)
 decided_count (x ∷ xs) old new len apart was not_now within =
@@ -97,15 +98,15 @@ decided_count (x ∷ xs) old new len apart was not_now within =
 
 -- ---- a sample has no doubles
 
-ascending_apart : (xs : List Spot) → IsAscending xs → (i j : ℕ) (x : Spot) → slice_get xs i ≡ Some x
+ascending_apart : (xs : List PlacedNode) → IsAscending xs → (i j : ℕ) (x : PlacedNode) → slice_get xs i ≡ Some x
     → slice_get xs j ≡ Some x → i < j → ⊥
 ascending_apart xs up i j x at_i at_j lt =
     let less = up i j x lt (slice_get_within xs j x at_j) in
     let first = get_or_from_slice_get xs i x x at_i in
     let second = get_or_from_slice_get xs j x x at_j in
-    same_not_less (get_or xs i x).node (get_or xs j x).node (ap (λ (y : Spot). y.node) (first ∙ sym second)) less
+    same_not_less (get_or xs i x).node (get_or xs j x).node (ap (λ (y : PlacedNode). y.node) (first ∙ sym second)) less
 
-ascending_once : (xs : List Spot) → IsAscending xs → (i j : ℕ) (x : Spot) → slice_get xs i ≡ Some x
+ascending_once : (xs : List PlacedNode) → IsAscending xs → (i j : ℕ) (x : PlacedNode) → slice_get xs i ≡ Some x
     → slice_get xs j ≡ Some x → i ≡ j
 ascending_once xs up i j x at_i at_j = elim (cases_order i j) [
   | inl e ↦ e
@@ -116,15 +117,16 @@ ascending_once xs up i j x at_i at_j = elim (cases_order i j) [
   ]
 ]
 
-append_cases : (xs ys : List Spot) (i : ℕ) (x : Spot) → slice_get (xs ++ ys) i ≡ Some x
+append_cases : (xs ys : List PlacedNode) (i : ℕ) (x : PlacedNode) → slice_get (xs ++ ys) i ≡ Some x
     → (slice_get xs i ≡ Some x) ⊎ ((j : ℕ) × (i ≡ length xs + j) × (slice_get ys j ≡ Some x))
 append_cases [] ys i x h = inr (i, omega arith, h)
 append_cases (z ∷ xs) ys zero x h = inl h
 append_cases (z ∷ xs) ys (suc i) x h = elim (append_cases xs ys i x h)
     [ inl a ↦ inl a | inr b ↦ inr (b.0, omega (arith, b.1), b.2) ]
 
-append_once : (xs ys : List Spot) → IsAscending xs → IsAscending ys → ((x : Spot) → Contains xs x → Contains ys x → ⊥)
-    → (i j : ℕ) (x : Spot) → slice_get (xs ++ ys) i ≡ Some x → slice_get (xs ++ ys) j ≡ Some x → i ≡ j
+append_once : (xs ys : List PlacedNode) → IsAscending xs → IsAscending ys
+    → ((x : PlacedNode) → Contains xs x → Contains ys x → ⊥)
+    → (i j : ℕ) (x : PlacedNode) → slice_get (xs ++ ys) i ≡ Some x → slice_get (xs ++ ys) j ≡ Some x → i ≡ j
 append_once xs ys up_x up_y never i j x at_i at_j = elim (append_cases xs ys i x at_i) [
   | inl a ↦ elim (append_cases xs ys j x at_j) [
     | inl b ↦ ascending_once xs up_x i j x a b
@@ -140,9 +142,9 @@ asked_apart : (s : Search) → IsSearch s → AreApart s.asked
 asked_apart s known i j x y at_x at_y e =
     let sample = known.sample in
     let all = sample.heads ++ sample.others in
-    let spot_x = (sample_member s s.asked sample x (Contains-from_place s.asked i x at_x)).0 in
-    let spot_y = (sample_member s s.asked sample y (Contains-from_place s.asked j y at_y)).0 in
-    let same : x ≡ y = known.spots.apart x y spot_x spot_y e in
+    let placed_node_x = (sample_member s s.asked sample x (Contains-from_place s.asked i x at_x)).0 in
+    let placed_node_y = (sample_member s s.asked sample y (Contains-from_place s.asked j y at_y)).0 in
+    let same : x ≡ y = known.placed_nodes.apart x y placed_node_x placed_node_y e in
     let in_x = (get-take all 200 i x (subst (λ zs. slice_get zs i ≡ Some x) sample.first at_x)).1 in
     let in_y = (get-take all 200 j y (subst (λ zs. slice_get zs j ≡ Some y) sample.first at_y)).1 in
     append_once sample.heads sample.others sample.heads_are.0 sample.others_are.0
@@ -163,7 +165,7 @@ round_count s t answers known round =
       | inr o ↦ elim o [
         | inl short ↦
             let zero_is : undecided t.decided ≡ 0 = none_undecided t.decided (λ k h.
-            let x = known.spots.found k (inl (within k h)) in
+            let x = known.placed_nodes.found k (inl (within k h)) in
             let at : Is s.decided Undecided x.0.place = subst (Is s.decided Undecided) (sym x.2) (within k h) in
             short_sample s s.asked known.sample short x.0 (x.1, at) (λ inside.
             let p = place_from_Contains s.asked x.0 inside in
@@ -174,7 +176,7 @@ round_count s t answers known round =
     ]
   where
     count : length t.decided ≡ length s.decided → ((k : ℕ) → Is t.decided Undecided k → Is s.decided Undecided k)
-        → ((i : ℕ) (x : Spot) → slice_get s.asked i ≡ Some x → Is t.decided Undecided x.place → ⊥)
+        → ((i : ℕ) (x : PlacedNode) → slice_get s.asked i ≡ Some x → Is t.decided Undecided x.place → ⊥)
         → undecided t.decided + length s.asked ≤ undecided s.decided
     count len within decided =
         decided_count s.asked s.decided t.decided len (asked_apart s known)

@@ -19,9 +19,9 @@ use Rattle.hg_changeset.proofs.ListLemmas.{Contains-cons_cases, Contains-first, 
 use Rattle.hg_changeset.proofs.ListLemmas.{slice_get_some}
 use Rattle.hg_discovery.specs.declared.status.Status.{Status}
 use Rattle.hg_discovery.specs.declared.status.Status.TheVariants.{Undecided, Common, Missing}
-use Rattle.hg_discovery.specs.declared.status.Spot.{Spot}
+use Rattle.hg_discovery.specs.declared.status.PlacedNode.{PlacedNode}
 use Rattle.hg_discovery.specs.Under.{IsOneOf, IsParentAt, IsUnder, IsInOrder}
-use Rattle.hg_discovery.specs.Search.{Search, Is, IsSo, IsHead, IsAscending, Lists, AreSpots, IsSample, IsSearch}
+use Rattle.hg_discovery.specs.Search.{Search, Is, IsSo, IsHead, IsAscending, Lists, ArePlacedNodes, IsSample, IsSearch}
 use Rattle.hg_discovery.specs.Spread.{IsMarked, AreCovered, MarksPlace}
 use Rattle.hg_discovery.specs.Picking.{same_decided, is_decided, is_mark, is_picked}
 use Rattle.hg_discovery.proofs.UnderLemmas.{parent_under, child_on_way}
@@ -111,12 +111,12 @@ take_front zero xs ys = refl
 take_front (suc n) [] ys = refl
 take_front (suc n) (x ∷ xs) ys = ap (λ zs. x ∷ zs) (take_front n xs ys)
 
-module _ (test : Spot → Bool) (limit : ℕ) (old xs : List Spot) (i : ℕ) (d : Spot) (lt : i < length xs)
-    (found : List Spot) (inv : found ≡ take limit (old ++ filter test (take i xs))) where
+module _ (test : PlacedNode → Bool) (limit : ℕ) (old xs : List PlacedNode) (i : ℕ) (d : PlacedNode) (lt : i < length xs)
+    (found : List PlacedNode) (inv : found ≡ take limit (old ++ filter test (take i xs))) where
   more : filter test (take (i + 1) xs) ≡ filter test (take i xs) ++ cond (test (get_or xs i d)) (get_or xs i d ∷ []) []
   more = filter_more test xs i d lt
 
-  abbrev seen : List Spot
+  abbrev seen : List PlacedNode
   seen = old ++ filter test (take i xs)
 
   pub pick_push : length found < limit → test (get_or xs i d) ≡ true
@@ -187,7 +187,7 @@ both_of true false h = absurd (true≢false (sym h))
 both_of false true h = absurd (true≢false (sym h))
 both_of false false h = absurd (true≢false (sym h))
 
-module _ (ds : List Status) (marks : List Bool) (d : Status) (b : Bool) (x : Spot) where
+module _ (ds : List Status) (marks : List Bool) (d : Status) (b : Bool) (x : PlacedNode) where
   pub picked : Is ds d x.place → slice_get marks x.place ≡ Some b → is_picked ds marks d b x ≡ true
   picked so mark = (λ i. is_decided (so i) d && is_mark (mark i) b)
       ∙ (λ i. same_decided_itself d i && is_mark_itself b i)
@@ -244,14 +244,14 @@ Contains-take n xs x h =
 
 -- ---- heads
 
-abbrev Before : Spot → Spot → Type 0
+abbrev Before : PlacedNode → PlacedNode → Type 0
 Before x y = node_cmp x.node y.node ≡ Less
 
 module _ (s : Search) (so : Status) (marks : List Bool) (order : IsInOrder s.parents)
-    (spots : AreSpots s.decided s.spots) (covered : AreCovered s.parents s.decided so marks)
+    (placed_nodes : ArePlacedNodes s.decided s.placed_nodes) (covered : AreCovered s.parents s.decided so marks)
     (convex : (k m j : ℕ) → IsUnder s.parents k m → IsUnder s.parents m j → Is s.decided so k → Is s.decided so j
     → Is s.decided so m) where
-  clear_is_head : (x : Spot) → IsSo s so x → slice_get marks x.place ≡ Some false → IsHead s so x
+  clear_is_head : (x : PlacedNode) → IsSo s so x → slice_get marks x.place ≡ Some false → IsHead s so x
   clear_is_head x is clear = (
     is,
     λ j at_j under. elim (child_on_way s.parents x.place j under) [
@@ -260,24 +260,25 @@ module _ (s : Search) (so : Status) (marks : List Bool) (order : IsInOrder s.par
           let at_c : Is s.decided so c.0 = convex x.place c.0 j
           (parent_under s.parents c.0 x.place c.1) c.2 is.1 at_j in
           absurd (true≢false (same_Some true false
-          (sym ((covered.each x.place (spots.within x is.0)).1 (c.0, c.1, at_c)) ∙ clear)))
+          (sym ((covered.each x.place (placed_nodes.within x is.0)).1 (c.0, c.1, at_c)) ∙ clear)))
     ],
   )
 
-  marked_is_no_head : (x : Spot) → Contains s.spots x → slice_get marks x.place ≡ Some true → IsHead s so x → ⊥
-  marked_is_no_head x in_spots mark head =
-      let child = (covered.each x.place (spots.within x in_spots)).0 mark in
+  marked_is_no_head : (x : PlacedNode) → Contains s.placed_nodes x → slice_get marks x.place ≡ Some true
+      → IsHead s so x → ⊥
+  marked_is_no_head x in_placed_nodes mark head =
+      let child = (covered.each x.place (placed_nodes.within x in_placed_nodes)).0 mark in
       let before : x.place < child.0 = order child.0 x.place child.1 in
       let same : child.0 ≡ x.place = head.1 child.0 child.2 (parent_under s.parents child.0 x.place child.1) in
       omega arith
 
-  mark_of : (x : Spot) → Contains s.spots x → (b : Bool) × (slice_get marks x.place ≡ Some b)
-  mark_of x h = slice_get_some marks x.place (omega (arith, covered.len, spots.within x h))
+  mark_of : (x : PlacedNode) → Contains s.placed_nodes x → (b : Bool) × (slice_get marks x.place ≡ Some b)
+  mark_of x h = slice_get_some marks x.place (omega (arith, covered.len, placed_nodes.within x h))
 
   -- of a line in which all that are decided so stand
-  module _ (line : List Spot) (sound : (x : Spot) → Contains line x → Contains s.spots x)
-      (complete : (x : Spot) → Contains s.spots x → Is s.decided so x.place → Contains line x) where
-    pub heads_among : (x : Spot) → Contains (filter (is_picked s.decided marks so false) line) x ↔ IsHead s so x
+  module _ (line : List PlacedNode) (sound : (x : PlacedNode) → Contains line x → Contains s.placed_nodes x)
+      (complete : (x : PlacedNode) → Contains s.placed_nodes x → Is s.decided so x.place → Contains line x) where
+    pub heads_among : (x : PlacedNode) → Contains (filter (is_picked s.decided marks so false) line) x ↔ IsHead s so x
     heads_among x = (
       λ h.
           let p = passed (is_picked s.decided marks so false) line x h in
@@ -293,7 +294,7 @@ module _ (s : Search) (so : Status) (marks : List Bool) (order : IsInOrder s.par
         by head true e = absurd (marked_is_no_head x head.0.0 e head)
         by head false e = picked s.decided marks so false x head.0.1 e
 
-    pub others_among : (x : Spot)
+    pub others_among : (x : PlacedNode)
         → Contains (filter (is_picked s.decided marks so true) line) x ↔ (IsSo s so x × ¬ (IsHead s so x))
     others_among x = (
       λ h.
@@ -319,7 +320,8 @@ module _ (s : Search) (so : Status) (marks : List Bool) (order : IsInOrder s.par
 
 -- ---- the sample
 
-pub sample_member : (s : Search) (xs : List Spot) → IsSample s xs → (x : Spot) → Contains xs x → IsSo s Undecided x
+pub sample_member : (s : Search) (xs : List PlacedNode) → IsSample s xs → (x : PlacedNode) → Contains xs x
+    → IsSo s Undecided x
 sample_member s xs sample x h =
     let all = Contains-take 200 (sample.heads ++ sample.others) x (subst (λ zs. Contains zs x) sample.first h) in
     elim (Contains-append_cases sample.heads sample.others x all) [
@@ -328,7 +330,8 @@ sample_member s xs sample x h =
     ]
 
 -- where the sample isn't full, nothing else is undecided
-pub short_sample : (s : Search) (xs : List Spot) → IsSample s xs → length xs < 200 → (x : Spot) → IsSo s Undecided x
+pub short_sample : (s : Search) (xs : List PlacedNode) → IsSample s xs → length xs < 200 → (x : PlacedNode)
+    → IsSo s Undecided x
     → (Contains xs x → ⊥) → ⊥
 short_sample s xs sample short x so out =
     let all = sample.heads ++ sample.others in
@@ -344,13 +347,13 @@ pub done_is : (s : Search) → IsSearch s → (b : Bool) → b ≡ (length s.ask
 done_is s known b is = (
   λ t k h.
       let empty : length s.asked ≡ 0 = eqb-true (length s.asked) 0 (sym is ∙ t) in
-      let x = known.spots.found k (inl h) in
+      let x = known.placed_nodes.found k (inl h) in
       short_sample s s.asked known.sample (omega (arith, empty)) x.0 (x.1, subst (Is s.decided Undecided) (sym x.2) h)
       (λ inside. omega (arith, inside.1, empty)),
   λ none. is ∙ eq-eqb (length s.asked) 0
       (by s.asked (λ x h. let so = sample_member s s.asked known.sample x h in none x.place so.1)),
 )
   where
-    by : (xs : List Spot) → ((x : Spot) → Contains xs x → ⊥) → length xs ≡ 0
+    by : (xs : List PlacedNode) → ((x : PlacedNode) → Contains xs x → ⊥) → length xs ≡ 0
     by [] none = refl
     by (x ∷ xs) none = absurd (none x (Contains-first x xs))

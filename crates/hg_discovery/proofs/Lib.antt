@@ -11,11 +11,11 @@ pub mod PutLemmas
 pub mod CountLemmas
 pub mod WalkLemmas
 pub mod WholeLemmas
-pub mod GroundLemmas
+pub mod SnapshotLemmas
 pub mod ChildrenLemmas
 pub mod SampleLemmas
 pub mod KnownLemmas
 pub mod ServedLemmas
-pub mod SpotLemmas
+pub mod PlacedNodeLemmas
 pub mod CommonLemmas
 pub mod ComparedLemmas

@@ -10,9 +10,9 @@ use Rattle.hg_graph.specs.declared.graph.ParentPlaces.{ParentPlaces}
 use Rattle.hg_graph.proofs.MarkLemmas.{get-set_same, get-set_other}
 use Rattle.hg_discovery.specs.declared.status.Status.{Status}
 use Rattle.hg_discovery.specs.declared.status.Status.TheVariants.{Undecided}
-use Rattle.hg_discovery.specs.declared.status.Spot.{Spot}
+use Rattle.hg_discovery.specs.declared.status.PlacedNode.{PlacedNode}
 use Rattle.hg_discovery.specs.Under.{IsOneOf, IsInOrder}
-use Rattle.hg_discovery.specs.Search.{Search, Is, IsAscending, AreSpots, IsClosed, IsSample}
+use Rattle.hg_discovery.specs.Search.{Search, Is, IsAscending, ArePlacedNodes, IsClosed, IsSample}
 use Rattle.hg_discovery.specs.Spread.{AreCovered, MarksPlace}
 use Rattle.hg_discovery.specs.Picking.{is_picked}
 use Rattle.hg_discovery.proofs.UnderLemmas.{three, not_both_uc, not_both_um, between}
@@ -20,23 +20,23 @@ use Rattle.hg_discovery.proofs.DrawLemmas.{IsCoveredTo, IsCoveredTo-start, IsCov
 use Rattle.hg_discovery.proofs.DrawLemmas.{IsCoveredTo-end, MarksPlace-then, heads_are, others_are}
 
 -- the first 200 of the heads and then of the others, by marks
-abbrev pub drawn : List Status → List Bool → List Spot → List Spot
+abbrev pub drawn : List Status → List Bool → List PlacedNode → List PlacedNode
 drawn ds marks xs = take 200 (filter (is_picked ds marks Undecided false) xs
     ++ filter (is_picked ds marks Undecided true) xs)
 
--- of spots that ascend that is a sample
-pub drawn_sample : (ps : List ParentPlaces) (ds : List Status) (xs asked : List Spot) → length ds ≡ length ps
-    → IsInOrder ps → IsClosed ps ds → AreSpots ds xs → IsAscending xs → (marks : List Bool)
+-- of placed nodes that ascend that is a sample
+pub drawn_sample : (ps : List ParentPlaces) (ds : List Status) (xs asked : List PlacedNode) → length ds ≡ length ps
+    → IsInOrder ps → IsClosed ps ds → ArePlacedNodes ds xs → IsAscending xs → (marks : List Bool)
     → AreCovered ps ds Undecided marks → asked ≡ drawn ds marks xs
-    → IsSample (record { parents = ps; spots = xs; decided = ds; asked = asked }) asked
-drawn_sample ps ds xs asked len order closed spots ascending marks covered first =
-    let s : Search = record { parents = ps; spots = xs; decided = ds; asked = asked } in
+    → IsSample (record { parents = ps; placed_nodes = xs; decided = ds; asked = asked }) asked
+drawn_sample ps ds xs asked len order closed placed_nodes ascending marks covered first =
+    let s : Search = record { parents = ps; placed_nodes = xs; decided = ds; asked = asked } in
     let convex = λ (k m j : ℕ). between ps ds closed len order k m j in
     record {
       heads = filter (is_picked ds marks Undecided false) xs;
       others = filter (is_picked ds marks Undecided true) xs;
-      heads_are = heads_are s Undecided marks order spots covered convex xs (λ x h. h) (λ x h u. h) ascending;
-      others_are = others_are s Undecided marks order spots covered convex xs (λ x h. h) (λ x h u. h) ascending;
+      heads_are = heads_are s Undecided marks order placed_nodes covered convex xs (λ x h. h) (λ x h u. h) ascending;
+      others_are = others_are s Undecided marks order placed_nodes covered convex xs (λ x h. h) (λ x h u. h) ascending;
       first = first;
     }
 

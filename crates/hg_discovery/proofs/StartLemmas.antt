@@ -22,39 +22,40 @@ use Rattle.hg_phases.proofs.ContentLemmas.{held_in_content, content-held}
 use Rattle.hg_changeset.proofs.ListLemmas.{Contains-map_from, slice_get_some}
 use Rattle.hg_discovery.specs.declared.status.Status.{Status}
 use Rattle.hg_discovery.specs.declared.status.Status.TheVariants.{Undecided, Common, Missing}
-use Rattle.hg_discovery.specs.declared.status.Spot.{Spot}
+use Rattle.hg_discovery.specs.declared.status.PlacedNode.{PlacedNode}
 use Rattle.hg_discovery.specs.Under.{IsOneOf, IsParentAt, IsShapeOf, IsInOrder}
-use Rattle.hg_discovery.specs.Search.{Is, IsClosed, AreSpots}
+use Rattle.hg_discovery.specs.Search.{Is, IsClosed, ArePlacedNodes}
 use Rattle.hg_discovery.specs.Start.{IsShared}
 use Rattle.hg_discovery.proofs.UnderLemmas.{not_both_um, three}
 
--- ---- spots from the first place on
+-- ---- placed nodes from the first place on
 
 -- those of which P holds before the place i
-abbrev pub AreThoseTo : (Spot → Type 0) → ℕ → List Spot → Type 0
-AreThoseTo P i xs = (x : Spot) → Contains xs x ↔ (P x × (x.place < i))
+abbrev pub AreThoseTo : (PlacedNode → Type 0) → ℕ → List PlacedNode → Type 0
+AreThoseTo P i xs = (x : PlacedNode) → Contains xs x ↔ (P x × (x.place < i))
 
-pub none_of_those : (P : Spot → Type 0) → AreThoseTo P 0 []
+pub none_of_those : (P : PlacedNode → Type 0) → AreThoseTo P 0 []
 none_of_those P x = ((λ h. let far : h.0 < 0 = h.1 in absurd (omega arith)), (λ h. absurd (omega (arith, h.1))))
 
-pub one_spot : (x y : Spot) → x.node ≡ y.node → x.place ≡ y.place → x ≡ y
-one_spot x y n p i = record { node = n i; place = p i }
+pub one_placed_node : (x y : PlacedNode) → x.node ≡ y.node → x.place ≡ y.place → x ≡ y
+one_placed_node x y n p i = record { node = n i; place = p i }
 
-module _ (cs : List Contents) (P : Spot → Type 0) (placed : (x : Spot) → P x → IsAt cs x.node x.place) (i : ℕ)
-    (xs : List Spot) (before : AreThoseTo P i xs) where
+module _ (cs : List Contents) (P : PlacedNode → Type 0) (placed : (x : PlacedNode) → P x → IsAt cs x.node x.place)
+    (i : ℕ)
+    (xs : List PlacedNode) (before : AreThoseTo P i xs) where
   module _ (n : Node) (at : IsAt cs n i) where
-    abbrev here : Spot
+    abbrev here : PlacedNode
     here = record { node = n; place = i }
 
-    is_here : (x : Spot) → P x → x.place ≡ i → here ≡ x
-    is_here x h e = one_spot here x
+    is_here : (x : PlacedNode) → P x → x.place ≡ i → here ≡ x
+    is_here x h e = one_placed_node here x
         (sym (same_Some x.node n (sym (subst (IsAt cs x.node) e (placed x h)) ∙ at))) (sym e)
 
     pub those_push : P here → AreThoseTo P (i + 1) (xs ++ here ∷ [])
     those_push is x = (
       λ h. elim (Contains-push_cases xs here x h) [
         | inl old ↦ let b = (before x).0 old in (b.0, omega (arith, b.1))
-        | inr e ↦ subst (λ (y : Spot). P y × (y.place < i + 1)) e (is, omega arith)
+        | inr e ↦ subst (λ (y : PlacedNode). P y × (y.place < i + 1)) e (is, omega arith)
       ],
       λ h. elim (cases_eq x.place i) [
         | inl e ↦ subst (Contains (xs ++ here ∷ [])) (is_here x h.0 e) (Contains-push xs here)
@@ -71,7 +72,7 @@ module _ (cs : List Contents) (P : Spot → Type 0) (placed : (x : Spot) → P x
       ],
     )
 
-  pub all_those : length cs ≤ i → (x : Spot) → Contains xs x ↔ P x
+  pub all_those : length cs ≤ i → (x : PlacedNode) → Contains xs x ↔ P x
   all_those le x = (
     λ h. ((before x).0 h).0,
     λ h. (before x).1 (
@@ -95,9 +96,9 @@ phase_in_content s graph n k = (
 
 -- ---- undecided at first
 
-pub record AreUndecidedTo (len : ℕ) (xs : List Spot) (ds : List Status) : Type 0 where
+pub record AreUndecidedTo (len : ℕ) (xs : List PlacedNode) (ds : List Status) : Type 0 where
   pub length_is : length ds ≡ len
-  pub undecided : (k : ℕ) → Is ds Undecided k ↔ ((x : Spot) × Contains xs x × (x.place ≡ k))
+  pub undecided : (k : ℕ) → Is ds Undecided k ↔ ((x : PlacedNode) × Contains xs x × (x.place ≡ k))
   pub nothing_common : (k : ℕ) → Is ds Common k → ⊥
 
 all_missing_at : (n k : ℕ) (d : Status) → slice_get (replicate n Missing) k ≡ Some d → d ≡ Missing
@@ -116,7 +117,7 @@ AreUndecidedTo-start n = record {
   nothing_common = λ k h. let e : Common ≡ Missing = all_missing_at n k Common h in cc;
 }
 
-pub AreUndecidedTo-more : (n i : ℕ) (all : List Spot) (d : Spot) (ds : List Status) → i < length all
+pub AreUndecidedTo-more : (n i : ℕ) (all : List PlacedNode) (d : PlacedNode) (ds : List Status) → i < length all
     → (get_or all i d).place < n → AreUndecidedTo n (take i all) ds
     → AreUndecidedTo n (take (i + 1) all) (set ds (get_or all i d).place Undecided)
 AreUndecidedTo-more n i all d ds lt within u =
@@ -124,7 +125,7 @@ AreUndecidedTo-more n i all d ds lt within u =
     let more : take (i + 1) all ≡ take i all ++ x ∷ [] = take_more all i d lt in
     subst (λ ys. AreUndecidedTo n ys (set ds x.place Undecided)) (sym more) (grown x within)
   where
-    grown : (x : Spot) → x.place < n → AreUndecidedTo n (take i all ++ x ∷ []) (set ds x.place Undecided)
+    grown : (x : PlacedNode) → x.place < n → AreUndecidedTo n (take i all ++ x ∷ []) (set ds x.place Undecided)
     grown x within_x = record {
       length_is = length-set ds x.place Undecided ∙ u.length_is;
       undecided = λ k. (
@@ -138,7 +139,7 @@ AreUndecidedTo-more n i all d ds lt within u =
               (get-set_same ds x.place Undecided (omega (arith, u.length_is, within_x)))
           | inr ne ↦ get-set_other ds x.place k Undecided ne ∙ elim (Contains-push_cases (take i all) x h.0 h.1) [
             | inl old ↦ (u.undecided k).1 (h.0, old, h.2)
-            | inr e ↦ absurd (ne (sym h.2 ∙ ap (λ (y : Spot). y.place) (sym e)))
+            | inr e ↦ absurd (ne (sym h.2 ∙ ap (λ (y : PlacedNode). y.place) (sym e)))
           ]
         ],
       );
@@ -153,11 +154,11 @@ AreUndecidedTo-more n i all d ds lt within u =
 -- ---- what the first sample needs
 
 module _ (s : State) (valid : IsValid s) (ps : List ParentPlaces) (shape : IsShapeOf (changesets s) ps)
-    (xs : List Spot) (shared : (x : Spot) → Contains xs x ↔ IsShared s x) where
+    (xs : List PlacedNode) (shared : (x : PlacedNode) → Contains xs x ↔ IsShared s x) where
   pub in_order : IsInOrder ps
   in_order j k q = parent_first (changesets s) valid.graph j k ((shape.parents j k).0 q)
 
-  pub shared_within : (x : Spot) → Contains xs x → x.place < length ps
+  pub shared_within : (x : PlacedNode) → Contains xs x → x.place < length ps
   shared_within x h = omega (
     arith,
     shape.len,
@@ -185,7 +186,8 @@ module _ (s : State) (valid : IsValid s) (ps : List ParentPlaces) (shape : IsSha
       held_with t d h = Contains-map_from (λ (y : Held). y.changeset) t.held d h
 
   module _ (ds : List Status) (len : length ds ≡ length ps) (undecided : (k : ℕ)
-      → Is ds Undecided k ↔ ((x : Spot) × Contains xs x × (x.place ≡ k))) (nothing : (k : ℕ) → Is ds Common k → ⊥) where
+      → Is ds Undecided k ↔ ((x : PlacedNode) × Contains xs x × (x.place ≡ k)))
+      (nothing : (k : ℕ) → Is ds Common k → ⊥) where
     undecided_parent : (j k : ℕ) → IsParentAt ps j k → Is ds Undecided j → Is ds Undecided k
     undecided_parent j k q h =
         let r = (shape.parents j k).0 q in
@@ -194,7 +196,7 @@ module _ (s : State) (valid : IsValid s) (ps : List ParentPlaces) (shape : IsSha
         let at_j : IsAt (changesets s) (node_of r.0) j = IsAt-from (changesets s) j r.0 (node_of r.0) r.2 refl in
         let same : x.0.node ≡ node_of r.0 = same_Some x.0.node (node_of r.0)
         (sym (subst (IsAt (changesets s) x.0.node) x.2 shared_x.0) ∙ at_j) in
-        let y : Spot = record { node = r.1; place = k } in
+        let y : PlacedNode = record { node = r.1; place = k } in
         (undecided k).1 (
           y,
           (shared y).1 (
@@ -215,12 +217,12 @@ module _ (s : State) (valid : IsValid s) (ps : List ParentPlaces) (shape : IsSha
       ];
     }
 
-    pub spots_start : AreSpots ds xs
-    spots_start = record {
-      distinct = λ x y hx hy e. one_spot x y e (sym (same_place (nodes (changesets s)) x.node x.place y.place
+    pub placed_nodes_start : ArePlacedNodes ds xs
+    placed_nodes_start = record {
+      distinct = λ x y hx hy e. one_placed_node x y e (sym (same_place (nodes (changesets s)) x.node x.place y.place
           valid.graph.distinct ((shared x).0 hx).0
           (subst (λ n. IsAt (changesets s) n y.place) (sym e) ((shared y).0 hy).0)));
-      apart = λ x y hx hy e. one_spot x y (same_Some x.node y.node
+      apart = λ x y hx hy e. one_placed_node x y (same_Some x.node y.node
           (sym (subst (IsAt (changesets s) x.node) e ((shared x).0 hx).0) ∙ ((shared y).0 hy).0)) e;
       within = λ x h. omega (arith, len, shared_within x h);
       found = λ k h. elim h [ inl u ↦ (undecided k).0 u | inr c ↦ absurd (nothing k c) ];

@@ -15,20 +15,21 @@ use Rattle.hg_replica.specs.Content.{content_of}
 use Rattle.hg_view.specs.Pins.{IsServedUnder}
 use Rattle.hg_discovery.specs.declared.status.Status.{Status}
 use Rattle.hg_discovery.specs.declared.status.Status.TheVariants.{Undecided, Common, Missing}
-use Rattle.hg_discovery.specs.declared.status.Spot.{Spot}
+use Rattle.hg_discovery.specs.declared.status.PlacedNode.{PlacedNode}
 use Rattle.hg_discovery.specs.Under.{IsOneOf, IsParentAt, IsUnder, IsInOrder, itself, below}
-use Rattle.hg_discovery.specs.Search.{Search, Is, IsAscending, IsHead, IsSample, Lists, IsSearch, IsClosed, AreSpots}
+use Rattle.hg_discovery.specs.Search.{Search, Is, IsAscending, IsHead, IsSample, Lists, IsSearch, IsClosed}
+use Rattle.hg_discovery.specs.Search.{ArePlacedNodes}
 use Rattle.hg_discovery.specs.Search.{nodes_of}
 use Rattle.hg_discovery.specs.Spread.{AreCovered}
-use Rattle.hg_discovery.specs.Answers.{IsDecided, AreTold, IsRound}
+use Rattle.hg_discovery.specs.Answers.{IsDecided, TakesAnswers, IsRound}
 use Rattle.hg_discovery.specs.Rounds.{AreAnswers, undecided}
-use Rattle.hg_discovery.specs.Start.{IsGround, IsStart}
+use Rattle.hg_discovery.specs.Start.{IsSnapshot, IsStart}
 use Rattle.hg_discovery.specs.Between.{AreHeadsInCommon}
 use Rattle.hg_discovery.proofs.UnderLemmas.{not_both_uc, not_both_um, not_both_cm, three, under_common, above_missing}
-use Rattle.hg_discovery.proofs.ToldLemmas.{told_length, all_closed, spots_after, all_common, all_missing}
+use Rattle.hg_discovery.proofs.ToldLemmas.{told_length, all_closed, placed_nodes_after, all_common, all_missing}
 use Rattle.hg_discovery.proofs.CountLemmas.{some_undecided, round_count}
 use Rattle.hg_discovery.proofs.KnownLemmas.{known_none}
-use Rattle.hg_discovery.proofs.RoundLemmas.{node_at, asked_spot}
+use Rattle.hg_discovery.proofs.RoundLemmas.{node_at, asked_placed_node}
 use Rattle.hg_discovery.proofs.SampleLemmas.{drawn, drawn_sample, marks_exist}
 use Rattle.hg_discovery.proofs.BetweenLemmas.{IsAskedSoFar, IsAskedSoFar-start, IsAskedSoFar-round, IsAskedSoFar-done}
 
@@ -226,8 +227,8 @@ module _ (ps : List ParentPlaces) (order : IsInOrder ps) where
         },
       )
 
-  told_exists : (xs : List Spot) (answers : List Bool) (old : List Status) → length answers ≡ length xs
-      → (new : List Status) × AreTold ps xs answers old new
+  told_exists : (xs : List PlacedNode) (answers : List Bool) (old : List Status) → length answers ≡ length xs
+      → (new : List Status) × TakesAnswers ps xs answers old new
   told_exists [] [] old len = (old, refl)
   told_exists (x ∷ xs) (b ∷ answers) old len = elim (undecided_or_not old x.place) [
     | inl u ↦
@@ -276,65 +277,67 @@ module _ (P : Node → Type 0) (tell : (n : Node) → P n ⊎ (P n → ⊥)) whe
     pub round : IsRound s answers next
     pub are : AreAnswers P (nodes_of s.asked) answers
 
-  round_exists : (s : Search) → IsSearch s → IsAscending s.spots → HasRound s
+  round_exists : (s : Search) → IsSearch s → IsAscending s.placed_nodes → HasRound s
   round_exists s known ascending =
       let said = answers_exist P tell (nodes_of s.asked) in
       let told = told_exists s.parents known.in_order s.asked said.0 s.decided
       (said.1.0 ∙ length-map s.asked (λ x. x.node)) in
       let new : List Status = told.0 in
       let len : length new ≡ length s.parents = told_length s.parents s.asked said.0 s.decided new told.1 ∙ known.len in
-      let spots = spots_after s.parents s.asked said.0 s.decided new s.spots told.1 known.spots in
+      let placed_nodes =
+      placed_nodes_after s.parents s.asked said.0 s.decided new s.placed_nodes told.1 known.placed_nodes in
       let closed = all_closed s.parents s.asked said.0 s.decided new known.len known.in_order known.closed told.1 in
       let marks = marks_exist s.parents new len in
-      let asked = drawn new marks.0 s.spots in
+      let asked = drawn new marks.0 s.placed_nodes in
       record {
         answers = said.0;
-        next = record { parents = s.parents; spots = s.spots; decided = new; asked = asked };
+        next = record { parents = s.parents; placed_nodes = s.placed_nodes; decided = new; asked = asked };
         round = record {
           parents = refl;
-          spots = refl;
+          placed_nodes = refl;
           told = told.1;
           search = record {
             len = len;
             in_order = known.in_order;
-            spots = spots;
+            placed_nodes = placed_nodes;
             closed = closed;
-            sample = drawn_sample s.parents new s.spots asked len known.in_order closed spots ascending marks.0 marks.1
-                refl;
+            sample =
+                drawn_sample s.parents new s.placed_nodes asked len known.in_order closed placed_nodes ascending
+                marks.0 marks.1 refl;
           };
         };
         are = said.1;
       }
 
   -- what is decided on the way is decided so at the end
-  module _ (ps : List ParentPlaces) (xs : List Spot) (ascending : IsAscending xs) (last : List Status)
-      (closed : IsClosed ps last) (told : (x : Spot) → Contains xs x → (P x.node → Is last Common x.place)
+  module _ (ps : List ParentPlaces) (xs : List PlacedNode) (ascending : IsAscending xs) (last : List Status)
+      (closed : IsClosed ps last) (told : (x : PlacedNode) → Contains xs x → (P x.node → Is last Common x.place)
       × ((P x.node → ⊥) → Is last Missing x.place)) where
     record IsOnWay (s : Search) : Type 0 where
       pub search : IsSearch s
       pub parents : s.parents ≡ ps
-      pub spots : s.spots ≡ xs
+      pub placed_nodes : s.placed_nodes ≡ xs
       pub common : (k : ℕ) → Is s.decided Common k → Is last Common k
       pub missing : (k : ℕ) → Is s.decided Missing k → Is last Missing k
 
     next_on_way : (s : Search) → IsOnWay s → (r : HasRound s) → IsOnWay r.next
     next_on_way s way r =
-        let so = subst (λ qs. AreTold qs s.asked r.answers s.decided r.next.decided) way.parents r.round.told in
-        let spot : (i : ℕ) (x : Spot) → slice_get s.asked i ≡ Some x → Contains xs x =
-        λ i x at. subst (λ ys. Contains ys x) way.spots (asked_spot s way.search i x at) in
-        let said = λ (i : ℕ) (x : Spot) (b : Bool) (at : slice_get s.asked i ≡ Some x)
+        let so = subst (λ qs. TakesAnswers qs s.asked r.answers s.decided r.next.decided) way.parents r.round.told in
+        let placed_node : (i : ℕ) (x : PlacedNode) → slice_get s.asked i ≡ Some x → Contains xs x =
+        λ i x at. subst (λ ys. Contains ys x) way.placed_nodes (asked_placed_node s way.search i x at) in
+        let said = λ (i : ℕ) (x : PlacedNode) (b : Bool) (at : slice_get s.asked i ≡ Some x)
         (e : slice_get r.answers i ≡ Some b). r.are.1 i x.node b (node_at s.asked i x at) e in
         record {
           search = r.round.search;
           parents = r.round.parents ∙ way.parents;
-          spots = r.round.spots ∙ way.spots;
+          placed_nodes = r.round.placed_nodes ∙ way.placed_nodes;
           common = all_common ps (Is last Common) (under_common ps last closed) s.asked r.answers s.decided
               r.next.decided so
-              (λ i x at yes. (told x (spot i x at)).0 ((said i x true at yes).0 refl))
+              (λ i x at yes. (told x (placed_node i x at)).0 ((said i x true at yes).0 refl))
               way.common;
           missing = all_missing ps (Is last Missing) (above_missing ps last closed) s.asked r.answers s.decided
               r.next.decided so
-              (λ i x at no. (told x (spot i x at)).1
+              (λ i x at no. (told x (placed_node i x at)).1
               (λ p. true≢false (sym ((said i x false at no).1 p))))
               way.missing;
         }
@@ -345,7 +348,7 @@ module _ (P : Node → Type 0) (tell : (n : Node) → P n ⊎ (P n → ⊥)) whe
     end_of (suc n) ours s le so_far way = elim (cases_eq (undecided s.decided) 0) [
       | inl e ↦ (s, so_far, way, e)
       | inr ne ↦
-          let r = round_exists s way.search (subst IsAscending (sym way.spots) ascending) in
+          let r = round_exists s way.search (subst IsAscending (sym way.placed_nodes) ascending) in
           let fewer = round_count s r.next r.answers way.search r.round in
           end_of n ours r.next (omega (arith, le, ne, fewer))
           (IsAskedSoFar-round P ours s r.next r.answers so_far r.round r.are) (next_on_way s way r)
@@ -375,25 +378,25 @@ module _ (P : Node → Type 0) (tell : (n : Node) → P n ⊎ (P n → ⊥)) whe
 
 -- ---- all at once
 
--- of the spots those are common of which P holds, and nothing is undecided
-pub record AreToldApart (P : Node → Type 0) (xs : List Spot) (ds : List Status) : Type 0 where
+-- of the placed nodes those are common of which P holds, and nothing is undecided
+pub record AreToldApart (P : Node → Type 0) (xs : List PlacedNode) (ds : List Status) : Type 0 where
   pub none_undecided : (k : ℕ) → ¬ (Is ds Undecided k)
-  pub common : (k : ℕ) → Is ds Common k ↔ ((x : Spot) × Contains xs x × (x.place ≡ k) × P x.node)
+  pub common : (k : ℕ) → Is ds Common k ↔ ((x : PlacedNode) × Contains xs x × (x.place ≡ k) × P x.node)
 
-module _ (P : Node → Type 0) (xs : List Spot) (ds last : List Status) (spots : AreSpots ds xs)
+module _ (P : Node → Type 0) (xs : List PlacedNode) (ds last : List Status) (placed_nodes : ArePlacedNodes ds xs)
     (apart : AreToldApart P xs last) (len : length last ≡ length ds) where
-  -- each spot is told by whether P holds of it
-  spot_told : (x : Spot) → Contains xs x → (P x.node → Is last Common x.place)
+  -- each placed node is told by whether P holds of it
+  placed_node_told : (x : PlacedNode) → Contains xs x → (P x.node → Is last Common x.place)
       × ((P x.node → ⊥) → Is last Missing x.place)
-  spot_told x h = (
+  placed_node_told x h = (
     λ m. (apart.common x.place).1 (x, h, refl, m),
-    λ out. elim (three last x.place (omega (arith, spots.within x h, len))) [
+    λ out. elim (three last x.place (omega (arith, placed_nodes.within x h, len))) [
       | inl u ↦ absurd (apart.none_undecided x.place u)
       | inr other ↦ elim other [
         | inl c ↦
             let y = (apart.common x.place).0 c in
-            let same : y.0 ≡ x = spots.apart y.0 x y.1 h y.2 in
-            absurd (out (subst (λ (z : Spot). P z.node) same y.3))
+            let same : y.0 ≡ x = placed_nodes.apart y.0 x y.1 h y.2 in
+            absurd (out (subst (λ (z : PlacedNode). P z.node) same y.3))
         | inr m ↦ m
       ]
     ],
@@ -414,73 +417,78 @@ module _ (P : Node → Type 0) (xs : List Spot) (ds last : List Status) (spots :
         ];
   }
 
--- where a discovery begins upon the ground
-pub started : (s : State) (ps : List ParentPlaces) (xs : List Spot) (ds : List Status) → IsGround s ps xs ds
-    → (asked : List Spot) → IsSample (record { parents = ps; spots = xs; decided = ds; asked = asked }) asked
-    → IsStart s (record { parents = ps; spots = xs; decided = ds; asked = asked })
-started s ps xs ds ground asked sample = record {
-  shape = ground.shape;
-  spots = ground.shared;
-  undecided = ground.undecided;
-  nothing_common = ground.nothing_common;
+-- where a discovery begins upon the snapshot
+pub started : (s : State) (ps : List ParentPlaces) (xs : List PlacedNode) (ds : List Status) → IsSnapshot s ps xs ds
+    → (asked : List PlacedNode)
+    → IsSample (record { parents = ps; placed_nodes = xs; decided = ds; asked = asked }) asked
+    → IsStart s (record { parents = ps; placed_nodes = xs; decided = ds; asked = asked })
+started s ps xs ds snapshot asked sample = record {
+  shape = snapshot.shape;
+  placed_nodes = snapshot.shared;
+  undecided = snapshot.undecided;
+  nothing_common = snapshot.nothing_common;
   search = record {
-    len = ground.len;
-    in_order = ground.in_order;
-    spots = ground.spots;
-    closed = ground.closed;
+    len = snapshot.len;
+    in_order = snapshot.in_order;
+    placed_nodes = snapshot.placed_nodes;
+    closed = snapshot.closed;
     sample = sample;
   };
 }
 
 module _ (ours theirs : ReplicaState) (pins : List Node)
     (tell : (n : Node) → IsServedUnder (content_of theirs) pins n ⊎ (¬ (IsServedUnder (content_of theirs) pins n)))
-    (ps : List ParentPlaces) (xs : List Spot) (ds last : List Status) (ground : IsGround ours.history ps xs ds)
+    (ps : List ParentPlaces) (xs : List PlacedNode) (ds last : List Status)
+    (snapshot : IsSnapshot ours.history ps xs ds)
     (apart : AreToldApart (IsServedUnder (content_of theirs) pins) xs last) (len : length last ≡ length ds)
-    (closed : IsClosed ps last) (heads : List Spot)
-    (heads_are : Lists (IsHead (record { parents = ps; spots = xs; decided = last; asked = heads }) Common) heads) where
+    (closed : IsClosed ps last) (heads : List PlacedNode)
+    (heads_are : Lists (IsHead
+    (record { parents = ps; placed_nodes = xs; decided = last; asked = heads }) Common) heads) where
   abbrev P : Node → Type 0
   P = IsServedUnder (content_of theirs) pins
 
-  told_apart : (x : Spot) → Contains xs x → (P x.node → Is last Common x.place)
+  told_apart : (x : PlacedNode) → Contains xs x → (P x.node → Is last Common x.place)
       × ((P x.node → ⊥) → Is last Missing x.place)
-  told_apart = spot_told P xs ds last ground.spots apart len
+  told_apart = placed_node_told P xs ds last snapshot.placed_nodes apart len
 
   first_marks : (marks : List Bool) × AreCovered ps ds Undecided marks
-  first_marks = marks_exist ps ds ground.len
+  first_marks = marks_exist ps ds snapshot.len
 
   abbrev start : Search
-  start = record { parents = ps; spots = xs; decided = ds; asked = drawn ds first_marks.0 xs }
+  start = record { parents = ps; placed_nodes = xs; decided = ds; asked = drawn ds first_marks.0 xs }
 
   starts : IsStart ours.history start
-  starts = started ours.history ps xs ds ground (drawn ds first_marks.0 xs)
-      (drawn_sample ps ds xs (drawn ds first_marks.0 xs) ground.len ground.in_order ground.closed ground.spots
-      ground.ascending first_marks.0 first_marks.1 refl)
+  starts = started ours.history ps xs ds snapshot (drawn ds first_marks.0 xs)
+      (drawn_sample ps ds xs
+      (drawn ds first_marks.0 xs) snapshot.len snapshot.in_order snapshot.closed snapshot.placed_nodes
+      snapshot.ascending first_marks.0 first_marks.1 refl)
 
-  -- what is missing at first is no spot
+  -- what is missing at first is no placed node
   missing_first : (k : ℕ) → Is ds Missing k → Is last Missing k
   missing_first k m = elim (three last k (omega (arith, slice_get_within ds k Missing m, len))) [
     | inl u ↦ absurd (apart.none_undecided k u)
     | inr other ↦ elim other [
       | inl c ↦
           let x = (apart.common k).0 c in
-          absurd (not_both_um ds k ((ground.undecided k).1 (x.0, x.1, x.2)) m)
+          absurd (not_both_um ds k ((snapshot.undecided k).1 (x.0, x.1, x.2)) m)
       | inr m' ↦ m'
     ]
   ]
 
   pub told_in_common : AreHeadsInCommon ours theirs pins (nodes_of heads)
   told_in_common =
-      let all = end_of P tell ps xs ground.ascending last closed told_apart (undecided ds) ours start (omega arith)
+      let all = end_of P tell ps xs snapshot.ascending last closed told_apart (undecided ds) ours start (omega arith)
       (IsAskedSoFar-start P ours start starts)
       (record {
         search = starts.search;
         parents = refl;
-        spots = refl;
-        common = λ k c. absurd (ground.nothing_common k c);
+        placed_nodes = refl;
+        common = λ k c. absurd (snapshot.nothing_common k c);
         missing = missing_first;
       }) in
       let t = all.0 in
-      let same = end_common P tell ps xs ground.ascending last closed told_apart t all.2 all.3 (len ∙ ground.len) in (
+      let same =
+      end_common P tell ps xs snapshot.ascending last closed told_apart t all.2 all.3 (len ∙ snapshot.len) in (
         t,
         IsAskedSoFar-done ours theirs pins t all.1 all.3,
         (
@@ -491,7 +499,7 @@ module _ (ours theirs : ReplicaState) (pins : List Node)
               λ h.
                   let head = (heads_are.1 x).0 h in (
                     (
-                      subst (λ ys. Contains ys x) (sym all.2.spots) head.0.0,
+                      subst (λ ys. Contains ys x) (sym all.2.placed_nodes) head.0.0,
                       (same x.place).1 head.0.1,
                     ),
                     λ j c under. head.1 j ((same j).0 c)
@@ -499,7 +507,7 @@ module _ (ours theirs : ReplicaState) (pins : List Node)
                   ),
               λ head. (heads_are.1 x).1 (
                 (
-                  subst (λ ys. Contains ys x) all.2.spots head.0.0,
+                  subst (λ ys. Contains ys x) all.2.placed_nodes head.0.0,
                   (same x.place).0 head.0.1,
                 ),
                 λ j c under. head.1 j ((same j).1 c)

@@ -3,7 +3,7 @@ use Rattle.std.specs.Prelude.{◌≡◌, ◌≢◌, ℕ, Bool, true, false, List
 use Rattle.hg_graph.specs.declared.graph.ParentPlaces.{ParentPlaces}
 use Rattle.hg_discovery.specs.declared.status.Status.{Status}
 use Rattle.hg_discovery.specs.declared.status.Status.TheVariants.{Undecided, Common, Missing}
-use Rattle.hg_discovery.specs.declared.status.Spot.{Spot}
+use Rattle.hg_discovery.specs.declared.status.PlacedNode.{PlacedNode}
 use Rattle.hg_discovery.specs.declared.error.DiscoveryError.{DiscoveryError}
 use Rattle.hg_discovery.specs.declared.error.DiscoveryError.TheVariants.{WrongCount, NoMemory}
 use Rattle.hg_discovery.specs.Under.{IsUnder}
@@ -17,22 +17,23 @@ pub record IsDecided (ps : List ParentPlaces) (k : ℕ) (said : Bool) (old new :
   pub missing : (j : ℕ) → Is new Missing j ↔ (Is old Missing j ⊎ ((said ≡ false) × Is old Undecided j × IsUnder ps k j))
 
 -- one answer; what is decided already stays so
-abbrev pub IsTold : List ParentPlaces → ℕ → Bool → List Status → List Status → Type 0
-IsTold ps k said old new = (Is old Undecided k × IsDecided ps k said old new) ⊎ ((Is old Undecided k → ⊥) × (new ≡ old))
+abbrev pub TakesAnswer : List ParentPlaces → ℕ → Bool → List Status → List Status → Type 0
+TakesAnswer ps k said old new =
+    (Is old Undecided k × IsDecided ps k said old new) ⊎ ((Is old Undecided k → ⊥) × (new ≡ old))
 
 -- the answers count in the order of the sample
-abbrev pub AreTold : List ParentPlaces → List Spot → List Bool → List Status → List Status → Type 0
-AreTold ps [] [] old new = new ≡ old
-AreTold ps (x ∷ xs) (said ∷ answers) old new = (mid : List Status) × IsTold ps x.place said old mid
-    × AreTold ps xs answers mid new
-AreTold ps [] (said ∷ answers) old new = ⊥
-AreTold ps (x ∷ xs) [] old new = ⊥
+abbrev pub TakesAnswers : List ParentPlaces → List PlacedNode → List Bool → List Status → List Status → Type 0
+TakesAnswers ps [] [] old new = new ≡ old
+TakesAnswers ps (x ∷ xs) (said ∷ answers) old new = (mid : List Status) × TakesAnswer ps x.place said old mid
+    × TakesAnswers ps xs answers mid new
+TakesAnswers ps [] (said ∷ answers) old new = ⊥
+TakesAnswers ps (x ∷ xs) [] old new = ⊥
 
 -- a round: the sample is answered, and another one is drawn
 pub record IsRound (old : Search) (answers : List Bool) (new : Search) : Type 0 where
   pub parents : new.parents ≡ old.parents
-  pub spots : new.spots ≡ old.spots
-  pub told : AreTold old.parents old.asked answers old.decided new.decided
+  pub placed_nodes : new.placed_nodes ≡ old.placed_nodes
+  pub told : TakesAnswers old.parents old.asked answers old.decided new.decided
   pub search : IsSearch new
 
 -- what is answered to the answers to a sample, and the search after them

@@ -1,8 +1,8 @@
--- Spots that are picked from an ascending list.
+-- Placed nodes that are picked from an ascending list.
 use Rattle.std.specs.Prelude.{Bool, true, false, List, slice_get, Option, Some, None, ◌&&◌}
 use Rattle.hg_discovery.specs.declared.status.Status.{Status}
 use Rattle.hg_discovery.specs.declared.status.Status.TheVariants.{Undecided, Common, Missing}
-use Rattle.hg_discovery.specs.declared.status.Spot.{Spot}
+use Rattle.hg_discovery.specs.declared.status.PlacedNode.{PlacedNode}
 
 abbrev pub same_decided : Status → Status → Bool
 same_decided Undecided Undecided = true
@@ -26,5 +26,5 @@ is_mark (Some false) true = false
 is_mark (Some false) false = true
 
 -- the place is decided so, and marked so
-abbrev pub is_picked : List Status → List Bool → Status → Bool → Spot → Bool
+abbrev pub is_picked : List Status → List Bool → Status → Bool → PlacedNode → Bool
 is_picked ds marks d covered x = is_decided (slice_get ds x.place) d && is_mark (slice_get marks x.place) covered

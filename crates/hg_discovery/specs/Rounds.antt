@@ -7,7 +7,7 @@ use Rattle.hg_replica.specs.Content.{Content}
 use Rattle.hg_view.specs.Pins.{IsServedUnder}
 use Rattle.hg_discovery.specs.declared.status.Status.{Status}
 use Rattle.hg_discovery.specs.declared.status.Status.TheVariants.{Undecided, Common, Missing}
-use Rattle.hg_discovery.specs.declared.status.Spot.{Spot}
+use Rattle.hg_discovery.specs.declared.status.PlacedNode.{PlacedNode}
 use Rattle.hg_discovery.specs.Search.{Search, IsSo, nodes_of}
 use Rattle.hg_discovery.specs.Answers.{IsRound}
 
@@ -52,7 +52,7 @@ AreRounds s (answers ∷ rest) t = (mid : Search) × IsRound s answers mid × Ar
 
 -- the changeset with this id is common
 abbrev pub IsCommon : Search → Node → Type 0
-IsCommon t n = (x : Spot) × IsSo t Common x × (x.node ≡ n)
+IsCommon t n = (x : PlacedNode) × IsSo t Common x × (x.node ≡ n)
 
 -- each changeset of the first is among the second
 abbrev pub AreWithin : List Contents → List Contents → Type 0

@@ -7,40 +7,41 @@ use Rattle.hg_changeset.specs.Node.{node_cmp}
 use Rattle.hg_graph.specs.declared.graph.ParentPlaces.{ParentPlaces}
 use Rattle.hg_discovery.specs.declared.status.Status.{Status}
 use Rattle.hg_discovery.specs.declared.status.Status.TheVariants.{Undecided, Common, Missing}
-use Rattle.hg_discovery.specs.declared.status.Spot.{Spot}
+use Rattle.hg_discovery.specs.declared.status.PlacedNode.{PlacedNode}
 use Rattle.hg_discovery.specs.Under.{IsParentAt, IsUnder, IsInOrder}
 
--- spots are the changesets that are asked about, with their places; a place without a spot is missing from the start
+-- placed nodes are the changesets that are asked about, with their places; a place without one is missing from the
+-- start
 pub record Search : Type 0 where
   pub parents : List ParentPlaces
-  pub spots : List Spot
+  pub placed_nodes : List PlacedNode
   pub decided : List Status
-  pub asked : List Spot
+  pub asked : List PlacedNode
 
 -- what is decided of the changeset at k
 abbrev pub Is : List Status → Status → ℕ → Type 0
 Is ds d k = slice_get ds k ≡ Some d
 
 -- by their ids
-abbrev pub IsAscending : List Spot → Type 0
+abbrev pub IsAscending : List PlacedNode → Type 0
 IsAscending xs = AllPairs (λ x y. node_cmp x.node y.node ≡ Less) xs
 
--- the spots of which P holds, each once, ascending
-abbrev pub Lists : (Spot → Type 0) → List Spot → Type 0
-Lists P xs = IsAscending xs × ((x : Spot) → Contains xs x ↔ P x)
+-- the placed nodes of which P holds, each once, ascending
+abbrev pub Lists : (PlacedNode → Type 0) → List PlacedNode → Type 0
+Lists P xs = IsAscending xs × ((x : PlacedNode) → Contains xs x ↔ P x)
 
 -- decided so
-abbrev pub IsSo : Search → Status → Spot → Type 0
-IsSo s d x = Contains s.spots x × Is s.decided d x.place
+abbrev pub IsSo : Search → Status → PlacedNode → Type 0
+IsSo s d x = Contains s.placed_nodes x × Is s.decided d x.place
 
 -- decided so, and no other changeset that is decided so has it as an ancestor
-abbrev pub IsHead : Search → Status → Spot → Type 0
+abbrev pub IsHead : Search → Status → PlacedNode → Type 0
 IsHead s d x = IsSo s d x × ((j : ℕ) → Is s.decided d j → IsUnder s.parents x.place j → j ≡ x.place)
 
 -- the first 200 of the heads of the undecided ones and then of the others
-pub record IsSample (s : Search) (xs : List Spot) : Type 0 where
-  pub heads : List Spot
-  pub others : List Spot
+pub record IsSample (s : Search) (xs : List PlacedNode) : Type 0 where
+  pub heads : List PlacedNode
+  pub others : List PlacedNode
   pub heads_are : Lists (IsHead s Undecided) heads
   pub others_are : Lists (λ x. IsSo s Undecided x × ¬ (IsHead s Undecided x)) others
   pub first : xs ≡ take 200 (heads ++ others)
@@ -50,18 +51,18 @@ pub record IsClosed (ps : List ParentPlaces) (ds : List Status) : Type 0 where
   pub common : (j k : ℕ) → IsParentAt ps j k → Is ds Common j → Is ds Common k
   pub missing : (j k : ℕ) → IsParentAt ps j k → Is ds Missing k → Is ds Missing j
 
-pub record AreSpots (ds : List Status) (xs : List Spot) : Type 0 where
-  pub distinct : (x y : Spot) → Contains xs x → Contains xs y → x.node ≡ y.node → x ≡ y
-  pub apart : (x y : Spot) → Contains xs x → Contains xs y → x.place ≡ y.place → x ≡ y
-  pub within : (x : Spot) → Contains xs x → x.place < length ds
-  pub found : (k : ℕ) → Is ds Undecided k ⊎ Is ds Common k → (x : Spot) × Contains xs x × (x.place ≡ k)
+pub record ArePlacedNodes (ds : List Status) (xs : List PlacedNode) : Type 0 where
+  pub distinct : (x y : PlacedNode) → Contains xs x → Contains xs y → x.node ≡ y.node → x ≡ y
+  pub apart : (x y : PlacedNode) → Contains xs x → Contains xs y → x.place ≡ y.place → x ≡ y
+  pub within : (x : PlacedNode) → Contains xs x → x.place < length ds
+  pub found : (k : ℕ) → Is ds Undecided k ⊎ Is ds Common k → (x : PlacedNode) × Contains xs x × (x.place ≡ k)
 
 pub record IsSearch (s : Search) : Type 0 where
   pub len : length s.decided ≡ length s.parents
   pub in_order : IsInOrder s.parents
-  pub spots : AreSpots s.decided s.spots
+  pub placed_nodes : ArePlacedNodes s.decided s.placed_nodes
   pub closed : IsClosed s.parents s.decided
   pub sample : IsSample s s.asked
 
-abbrev pub nodes_of : List Spot → List Node
+abbrev pub nodes_of : List PlacedNode → List Node
 nodes_of xs = map (λ x. x.node) xs

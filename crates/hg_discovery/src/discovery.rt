@@ -9,8 +9,8 @@ use crate::children::{Children, children_of};
 use crate::draw::{common_heads, sample};
 use crate::error::DiscoveryError;
 use crate::spread::answered;
-use crate::start::{Ground, ground_of};
-use crate::status::{Spot, Status};
+use crate::start::{Snapshot, snapshot_of};
+use crate::status::{PlacedNode, Status};
 use hg_changeset::Node;
 use hg_graph::ParentPlaces;
 use hg_replica::Replica;
@@ -25,9 +25,9 @@ pub struct Discovery {
     children: Children,
 
     // Ascending.
-    spots: Vec<Spot>,
+    placed_nodes: Vec<PlacedNode>,
     decided: Vec<Status>,
-    asked: Vec<Spot>,
+    asked: Vec<PlacedNode>,
     alloc: Global,
 }
 
@@ -37,7 +37,7 @@ impl Drop for Discovery {
         let Discovery {
             parents: _,
             children: _,
-            spots: _,
+            placed_nodes: _,
             decided: _,
             asked: _,
             alloc: _,
@@ -56,7 +56,7 @@ impl Model for Discovery {
 
     ghost view = { λ d. record {
       parents = d.parents.items;
-      spots = d.spots.items;
+      placed_nodes = d.placed_nodes.items;
       decided = d.decided.items;
       asked = d.asked.items;
     } };
@@ -64,11 +64,11 @@ impl Model for Discovery {
     ghost invariant = { λ d. IsSearch
         (record {
           parents = d.parents.items;
-          spots = d.spots.items;
+          placed_nodes = d.placed_nodes.items;
           decided = d.decided.items;
           asked = d.asked.items;
         }) × AreChildren d.parents.items d.children.places.items
-        d.children.stretches.items × IsAscending d.spots.items };
+        d.children.stretches.items × IsAscending d.placed_nodes.items };
 }
 
 impl Discovery {
@@ -76,18 +76,23 @@ impl Discovery {
     pub fn start(alloc: Global, replica: &Replica) -> Result<Discovery, AllocError>
         ensures { IfOk result (IsStart replica.now.history) }
     {
-        let ground = ground_of(alloc, replica)?;
+        let snapshot = snapshot_of(alloc, replica)?;
         let children = children_of(alloc, replica.graph())?;
-        let asked = sample(alloc, &ground.parents, &ground.spots, &ground.decided)?;
-        let Ground {
+        let asked = sample(
+            alloc,
+            &snapshot.parents,
+            &snapshot.placed_nodes,
+            &snapshot.decided,
+        )?;
+        let Snapshot {
             parents,
-            spots,
+            placed_nodes,
             decided,
-        } = ground;
+        } = snapshot;
         Ok(Discovery {
             parents,
             children,
-            spots,
+            placed_nodes,
             decided,
             asked,
             alloc,
@@ -122,7 +127,7 @@ impl Discovery {
             answers,
             &self.decided,
         )?;
-        let asked = sample(self.alloc, &self.parents, &self.spots, &decided)?;
+        let asked = sample(self.alloc, &self.parents, &self.placed_nodes, &decided)?;
         self.decided = decided;
         self.asked = asked;
         Ok(())
@@ -140,18 +145,18 @@ impl Discovery {
         ensures heads { IfOk result (λ ns. AreCommonHeads self.now ns.items) }
         ensures search { IsSearch self.now }
     {
-        let heads = common_heads(self.alloc, &self.parents, &self.spots, &self.decided)?;
+        let heads = common_heads(self.alloc, &self.parents, &self.placed_nodes, &self.decided)?;
         nodes(self.alloc, &heads)
     }
 }
 
-// The ids of the spots, in order.
-pub(crate) fn nodes(alloc: Global, spots: &[Spot]) -> Result<Vec<Node>, AllocError>
-    ensures { IfOk result (λ ns. ns.items ≡ nodes_of spots.now) }
+// The ids of the placed nodes, in order.
+pub(crate) fn nodes(alloc: Global, placed_nodes: &[PlacedNode]) -> Result<Vec<Node>, AllocError>
+    ensures { IfOk result (λ ns. ns.items ≡ nodes_of placed_nodes.now) }
 {
-    let mut nodes = Vec::with_capacity(alloc, spots.len())?;
-    for spot in spots {
-        nodes.push(spot.node)?;
+    let mut nodes = Vec::with_capacity(alloc, placed_nodes.len())?;
+    for placed_node in placed_nodes {
+        nodes.push(placed_node.node)?;
     }
     Ok(nodes)
 }

@@ -1,16 +1,16 @@
 //! Samples, and the heads of what is common.
 //!
-//! Both pick from the spots in their order: one sweep marks what has a child that is decided as it is, and a head is
-//! what isn't marked.
+//! Both pick from the placed nodes in their order: one sweep marks what has a child that is decided as it is, and a
+//! head is what isn't marked.
 ghost use Rattle.std.specs.Prelude.{◌≡◌, ◌↔◌, ℕ, ◌≤◌, ◌<◌, ◌++◌, Some, length, take, vec_len, filter, All, OnOk, IfOk};
 ghost use Rattle.std.specs.Prelude.{IsTrue};
 ghost use Rattle.hg_discovery.specs.declared.status.Status.TheVariants.{Undecided, Common};
 ghost use Rattle.hg_discovery.specs.Under.{IsInOrder, IsOneOf};
-ghost use Rattle.hg_discovery.specs.Search.{IsAscending, IsClosed, AreSpots, IsSample, IsHead, Lists};
+ghost use Rattle.hg_discovery.specs.Search.{IsAscending, IsClosed, ArePlacedNodes, IsSample, IsHead, Lists};
 ghost use Rattle.hg_discovery.specs.Spread.{AreCovered, MarksPlace};
 ghost use Rattle.hg_discovery.specs.Picking.{is_picked};
 
-use crate::status::{Spot, Status};
+use crate::status::{PlacedNode, Status};
 use hg_graph::ParentPlaces;
 use std::alloc::{AllocError, Global};
 
@@ -21,22 +21,23 @@ const SAMPLE: usize = 200;
 pub(crate) fn sample(
     alloc: Global,
     parents: &[ParentPlaces],
-    spots: &[Spot],
+    placed_nodes: &[PlacedNode],
     decided: &[Status],
-) -> Result<Vec<Spot>, AllocError>
+) -> Result<Vec<PlacedNode>, AllocError>
     requires len { length decided.now ≡ length parents.now }
     requires in_order { IsInOrder parents.now }
     requires closed { IsClosed parents.now decided.now }
-    requires spots { AreSpots decided.now spots.now }
-    requires ascending { IsAscending spots.now }
+    requires placed_nodes { ArePlacedNodes decided.now placed_nodes.now }
+    requires ascending { IsAscending placed_nodes.now }
     ensures { IfOk result
         (λ xs. IsSample
-        (record { parents = parents.now; spots = spots.now; decided = decided.now; asked = xs.items }) xs.items) }
+        (record { parents = parents.now; placed_nodes = placed_nodes.now; decided = decided.now; asked = xs.items })
+        xs.items) }
 {
     let covered = covered(alloc, parents, decided, Status::Undecided)?;
     let mut found = Vec::new(alloc);
     pick(
-        spots,
+        placed_nodes,
         decided,
         &covered,
         Status::Undecided,
@@ -45,7 +46,7 @@ pub(crate) fn sample(
         &mut found,
     )?;
     pick(
-        spots,
+        placed_nodes,
         decided,
         &covered,
         Status::Undecided,
@@ -60,65 +61,71 @@ pub(crate) fn sample(
 pub(crate) fn common_heads(
     alloc: Global,
     parents: &[ParentPlaces],
-    spots: &[Spot],
+    placed_nodes: &[PlacedNode],
     decided: &[Status],
-) -> Result<Vec<Spot>, AllocError>
+) -> Result<Vec<PlacedNode>, AllocError>
     requires len { length decided.now ≡ length parents.now }
     requires in_order { IsInOrder parents.now }
     requires closed { IsClosed parents.now decided.now }
-    requires spots { AreSpots decided.now spots.now }
-    requires ascending { IsAscending spots.now }
+    requires placed_nodes { ArePlacedNodes decided.now placed_nodes.now }
+    requires ascending { IsAscending placed_nodes.now }
     ensures { IfOk result
         (λ xs. Lists (IsHead
-        (record { parents = parents.now; spots = spots.now; decided = decided.now; asked = xs.items }) Common)
-        xs.items) }
+        (record { parents = parents.now; placed_nodes = placed_nodes.now; decided = decided.now; asked = xs.items })
+        Common) xs.items) }
 {
     let covered = covered(alloc, parents, decided, Status::Common)?;
     let mut found = Vec::new(alloc);
     pick(
-        spots,
+        placed_nodes,
         decided,
         &covered,
         Status::Common,
         false,
-        spots.len(),
+        placed_nodes.len(),
         &mut found,
     )?;
     Ok(found)
 }
 
-// Adds the spots that are decided so and covered or not, up to a limit.
+// Adds the placed nodes that are decided so and covered or not, up to a limit.
 fn pick(
-    spots: &[Spot],
+    placed_nodes: &[PlacedNode],
     decided: &[Status],
     marks: &[bool],
     so: Status,
     covered: bool,
     limit: usize,
-    found: &mut Vec<Spot>,
+    found: &mut Vec<PlacedNode>,
 ) -> Result<(), AllocError>
     requires len { length marks.now ≡ length decided.now }
-    requires within { All (λ x. x.place < length decided.now) spots.now }
+    requires within { All (λ x. x.place < length decided.now) placed_nodes.now }
     requires limit { vec_len found.old ≤ limit }
     ensures { OnOk result
         (found.new.items ≡ take limit (found.old.items ++ filter
-        (is_picked decided.now marks.now so covered) spots.now)) }
+        (is_picked decided.now marks.now so covered) placed_nodes.now)) }
 {
-    for spot in spots {
-        if found.len() < limit && is_picked(*spot, decided, marks, so, covered) {
-            found.push(*spot)?;
+    for placed_node in placed_nodes {
+        if found.len() < limit && is_picked(*placed_node, decided, marks, so, covered) {
+            found.push(*placed_node)?;
         }
     }
     Ok(())
 }
 
-// Whether the spot is decided so, and marked or not.
-fn is_picked(spot: Spot, decided: &[Status], marks: &[bool], so: Status, covered: bool) -> bool
+// Whether the placed node is decided so, and marked or not.
+fn is_picked(
+    placed_node: PlacedNode,
+    decided: &[Status],
+    marks: &[bool],
+    so: Status,
+    covered: bool,
+) -> bool
     requires len { length marks.now ≡ length decided.now }
-    requires within { spot.place < length decided.now }
-    ensures { IsTrue result ↔ IsTrue (is_picked decided.now marks.now so covered spot) }
+    requires within { placed_node.place < length decided.now }
+    ensures { IsTrue result ↔ IsTrue (is_picked decided.now marks.now so covered placed_node) }
 {
-    decided[spot.place] == so && marks[spot.place] == covered
+    decided[placed_node.place] == so && marks[placed_node.place] == covered
 }
 
 // Marks the changesets that have a child that is decided so.

@@ -4,11 +4,11 @@ ghost use Rattle.hg_phases.specs.State.{changesets};
 ghost use Rattle.hg_graph.specs.Places.{IsAt};
 ghost use Rattle.hg_view.specs.Common.{AreFree};
 ghost use Rattle.hg_discovery.specs.Between.{AreHeadsInCommon};
-ghost use Rattle.hg_discovery.specs.declared.status.Spot.{Spot};
+ghost use Rattle.hg_discovery.specs.declared.status.PlacedNode.{PlacedNode};
 
 use crate::discovery::nodes;
 use crate::order::ascending;
-use crate::status::Spot;
+use crate::status::PlacedNode;
 use hg_changeset::Node;
 use hg_graph::Graph;
 use hg_view::Kept;
@@ -29,19 +29,23 @@ pub(crate) fn heads_by_walk(
     let _ = other.replica();
     other.tells_what_is_served();
     let places = asker.common_heads(other)?;
-    let found = spots_at(alloc, asker.replica().graph(), &places)?;
+    let found = placed_nodes_at(alloc, asker.replica().graph(), &places)?;
     nodes(alloc, &ascending(found))
 }
 
 // What stands at the places, with its place.
-fn spots_at(alloc: Global, graph: &Graph, places: &[usize]) -> Result<Vec<Spot>, AllocError>
-    ensures { IfOk result (λ xs. (x : Spot) → Contains xs.items x
+fn placed_nodes_at(
+    alloc: Global,
+    graph: &Graph,
+    places: &[usize],
+) -> Result<Vec<PlacedNode>, AllocError>
+    ensures { IfOk result (λ xs. (x : PlacedNode) → Contains xs.items x
         ↔ (Contains places.now x.place × IsAt graph.now x.node x.place)) }
 {
     let mut found = Vec::with_capacity(alloc, places.len())?;
     for place in places {
         if let Some(node) = graph.node_at(*place) {
-            found.push(Spot {
+            found.push(PlacedNode {
                 node,
                 place: *place,
             })?;

@@ -55,4 +55,4 @@ pub use compared::Compared;
 pub use discovery::Discovery;
 pub use error::DiscoveryError;
 pub use laws::{rounds_are_few, what_is_common_is_held_by_both, what_is_common_is_what_is_served};
-pub use status::{Spot, Status};
+pub use status::{PlacedNode, Status};

@@ -1,17 +1,17 @@
-//! Spots in the order of their ids.
+//! Placed nodes in the order of their ids.
 ghost use Rattle.std.specs.Prelude.{◌↔◌, Contains};
 ghost use Rattle.std.specs.List.Sorted.{IsStrictlySortedBy};
-ghost use Rattle.hg_discovery.specs.declared.status.Spot.{Spot};
-ghost use Rattle.hg_discovery.specs.Order.{spot_cmp};
+ghost use Rattle.hg_discovery.specs.declared.status.PlacedNode.{PlacedNode};
+ghost use Rattle.hg_discovery.specs.Order.{placed_node_cmp};
 
-use crate::status::Spot;
+use crate::status::PlacedNode;
 
-// The spots ascending, each once.
-pub(crate) fn ascending(mut spots: Vec<Spot>) -> Vec<Spot>
-    ensures sorted { IsStrictlySortedBy spot_cmp result.items }
-    ensures same { (x : Spot) → Contains result.items x ↔ Contains spots.items x }
+// The placed nodes ascending, each once.
+pub(crate) fn ascending(mut placed_nodes: Vec<PlacedNode>) -> Vec<PlacedNode>
+    ensures sorted { IsStrictlySortedBy placed_node_cmp result.items }
+    ensures same { (x : PlacedNode) → Contains result.items x ↔ Contains placed_nodes.items x }
 {
-    spots.sort_unstable();
-    spots.dedup();
-    spots
+    placed_nodes.sort_unstable();
+    placed_nodes.dedup();
+    placed_nodes
 }

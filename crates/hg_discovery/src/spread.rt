@@ -7,12 +7,12 @@ ghost use Rattle.std.specs.Prelude.{◌≡◌, ◌≢◌, ◌≤◌, true, false
 ghost use Rattle.hg_discovery.specs.declared.status.Status.TheVariants.{Undecided, Common, Missing};
 ghost use Rattle.hg_discovery.specs.Under.{IsInOrder, IsOneOf};
 ghost use Rattle.hg_discovery.specs.Search.{Is, IsClosed};
-ghost use Rattle.hg_discovery.specs.Answers.{IsTold, AreTold, IsDecided};
+ghost use Rattle.hg_discovery.specs.Answers.{TakesAnswer, TakesAnswers, IsDecided};
 ghost use Rattle.hg_discovery.specs.Children.{AreChildren, Stands};
 ghost use Rattle.hg_discovery.specs.Queue.{Grows, AreTaken};
 
 use crate::children::{Children, Stretch};
-use crate::status::{Spot, Status};
+use crate::status::{PlacedNode, Status};
 use hg_graph::ParentPlaces;
 use std::alloc::{AllocError, Global};
 
@@ -21,7 +21,7 @@ pub(crate) fn answered(
     alloc: Global,
     parents: &[ParentPlaces],
     children: &Children,
-    asked: &[Spot],
+    asked: &[PlacedNode],
     answers: &[bool],
     decided: &[Status],
 ) -> Result<Vec<Status>, AllocError>
@@ -30,7 +30,7 @@ pub(crate) fn answered(
     requires closed { IsClosed parents.now decided.now }
     requires children { AreChildren parents.now children.now.places.items children.now.stretches.items }
     requires answers { length answers.now ≡ length asked.now }
-    ensures told { IfOk result (λ new. AreTold parents.now asked.now answers.now decided.now new.items) }
+    ensures told { IfOk result (λ new. TakesAnswers parents.now asked.now answers.now decided.now new.items) }
     ensures closed { IfOk result (λ new. IsClosed parents.now new.items) }
     ensures len { IfOk result (λ new. length new.items ≡ length decided.now) }
 {
@@ -44,7 +44,7 @@ pub(crate) fn answered(
 fn tell_all(
     parents: &[ParentPlaces],
     children: &Children,
-    asked: &[Spot],
+    asked: &[PlacedNode],
     answers: &[bool],
     decided: &mut [Status],
     queue: &mut Vec<usize>,
@@ -54,7 +54,7 @@ fn tell_all(
     requires closed { IsClosed parents.now decided.old }
     requires children { AreChildren parents.now children.now.places.items children.now.stretches.items }
     requires answers { length answers.now ≡ length asked.now }
-    ensures told { OnOk result (AreTold parents.now asked.now answers.now decided.old decided.new) }
+    ensures told { OnOk result (TakesAnswers parents.now asked.now answers.now decided.old decided.new) }
     ensures closed { OnOk result (IsClosed parents.now decided.new) }
     ensures len { length decided.new ≡ length decided.old }
 {
@@ -84,7 +84,7 @@ fn tell(
     requires len { length decided.old ≡ length parents.now }
     requires closed { IsClosed parents.now decided.old }
     requires children { AreChildren parents.now children.now.places.items children.now.stretches.items }
-    ensures told { OnOk result (IsTold parents.now place yes decided.old decided.new) }
+    ensures told { OnOk result (TakesAnswer parents.now place yes decided.old decided.new) }
     ensures len { length decided.new ≡ length decided.old }
 {
     if place < decided.len() && decided[place] == Status::Undecided {

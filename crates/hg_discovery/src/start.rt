@@ -3,13 +3,13 @@ ghost use Rattle.std.specs.Prelude.{◌≡◌, ◌≢◌, ℕ, ◌<◌, ◌↔�
 ghost use Rattle.hg_discovery.specs.declared.status.Status.TheVariants.{Undecided, Common, Missing};
 ghost use Rattle.hg_phases.specs.State.{changesets, IsPhaseOf};
 ghost use Rattle.hg_phases.specs.declared.phase.Phase.TheVariants.{Secret};
-ghost use Rattle.hg_discovery.specs.declared.status.Spot.{Spot};
+ghost use Rattle.hg_discovery.specs.declared.status.PlacedNode.{PlacedNode};
 ghost use Rattle.hg_discovery.specs.Under.{IsShapeOf};
 ghost use Rattle.hg_discovery.specs.Search.{Is};
-ghost use Rattle.hg_discovery.specs.Start.{IsShared, IsGround};
+ghost use Rattle.hg_discovery.specs.Start.{IsShared, IsSnapshot};
 
 use crate::order::ascending;
-use crate::status::{Spot, Status};
+use crate::status::{PlacedNode, Status};
 use hg_changeset::Node;
 use hg_graph::{Graph, ParentPlaces};
 use hg_instab::has_phase_at;
@@ -20,23 +20,23 @@ use std::alloc::{AllocError, Global};
 // What a discovery begins upon: where the parents of each changeset stand, the changesets that aren't secret,
 // ascending, and these as undecided.
 #[derive(Drop)]
-pub(crate) struct Ground {
+pub(crate) struct Snapshot {
     pub(crate) parents: Vec<ParentPlaces>,
-    pub(crate) spots: Vec<Spot>,
+    pub(crate) placed_nodes: Vec<PlacedNode>,
     pub(crate) decided: Vec<Status>,
 }
 
 // What a discovery of the replica begins upon.
-pub(crate) fn ground_of(alloc: Global, replica: &Replica) -> Result<Ground, AllocError>
-    ensures { IfOk result (λ ground. IsGround replica.now.history ground.parents.items ground.spots.items
-        ground.decided.items) }
+pub(crate) fn snapshot_of(alloc: Global, replica: &Replica) -> Result<Snapshot, AllocError>
+    ensures { IfOk result (λ snapshot. IsSnapshot replica.now.history snapshot.parents.items snapshot.placed_nodes.items
+        snapshot.decided.items) }
 {
     let parents = parents_of(alloc, replica.graph())?;
-    let spots = ascending(shared(alloc, replica)?);
-    let decided = undecided(alloc, parents.len(), &spots)?;
-    Ok(Ground {
+    let placed_nodes = ascending(shared(alloc, replica)?);
+    let decided = undecided(alloc, parents.len(), &placed_nodes)?;
+    Ok(Snapshot {
         parents,
-        spots,
+        placed_nodes,
         decided,
     })
 }
@@ -53,32 +53,36 @@ fn parents_of(alloc: Global, graph: &Graph) -> Result<Vec<ParentPlaces>, AllocEr
 }
 
 // The changesets that aren't secret, in the graph's order. It takes no look-up.
-fn shared(alloc: Global, replica: &Replica) -> Result<Vec<Spot>, AllocError>
-    ensures { IfOk result (λ xs. (x : Spot) → Contains xs.items x ↔ IsShared replica.now.history x) }
+fn shared(alloc: Global, replica: &Replica) -> Result<Vec<PlacedNode>, AllocError>
+    ensures { IfOk result (λ xs. (x : PlacedNode) → Contains xs.items x ↔ IsShared replica.now.history x) }
 {
     let graph = replica.graph();
-    let mut spots = Vec::with_capacity(alloc, graph.len())?;
+    let mut placed_nodes = Vec::with_capacity(alloc, graph.len())?;
     for place in 0..graph.len() {
         if let Some(node) = graph.node_at(place) {
             if !has_phase_at(replica, place, Phase::Secret) {
-                spots.push(Spot { node, place })?;
+                placed_nodes.push(PlacedNode { node, place })?;
             }
         }
     }
-    Ok(spots)
+    Ok(placed_nodes)
 }
 
-// The spots are undecided, and all else is missing.
-fn undecided(alloc: Global, len: usize, spots: &[Spot]) -> Result<Vec<Status>, AllocError>
-    requires { (x : Spot) → Contains spots.now x → x.place < len }
+// The placed nodes are undecided, and all else is missing.
+fn undecided(
+    alloc: Global,
+    len: usize,
+    placed_nodes: &[PlacedNode],
+) -> Result<Vec<Status>, AllocError>
+    requires { (x : PlacedNode) → Contains placed_nodes.now x → x.place < len }
     ensures len { IfOk result (λ ds. length ds.items ≡ len) }
     ensures undecided { IfOk result (λ ds. (k : ℕ) → Is ds.items Undecided k
-        ↔ ((x : Spot) × Contains spots.now x × (x.place ≡ k))) }
+        ↔ ((x : PlacedNode) × Contains placed_nodes.now x × (x.place ≡ k))) }
     ensures nothing_common { IfOk result (λ ds. (k : ℕ) → Is ds.items Common k → ⊥) }
 {
     let mut decided = vec![in alloc; Status::Missing; len]?;
-    for spot in spots {
-        decided[spot.place] = Status::Undecided;
+    for placed_node in placed_nodes {
+        decided[placed_node.place] = Status::Undecided;
     }
     Ok(decided)
 }

@@ -14,7 +14,7 @@ pub enum Status {
 
 /// A changeset that is asked about, and its place in the graph.
 #[derive(Clone, Copy, PartialEq, Eq, PartialOrd, Ord, Debug)]
-pub struct Spot {
+pub struct PlacedNode {
     /// Its id.
     pub node: Node,
     /// Where it stands.

@@ -10,7 +10,7 @@ pub returns-then-eq : goal.returns-then-eq
 returns-then-eq c =
     let ds = c.args.decided.now in
     let marks = c.args.marks.now in
-    let x = c.args.spot in
+    let x = c.args.placed_node in
     let within : x.place < length ds = c.requires.within in
     let marked : x.place < length marks = omega (arith, c.requires.len, within) in (
       λ t. picked ds marks c.args.so c.args.covered x
@@ -25,7 +25,7 @@ returns-then-eq c =
 pub returns-else-eq : goal.returns-else-eq
 returns-else-eq c =
     let ds = c.args.decided.now in
-    let x = c.args.spot in (
+    let x = c.args.placed_node in (
       λ t. absurd (true≢false (sym t ∙ c.if-eq.false)),
       λ t. absurd (read_not_so ds x.place Undecided c.args.so c.eq.result c.eq.ensures c.if-eq.false
           (from_picked ds c.args.marks.now c.args.so c.args.covered x t).0),

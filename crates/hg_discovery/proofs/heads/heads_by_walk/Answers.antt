@@ -6,7 +6,7 @@ use Rattle.hg_phases.specs.State.{changesets}
 use Rattle.hg_replica.specs.State.{ReplicaState}
 use Rattle.hg_view.specs.Common.{IsCommonAt}
 use Rattle.hg_view.specs.Tops.{IsTop}
-use Rattle.hg_discovery.specs.declared.status.Spot.{Spot}
+use Rattle.hg_discovery.specs.declared.status.PlacedNode.{PlacedNode}
 use Rattle.hg_discovery.specs.Search.{nodes_of}
 use Rattle.hg_discovery.specs.Between.{AreHeadsInCommon}
 use Rattle.hg_discovery.proofs.CommonLemmas.{walked_in_common}
@@ -20,16 +20,17 @@ returns c =
     let here : c.graph.result.now ≡ cs =
     c.graph.ensures.graph ∙ ap (λ (s : ReplicaState). changesets s.history) c.replica-2.ensures.replica in
     let places = c.deref.result.now in
-    let tops : (k : ℕ) → Contains places k ↔ IsTop cs (IsCommonAt ours other) k =
-    subst (λ (ks : List ℕ). (k : ℕ) → Contains ks k ↔ IsTop cs (IsCommonAt ours other) k) (sym c.deref.ensures.value)
+    let are_heads : (k : ℕ) → Contains places k ↔ IsTop cs (IsCommonAt ours other) k =
+    subst (λ (ks : List ℕ). (k : ℕ) → Contains ks k ↔ IsTop cs (IsCommonAt ours other) k)
+    (sym c.deref.ensures.value)
     c.in_ok-places.ensures.exact in
-    let found : (x : Spot) → Contains c.in_ok-found.found.items x ↔ (Contains places x.place
+    let found : (x : PlacedNode) → Contains c.in_ok-found.found.items x ↔ (Contains places x.place
     × IsAt cs x.node x.place) =
-    subst (λ (ds : List Contents). (x : Spot) → Contains c.in_ok-found.found.items x ↔ (Contains places x.place
+    subst (λ (ds : List Contents). (x : PlacedNode) → Contains c.in_ok-found.found.items x ↔ (Contains places x.place
     × IsAt ds x.node x.place)) here c.in_ok-found.ensures in
     let new = c.ascending.result.items in
     let heads = walked_in_common ours other c.replica-2.ensures.valid c.tells_what_is_served.ensures
-    c.common_heads.ensures.closed places tops new c.ascending.ensures.sorted
+    c.common_heads.ensures.closed places are_heads new c.ascending.ensures.sorted
     (λ x. (
       λ h. (found x).0 ((c.ascending.ensures.same x).0 h),
       λ h. (c.ascending.ensures.same x).1 ((found x).1 h),

@@ -1,6 +1,6 @@
 use Rattle.std.proofs.Common.{◌≡◌, ◌+◌, ◌++◌, ◌∷◌, ◌∙◌, [], arith, take, get_or, false, refl}
 use Rattle.std.proofs.lemmas.List.{take_more, take_all}
-use Rattle.hg_discovery.proofs.ToldLemmas.{AreTold-more, told_closed}
+use Rattle.hg_discovery.proofs.ToldLemmas.{TakesAnswers-more, told_closed}
 use Rattle.hg_discovery.proofs.spread.tell_all.Goals as goal
 
 pub loop-i-init : goal.loop-i-init
@@ -24,7 +24,7 @@ loop-i-preserved c =
     let more_bs : take (i + 1) bs ≡ take i bs ++ b ∷ [] = take_more bs i false
     (omega (arith, c.requires.answers, c.loop-i-test.true)) in
     record {
-      told = rw more_xs (rw more_bs (AreTold-more ps (take i xs)
+      told = rw more_xs (rw more_bs (TakesAnswers-more ps (take i xs)
           (take i bs) x b c.args.decided.now mid new c.loop-i.invariant.told c.in_ok-tell.ensures.told));
       closed = told_closed ps x.place b mid new (c.loop-i.invariant.len ∙ c.requires.len) c.requires.in_order
           c.loop-i.invariant.closed c.in_ok-tell.ensures.told;

@@ -15,14 +15,16 @@ pub loop-place-preserved : goal.loop-place-preserved
 loop-place-preserved c =
     let s = c.args.replica.now.history in
     let i = c.loop-place.place in
-    let before : AreThoseTo (IsShared s) i c.loop-place.spots.items = c.loop-place.invariant in
+    let before : AreThoseTo (IsShared s) i c.loop-place.placed_nodes.items = c.loop-place.invariant in
     elim c.match-node_at.branch [
       | in-Some+then-not-has_phase_at+in_ok-push w ↦
           let at : IsAt (changesets s) w.in-Some.node i = subst
           (λ ds. slice_get (nodes ds) i ≡ Some w.in-Some.node) c.graph-graph.ensures.graph
           (sym c.node_at.ensures ∙ w.in-Some.is) in
-          subst (AreThoseTo (IsShared s) (i + 1)) (sym (ap (λ v. v.items) w.spots-is ∙ w.in_ok-push.ensures.items))
-          (those_push (changesets s) (IsShared s) (λ x h. h.0) i c.loop-place.spots.items before w.in-Some.node at (
+          subst (AreThoseTo (IsShared s) (i + 1)) (sym (ap (λ v. v.items) w.placed_nodes-is
+          ∙ w.in_ok-push.ensures.items))
+          (those_push (changesets s) (IsShared s)
+          (λ x h. h.0) i c.loop-place.placed_nodes.items before w.in-Some.node at (
             at,
             λ h. true≢false (sym ((w.has_phase_at.ensures w.in-Some.node at).1
                 ((phase_in_content s c.graph-graph.ensures.valid.graph w.in-Some.node Secret).1 h))
@@ -32,8 +34,10 @@ loop-place-preserved c =
           let at : IsAt (changesets s) w.in-Some.node i = subst
           (λ ds. slice_get (nodes ds) i ≡ Some w.in-Some.node) c.graph-graph.ensures.graph
           (sym c.node_at.ensures ∙ w.in-Some.is) in
-          subst (AreThoseTo (IsShared s) (i + 1)) (sym (ap (λ v. v.items) w.spots-is))
-          (those_skip (changesets s) (IsShared s) (λ x h. h.0) i c.loop-place.spots.items before w.in-Some.node at (λ h. h.1
+          subst (AreThoseTo (IsShared s) (i + 1)) (sym (ap (λ v. v.items) w.placed_nodes-is))
+          (those_skip (changesets s) (IsShared s)
+          (λ x h. h.0) i c.loop-place.placed_nodes.items before w.in-Some.node at
+          (λ h. h.1
           ((phase_in_content s c.graph-graph.ensures.valid.graph w.in-Some.node Secret).0
           ((w.has_phase_at.ensures w.in-Some.node at).0 w.if-not-has_phase_at.false))))
       | in_default w ↦
@@ -45,5 +49,6 @@ loop-place-preserved c =
 pub returns : goal.returns
 returns c =
     let s = c.args.replica.now.history in
-    all_those (changesets s) (IsShared s) (λ x h. h.0) c.loop-place.place c.loop-place.spots.items c.loop-place.invariant
+    all_those (changesets s) (IsShared s) (λ x h. h.0) c.loop-place.place c.loop-place.placed_nodes.items
+    c.loop-place.invariant
     (omega (arith, c.loop-place-test.false, c.len-place-end.ensures.len, ap length c.graph-graph.ensures.graph))

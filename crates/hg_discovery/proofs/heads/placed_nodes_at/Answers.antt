@@ -2,10 +2,10 @@ use Rattle.std.proofs.Common.{◌↔◌, ◌+◌, ◌≡◌, List, Contains, tak
 use Rattle.std.proofs.lemmas.List.{take_all}
 use Rattle.std.proofs.lemmas.Option.{none-some}
 use Rattle.hg_graph.specs.Places.{IsAt}
-use Rattle.hg_discovery.specs.declared.status.Spot.{Spot}
-use Rattle.hg_discovery.proofs.SpotLemmas.{spots-push, spots-skip}
-use Rattle.hg_discovery.proofs.heads.spots_at.Goals as goal
-use Rattle.hg_discovery.proofs.heads.spots_at.Goals.{in-Some+in_ok-push, in_default}
+use Rattle.hg_discovery.specs.declared.status.PlacedNode.{PlacedNode}
+use Rattle.hg_discovery.proofs.PlacedNodeLemmas.{placed_nodes-push, placed_nodes-skip}
+use Rattle.hg_discovery.proofs.heads.placed_nodes_at.Goals as goal
+use Rattle.hg_discovery.proofs.heads.placed_nodes_at.Goals.{in-Some+in_ok-push, in_default}
 
 pub loop-place-preserved : goal.loop-place-preserved
 loop-place-preserved c =
@@ -14,12 +14,13 @@ loop-place-preserved c =
     let i = c.loop-place.place-index in
     let l = c.loop-place-test.true in
     let old = c.loop-place.found.items in
-    let So : List Spot → Type 0 = λ xs. (x : Spot) → Contains xs x
+    let So : List PlacedNode → Type 0 = λ xs. (x : PlacedNode) → Contains xs x
     ↔ (Contains (take (i + 1) ps) x.place × IsAt cs x.node x.place) in
     elim c.match-node_at.branch [
       | in-Some+in_ok-push w ↦ subst So (sym (ap (λ v. v.items) w.found-is ∙ w.in_ok-push.ensures.items))
-          (spots-push cs ps i l old c.loop-place.invariant w.in-Some.node (sym c.node_at.ensures ∙ w.in-Some.is))
-      | in_default w ↦ subst So (sym (ap (λ v. v.items) w.found-is)) (spots-skip cs ps i l old c.loop-place.invariant
+          (placed_nodes-push cs ps i l old c.loop-place.invariant w.in-Some.node (sym c.node_at.ensures ∙ w.in-Some.is))
+      | in_default w ↦ subst So (sym (ap (λ v. v.items) w.found-is))
+          (placed_nodes-skip cs ps i l old c.loop-place.invariant
           (λ n at. none-some n (sym w.in_default.is ∙ c.node_at.ensures ∙ at)))
     ]
 

@@ -1,8 +1,8 @@
 use Rattle.std.proofs.Common.{◌↔◌, Contains, take}
 use Rattle.hg_graph.specs.Places.{IsAt}
-use Rattle.hg_discovery.specs.declared.status.Spot.{Spot}
-use Rattle.hg_discovery.proofs.heads.spots_at.Given as goal
+use Rattle.hg_discovery.specs.declared.status.PlacedNode.{PlacedNode}
+use Rattle.hg_discovery.proofs.heads.placed_nodes_at.Given as goal
 
 abbrev pub invariant-loop-place : goal.invariant-loop-place
-invariant-loop-place l = (x : Spot) → Contains l.found.items x
+invariant-loop-place l = (x : PlacedNode) → Contains l.found.items x
     ↔ (Contains (take l.place-index l.places) x.place × IsAt l.graph x.node x.place)

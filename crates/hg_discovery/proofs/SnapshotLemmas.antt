@@ -23,27 +23,28 @@ use Rattle.hg_phases.specs.Content.{content_of}
 use Rattle.hg_view.specs.Tops.{IsTop}
 use Rattle.hg_discovery.specs.declared.status.Status.{Status}
 use Rattle.hg_discovery.specs.declared.status.Status.TheVariants.{Undecided, Common, Missing}
-use Rattle.hg_discovery.specs.declared.status.Spot.{Spot}
+use Rattle.hg_discovery.specs.declared.status.PlacedNode.{PlacedNode}
 use Rattle.hg_discovery.specs.Under.{IsOneOf, IsParentAt, IsUnder, IsInOrder, IsShapeOf}
 use Rattle.hg_discovery.specs.Search.{Is, IsHead}
-use Rattle.hg_discovery.specs.Order.{spot_cmp}
-use Rattle.hg_discovery.specs.Start.{IsShared, IsGround}
+use Rattle.hg_discovery.specs.Order.{placed_node_cmp}
+use Rattle.hg_discovery.specs.Start.{IsShared, IsSnapshot}
 use Rattle.hg_discovery.proofs.UnderLemmas.{child_on_way, parent_under}
 use Rattle.hg_discovery.proofs.StartLemmas.{AreThoseTo, none_of_those, those_push, those_skip, all_those}
 use Rattle.hg_discovery.proofs.StartLemmas.{phase_in_content, AreUndecidedTo, AreUndecidedTo-start}
-use Rattle.hg_discovery.proofs.StartLemmas.{AreUndecidedTo-more, in_order, shared_within, closed_start, spots_start}
+use Rattle.hg_discovery.proofs.StartLemmas.{AreUndecidedTo-more, in_order, shared_within, closed_start}
+use Rattle.hg_discovery.proofs.StartLemmas.{placed_nodes_start}
 use Rattle.hg_discovery.proofs.PutLemmas.{ordered, ordered_members, ordered_sorted}
-use Rattle.hg_discovery.proofs.SortLemmas.{ascending_spots}
+use Rattle.hg_discovery.proofs.SortLemmas.{ascending_placed_nodes}
 
 -- ---- what was found of a history
 
 module _ (s : State) (valid : IsValid s) (ps : List ParentPlaces) (shape : IsShapeOf (changesets s) ps)
-    (xs : List Spot) (shared : (x : Spot) → Contains xs x ↔ IsShared s x) (ds : List Status)
+    (xs : List PlacedNode) (shared : (x : PlacedNode) → Contains xs x ↔ IsShared s x) (ds : List Status)
     (len : length ds ≡ length ps)
-    (undecided : (k : ℕ) → Is ds Undecided k ↔ ((x : Spot) × Contains xs x × (x.place ≡ k)))
-    (nothing : (k : ℕ) → Is ds Common k → ⊥) (sorted : IsStrictlySortedBy spot_cmp xs) where
-  pub ground_from : IsGround s ps xs ds
-  ground_from = let spots = spots_start s valid ps shape xs shared ds len undecided nothing in record {
+    (undecided : (k : ℕ) → Is ds Undecided k ↔ ((x : PlacedNode) × Contains xs x × (x.place ≡ k)))
+    (nothing : (k : ℕ) → Is ds Common k → ⊥) (sorted : IsStrictlySortedBy placed_node_cmp xs) where
+  pub snapshot_from : IsSnapshot s ps xs ds
+  snapshot_from = let placed_nodes = placed_nodes_start s valid ps shape xs shared ds len undecided nothing in record {
     shape = shape;
     shared = shared;
     undecided = undecided;
@@ -51,11 +52,11 @@ module _ (s : State) (valid : IsValid s) (ps : List ParentPlaces) (shape : IsSha
     len = len;
     in_order = in_order s valid ps shape xs shared;
     closed = closed_start s valid ps shape xs shared ds len undecided nothing;
-    spots = spots;
-    ascending = ascending_spots xs spots.distinct sorted;
+    placed_nodes = placed_nodes;
+    ascending = ascending_placed_nodes xs placed_nodes.distinct sorted;
   }
 
--- ---- there is such a ground
+-- ---- there is such a snapshot
 
 module _ (s : State) (valid : IsValid s) where
   abbrev cs : List Contents
@@ -143,12 +144,12 @@ module _ (s : State) (valid : IsValid s) where
       let x = (phase_in_content s valid.graph n Secret).1 q in none-some x.0 (sym e ∙ x.1))
   secret_or_not n (Some h) e = secret_by n h e h.phase refl
 
-  spots_to : (i : ℕ) → i ≤ length cs → (xs : List Spot) × AreThoseTo (IsShared s) i xs
-  spots_to zero le = ([], none_of_those (IsShared s))
-  spots_to (suc i) le =
-      let before = spots_to i (omega (arith, le)) in
+  placed_nodes_to : (i : ℕ) → i ≤ length cs → (xs : List PlacedNode) × AreThoseTo (IsShared s) i xs
+  placed_nodes_to zero le = ([], none_of_those (IsShared s))
+  placed_nodes_to (suc i) le =
+      let before = placed_nodes_to i (omega (arith, le)) in
       let n = IsAt-within cs i (omega (arith, le)) in
-      let spot : Spot = record { node = n.0; place = i } in
+      let placed_node : PlacedNode = record { node = n.0; place = i } in
       let next : i + 1 ≡ suc i = omega arith in
       elim (secret_or_not n.0 (content_of s n.0) refl) [
         | inl secret ↦ (
@@ -157,16 +158,17 @@ module _ (s : State) (valid : IsValid s) where
               (those_skip cs (IsShared s) (λ x h. h.0) i before.0 before.1 n.0 n.1 (λ h. h.1 secret)),
         )
         | inr open_one ↦ (
-          before.0 ++ spot ∷ [],
-          subst (λ m. AreThoseTo (IsShared s) m (before.0 ++ spot ∷ [])) next
+          before.0 ++ placed_node ∷ [],
+          subst (λ m. AreThoseTo (IsShared s) m (before.0 ++ placed_node ∷ [])) next
               (those_push cs (IsShared s) (λ x h. h.0) i before.0 before.1 n.0 n.1 (n.1, open_one)),
         )
       ]
 
-  nowhere : Spot
+  nowhere : PlacedNode
   nowhere = record { node = record { 0 = [] }; place = 0 }
 
-  undecided_to : (n : ℕ) (xs : List Spot) → ((x : Spot) → Contains xs x → x.place < n) → (i : ℕ) → i ≤ length xs
+  undecided_to : (n : ℕ) (xs : List PlacedNode) → ((x : PlacedNode) → Contains xs x → x.place < n) → (i : ℕ)
+      → i ≤ length xs
       → (ds : List Status) × AreUndecidedTo n (take i xs) ds
   undecided_to n xs within zero le = (replicate n Missing, AreUndecidedTo-start n)
   undecided_to n xs within (suc i) le =
@@ -180,18 +182,18 @@ module _ (s : State) (valid : IsValid s) where
             (within (get_or xs i nowhere) (Contains-get_or xs i nowhere lt)) before.1),
       )
 
-  pub ground_exists : (ps : List ParentPlaces) × (xs : List Spot) × (ds : List Status) × IsGround s ps xs ds
-  ground_exists =
+  pub snapshot_exists : (ps : List ParentPlaces) × (xs : List PlacedNode) × (ds : List Status) × IsSnapshot s ps xs ds
+  snapshot_exists =
       let ps = map places_of cs in
-      let found = spots_to (length cs) (omega arith) in
+      let found = placed_nodes_to (length cs) (omega arith) in
       let xs = ordered found.0 in
-      let those : (x : Spot) → Contains found.0 x ↔ IsShared s x =
+      let those : (x : PlacedNode) → Contains found.0 x ↔ IsShared s x =
       all_those cs (IsShared s) (λ x h. h.0) (length cs) found.0 found.1 (omega arith) in
-      let shared : (x : Spot) → Contains xs x ↔ IsShared s x = λ x. (
+      let shared : (x : PlacedNode) → Contains xs x ↔ IsShared s x = λ x. (
         λ h. (those x).0 ((ordered_members found.0 x).0 h),
         λ h. (ordered_members found.0 x).1 ((those x).1 h),
       ) in
-      let within : (x : Spot) → Contains xs x → x.place < length ps =
+      let within : (x : PlacedNode) → Contains xs x → x.place < length ps =
       shared_within s valid ps shape_exists xs shared in
       let made = undecided_to (length ps) xs within (length xs) (omega arith) in
       let all : AreUndecidedTo (length ps) xs made.0 =
@@ -199,19 +201,19 @@ module _ (s : State) (valid : IsValid s) where
         ps,
         xs,
         made.0,
-        ground_from s valid ps shape_exists xs shared made.0 all.length_is all.undecided all.nothing_common
+        snapshot_from s valid ps shape_exists xs shared made.0 all.length_is all.undecided all.nothing_common
             (ordered_sorted found.0),
       )
 
 -- ---- heads
 
 module _ (cs : List Contents) (ps : List ParentPlaces) (shape : IsShapeOf cs ps) (order : IsInOrder ps)
-    (xs : List Spot) (ds : List Status) (d : Status) (asked : List Spot)
-    (there : (x : Spot) → Is ds d x.place → IsAt cs x.node x.place ↔ Contains xs x)
+    (xs : List PlacedNode) (ds : List Status) (d : Status) (asked : List PlacedNode)
+    (there : (x : PlacedNode) → Is ds d x.place → IsAt cs x.node x.place ↔ Contains xs x)
     (convex : (k m j : ℕ) → IsUnder ps k m → IsUnder ps m j → Is ds d k → Is ds d j → Is ds d m) where
   -- a head is what is so, and no child of it
-  pub top_head : (x : Spot) → (IsAt cs x.node x.place × IsTop cs (Is ds d) x.place)
-      ↔ IsHead (record { parents = ps; spots = xs; decided = ds; asked = asked }) d x
+  pub top_head : (x : PlacedNode) → (IsAt cs x.node x.place × IsTop cs (Is ds d) x.place)
+      ↔ IsHead (record { parents = ps; placed_nodes = xs; decided = ds; asked = asked }) d x
   top_head x = (
     λ h.
         let so = h.1.0 in (
