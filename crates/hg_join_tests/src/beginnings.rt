@@ -1,19 +1,19 @@
-//! A history that grows, and what was seen of it before.
+//! A journal that grows, and what was seen of it before.
 ghost use Rattle.std.specs.Prelude.{◌≡◌};
 
-use hg_journal::{HistoryName, Opened};
+use hg_journal::{JournalName, Opened};
 use std::marker::Brand;
 
-/// The lengths of a history of one entry and of what was seen of it, and whether what was seen before begins it.
-fn grown<K: HistoryName>(opened: Opened<u64>) -> (u64, u64, bool)
+/// The lengths of a journal of one entry and of what was seen of it, and whether what was seen before begins it.
+fn grown<K: JournalName>(opened: Opened<u64>) -> (u64, u64, bool)
     requires { opened ≡ K.book }
 {
-    let mut history = opened.named::<K>();
-    let none = history.front();
-    history.extend(&none, &none, 7);
-    let one = none.longer(&history.front());
+    let mut journal = opened.named::<K>();
+    let none = journal.front();
+    journal.extend(&none, &none, 7);
+    let one = none.longer(&journal.front());
     (
-        history.len(),
+        journal.len(),
         one.len(),
         none.begins(&one) && !one.is_same(&none),
     )

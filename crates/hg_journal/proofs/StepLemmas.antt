@@ -1,4 +1,4 @@
--- The steps of a history keep its rule.
+-- The steps of a journal keep its rule.
 use Rattle.std.proofs.Common.{◌≡◌, ◌≢◌, ℕ, zero, suc, ◌+◌, ◌<◌, ◌∙◌, ◌==◌, true, false, List, [], ◌∷◌, ◌++◌, length}
 use Rattle.std.proofs.Common.{set, refl, ap, sym, subst, arith, length-append, append_assoc, Option, None, inl}
 use Rattle.std.proofs.lemmas.List.{append-nil, get_or-set_same, get_or-set_other, length-set}

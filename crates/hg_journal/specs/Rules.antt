@@ -1,8 +1,8 @@
--- The rule of a history, and what its steps tell.
+-- The rule of a journal, and what its steps tell.
 use Rattle.std.specs.Prelude.{ℕ, ◌≡◌, ◌<◌, true, List, [], ◌∷◌, ◌++◌, Option, None, Some, length}
 use Rattle.logbook.specs.Pages.{Cell, cell, Step, View, Book, Named, may_make}
 
--- what was noted: an entry, or the beginning of the history, and the key of the cell that is away since then
+-- what was noted: an entry, or the beginning of the journal, and the key of the cell that is away since then
 abbrev pub Notes : Type 0 → Type 0
 Notes E = List (Option E × ℕ)
 
@@ -31,7 +31,7 @@ entries ((Some entry, key) ∷ rest) = entry ∷ entries rest
 abbrev pub EndsWith : {E : Type 0} → Notes E → ℕ → Type 0
 EndsWith {E} notes key = (before : Notes E) × (entry : Option E) × (notes ≡ before ++ (entry, key) ∷ [])
 
--- the history was empty, and has a first note with the key of a new cell; or it wasn't
+-- the journal was empty, and has a first note with the key of a new cell; or it wasn't
 abbrev pub Begins : {E : Type 0} → Step (Option E × ℕ) → View (Option E × ℕ) ℕ → ℕ → View (Option E × ℕ) ℕ → Type 0
 Begins s v found w = (found ≡ 0) → (w.0 ≡ (None, w.1.0.key) ∷ []) × (w.1.0.right ≡ may_make)
 
@@ -39,6 +39,6 @@ Begins s v found w = (found ≡ 0) → (w.0 ≡ (None, w.1.0.key) ∷ []) × (w.
 abbrev pub Grows : {E : Type 0} → Step (Option E × ℕ) → View (Option E × ℕ) ℕ → ℕ → View (Option E × ℕ) ℕ → Type 0
 Grows s v found w = w.1.0.right ≡ may_make
 
--- the entry was added to all that had been seen, which was the whole history
+-- the entry was added to all that had been seen, which was the whole journal
 abbrev pub Adds : {E : Type 0} → Step (Option E × ℕ) → View (Option E × ℕ) ℕ → ℕ → View (Option E × ℕ) ℕ → Type 0
 Adds s v found w = (w.0 ≡ v.0 ++ s.ask ∷ []) × (length v.0 ≡ s.old)

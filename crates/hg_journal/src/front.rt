@@ -1,21 +1,21 @@
-//! Beginnings of a history.
+//! Beginnings of a journal.
 ghost use Rattle.std.specs.Prelude.{◌≡◌, ◌≤◌, ◌⊎◌, ◌↔◌, length, MatchBool, IsTrue};
 ghost use mathlib.Core.List.{IsPrefix};
 
-use crate::name::HistoryName;
+use crate::name::JournalName;
 use crate::rule::{Counted, Note};
 use logbook::Seen;
 use std::marker::{Model, PhantomData};
 
-/// A beginning of the history. Contracts see it as its entries.
+/// A beginning of the journal. Contracts see it as its entries.
 #[derive(Drop)]
-pub struct Front<K: HistoryName, E> {
+pub struct Front<K: JournalName, E> {
     pub(crate) count: u64,
     pub(crate) seen: Seen<Note<E>, u64, Counted>,
     pub(crate) of: PhantomData<K>,
 }
 
-impl<K: HistoryName, E> Model for Front<K, E> {
+impl<K: JournalName, E> Model for Front<K, E> {
     ghost use Rattle.std.specs.Prelude.{◌≡◌, ◌+◌, List, length};
     ghost use Rattle.hg_journal.specs.Rules.{entries};
 
@@ -26,7 +26,7 @@ impl<K: HistoryName, E> Model for Front<K, E> {
     ghost invariant = { λ f. (f.count ≡ length (entries f.seen.log)) × (f.seen.book ≡ K.book) };
 }
 
-impl<K: HistoryName, E> Front<K, E> {
+impl<K: JournalName, E> Front<K, E> {
     /// How many entries it has.
     pub fn len(&self) -> u64
         ensures { result ≡ length self.now }
@@ -45,7 +45,7 @@ impl<K: HistoryName, E> Front<K, E> {
         }
     }
 
-    /// Whether this is no longer than another beginning of the same history, and so begins it. Else the other begins
+    /// Whether this is no longer than another beginning of the same journal, and so begins it. Else the other begins
     /// it.
     pub fn begins(&self, other: &Front<K, E>) -> bool
         ensures prefix { MatchBool result (IsPrefix self.now other.now) (IsPrefix other.now self.now) }

@@ -1,13 +1,13 @@
-//! The rule of a history, and its steps.
+//! The rule of a journal, and its steps.
 use logbook::{Gain, Pen, Plain, Play, Rule};
 
 /// What is noted of a step: the entry that was added, if any, and a number that no program sees, the key of the cell
 /// that is away since then.
 pub type Note<E> = (Option<E>, u64);
 
-/// The rule of a history: a word is the number of its notes, and of all notes but the last the cell is at home.
+/// The rule of a journal: a word is the number of its notes, and of all notes but the last the cell is at home.
 ///
-/// So whoever has the pen of a cell that is away, which the last note names, has seen the whole history, and nobody
+/// So whoever has the pen of a cell that is away, which the last note names, has seen the whole journal, and nobody
 /// else can add to it.
 pub struct Counted;
 
@@ -38,7 +38,7 @@ impl<E> Gain<Note<E>, u64> for Nothing {
     ghost after = { λ names about answer. ftrue };
 }
 
-/// The first step of a history: a note without an entry, which names a new cell.
+/// The first step of a journal: a note without an entry, which names a new cell.
 pub struct Begin;
 
 impl<E> Play<Note<E>, u64> for Begin {

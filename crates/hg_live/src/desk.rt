@@ -22,7 +22,7 @@ use crate::pass::Pass;
 use crate::store::{Publisher, Sight, Step, Writer};
 use hg_changeset::Node;
 use hg_join::Actor;
-use hg_journal::{Front, History};
+use hg_journal::{Front, Journal};
 use hg_peer::{Mark, Peer};
 use hg_replica::Replica;
 use hg_rewrite::Op;
@@ -40,7 +40,7 @@ pub(crate) const MOST: u64 = 1 << 62;
 pub struct Desk<K: NodeName, S: Publisher> {
     alloc: Global,
     working: Peer,
-    journal: History<K, Entry>,
+    journal: Journal<K, Entry>,
     start: Front<K, Entry>,
     waiting: VecDeque<Step<K>>,
     writer: S,
@@ -100,7 +100,7 @@ impl<K: NodeName, R: Wait + Drop> Desk<K, Writer<K, R>> {
     pub(crate) fn new(
         alloc: Global,
         working: Peer,
-        journal: History<K, Entry>,
+        journal: Journal<K, Entry>,
         writer: Writer<K, R>,
         waiting: VecDeque<Step<K>>,
         book: Book<K>,

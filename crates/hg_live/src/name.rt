@@ -1,10 +1,10 @@
 //! Which node it is.
-use hg_journal::HistoryName;
+use hg_journal::JournalName;
 use std::marker::Brand;
 use std::sync::ledger::Ledger;
 
 /// Which node it is. Each call of a program picks it.
-pub trait NodeName: Ledger + HistoryName {
+pub trait NodeName: Ledger + JournalName {
     ghost use Rattle.hg_view.specs.Kept.{KeptValue};
 
     /// The state that it opens with.

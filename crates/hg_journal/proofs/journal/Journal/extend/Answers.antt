@@ -5,7 +5,7 @@ use Rattle.hg_journal.specs.Rules.{Notes, entries}
 use Rattle.hg_journal.proofs.Prefixes.{prefix_trans, prefix_whole}
 use Rattle.hg_journal.proofs.EntryLemmas.{entries_append, entries_prefix}
 use Rattle.hg_journal.proofs.StepLemmas.{adds_moves}
-use Rattle.hg_journal.proofs.history.History.extend.Goals as goal
+use Rattle.hg_journal.proofs.journal.Journal.extend.Goals as goal
 
 -- what is known at first begins what is known once more was learned
 chained : {E : Type 0} (mine again first second third : Notes E) → again ≡ mine → IsPrefix again first →

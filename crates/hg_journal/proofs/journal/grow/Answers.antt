@@ -1,6 +1,6 @@
 use Rattle.std.proofs.Common.{◌∙◌, ap, sym, None}
 use Rattle.hg_journal.proofs.StepLemmas.{grows_moves}
-use Rattle.hg_journal.proofs.history.grow.Goals as goal
+use Rattle.hg_journal.proofs.journal.grow.Goals as goal
 
 pub compare_exchange-found-requires : goal.compare_exchange-found-requires
 compare_exchange-found-requires g c =

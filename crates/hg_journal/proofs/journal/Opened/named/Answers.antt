@@ -1,6 +1,6 @@
 use Rattle.std.proofs.Common.{◌∙◌, ap, None, [], length}
 use Rattle.hg_journal.specs.Rules.{head_of, entries}
-use Rattle.hg_journal.proofs.history.Opened.named.Goals as goal
+use Rattle.hg_journal.proofs.journal.Opened.named.Goals as goal
 
 pub invariant_of-result : goal.invariant_of-result
 invariant_of-result g c =

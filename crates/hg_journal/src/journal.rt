@@ -1,16 +1,16 @@
-//! The history, which one alone can add to.
+//! The journal, which one alone can add to.
 ghost use Rattle.std.specs.Prelude.{◌≡◌, ◌<◌, ◌^◌, ◌++◌, ◌∷◌, [], length};
 ghost use mathlib.Core.List.{IsPrefix};
 ghost use Rattle.logbook.specs.Pages.{Named, may_write};
 ghost use Rattle.hg_journal.specs.Rules.{head_of};
 
 use crate::front::Front;
-use crate::name::HistoryName;
+use crate::name::JournalName;
 use crate::rule::{Add, Begin, Counted, Draft, Grow, Note, Nothing};
 use logbook::{Offer, Pen, Seen, Start, Word};
 use std::marker::{Model, PhantomData};
 
-/// A history with no entry, which has no name yet. Contracts see its book.
+/// A journal with no entry, which has no name yet. Contracts see its book.
 #[derive(Drop)]
 pub struct Opened<E> {
     head: Word<Note<E>, u64, Counted>,
@@ -33,9 +33,9 @@ impl<E> Model for Opened<E> {
         × (o.seen.log ≡ (None, o.pen.nib.key) ∷ []) };
 }
 
-/// A history. Whoever has it is the only one who can add to it. Contracts see it as its entries.
+/// A journal. Whoever has it is the only one who can add to it. Contracts see it as its entries.
 #[derive(Drop)]
-pub struct History<K: HistoryName, E> {
+pub struct Journal<K: JournalName, E> {
     head: Word<Note<E>, u64, Counted>,
     seen: Seen<Note<E>, u64, Counted>,
     pen: Pen,
@@ -43,7 +43,7 @@ pub struct History<K: HistoryName, E> {
     of: PhantomData<K>,
 }
 
-impl<K: HistoryName, E> Model for History<K, E> {
+impl<K: JournalName, E> Model for Journal<K, E> {
     ghost use Rattle.std.specs.Prelude.{◌≡◌, ◌+◌, List, length};
     ghost use Rattle.logbook.specs.Pages.{may_write};
     ghost use Rattle.hg_journal.specs.Rules.{entries, head_of, EndsWith};
@@ -58,7 +58,7 @@ impl<K: HistoryName, E> Model for History<K, E> {
 }
 
 impl<E> Opened<E> {
-    /// A history with no entry. There is none only if somebody else could reach what is made here, which nobody can.
+    /// A journal with no entry. There is none only if somebody else could reach what is made here, which nobody can.
     pub fn new() -> Option<Opened<E>> {
         let (mut seen, mut first, _second) = Seen::open(Start::alone(), 0, 0);
         let head = Word::tracked(0, &mut first);
@@ -80,13 +80,13 @@ impl<E> Opened<E> {
         Some(Opened { head, seen, pen })
     }
 
-    /// The history under a name, with no entry.
-    pub fn named<K: HistoryName>(self) -> History<K, E>
+    /// The journal under a name, with no entry.
+    pub fn named<K: JournalName>(self) -> Journal<K, E>
         requires { self ≡ K.book }
         ensures { result ≡ [] }
     {
         let Opened { head, seen, pen } = self;
-        History {
+        Journal {
             head,
             seen,
             pen,
@@ -96,7 +96,7 @@ impl<E> Opened<E> {
     }
 }
 
-impl<K: HistoryName, E> History<K, E> {
+impl<K: JournalName, E> Journal<K, E> {
     /// All of it, as a beginning.
     pub fn front(&self) -> Front<K, E>
         ensures { result ≡ self.now }
@@ -115,7 +115,7 @@ impl<K: HistoryName, E> History<K, E> {
         self.count
     }
 
-    /// Adds an entry, and gives it back. What was seen of the history begins it as it was before.
+    /// Adds an entry, and gives it back. What was seen of the journal begins it as it was before.
     pub fn extend(&mut self, one: &Front<K, E>, other: &Front<K, E>, entry: E) -> E
         requires room { length self.old < 2 ^ 62 }
         ensures new { self.new ≡ self.old ++ entry ∷ [] }
