@@ -22,7 +22,7 @@ use Rattle.hg_view.specs.Descent.{IsClosedUnderParents}
 use Rattle.hg_view.specs.Kept.{KeptValue}
 use Rattle.hg_view.specs.Pins.{IsServedUnder}
 use Rattle.hg_view.specs.Share.{IsShared}
-use Rattle.hg_view.specs.Tops.{IsTop}
+use Rattle.hg_view.specs.HeadPlaces.{IsHeadAmong}
 use Rattle.hg_view.proofs.CommonLemmas.{common_within}
 use Rattle.hg_view.proofs.ShareLemmas.{shared-or}
 use Rattle.hg_discovery.specs.declared.status.Status.{Status}
@@ -179,7 +179,7 @@ module _ (ours : ReplicaState) (other : KeptValue) (valid : IsValid ours)
           λ in_xs. ((snapshot.shared x).0 in_xs).0,
         )
 
-    module _ (places : List ℕ) (are_heads : (k : ℕ) → Contains places k ↔ IsTop cs (IsCommonAt ours other) k)
+    module _ (places : List ℕ) (are_heads : (k : ℕ) → Contains places k ↔ IsHeadAmong cs (IsCommonAt ours other) k)
         (new : List PlacedNode) (sorted : IsStrictlySortedBy placed_node_cmp new)
         (same : (x : PlacedNode) → Contains new x ↔ (Contains places x.place × IsAt cs x.node x.place)) where
       abbrev Head : PlacedNode → Type 0
@@ -213,7 +213,7 @@ module _ (ours : ReplicaState) (other : KeptValue) (valid : IsValid ours)
           (sorted_lists xs Head snapshot.placed_nodes.distinct new sorted (λ x h. h.0.0) found_heads)
 
   pub walked_in_common : IsClosedUnderParents cs (IsCommonAt ours other) → (places : List ℕ)
-      → ((k : ℕ) → Contains places k ↔ IsTop cs (IsCommonAt ours other) k) → (new : List PlacedNode)
+      → ((k : ℕ) → Contains places k ↔ IsHeadAmong cs (IsCommonAt ours other) k) → (new : List PlacedNode)
       → IsStrictlySortedBy placed_node_cmp new
       → ((x : PlacedNode) → Contains new x ↔ (Contains places x.place × IsAt cs x.node x.place))
       → AreHeadsInCommon ours other.replica other.pins (nodes_of new)

@@ -20,7 +20,7 @@ use Rattle.hg_phases.specs.declared.phase.Phase.{Phase}
 use Rattle.hg_phases.specs.declared.phase.Phase.TheVariants.{Public, Draft, Secret}
 use Rattle.hg_phases.specs.State.{State, Held, changesets, IsPhaseOf, IsValid}
 use Rattle.hg_phases.specs.Content.{content_of}
-use Rattle.hg_view.specs.Tops.{IsTop}
+use Rattle.hg_view.specs.HeadPlaces.{IsHeadAmong}
 use Rattle.hg_discovery.specs.declared.status.Status.{Status}
 use Rattle.hg_discovery.specs.declared.status.Status.TheVariants.{Undecided, Common, Missing}
 use Rattle.hg_discovery.specs.declared.status.PlacedNode.{PlacedNode}
@@ -212,7 +212,7 @@ module _ (cs : List Contents) (ps : List ParentPlaces) (shape : IsShapeOf cs ps)
     (there : (x : PlacedNode) → Is ds d x.place → IsAt cs x.node x.place ↔ Contains xs x)
     (convex : (k m j : ℕ) → IsUnder ps k m → IsUnder ps m j → Is ds d k → Is ds d j → Is ds d m) where
   -- a head is what is so, and no child of it
-  pub top_head : (x : PlacedNode) → (IsAt cs x.node x.place × IsTop cs (Is ds d) x.place)
+  pub top_head : (x : PlacedNode) → (IsAt cs x.node x.place × IsHeadAmong cs (Is ds d) x.place)
       ↔ IsHead (record { parents = ps; placed_nodes = xs; decided = ds; asked = asked }) d x
   top_head x = (
     λ h.

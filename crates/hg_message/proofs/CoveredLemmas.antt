@@ -180,9 +180,9 @@ module _ (s : State) (valid : IsValid s) (P : Node → Type 0)
     heads-at : (places : List ℕ) → ((k : ℕ) → Contains places k ↔ (IsMarked 0 marks k × ¬ (IsMarked 0 covered k)))
         → (n : Node) → IsAtOneIn s places phase n
         ↔ (IsOne n × ((d : Node) → IsOne d → Leads (content_of s) n d → d ≡ n))
-    heads-at places tops n = (
+    heads-at places are_heads n = (
       λ u.
-          let m = (tops u.0).0 u.1 in
+          let m = (are_heads u.0).0 u.1 in
           (heads-by-children n u.0 u.2).0 (
             one_at u.0 n u.2 ((are n).0 (u.0, u.2, m.0)) u.3,
             λ j parent one. m.1 ((told.exact u.0).1 (
@@ -196,7 +196,7 @@ module _ (s : State) (valid : IsValid s) (P : Node → Type 0)
           let so = phase_at m.0 n m.1 h.0 in
           let top = (heads-by-children n m.0 m.1).1 h in (
             m.0,
-            (tops m.0).1 (
+            (are_heads m.0).1 (
               m.2,
               λ marked.
                   let cover = (told.exact m.0).0 marked in
@@ -224,11 +224,11 @@ pub heads-named : (s : ReplicaState) → IsValidReplica s → (pins : List Node)
     → ((n : Node) → Contains heads n ↔ IsAtOneIn s.history places phase n)
     → IsStrictlySortedBy node_cmp heads
     → AreHeads (replica_content s) (IsOneWith (replica_content s) (IsNamed (replica_content s) pins scope) phase) heads
-heads-named s valid pins scope marks covered are told places tops phase heads exact ascending = record {
+heads-named s valid pins scope marks covered are told places are_heads phase heads exact ascending = record {
   exact = λ n.
       let same = heads-at s.history valid (IsNamed (replica_content s) pins scope)
       (λ a m named leads. named-above (replica_content s) pins scope a m (content-valid s.history valid) named leads)
-      phase marks covered are.exact told places tops.exact n in
+      phase marks covered are.exact told places are_heads.exact n in
       (λ h. same.0 ((exact n).0 h), λ h. (exact n).1 (same.1 h));
   ascending = ascending;
 }

@@ -73,7 +73,8 @@ relevant-offered s pins served sound complete m = (
   relevant-along (Contains s.markers) (IsMarker (content_of s)) (Contains served) (IsServedUnder (content_of s) pins)
       (holds-from s.markers) (λ n k h touches. sound n) m,
   relevant-along (IsMarker (content_of s)) (Contains s.markers) (IsServedUnder (content_of s) pins) (Contains served)
-      (in_from_holds s.markers) (λ n k h touches one. complete n one (k, in_from_holds s.markers k h, touched-named n k touches)) m,
+      (in_from_holds s.markers)
+      (λ n k h touches one. complete n one (k, in_from_holds s.markers k h, touched-named n k touches)) m,
 )
 
 -- the places that are told of a store are those of what is offered

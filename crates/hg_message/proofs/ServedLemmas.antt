@@ -25,7 +25,7 @@ use Rattle.hg_instab.proofs.QueryLemmas.{one_phase}
 use Rattle.hg_view.specs.Above.{IsAbove, IsUnderOne}
 use Rattle.hg_view.specs.Kept.{KeptValue}
 use Rattle.hg_view.specs.Pins.{IsServedUnder}
-use Rattle.hg_view.specs.Tops.{IsTop, IsPublicAt, IsServedAt}
+use Rattle.hg_view.specs.HeadPlaces.{IsHeadAmong, IsPublicAt, IsServedAt}
 use Rattle.hg_view.proofs.PinLemmas.{served_under-above}
 use Rattle.hg_message.specs.Covered.{HasPhaseAt, IsAtOneIn}
 use Rattle.hg_message.specs.Offer.{AreHeld, AreHeads, IsCommon, IsOneWith, IsOutgoing}
@@ -130,7 +130,7 @@ module _ (k : KeptValue) (valid : IsValid k.replica) where
       → Contains places i ↔ ((j : ℕ) → IsParentPlace cs j i → ¬ (IsOneAt s.history valid Served served-above phase j)))
       → ((i : ℕ) → Contains places i → HasPhaseAt s.history phase i → IsServedAt s k.pins i)
       → AreHeads (content_of s) (IsOneWith (content_of s) Served phase) nodes
-  heads-at phase places nodes exact ascending tops are = record {
+  heads-at phase places nodes exact ascending are_heads are = record {
     exact = λ n. (
       λ h.
           let at = (exact n).0 h in
@@ -138,13 +138,13 @@ module _ (k : KeptValue) (valid : IsValid k.replica) where
           let one = one_at s.history valid Served served-above phase at.0 n at.2
           (subst Served (same_Some so.0 n (sym so.1 ∙ at.2)) so.2) at.3 in
           (heads-by-children s.history valid Served served-above phase n at.0 at.2).0
-          (one, (tops at.0 n at.2 one).0 at.1),
+          (one, (are_heads at.0 n at.2 one).0 at.1),
       λ h.
           let p = place_from_Holds cs n (node_in_content s.history valid.graph n (h.0.1.0, h.0.1.1)) in
           let top = (heads-by-children s.history valid Served served-above phase n p.0 p.1).1 h in
           (exact n).1 (
             p.0,
-            (tops p.0 n p.1 h.0).1 top.1,
+            (are_heads p.0 n p.1 h.0).1 top.1,
             p.1,
             phase_at s.history valid Served served-above phase p.0 n p.1 h.0,
           ),
@@ -153,7 +153,7 @@ module _ (k : KeptValue) (valid : IsValid k.replica) where
   }
 
   -- the heads of what is public
-  pub public-heads : (places : List ℕ) → ((i : ℕ) → Contains places i ↔ IsTop cs (IsPublicAt s.history) i)
+  pub public-heads : (places : List ℕ) → ((i : ℕ) → Contains places i ↔ IsHeadAmong cs (IsPublicAt s.history) i)
       → (nodes : List Node) → ((n : Node) → Contains nodes n ↔ IsAtOneIn s.history places Public n)
       → IsStrictlySortedBy node_cmp nodes → AreHeads (content_of s) (IsOneWith (content_of s) Served Public) nodes
   public-heads places are nodes exact ascending = heads-at Public places nodes exact ascending
@@ -197,7 +197,8 @@ module _ (k : KeptValue) (valid : IsValid k.replica) where
           let stands = changeset_at s.history j x.0 x.1 in
           let same : parent.0 ≡ x.0.changeset = same_Some parent.0 x.0.changeset (sym parent.2 ∙ stands) in
           let named : parent.1 ≡ n = same_Some parent.1 n (sym parent.4 ∙ at) in
-          let up : IsParent x.0.changeset n = subst (λ c. IsParent c n) same (subst (IsParent parent.0) named parent.3) in
+          let up : IsParent x.0.changeset n =
+          subst (λ c. IsParent c n) same (subst (IsParent parent.0) named parent.3) in
           let low = leads-low (content_of s).0 (content-valid s.history valid) n so.0 (below itself x.2 up) one.1.0 x.0
           one.1.1 x.2 in
           let bottom = ap rank one.1.2 in

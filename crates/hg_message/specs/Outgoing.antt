@@ -8,7 +8,7 @@ use Rattle.hg_obsstore.specs.Places.{ListsAll}
 use Rattle.hg_replica.specs.State.{ReplicaState}
 use Rattle.hg_replica.specs.Content.{content_of}
 use Rattle.hg_view.specs.Kept.{KeptValue}
-use Rattle.hg_view.specs.Tops.{IsTop, IsServedAt}
+use Rattle.hg_view.specs.HeadPlaces.{IsHeadAmong, IsServedAt}
 use Rattle.hg_message.specs.declared.scope.Scope.{Scope}
 use Rattle.hg_message.specs.declared.refusal.OfferRefusal.{OfferRefusal}
 use Rattle.hg_message.specs.declared.refusal.OfferRefusal.TheVariants.{UnknownCommon, TooLarge, NoMemory}
@@ -28,12 +28,12 @@ ArePlacesOf {X = X} P xs places = ListsAll (λ i. (x : X) × (slice_get xs i ≡
 -- exactly the heads of what is served stand at the places: each is served and has no served child, and what is served
 -- is one of them or an ancestor of one
 pub record AreServedHeads (k : KeptValue) (places : List ℕ) : Type 0 where
-  pub exact : (i : ℕ) → Contains places i ↔ IsTop (changesets k.replica.history) (IsServedAt k.replica k.pins) i
+  pub exact : (i : ℕ) → Contains places i ↔ IsHeadAmong (changesets k.replica.history) (IsServedAt k.replica k.pins) i
   pub covers : (i : ℕ) → IsServedAt k.replica k.pins i
       → (h : ℕ) × Contains places h × IsAncestorPlace (changesets k.replica.history) i h
 
--- the answer to `Outgoing::above`; memory can be wanting only where each common node is held, and a changeset or, of the
--- whole, a marker
+-- the answer to `Outgoing::above`; memory can be wanting only where each common node is held, and a changeset or, of
+-- the whole, a marker
 abbrev pub FindAnswer : ReplicaState → List Node → List Node → Scope → Result MessageValue OfferRefusal → Type 0
 FindAnswer s pins common scope (Ok found) = AreHeld (content_of s) common × IsOfferOf s pins common scope found
 FindAnswer s pins common scope (Err (UnknownCommon n)) = IsFirstUnknown (content_of s) common n

@@ -72,12 +72,12 @@ pub record IsLowered (cs : List Contents) (place : ℕ) (first waiting : List �
 
 -- the places from b on are searched: those found there are all that are wanted, and below b it is all under those that
 -- wait
-pub record IsSearched (cs : List Contents) (tops common fresh shared found : List ℕ) (b : ℕ) : Type 0 where
-  pub waits : (k : ℕ) → Contains fresh k → (k < b) × IsUnderOne cs tops k
-  pub complete : (k : ℕ) → k < b → IsAbove cs tops common k → IsUnderOne cs fresh k
+pub record IsSearched (cs : List Contents) (heads common fresh shared found : List ℕ) (b : ℕ) : Type 0 where
+  pub waits : (k : ℕ) → Contains fresh k → (k < b) × IsUnderOne cs heads k
+  pub complete : (k : ℕ) → k < b → IsAbove cs heads common k → IsUnderOne cs fresh k
   pub within : (k : ℕ) → Contains shared k → k < length cs
   pub under : (k : ℕ) → k < b → IsUnderOne cs shared k ↔ IsUnderOne cs common k
-  pub exact : (k : ℕ) → Contains found k ↔ ((b ≤ k) × IsAbove cs tops common k)
+  pub exact : (k : ℕ) → Contains found k ↔ ((b ≤ k) × IsAbove cs heads common k)
   pub descending : IsStrictlyIncreasing (reverse found)
 
 module _ (cs : List Contents) (graph : IsGraph cs) where
@@ -138,16 +138,16 @@ module _ (cs : List Contents) (graph : IsGraph cs) where
 
   -- ---- the search
 
-  module _ {tops common : List ℕ} where
-    pub IsSearched-start : (fresh shared : List ℕ) → ((k : ℕ) → Contains tops k → k < length cs)
-        → ((k : ℕ) → Contains common k → k < length cs) → ((k : ℕ) → Contains fresh k ↔ Contains tops k)
+  module _ {heads common : List ℕ} where
+    pub IsSearched-start : (fresh shared : List ℕ) → ((k : ℕ) → Contains heads k → k < length cs)
+        → ((k : ℕ) → Contains common k → k < length cs) → ((k : ℕ) → Contains fresh k ↔ Contains heads k)
         → ((k : ℕ) → Contains shared k ↔ Contains common k)
-        → IsSearched cs tops common fresh shared [] (length cs)
-    IsSearched-start fresh shared tops_in common_in is_fresh is_shared = record {
+        → IsSearched cs heads common fresh shared [] (length cs)
+    IsSearched-start fresh shared heads_in common_in is_fresh is_shared = record {
       waits = λ k c.
-          let top = (is_fresh k).0 c in
-          (tops_in k top, (k, top, ancestor_itself cs graph k (tops_in k top)));
-      complete = λ k l h. under_same cs tops fresh (λ j c. (is_fresh j).1 c) k h.0;
+          let head = (is_fresh k).0 c in
+          (heads_in k head, (k, head, ancestor_itself cs graph k (heads_in k head)));
+      complete = λ k l h. under_same cs heads fresh (λ j c. (is_fresh j).1 c) k h.0;
       within = λ k c. common_in k ((is_shared k).0 c);
       under = λ k l. (
         under_same cs shared common (λ j c. (is_shared j).0 c) k,
@@ -155,20 +155,21 @@ module _ (cs : List Contents) (graph : IsGraph cs) where
       );
       exact = λ k. (
         λ c. absurd (Contains-none k c),
-        λ h. absurd (let within = under_within cs tops k h.1.0 in omega (arith, within, h.0)),
+        λ h. absurd (let within = under_within cs heads k h.1.0 in omega (arith, within, h.0)),
       );
       descending = λ k l. absurd (omega (arith, l));
     }
 
-    module _ {fresh shared found : List ℕ} {b : ℕ} (s : IsSearched cs tops common fresh shared found b) where
+    module _ {fresh shared found : List ℕ} {b : ℕ} (s : IsSearched cs heads common fresh shared found b) where
       -- nothing waits: what was found is all
-      pub found_all : ((k : ℕ) → ¬ (Contains fresh k)) → (k : ℕ) → Contains (reverse found) k ↔ IsAbove cs tops common k
+      pub found_all : ((k : ℕ) → ¬ (Contains fresh k)) → (k : ℕ)
+          → Contains (reverse found) k ↔ IsAbove cs heads common k
       found_all empty k = (
         λ c. ((s.exact k).0 ((Contains-reversed found k).0 c)).1,
         λ h. (Contains-reversed found k).1 ((s.exact k).1 (from h, h)),
       )
         where
-          from : IsAbove cs tops common k → b ≤ k
+          from : IsAbove cs heads common k → b ≤ k
           from h = elim (cases_lt k b) [
             | inl before ↦
                 let w = s.complete k before h in
@@ -182,10 +183,10 @@ module _ (cs : List Contents) (graph : IsGraph cs) where
         there = (last.0 p).1 (inl refl)
 
         pub taken_within : p < length cs
-        taken_within = under_within cs tops p (s.waits p there).1
+        taken_within = under_within cs heads p (s.waits p there).1
 
         -- of those from it up to the places that are searched no other is wanted
-        only_here : (k : ℕ) → p ≤ k → IsAbove cs tops common k → (b ≤ k) ⊎ (k ≡ p)
+        only_here : (k : ℕ) → p ≤ k → IsAbove cs heads common k → (b ≤ k) ⊎ (k ≡ p)
         only_here k from h = elim (cases_lt k b) [
           | inl lower ↦
               let w = s.complete k lower h in
@@ -209,7 +210,7 @@ module _ (cs : List Contents) (graph : IsGraph cs) where
             is_common : IsUnderOne cs common p
             is_common = (s.under p (s.waits p there).0).0 is
 
-            pub IsSearched-dropped : IsSearched cs tops common rest lowered found p
+            pub IsSearched-dropped : IsSearched cs heads common rest lowered found p
             IsSearched-dropped = record {
               waits = λ k c. (last.1 k c, (s.waits k ((last.0 k).1 (inr c))).1);
               complete = λ k l h.
@@ -237,10 +238,10 @@ module _ (cs : List Contents) (graph : IsGraph cs) where
           -- it is wanted: it is found, and its parents wait
           module _ (is_not : ¬ (IsUnderOne cs shared p)) (next : List ℕ) (adds : Widens (IsParentPlace cs p) rest next)
             where
-              wanted : IsAbove cs tops common p
+              wanted : IsAbove cs heads common p
               wanted = ((s.waits p there).1, λ h. is_not ((s.under p (s.waits p there).0).1 h))
 
-              pub IsSearched-found : IsSearched cs tops common next lowered (found ++ p ∷ []) p
+              pub IsSearched-found : IsSearched cs heads common next lowered (found ++ p ∷ []) p
               IsSearched-found = record {
                 waits = λ k c. (
                   waits_before cs graph fresh rest next p last (λ j. (adds j).0) k c,
@@ -249,7 +250,7 @@ module _ (cs : List Contents) (graph : IsGraph cs) where
                     | inr parent ↦
                         let l = parent_first cs graph p k parent in
                         let itself_in = ancestor_itself cs graph k (omega (arith, l, taken_within)) in
-                        under_through cs tops k p (ancestor_through_parent cs k k p parent itself_in) wanted.0
+                        under_through cs heads k p (ancestor_through_parent cs k k p parent itself_in) wanted.0
                   ],
                 );
                 complete = λ k l h. (under_parents p fresh rest next last.0 adds k l).1
@@ -261,7 +262,7 @@ module _ (cs : List Contents) (graph : IsGraph cs) where
                     | inl old ↦
                         let w = (s.exact k).0 old in
                         (omega (arith, w.0, (s.waits p there).0), w.1)
-                    | inr e ↦ (omega (arith, e), subst (IsAbove cs tops common) e wanted)
+                    | inr e ↦ (omega (arith, e), subst (IsAbove cs heads common) e wanted)
                   ],
                   λ h. (Contains-pushed found p k).1 (elim (only_here k h.0 h.1)
                       [ inl after ↦ inl ((s.exact k).1 (after, h.1)) | inr e ↦ inr (sym e) ]),

@@ -1,4 +1,4 @@
--- Tops before and after a change.
+-- Heads before and after a change.
 use Rattle.std.proofs.Common.{◌≡◌, ℕ, ◌-◌, ◌<◌, ◌≤◌, true, Bool, List, [], ◌++◌, length, take}
 use Rattle.std.proofs.Common.{slice_get, Some, ◌↔◌, inl, inr, refl, sym, ap, subst, ◌∙◌, arith}
 use Rattle.std.specs.Option.{option_map}
@@ -21,11 +21,11 @@ use Rattle.hg_phases.proofs.LeastLemmas.{same_held}
 use Rattle.hg_phases.proofs.RankLemmas.{rank-apart}
 use Rattle.hg_history.specs.Change.{ChangeValue}
 use Rattle.hg_history.specs.Join.{TellsChange}
-use Rattle.hg_view.specs.declared.top_places.Among.{Among}
-use Rattle.hg_view.specs.declared.top_places.Among.TheVariants.{Everything, Published}
+use Rattle.hg_view.specs.declared.head_updates.Among.{Among}
+use Rattle.hg_view.specs.declared.head_updates.Among.TheVariants.{Everything, Published}
 use Rattle.hg_view.specs.Flags.{AreFlags, AreUpdated, IsTouched}
-use Rattle.hg_view.specs.Tops.{IsTop, IsPlace, IsPublicAt, IsAmong}
-use Rattle.hg_view.proofs.FlagLemmas.{tops-after}
+use Rattle.hg_view.specs.HeadPlaces.{IsHeadAmong, IsPlace, IsPublicAt, IsAmong}
+use Rattle.hg_view.proofs.FlagLemmas.{heads-after}
 
 -- ---- states
 
@@ -94,11 +94,11 @@ module _ (cs ds new : List Contents) (order : ds ≡ cs ++ new) where
         let less = parent_first ds graph j k h in
         (h.0, h.1, at-before j h.0 l h.2, h.3, node-before k h.1 (omega (arith, less, l)) h.4)
 
-    -- a top among the first changesets is one among all, where P holds of no others
-    top-same : (P : ℕ → Type 0) → ((k : ℕ) → P k → k < length cs) → (k : ℕ) → IsTop cs P k ↔ IsTop ds P k
-    top-same P within k = (
-      λ top. (top.0, λ j parent p. top.1 j (parent-before j k (within j p) parent) p),
-      λ top. (top.0, λ j parent p. top.1 j (parent-after j k parent) p),
+    -- a head among the first changesets is one among all, where P holds of no others
+    head-same : (P : ℕ → Type 0) → ((k : ℕ) → P k → k < length cs) → (k : ℕ) → IsHeadAmong cs P k ↔ IsHeadAmong ds P k
+    head-same P within k = (
+      λ head. (head.0, λ j parent p. head.1 j (parent-before j k (within j p) parent) p),
+      λ head. (head.0, λ j parent p. head.1 j (parent-after j k parent) p),
     )
 
 -- ---- a change
@@ -177,37 +177,37 @@ module _ (s t : State) (valid : IsValid s) (graph : IsGraph (changesets t)) (abo
       (parent-before (changesets s) (changesets t) tells.new tells.order graph j k (among-within s Published j h)
       parent) h
 
-  -- the tops follow
+  -- the heads follow
   module _ (first : ℕ) (counted : first ≡ length (changesets t) - length change.added) (before old new : List Bool)
       (grown : take (length before) old ≡ before) (long : length old ≡ length (changesets t)) where
-    pub public-tops : AreFlags (length (changesets s)) (IsTop (changesets s) (IsPublicAt s)) before
+    pub public-heads : AreFlags (length (changesets s)) (IsHeadAmong (changesets s) (IsPublicAt s)) before
         → AreUpdated (changesets t) (IsTouched (changesets t) first change.lowered) (IsAmong Published t) old new
-        → AreFlags (length (changesets t)) (IsTop (changesets t) (IsPublicAt t)) new
-    public-tops are updated =
+        → AreFlags (length (changesets t)) (IsHeadAmong (changesets t) (IsPublicAt t)) new
+    public-heads are updated =
         let n_is : first ≡ length (changesets s) = counted ∙ count-before in
         let S : ℕ → Type 0 = IsTouched (changesets t) (length (changesets s)) change.lowered in
         record {
           len = updated.taken.len ∙ updated.recomputed.len ∙ long;
-          exact = tops-after (changesets t) (IsPublicAt s) (IsPublicAt t) S public-fresh public-same public-kept
+          exact = heads-after (changesets t) (IsPublicAt s) (IsPublicAt t) S public-fresh public-same public-kept
               public-closed (length (changesets s)) before old new (λ k le. inl le)
               (ap (λ m. take m old) (sym are.len) ∙ grown)
-              (λ k. let same = top-same (changesets s) (changesets t) tells.new tells.order graph (IsPublicAt s)
+              (λ k. let same = head-same (changesets s) (changesets t) tells.new tells.order graph (IsPublicAt s)
               (among-within s Published) k in
-              ((λ up. same.0 ((are.exact k).0 up)), (λ top. (are.exact k).1 (same.1 top))))
+              ((λ up. same.0 ((are.exact k).0 up)), (λ head. (are.exact k).1 (same.1 head))))
               (subst (λ m. AreUpdated (changesets t) (IsTouched (changesets t) m change.lowered) (IsPublicAt t) old new)
               n_is updated);
         }
 
-    pub childless-tops : AreFlags (length (changesets s)) (IsTop (changesets s) (IsPlace s)) before
+    pub all-heads : AreFlags (length (changesets s)) (IsHeadAmong (changesets s) (IsPlace s)) before
         → AreUpdated (changesets t) (IsTouched (changesets t) first []) (IsAmong Everything t) old new
-        → AreFlags (length (changesets t)) (IsTop (changesets t) (IsPlace t)) new
-    childless-tops are updated =
+        → AreFlags (length (changesets t)) (IsHeadAmong (changesets t) (IsPlace t)) new
+    all-heads are updated =
         let n_is : first ≡ length (changesets s) = counted ∙ count-before in
         let S : ℕ → Type 0 = IsTouched (changesets t) (length (changesets s)) [] in
         let whole = ap length tells.order ∙ length-append (changesets s) tells.new in
         record {
           len = updated.taken.len ∙ updated.recomputed.len ∙ long;
-          exact = tops-after (changesets t) (IsPlace s) (IsPlace t) S
+          exact = heads-after (changesets t) (IsPlace s) (IsPlace t) S
               (λ k touched l. elim touched [
                 | inl past ↦ omega (arith, past, l)
                 | inr m ↦ Contains-none m.0 m.1
@@ -220,20 +220,20 @@ module _ (s t : State) (valid : IsValid s) (graph : IsGraph (changesets t)) (abo
               (λ j k parent l. let less = parent_first (changesets t) graph j k parent in omega (arith, less, l))
               (length (changesets s)) before old new (λ k le. inl le)
               (ap (λ m. take m old) (sym are.len) ∙ grown)
-              (λ k. let same = top-same (changesets s) (changesets t) tells.new tells.order graph (IsPlace s)
+              (λ k. let same = head-same (changesets s) (changesets t) tells.new tells.order graph (IsPlace s)
               (λ j l. l) k in
-              ((λ up. same.0 ((are.exact k).0 up)), (λ top. (are.exact k).1 (same.1 top))))
+              ((λ up. same.0 ((are.exact k).0 up)), (λ head. (are.exact k).1 (same.1 head))))
               (subst (λ m. AreUpdated (changesets t) (IsTouched (changesets t) m []) (IsPlace t) old new) n_is updated);
         }
 
 -- ---- from scratch
 
--- where all places were recomputed, the tops are found
-pub tops-all : (cs : List Contents) (Q : ℕ → Type 0) (old new : List Bool) → length old ≡ length cs
-    → AreUpdated cs (IsTouched cs 0 []) Q old new → AreFlags (length cs) (IsTop cs Q) new
-tops-all cs Q old new long updated = record {
+-- where all places were recomputed, the heads are found
+pub heads-all : (cs : List Contents) (Q : ℕ → Type 0) (old new : List Bool) → length old ≡ length cs
+    → AreUpdated cs (IsTouched cs 0 []) Q old new → AreFlags (length cs) (IsHeadAmong cs Q) new
+heads-all cs Q old new long updated = record {
   len = updated.taken.len ∙ updated.recomputed.len ∙ long;
-  exact = tops-after cs (λ k. ⊥) Q (IsTouched cs 0 []) (λ k touched none. none)
+  exact = heads-after cs (λ k. ⊥) Q (IsTouched cs 0 []) (λ k touched none. none)
       (λ k out q. absurd (out (inl (omega arith)))) (λ k none. absurd none) (λ j k parent none. none) 0 [] old new
-      (λ k le. inl le) refl (λ k. ((λ up. absurd (none-some true up)), (λ top. absurd top.0))) updated;
+      (λ k le. inl le) refl (λ k. ((λ up. absurd (none-some true up)), (λ head. absurd head.0))) updated;
 }

@@ -17,7 +17,7 @@ use Rattle.hg_view.specs.Common.{AreFree, IsCommonAt}
 use Rattle.hg_view.specs.Descent.{IsClosedUnderParents}
 use Rattle.hg_view.specs.Kept.{KeptValue}
 use Rattle.hg_view.specs.Pins.{IsServedUnder}
-use Rattle.hg_view.specs.Tops.{IsServedAt}
+use Rattle.hg_view.specs.HeadPlaces.{IsServedAt}
 use Rattle.hg_view.proofs.PinLemmas.{served_under-above}
 use Rattle.hg_view.proofs.ViewHeadLemmas.{served-closed, shared-closed}
 

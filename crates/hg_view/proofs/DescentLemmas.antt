@@ -13,7 +13,7 @@ use Rattle.hg_graph.proofs.PlaceLemmas.{parent_first, placed_within}
 use Rattle.hg_graph.proofs.WalkLemmas.{contains_none, taken_one}
 use Rattle.hg_graph.proofs.QueueLemmas.{widens-none, widens-same, widens-then, past, past-falls, waits_before}
 use Rattle.hg_view.specs.Descent.{Finds, GoesOn, HasChildIn, IsChildless, IsClosedUnderParents}
-use Rattle.hg_view.specs.Tops.{IsTop}
+use Rattle.hg_view.specs.HeadPlaces.{IsHeadAmong}
 
 -- a child's place is one of the graph, and so is its parent's
 pub child_within : (cs : List Contents) (j k : ℕ) → IsParentPlace cs j k → j < length cs
@@ -37,7 +37,7 @@ told_of (m ∷ ks) k = elim (cases_eq m k) [
 -- are before b
 pub record IsDescended (cs : List Contents) (P : ℕ → Type 0) (childless waiting found : List ℕ) (b : ℕ) : Type 0 where
   pub waits : (k : ℕ) → Contains waiting k → (k < b) × (k < length cs)
-  pub tops : (k : ℕ) → Contains found k ↔ ((b ≤ k ⊎ Contains childless k) × IsTop cs P k)
+  pub heads : (k : ℕ) → Contains found k ↔ ((b ≤ k ⊎ Contains childless k) × IsHeadAmong cs P k)
   pub followed : (j k : ℕ) → (b ≤ j ⊎ Contains childless j) → ¬ (P j) → ¬ (HasChildIn cs P j) → IsParentPlace cs j k
       → k < b → Contains waiting k
 
@@ -52,7 +52,7 @@ module _ (cs : List Contents) (graph : IsGraph cs) (P : ℕ → Type 0) (within 
       | inl old ↦ absurd (contains_none before k empty old)
       | inr new ↦ let l = parent_within cs new.0 k new.3 in (l, l)
     ];
-    tops = λ k. (
+    heads = λ k. (
       λ c. elim ((finds k).0 c) [
         | inl old ↦ absurd (contains_none none k nothing old)
         | inr new ↦ (inr new.0, new.1)
@@ -103,14 +103,14 @@ module _ (cs : List Contents) (graph : IsGraph cs) (P : ℕ → Type 0) (within 
       | inr ge ↦ inl ge
     ]
 
-    -- what is a top has been found
-    pub IsDescended-end : ((k : ℕ) → ¬ (Contains waiting k)) → (k : ℕ) → Contains found k ↔ IsTop cs P k
+    -- what is a head has been found
+    pub IsDescended-end : ((k : ℕ) → ¬ (Contains waiting k)) → (k : ℕ) → Contains found k ↔ IsHeadAmong cs P k
     IsDescended-end empty k = (
-      λ c. ((s.tops k).0 c).1,
-      λ top. (s.tops k).1 (
-        passed 0 (λ j c. absurd (empty j c)) k (omega arith) (within k top.0)
-            (λ h. top.1 h.0 h.1 h.2),
-        top,
+      λ c. ((s.heads k).0 c).1,
+      λ head. (s.heads k).1 (
+        passed 0 (λ j c. absurd (empty j c)) k (omega arith) (within k head.0)
+            (λ h. head.1 h.0 h.1 h.2),
+        head,
       ),
     )
 
@@ -128,15 +128,15 @@ module _ (cs : List Contents) (graph : IsGraph cs) (P : ℕ → Type 0) (within 
       IsDescended-step after more goes_on finds = (
         record {
           waits = λ k c. let l = before k c in (l, omega (arith, l, next_within));
-          tops = λ k. (
+          heads = λ k. (
             λ c. elim ((finds k).0 c) [
-              | inl old ↦ let f = (s.tops k).0 old in
+              | inl old ↦ let f = (s.heads k).0 old in
                   (elim f.0 [ inl ge ↦ inl (omega (arith, ge, first)) | inr c ↦ inr c ], f.1)
               | inr new ↦ (inl (omega (arith, new.0)), new.1)
             ],
             λ h. (finds k).1 (elim (cases_eq place k) [
               | inl e ↦ inr (e, h.1)
-              | inr ne ↦ inl ((s.tops k).1 (far k h.0 ne (within k h.1.0) (λ c. h.1.1 c.0 c.1 c.2), h.1))
+              | inr ne ↦ inl ((s.heads k).1 (far k h.0 ne (within k h.1.0) (λ c. h.1.1 c.0 c.1 c.2), h.1))
             ]),
           );
           followed = λ j k visited out none parent l_k. elim (cases_eq place j) [
@@ -193,13 +193,14 @@ module _ (cs : List Contents) (P : ℕ → Type 0) (place : ℕ) where
       (λ k. (j : ℕ) × (place ≡ j) × ¬ (P j) × IsParentPlace cs j k) old new
       (λ k. (λ h. subst (λ j. IsParentPlace cs j k) (sym h.1) h.3, λ parent. (place, refl, out, parent))) told
 
-  pub finds-nothing : ¬ (IsTop cs P place) → (found : List ℕ) → Finds cs P (λ j. place ≡ j) found found
-  finds-nothing out found = widens-none (λ k. (place ≡ k) × IsTop cs P k) found
-      (λ k h. out (subst (IsTop cs P) (sym h.0) h.1))
+  pub finds-nothing : ¬ (IsHeadAmong cs P place) → (found : List ℕ) → Finds cs P (λ j. place ≡ j) found found
+  finds-nothing out found = widens-none (λ k. (place ≡ k) × IsHeadAmong cs P k) found
+      (λ k h. out (subst (IsHeadAmong cs P) (sym h.0) h.1))
 
-  pub finds-top : IsTop cs P place → (found : List ℕ) → Finds cs P (λ j. place ≡ j) found (found ++ place ∷ [])
-  finds-top top found k = (
-    λ c. elim (Contains-push_cases found place k c) [ inl old ↦ inl old | inr e ↦ inr (e, subst (IsTop cs P) e top) ],
+  pub finds-head : IsHeadAmong cs P place → (found : List ℕ) → Finds cs P (λ j. place ≡ j) found (found ++ place ∷ [])
+  finds-head head found k = (
+    λ c. elim (Contains-push_cases found place k c)
+        [ inl old ↦ inl old | inr e ↦ inr (e, subst (IsHeadAmong cs P) e head) ],
     λ h. elim h [
       | inl old ↦ Contains-append_left found (place ∷ []) k old
       | inr new ↦ subst (Contains (found ++ place ∷ [])) new.0 (Contains-push found place)
@@ -227,9 +228,9 @@ module _ (cs : List Contents) (P : ℕ → Type 0) (places : List ℕ) (i d : �
   pub finds-more : Finds cs P (Contains (take i places)) old between
       → Finds cs P (λ j. get_or places i d ≡ j) between new
       → Finds cs P (Contains (take (i + 1) places)) old new
-  finds-more = widens-then (λ k. Contains (take i places) k × IsTop cs P k)
-      (λ k. (get_or places i d ≡ k) × IsTop cs P k)
-      (λ k. Contains (take (i + 1) places) k × IsTop cs P k) old between new
+  finds-more = widens-then (λ k. Contains (take i places) k × IsHeadAmong cs P k)
+      (λ k. (get_or places i d ≡ k) × IsHeadAmong cs P k)
+      (λ k. Contains (take (i + 1) places) k × IsHeadAmong cs P k) old between new
       (λ k. (
         λ h. elim ((taken_one places i d k l).0 h.0) [ inl before ↦ inl (before, h.1) | inr e ↦ inr (e, h.1) ],
         λ h. elim h [

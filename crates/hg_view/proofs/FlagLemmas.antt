@@ -1,4 +1,4 @@
--- Flags of places: steps that recompute them and take some out, and tops after such steps.
+-- Flags of places: steps that recompute them and take some out, and heads after such steps.
 use Rattle.std.proofs.Common.{◌≡◌, ℕ, ◌+◌, ◌<◌, ◌≤◌, true, false, Bool, List, length, take, set, get_or}
 use Rattle.std.proofs.Common.{slice_get, ◌↔◌, ◌⊎◌, inl, inr, refl, sym}
 use Rattle.std.proofs.Common.{subst, ◌∙◌, arith, true≢false}
@@ -13,7 +13,7 @@ use Rattle.hg_graph.proofs.GraphLemmas.{get-take}
 use Rattle.hg_graph.proofs.MarkLemmas.{get-set_same, get-set_other}
 use Rattle.hg_graph.proofs.WalkLemmas.{taken_one}
 use Rattle.hg_view.specs.Flags.{IsUp, AreRecomputed, AreTakenOut, IsParentOfOne, AreUpdated}
-use Rattle.hg_view.specs.Tops.{IsTop}
+use Rattle.hg_view.specs.HeadPlaces.{IsHeadAmong}
 
 -- ---- recomputing
 
@@ -195,18 +195,19 @@ nodes-one cs ns i d l k = (
   ],
 )
 
--- ---- tops
+-- ---- heads
 
 -- places were recomputed of which P didn't hold and of which Q may hold, no others came or went, and P holds of all
--- parents of its places: then, with the parents of the new ones taken out, the tops are those of Q
+-- parents of its places: then, with the parents of the new ones taken out, the heads are those of Q
 module _ (cs : List Contents) (P Q S : ℕ → Type 0) (fresh : (k : ℕ) → S k → ¬ (P k))
     (same : (k : ℕ) → ¬ (S k) → Q k → P k) (kept : (k : ℕ) → P k → Q k)
     (closed : (j k : ℕ) → IsParentPlace cs j k → P j → P k) where
-  pub tops-after : (n : ℕ) (before old new : List Bool) → ((k : ℕ) → n ≤ k → S k) → take n old ≡ before
-      → ((k : ℕ) → IsUp before k ↔ IsTop cs P k) → AreUpdated cs S Q old new → (k : ℕ) → IsUp new k ↔ IsTop cs Q k
-  tops-after n before old new come front are updated k = (found, there)
+  pub heads-after : (n : ℕ) (before old new : List Bool) → ((k : ℕ) → n ≤ k → S k) → take n old ≡ before
+      → ((k : ℕ) → IsUp before k ↔ IsHeadAmong cs P k) → AreUpdated cs S Q old new
+      → (k : ℕ) → IsUp new k ↔ IsHeadAmong cs Q k
+  heads-after n before old new come front are updated k = (found, there)
     where
-      found : IsUp new k → IsTop cs Q k
+      found : IsUp new k → IsHeadAmong cs Q k
       found up =
           let x = (updated.taken.each k).0 up in
           elim (updated.recomputed.each k) [
@@ -218,25 +219,25 @@ module _ (cs : List Contents) (P Q S : ℕ → Type 0) (fresh : (k : ℕ) → S 
               ],
             )
             | inr is ↦
-                let top = (are k).0 (subst (λ fs. IsUp fs k) front
+                let head = (are k).0 (subst (λ fs. IsUp fs k) front
                 (elim (cases_lt k n) [
                   | inl l ↦ slice_get-take old n k true l (sym is.1 ∙ x.0)
                   | inr past ↦ absurd (is.0 (come k past))
                 ])) in (
-                  kept k top.0,
+                  kept k head.0,
                   λ j parent q. elim (updated.recomputed.each j) [
                     | inl it ↦ x.1 (j, it.0, q, parent)
-                    | inr it ↦ top.1 j parent (same j it.0 q)
+                    | inr it ↦ head.1 j parent (same j it.0 q)
                   ],
                 )
           ]
 
-      there : IsTop cs Q k → IsUp new k
-      there top = (updated.taken.each k).1 (
+      there : IsHeadAmong cs Q k → IsUp new k
+      there head = (updated.taken.each k).1 (
         elim (updated.recomputed.each k) [
-          | inl is ↦ is.1.1 top.0
+          | inl is ↦ is.1.1 head.0
           | inr is ↦ is.1 ∙ (get-take old n k true (subst (λ fs. IsUp fs k) (sym front)
-              ((are k).1 (same k is.0 top.0, λ j parent p. top.1 j parent (kept j p))))).1
+              ((are k).1 (same k is.0 head.0, λ j parent p. head.1 j parent (kept j p))))).1
         ],
-        λ h. top.1 h.0 h.3 h.2,
+        λ h. head.1 h.0 h.3 h.2,
       )

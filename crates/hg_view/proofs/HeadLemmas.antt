@@ -15,7 +15,7 @@ use Rattle.hg_graph.proofs.PlaceLemmas.{IsAt-within, parent_first, ancestor_firs
 use Rattle.hg_graph.proofs.PlaceLemmas.{ancestor_by_parent, ancestor_through_parent, ancestor_itself}
 use Rattle.hg_phases.proofs.LowerLemmas.{parent_of_ancestor}
 use Rattle.hg_view.specs.Descent.{IsCovered}
-use Rattle.hg_view.specs.Tops.{IsTop}
+use Rattle.hg_view.specs.HeadPlaces.{IsHeadAmong}
 
 -- ---- what can be told
 
@@ -98,8 +98,8 @@ module _ (cs : List Contents) (graph : IsGraph cs) where
       ]
 
   module _ (P : ℕ → Type 0) (within : (k : ℕ) → P k → k < length cs) (found : List ℕ)
-      (exact : (k : ℕ) → Contains found k ↔ IsTop cs P k) where
-    -- a changeset of which it is so and that no top covers would be a top itself
+      (exact : (k : ℕ) → Contains found k ↔ IsHeadAmong cs P k) where
+    -- a changeset of which it is so and that no head covers would be a head itself
     none_lost : (n k : ℕ) → length cs ≤ k + n → P k → ¬ (¬ (IsCovered cs found k))
     none_lost zero k few is none = omega (arith, few, within k is)
     none_lost (suc n) k few is none = none (
@@ -114,7 +114,7 @@ module _ (cs : List Contents) (graph : IsGraph cs) where
       ancestor_itself cs graph k (within k is),
     )
 
-    -- a changeset of which it is so is a top, or an ancestor of one
+    -- a changeset of which it is so is a head, or an ancestor of one
     pub covered : (k : ℕ) → P k → IsCovered cs found k
     covered k is = elim (covered_cases found (λ h c. within h ((exact h).0 c).0) k (within k is)) [
       | inl c ↦ c

@@ -26,9 +26,9 @@ use Rattle.hg_replica.proofs.ContentLemmas.{told-change}
 use Rattle.hg_instab.specs.Changed.{IsChangedTo}
 use Rattle.hg_instab.specs.Instabilities.{AreInstabilities, InstabilitySets}
 use Rattle.hg_instab.proofs.TurnedLemmas.{contains-or}
-use Rattle.hg_view.specs.declared.tops.Tops.{Tops}
-use Rattle.hg_view.specs.Kept.{FindsAgain, FindsTopsAgain, KeepsTops, KeepsUp}
-use Rattle.hg_view.specs.Tops.{AreTops}
+use Rattle.hg_view.specs.declared.head_places.HeadPlaces.{HeadPlaces}
+use Rattle.hg_view.specs.Kept.{FindsAgain, FindsHeadsAgain, KeepsHeads, KeepsUp}
+use Rattle.hg_view.specs.HeadPlaces.{AreHeadPlaces}
 use Rattle.hg_view.proofs.HiddenLemmas.{obsolete-or, visible-not_extinct}
 
 -- what is held and not extinct is visible
@@ -146,12 +146,12 @@ module _ (s : ReplicaState) (k : PartValue) (t after : ReplicaState) (sets sets_
     kept-sets (Err fault) result answer back still keeps =
         unmoved s sets valid are after sets_after (keeps.1 ∙ answer.1) keeps.2
 
-module _ (s : ReplicaState) (k : PartValue) (t : ReplicaState) (tops : Tops) (valid : IsValid s)
-    (are : AreTops s.history tops) where
-  -- what is absorbed changes s, of which these are the tops
+module _ (s : ReplicaState) (k : PartValue) (t : ReplicaState) (heads : HeadPlaces) (valid : IsValid s)
+    (are : AreHeadPlaces s.history heads) where
+  -- what is absorbed changes s, of which these are the heads
   pub kept-changed : (answered : Result (Absorbed ChangeValue UndoValue) Fault)
       → AbsorbAnswer s k (without_undo answered) t
-      → IfOk answered (λ absorbed. (u : ReplicaState) × IsChangedTo u absorbed.change t × AreTops u.history tops)
+      → IfOk answered (λ absorbed. (u : ReplicaState) × IsChangedTo u absorbed.change t × AreHeadPlaces u.history heads)
   unfolding AbsorbAnswer
   kept-changed (Ok absorbed) answer = (
     s,
@@ -164,31 +164,31 @@ module _ (s : ReplicaState) (k : PartValue) (t : ReplicaState) (tops : Tops) (va
   )
   kept-changed (Err fault) answer = tt
 
--- tops stay those of what is equal to it
-same-tops : (s after : ReplicaState) (tops tops_after : Tops) → AreTops s.history tops → after ≡ s → tops_after ≡ tops
-    → AreTops after.history tops_after
-same-tops s after tops tops_after are same same_tops =
-    subst (λ (u : ReplicaState). AreTops u.history tops_after) (sym same)
-    (subst (AreTops s.history) (sym same_tops) are)
+-- heads stay those of what is equal to it
+same-heads : (s after : ReplicaState) (heads heads_after : HeadPlaces) → AreHeadPlaces s.history heads → after ≡ s
+    → heads_after ≡ heads → AreHeadPlaces after.history heads_after
+same-heads s after heads heads_after are same same_heads =
+    subst (λ (u : ReplicaState). AreHeadPlaces u.history heads_after) (sym same)
+    (subst (AreHeadPlaces s.history) (sym same_heads) are)
 
 module _ (s : ReplicaState) (k : PartValue) (t after : ReplicaState) (sets sets_after : InstabilitySets)
-    (tops tops_after : Tops) (are : AreTops s.history tops) where
-  -- the tops are those of the replica then
-  pub kept-tops : (answered : Result (Absorbed ChangeValue UndoValue) Fault) (result : Result ChangeValue Fault)
+    (heads heads_after : HeadPlaces) (are : AreHeadPlaces s.history heads) where
+  -- the heads are those of the replica then
+  pub kept-heads : (answered : Result (Absorbed ChangeValue UndoValue) Fault) (result : Result ChangeValue Fault)
       → AbsorbAnswer s k (without_undo answered) t → IfOk answered (λ absorbed. LeadsBack t absorbed.undo s)
       → IfOk answered (λ absorbed. IsNothing absorbed.change → t ≡ s)
-      → KeepsUp answered t sets result after sets_after → KeepsTops answered t tops result tops_after
-      → AreTops after.history tops_after
+      → KeepsUp answered t sets result after sets_after → KeepsHeads answered t heads result heads_after
+      → AreHeadPlaces after.history heads_after
   unfolding AbsorbAnswer
-  kept-tops (Ok absorbed) (Ok change) answer back still keeps told = elim told [
-    | inl nothing ↦ same-tops s after tops tops_after are
+  kept-heads (Ok absorbed) (Ok change) answer back still keeps told = elim told [
+    | inl nothing ↦ same-heads s after heads heads_after are
         (keeps.1 ∙ still (subst (λ (x : ChangeValue). IsNothing x) keeps.0 nothing.0)) nothing.1
-    | inr follow ↦ subst (λ (u : ReplicaState). AreTops u.history tops_after) (sym keeps.1) follow
+    | inr follow ↦ subst (λ (u : ReplicaState). AreHeadPlaces u.history heads_after) (sym keeps.1) follow
   ]
-  kept-tops (Ok absorbed) (Err fault) answer back still keeps told =
-      same-tops s after tops tops_after are (keeps.3 s back) told
-  kept-tops (Err fault) result answer back still keeps told =
-      same-tops s after tops tops_after are (keeps.1 ∙ answer.1) told
+  kept-heads (Ok absorbed) (Err fault) answer back still keeps told =
+      same-heads s after heads heads_after are (keeps.3 s back) told
+  kept-heads (Err fault) result answer back still keeps told =
+      same-heads s after heads heads_after are (keeps.1 ∙ answer.1) told
 
 module _ (s o t after : ReplicaState) (sets sets_after : InstabilitySets) where
   -- the other is joined, or the replica is as it was
@@ -237,16 +237,16 @@ module _ (s o t after : ReplicaState) (sets sets_after : InstabilitySets) where
   joined-sets valid are (Err fault) result answer back finds =
       unmoved s sets valid are after sets_after (finds.1 ∙ answer.1) finds.2
 
--- the tops are those of the replica then
-pub joined-tops : (s o t after : ReplicaState) (sets sets_after : InstabilitySets) (tops tops_after : Tops)
-    → AreTops s.history tops → (answered : Result UndoValue Fault) (result : Result (Unit {0}) Fault)
+-- the heads are those of the replica then
+pub joined-heads : (s o t after : ReplicaState) (sets sets_after : InstabilitySets) (heads heads_after : HeadPlaces)
+    → AreHeadPlaces s.history heads → (answered : Result UndoValue Fault) (result : Result (Unit {0}) Fault)
     → JoinAnswer s o (join_without_undo answered) t → IfOk answered (λ undo. LeadsBack t undo s)
-    → FindsAgain answered t sets result after sets_after → FindsTopsAgain answered t tops result tops_after
-    → AreTops after.history tops_after
+    → FindsAgain answered t sets result after sets_after → FindsHeadsAgain answered t heads result heads_after
+    → AreHeadPlaces after.history heads_after
 unfolding JoinAnswer
-joined-tops s o t after sets sets_after tops tops_after are (Ok undo) (Ok done) answer back finds told =
-    subst (λ (u : ReplicaState). AreTops u.history tops_after) (sym finds.0) told
-joined-tops s o t after sets sets_after tops tops_after are (Ok undo) (Err fault) answer back finds told =
-    same-tops s after tops tops_after are (finds.2 s back) told
-joined-tops s o t after sets sets_after tops tops_after are (Err fault) result answer back finds told =
-    same-tops s after tops tops_after are (finds.1 ∙ answer.1) told
+joined-heads s o t after sets sets_after heads heads_after are (Ok undo) (Ok done) answer back finds told =
+    subst (λ (u : ReplicaState). AreHeadPlaces u.history heads_after) (sym finds.0) told
+joined-heads s o t after sets sets_after heads heads_after are (Ok undo) (Err fault) answer back finds told =
+    same-heads s after heads heads_after are (finds.2 s back) told
+joined-heads s o t after sets sets_after heads heads_after are (Err fault) result answer back finds told =
+    same-heads s after heads heads_after are (finds.1 ∙ answer.1) told

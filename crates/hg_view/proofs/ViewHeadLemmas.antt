@@ -20,16 +20,17 @@ use Rattle.hg_instab.proofs.TurnedLemmas.{contains-or}
 use Rattle.hg_view.specs.Pins.{IsServedUnder}
 use Rattle.hg_view.specs.Share.{IsShared}
 use Rattle.hg_view.specs.Upheld.{AreUpheld}
-use Rattle.hg_view.specs.Tops.{IsServedAt, IsTop}
+use Rattle.hg_view.specs.HeadPlaces.{IsServedAt, IsHeadAmong}
 use Rattle.hg_view.proofs.UpheldLemmas.{visible-upheld}
 use Rattle.hg_view.proofs.PinLemmas.{served_under-above}
 use Rattle.hg_view.proofs.ShareLemmas.{shared-above, shared-or}
 
--- where it is so of the same places, these have the same tops
-pub same-tops : (cs : List Contents) (P Q : ℕ → Type 0) → ((k : ℕ) → P k ↔ Q k) → (k : ℕ) → IsTop cs P k ↔ IsTop cs Q k
-same-tops cs P Q same k = (
-  λ top. ((same k).0 top.0, λ j parent q. top.1 j parent ((same j).1 q)),
-  λ top. ((same k).1 top.0, λ j parent p. top.1 j parent ((same j).0 p)),
+-- where it is so of the same places, these have the same heads
+pub same-heads : (cs : List Contents) (P Q : ℕ → Type 0) → ((k : ℕ) → P k ↔ Q k) → (k : ℕ)
+    → IsHeadAmong cs P k ↔ IsHeadAmong cs Q k
+same-heads cs P Q same k = (
+  λ head. ((same k).0 head.0, λ j parent q. head.1 j parent ((same j).1 q)),
+  λ head. ((same k).1 head.0, λ j parent p. head.1 j parent ((same j).0 p)),
 )
 
 module _ (s : ReplicaState) (valid : IsValid s) where

@@ -9,4 +9,4 @@ IsUnderOne cs places k = (j : ℕ) × Contains places j × IsAncestorPlace cs k 
 
 -- under one of the first and under none of the others
 abbrev pub IsAbove : List Contents → List ℕ → List ℕ → ℕ → Type 0
-IsAbove cs tops common k = IsUnderOne cs tops k × ¬ (IsUnderOne cs common k)
+IsAbove cs heads common k = IsUnderOne cs heads k × ¬ (IsUnderOne cs common k)

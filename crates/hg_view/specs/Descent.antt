@@ -3,7 +3,7 @@ use Rattle.std.specs.Prelude.{ℕ, ◌<◌, List, length, Contains}
 use Rattle.hg_changeset.specs.Contents.{Contents}
 use Rattle.hg_graph.specs.Places.{IsParentPlace, IsAncestorPlace}
 use Rattle.hg_graph.specs.Waiting.{Widens}
-use Rattle.hg_view.specs.Tops.{IsTop}
+use Rattle.hg_view.specs.HeadPlaces.{IsHeadAmong}
 
 -- it is so of a child of the changeset at the place
 abbrev pub HasChildIn : List Contents → (ℕ → Type 0) → ℕ → Type 0
@@ -11,7 +11,7 @@ HasChildIn cs P k = (j : ℕ) × IsParentPlace cs j k × P j
 
 -- a changeset without children stands at the place
 abbrev pub IsChildless : List Contents → ℕ → Type 0
-IsChildless cs k = IsTop cs (λ j. j < length cs) k
+IsChildless cs k = IsHeadAmong cs (λ j. j < length cs) k
 
 -- where it is so of a changeset, it is so of its parents
 abbrev pub IsClosedUnderParents : List Contents → (ℕ → Type 0) → Type 0
@@ -25,6 +25,6 @@ IsCovered cs places k = (h : ℕ) × Contains places h × IsAncestorPlace cs k h
 abbrev pub GoesOn : List Contents → (ℕ → Type 0) → (ℕ → Type 0) → List ℕ → List ℕ → Type 0
 GoesOn cs P IsVisited old new = Widens (λ k. (j : ℕ) × IsVisited j × ¬ (P j) × IsParentPlace cs j k) old new
 
--- what was found is found, and besides the tops among the visited changesets
+-- what was found is found, and besides the heads among the visited changesets
 abbrev pub Finds : List Contents → (ℕ → Type 0) → (ℕ → Type 0) → List ℕ → List ℕ → Type 0
-Finds cs P IsVisited old new = Widens (λ k. IsVisited k × IsTop cs P k) old new
+Finds cs P IsVisited old new = Widens (λ k. IsVisited k × IsHeadAmong cs P k) old new

@@ -10,8 +10,8 @@ use Rattle.hg_replica.specs.Content.{content_of}
 use Rattle.hg_replica.specs.Undo.{LeadsBack, UndoValue}
 use Rattle.hg_instab.specs.Changed.{IsChangedTo}
 use Rattle.hg_instab.specs.Instabilities.{AreInstabilities, InstabilitySets}
-use Rattle.hg_view.specs.declared.tops.Tops.{Tops}
-use Rattle.hg_view.specs.Tops.{AreTops}
+use Rattle.hg_view.specs.declared.head_places.HeadPlaces.{HeadPlaces}
+use Rattle.hg_view.specs.HeadPlaces.{AreHeadPlaces}
 use Rattle.hg_view.specs.declared.refusal.PinRefusal.{PinRefusal}
 use Rattle.hg_view.specs.declared.refusal.PinRefusal.TheVariants.{Unknown, NotPinned}
 use Rattle.hg_view.specs.declared.refusal.PinRefusal.TheVariants as pin
@@ -54,15 +54,16 @@ FindsAgain (Err fault) t sets result after sets_after = (result ≡ Err fault) �
 
 -- where the replica, now t, answered so, the heads that were kept beside it: they follow the change that it told, or
 -- stay where that is nothing, or where it or they were refused
-abbrev pub KeepsTops : Result (Absorbed ChangeValue UndoValue) Fault → ReplicaState → Tops → Result ChangeValue Fault →
-    Tops → Type 0
-KeepsTops (Ok absorbed) t tops (Ok change) after =
-    (IsNothing change × (after ≡ tops)) ⊎ AreTops t.history after
-KeepsTops (Ok absorbed) t tops (Err fault) after = after ≡ tops
-KeepsTops (Err fault) t tops result after = after ≡ tops
+abbrev pub KeepsHeads : Result (Absorbed ChangeValue UndoValue) Fault → ReplicaState → HeadPlaces →
+    Result ChangeValue Fault → HeadPlaces → Type 0
+KeepsHeads (Ok absorbed) t heads (Ok change) after =
+    (IsNothing change × (after ≡ heads)) ⊎ AreHeadPlaces t.history after
+KeepsHeads (Ok absorbed) t heads (Err fault) after = after ≡ heads
+KeepsHeads (Err fault) t heads result after = after ≡ heads
 
 -- where the replica, now t, joined another and answered so: the heads are its, or stay where it or they were refused
-abbrev pub FindsTopsAgain : Result UndoValue Fault → ReplicaState → Tops → Result (Unit {0}) Fault → Tops → Type 0
-FindsTopsAgain (Ok undo) t tops (Ok done) after = AreTops t.history after
-FindsTopsAgain (Ok undo) t tops (Err fault) after = after ≡ tops
-FindsTopsAgain (Err fault) t tops result after = after ≡ tops
+abbrev pub FindsHeadsAgain : Result UndoValue Fault → ReplicaState → HeadPlaces → Result (Unit {0}) Fault →
+    HeadPlaces → Type 0
+FindsHeadsAgain (Ok undo) t heads (Ok done) after = AreHeadPlaces t.history after
+FindsHeadsAgain (Ok undo) t heads (Err fault) after = after ≡ heads
+FindsHeadsAgain (Err fault) t heads result after = after ≡ heads

@@ -7,7 +7,7 @@ pub mod Shown
 pub mod Status
 pub mod Upheld
 pub mod Flags
-pub mod Tops
+pub mod HeadPlaces
 pub mod Descent
 pub mod Common
 pub mod Above

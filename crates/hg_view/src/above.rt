@@ -1,11 +1,12 @@
 //! What is above some places of a graph and under others, by a walk from children to parents.
 //!
-//! The places that the walk still has to visit wait in two sets: the fresh ones, each under a top, and the shared ones,
-//! under which is all that is common. The greatest fresh one is visited next, once the shared ones that stand after it
-//! have given way to their parents. If it waits among the shared ones too, it is common and is dropped. Else it is
-//! found, and its parents wait as fresh ones. A parent's place is before its child's, so each place is visited once.
+//! The places that the walk still has to visit wait in two sets: the fresh ones, each under a head, and the shared
+//! ones, under which is all that is common. The greatest fresh one is visited next, once the shared ones that stand
+//! after it have given way to their parents. If it waits among the shared ones too, it is common and is dropped. Else
+//! it is found, and its parents wait as fresh ones. A parent's place is before its child's, so each place is visited
+//! once.
 //!
-//! The walk ends when no fresh one waits. It costs the tops, the common places, what it finds, and those ancestors of
+//! The walk ends when no fresh one waits. It costs the heads, the common places, what it finds, and those ancestors of
 //! the common places that stand after the last fresh one that it visits, however large the graph is.
 ghost use Rattle.std.specs.Prelude.{◌↔◌, ℕ, ◌<◌, ◌≤◌, length, Contains, IsTrue, IfOk, OnOk};
 ghost use Rattle.std.specs.List.Sorted.{IsStrictlyIncreasing};
@@ -15,21 +16,21 @@ ghost use Rattle.hg_view.specs.Above.{IsUnderOne, IsAbove};
 use hg_graph::{Graph, PlaceQueue};
 use std::alloc::{AllocError, Global};
 
-/// The places of the tops and their ancestors without those of the common places and theirs, ascending. Doubles change
+/// The places of the heads and their ancestors without those of the common places and theirs, ascending. Doubles change
 /// nothing.
 pub fn places_above(
     alloc: Global,
     graph: &Graph,
-    tops: &[usize],
+    heads: &[usize],
     common: &[usize],
 ) -> Result<Vec<usize>, AllocError>
-    requires tops { (k : ℕ) → Contains tops.now k → k < length graph.now }
+    requires heads { (k : ℕ) → Contains heads.now k → k < length graph.now }
     requires common { (k : ℕ) → Contains common.now k → k < length graph.now }
-    ensures exact { IfOk result (λ found. (k : ℕ) → Contains found.items k ↔ IsAbove graph.now tops.now common.now k) }
+    ensures exact { IfOk result (λ found. (k : ℕ) → Contains found.items k ↔ IsAbove graph.now heads.now common.now k) }
     ensures ascending { IfOk result (λ found. IsStrictlyIncreasing found.items) }
 {
     graph.is_valid();
-    let mut fresh = PlaceQueue::of(alloc, tops)?;
+    let mut fresh = PlaceQueue::of(alloc, heads)?;
     let mut shared = PlaceQueue::of(alloc, common)?;
     let mut found = Vec::new(alloc);
     while let Some(place) = fresh.pop_last() {

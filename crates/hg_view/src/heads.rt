@@ -9,7 +9,7 @@ ghost use Rattle.std.specs.Prelude.{◌≡◌, ◌↔◌, ◌⊎◌, ◌<◌, �
 ghost use Rattle.hg_phases.specs.State.{changesets};
 ghost use Rattle.hg_view.specs.Common.{IsCommonAt};
 ghost use Rattle.hg_view.specs.Descent.{Finds, GoesOn, HasChildIn, IsChildless, IsClosedUnderParents, IsCovered};
-ghost use Rattle.hg_view.specs.Tops.{IsTop};
+ghost use Rattle.hg_view.specs.HeadPlaces.{IsHeadAmong};
 
 use crate::kept::Kept;
 use hg_changeset::Node;
@@ -33,7 +33,7 @@ pub(crate) fn heads_in_common(
     requires childless { (k : ℕ) → Contains childless.now k ↔ IsChildless (changesets replica.now.history) k }
     requires closed { IsClosedUnderParents (changesets replica.now.history) (IsCommonAt replica.now other.now) }
     ensures exact { IfOk result (λ found. (k : ℕ) → Contains found.items k
-        ↔ IsTop (changesets replica.now.history) (IsCommonAt replica.now other.now) k) }
+        ↔ IsHeadAmong (changesets replica.now.history) (IsCommonAt replica.now other.now) k) }
     ensures covers { IfOk result (λ found. (k : ℕ) → IsCommonAt replica.now other.now k
         → IsCovered (changesets replica.now.history) found.items k) }
 {

@@ -12,17 +12,17 @@ ghost use Rattle.hg_replica.specs.Content.{content_of};
 ghost use Rattle.hg_replica.specs.Undo.{LeadsBack};
 ghost use Rattle.hg_instab.specs.Changed.{IsChangedTo};
 ghost use Rattle.hg_instab.specs.Instabilities.{AreInstabilities};
-ghost use Rattle.hg_view.specs.Kept.{FindsAgain, FindsTopsAgain, KeepsTops, KeepsUp, KeptUnpinAnswer};
+ghost use Rattle.hg_view.specs.Kept.{FindsAgain, FindsHeadsAgain, KeepsHeads, KeepsUp, KeptUnpinAnswer};
 ghost use Rattle.hg_view.specs.Common.{AreFree, IsCommonAt};
 ghost use Rattle.hg_view.specs.Descent.{IsClosedUnderParents, IsCovered};
 ghost use Rattle.hg_view.specs.Pins.{IsServedUnder, IsVisibleUnder, PinAnswer};
-ghost use Rattle.hg_view.specs.Tops.{AreTops, IsPublicAt, IsServedAt, IsTop};
+ghost use Rattle.hg_view.specs.HeadPlaces.{AreHeadPlaces, IsPublicAt, IsServedAt, IsHeadAmong};
 
+use crate::head_places::HeadPlaces;
 use crate::heads::{heads_in_common, stays_in_view};
 use crate::pins::Pins;
 use crate::refusal::PinRefusal;
 use crate::released::{released, take_out};
-use crate::tops::Tops;
 use crate::upheld::{put_in, upheld_besides};
 use crate::view::visible;
 use hg_changeset::Node;
@@ -47,7 +47,7 @@ pub struct Kept {
     upheld: BTreeSet<Node>,
 
     // Where what has no child stands, and what is public and has no public child.
-    tops: Tops,
+    heads: HeadPlaces,
 }
 
 // Whoever owns one calls this once, and is proved without a look at what it holds.
@@ -59,7 +59,7 @@ impl Drop for Kept {
             instabilities: _,
             pins: _,
             upheld: _,
-            tops: _,
+            heads: _,
         } = self;
     }
 }
@@ -71,7 +71,7 @@ impl Model for Kept {
     ghost use Rattle.hg_replica.specs.Content.{content_of};
     ghost use Rattle.hg_instab.specs.Instabilities.{AreInstabilities};
     ghost use Rattle.hg_view.specs.Kept.{KeptValue};
-    ghost use Rattle.hg_view.specs.Tops.{AreTops};
+    ghost use Rattle.hg_view.specs.HeadPlaces.{AreHeadPlaces};
     ghost use Rattle.hg_view.specs.Upheld.{AreUpheld};
 
     ghost Value = { KeptValue };
@@ -81,7 +81,8 @@ impl Model for Kept {
     ghost view = { λ kept. record { replica = kept.replica; pins = kept.pins } };
 
     ghost invariant = { λ kept. AreInstabilities (content_of kept.replica) kept.instabilities × IsValid kept.replica
-        × AreUpheld (content_of kept.replica) kept.pins kept.upheld.keys × AreTops kept.replica.history kept.tops };
+        × AreUpheld (content_of kept.replica) kept.pins kept.upheld.keys
+        × AreHeadPlaces kept.replica.history kept.heads };
 }
 
 impl Kept {
@@ -91,7 +92,7 @@ impl Kept {
         ensures pins { IfOk result (λ kept. kept.pins ≡ []) }
     {
         let instabilities = Instabilities::from_scratch(alloc, &replica)?;
-        let tops = Tops::of(alloc, &replica)?;
+        let heads = HeadPlaces::of(alloc, &replica)?;
 
         // The call tells that the replica is valid.
         let _ = replica.graph();
@@ -101,7 +102,7 @@ impl Kept {
             instabilities,
             pins: Pins::new(alloc),
             upheld: BTreeSet::new(alloc),
-            tops,
+            heads,
         })
     }
 
@@ -113,14 +114,14 @@ impl Kept {
         let replica = self.replica.copy()?;
         let pins = self.pins.copy()?;
         let upheld = self.upheld.clone()?;
-        let tops = self.tops.copy()?;
+        let heads = self.heads.copy()?;
         Ok(Kept {
             alloc: self.alloc,
             replica,
             instabilities,
             pins,
             upheld,
-            tops,
+            heads,
         })
     }
 
@@ -232,7 +233,7 @@ impl Kept {
         keep_up(
             &mut self.replica,
             &mut self.instabilities,
-            &mut self.tops,
+            &mut self.heads,
             answer,
         )
     }
@@ -257,7 +258,7 @@ impl Kept {
             self.alloc,
             &mut self.replica,
             &mut self.instabilities,
-            &mut self.tops,
+            &mut self.heads,
             answer,
         )
     }
@@ -327,11 +328,11 @@ impl Kept {
     /// hidden, and the children of the heads, whatever else is held.
     pub fn served_heads(&self) -> Result<Vec<usize>, AllocError>
         ensures exact { IfOk result (λ heads. (k : ℕ) → Contains heads.items k
-            ↔ IsTop (changesets self.now.replica.history) (IsServedAt self.now.replica self.now.pins) k) }
+            ↔ IsHeadAmong (changesets self.now.replica.history) (IsServedAt self.now.replica self.now.pins) k) }
         ensures covers { IfOk result (λ heads. (k : ℕ) → IsServedAt self.now.replica self.now.pins k
             → IsCovered (changesets self.now.replica.history) heads.items k) }
     {
-        heads_in_common(self.alloc, &self.replica, self, self.tops.childless())
+        heads_in_common(self.alloc, &self.replica, self, self.heads.all())
     }
 
     /// The places of the heads of what isn't secret here and the other [serves](Kept::is_served), in no promised order:
@@ -342,22 +343,22 @@ impl Kept {
     pub fn common_heads(&self, other: &Kept) -> Result<Vec<usize>, AllocError>
         requires { AreFree (changesets self.now.replica.history) (changesets other.now.replica.history) }
         ensures exact { IfOk result (λ heads. (k : ℕ) → Contains heads.items k
-            ↔ IsTop (changesets self.now.replica.history) (IsCommonAt self.now.replica other.now) k) }
+            ↔ IsHeadAmong (changesets self.now.replica.history) (IsCommonAt self.now.replica other.now) k) }
         ensures closed { IsClosedUnderParents (changesets self.now.replica.history)
             (IsCommonAt self.now.replica other.now) }
     {
         // It says that the other's replica is valid.
         let _ = other.replica();
-        heads_in_common(self.alloc, &self.replica, other, self.tops.childless())
+        heads_in_common(self.alloc, &self.replica, other, self.heads.all())
     }
 
     /// The places of the heads of what is public, in no promised order: what is, without a public child. It takes no
     /// memory.
     pub fn public_heads(&self) -> &[usize]
         ensures { (k : ℕ) → Contains result.now k
-            ↔ IsTop (changesets self.now.replica.history) (IsPublicAt self.now.replica.history) k }
+            ↔ IsHeadAmong (changesets self.now.replica.history) (IsPublicAt self.now.replica.history) k }
     {
-        self.tops.public()
+        self.heads.public()
     }
 
     /// It can be told of each id whether it is served. Says so to proofs, and does nothing.
@@ -376,14 +377,14 @@ impl Kept {
 fn keep_up(
     replica: &mut Replica,
     instabilities: &mut Instabilities,
-    tops: &mut Tops,
+    heads: &mut HeadPlaces,
     answer: Result<Absorbed<Change, Undo>, Fault>,
 ) -> Result<Change, Fault>
     requires back { IfOk answer (λ absorbed. (s : ReplicaState) × LeadsBack replica.old absorbed.undo s) }
-    requires tops { IfOk answer (λ absorbed. (s : ReplicaState) × IsChangedTo s absorbed.change replica.old
-        × AreTops s.history tops.old) }
+    requires heads { IfOk answer (λ absorbed. (s : ReplicaState) × IsChangedTo s absorbed.change replica.old
+        × AreHeadPlaces s.history heads.old) }
     ensures kept { KeepsUp answer replica.old instabilities.old result replica.new instabilities.new }
-    ensures tops { KeepsTops answer replica.old tops.old result tops.new }
+    ensures heads { KeepsHeads answer replica.old heads.old result heads.new }
 {
     match answer {
         Ok(absorbed) => {
@@ -391,7 +392,7 @@ fn keep_up(
             if change.is_empty() {
                 return Ok(change);
             }
-            match follow(replica, instabilities, tops, &change) {
+            match follow(replica, instabilities, heads, &change) {
                 Ok(()) => Ok(change),
                 Err(AllocError) => {
                     replica.take_back(undo);
@@ -408,25 +409,25 @@ fn keep_up(
 fn follow(
     replica: &Replica,
     instabilities: &mut Instabilities,
-    tops: &mut Tops,
+    heads: &mut HeadPlaces,
     change: &Change,
 ) -> Result<(), AllocError>
-    requires { (s : ReplicaState) × IsChangedTo s change.now replica.now × AreTops s.history tops.old }
+    requires { (s : ReplicaState) × IsChangedTo s change.now replica.now × AreHeadPlaces s.history heads.old }
     ensures kept { OnOk result ((s : ReplicaState) → IsChangedTo s change.now replica.now
         → AreInstabilities (content_of s) instabilities.old
         → AreInstabilities (content_of replica.now) instabilities.new) }
-    ensures tops { OnOk result (AreTops replica.now.history tops.new) }
-    ensures unchanged { OnErr result ((instabilities.new ≡ instabilities.old) × (tops.new ≡ tops.old)) }
+    ensures heads { OnOk result (AreHeadPlaces replica.now.history heads.new) }
+    ensures unchanged { OnErr result ((instabilities.new ≡ instabilities.old) × (heads.new ≡ heads.old)) }
 {
-    let before = tops.len();
-    tops.grow(replica.graph().len())?;
+    let before = heads.len();
+    heads.grow(replica.graph().len())?;
     match instabilities.update(replica, change) {
         Ok(()) => {
-            tops.follow(replica, change);
+            heads.follow(replica, change);
             Ok(())
         }
         Err(refused) => {
-            tops.truncate(before);
+            heads.truncate(before);
             Err(refused)
         }
     }
@@ -438,18 +439,18 @@ fn find_again(
     alloc: Global,
     replica: &mut Replica,
     instabilities: &mut Instabilities,
-    tops: &mut Tops,
+    heads: &mut HeadPlaces,
     answer: Result<Undo, Fault>,
 ) -> Result<(), Fault>
     requires { IfOk answer (λ undo. (s : ReplicaState) × LeadsBack replica.old undo s) }
     ensures found { FindsAgain answer replica.old instabilities.old result replica.new instabilities.new }
-    ensures tops { FindsTopsAgain answer replica.old tops.old result tops.new }
+    ensures heads { FindsHeadsAgain answer replica.old heads.old result heads.new }
 {
     match answer {
         Ok(undo) => match from_scratch(alloc, replica) {
-            Ok((found, found_tops)) => {
+            Ok((found, found_heads)) => {
                 *instabilities = found;
-                *tops = found_tops;
+                *heads = found_heads;
                 Ok(())
             }
             Err(AllocError) => {
@@ -462,11 +463,11 @@ fn find_again(
 }
 
 // The instabilities and the heads of a replica.
-fn from_scratch(alloc: Global, replica: &Replica) -> Result<(Instabilities, Tops), AllocError>
+fn from_scratch(alloc: Global, replica: &Replica) -> Result<(Instabilities, HeadPlaces), AllocError>
     ensures sets { IfOk result (λ found. AreInstabilities (content_of replica.now) found.0) }
-    ensures tops { IfOk result (λ found. AreTops replica.now.history found.1) }
+    ensures heads { IfOk result (λ found. AreHeadPlaces replica.now.history found.1) }
 {
     let instabilities = Instabilities::from_scratch(alloc, replica)?;
-    let tops = Tops::of(alloc, replica)?;
-    Ok((instabilities, tops))
+    let heads = HeadPlaces::of(alloc, replica)?;
+    Ok((instabilities, heads))
 }

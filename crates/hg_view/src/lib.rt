@@ -25,6 +25,8 @@
 #![tactic(auto)]
 
 mod above;
+mod head_places;
+mod head_updates;
 mod heads;
 mod kept;
 mod laws;
@@ -34,8 +36,6 @@ mod released;
 mod shared;
 mod shown;
 mod status;
-mod top_places;
-mod tops;
 mod upheld;
 mod view;
 

@@ -5,7 +5,7 @@ use Rattle.hg_graph.specs.Places.{IsAt}
 use Rattle.hg_phases.specs.State.{changesets}
 use Rattle.hg_replica.specs.State.{ReplicaState}
 use Rattle.hg_view.specs.Common.{IsCommonAt}
-use Rattle.hg_view.specs.Tops.{IsTop}
+use Rattle.hg_view.specs.HeadPlaces.{IsHeadAmong}
 use Rattle.hg_discovery.specs.declared.status.PlacedNode.{PlacedNode}
 use Rattle.hg_discovery.specs.Search.{nodes_of}
 use Rattle.hg_discovery.specs.Between.{AreHeadsInCommon}
@@ -20,8 +20,8 @@ returns c =
     let here : c.graph.result.now ≡ cs =
     c.graph.ensures.graph ∙ ap (λ (s : ReplicaState). changesets s.history) c.replica-2.ensures.replica in
     let places = c.deref.result.now in
-    let are_heads : (k : ℕ) → Contains places k ↔ IsTop cs (IsCommonAt ours other) k =
-    subst (λ (ks : List ℕ). (k : ℕ) → Contains ks k ↔ IsTop cs (IsCommonAt ours other) k)
+    let are_heads : (k : ℕ) → Contains places k ↔ IsHeadAmong cs (IsCommonAt ours other) k =
+    subst (λ (ks : List ℕ). (k : ℕ) → Contains ks k ↔ IsHeadAmong cs (IsCommonAt ours other) k)
     (sym c.deref.ensures.value)
     c.in_ok-places.ensures.exact in
     let found : (x : PlacedNode) → Contains c.in_ok-found.found.items x ↔ (Contains places x.place

@@ -10,8 +10,8 @@ use Rattle.hg_message.proofs.OfferLemmas.{if_ok_both}
 use Rattle.hg_message.proofs.ServedLemmas.{served-outgoing}
 use Rattle.hg_message.proofs.finding.served_outgoing.Goals as goal
 
-pub places_above-requires-clause-tops : goal.places_above-requires-clause-tops
-places_above-requires-clause-tops c k h =
+pub places_above-requires-clause-heads : goal.places_above-requires-clause-heads
+places_above-requires-clause-heads c k h =
     let here : c.graph-graph.result.now ≡ changesets c.args.kept.now.replica.history =
     c.graph-graph.ensures.graph ∙ ap (λ (s : ReplicaState). changesets s.history) c.replica.ensures.replica in
     let so = ((c.requires.heads.exact k).0 h).0 in

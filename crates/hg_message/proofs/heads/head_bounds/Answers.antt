@@ -21,7 +21,7 @@ returns c = IfOk-weaker c.bounds_on.result _ _
     let valid = c.covered.ensures.valid in
     let covered = c.in_ok-covered.covered.items in
     let heads = c.in_ok-heads.heads.items in
-    let tops = subst (λ (ms : List Bool). ListsAll (λ k. IsMarked 0 named k × ¬ (IsMarked 0 ms k)) heads)
+    let are_heads = subst (λ (ms : List Bool). ListsAll (λ k. IsMarked 0 named k × ¬ (IsMarked 0 ms k)) heads)
     c.deref.ensures.value c.in_ok-heads.ensures in
     let public = subst (λ (places : List ℕ). (n : Node) → Contains c.in_ok-public.public.items n
     ↔ IsAtOneIn s.history places Public n) c.deref-2.ensures.value c.in_ok-public.ensures.exact in
@@ -30,9 +30,11 @@ returns c = IfOk-weaker c.bounds_on.result _ _
     record {
       public = c.in_ok-public.public.items;
       draft = c.in_ok-draft.draft.items;
-      public_heads = heads-named s valid pins scope named covered are c.in_ok-covered.ensures.covered heads tops Public
+      public_heads = heads-named s valid pins scope named covered are c.in_ok-covered.ensures.covered heads are_heads
+          Public
           c.in_ok-public.public.items public c.in_ok-public.ensures.ascending;
-      draft_heads = heads-named s valid pins scope named covered are c.in_ok-covered.ensures.covered heads tops Draft
+      draft_heads = heads-named s valid pins scope named covered are c.in_ok-covered.ensures.covered heads are_heads
+          Draft
           c.in_ok-draft.draft.items draft c.in_ok-draft.ensures.ascending;
       both = both ∙ ap (λ p. bounds_in Public p ++ bounds_in Draft c.deref-5.result.now) c.deref-4.ensures.value
           ∙ ap (λ d. bounds_in Public c.in_ok-public.public.items ++ bounds_in Draft d) c.deref-5.ensures.value;

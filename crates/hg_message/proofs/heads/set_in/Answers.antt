@@ -1,4 +1,5 @@
-use Rattle.std.proofs.Common.{◌≡◌, ◌↔◌, ◌+◌, List, Contains, take, get_or, slice_get, sym, subst, ap, true≢false, ◌∙◌, arith}
+use Rattle.std.proofs.Common.{◌≡◌, ◌↔◌, ◌+◌, List, Contains, take, get_or, slice_get, sym, subst, ap, true≢false}
+use Rattle.std.proofs.Common.{◌∙◌, arith}
 use Rattle.std.proofs.lemmas.List.{take_all}
 use Rattle.std.proofs.lemmas.Option.{none-some}
 use Rattle.hg_changeset.specs.declared.node.Node.{Node}
@@ -18,7 +19,8 @@ loop-place-preserved c =
     let l = c.loop-place-test.true in
     elim c.if-is_in.branch [
       | then-is_in+in-Some+in_ok-insert w ↦
-          let at = ap (λ (ds : List Contents). slice_get (nodes ds) (get_or places i 0)) (sym c.graph-graph.ensures.graph)
+          let at =
+          ap (λ (ds : List Contents). slice_get (nodes ds) (get_or places i 0)) (sym c.graph-graph.ensures.graph)
           ∙ sym w.node_at.ensures ∙ w.in-Some.is in
           subst (λ f. (n : Node) → Contains f.keys n ↔ IsAtOneIn s (take (i + 1) places) phase n) (sym w.found-is)
           (picked-push s phase places i l c.loop-place.found w.insert.new.self w.in-Some.node at

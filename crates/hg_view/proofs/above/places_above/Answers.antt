@@ -7,13 +7,13 @@ use Rattle.hg_view.proofs.above.places_above.Goals as goal
 pub loop-place-init : goal.loop-place-init
 loop-place-init c =
     let cs = c.args.graph.now in
-    let tops = c.args.tops.now in
+    let heads = c.args.heads.now in
     let common = c.args.common.now in
     let fresh = c.in_ok-fresh.fresh in
     let shared = c.in_ok-shared.shared in (
       length cs,
-      subst (λ found. IsSearched cs tops common fresh shared found (length cs)) (sym c.new-found.ensures.items)
-          (IsSearched-start cs c.is_valid.ensures fresh shared c.requires.tops c.requires.common
+      subst (λ found. IsSearched cs heads common fresh shared found (length cs)) (sym c.new-found.ensures.items)
+          (IsSearched-start cs c.is_valid.ensures fresh shared c.requires.heads c.requires.common
           c.in_ok-fresh.ensures.answer c.in_ok-shared.ensures.answer),
     )
 
@@ -31,7 +31,7 @@ loop-place-preserved-in_ok-insert_parents c =
     (λ h. true≢false (sym (c.in_ok-is_under.ensures.answer.1 h) ∙ c.if-not-branch.true))
     _ c.in_ok-insert_parents.ensures in (
       c.in-Some.place,
-      subst (λ found. IsSearched cs c.args.tops.now c.args.common.now next shared found c.in-Some.place)
+      subst (λ found. IsSearched cs c.args.heads.now c.args.common.now next shared found c.in-Some.place)
           (sym c.in_ok-push.ensures.items) step,
     )
 
@@ -59,5 +59,5 @@ loop-place-smaller c =
 
 pub returns-clause-exact : goal.returns-clause-exact
 returns-clause-exact c = subst (λ (found : List ℕ). (k : ℕ) → Contains found k
-    ↔ IsAbove c.args.graph.now c.args.tops.now c.args.common.now k) (sym c.reverse.ensures.items)
+    ↔ IsAbove c.args.graph.now c.args.heads.now c.args.common.now k) (sym c.reverse.ensures.items)
     (found_all _ c.is_valid.ensures c.loop-place.invariant.1 c.in_default.ensures)

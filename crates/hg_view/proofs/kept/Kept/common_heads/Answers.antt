@@ -5,12 +5,12 @@ use Rattle.hg_instab.proofs.SetLemmas.{along}
 use Rattle.hg_view.specs.Common.{AreFree, IsCommonAt}
 use Rattle.hg_view.specs.Descent.{IsClosedUnderParents}
 use Rattle.hg_view.specs.Kept.{KeptValue}
-use Rattle.hg_view.specs.Tops.{IsTop}
+use Rattle.hg_view.specs.HeadPlaces.{IsHeadAmong}
 use Rattle.hg_view.proofs.CommonLemmas.{common-closed}
 use Rattle.hg_view.proofs.kept.Kept.common_heads.Goals as goal
 
 pub heads_in_common-requires-clause-childless : goal.heads_in_common-requires-clause-childless
-heads_in_common-requires-clause-childless c k = along (c.childless.ensures k) (c.self.invariant.3.childless.exact k)
+heads_in_common-requires-clause-childless c k = along (c.all.ensures k) (c.self.invariant.3.all.exact k)
 
 pub heads_in_common-requires-clause-closed : goal.heads_in_common-requires-clause-closed
 heads_in_common-requires-clause-closed c = common-closed c.self.inside.replica c.args.other.now c.self.invariant.1
@@ -20,7 +20,7 @@ heads_in_common-requires-clause-closed c = common-closed c.self.inside.replica c
 pub returns-clause-exact : goal.returns-clause-exact
 returns-clause-exact c = IfOk-weaker c.heads_in_common.result _ _
     (λ heads exact k. subst (λ (v : KeptValue). Contains heads.items k
-    ↔ IsTop (changesets v.replica.history) (IsCommonAt v.replica c.args.other.now) k) c.self.view_is (exact k))
+    ↔ IsHeadAmong (changesets v.replica.history) (IsCommonAt v.replica c.args.other.now) k) c.self.view_is (exact k))
     c.heads_in_common.ensures.exact
 
 pub returns-clause-closed : goal.returns-clause-closed

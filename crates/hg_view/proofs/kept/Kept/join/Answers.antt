@@ -4,7 +4,7 @@ use Rattle.hg_replica.specs.State.{Below}
 use Rattle.hg_replica.specs.Least.{part_of}
 use Rattle.hg_replica.specs.Answer.{JoinAnswer, IsGrowthBeforeFault}
 use Rattle.hg_view.specs.Kept.{KeptValue}
-use Rattle.hg_view.proofs.KeptLemmas.{joined-answer, joined-memory, joined-sets, joined-tops, within-joined}
+use Rattle.hg_view.proofs.KeptLemmas.{joined-answer, joined-memory, joined-sets, joined-heads, within-joined}
 use Rattle.hg_view.proofs.UpheldLemmas.{upheld-joined}
 use Rattle.hg_view.proofs.kept.Kept.join.Goals as goal
 
@@ -24,8 +24,8 @@ invariant_of-self c =
       sets.1,
       upheld-joined _ _ told.ensures.valid _ _
           c.self.invariant.2 _ _ answer,
-      joined-tops _ _ _ _ _ _
-          _ _ c.self.invariant.3 _ _ told.ensures.answer told.ensures.back found.ensures.found found.ensures.tops,
+      joined-heads _ _ _ _ _ _
+          _ _ c.self.invariant.3 _ _ told.ensures.answer told.ensures.back found.ensures.found found.ensures.heads,
     )
 
 pub returns-then-is_below-clause-answer : goal.returns-then-is_below-clause-answer

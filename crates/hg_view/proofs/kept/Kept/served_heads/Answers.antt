@@ -5,14 +5,14 @@ use Rattle.hg_instab.proofs.SetLemmas.{along}
 use Rattle.hg_view.specs.Common.{IsCommonAt}
 use Rattle.hg_view.specs.Descent.{IsClosedUnderParents, IsCovered}
 use Rattle.hg_view.specs.Kept.{KeptValue}
-use Rattle.hg_view.specs.Tops.{IsServedAt, IsTop}
+use Rattle.hg_view.specs.HeadPlaces.{IsServedAt, IsHeadAmong}
 use Rattle.hg_view.proofs.CommonLemmas.{own-closed, own-common}
-use Rattle.hg_view.proofs.ViewHeadLemmas.{same-tops}
+use Rattle.hg_view.proofs.ViewHeadLemmas.{same-heads}
 use Rattle.hg_view.proofs.kept.Kept.served_heads.Goals as goal
 
 pub heads_in_common-requires-clause-childless : goal.heads_in_common-requires-clause-childless
 heads_in_common-requires-clause-childless c k =
-    along (c.childless.ensures k) (c.self.invariant.3.childless.exact k)
+    along (c.all.ensures k) (c.self.invariant.3.all.exact k)
 
 pub heads_in_common-requires-clause-closed : goal.heads_in_common-requires-clause-closed
 heads_in_common-requires-clause-closed c =
@@ -24,9 +24,9 @@ pub returns-clause-exact : goal.returns-clause-exact
 returns-clause-exact c =
     let s = c.self.inside.replica in
     IfOk-weaker c.heads_in_common.result _ _ (λ heads exact k. subst (λ (v : KeptValue). Contains heads.items k
-    ↔ IsTop (changesets v.replica.history) (IsServedAt v.replica v.pins) k) c.self.view_is
+    ↔ IsHeadAmong (changesets v.replica.history) (IsServedAt v.replica v.pins) k) c.self.view_is
     (along (subst (λ (v : KeptValue). (i : ℕ) → Contains heads.items i
-    ↔ IsTop (changesets s.history) (IsCommonAt s v) i) (sym c.self.view_is) exact k) (same-tops _ _ _
+    ↔ IsHeadAmong (changesets s.history) (IsCommonAt s v) i) (sym c.self.view_is) exact k) (same-heads _ _ _
     (own-common _ c.self.invariant.1) _))) c.heads_in_common.ensures.exact
 
 pub returns-clause-covers : goal.returns-clause-covers

@@ -2,7 +2,7 @@ use Rattle.std.proofs.Common.{subst}
 use Rattle.std.specs.Cow.{cow_value}
 use Rattle.hg_view.specs.Kept.{KeptValue}
 use Rattle.hg_replica.specs.Answer.{AbsorbAnswer, IsGrowthBeforeFault}
-use Rattle.hg_view.proofs.KeptLemmas.{kept-answer, kept-changed, kept-memory, kept-sets, kept-tops}
+use Rattle.hg_view.proofs.KeptLemmas.{kept-answer, kept-changed, kept-memory, kept-sets, kept-heads}
 use Rattle.hg_view.proofs.UpheldLemmas.{upheld-absorbed}
 use Rattle.hg_view.proofs.kept.Kept.take_in.Goals as goal
 
@@ -17,9 +17,9 @@ invariant_of-self c =
       sets.1,
       upheld-absorbed _ _ told.ensures.valid _ _
           c.self.invariant.2 _ _ answer,
-      kept-tops _ _ _ _ _ _
+      kept-heads _ _ _ _ _ _
           _ _ c.self.invariant.3 _ _ told.ensures.answer
-          told.ensures.back told.ensures.nothing kept.ensures.kept kept.ensures.tops,
+          told.ensures.back told.ensures.nothing kept.ensures.kept kept.ensures.heads,
     )
 
 pub returns-clause-answer : goal.returns-clause-answer
@@ -38,7 +38,7 @@ returns-clause-memory c is =
     subst (λ (k : KeptValue). IsGrowthBeforeFault k.replica part) c.self.view_is (kept-memory _ _ _ _ _
     _ _ _ told.ensures.memory told.ensures.growth kept.ensures.kept is)
 
-pub keep_up-requires-clause-tops : goal.keep_up-requires-clause-tops
-keep_up-requires-clause-tops c =
+pub keep_up-requires-clause-heads : goal.keep_up-requires-clause-heads
+keep_up-requires-clause-heads c =
     let told = c.absorb_with_undo-answer in
     kept-changed _ _ _ _ told.ensures.valid c.self.invariant.3 _ told.ensures.answer

@@ -1,9 +1,0 @@
-use Rattle.std.proofs.Common.{◌≤◌, ◌<◌}
-use Rattle.hg_view.specs.Flags.{AreRecomputed}
-use Rattle.hg_view.specs.Tops.{IsAmong}
-use Rattle.hg_view.proofs.top_places.recompute_from.Given as goal
-
-abbrev pub invariant-loop-place : goal.invariant-loop-place
-invariant-loop-place l =
-    AreRecomputed (λ k. (l.first ≤ k) × (k < l.place)) (IsAmong l.among l.replica.history) l.fn.tops
-    l.tops
