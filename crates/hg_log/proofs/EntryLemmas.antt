@@ -77,12 +77,15 @@ entry_told name line longer kept place s graph store cs n k phase word status pl
     subst (λ (p : Node). ArePlaces (λ m. m.predecessor ≡ p) store places) (other_id ∙ ap node_of (sym same)) are in
     let are_there : ArePlaces (λ m. m.predecessor ≡ node_of h.changeset) kept.replica.markers places =
     subst (λ (ms : List Fields). ArePlaces (λ m. m.predecessor ≡ node_of h.changeset) ms places) stored are_of in
-    let of_changeset = subst (λ (c : Contents). IsAppended line (told_text c status word name (picked store places)) longer)
+    let of_changeset =
+    subst (λ (c : Contents). IsAppended line (told_text c status word name (picked store places)) longer)
     (sym same) text in
-    let of_phase = subst (λ (w : Text). IsAppended line (told_text h.changeset status w name (picked store places)) longer)
+    let of_phase =
+    subst (λ (w : Text). IsAppended line (told_text h.changeset status w name (picked store places)) longer)
     (same_word ∙ ap phase_word (sym held.2)) of_changeset in
     let of_markers = subst
-    (λ (ms : List Fields). IsAppended line (told_text h.changeset status (phase_word h.phase) name (picked ms places)) longer)
+    (λ (ms : List Fields). IsAppended line
+    (told_text h.changeset status (phase_word h.phase) name (picked ms places)) longer)
     stored of_phase in (
       record { repository = name; held = h; status = status; markers = markers },
       record { repository = refl; held = here; status = is_status; markers = (places, are_there, refl) },
@@ -186,12 +189,14 @@ all_nodes shows_hidden nodes i b x y end all =
 
 -- an array of them
 pub array_written : (shows_hidden : Bool) (nodes : List NodeState) (w x y z : Option Text)
-    → Appends w x (codes "[") → ((es : List Entry) × AreTold shows_hidden nodes es × Appends x y (objects_text false es))
+    → Appends w x (codes "[")
+    → ((es : List Entry) × AreTold shows_hidden nodes es × Appends x y (objects_text false es))
     → Appends y z (codes "\n]\n")
     → (text : Text) × IsArray shows_hidden nodes text × Appends w z text
 array_written shows_hidden nodes w x y z start told end =
     let front : Text = codes "[" ++ objects_text false told.0 in (
       front ++ codes "\n]\n",
       (told.0, told.1, refl),
-      Appends-trans w y z front (codes "\n]\n") (Appends-trans w x y (codes "[") (objects_text false told.0) start told.2) end,
+      Appends-trans w y z front (codes "\n]\n")
+          (Appends-trans w x y (codes "[") (objects_text false told.0) start told.2) end,
     )

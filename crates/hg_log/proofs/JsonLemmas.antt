@@ -1,5 +1,6 @@
 -- Texts of items with dividers.
-use Rattle.std.proofs.Common.{◌≡◌, ◌+◌, ◌<◌, ◌++◌, ◌∷◌, [], ℕ, Bool, true, List, refl, ap, ◌∙◌, sym, subst, append_assoc}
+use Rattle.std.proofs.Common.{◌≡◌, ◌+◌, ◌<◌, ◌++◌, ◌∷◌, [], ℕ, Bool, true, List, refl, ap, ◌∙◌, sym, subst}
+use Rattle.std.proofs.Common.{append_assoc}
 use Rattle.std.proofs.Common.{append-nil, get_or, length, take}
 use Rattle.std.specs.Prelude.{if◌then◌else◌}
 use Rattle.std.proofs.lemmas.List.{take_more}
@@ -42,7 +43,8 @@ behind-append b [] ys = refl
 behind-append b (x ∷ xs) [] = refl
 behind-append b (x ∷ xs) (y ∷ ys) = refl
 
-pub divided_none : {A : Type 0} (b : Bool) (d : Text) (f : A → Text) (line : Text) → AreDivided {A = A} b d f [] line line b
+pub divided_none : {A : Type 0} (b : Bool) (d : Text) (f : A → Text) (line : Text)
+    → AreDivided {A = A} b d f [] line line b
 divided_none b d f line = record { text = sym (append-nil line); behind = refl }
 
 -- one more item

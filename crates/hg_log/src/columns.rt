@@ -117,7 +117,8 @@ impl Columns {
     }
 }
 
-// The places of the parents, the lower one first, as Mercurial's graphs have them. An id that is lesser may stand above.
+// The places of the parents, the lower one first, as Mercurial's graphs have them. An id that is lesser may stand
+// above.
 fn in_order(parents: ParentPlaces) -> ParentPlaces
     ensures same { IsSameParents parents result }
     ensures order { IsInOrder result }

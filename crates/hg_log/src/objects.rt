@@ -47,8 +47,8 @@ use std::io::Write;
 /// - `parents` are ids: the null id alone where there is no parent, and two of a merge, the lesser first.
 /// - `successors` has what each marker says that rewrote it, in the order in which they came.
 ///
-/// It costs what is written. [`DrawFault::Write`] comes where the writer refuses an object, [`DrawFault::NoMemory`] only
-/// where memory is refused for one; the objects before stay written.
+/// It costs what is written. [`DrawFault::Write`] comes where the writer refuses an object, [`DrawFault::NoMemory`]
+/// only where memory is refused for one; the objects before stay written.
 pub fn draw_objects<W: Write>(
     alloc: Global,
     nodes: &[NamedNode<'_>],

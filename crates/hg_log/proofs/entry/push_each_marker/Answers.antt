@@ -17,5 +17,6 @@ loop-place-preserved c =
     let line = c.push_marker.new.line.items in
     subst (λ (ms : List Fields). AreDivided false (codes ", ") marker_text ms c.args.line.now.items line
     c.push_divider.new.is_behind) (sym (picked-some store places i c.loop-place-test.true told.0 told.1))
-    (divided_more false (codes ", ") marker_text (picked store (take i places)) told.0 _ _ _ _ _ _ c.loop-place.invariant
+    (divided_more false (codes ", ") marker_text (picked store (take i places)) told.0 _ _ _ _ _ _
+    c.loop-place.invariant
     c.in_ok-push_divider.ensures.divider told.2 c.in_ok-push_divider.ensures.behind)

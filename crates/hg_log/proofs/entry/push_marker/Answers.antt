@@ -14,7 +14,8 @@ returns c =
     let nodes : middle ≡ line ++ nodes_text m.successors =
     subst (λ (ns : List Node). middle ≡ line ++ nodes_text ns) c.successors.ensures c.in_ok-push_nodes.ensures in
     let operation = operation_text (rewriting_of m) in
-    let word : end ≡ middle ++ operation = subst (λ (t : List ℕ). end ≡ middle ++ operation_text t) c.rewriting_word.ensures
+    let word : end ≡ middle ++ operation =
+    subst (λ (t : List ℕ). end ≡ middle ++ operation_text t) c.rewriting_word.ensures
     c.in_ok-push_operation.ensures in (
       m,
       sym c.get.ensures ∙ ap option_copied c.unwrap-marker.ensures,
