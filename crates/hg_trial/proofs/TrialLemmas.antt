@@ -146,7 +146,8 @@ take_unchanged s t bytes (Err refusal) h = h.1
 pub nothing_taken : (s : ReplicaState) → IsValid s → IsLeast s [] s
 nothing_taken s valid = least-covered s [] valid (λ k at. absurd (omega (arith, at.1)))
 
-answer-least : (s u t : ReplicaState) (bytes : List ℕ) (messages : List (List ℕ)) (told : Answer) (answers : List Answer)
+answer-least : (s u t : ReplicaState) (bytes : List ℕ) (messages : List (List ℕ)) (told : Answer)
+    (answers : List Answer)
     → IsAnswerTo s bytes told u → IsLeast u (parts_taken messages answers) t
     → IsLeast s (parts_taken (bytes ∷ messages) (told ∷ answers)) t
 answer-least s u t bytes messages (answer.Taken change turned) answers h next =
