@@ -215,7 +215,8 @@ agreed f one other first second answer held holds there too same grew = (
 -- ---- what lines print
 
 -- a line without notes is written as it is printed
-pub bare_line : (number : ℕ) (old : Fleet) (line : Text) (t : Trace) (new : Fleet) (text : Text) → DoesLine old line t new
+pub bare_line : (number : ℕ) (old : Fleet) (line : Text) (t : Trace) (new : Fleet) (text : Text)
+    → DoesLine old line t new
     → PrintsLine number old line t text → WritesLine no_notes number old line t new text
 bare_line number old line t new text does prints = (does, (text, prints, (text, refl, refl)))
 

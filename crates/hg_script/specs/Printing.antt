@@ -133,7 +133,8 @@ WritesLines notes number old (line ∷ lines) t new written =
 -- ---- whole scripts
 
 -- the script leaves the world so, and what the writer holds grew by what is written of its lines, which count from 1
-pub record WritesRun (notes : Notes) (text : Text) (world : Snapshot KeptValue) (held holds : Option Text) : Type 0 where
+pub record WritesRun (notes : Notes) (text : Text) (world : Snapshot KeptValue)
+    (held holds : Option Text) : Type 0 where
   pub run : IsRunOf text world
   pub output : Text
   pub writes : WritesLines notes 1 run.start (lines text) run.trace run.end output

@@ -14,8 +14,8 @@ use Rattle.hg_script.specs.Printing.{WritesLines}
 use Rattle.hg_script.specs.Scripts.{IsNewFleet, IsScriptOf}
 use Rattle.hg_script.specs.Words.{has_node}
 
--- the lines before one were done, and this one ended the script; the first has this number. Where its own fault did, what
--- the writer holds grew by what was written of those before, and by nothing else
+-- the lines before one were done, and this one ended the script; the first has this number. Where its own fault did,
+-- what the writer holds grew by what was written of those before, and by nothing else
 pub record StopsAmong (notes : Notes) (number : ℕ) (old : Fleet) (all : List Text) (fault : RunFault)
     (held holds : Option Text) : Type 0 where
   pub before : List Text

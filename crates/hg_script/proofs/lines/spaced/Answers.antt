@@ -1,4 +1,5 @@
-use Rattle.std.proofs.Common.{rules, tests, ◌≡◌, ◌<◌, ◌==◌, ◌++◌, ℕ, List, not, length, map, ap, sym, ◌∙◌, Some, arith, refl, slice_get}
+use Rattle.std.proofs.Common.{rules, tests, ◌≡◌, ◌<◌, ◌==◌, ◌++◌, ℕ, List, not, length, map, ap, sym, ◌∙◌, Some}
+use Rattle.std.proofs.Common.{arith, refl, slice_get}
 use denote.Bor.{Bor}
 use Rattle.std.proofs.lemmas.Iterator.{YieldsList}
 use Rattle.std.proofs.lemmas.Iterator.Consumers.{YieldsList-at, YieldsList-from_filter, nth_from_yields_List}

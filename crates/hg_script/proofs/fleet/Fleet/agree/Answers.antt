@@ -22,5 +22,6 @@ returns-clause-ok g c =
 
 pub returns-in_err-print_agreement-clause-unprinted : goal.returns-in_err-print_agreement-clause-unprinted
 returns-in_err-print_agreement-clause-unprinted g c =
-    let p = err_from_is_err_and c.from_residual-in_err-print_agreement.result c.from_residual-in_err-print_agreement.ensures.1 in
+    let p = err_from_is_err_and c.from_residual-in_err-print_agreement.result
+    c.from_residual-in_err-print_agreement.ensures.1 in
     rw (p.1, p.2) (stays_printed _ _ _ c.in_err-print_agreement.ensures.err)

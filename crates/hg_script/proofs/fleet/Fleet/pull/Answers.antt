@@ -47,7 +47,8 @@ returns-in_err-check_pulled-in-Some-clause-err c =
     let is = rw c.in-Some.is at c.in_ok-pulled.ensures.pulled in
     rw (p.1, p.2) (
       fault_of_command _ c.args.self.now (command.Pull c.args.scope c.args.to c.args.from) _
-          (λ absent. absurd (none_told (answers_of c.in-Some.pulled) is.1 absent)) c.in_err-check_pulled-in-Some.ensures.fault,
+          (λ absent. absurd (none_told (answers_of c.in-Some.pulled) is.1 absent))
+          c.in_err-check_pulled-in-Some.ensures.fault,
       pulls_ran _ _ _ _ _ _ is.0,
     )
 

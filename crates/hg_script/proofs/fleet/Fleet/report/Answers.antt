@@ -13,5 +13,6 @@ returns-clause-ok g c =
 
 pub returns-in_err-print_report-clause-unprinted : goal.returns-in_err-print_report-clause-unprinted
 returns-in_err-print_report-clause-unprinted g c =
-    let p = err_from_is_err_and c.from_residual-in_err-print_report.result c.from_residual-in_err-print_report.ensures.1 in
+    let p = err_from_is_err_and c.from_residual-in_err-print_report.result
+    c.from_residual-in_err-print_report.ensures.1 in
     rw (p.1, p.2) (stays_printed _ _ _ c.in_err-print_report.ensures.err)
