@@ -1,5 +1,6 @@
 -- Lines one after the other.
-use Rattle.std.proofs.Common.{◌≡◌, ◌+◌, ◌<◌, ◌≤◌, ◌↔◌, ℕ, List, [], ◌++◌, Contains, length, get_or, drop, refl, sym, subst}
+use Rattle.std.proofs.Common.{◌≡◌, ◌+◌, ◌<◌, ◌≤◌, ◌↔◌, ℕ, List, [], ◌++◌, Contains, length, get_or, drop, refl, sym}
+use Rattle.std.proofs.Common.{subst}
 use Rattle.std.proofs.lemmas.List.{drop_more, drop_all}
 use Rattle.hg_changeset.specs.declared.node.Node.{Node}
 use Rattle.hg_log.specs.Drawings.{Text}

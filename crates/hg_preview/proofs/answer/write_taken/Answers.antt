@@ -27,7 +27,8 @@ returns g c =
     on_ok_weaker c.write_kinds.result
     (λ kinds. (
       written.0 ++ (lowered.0 ++ kinds.0),
-      subst (λ (k : ChangeValue). IsTakenText k c.args.turned.now (written.0 ++ (lowered.0 ++ kinds.0))) c.change.view_is
+      subst (λ (k : ChangeValue). IsTakenText k c.args.turned.now (written.0 ++ (lowered.0 ++ kinds.0)))
+          c.change.view_is
           (record {
             counts = written.0;
             lowered = lowered.0;

@@ -8,5 +8,8 @@ returns-then-count-eq0 g c = ([], no_count c.args.count c.if-count-eq0.true, App
 
 pub returns : goal.returns
 returns g c =
-    let written = c.in_ok-write_line.ensures.written in
-    (written.0, count_text c.args.count _ _ written.0 c.if-count-eq0.false c.in_ok-push_count.ensures written.1, written.2)
+    let written = c.in_ok-write_line.ensures.written in (
+      written.0,
+      count_text c.args.count _ _ written.0 c.if-count-eq0.false c.in_ok-push_count.ensures written.1,
+      written.2,
+    )
