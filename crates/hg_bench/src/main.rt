@@ -1,9 +1,9 @@
 //! Measures what is done with a message: reading it, taking it in, telling what follows from it, and offering it again.
 //!
-//! `hg_bench CASE < MESSAGE` does the case with the message, and prints the nanoseconds that it took: of processor time,
-//! but where threads work beside each other, of time on the clock. What the case needs is made before, and isn't in it.
-//! Its tables have secret keys. By `hg_bench CASE known < MESSAGE` they have those that everybody knows, under which ids
-//! may have been chosen to meet. Without a case it prints nothing.
+//! `hg_bench CASE < MESSAGE` does the case with the message, and prints the nanoseconds that it took: of processor
+//! time, but where threads work beside each other, of time on the clock. What the case needs is made before, and isn't
+//! in it. Its tables have secret keys. By `hg_bench CASE known < MESSAGE` they have those that everybody knows, under
+//! which ids may have been chosen to meet. Without a case it prints nothing.
 #![tactic(auto)]
 
 mod looking;
