@@ -22,8 +22,9 @@ pub record OffersWhole (maker : KeptValue) (ask : Ask) (bytes : List ℕ) (part 
   pub says : SpellsPart bytes part
 
 -- in the old world the peer at a offered its whole scope. The one at b accepted that, and then, in the middle, offered
--- its own, and the one at a accepted that. From its own offer on each accepted nothing else but what it covered already,
--- as repeats are. Each held the common nodes above which the other offered, and no id stands for two changesets
+-- its own, and the one at a accepted that. From its own offer on each accepted nothing else but what it covered
+-- already, as repeats are. Each held the common nodes above which the other offered, and no id stands for two
+-- changesets
 pub record ExchangeWhole (old new : PeerWorld) (a b : ℕ) : Type 0 where
   pub first : KeptValue
   pub first_there : slice_get old.nodes a ≡ Some first
