@@ -98,8 +98,8 @@ fn each_node_has_the_sets_that_its_markers_lead_to(rt: HostRuntime) {
     }
 }
 
-// What is on a cycle, was rewritten to itself or pruned, or isn't held and was rewritten to nothing that is. What is held
-// and was rewritten to itself is obsolete, and extinct.
+// What is on a cycle, was rewritten to itself or pruned, or isn't held and was rewritten to nothing that is. What is
+// held and was rewritten to itself is obsolete, and extinct.
 #[test]
 fn what_leads_to_nothing_has_no_sets(rt: HostRuntime) {
     let alloc = rt.alloc();
