@@ -32,7 +32,7 @@ use Rattle.hg_script.specs.declared.told.Told.TheVariants.{Nothing}
 use Rattle.hg_script.specs.Commands.{Text, Word}
 use Rattle.hg_script.specs.Endings.{Says}
 use Rattle.hg_script.specs.Limits.{line_limit}
-use Rattle.hg_script.specs.Events.{Trace, PeerEvent, PeerAnswer, AreTold, no_trace, joined, Ran, refusals}
+use Rattle.hg_script.specs.Events.{Trace, PeerEvent, PeerAnswer, ArePrinted, no_trace, joined, Ran, refusals}
 use Rattle.hg_script.specs.Outputs.{Printed}
 use Rattle.hg_script.specs.Printing.{answer_line, answer_lines, agree_line, Prints, PrintsLine}
 use Rattle.hg_script.specs.Printing.{ShowsLine, WritesLine, WritesLines, WritesRun, no_notes}
@@ -91,7 +91,7 @@ ran_after old mid new event answer (part, h) same = (one event answer part, (mid
 -- a pull, by its answers
 pub pulls : (old : Fleet) (scope : Scope) (to from : Word) (giver taker : ℕ) (answers : List PeerAnswer) (new : Fleet)
     → places old from.now ≡ Some giver → places old to.now ≡ Some taker
-    → Pulls old.world taker giver scope answers new.world → AreTold answers
+    → Pulls old.world taker giver scope answers new.world → ArePrinted answers
     → new.nodes ≡ old.nodes → new.labels ≡ old.labels → new.messages ≡ old.messages
     → (t : Trace) × (answers ≡ t.answers) × Does old (Pull scope to from) t new
 pulls old scope to from giver taker answers new at_from at_to p told nodes labels messages = (

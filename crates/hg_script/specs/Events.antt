@@ -75,14 +75,14 @@ HasNumber (ByActor refusal) = IsSome (peer_refusal_number refusal)
 HasNumber (ByState fault) = IsSome (fault_number fault)
 
 -- the event was done, or refused for a reason that is printed
-abbrev pub IsTold : PeerAnswer → Type 0
-IsTold (Accepted change) = Unit {0}
-IsTold (Offered number) = Unit {0}
-IsTold Marked = Unit {0}
-IsTold (Refused refusal) = HasNumber refusal
+abbrev pub IsPrinted : PeerAnswer → Type 0
+IsPrinted (Accepted change) = Unit {0}
+IsPrinted (Offered number) = Unit {0}
+IsPrinted Marked = Unit {0}
+IsPrinted (Refused refusal) = HasNumber refusal
 
-abbrev pub AreTold : List PeerAnswer → Type 0
-AreTold answers = AllByRecursion IsTold answers
+abbrev pub ArePrinted : List PeerAnswer → Type 0
+ArePrinted answers = AllByRecursion IsPrinted answers
 
 abbrev pub is_refusal : PeerAnswer → Bool
 is_refusal (Accepted change) = false

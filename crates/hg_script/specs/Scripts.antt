@@ -19,7 +19,7 @@ use Rattle.hg_script.specs.declared.command.Command.TheVariants.{Node as node, O
 use Rattle.hg_script.specs.declared.command.Command.TheVariants.{Take, Pull, Report, Agree}
 use Rattle.hg_script.specs.declared.fleet.Fleet.{Fleet}
 use Rattle.hg_script.specs.Commands.{Text, Word, CommandAnswer}
-use Rattle.hg_script.specs.Events.{Trace, no_trace, joined, Ran, AreTold, PeerAnswer, Meaning, brought, node_at}
+use Rattle.hg_script.specs.Events.{Trace, no_trace, joined, Ran, ArePrinted, PeerAnswer, Meaning, brought, node_at}
 use Rattle.hg_script.specs.Events.{message_at, new_labels, AreEventsOf}
 use Rattle.hg_script.specs.Limits.{line_limit, script_limit}
 use Rattle.hg_names.specs.declared.labels.Labels.{Labels}
@@ -123,7 +123,7 @@ AreNamed old (Agree one other) t new = (new.nodes ≡ old.nodes) × (new.labels 
 pub record Does (old : Fleet) (command : Command) (t : Trace) (new : Fleet) : Type 0 where
   pub asked : AreEventsOf old.world (places old) (ids old) (numbers old) command t.answers t.events
   pub ran : Ran old.world t new.world
-  pub told : AreTold t.answers
+  pub told : ArePrinted t.answers
   pub named : AreNamed old command t new
 
 -- a line of no words does nothing, and any other its command

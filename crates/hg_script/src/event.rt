@@ -7,7 +7,7 @@ ghost use Rattle.hg_world.specs.declared.event.EventRefusal.{EventRefusal};
 ghost use Rattle.hg_peer.specs.declared.refusal.PeerRefusal.{PeerRefusal};
 ghost use Rattle.hg_peer.specs.Words.{peer_state, peer_words};
 ghost use Rattle.hg_fleet.specs.Pulls.{IsAbsence, IsNowhere, TellsAbsence, answers_of};
-ghost use Rattle.hg_script.specs.Events.{AreTold, HasNumber, IsTold, IsUnknownWhere, TellAbsence};
+ghost use Rattle.hg_script.specs.Events.{ArePrinted, HasNumber, IsPrinted, IsUnknownWhere, TellAbsence};
 
 use crate::command_fault::CommandFault;
 use crate::fault::LineFault;
@@ -18,7 +18,7 @@ use hg_world::{Answer, EventRefusal};
 
 /// Runs an event, and gives its answer where a script goes on from it.
 pub fn run_event(world: &mut Fleet, event: &PeerEvent) -> Result<PeerAnswer, CommandFault>
-    ensures told { IfOk result IsTold }
+    ensures told { IfOk result IsPrinted }
     ensures happens { IfOk result (λ answer. (part : Option PartValue)
         × Happens peer_state peer_words world.old event.now answer part world.new) }
     ensures fault { IfErr result (IsUnknownWhere (IsNowhere world.old event.now)) }
@@ -31,7 +31,7 @@ pub fn run_event(world: &mut Fleet, event: &PeerEvent) -> Result<PeerAnswer, Com
 
 /// Lets a script go on from what a pull was answered.
 pub fn check_pulled(pulled: &Pulled) -> Result<(), CommandFault>
-    ensures told { OnOk result (AreTold (answers_of pulled.now)) }
+    ensures told { OnOk result (ArePrinted (answers_of pulled.now)) }
     ensures fault { IfErr result (IsUnknownWhere (TellAbsence (answers_of pulled.now))) }
 {
     check_told(&pulled.offered)?;
@@ -43,7 +43,7 @@ pub fn check_pulled(pulled: &Pulled) -> Result<(), CommandFault>
 
 // Lets a script go on from an answer: the event was done, or refused for a reason that is printed.
 fn check_told(answer: &PeerAnswer) -> Result<(), CommandFault>
-    ensures told { OnOk result (IsTold answer.now) }
+    ensures told { OnOk result (IsPrinted answer.now) }
     ensures fault { IfErr result (IsUnknownWhere (TellsAbsence answer.now)) }
     ensures refused { OnErr result
         ((refusal : EventRefusal PeerRefusal Fault) × (answer.now ≡ Answer.Refused refusal)) }
