@@ -85,7 +85,7 @@ pub record IsNoted (entry : Entry) (answer : Accepted) (old new : DeskView) : Ty
 
 -- to the pass: it was told all that the journal has afterwards. Before, the journal began with all that the pass had
 -- seen or been told. It has seen all of it, or what it had; and one more of its calls was accepted
-pub record IsTold (answer : Accepted) (before after : List Entry) (old new : PassView) : Type 0 where
+pub record IsToldTo (answer : Accepted) (before after : List Entry) (old new : PassView) : Type 0 where
   pub after_seen : IsPrefix old.seen before
   pub after_told : IsPrefix old.told before
   pub told : new.told ≡ after
@@ -103,7 +103,7 @@ AreAllOf journal passes =
 abbrev pub IsEnteredAt : (KeptValue → Entry → Type 0) → Accepted → DeskView → DeskView → PassView → PassView → Type 0
 IsEnteredAt P answer old new pass_old pass_new =
     (entry : Entry) × P old.working entry × IsNoted entry answer old new
-    × IsTold answer old.journal new.journal pass_old pass_new
+    × IsToldTo answer old.journal new.journal pass_old pass_new
 
 -- to the pass of a node: it was told a list whose last entry is such that P holds of it at the state that the list
 -- without it leads to
@@ -114,7 +114,7 @@ pub record IsEntered (o : KeptValue) (P : KeptValue → Entry → Type 0) (answe
   pub state : KeptValue
   pub leads : IsAfter o before state
   pub so : P state entry
-  pub told : IsTold answer before (before ++ entry ∷ []) old new
+  pub told : IsToldTo answer before (before ++ entry ∷ []) old new
 
 -- the entry is the part that the operation's table has for it
 abbrev pub EntersLocal : Op → KeptValue → Entry → Type 0

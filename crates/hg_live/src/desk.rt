@@ -12,7 +12,7 @@ ghost use Rattle.hg_live.specs.declared.entry.Entry.{Entry as EntryValue};
 ghost use Rattle.hg_live.specs.After.{IsAfter};
 ghost use Rattle.hg_live.specs.NodeViews.{new_pass};
 ghost use Rattle.hg_live.specs.Calls.{IsNotEntered, IsAgainstLocal, IsAgainstTake, IsAgainstMarking, IsEnteredAt};
-ghost use Rattle.hg_live.specs.Calls.{AreAllOf, IsNoted, IsTold, EntersLocal, EntersBytes, EntersMark};
+ghost use Rattle.hg_live.specs.Calls.{AreAllOf, IsNoted, IsToldTo, EntersLocal, EntersBytes, EntersMark};
 
 use crate::answer::{Accepted, CallRefusal, CloseRefusal, NoPass};
 use crate::entry::{Entry, accept};
@@ -259,7 +259,7 @@ impl<K: NodeName, R: Wait + Drop> Desk<K, Writer<K, R>> {
         requires room { length self.old.journal < 2 ^ 62 }
         ensures noted { IfOk result (λ answer. IsNoted entry answer self.old self.new) }
         ensures told { IfOk result
-            (λ answer. IsTold answer self.old.journal self.new.journal pass.old pass.new) }
+            (λ answer. IsToldTo answer self.old.journal self.new.journal pass.old pass.new) }
         ensures refused { IfErr result (IsNotEntered self.old entry) }
         ensures err { OnErr result ((self.new ≡ self.old) × (pass.new ≡ pass.old)) }
         ensures after { IsAfter K.opening self.old.journal self.old.working }
