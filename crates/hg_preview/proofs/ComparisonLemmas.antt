@@ -83,11 +83,12 @@ no_phases f g n p q here there same other =
     other.1.2 (one_phase f n other.0.0 p other.1.0 here ∙ same ∙ one_phase g n q other.0.1 there other.1.1)
 
 -- what is told of the phase of a changeset
-abbrev pub IsTold : ReplicaState → Node → Option Phase → Type 0
-IsTold s n phase = MatchOption phase (¬ (Holds s.history n)) (IsPhaseOf s.history n)
+abbrev pub IsPhaseIfHeld : ReplicaState → Node → Option Phase → Type 0
+IsPhaseIfHeld s n phase = MatchOption phase (¬ (Holds s.history n)) (IsPhaseOf s.history n)
 
 phases_told : (s t : ReplicaState) → IsValid s → IsValid t → (n : Node) (p q : Phase) (r : Option (Phase × Phase))
-    → IsTold s n (Some p) → IsTold t n (Some q) → MatchOption r (p ≡ q) (λ phases. (phases ≡ (p, q)) × (p ≢ q))
+    → IsPhaseIfHeld s n (Some p) → IsPhaseIfHeld t n (Some q)
+    → MatchOption r (p ≡ q) (λ phases. (phases ≡ (p, q)) × (p ≢ q))
     → MatchOption r (¬ (HasOtherPhase (content_of s) (content_of t) n)) (ArePhases (content_of s) (content_of t) n)
 phases_told s t s_valid t_valid n p q None here there same =
     no_phases (content_of s) (content_of t) n p q (told_phase s s_valid n (Some p) here)
@@ -98,22 +99,23 @@ phases_told s t s_valid t_valid n p q (Some phases) here there told =
 
 -- both hold the changeset, in these phases
 pub told_phases : (s t : ReplicaState) → IsValid s → IsValid t → (n : Node) (here there : Option Phase) (p q : Phase)
-    (r : Option (Phase × Phase)) → IsTold s n here → IsTold t n there → here ≡ Some p → there ≡ Some q
+    (r : Option (Phase × Phase)) → IsPhaseIfHeld s n here → IsPhaseIfHeld t n there → here ≡ Some p → there ≡ Some q
     → MatchOption r (p ≡ q) (λ phases. (phases ≡ (p, q)) × (p ≢ q))
     → MatchOption r (¬ (HasOtherPhase (content_of s) (content_of t) n)) (ArePhases (content_of s) (content_of t) n)
 told_phases s t s_valid t_valid n here there p q r of_s of_t is_p is_q told =
-    phases_told s t s_valid t_valid n p q r (subst (IsTold s n) is_p of_s) (subst (IsTold t n) is_q of_t) told
+    phases_told s t s_valid t_valid n p q r (subst (IsPhaseIfHeld s n) is_p of_s)
+    (subst (IsPhaseIfHeld t n) is_q of_t) told
 
 -- where one doesn't hold the changeset, no phases differ
-pub not_held_first : (s t : ReplicaState) → IsValid s → (n : Node) (here : Option Phase) → IsTold s n here
+pub not_held_first : (s t : ReplicaState) → IsValid s → (n : Node) (here : Option Phase) → IsPhaseIfHeld s n here
     → here ≡ None → ¬ (HasOtherPhase (content_of s) (content_of t) n)
 not_held_first s t valid n here told none other =
-    told_phase s valid n None (subst (IsTold s n) none told) (other.1.0.0, other.1.0.1)
+    told_phase s valid n None (subst (IsPhaseIfHeld s n) none told) (other.1.0.0, other.1.0.1)
 
-pub not_held_second : (s t : ReplicaState) → IsValid t → (n : Node) (there : Option Phase) → IsTold t n there
+pub not_held_second : (s t : ReplicaState) → IsValid t → (n : Node) (there : Option Phase) → IsPhaseIfHeld t n there
     → there ≡ None → ¬ (HasOtherPhase (content_of s) (content_of t) n)
 not_held_second s t valid n there told none other =
-    told_phase t valid n None (subst (IsTold t n) none told) (other.1.1.0, other.1.1.1)
+    told_phase t valid n None (subst (IsPhaseIfHeld t n) none told) (other.1.1.0, other.1.1.1)
 
 -- ---- markers
 
