@@ -219,8 +219,8 @@ pub(crate) fn check_linear(replica: &Replica, op: &Op, is_apart: bool) -> Result
     }
 }
 
-// Whether it is a relocation whose new parents can't be descendants: the node is an orphan, and they are neither orphans
-// nor obsolete, as all descendants of an orphan are. It is told by what is kept, and takes no memory.
+// Whether it is a relocation whose new parents can't be descendants: the node is an orphan, and they are neither
+// orphans nor obsolete, as all descendants of an orphan are. It is told by what is kept, and takes no memory.
 pub(crate) fn is_apart(kept: &Kept, op: &Op) -> bool
     ensures { IsTrue result → NoneApplies (not_linear kept.now.replica op.now) }
 {
@@ -232,11 +232,11 @@ pub(crate) fn is_apart(kept: &Kept, op: &Op) -> bool
     if !kept.instabilities().orphan().contains(node) {
         return false;
     }
-    is_settled(kept, *p) && is_settled(kept, *q)
+    is_clear_of_orphans(kept, *p) && is_clear_of_orphans(kept, *q)
 }
 
 // Whether it is neither an orphan nor obsolete, by what is kept.
-fn is_settled(kept: &Kept, node: Node) -> bool
+fn is_clear_of_orphans(kept: &Kept, node: Node) -> bool
     ensures orphan { IsTrue result → ¬ (IsOrphan (content_of kept.now.replica) node) }
     ensures obsolete { IsTrue result → ¬ (IsObsolete (content_of kept.now.replica) node) }
 {

@@ -2,7 +2,7 @@ use Rattle.std.proofs.Common.{true≢false, IsTrue, Contains, ◌↔◌, sym, su
 use Rattle.std.proofs.lemmas.Map.Views.{btree_set_contains_iff}
 use Rattle.hg_changeset.proofs.NodeLemmas.{node_cmp_total, node_cmp_exact}
 use Rattle.hg_instab.proofs.QueryLemmas.{isnt_so}
-use Rattle.hg_rewrite.proofs.check.is_settled.Goals as goal
+use Rattle.hg_rewrite.proofs.check.is_clear_of_orphans.Goals as goal
 
 pub returns-then-not-contains-clause-orphan : goal.returns-then-not-contains-clause-orphan
 returns-then-not-contains-clause-orphan c = λ _ orphan.
