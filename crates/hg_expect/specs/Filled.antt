@@ -75,9 +75,11 @@ tally lines differ = decimal lines ++ (codes " lines checked, " ++ (decimal diff
 abbrev pub names : ℕ → List Text
 names differ = if differ == 0 then [] else codes "--- script" ∷ codes "+++ script" ∷ []
 
--- the differences, and behind them the tally
+-- of so many lines so many differ: these hunks, and behind them the tally
+abbrev pub account : ℕ → ℕ → Text → Text
+account lines differ hunks = under [] (names differ) ++ (hunks ++ under [] (tally lines differ ∷ []))
+
+-- what is told of the script whose lines printed this
 abbrev pub told : Text → List Text → Text
 told text outputs =
-    under [] (names (differing 1 (lines text) outputs))
-    ++ (hunks 1 1 (lines text) outputs
-    ++ under [] (tally (count_by is_done (lines text)) (differing 1 (lines text) outputs) ∷ []))
+    account (count_by is_done (lines text)) (differing 1 (lines text) outputs) (hunks 1 1 (lines text) outputs)

@@ -2,7 +2,7 @@
 ghost use Rattle.std.specs.Prelude.{◌≡◌, ◌++◌, ◌∷◌, [], IfOk, OnOk, count_by};
 ghost use Rattle.std.specs.Str.Lines.{lines};
 ghost use Rattle.hg_expect.specs.Expectations.{first_text, is_done, later_texts, texts};
-ghost use Rattle.hg_expect.specs.Filled.{differing, filled_text, hunks, names, tally, told, under};
+ghost use Rattle.hg_expect.specs.Filled.{account, differing, filled_text, hunks};
 
 use crate::expectation::is_done;
 use crate::filling::{push_filled, push_hunk_of, push_line};
@@ -83,8 +83,8 @@ impl Checked {
     /// In what the script differs, as a unified diff that `patch` takes, and behind it how many lines were checked and
     /// how many differ.
     pub fn tell(&self, alloc: Global) -> Result<Vec<u8>, AllocError>
-        ensures { IfOk result (λ told. told.items ≡ under [] (names self.now.differ)
-            ++ (self.now.hunks.items ++ under [] (tally self.now.lines self.now.differ ∷ []))) }
+        ensures { IfOk result (λ told.
+            told.items ≡ account self.now.lines self.now.differ self.now.hunks.items) }
     {
         let mut told = Vec::new(alloc);
         if self.differ > 0 {
