@@ -426,7 +426,7 @@ stopped_told notes text start fault held holds new (inr stops) =
     inr (record { start = start; is_new = new; stops = stops })
 
 -- what stopped the text that was read is what stopped the script
-stop_of : (notes : Notes) (known : Option Text) (text : Text) (fault : RunFault) (held holds : Option Text)
+pub stop_of : (notes : Notes) (known : Option Text) (text : Text) (fault : RunFault) (held holds : Option Text)
     → IsScriptOf known text → (fault ≡ NoMemory) ⊎ IsStoppedBy notes text fault held holds
     → IsStop notes known fault held holds
 stop_of notes known text (Line number fault) held holds script (inl e) = absurd (cc)
