@@ -1,7 +1,6 @@
 -- What is answered of files of messages.
 use Rattle.std.specs.Prelude.{◌≡◌, ◌⊎◌, ◌≤◌, ◌++◌, ◌∷◌, [], ℕ, List, All, Bool, Contains, Option, None, Some, IfSome}
-use Rattle.std.specs.Prelude.{Err, Ok, Result, String, codes, false, if◌then◌else◌, length, option_map, string_bytes}
-use Rattle.std.specs.Prelude.{true}
+use Rattle.std.specs.Prelude.{Err, Ok, Result, String, codes, false, length, option_map, string_bytes, true}
 use Rattle.std.specs.declared.alloc.Global.{Global}
 use Rattle.std.specs.Io.KnownBytes.{Appends}
 use Rattle.hg_log.specs.Drawings.{Text}
@@ -52,9 +51,13 @@ tells_answers (Drawn drawing) = true
 tells_answers (Graph shows_hidden) = false
 tells_answers Array = false
 
--- what messages were answered, where that is told
+-- what messages were answered, where that is told, and else nothing
+abbrev pub AreToldIf : Bool → List Answer → Text → Type 0
+AreToldIf true answers text = AreAnswersText answers text
+AreToldIf false answers text = text ≡ []
+
 abbrev pub AreTold : Account → List Answer → Text → Type 0
-AreTold account answers text = if tells_answers account then AreAnswersText answers text else (text ≡ [])
+AreTold account answers text = AreToldIf (tells_answers account) answers text
 
 -- what stands after a trial, where nothing is pinned, and what it is called
 abbrev pub standing : ReplicaState → NodeState
