@@ -1,26 +1,24 @@
 -- What a trial of files is, and why trials and comparisons end early.
 use Rattle.std.proofs.Common.{◌≡◌, ◌<◌, ◌∙◌, ℕ, List, Option, String, ap, get_or, inl, inr, length, map, refl, subst}
-use Rattle.std.proofs.Common.{ap₂, sym}
+use Rattle.std.proofs.Common.{sym}
 use Rattle.std.specs.Borrow.{Bor}
 use Rattle.std.specs.Io.KnownBytes.{Appends}
-use Rattle.std.specs.Prelude.{None, Some, [], option_map, string_bytes}
+use Rattle.std.specs.Prelude.{None, Some, option_map, string_bytes}
 use Rattle.std.proofs.lemmas.List.{length-map}
 use Rattle.std.specs.declared.alloc.Global.{Global}
 use Rattle.std.proofs.lemmas.List.Elements.{Contains-get_or}
-use Rattle.hg_changeset.specs.declared.node.Node.{Node}
 use Rattle.hg_log.specs.Drawings.{Text}
 use Rattle.hg_preview.specs.declared.messages.NamedMessage.{NamedMessage}
 use Rattle.hg_preview.specs.Answers.{texts_of}
 use Rattle.hg_replica.specs.State.{ReplicaState, nothing_held}
 use Rattle.hg_trial.specs.declared.tried.Answer.{Answer}
 use Rattle.hg_trial.specs.Trials.{AnswersTo, IsLeastOfTaken}
-use Rattle.hg_view.specs.Kept.{KeptValue}
 use Rattle.hgfleet.specs.declared.failure.Failure.{Failure}
 use Rattle.hgfleet.specs.declared.failure.Failure.TheVariants as failed
 use Rattle.hgfleet.specs.Commands.{IsOutputFailure}
 use Rattle.hgfleet.specs.declared.try_arguments.WantedTrial.{WantedTrial}
 use Rattle.hgfleet.specs.Trying.{EndsCompared, EndsComparison, EndsTrial, IsAccount, IsAnsweredTrial, IsTrial, IsUnread}
-use Rattle.hgfleet.specs.Trying.{IsTargetUnwritten, IsUnreadAmong, IsWantOfMemory, standing}
+use Rattle.hgfleet.specs.Trying.{IsTargetUnwritten, IsUnreadAmong, IsWantOfMemory}
 
 -- ---- why it ends
 
@@ -141,11 +139,3 @@ pub unwritten_ends_trial : (wanted : WantedTrial) (held holds : Option Text) (fa
     → IsTargetUnwritten wanted.target failure → IsAnsweredTrial wanted held holds → EndsTrial wanted held holds failure
 unwritten_ends_trial wanted held holds failure is answered =
     unwritten_to wanted wanted.target held holds failure refl is answered
-
--- ---- what is shown
-
--- a replica that pins nothing is what stands after a trial
-pub stands : (kept : KeptValue) (trial : ReplicaState) → kept.replica ≡ trial → kept.pins ≡ []
-    → (standing trial).1 ≡ kept
-stands kept trial same none =
-    ap₂ (λ (replica : ReplicaState) (pins : List Node). record { replica = replica; pins = pins }) (sym same) (sym none)
