@@ -142,8 +142,8 @@ abbrev pub IsTargetUnwritten : Option (String Global) → Failure → Type 0
 IsTargetUnwritten (Some name) failure = IsUnwritten (string_bytes name) failure
 IsTargetUnwritten None failure = ⊥
 
--- a trial: a message was refused; or a file wasn't read, and nothing was printed; or all messages were answered, and the
--- file that is written wasn't; or there are no keys, or a write failed, or memory was wanting
+-- a trial: a message was refused; or a file wasn't read, and nothing was printed; or all messages were answered, and
+-- the file that is written wasn't; or there are no keys, or a write failed, or memory was wanting
 abbrev pub EndsTrial : WantedTrial → Option Text → Option Text → Failure → Type 0
 EndsTrial wanted held holds NotTaken = IsRefusedTrial wanted held holds
 EndsTrial wanted held holds (File told fault) =

@@ -87,7 +87,8 @@ impl fmt::Display for Failure<'_> {
 fn tip_of(fault: StoreFault) -> &'static str {
     match fault {
         StoreFault::BadVersion(1) => {
-            "\nhgfleet: Mercurial writes format 0 with --config format.obsstore-version=0; tools/hg2fleet reads format 1"
+            "\nhgfleet: Mercurial writes format 0 with --config format.obsstore-version=0; \
+             tools/hg2fleet reads format 1"
         }
         _ => "",
     }
