@@ -1,6 +1,5 @@
 -- Lines whose outputs are kept apart.
-use Rattle.std.proofs.Common.{◌≡◌, ◌⊎◌, inl, inr, ℕ, ◌+◌, List, [], ◌∷◌, ◌++◌, map, refl, sym, ap, subst, ◌∙◌}
-use Rattle.std.proofs.Common.{None, Option, count_by}
+use Rattle.std.proofs.Common.{◌≡◌, ℕ, ◌+◌, List, [], ◌∷◌, ◌++◌, None, count_by, refl, sym, ap, subst, ◌∙◌}
 use Rattle.std.specs.Str.Lines.{lines}
 use Rattle.std.specs.declared.vec.Vec.{Vec}
 use Rattle.std.specs.declared.alloc.Global.{Global}
@@ -11,7 +10,7 @@ use Rattle.hg_script.specs.declared.fleet.Fleet.{Fleet}
 use Rattle.hg_script.specs.ByLine.{PrintsEach, PrintsLines}
 use Rattle.hg_script.specs.Commands.{Text}
 use Rattle.hg_script.specs.Events.{Trace, no_trace, joined}
-use Rattle.hg_script.specs.Printing.{PrintsLine, WritesLines, no_notes}
+use Rattle.hg_script.specs.Printing.{PrintsLine, no_notes}
 use Rattle.hg_script.specs.Scripts.{DoesLine, DoesLines, IsNewFleet}
 use Rattle.hg_script.specs.Stops.{StopsAmong}
 use Rattle.hg_script.specs.Words.{has_node}
@@ -26,8 +25,11 @@ pub record PrintsOn (start : Fleet) (all : List Text) (number : ℕ) (f : Fleet)
   pub stopped : (fault : RunFault) → StopsAmong no_notes number f rest fault None None
       → StopsAmong no_notes 1 start all fault None None
 
-pub prints_on-start : (start : Fleet) (all : List Text) → PrintsOn start all 1 start all []
-prints_on-start start all = record { done = λ t end later prints. (t, prints); stopped = λ fault s. s }
+pub prints_on-start : (start : Fleet) (all : List Text) (outputs : List (Vec ℕ Global)) → outputs ≡ []
+    → PrintsOn start all 1 start all (texts outputs)
+prints_on-start start all outputs none =
+    subst (λ (os : List (Vec ℕ Global)). PrintsOn start all 1 start all (texts os)) (sym none)
+    (record { done = λ t end later prints. (t, prints); stopped = λ fault s. s })
 
 pub prints_on-more : (start : Fleet) (all : List Text) (number : ℕ) (f : Fleet) (rest printed : List Text)
     (line : Text) (more : List Text) (here : Trace) (mid : Fleet) (output : Text) (grown : List Text)

@@ -7,7 +7,7 @@ use Rattle.hg_script.proofs.by_line.output_of.Goals as goal
 pub returns-in-Ok-clause-done : goal.returns-in-Ok-clause-done
 returns-in-Ok-clause-done c =
     let (t, output, does, prints, grew, is) = c.in-Ok.ensures.done in
-    let same = grew ∙ ap (λ (xs : List ℕ). xs ++ output) c.new.ensures.items in
+    let same = grew ∙ ap (λ (xs : List ℕ). xs ++ output) c.new-output.ensures.items in
     (t, does, subst (λ (u : Text). PrintsLine c.args.number c.args.fleet.now c.args.line.now t u) (sym same) prints)
 
 pub returns-in-Err-clause-stopped : goal.returns-in-Err-clause-stopped

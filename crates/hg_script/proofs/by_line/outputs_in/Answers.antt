@@ -1,4 +1,4 @@
-use Rattle.std.proofs.Common.{◌+◌, length, sym, ap, ◌∙◌, arith, inl, inr, refl, None}
+use Rattle.std.proofs.Common.{length, sym, ap, ◌∙◌, arith, inl, inr, refl, None}
 use Rattle.std.proofs.lemmas.Bool.{eqb-true}
 use Rattle.std.proofs.lemmas.List.{nil_from_length}
 use Rattle.std.proofs.lemmas.Result.{err_from_is_err_and}
@@ -8,14 +8,14 @@ use Rattle.hg_script.proofs.EndingLemmas.{stops_here}
 use Rattle.hg_script.proofs.by_line.outputs_in.Goals as goal
 
 pub loop-rest-init : goal.loop-rest-init
-loop-rest-init c = record { prints = prints_on-start _ _; counted = omega arith }
+loop-rest-init c = record { prints = prints_on-start _ _ _ c.new-outputs.ensures.items; counted = omega arith }
 
 pub loop-rest-preserved : goal.loop-rest-preserved
 loop-rest-preserved c =
     let (t, does, prints) = c.in_ok-output.ensures.done in
     record {
       prints = prints_on-more _ _ _ _ _ _ _ _ t _ _ _ c.cut_line.ensures.lines does prints
-          (texts-push _ _ _ c.in_ok-push.ensures) c.loop-rest.invariant.prints;
+          (texts-push _ _ _ c.in_ok-push.ensures.items) c.loop-rest.invariant.prints;
       counted = omega (arith, c.cut_line.ensures.shorter, c.loop-rest.invariant.counted);
     }
 
