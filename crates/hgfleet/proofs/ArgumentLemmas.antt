@@ -14,7 +14,7 @@ use Rattle.hgfleet.specs.Arguments.{program_at, race_numbers, reference}
 use Rattle.hgfleet.specs.declared.arguments.ArgumentFault.{ArgumentFault}
 use Rattle.hgfleet.specs.declared.arguments.Wanted.{Wanted}
 use Rattle.hgfleet.specs.declared.arguments.Wanted.TheVariants.{Run, RunTold, Race, Log, Show, Write, Why, Help}
-use Rattle.hgfleet.specs.declared.arguments.Wanted.TheVariants.{Version, Try, Compare}
+use Rattle.hgfleet.specs.declared.arguments.Wanted.TheVariants.{Version, Try, Compare, Check}
 
 pub at_help : (name : Text) → faults_at (name ∷ codes "--help" ∷ []) ≡ DisplayHelp ∷ []
 unfolding clap_on_literals faults_at
@@ -145,6 +145,7 @@ answer_within words (Ok (Write form name)) h = tt
 answer_within words (Ok (Why nodes)) h = tt
 answer_within words (Ok (Try trial)) h = tt
 answer_within words (Ok (Compare first second)) h = tt
+answer_within words (Ok (Check fills)) h = tt
 answer_within words (Ok (Help e)) h = tt
 answer_within words (Ok (Version e)) h = tt
 answer_within words (Err e) h = tt

@@ -1,6 +1,7 @@
 mod AnswerLemmas
 mod ArgumentLemmas
 mod BuilderLemmas
+mod CheckingLemmas
 mod CommandLemmas
 mod FileLemmas
 mod NumberLemmas

@@ -19,7 +19,8 @@ use Rattle.hgfleet.specs.declared.arguments.Picture.{Picture}
 use Rattle.hgfleet.specs.declared.arguments.Picture.TheVariants as pictures
 use Rattle.hgfleet.specs.declared.arguments.Wanted.{Wanted}
 use Rattle.hgfleet.specs.declared.arguments.Wanted.TheVariants.{Run, RunTold, Race, Log, Show, Write, Why, Help}
-use Rattle.hgfleet.specs.declared.arguments.Wanted.TheVariants.{Version, Try, Compare}
+use Rattle.hgfleet.specs.declared.arguments.Wanted.TheVariants.{Version, Try, Compare, Check}
+use Rattle.hgfleet.specs.CheckArguments.{check_app}
 use Rattle.hgfleet.specs.TryArguments.{TrialOptions, compare_app, files_compared, flag_given, flag_rule, try_app}
 use Rattle.hgfleet.specs.TryArguments.{try_given, words_given}
 use Rattle.hgfleet.specs.declared.try_arguments.WantedTrial.{WantedTrial}
@@ -100,7 +101,8 @@ program_at words =
     let with_log = with_subcommand (with_subcommand with_run race.top) log.top in
     let with_write = with_subcommand (with_subcommand with_log (show_at words).top) (write_at words).top in
     let with_why = with_subcommand with_write why.top in
-    with_subcommand (with_subcommand with_why try_app.top) compare_app.top
+    let with_compare = with_subcommand (with_subcommand with_why try_app.top) compare_app.top in
+    with_subcommand with_compare check_app.top
 
 -- a reference to a text; nothing that is said of the program depends on where the text lies
 abbrev pub reference : {T : Type 0} → T → Bor T
@@ -237,6 +239,15 @@ compare_met (Some met) = if bytes_eq met.0 (codes "compare") then files_compared
 unfoldable pub compared_files : List Text → Option (Text × Text)
 compared_files words = compare_met (subcommand_of program words)
 
+-- whether a check is to fill the script in, where `check` is the command that was met
+abbrev pub check_met : Option (Text × List Row) → Option Bool
+check_met None = None
+check_met (Some met) = if bytes_eq met.0 (codes "check") then Some (flag_given (codes "write") met.1) else None
+
+-- what words without a fault say of that, none where they ask for no check
+unfoldable pub check_fills : List Text → Option Bool
+check_fills words = check_met (subcommand_of program words)
+
 -- the form that the word names
 abbrev pub form_named : Text → Option Form
 form_named word = if bytes_eq word (codes "store") then Some Store
@@ -319,6 +330,10 @@ IsCompareOf files (Some (Compare first second)) = files ≡ Some (string_bytes f
 IsCompareOf files None = files ≡ None
 IsCompareOf files _ = ⊥
 
+abbrev pub IsCheckOf : Bool → Option Wanted → Type 0
+IsCheckOf flag (Some (Check fills)) = flag ≡ fills
+IsCheckOf flag _ = ⊥
+
 abbrev pub IsShowOf : Option Form → Option Wanted → Type 0
 IsShowOf form (Some (Show shown)) = form ≡ Some shown
 IsShowOf form None = form ≡ None
@@ -340,10 +355,12 @@ MeetsWanted met (Some (Write form name)) = write_met met ≡ Some (form, string_
 MeetsWanted met (Some (Why nodes)) = why_met met ≡ Some (texts_of nodes.items)
 MeetsWanted met (Some (Try trial)) = try_met met ≡ Some (options_of_trial trial)
 MeetsWanted met (Some (Compare first second)) = compare_met met ≡ Some (string_bytes first, string_bytes second)
+MeetsWanted met (Some (Check fills)) = check_met met ≡ Some fills
 MeetsWanted met (Some _) = ⊥
 MeetsWanted met None =
     (run_met met ≡ None) × (race_met met ≡ None) × (log_met met ≡ None) × (show_met met ≡ None)
     × (write_met met ≡ None) × (why_met met ≡ None) × (try_met met ≡ None) × (compare_met met ≡ None)
+    × (check_met met ≡ None)
 
 -- the words give nothing for a run with notes, a race, a log, what is shown, what is written, what is told, a trial and
 -- what is compared
@@ -351,7 +368,7 @@ abbrev pub GivesNothing : List Text → Type 0
 GivesNothing words =
     (run_notes words ≡ None) × (race_numbers words ≡ None) × (log_options words ≡ None) × (shown_form words ≡ None)
     × (written_form words ≡ None) × (why_names words ≡ None) × (trial_options words ≡ None)
-    × (compared_files words ≡ None)
+    × (compared_files words ≡ None) × (check_fills words ≡ None)
 
 -- the parser finds no fault, and what is wanted is what the command that the words name asks for; or it tells a fault
 -- of the words, or that memory ran out
@@ -386,6 +403,7 @@ ArgumentsAnswer words (Ok (Try trial)) =
     (faults_at words ≡ []) × (trial_options words ≡ Some (options_of_trial trial))
 ArgumentsAnswer words (Ok (Compare first second)) =
     (faults_at words ≡ []) × (compared_files words ≡ Some (string_bytes first, string_bytes second))
+ArgumentsAnswer words (Ok (Check fills)) = (faults_at words ≡ []) × (check_fills words ≡ Some fills)
 ArgumentsAnswer words (Ok (Help e)) = IsAmong DisplayHelp (faults_at words)
 ArgumentsAnswer words (Ok (Version e)) = IsAmong DisplayVersion (faults_at words)
 ArgumentsAnswer words (Err (BadArguments e)) = ¬ (IsRun words) × IsMistake e

@@ -36,7 +36,7 @@ use Rattle.hgfleet.specs.declared.arguments.Picture.TheVariants as pictures
 use Rattle.hgfleet.specs.declared.arguments.Wanted.{Wanted}
 use Rattle.hgfleet.specs.declared.arguments.Wanted.TheVariants as wanted
 use Rattle.hgfleet.specs.declared.arguments.Wanted.TheVariants.{Run, RunTold, Race, Show, Write, Why, Help, Version}
-use Rattle.hgfleet.specs.declared.arguments.Wanted.TheVariants.{Compare, Try}
+use Rattle.hgfleet.specs.declared.arguments.Wanted.TheVariants.{Check, Compare, Try}
 use Rattle.hgfleet.specs.Trying.{EndsComparison, EndsTrial, IsComparison, IsTakenTrial}
 use Rattle.hgfleet.specs.declared.commands.Overview.{Overview}
 use Rattle.hgfleet.specs.declared.commands.Overview.TheVariants.{Each, Graph, Array}
@@ -46,8 +46,9 @@ use Rattle.hgfleet.specs.declared.drawing.Drawing.TheVariants.{Log}
 use Rattle.hgfleet.specs.declared.failure.Failure.{Failure}
 use Rattle.hgfleet.specs.declared.failure.Failure.TheVariants as failed
 use Rattle.hgfleet.specs.declared.failure.Failure.TheVariants.{Told, Refused, UnknownName, Unread, Differ, File}
-use Rattle.hgfleet.specs.declared.failure.Failure.TheVariants.{NotTaken}
+use Rattle.hgfleet.specs.declared.failure.Failure.TheVariants.{NotTaken, Unmet}
 use Rattle.hgfleet.specs.Arguments.{texts_of}
+use Rattle.hgfleet.specs.Checking.{EndsCheck, IsCheck}
 use Rattle.hgfleet.specs.Drawings.{IsDrawing}
 
 -- ---- why a command ends early
@@ -62,6 +63,7 @@ failure_status (UnknownName name) = 1
 failure_status (File name fault) = 1
 failure_status NotTaken = 1
 failure_status Differ = 1
+failure_status (Unmet count) = 1
 failure_status Unread = 1
 
 -- a write failed, or memory was wanting
@@ -202,6 +204,7 @@ IsDone (Write form name) known held holds before after =
     WritesForm form (string_bytes name) known held holds before after
 IsDone (Try trial) known held holds before after = IsTakenTrial trial held holds
 IsDone (Compare first second) known held holds before after = IsComparison (Some true) held holds
+IsDone (Check fills) known held holds before after = IsCheck fills known held holds
 IsDone (Help error) known held holds before after = Unit {0}
 IsDone (Version error) known held holds before after = Unit {0}
 
@@ -257,6 +260,7 @@ IsFailure (Write form name) known left held holds before after failure =
 IsFailure (Try trial) known left held holds before after failure = EndsTrial trial held holds failure
 IsFailure (Compare first second) known left held holds before after failure =
     EndsComparison (string_bytes first) (string_bytes second) held holds failure
+IsFailure (Check fills) known left held holds before after failure = EndsCheck fills known held holds failure
 IsFailure (Help error) known left held holds before after failure = failure ≡ failed.Run run.Write
 IsFailure (Version error) known left held holds before after failure = failure ≡ failed.Run run.Write
 IsFailure _ known left held holds before after failure = ⊥

@@ -18,6 +18,7 @@ ghost use Rattle.hgfleet.specs.Arguments.{IsWhyOf, why_names};
 ghost use Rattle.hgfleet.specs.TryArguments.{flag_given, flag_rule, words_given};
 ghost use Rattle.hgfleet.specs.Arguments.{argument_fault_number, argument_fault_status, argument_fault_text};
 
+use crate::check_arguments::{check_command, check_of};
 use crate::try_arguments::{
     WantedTrial, compare_command, compare_of, excluding_flags, try_command, try_of,
 };
@@ -79,6 +80,11 @@ pub enum Wanted {
     Compare {
         first: String,
         second: String,
+    },
+    /// That it is told in what the script of standard input differs from what its lines print, or, where it is to be
+    /// filled in, that it is written with that.
+    Check {
+        fills: bool,
     },
     /// The text of the help, which is the message of this answer.
     Help(Error),
@@ -269,6 +275,7 @@ static FORMS: [&str; 3] = ["store", "roots", "message"];
 /// may have names of nodes and flags, of which those of two pictures exclude each other. What is shown has a form, what
 /// is written a form and a name, and what is told names of nodes. A trial has names of files and flags, of which those
 /// of two accounts exclude each other, and maybe a file that is written, and a comparison has two names of files.
+/// A check may have a flag.
 pub fn read_args(alloc: Global, words: &[&str]) -> Result<Wanted, ArgumentFault>
     ensures { ArgumentsAnswer (map (λ s. s.now) words.now) result }
 {
@@ -373,6 +380,7 @@ fn given_to(alloc: Global, name: &str, given: &ArgMatches<'_>) -> Result<Option<
         "why" => why_of(alloc, given),
         "try" => try_of(alloc, given),
         "compare" => compare_of(alloc, given),
+        "check" => Ok(check_of(given)),
         _ => Ok(None),
     }
 }
@@ -552,7 +560,8 @@ fn program<'a>(alloc: Global, forms: &'a [&'a str]) -> Result<Command<'a>, Alloc
         .subcommand(write(alloc, forms)?)?
         .subcommand(why(alloc)?)?
         .subcommand(try_command(alloc)?)?
-        .subcommand(compare_command(alloc)?)?;
+        .subcommand(compare_command(alloc)?)?
+        .subcommand(check_command(alloc)?)?;
     Ok(command)
 }
 

@@ -14,6 +14,7 @@ ghost use Rattle.hgfleet.specs.Commands.{TellsRefused, WritesForm, closing, draw
 ghost use Rattle.hgfleet.specs.Commands.{overview_of, refusals_told, state_of, states_of};
 
 use crate::arguments::{Picture, Wanted};
+use crate::checking::check_lines;
 use crate::drawing::{Drawing, draw};
 use crate::failure::Failure;
 use crate::trying::{compare_files, try_files};
@@ -83,6 +84,9 @@ pub fn perform<
         Wanted::Try(trial) => return try_files(rt, secret_keys(rt)?, trial, reader, writer),
         Wanted::Compare { first, second } => {
             return compare_files(rt, secret_keys(rt)?, first, second, reader, writer);
+        }
+        Wanted::Check { fills } => {
+            return check_lines(alloc, secret_keys(rt)?, *fills, reader, writer);
         }
         Wanted::Help(text) | Wanted::Version(text) => return write_text(text, writer),
     }

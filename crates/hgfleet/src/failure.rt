@@ -29,6 +29,8 @@ pub enum Failure<'a> {
     NotTaken,
     /// Two repositories differ.
     Differ,
+    /// Of so many lines of a script something else is expected than they print.
+    Unmet(usize),
     /// Nobody reads what is written any more, so that isn't told.
     Unread,
 }
@@ -47,6 +49,7 @@ impl Failure<'_> {
             Failure::File(_, _) => 1,
             Failure::NotTaken => 1,
             Failure::Differ => 1,
+            Failure::Unmet(_) => 1,
             Failure::Unread => 1,
         }
     }
@@ -78,6 +81,8 @@ impl fmt::Display for Failure<'_> {
             Failure::File(name, fault) => write!(f, "{name}: {fault}"),
             Failure::NotTaken => write!(f, "hgfleet: a message was refused"),
             Failure::Differ => write!(f, "hgfleet: the repositories differ"),
+            Failure::Unmet(1) => write!(f, "hgfleet: 1 line differs"),
+            Failure::Unmet(count) => write!(f, "hgfleet: {count} lines differ"),
             Failure::Unread => Ok(()),
         }
     }

@@ -12,6 +12,8 @@ ghost use Rattle.hgfleet.specs.Arguments.{IsWithinBounds};
 ghost use Rattle.hgfleet.specs.Commands.{failure_status};
 
 mod arguments;
+mod check_arguments;
+mod checking;
 mod commands;
 mod drawing;
 mod failure;

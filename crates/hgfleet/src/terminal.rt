@@ -9,6 +9,7 @@ pub fn invitation(wanted: &Wanted) -> Option<&'static str> {
         | Wanted::RunTold { .. }
         | Wanted::Log { .. }
         | Wanted::Why(_)
+        | Wanted::Check { .. }
         | Wanted::Write { .. } => Some(
             "hgfleet: reading a script from standard input; end it with Ctrl-D. For the language: hgfleet run --help",
         ),

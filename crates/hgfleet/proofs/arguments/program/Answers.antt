@@ -1,7 +1,7 @@
 use Rattle.std.proofs.Common.{ap, ap₂, ◌≡◌, ◌∙◌}
 use Rattle.clap.specs.Words.{App, Shape, app_of, with_subcommand}
 use Rattle.hgfleet.specs.Arguments.{Words, log, program_alone, race, run, show_at, why, write_at}
-use Rattle.hgfleet.specs.TryArguments.{try_app}
+use Rattle.hgfleet.specs.TryArguments.{compare_app, try_app}
 use Rattle.hgfleet.proofs.arguments.program.Goals as goal
 
 abbrev top_of : App → Shape
@@ -44,5 +44,9 @@ returns c =
     let try_in : app_of c.in_ok-subcommand-7.field-0 ≡ with_subcommand (with_why c.args.forms) try_app.top =
     c.in_ok-subcommand-7.ensures.shape c.in_ok-try_command.ensures.1
     ∙ ap₂ with_subcommand why_in (ap top_of c.in_ok-try_command.ensures.0) in
-    c.in_ok-command.ensures.shape c.in_ok-compare_command.ensures.1
-    ∙ ap₂ with_subcommand try_in (ap top_of c.in_ok-compare_command.ensures.0)
+    let compare_in : app_of c.in_ok-subcommand-8.field-0
+    ≡ with_subcommand (with_subcommand (with_why c.args.forms) try_app.top) compare_app.top =
+    c.in_ok-subcommand-8.ensures.shape c.in_ok-compare_command.ensures.1
+    ∙ ap₂ with_subcommand try_in (ap top_of c.in_ok-compare_command.ensures.0) in
+    c.in_ok-command.ensures.shape c.in_ok-check_command.ensures.1
+    ∙ ap₂ with_subcommand compare_in (ap top_of c.in_ok-check_command.ensures.0)

@@ -1,0 +1,51 @@
+//! The arguments of a check.
+ghost use Rattle.std.specs.Prelude.{◌≡◌, IfOk, codes, false};
+ghost use Rattle.clap.specs.Words.{app_of, found_of, rows_of};
+ghost use Rattle.clap.specs.declared.builder.command.Command.TheViews.{out-Command};
+ghost use Rattle.hgfleet.specs.Arguments.{IsCheckOf};
+ghost use Rattle.hgfleet.specs.CheckArguments.{check_app};
+ghost use Rattle.hgfleet.specs.TryArguments.{flag_given};
+
+use crate::arguments::{Wanted, flag, flag_of};
+use clap::{ArgMatches, Command};
+use std::alloc::{AllocError, Global};
+
+// Whether the lines of a script print what it says.
+const CHECK_HELP: &str = "\
+Does the script of standard input, and compares what each of its lines prints with the lines right behind it that begin
+with #> or are that alone, as
+  amend A b c
+  #> 7: rewrite 4 AlreadyObsolete
+To other commands these are comments. In what the script differs is printed, as a diff that patch takes: where a line
+differs, that line, what stands behind it with -, and what it printed with +. Below that stands how many lines were
+checked, and how many differ. With --write the script is printed in place of that, with what its lines printed behind
+each of them.
+
+Statuses: 0 done and no line differs, 1 a line that differs, a script that ended early, or a text that can't be written,
+2 wrong arguments, 3 want of memory.
+
+For example:
+  printf 'node A\\nreport A\\n' | hgfleet check --write";
+
+/// The command that checks a script, with its flag.
+pub(crate) fn check_command<'a>(alloc: Global) -> Result<Command<'a>, AllocError>
+    ensures { IfOk result (λ command. (app_of command ≡ check_app) × ((out-Command command).has_globals ≡ false)) }
+{
+    Command::new(alloc, "check")
+        .about("Compares what the lines of a script print with what it says")
+        .after_help(CHECK_HELP)
+        .override_usage("hgfleet check [OPTIONS] < SCRIPT")
+        .arg(flag(
+            alloc,
+            "write",
+            "Prints the script with what its lines print",
+        ))
+}
+
+/// That a script is checked, or filled in where this flag is given.
+pub(crate) fn check_of(given: &ArgMatches<'_>) -> Option<Wanted>
+    ensures { IsCheckOf (flag_given (codes "write") (rows_of (found_of given.now))) result }
+{
+    let fills = flag_of(given, "write");
+    Some(Wanted::Check { fills })
+}
