@@ -21,7 +21,7 @@ returns-clause-ok c =
     let old = c.args.self.now in
     let taken = unbound c.bound.result (sym c.is_some.ensures ∙ c.if-is_some.false) in
     let binds = subst (λ (n : ℕ). Binds old.nodes c.args.at.now n c.bind.new.names) c.len-place.ensures.len
-    c.in_ok-bind.ensures in (
+    c.in_ok-bind.ensures.bound in (
       no_trace,
       refl,
       record { asked = refl; ran = refl; told = tt; named = (sym c.bound.ensures ∙ taken, binds, refl, refl) },

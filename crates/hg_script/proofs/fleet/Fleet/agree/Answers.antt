@@ -12,11 +12,11 @@ returns-clause-ok g c =
     c.in_ok-first.ensures.ok in
     let other = node_from_place self c.args.other.now _ (Some c.in_ok-second.second.now) c.in_ok-place-2.ensures.ok
     c.in_ok-second.ensures.ok in
-    let answer = c.in_ok-answer.answer in
+    let answer = c.is_same_state-answer.result in
     let same = subst (λ (t : ReplicaState). IsTrue answer ↔ IsSameState c.in_ok-first.first.now.replica t)
     c.replica-2.ensures.replica
     (subst (λ (t : ReplicaState). IsTrue answer ↔ IsSameState t c.replica-2.result.now) c.replica.ensures.replica
-    c.in_ok-answer.ensures) in
+    c.is_same_state-answer.ensures) in
     agreed self c.args.one c.args.other c.in_ok-first.first.now c.in_ok-second.second.now answer _ _ one
     other same c.in_ok-print_agreement.ensures.printed
 
