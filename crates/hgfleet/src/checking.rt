@@ -10,8 +10,8 @@ use hg_script::{RunFault, run_by_line};
 use std::alloc::Global;
 use std::io::{Read, Write};
 
-/// Does the script that the reader has, and tells in what it differs from what its lines print. Where it is to be filled
-/// in, it is written with that. Nothing is written of a script that is stopped.
+/// Does the script that the reader has, and tells in what it differs from what its lines print. Where it is to be
+/// filled in, it is written with that. Nothing is written of a script that is stopped.
 pub fn check_lines<R: Read, W: Write>(
     alloc: Global,
     keys: IdKeys,
