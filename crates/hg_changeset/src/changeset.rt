@@ -8,7 +8,8 @@ ghost use Rattle.std.specs.List.{suffix_len};
 ghost use Rattle.hex.specs.Hex.{IsBytes};
 ghost use Rattle.hg_changeset.specs.Contents.{contents};
 ghost use Rattle.hg_changeset.specs.Node.{IsNode};
-ghost use Rattle.hg_changeset.specs.Changeset.{node_of, last_line, lesser, greater, is_given_twice, IsNormal, IsNormalFormOf};
+ghost use Rattle.hg_changeset.specs.Changeset.{node_of, last_line, lesser, greater};
+ghost use Rattle.hg_changeset.specs.Changeset.{is_given_twice, IsNormal, IsNormalFormOf};
 ghost use Rattle.hg_changeset.specs.Changeset.{IsChangeset, changeset_of, changeset_fault, text_limit};
 ghost use Rattle.hg_changeset.specs.Refusals.{changeset_error_number, changeset_error_name};
 

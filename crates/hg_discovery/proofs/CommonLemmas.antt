@@ -31,8 +31,8 @@ use Rattle.hg_discovery.specs.declared.status.PlacedNode.{PlacedNode}
 use Rattle.hg_discovery.specs.Between.{AreHeadsInCommon}
 use Rattle.hg_discovery.specs.Order.{placed_node_cmp}
 use Rattle.hg_discovery.specs.Search.{Is, IsClosed, IsHead, nodes_of}
-use Rattle.hg_discovery.specs.Start.{IsSnapshot}
-use Rattle.hg_discovery.proofs.SnapshotLemmas.{snapshot_exists, top_head}
+use Rattle.hg_discovery.specs.Start.{IsBaseline}
+use Rattle.hg_discovery.proofs.BaselineLemmas.{baseline_exists, top_head}
 use Rattle.hg_discovery.proofs.SortLemmas.{sorted_lists}
 use Rattle.hg_discovery.proofs.StartLemmas.{one_placed_node, phase_in_content}
 use Rattle.hg_discovery.proofs.UnderLemmas.{under_common}
@@ -141,7 +141,7 @@ module _ (ours : ReplicaState) (other : KeptValue) (valid : IsValid ours)
   )
 
   module _ (closed : IsClosedUnderParents cs (IsCommonAt ours other)) (ps : List ParentPlaces) (xs : List PlacedNode)
-      (ds : List Status) (snapshot : IsSnapshot ours.history ps xs ds) where
+      (ds : List Status) (baseline : IsBaseline ours.history ps xs ds) where
     apart : AreToldApart Served xs last
     apart = record {
       none_undecided = none_undecided;
@@ -150,10 +150,10 @@ module _ (ours : ReplicaState) (other : KeptValue) (valid : IsValid ours)
             let so = (common_at k).0 c in
             let phase = phase_in_content ours.history valid.graph so.0 Secret in
             let x : PlacedNode = record { node = so.0; place = k } in
-            (x, (snapshot.shared x).1 (so.1, λ secret. so.2.1 (phase.1 secret)), refl, so.3),
+            (x, (baseline.shared x).1 (so.1, λ secret. so.2.1 (phase.1 secret)), refl, so.3),
         λ h.
             let x = h.0 in
-            let at = (snapshot.shared x).0 h.1 in
+            let at = (baseline.shared x).0 h.1 in
             let held = content-node ours.history valid.graph x.node
             (Contains-from_place (nodes cs) x.place x.node at.0) in
             let phase = phase_in_content ours.history valid.graph x.node Secret in
@@ -163,20 +163,20 @@ module _ (ours : ReplicaState) (other : KeptValue) (valid : IsValid ours)
     }
 
     len : length last ≡ length ds
-    len = omega (arith, last_len, snapshot.shape.len, snapshot.len)
+    len = omega (arith, last_len, baseline.shape.len, baseline.len)
 
     last_closed : IsClosed ps last
-    last_closed = closed_told Served xs ds last snapshot.placed_nodes apart len ps (len ∙ snapshot.len)
-        (λ j k parent c. (common_at k).1 (closed j k ((snapshot.shape.parents j k).0 parent) ((common_at j).0 c)))
+    last_closed = closed_told Served xs ds last baseline.placed_nodes apart len ps (len ∙ baseline.len)
+        (λ j k parent c. (common_at k).1 (closed j k ((baseline.shape.parents j k).0 parent) ((common_at j).0 c)))
 
     -- what stands where one of the placed nodes does is that placed node
     placed_node_at : (x : PlacedNode) → Is last Common x.place → IsAt cs x.node x.place ↔ Contains xs x
     placed_node_at x c =
         let y = (apart.common x.place).0 c in (
           λ at.
-              let at_y : IsAt cs y.0.node x.place = subst (IsAt cs y.0.node) y.2 ((snapshot.shared y.0).0 y.1).0 in
+              let at_y : IsAt cs y.0.node x.place = subst (IsAt cs y.0.node) y.2 ((baseline.shared y.0).0 y.1).0 in
               subst (Contains xs) (one_placed_node y.0 x (same_Some y.0.node x.node (sym at_y ∙ at)) y.2) y.1,
-          λ in_xs. ((snapshot.shared x).0 in_xs).0,
+          λ in_xs. ((baseline.shared x).0 in_xs).0,
         )
 
     module _ (places : List ℕ) (are_heads : (k : ℕ) → Contains places k ↔ IsHeadAmong cs (IsCommonAt ours other) k)
@@ -187,7 +187,7 @@ module _ (ours : ReplicaState) (other : KeptValue) (valid : IsValid ours)
 
       found_heads : (x : PlacedNode) → Contains new x ↔ Head x
       found_heads x =
-          let head = top_head cs ps snapshot.shape snapshot.in_order xs last Common new placed_node_at
+          let head = top_head cs ps baseline.shape baseline.in_order xs last Common new placed_node_at
           (λ k m j low high at_k at_j. under_common ps last last_closed m j high at_j) x in (
             λ h.
                 let at = (same x).0 h in
@@ -209,8 +209,8 @@ module _ (ours : ReplicaState) (other : KeptValue) (valid : IsValid ours)
 
       heads_in_common : AreHeadsInCommon ours other.replica other.pins (nodes_of new)
       heads_in_common =
-          told_in_common ours other.replica other.pins tell ps xs ds last snapshot apart len last_closed new
-          (sorted_lists xs Head snapshot.placed_nodes.distinct new sorted (λ x h. h.0.0) found_heads)
+          told_in_common ours other.replica other.pins tell ps xs ds last baseline apart len last_closed new
+          (sorted_lists xs Head baseline.placed_nodes.distinct new sorted (λ x h. h.0.0) found_heads)
 
   pub walked_in_common : IsClosedUnderParents cs (IsCommonAt ours other) → (places : List ℕ)
       → ((k : ℕ) → Contains places k ↔ IsHeadAmong cs (IsCommonAt ours other) k) → (new : List PlacedNode)
@@ -218,5 +218,5 @@ module _ (ours : ReplicaState) (other : KeptValue) (valid : IsValid ours)
       → ((x : PlacedNode) → Contains new x ↔ (Contains places x.place × IsAt cs x.node x.place))
       → AreHeadsInCommon ours other.replica other.pins (nodes_of new)
   walked_in_common closed places are_heads new sorted same =
-      let snapshot = snapshot_exists ours.history valid in
-      heads_in_common closed snapshot.0 snapshot.1 snapshot.2 snapshot.3 places are_heads new sorted same
+      let baseline = baseline_exists ours.history valid in
+      heads_in_common closed baseline.0 baseline.1 baseline.2 baseline.3 places are_heads new sorted same

@@ -11,7 +11,7 @@ pub mod PutLemmas
 pub mod CountLemmas
 pub mod WalkLemmas
 pub mod WholeLemmas
-pub mod SnapshotLemmas
+pub mod BaselineLemmas
 pub mod ChildrenLemmas
 pub mod SampleLemmas
 pub mod KnownLemmas

@@ -23,7 +23,7 @@ use Rattle.hg_discovery.specs.Search.{nodes_of}
 use Rattle.hg_discovery.specs.Spread.{AreCovered}
 use Rattle.hg_discovery.specs.Answers.{IsDecided, TakesAnswers, IsRound}
 use Rattle.hg_discovery.specs.Rounds.{AreAnswers, undecided}
-use Rattle.hg_discovery.specs.Start.{IsSnapshot, IsStart}
+use Rattle.hg_discovery.specs.Start.{IsBaseline, IsStart}
 use Rattle.hg_discovery.specs.Between.{AreHeadsInCommon}
 use Rattle.hg_discovery.proofs.UnderLemmas.{not_both_uc, not_both_um, not_both_cm, three, under_common, above_missing}
 use Rattle.hg_discovery.proofs.ToldLemmas.{told_length, all_closed, placed_nodes_after, all_common, all_missing}
@@ -417,21 +417,21 @@ module _ (P : Node → Type 0) (xs : List PlacedNode) (ds last : List Status) (p
         ];
   }
 
--- where a discovery begins upon the snapshot
-pub started : (s : State) (ps : List ParentPlaces) (xs : List PlacedNode) (ds : List Status) → IsSnapshot s ps xs ds
+-- where a discovery begins upon the baseline
+pub started : (s : State) (ps : List ParentPlaces) (xs : List PlacedNode) (ds : List Status) → IsBaseline s ps xs ds
     → (asked : List PlacedNode)
     → IsSample (record { parents = ps; placed_nodes = xs; decided = ds; asked = asked }) asked
     → IsStart s (record { parents = ps; placed_nodes = xs; decided = ds; asked = asked })
-started s ps xs ds snapshot asked sample = record {
-  shape = snapshot.shape;
-  placed_nodes = snapshot.shared;
-  undecided = snapshot.undecided;
-  nothing_common = snapshot.nothing_common;
+started s ps xs ds baseline asked sample = record {
+  shape = baseline.shape;
+  placed_nodes = baseline.shared;
+  undecided = baseline.undecided;
+  nothing_common = baseline.nothing_common;
   search = record {
-    len = snapshot.len;
-    in_order = snapshot.in_order;
-    placed_nodes = snapshot.placed_nodes;
-    closed = snapshot.closed;
+    len = baseline.len;
+    in_order = baseline.in_order;
+    placed_nodes = baseline.placed_nodes;
+    closed = baseline.closed;
     sample = sample;
   };
 }
@@ -439,7 +439,7 @@ started s ps xs ds snapshot asked sample = record {
 module _ (ours theirs : ReplicaState) (pins : List Node)
     (tell : (n : Node) → IsServedUnder (content_of theirs) pins n ⊎ (¬ (IsServedUnder (content_of theirs) pins n)))
     (ps : List ParentPlaces) (xs : List PlacedNode) (ds last : List Status)
-    (snapshot : IsSnapshot ours.history ps xs ds)
+    (baseline : IsBaseline ours.history ps xs ds)
     (apart : AreToldApart (IsServedUnder (content_of theirs) pins) xs last) (len : length last ≡ length ds)
     (closed : IsClosed ps last) (heads : List PlacedNode)
     (heads_are : Lists (IsHead
@@ -449,19 +449,19 @@ module _ (ours theirs : ReplicaState) (pins : List Node)
 
   told_apart : (x : PlacedNode) → Contains xs x → (P x.node → Is last Common x.place)
       × ((P x.node → ⊥) → Is last Missing x.place)
-  told_apart = placed_node_told P xs ds last snapshot.placed_nodes apart len
+  told_apart = placed_node_told P xs ds last baseline.placed_nodes apart len
 
   first_marks : (marks : List Bool) × AreCovered ps ds Undecided marks
-  first_marks = marks_exist ps ds snapshot.len
+  first_marks = marks_exist ps ds baseline.len
 
   abbrev start : Search
   start = record { parents = ps; placed_nodes = xs; decided = ds; asked = drawn ds first_marks.0 xs }
 
   starts : IsStart ours.history start
-  starts = started ours.history ps xs ds snapshot (drawn ds first_marks.0 xs)
+  starts = started ours.history ps xs ds baseline (drawn ds first_marks.0 xs)
       (drawn_sample ps ds xs
-      (drawn ds first_marks.0 xs) snapshot.len snapshot.in_order snapshot.closed snapshot.placed_nodes
-      snapshot.ascending first_marks.0 first_marks.1 refl)
+      (drawn ds first_marks.0 xs) baseline.len baseline.in_order baseline.closed baseline.placed_nodes
+      baseline.ascending first_marks.0 first_marks.1 refl)
 
   -- what is missing at first is no placed node
   missing_first : (k : ℕ) → Is ds Missing k → Is last Missing k
@@ -470,25 +470,25 @@ module _ (ours theirs : ReplicaState) (pins : List Node)
     | inr other ↦ elim other [
       | inl c ↦
           let x = (apart.common k).0 c in
-          absurd (not_both_um ds k ((snapshot.undecided k).1 (x.0, x.1, x.2)) m)
+          absurd (not_both_um ds k ((baseline.undecided k).1 (x.0, x.1, x.2)) m)
       | inr m' ↦ m'
     ]
   ]
 
   pub told_in_common : AreHeadsInCommon ours theirs pins (nodes_of heads)
   told_in_common =
-      let all = end_of P tell ps xs snapshot.ascending last closed told_apart (undecided ds) ours start (omega arith)
+      let all = end_of P tell ps xs baseline.ascending last closed told_apart (undecided ds) ours start (omega arith)
       (IsAskedSoFar-start P ours start starts)
       (record {
         search = starts.search;
         parents = refl;
         placed_nodes = refl;
-        common = λ k c. absurd (snapshot.nothing_common k c);
+        common = λ k c. absurd (baseline.nothing_common k c);
         missing = missing_first;
       }) in
       let t = all.0 in
       let same =
-      end_common P tell ps xs snapshot.ascending last closed told_apart t all.2 all.3 (len ∙ snapshot.len) in (
+      end_common P tell ps xs baseline.ascending last closed told_apart t all.2 all.3 (len ∙ baseline.len) in (
         t,
         IsAskedSoFar-done ours theirs pins t all.1 all.3,
         (

@@ -18,7 +18,7 @@ IsShared s x = IsAt (changesets s) x.node x.place × (IsPhaseOf s x.node Secret 
 
 -- what a discovery of the replica begins upon: its parents' places, its changesets that aren't secret, ascending, and
 -- these as undecided
-pub record IsSnapshot (s : State) (ps : List ParentPlaces) (xs : List PlacedNode) (ds : List Status) : Type 0 where
+pub record IsBaseline (s : State) (ps : List ParentPlaces) (xs : List PlacedNode) (ds : List Status) : Type 0 where
   pub shape : IsShapeOf (changesets s) ps
   pub shared : (x : PlacedNode) → Contains xs x ↔ IsShared s x
   pub undecided : (k : ℕ) → Is ds Undecided k ↔ ((x : PlacedNode) × Contains xs x × (x.place ≡ k))

@@ -9,7 +9,7 @@ use crate::children::{Children, children_of};
 use crate::draw::{common_heads, sample};
 use crate::error::DiscoveryError;
 use crate::spread::answered;
-use crate::start::{Snapshot, snapshot_of};
+use crate::start::{Baseline, baseline_of};
 use crate::status::{PlacedNode, Status};
 use hg_changeset::Node;
 use hg_graph::ParentPlaces;
@@ -76,19 +76,19 @@ impl Discovery {
     pub fn start(alloc: Global, replica: &Replica) -> Result<Discovery, AllocError>
         ensures { IfOk result (IsStart replica.now.history) }
     {
-        let snapshot = snapshot_of(alloc, replica)?;
+        let baseline = baseline_of(alloc, replica)?;
         let children = children_of(alloc, replica.graph())?;
         let asked = sample(
             alloc,
-            &snapshot.parents,
-            &snapshot.placed_nodes,
-            &snapshot.decided,
+            &baseline.parents,
+            &baseline.placed_nodes,
+            &baseline.decided,
         )?;
-        let Snapshot {
+        let Baseline {
             parents,
             placed_nodes,
             decided,
-        } = snapshot;
+        } = baseline;
         Ok(Discovery {
             parents,
             children,

@@ -6,7 +6,7 @@ ghost use Rattle.hg_phases.specs.declared.phase.Phase.TheVariants.{Secret};
 ghost use Rattle.hg_discovery.specs.declared.status.PlacedNode.{PlacedNode};
 ghost use Rattle.hg_discovery.specs.Under.{IsShapeOf};
 ghost use Rattle.hg_discovery.specs.Search.{Is};
-ghost use Rattle.hg_discovery.specs.Start.{IsShared, IsSnapshot};
+ghost use Rattle.hg_discovery.specs.Start.{IsShared, IsBaseline};
 
 use crate::order::ascending;
 use crate::status::{PlacedNode, Status};
@@ -20,21 +20,21 @@ use std::alloc::{AllocError, Global};
 // What a discovery begins upon: where the parents of each changeset stand, the changesets that aren't secret,
 // ascending, and these as undecided.
 #[derive(Drop)]
-pub(crate) struct Snapshot {
+pub(crate) struct Baseline {
     pub(crate) parents: Vec<ParentPlaces>,
     pub(crate) placed_nodes: Vec<PlacedNode>,
     pub(crate) decided: Vec<Status>,
 }
 
 // What a discovery of the replica begins upon.
-pub(crate) fn snapshot_of(alloc: Global, replica: &Replica) -> Result<Snapshot, AllocError>
-    ensures { IfOk result (λ snapshot. IsSnapshot replica.now.history snapshot.parents.items snapshot.placed_nodes.items
-        snapshot.decided.items) }
+pub(crate) fn baseline_of(alloc: Global, replica: &Replica) -> Result<Baseline, AllocError>
+    ensures { IfOk result (λ baseline. IsBaseline replica.now.history baseline.parents.items baseline.placed_nodes.items
+        baseline.decided.items) }
 {
     let parents = parents_of(alloc, replica.graph())?;
     let placed_nodes = ascending(shared(alloc, replica)?);
     let decided = undecided(alloc, parents.len(), &placed_nodes)?;
-    Ok(Snapshot {
+    Ok(Baseline {
         parents,
         placed_nodes,
         decided,

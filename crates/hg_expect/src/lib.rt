@@ -1,8 +1,8 @@
 //! Scripts that say what their lines print.
 //!
 //! Behind a line of a script stands what it is to print: each printed line behind `#> `, and an empty one as `#>`. To
-//! whoever runs the script these are comments. [`check_script`] compares them with what the lines printed, fills them in
-//! afresh, and tells in what the script differs from that.
+//! whoever runs the script these are comments. [`check_script`] compares them with what the lines printed, fills them
+//! in afresh, and tells in what the script differs from that.
 //!
 //! An expectation belongs to the line before it, whatever that is: behind a comment or an empty line, which print
 //! nothing, it is never met. The first line of a script is none. Lines are those of `str::lines`: an LF ends one, and a

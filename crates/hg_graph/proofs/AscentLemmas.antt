@@ -52,7 +52,8 @@ module _ (cs : List Contents) (graph : IsGraph cs) (low high : ℕ) where
   }
 
   module _ (waiting : List ℕ) (place : ℕ) (s : IsClimbed cs low high waiting place) where
-    one_waits : low < place → IsAncestorPlace cs low high → (k : ℕ) × Waits cs place waiting k × IsAncestorPlace cs low k
+    one_waits : low < place → IsAncestorPlace cs low high
+        → (k : ℕ) × Waits cs place waiting k × IsAncestorPlace cs low k
     one_waits later h =
         let c = s.complete h in
         elim c.1 [

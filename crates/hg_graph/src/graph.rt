@@ -141,8 +141,8 @@ impl Graph {
         }
     }
 
-    /// Where the changeset with this id stands. What was added last, which most is asked of, is found without a look-up,
-    /// and so the null id is answered.
+    /// Where the changeset with this id stands. What was added last, which most is asked of, is found without a
+    /// look-up, and so the null id is answered.
     pub fn place(&self, node: Node) -> Option<usize>
         ensures place { MatchOption result (¬ (Holds self.now node)) (IsOnlyAt self.now node) }
         ensures graph { IsGraph self.now }

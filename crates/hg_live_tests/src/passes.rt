@@ -12,7 +12,7 @@ use std::sync::Wait;
 use std::test::*;
 
 #[test]
-fn what_one_pass_wrote_is_seen_by_one_that_it_met_and_both_close_together(rt: HostRuntime) {
+fn two_passes_that_met_see_each_other_and_close_together(rt: HostRuntime) {
     let alloc = rt.alloc();
     let blank = Blank::new(alloc, Replica::new(alloc)).expect(&rt, "a blank");
     meet_and_close::<Brand, _, _>(&rt, alloc, blank, &rt);

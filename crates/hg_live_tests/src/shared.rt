@@ -137,7 +137,7 @@ fn hold_and_read<K: NodeName + Send + Sync, R: Threads + Wait + Abort + Sync>(
 }
 
 #[test]
-fn two_threads_are_answered_all_their_looks_while_another_is_held_at_the_gate(rt: HostRuntime) {
+fn two_threads_look_while_another_is_held_at_the_gate(rt: HostRuntime) {
     let alloc = rt.alloc();
     let blank = Blank::new(alloc, Replica::new(alloc)).expect(&rt, "a blank");
     let signals = Signals::new(2, 6);

@@ -1,6 +1,8 @@
 -- What is noted of an operation is written one key behind the other, in so many bytes.
-use Rattle.std.proofs.Common.{◌≡◌, ℕ, Bool, true, false, cond, eqb, List, [], ◌∷◌, ◌++◌, length, reverse, Option, Some, None}
-use Rattle.std.proofs.Common.{refl, sym, ap, ◌∙◌, codes, arith, ◌||◌, ℤ, pos, negsuc, FitsSigned, w64, w32, decimal, ◌<◌}
+use Rattle.std.proofs.Common.{◌≡◌, ℕ, Bool, true, false, cond, eqb, List, [], ◌∷◌, ◌++◌, length, reverse}
+use Rattle.std.proofs.Common.{Option, Some, None}
+use Rattle.std.proofs.Common.{refl, sym, ap, ◌∙◌, codes, arith, ◌||◌, ℤ, pos, negsuc, FitsSigned, w64}
+use Rattle.std.proofs.Common.{w32, decimal, ◌<◌}
 use Rattle.std.proofs.Common.{◌^◌, ◌+◌, ◌%◌, ◌≢◌}
 use Rattle.std.proofs.Math.Bool.{or-false}
 use lib.Signed.{mag}
@@ -131,7 +133,8 @@ noted_len date operation user parents n more =
     let two = with_piece one (codes "operation", operation) in
     let three = with_pieces two (parents_entries parents) in
     let whole = with_pieces [] (operation_entries date operation parents user) in
-    let is : whole ≡ with_piece three (codes "user", user) = pushed_more two (parents_entries parents) ((codes "user", user) ∷ []) in
+    let is : whole ≡ with_piece three (codes "user", user) =
+    pushed_more two (parents_entries parents) ((codes "user", user) ∷ []) in
     let first = longer one (codes "operation", operation) (omega arith) in
     let third = behind two (omega (arith, first)) in
     let last = longer three (codes "user", user) (omega (arith, first, third)) in

@@ -1,5 +1,6 @@
 -- What a walk over the pieces found so far, and what it finds at its end.
-use Rattle.std.proofs.Common.{◌≡◌, ℕ, ◌+◌, ◌-◌, ◌^◌, ◌<◌, Bool, true, false, eqb, List, [], ◌∷◌, length, map, min, Option}
+use Rattle.std.proofs.Common.{◌≡◌, ℕ, ◌+◌, ◌-◌, ◌^◌, ◌<◌, Bool, true, false, eqb, List, [], ◌∷◌, length}
+use Rattle.std.proofs.Common.{map, min, Option}
 use Rattle.std.proofs.Common.{Some, None, refl, sym, ap, ◌∙◌, arith}
 use Rattle.std.specs.Prelude.{◌&&◌, ◌||◌}
 use Rattle.std.proofs.Math.Bool.{and_assoc, or_assoc, or-false}
@@ -40,7 +41,8 @@ module _ (bytes rest p after : List ℕ) (last : Option (List ℕ)) (len : ℕ) 
       → IsSurveyed bytes after (Some key) more (ascending && is_behind last key) (named || is_parents_key key)
   one_surveyed colon key is more counted =
       let others = map entry (pieces after) in record {
-        colons = sym (ap (list_all has_colon) first ∙ ap (λ b. b && list_all has_colon (pieces after)) colon) ∙ h.colons;
+        colons = sym (ap (list_all has_colon) first ∙ ap (λ b. b && list_all has_colon (pieces after)) colon)
+            ∙ h.colons;
         ascent = and_assoc ascending (is_behind last key) (ascends (Some key) others)
             ∙ ap (λ k. ascending && (is_behind last k && ascends (Some k) others)) is
             ∙ ap (λ ps. ascending && ascends last (map entry ps)) (sym first)

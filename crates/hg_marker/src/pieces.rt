@@ -3,7 +3,8 @@
 //! Metadata is spelled as pieces between NULs, each a key, a colon and its value. A piece is split at its first colon,
 //! so a value may hold further ones; an empty piece says nothing; and of equal keys the later one wins. The bytes are
 //! walked piece by piece, so that no list of pieces is kept: metadata of NULs alone takes no memory.
-ghost use Rattle.std.specs.Prelude.{◌≡◌, ◌==◌, ◌||◌, ◌++◌, ◌+◌, ◌<◌, [], ◌∷◌, length, position, map, option_copied, IfOk};
+ghost use Rattle.std.specs.Prelude.{◌≡◌, ◌==◌, ◌||◌, ◌++◌, ◌+◌, ◌<◌, [], ◌∷◌, length, position};
+ghost use Rattle.std.specs.Prelude.{map, option_copied, IfOk};
 ghost use Rattle.std.specs.Prelude.{IfSome, IfNone, true, false};
 ghost use Rattle.std.specs.List.{list_all};
 ghost use Rattle.hg_marker.specs.Metadata.{pieces, nonempty, has_colon, entry, texts};

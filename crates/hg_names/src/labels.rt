@@ -58,7 +58,8 @@ impl Labels {
         }
     }
 
-    /// Binds the label to the node, in place of what it stood for. Where memory is refused all labels stay as they were.
+    /// Binds the label to the node, in place of what it stood for. Where memory is refused all labels stay as they
+    /// were.
     pub fn bind(&mut self, label: &[u8], node: Node) -> Result<(), AllocError>
         ensures bound { OnOk result (BindsNode (labelled self.old) label.now node (labelled self.new)) }
         ensures unchanged { OnErr result (AreSameLabels (labelled self.old) (labelled self.new)) }

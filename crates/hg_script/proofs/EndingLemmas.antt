@@ -283,7 +283,8 @@ stops_here notes number f ls more line fault held holds e ends stays = record {
 }
 
 -- one line more was done before
-pub stops_later : (notes : Notes) (number : ℕ) (f mid : Fleet) (line : Text) (ls : List Text) (here : Trace) (first : Text)
+pub stops_later : (notes : Notes) (number : ℕ) (f mid : Fleet) (line : Text) (ls : List Text) (here : Trace)
+    (first : Text)
     (fault : RunFault) (held between holds : Option Text) → WritesLine notes number f line here mid first
     → Printed held first between → StopsAmong notes (number + 1) mid ls fault between holds
     → StopsAmong notes number f (line ∷ ls) fault held holds

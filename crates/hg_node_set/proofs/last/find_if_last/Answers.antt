@@ -8,4 +8,5 @@ returns-in-Some g c =
     let entries = c.args.table.now.entries in
     let number = c.in_ok-number.number in
     let same = same_node c.args.node c.in-Some.last.now (sym c.eq.ensures ∙ c.if-eq.true) in
-    subst (λ (n : Node). slice_get entries number ≡ Some (n, c.in-Some.value.now)) (sym same) (sym c.in-Some.ensures.entry)
+    subst (λ (n : Node). slice_get entries number ≡ Some (n, c.in-Some.value.now)) (sym same)
+    (sym c.in-Some.ensures.entry)

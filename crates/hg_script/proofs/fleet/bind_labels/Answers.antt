@@ -6,7 +6,8 @@ use Rattle.hg_script.proofs.fleet.bind_labels.Goals as goal
 
 pub loop-label-preserved : goal.loop-label-preserved
 loop-label-preserved c = λ name.
-    bound_step c.loop-label.names c.bind.new.self c.in-Some.label.now c.in-Some.node.now _ _ _ _ c.in_ok-bind.ensures.bound
+    bound_step c.loop-label.names c.bind.new.self c.in-Some.label.now c.in-Some.node.now _ _ _ _
+    c.in_ok-bind.ensures.bound
     c.in-Some.ensures.steps.0 c.in-Some.ensures.steps.1 name
     ∙ c.loop-label.invariant name
 

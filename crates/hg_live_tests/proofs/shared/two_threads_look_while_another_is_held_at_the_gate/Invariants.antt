@@ -1,4 +1,4 @@
-use Rattle.hg_live_tests.proofs.shared.two_threads_are_answered_all_their_looks_while_another_is_held_at_the_gate.Given as goal
+use Rattle.hg_live_tests.proofs.shared.two_threads_look_while_another_is_held_at_the_gate.Given as goal
 
 abbrev pub ghosts-hold_and_look-K-NodeName : goal.ghosts-hold_and_look-K-NodeName
 ghosts-hold_and_look-K-NodeName g a = record { opening = a.blank.opening }

@@ -6,8 +6,8 @@ use Rattle.hg_discovery.specs.Start.{IsShared}
 use Rattle.hg_discovery.specs.Under.{IsShapeOf}
 use Rattle.hg_discovery.specs.Search.{Is}
 use Rattle.hg_discovery.proofs.StartLemmas.{shared_within}
-use Rattle.hg_discovery.proofs.SnapshotLemmas.{snapshot_from}
-use Rattle.hg_discovery.proofs.start.snapshot_of.Goals as goal
+use Rattle.hg_discovery.proofs.BaselineLemmas.{baseline_from}
+use Rattle.hg_discovery.proofs.start.baseline_of.Goals as goal
 
 pub undecided-requires : goal.undecided-requires
 undecided-requires c x h =
@@ -45,5 +45,5 @@ returns c =
     let undecided : (k : ℕ) → Is ds Undecided k ↔ ((x : PlacedNode) × Contains xs x × (x.place ≡ k)) =
     subst (λ ys. (k : ℕ) → Is ds Undecided k ↔ ((x : PlacedNode) × Contains ys x × (x.place ≡ k))) c.deref.ensures.value
     c.in_ok-decided.ensures.undecided in
-    snapshot_from s c.graph.ensures.valid ps shape xs shared ds len undecided c.in_ok-decided.ensures.nothing_common
+    baseline_from s c.graph.ensures.valid ps shape xs shared ds len undecided c.in_ok-decided.ensures.nothing_common
     c.ascending-placed_nodes.ensures.sorted

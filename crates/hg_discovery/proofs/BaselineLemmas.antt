@@ -27,7 +27,7 @@ use Rattle.hg_discovery.specs.declared.status.PlacedNode.{PlacedNode}
 use Rattle.hg_discovery.specs.Under.{IsOneOf, IsParentAt, IsUnder, IsInOrder, IsShapeOf}
 use Rattle.hg_discovery.specs.Search.{Is, IsHead}
 use Rattle.hg_discovery.specs.Order.{placed_node_cmp}
-use Rattle.hg_discovery.specs.Start.{IsShared, IsSnapshot}
+use Rattle.hg_discovery.specs.Start.{IsShared, IsBaseline}
 use Rattle.hg_discovery.proofs.UnderLemmas.{child_on_way, parent_under}
 use Rattle.hg_discovery.proofs.StartLemmas.{AreThoseTo, none_of_those, those_push, those_skip, all_those}
 use Rattle.hg_discovery.proofs.StartLemmas.{phase_in_content, AreUndecidedTo, AreUndecidedTo-start}
@@ -43,8 +43,8 @@ module _ (s : State) (valid : IsValid s) (ps : List ParentPlaces) (shape : IsSha
     (len : length ds ≡ length ps)
     (undecided : (k : ℕ) → Is ds Undecided k ↔ ((x : PlacedNode) × Contains xs x × (x.place ≡ k)))
     (nothing : (k : ℕ) → Is ds Common k → ⊥) (sorted : IsStrictlySortedBy placed_node_cmp xs) where
-  pub snapshot_from : IsSnapshot s ps xs ds
-  snapshot_from = let placed_nodes = placed_nodes_start s valid ps shape xs shared ds len undecided nothing in record {
+  pub baseline_from : IsBaseline s ps xs ds
+  baseline_from = let placed_nodes = placed_nodes_start s valid ps shape xs shared ds len undecided nothing in record {
     shape = shape;
     shared = shared;
     undecided = undecided;
@@ -56,7 +56,7 @@ module _ (s : State) (valid : IsValid s) (ps : List ParentPlaces) (shape : IsSha
     ascending = ascending_placed_nodes xs placed_nodes.distinct sorted;
   }
 
--- ---- there is such a snapshot
+-- ---- there is such a baseline
 
 module _ (s : State) (valid : IsValid s) where
   abbrev cs : List Contents
@@ -182,8 +182,8 @@ module _ (s : State) (valid : IsValid s) where
             (within (get_or xs i nowhere) (Contains-get_or xs i nowhere lt)) before.1),
       )
 
-  pub snapshot_exists : (ps : List ParentPlaces) × (xs : List PlacedNode) × (ds : List Status) × IsSnapshot s ps xs ds
-  snapshot_exists =
+  pub baseline_exists : (ps : List ParentPlaces) × (xs : List PlacedNode) × (ds : List Status) × IsBaseline s ps xs ds
+  baseline_exists =
       let ps = map places_of cs in
       let found = placed_nodes_to (length cs) (omega arith) in
       let xs = ordered found.0 in
@@ -201,7 +201,7 @@ module _ (s : State) (valid : IsValid s) where
         ps,
         xs,
         made.0,
-        snapshot_from s valid ps shape_exists xs shared made.0 all.length_is all.undecided all.nothing_common
+        baseline_from s valid ps shape_exists xs shared made.0 all.length_is all.undecided all.nothing_common
             (ordered_sorted found.0),
       )
 

@@ -1,4 +1,4 @@
-use Rattle.hg_live_tests.proofs.passes.what_one_pass_wrote_is_seen_by_one_that_it_met_and_both_close_together.Given as goal
+use Rattle.hg_live_tests.proofs.passes.two_passes_that_met_see_each_other_and_close_together.Given as goal
 
 abbrev pub ghosts-meet_and_close-K-NodeName : goal.ghosts-meet_and_close-K-NodeName
 ghosts-meet_and_close-K-NodeName g a = record { opening = a.blank.opening }
