@@ -1,11 +1,13 @@
 -- Texts that grow, and places that are drawn one after the other.
-use Rattle.std.proofs.Common.{◌≡◌, ◌+◌, ◌-◌, ◌<◌, ℕ, suc, ◌++◌, ◌∷◌, [], Bool, Option, refl, ap, ◌∙◌, sym}
+use Rattle.std.proofs.Common.{◌≡◌, ◌+◌, ◌-◌, ◌<◌, ℕ, suc, ◌++◌, ◌∷◌, [], Bool, true, false, Option, refl, ap, ◌∙◌, sym}
 use Rattle.std.proofs.Common.{arith, append_assoc, append-nil, inl, inr, length, subst, List}
 use Rattle.std.specs.Io.KnownBytes.{Appends}
 use Rattle.std.proofs.KnownBytes.{Appends-trans, Appends-nil}
 use Rattle.hg_changeset.specs.declared.node.Node.{Node}
 use Rattle.hg_phases.specs.State.{changesets}
 use Rattle.hg_view.specs.Kept.{KeptValue}
+use Rattle.hg_log.specs.declared.colour.Colour.TheVariants.{Yellow}
+use Rattle.hg_log.specs.Colours.{end_of_colour, in_colour, start_of}
 use Rattle.hg_log.specs.Drawings.{ArePieces, ArePlacesGiven, Extends, Grows, HasId, IsDrawnAt, IsDrawnText, IsLine}
 use Rattle.hg_log.specs.Drawings.{IsPlaceGiven, IsPlaceShown, StandsAt, Text, short_id}
 
@@ -25,6 +27,14 @@ Grows-trans a b c first second =
 pub HasId-extended : (n : Node) (a b c : Text) → b ≡ a ++ short_id n → Extends b c → HasId n c
 HasId-extended n a b c id more =
     (a, more.0, more.1 ∙ ap (λ (l : Text). l ++ more.0) id ∙ append_assoc a (short_id n) more.0)
+
+-- the id that was pushed is there, in a colour too
+pub HasId-coloured : (n : Node) (is_coloured : Bool) (a b : Text) → b ≡ a ++ in_colour Yellow is_coloured (short_id n)
+    → HasId n b
+HasId-coloured n false a b id = (a, [], id ∙ ap (λ (l : Text). a ++ l) (sym (append-nil (short_id n))))
+HasId-coloured n true a b id =
+    let start : Text = start_of Yellow in
+    (a ++ start, end_of_colour, id ∙ sym (append_assoc a start (short_id n ++ end_of_colour)))
 
 pub HasId-more : (n : Node) (a b : Text) → HasId n a → Extends a b → HasId n b
 HasId-more n a b has more =

@@ -24,7 +24,7 @@ use Rattle.hg_log.specs.Drawings.{IsPlaceGiven, IsPlaceShown, Text}
 use Rattle.hg_log.specs.Entries.{Entry, IsEntryAt, object_text, told_text}
 use Rattle.hg_log.specs.Json.{IsAppended, behind}
 use Rattle.hg_log.specs.declared.named.NamedNode.{NamedNode}
-use Rattle.hg_log.specs.Objects.{AreNodeTold, AreTold, IsArray, IsEntryOf, NodeState, WritesEntries, named}
+use Rattle.hg_log.specs.Objects.{AreNodeEntries, AreEntries, IsArray, IsEntryOf, NodeState, WritesEntries, named}
 use Rattle.hg_log.specs.Objects.{names_and_states, objects_text}
 use Rattle.hg_log.proofs.DrawingLemmas.{AreGivenFrom, next_given, none_given, pieces_more}
 use Rattle.hg_log.proofs.NamedLemmas.{named_more}
@@ -130,24 +130,25 @@ one_written node place e a c l m x y is front line written is_behind =
 
 -- ---- places
 
-abbrev pub AreToldFrom : NodeState → Bool → ℕ → List Entry → Type 0
-AreToldFrom node shows_hidden place es = AreGivenFrom (IsEntryOf node) node.1 shows_hidden place es
+abbrev pub AreEntriesAt : NodeState → Bool → ℕ → List Entry → Type 0
+AreEntriesAt node shows_hidden place es = AreGivenFrom (IsEntryOf node) node.1 shows_hidden place es
 
 pub none_told : (node : NodeState) (shows_hidden : Bool) (place : ℕ) (a : Bool) (x : Option Text)
     → place ≡ length (changesets node.1.replica.history)
-    → WritesEntries (AreToldFrom node shows_hidden place) a a x x
+    → WritesEntries (AreEntriesAt node shows_hidden place) a a x x
 none_told node shows_hidden place a x end =
-    nothing_written (AreToldFrom node shows_hidden place) a x
+    nothing_written (AreEntriesAt node shows_hidden place) a x
     (none_given (IsEntryOf node) node.1 shows_hidden place end)
 
 -- the place below those that are told
 pub next_told : (node : NodeState) (shows_hidden : Bool) (place : ℕ) (a b c : Bool) (x y z : Option Text) → 0 < place
-    → WritesEntries (AreToldFrom node shows_hidden place) a b x y
+    → WritesEntries (AreEntriesAt node shows_hidden place) a b x y
     → WritesEntries (IsPlaceGiven (IsEntryOf node) node.1 shows_hidden (place - 1)) b c y z
-    → WritesEntries (AreToldFrom node shows_hidden (place - 1)) a c x z
+    → WritesEntries (AreEntriesAt node shows_hidden (place - 1)) a c x z
 next_told node shows_hidden place a b c x y z within first second =
-    joined_written (AreToldFrom node shows_hidden place) (IsPlaceGiven (IsEntryOf node) node.1 shows_hidden (place - 1))
-    (AreToldFrom node shows_hidden (place - 1)) a b c x y z
+    joined_written (AreEntriesAt node shows_hidden place)
+    (IsPlaceGiven (IsEntryOf node) node.1 shows_hidden (place - 1))
+    (AreEntriesAt node shows_hidden (place - 1)) a b c x y z
     (λ (es others : List Entry). next_given (IsEntryOf node) node.1 shows_hidden place es others within) first second
 
 pub shown_told : (node : NodeState) (shows_hidden : Bool) (place : ℕ) (a b : Bool) (x y : Option Text)
@@ -166,31 +167,31 @@ hidden_told node shows_hidden place a x hidden =
 -- one more node
 pub next_node : (shows_hidden : Bool) (nodes : List NamedNode) (i : ℕ) (n : NamedNode) (b c : Bool)
     (x y z : Option Text) → i < length nodes → n ≡ get_or nodes i n
-    → WritesEntries (AreTold shows_hidden (names_and_states (take i nodes))) false b x y
-    → WritesEntries (AreNodeTold shows_hidden (named n)) b c y z
-    → WritesEntries (AreTold shows_hidden (names_and_states (take (i + 1) nodes))) false c x z
+    → WritesEntries (AreEntries shows_hidden (names_and_states (take i nodes))) false b x y
+    → WritesEntries (AreNodeEntries shows_hidden (named n)) b c y z
+    → WritesEntries (AreEntries shows_hidden (names_and_states (take (i + 1) nodes))) false c x z
 next_node shows_hidden nodes i n b c x y z within is first second =
     let before : List NodeState = names_and_states (take i nodes) in
     let node : NodeState = named n in
-    subst (λ (ns : List NodeState). WritesEntries (AreTold shows_hidden ns) false c x z)
+    subst (λ (ns : List NodeState). WritesEntries (AreEntries shows_hidden ns) false c x z)
     (sym (named_more nodes i n within is))
-    (joined_written (AreTold shows_hidden before) (AreNodeTold shows_hidden node)
-    (AreTold shows_hidden (before ++ node ∷ [])) false b c x y z
-    (λ (es others : List Entry). pieces_more (AreNodeTold shows_hidden) before node es others) first second)
+    (joined_written (AreEntries shows_hidden before) (AreNodeEntries shows_hidden node)
+    (AreEntries shows_hidden (before ++ node ∷ [])) false b c x y z
+    (λ (es others : List Entry). pieces_more (AreNodeEntries shows_hidden) before node es others) first second)
 
 -- all nodes
 pub all_nodes : (shows_hidden : Bool) (nodes : List NamedNode) (i : ℕ) (b : Bool) (x y : Option Text)
-    → length nodes ≤ i → WritesEntries (AreTold shows_hidden (names_and_states (take i nodes))) false b x y
-    → (es : List Entry) × AreTold shows_hidden (names_and_states nodes) es × Appends x y (objects_text false es)
+    → length nodes ≤ i → WritesEntries (AreEntries shows_hidden (names_and_states (take i nodes))) false b x y
+    → (es : List Entry) × AreEntries shows_hidden (names_and_states nodes) es × Appends x y (objects_text false es)
 all_nodes shows_hidden nodes i b x y end all =
-    let told : AreTold shows_hidden (names_and_states nodes) all.0 =
-    subst (λ (ns : List NamedNode). AreTold shows_hidden (names_and_states ns) all.0) (take_all i nodes end) all.1 in
+    let told : AreEntries shows_hidden (names_and_states nodes) all.0 =
+    subst (λ (ns : List NamedNode). AreEntries shows_hidden (names_and_states ns) all.0) (take_all i nodes end) all.1 in
     (all.0, told, all.2)
 
 -- an array of them
 pub array_written : (shows_hidden : Bool) (nodes : List NodeState) (w x y z : Option Text)
     → Appends w x (codes "[")
-    → ((es : List Entry) × AreTold shows_hidden nodes es × Appends x y (objects_text false es))
+    → ((es : List Entry) × AreEntries shows_hidden nodes es × Appends x y (objects_text false es))
     → Appends y z (codes "\n]\n")
     → (text : Text) × IsArray shows_hidden nodes text × Appends w z text
 array_written shows_hidden nodes w x y z start told end =

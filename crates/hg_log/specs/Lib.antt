@@ -1,3 +1,4 @@
+pub mod Colours
 pub mod Columns
 pub mod Drawings
 pub mod Entries

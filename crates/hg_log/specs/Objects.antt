@@ -23,13 +23,13 @@ abbrev pub IsEntryOf : NodeState → ℕ → List Entry → Type 0
 IsEntryOf node place es = (e : Entry) × IsEntryAt node.0 node.1 place e × (es ≡ e ∷ [])
 
 -- what is told of a node: of all places that are to be drawn, the last first
-abbrev pub AreNodeTold : Bool → NodeState → List Entry → Type 0
-AreNodeTold shows_hidden node es =
+abbrev pub AreNodeEntries : Bool → NodeState → List Entry → Type 0
+AreNodeEntries shows_hidden node es =
     ArePlacesGiven (IsEntryOf node) node.1 shows_hidden 0 (length (changesets node.1.replica.history)) es
 
 -- what is told of all nodes, one after the other
-abbrev pub AreTold : Bool → List NodeState → List Entry → Type 0
-AreTold shows_hidden nodes es = ArePieces (AreNodeTold shows_hidden) nodes es
+abbrev pub AreEntries : Bool → List NodeState → List Entry → Type 0
+AreEntries shows_hidden nodes es = ArePieces (AreNodeEntries shows_hidden) nodes es
 
 -- the objects of these, with commas between them
 abbrev pub objects_text : Bool → List Entry → Text
@@ -38,7 +38,7 @@ objects_text is_behind es = divided is_behind (codes ",") object_text es
 -- an array of the objects of all nodes
 abbrev pub IsArray : Bool → List NodeState → Text → Type 0
 IsArray shows_hidden nodes text =
-    (es : List Entry) × AreTold shows_hidden nodes es
+    (es : List Entry) × AreEntries shows_hidden nodes es
     × (text ≡ codes "[" ++ objects_text false es ++ codes "\n]\n")
 
 -- such entries were written, behind others or not, and whether something stands before what follows

@@ -2,7 +2,8 @@
 use Rattle.std.specs.Prelude.{ℕ, ◌==◌, ◌&&◌, ◌∷◌, [], Bool, Option, None, Some, if◌then◌else◌, length, nat_lt}
 use Rattle.std.specs.Prelude.{option_map, slice_index, take, unwrap_or}
 use Rattle.std.specs.Char.{is_ascii_hexdigit}
-use Rattle.std.specs.List.{before_first, list_all}
+use Rattle.std.specs.Char.Escape.{escape_ascii}
+use Rattle.std.specs.List.{before_first, flat_map, list_all}
 use Rattle.hg_changeset.specs.Contents.{Contents}
 use Rattle.hg_changeset.specs.Changeset.{last_line}
 use Rattle.hg_log.specs.Drawings.{Text}
@@ -29,3 +30,7 @@ title text = if begins_with_manifest text then option_map (before_first is_line_
 -- what a changeset is called: its title, or else the last line of its text
 abbrev pub label_of : Contents → Text
 label_of c = unwrap_or (title c.text) (last_line c)
+
+-- a label as it is written: what isn't printed, quotes and backslashes are escaped
+abbrev pub escaped : Text → Text
+escaped label = flat_map escape_ascii label

@@ -15,7 +15,7 @@ use hg_view::Kept;
 use std::alloc::AllocError;
 
 /// Appends the beginning of a changeset's box in the cluster of this name, up to what its label says: the short id and,
-/// where the changeset is held, what it is called.
+/// where the changeset is known, what it is called.
 pub(crate) fn push_box(
     line: &mut Vec<u8>,
     cluster: &[u8],
@@ -41,7 +41,7 @@ fn push_key(line: &mut Vec<u8>, cluster: &[u8], node: Node) -> Result<(), AllocE
     Ok(())
 }
 
-// Appends what a changeset is called below its id, where it is held.
+// Appends what a changeset is called below its id, where it is known.
 fn push_label_below(line: &mut Vec<u8>, changeset: Option<&Changeset>) -> Result<(), AllocError>
     ensures { OnOk result (Extends line.old.items line.new.items) }
 {
@@ -77,7 +77,7 @@ fn push_state(line: &mut Vec<u8>, phase: Phase, kept: &Kept, node: Node) -> Resu
 {
     line.extend_from_slice(b"\\n")?;
     line.extend_from_slice(phase.word().as_bytes())?;
-    push_unstable(line, kept.status(node))?;
+    push_unstable(line, kept.status(node), false)?;
     Ok(())
 }
 

@@ -1,7 +1,12 @@
 //! What is written of a changeset: its id, its label, its phase, and what is unstable about it.
 ghost use Rattle.std.specs.Prelude.{◌≡◌, ◌++◌, OnOk};
+ghost use Rattle.std.specs.Char.Escape.{escape_ascii};
+ghost use Rattle.hg_log.specs.declared.colour.Colour.TheVariants.{Yellow};
+ghost use Rattle.hg_log.specs.Colours.{in_colour};
 ghost use Rattle.hg_log.specs.Drawings.{Extends, short_id};
+ghost use Rattle.hg_log.specs.Titles.{escaped};
 
+use crate::colour::{Colour, push_coloured};
 use crate::titles::label_of;
 use hg_changeset::Node;
 use hg_replica::Replica;
@@ -12,15 +17,32 @@ use std::alloc::AllocError;
 pub fn push_short_id(line: &mut Vec<u8>, node: Node) -> Result<(), AllocError>
     ensures { OnOk result (line.new.items ≡ line.old.items ++ short_id node) }
 {
-    line.extend_from_slice(&node.to_hex()[..12])?;
-    Ok(())
+    push_id(line, node, false)
+}
+
+/// Appends the short id, in yellow where there are to be colours.
+pub(crate) fn push_id(line: &mut Vec<u8>, node: Node, is_coloured: bool) -> Result<(), AllocError>
+    ensures { OnOk result (line.new.items ≡ line.old.items ++ in_colour Yellow is_coloured (short_id node)) }
+{
+    push_coloured(line, Colour::Yellow, is_coloured, &node.to_hex()[..12])
 }
 
 /// Appends a label. Bytes that aren't printed, quotes and backslashes are written as `escape_ascii` has them.
 pub fn push_label(line: &mut Vec<u8>, label: &[u8]) -> Result<(), AllocError>
-    ensures { OnOk result (Extends line.old.items line.new.items) }
+    ensures { OnOk result (line.new.items ≡ line.old.items ++ escaped label.now) }
 {
-    line.extend(label.escape_ascii())?;
+    for byte in label {
+        push_escape(line, *byte)?;
+    }
+    Ok(())
+}
+
+fn push_escape(line: &mut Vec<u8>, byte: u8) -> Result<(), AllocError>
+    ensures { OnOk result (line.new.items ≡ line.old.items ++ escape_ascii byte) }
+{
+    for part in byte.escape_ascii() {
+        line.push(part)?;
+    }
     Ok(())
 }
 
@@ -29,28 +51,50 @@ pub(crate) fn push_name(
     line: &mut Vec<u8>,
     replica: &Replica,
     node: Node,
+    is_coloured: bool,
 ) -> Result<(), AllocError> {
     match replica.graph().changeset(node) {
         Some(changeset) => push_label(line, label_of(changeset)),
-        None => push_short_id(line, node),
+        None => push_id(line, node, is_coloured),
     }
 }
 
-/// Appends what is unstable about a changeset, with a blank before each word.
-pub(crate) fn push_unstable(line: &mut Vec<u8>, status: Status) -> Result<(), AllocError>
+/// Appends what is unstable about a changeset, with a blank before each word. Words are red where there are to be
+/// colours.
+pub(crate) fn push_unstable(
+    line: &mut Vec<u8>,
+    status: Status,
+    is_coloured: bool,
+) -> Result<(), AllocError>
     ensures { OnOk result (Extends line.old.items line.new.items) }
 {
-    push_where(line, status.orphan, b" orphan")?;
-    push_where(line, status.phase_divergent, b" phase-divergent")?;
-    push_where(line, status.content_divergent, b" content-divergent")?;
+    push_where(line, status.orphan, is_coloured, b"orphan")?;
+    push_where(
+        line,
+        status.phase_divergent,
+        is_coloured,
+        b"phase-divergent",
+    )?;
+    push_where(
+        line,
+        status.content_divergent,
+        is_coloured,
+        b"content-divergent",
+    )?;
     Ok(())
 }
 
-fn push_where(line: &mut Vec<u8>, is_so: bool, word: &[u8]) -> Result<(), AllocError>
+fn push_where(
+    line: &mut Vec<u8>,
+    is_so: bool,
+    is_coloured: bool,
+    word: &[u8],
+) -> Result<(), AllocError>
     ensures { OnOk result (Extends line.old.items line.new.items) }
 {
     if is_so {
-        line.extend_from_slice(word)?;
+        line.push(b' ')?;
+        push_coloured(line, Colour::Red, is_coloured, word)?;
     }
     Ok(())
 }

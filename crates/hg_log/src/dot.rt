@@ -1,10 +1,11 @@
 //! The histories of nodes as a graph for Graphviz.
-ghost use Rattle.std.specs.Prelude.{◌<◌, OnOk, length};
+ghost use Rattle.std.specs.Prelude.{◌≡◌, ◌<◌, All, IfSome, IsNone, OnOk, length};
 ghost use Rattle.std.specs.Io.KnownBytes.{Appends};
 ghost use Rattle.hg_changeset.specs.declared.node.Node.{Node as NodeValue};
+ghost use Rattle.hg_changeset.specs.Changeset.{node_of};
 ghost use Rattle.hg_phases.specs.State.{changesets};
 ghost use Rattle.hg_log.specs.Drawings.{AreAllDrawn, Grows, IsDrawnText, IsGraph, StandsAt, Text};
-ghost use Rattle.hg_log.specs.Graphs.{AreClusters, IsGraphOf};
+ghost use Rattle.hg_log.specs.Graphs.{AreClusters, IsGraphOf, IsHeldBy};
 ghost use Rattle.hg_log.specs.Objects.{names_and_states};
 
 use crate::boxes::{
@@ -14,7 +15,7 @@ use crate::fault::DrawFault;
 use crate::line::{write_bytes, write_line};
 use crate::named::NamedNode;
 use crate::shown::{Shown, node_at};
-use hg_changeset::Node;
+use hg_changeset::{Changeset, Node};
 use hg_marker::Marker;
 use hg_view::Kept;
 use std::alloc::Global;
@@ -38,6 +39,41 @@ two frames: pinned\\l\"];
 }
 ";
 
+// A node's cluster: its name, what of its replica is drawn, and all nodes whose labels may be used.
+#[derive(Clone, Copy)]
+struct Cluster<'a> {
+    name: &'a [u8],
+    shown: Shown<'a>,
+    known: &'a [NamedNode<'a>],
+}
+
+impl<'a> Cluster<'a> {
+    // The changeset with this id: as the node holds it, or else as the first of those that are known does.
+    fn changeset(&self, node: Node) -> Option<&'a Changeset>
+        ensures found { IfSome result (λ c. node_of c.now ≡ node) }
+        ensures missing { IsNone result → All (λ n. ¬ (IsHeldBy n node)) self.now.known.now }
+    {
+        match self.shown.kept.replica().graph().changeset(node) {
+            Some(changeset) => Some(changeset),
+            None => first_changeset(self.known, node),
+        }
+    }
+}
+
+// The changeset with this id, as the first of these nodes holds it that does.
+fn first_changeset<'a>(nodes: &'a [NamedNode<'a>], id: Node) -> Option<&'a Changeset>
+    ensures found { IfSome result (λ c. node_of c.now ≡ id) }
+    ensures missing { IsNone result → All (λ n. ¬ (IsHeldBy n id)) nodes.now }
+{
+    for node in nodes {
+        match node.kept.replica().graph().changeset(id) {
+            Some(changeset) => return Some(changeset),
+            None => {}
+        }
+    }
+    None
+}
+
 /// Draws the histories of nodes as they are now, under their pins, as one digraph in the language of Graphviz with a
 /// cluster for each node: what is visible, or all that is held where `shows_hidden` is true.
 ///
@@ -47,7 +83,9 @@ two frames: pinned\\l\"];
 /// gray where it is obsolete. What is unstable is filled, what is hidden is dashed, what was pruned has its corners
 /// cut, and what is pinned has two frames. A solid edge leads to each parent, and a dashed one from what was rewritten
 /// to each successor, with the word for how. Markers are those that rewrote what is drawn, or all where `shows_hidden`
-/// is true. What they name that isn't drawn is a dotted box. A box without a frame tells what all this means:
+/// is true. What they name that isn't drawn is a dotted box. What the cluster's node doesn't even hold is called as the
+/// first of the `known` nodes calls it that holds it, and has no phase; where none holds it, it has its id alone. A box
+/// without a frame tells what all this means:
 ///
 /// ```text
 /// digraph fleet {
@@ -65,12 +103,13 @@ two frames: pinned\\l\"];
 /// }
 /// ```
 ///
-/// It costs what is written, and a look at each marker that is held. [`DrawFault::Write`] comes where the writer
-/// refuses a line, [`DrawFault::NoMemory`] only where memory is refused for a line or for the ids that aren't drawn;
-/// the lines before stay written.
+/// It costs what is written, a look at each marker that is held, and a look-up a known node for each box of what isn't
+/// held. [`DrawFault::Write`] comes where the writer refuses a line, [`DrawFault::NoMemory`] only where memory is
+/// refused for a line or for the ids that aren't drawn; the lines before stay written.
 pub fn draw_graphs<W: Write>(
     alloc: Global,
     nodes: &[NamedNode<'_>],
+    known: &[NamedNode<'_>],
     shows_hidden: bool,
     writer: &mut W,
 ) -> Result<(), DrawFault>
@@ -78,15 +117,16 @@ pub fn draw_graphs<W: Write>(
         × Appends (W.contents writer.old) (W.contents writer.new) text) }
 {
     write_bytes(HEAD.as_bytes(), writer)?;
-    draw_clusters(alloc, nodes, shows_hidden, writer)?;
+    draw_clusters(alloc, nodes, known, shows_hidden, writer)?;
     write_bytes(LEGEND.as_bytes(), writer)?;
     Ok(())
 }
 
 // Draws the cluster of each node.
-fn draw_clusters<W: Write>(
+fn draw_clusters<'a, W: Write>(
     alloc: Global,
-    nodes: &[NamedNode<'_>],
+    nodes: &'a [NamedNode<'a>],
+    known: &'a [NamedNode<'a>],
     shows_hidden: bool,
     writer: &mut W,
 ) -> Result<(), DrawFault>
@@ -99,25 +139,29 @@ fn draw_clusters<W: Write>(
             kept: node.kept,
             shows_hidden,
         };
-        draw_cluster(alloc, node.name, &shown, &mut line, writer)?;
+        let cluster = Cluster {
+            name: node.name,
+            shown,
+            known,
+        };
+        draw_cluster(alloc, &cluster, &mut line, writer)?;
     }
     Ok(())
 }
 
-// Draws a node's cluster of this name.
+// Draws a node's cluster.
 fn draw_cluster<W: Write>(
     alloc: Global,
-    name: &[u8],
-    shown: &Shown<'_>,
+    cluster: &Cluster<'_>,
     line: &mut Vec<u8>,
     writer: &mut W,
 ) -> Result<(), DrawFault>
-    ensures { OnOk result ((text : Text) × IsGraph shown.now.kept.now shown.now.shows_hidden text
+    ensures { OnOk result ((text : Text) × IsGraph cluster.now.shown.kept.now cluster.now.shown.shows_hidden text
         × Appends (W.contents writer.old) (W.contents writer.new) text) }
 {
-    draw_heading(name, line, writer)?;
-    draw_changesets(name, shown, line, writer)?;
-    draw_markers(alloc, name, shown, line, writer)?;
+    draw_heading(cluster.name, line, writer)?;
+    draw_changesets(cluster, line, writer)?;
+    draw_markers(alloc, cluster, line, writer)?;
     line.extend_from_slice(b"    }")?;
     write_line(line, writer)?;
     Ok(())
@@ -138,18 +182,18 @@ fn draw_heading<W: Write>(name: &[u8], line: &mut Vec<u8>, writer: &mut W) -> Re
 
 // Draws the boxes of the changesets with the edges to their parents, from the last place to the first.
 fn draw_changesets<W: Write>(
-    name: &[u8],
-    shown: &Shown<'_>,
+    cluster: &Cluster<'_>,
     line: &mut Vec<u8>,
     writer: &mut W,
 ) -> Result<(), DrawFault>
-    ensures { OnOk result ((text : Text) × AreAllDrawn shown.now.kept.now shown.now.shows_hidden text
+    ensures { OnOk result ((text : Text) × AreAllDrawn cluster.now.shown.kept.now cluster.now.shown.shows_hidden text
         × Appends (W.contents writer.old) (W.contents writer.new) text) }
 {
+    let shown = cluster.shown;
     let len = shown.kept.replica().graph().len();
     for place in (0..len).rev() {
         if shown.has_place(place) {
-            draw_changeset(name, shown.kept, place, line, writer)?;
+            draw_changeset(cluster.name, shown.kept, place, line, writer)?;
         }
     }
     Ok(())
@@ -199,16 +243,15 @@ fn draw_parent_edge<W: Write>(
 // Draws what markers say, with a box for each id that isn't drawn.
 fn draw_markers<W: Write>(
     alloc: Global,
-    name: &[u8],
-    shown: &Shown<'_>,
+    cluster: &Cluster<'_>,
     line: &mut Vec<u8>,
     writer: &mut W,
 ) -> Result<(), DrawFault>
     ensures { OnOk result (Grows (W.contents writer.old) (W.contents writer.new)) }
 {
     let mut others = BTreeSet::new(alloc);
-    for marker in shown.kept.replica().store().markers() {
-        draw_marker(name, shown, marker, &mut others, line, writer)?;
+    for marker in cluster.shown.kept.replica().store().markers() {
+        draw_marker(cluster, marker, &mut others, line, writer)?;
     }
     Ok(())
 }
@@ -216,8 +259,7 @@ fn draw_markers<W: Write>(
 // Draws what a marker says that rewrote what is drawn, or any where all is. The others are those that have a box
 // already, though they aren't drawn as changesets.
 fn draw_marker<W: Write>(
-    name: &[u8],
-    shown: &Shown<'_>,
+    cluster: &Cluster<'_>,
     marker: &Marker,
     others: &mut BTreeSet<Node>,
     line: &mut Vec<u8>,
@@ -226,13 +268,13 @@ fn draw_marker<W: Write>(
     ensures { OnOk result (Grows (W.contents writer.old) (W.contents writer.new)) }
 {
     let old = marker.predecessor();
-    if !shown.has_rewritten(old) {
+    if !cluster.shown.has_rewritten(old) {
         return Ok(());
     }
-    draw_other(name, shown, old, others, line, writer)?;
+    draw_other(cluster, old, others, line, writer)?;
     for new in marker.successors() {
-        draw_other(name, shown, *new, others, line, writer)?;
-        push_successor_edge(line, name, marker, *new)?;
+        draw_other(cluster, *new, others, line, writer)?;
+        push_successor_edge(line, cluster.name, marker, *new)?;
         write_line(line, writer)?;
     }
     Ok(())
@@ -240,8 +282,7 @@ fn draw_marker<W: Write>(
 
 // Draws the box of an id that isn't drawn as a changeset, unless that is done.
 fn draw_other<W: Write>(
-    name: &[u8],
-    shown: &Shown<'_>,
+    cluster: &Cluster<'_>,
     node: Node,
     others: &mut BTreeSet<Node>,
     line: &mut Vec<u8>,
@@ -249,12 +290,11 @@ fn draw_other<W: Write>(
 ) -> Result<(), DrawFault>
     ensures { OnOk result (Grows (W.contents writer.old) (W.contents writer.new)) }
 {
-    if shown.has(node) || !others.insert(node)? {
+    if cluster.shown.has(node) || !others.insert(node)? {
         return Ok(());
     }
-    let replica = shown.kept.replica();
-    push_box(line, name, node, replica.graph().changeset(node))?;
-    push_looks_of_other(line, replica, node)?;
+    push_box(line, cluster.name, node, cluster.changeset(node))?;
+    push_looks_of_other(line, cluster.shown.kept.replica(), node)?;
     write_line(line, writer)?;
     Ok(())
 }

@@ -29,16 +29,18 @@ pub(crate) fn is_pruned(replica: &Replica, markers: &[usize]) -> bool {
     })
 }
 
-/// Appends what the marker at a place says: how the changeset was rewritten, and to which others.
+/// Appends what the marker at a place says: how the changeset was rewritten, and to which others. Ids are yellow where
+/// there are to be colours.
 pub(crate) fn push_fate(
     line: &mut Vec<u8>,
     replica: &Replica,
     place: usize,
+    is_coloured: bool,
 ) -> Result<(), AllocError> {
     match replica.store().get(place) {
         Some(marker) => {
             line.extend_from_slice(rewriting_word(marker))?;
-            push_successors(line, replica, marker.successors())
+            push_successors(line, replica, marker.successors(), is_coloured)
         }
         None => Ok(()),
     }
@@ -92,11 +94,12 @@ fn push_successors(
     line: &mut Vec<u8>,
     replica: &Replica,
     successors: &[Node],
+    is_coloured: bool,
 ) -> Result<(), AllocError> {
     let mut divider: &[u8] = b" as ";
     for node in successors {
         line.extend_from_slice(divider)?;
-        push_name(line, replica, *node)?;
+        push_name(line, replica, *node, is_coloured)?;
         divider = b", ";
     }
     Ok(())

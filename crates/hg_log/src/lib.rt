@@ -11,16 +11,19 @@
 //! ```text
 //! fn draw_both<W: Write>(alloc: Global, kept: &Kept, writer: &mut W) -> Result<(), DrawFault> {
 //!     // What is visible under the pins, a line at a time, from the changeset that came last to the first.
-//!     draw_log(alloc, kept, false, writer)?;
+//!     let look = Look { shows_hidden: false, is_coloured: false };
+//!     draw_log(alloc, kept, look, writer)?;
 //!     // All that is held, with every marker, as input of `dot`. Either ends as `DrawFault::Write` where the writer
 //!     // refuses a line, and as `DrawFault::NoMemory` for want of memory. The lines before stay written.
-//!     draw_graphs(alloc, &[NamedNode { name: b"A", kept }], true, writer)
+//!     let nodes = [NamedNode { name: b"A", kept }];
+//!     draw_graphs(alloc, &nodes, &nodes, true, writer)
 //! }
 //! ```
 #![tactic(auto)]
 
 mod boxes;
 mod cells;
+mod colour;
 mod columns;
 mod described;
 mod dot;
@@ -31,6 +34,7 @@ mod json;
 mod kind;
 mod line;
 mod log;
+mod look;
 mod named;
 mod objects;
 mod shown;
@@ -42,6 +46,7 @@ pub use fate::rewriting_word;
 pub use fault::DrawFault;
 pub use line::write_line;
 pub use log::draw_log;
+pub use look::Look;
 pub use named::NamedNode;
 pub use objects::draw_objects;
 pub use shown::node_at;

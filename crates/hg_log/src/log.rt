@@ -7,11 +7,12 @@ ghost use Rattle.hg_log.specs.Drawings.{AreAllDrawn, Grows, HasId, IsDrawnText, 
 
 use crate::cells::{Line, needs_padding, push_columns};
 use crate::columns::{Columns, Row};
-use crate::described::{push_label, push_short_id, push_unstable};
+use crate::described::{push_id, push_label, push_unstable};
 use crate::fate::{fates, push_fate};
 use crate::fault::DrawFault;
 use crate::kind::kind_of;
 use crate::line::write_line;
+use crate::look::Look;
 use crate::shown::{Shown, node_at};
 use crate::titles::label_of;
 use hg_changeset::Node;
@@ -21,7 +22,7 @@ use std::alloc::{AllocError, Global};
 use std::io::Write;
 
 /// Draws the history of a replica as it is now, under the pins of its node: what is visible, or all that is held where
-/// `shows_hidden` is true.
+/// the look has `shows_hidden`.
 ///
 /// The changesets come from the last place to the first, so each before its parents, in columns as Mercurial's `log -G`
 /// draws them. A row begins with the columns, where the changeset has `o`, or `*` where it is an orphan or divergent,
@@ -44,24 +45,37 @@ use std::io::Write;
 ///
 /// The line of the edges is there below a root too, and then empty. What can't be printed of a label is escaped.
 ///
+/// Where the look has `is_coloured`, the 12 digits of ids are yellow, as Mercurial's `log.changeset` is, and the words
+/// for what is unstable are red. Marks and phases stay plain, as Mercurial gives phases no colour.
+///
 /// It costs what is written. [`DrawFault::Write`] comes where the writer refuses a line, [`DrawFault::NoMemory`] only
 /// where memory is refused for a line or for the columns; the lines before stay written.
 pub fn draw_log<W: Write>(
     alloc: Global,
     kept: &Kept,
-    shows_hidden: bool,
+    look: Look,
     writer: &mut W,
 ) -> Result<(), DrawFault>
-    ensures { OnOk result ((text : Text) × AreAllDrawn kept.now shows_hidden text
+    ensures { OnOk result ((text : Text) × AreAllDrawn kept.now look.shows_hidden text
         × Appends (W.contents writer.old) (W.contents writer.new) text) }
 {
     let mut columns = Columns::new(alloc);
     let mut line = Vec::new(alloc);
-    let shown = Shown { kept, shows_hidden };
+    let shown = Shown {
+        kept,
+        shows_hidden: look.shows_hidden,
+    };
     let len = kept.replica().graph().len();
     for place in (0..len).rev() {
         if shown.has_place(place) {
-            draw_changeset(kept, place, &mut columns, &mut line, writer)?;
+            draw_changeset(
+                kept,
+                place,
+                look.is_coloured,
+                &mut columns,
+                &mut line,
+                writer,
+            )?;
         }
     }
     Ok(())
@@ -71,6 +85,7 @@ pub fn draw_log<W: Write>(
 fn draw_changeset<W: Write>(
     kept: &Kept,
     place: usize,
+    is_coloured: bool,
     columns: &mut Columns,
     line: &mut Vec<u8>,
     writer: &mut W,
@@ -87,9 +102,9 @@ fn draw_changeset<W: Write>(
     let mark = kind.mark();
     let is_tall = fates.len() > 1;
     push_columns(&row, Line::Changeset { mark, is_tall }, line)?;
-    push_description(kept, place, node, line)?;
+    push_description(kept, place, node, is_coloured, line)?;
     write_line(line, writer)?;
-    draw_below(replica, &row, fates, line, writer)?;
+    draw_below(replica, &row, fates, is_coloured, line, writer)?;
     Ok(())
 }
 
@@ -98,6 +113,7 @@ fn push_description(
     kept: &Kept,
     place: usize,
     node: Node,
+    is_coloured: bool,
     line: &mut Vec<u8>,
 ) -> Result<(), AllocError>
     requires { place < length (changesets kept.now.replica.history) }
@@ -106,12 +122,12 @@ fn push_description(
     let replica = kept.replica();
     let changeset = replica.graph().changeset_at(place).unwrap();
     let phase = replica.phase_at(place).unwrap();
-    push_short_id(line, node)?;
+    push_id(line, node, is_coloured)?;
     line.push(b' ')?;
     push_label(line, label_of(changeset))?;
     line.push(b' ')?;
     line.extend_from_slice(phase.word().as_bytes())?;
-    push_unstable(line, kept.status(node))?;
+    push_unstable(line, kept.status(node), is_coloured)?;
     Ok(())
 }
 
@@ -120,16 +136,25 @@ fn draw_below<W: Write>(
     replica: &Replica,
     row: &Row,
     fates: &[usize],
+    is_coloured: bool,
     line: &mut Vec<u8>,
     writer: &mut W,
 ) -> Result<(), DrawFault>
     ensures { OnOk result (Grows (W.contents writer.old) (W.contents writer.new)) }
 {
-    let rest = draw_padding(replica, row, fates, line, writer)?;
+    let rest = draw_padding(replica, row, fates, is_coloured, line, writer)?;
     let (fate, others) = next_fate(rest);
-    draw_beside(replica, row, Line::Edges, fate, line, writer)?;
+    draw_beside(replica, row, Line::Edges, fate, is_coloured, line, writer)?;
     for fate in others {
-        draw_beside(replica, row, Line::Below, Some(*fate), line, writer)?;
+        draw_beside(
+            replica,
+            row,
+            Line::Below,
+            Some(*fate),
+            is_coloured,
+            line,
+            writer,
+        )?;
     }
     Ok(())
 }
@@ -139,6 +164,7 @@ fn draw_padding<'a, W: Write>(
     replica: &Replica,
     row: &Row,
     fates: &'a [usize],
+    is_coloured: bool,
     line: &mut Vec<u8>,
     writer: &mut W,
 ) -> Result<&'a [usize], DrawFault>
@@ -146,7 +172,7 @@ fn draw_padding<'a, W: Write>(
 {
     if fates.len() > 1 && needs_padding(row) {
         let (fate, others) = next_fate(fates);
-        draw_beside(replica, row, Line::Padding, fate, line, writer)?;
+        draw_beside(replica, row, Line::Padding, fate, is_coloured, line, writer)?;
         return Ok(others);
     }
     Ok(fates)
@@ -166,6 +192,7 @@ fn draw_beside<W: Write>(
     row: &Row,
     columns: Line,
     fate: Option<usize>,
+    is_coloured: bool,
     line: &mut Vec<u8>,
     writer: &mut W,
 ) -> Result<(), DrawFault>
@@ -173,7 +200,7 @@ fn draw_beside<W: Write>(
 {
     push_columns(row, columns, line)?;
     if let Some(fate) = fate {
-        push_fate(line, replica, fate)?;
+        push_fate(line, replica, fate, is_coloured)?;
     }
     write_line(line, writer)?;
     Ok(())

@@ -4,7 +4,7 @@ ghost use Rattle.std.specs.Io.KnownBytes.{Appends};
 ghost use Rattle.hg_phases.specs.State.{changesets};
 ghost use Rattle.hg_log.specs.Drawings.{Text};
 ghost use Rattle.hg_log.specs.Entries.{Entry};
-ghost use Rattle.hg_log.specs.Objects.{AreNodeTold, AreTold, IsArray, IsEntryOf, WritesEntries};
+ghost use Rattle.hg_log.specs.Objects.{AreNodeEntries, AreEntries, IsArray, IsEntryOf, WritesEntries};
 ghost use Rattle.hg_log.specs.Objects.{named, names_and_states, objects_text};
 
 use crate::entry::push_object;
@@ -72,7 +72,7 @@ fn draw_nodes<W: Write>(
     line: &mut Vec<u8>,
     writer: &mut W,
 ) -> Result<(), DrawFault>
-    ensures { OnOk result ((es : List Entry) × AreTold shows_hidden (names_and_states nodes.now) es
+    ensures { OnOk result ((es : List Entry) × AreEntries shows_hidden (names_and_states nodes.now) es
         × Appends (W.contents writer.old) (W.contents writer.new) (objects_text false es)) }
 {
     let mut is_behind = false;
@@ -90,7 +90,7 @@ fn draw_node<W: Write>(
     line: &mut Vec<u8>,
     writer: &mut W,
 ) -> Result<(), DrawFault>
-    ensures { OnOk result (WritesEntries (AreNodeTold shows_hidden (named node.now)) is_behind.old is_behind.new
+    ensures { OnOk result (WritesEntries (AreNodeEntries shows_hidden (named node.now)) is_behind.old is_behind.new
         (W.contents writer.old) (W.contents writer.new)) }
 {
     let shown = Shown {

@@ -2,17 +2,31 @@
 //! reads it. Those of scripts are drawn by cases of `examples/`. The ids are the SHA-1 of parents and labels.
 use crate::scene::{commit, rewrite};
 use hg_changeset::Node;
-use hg_log::{NamedNode, draw_graphs, draw_log};
+use hg_log::{Look, NamedNode, draw_graphs, draw_log};
 use hg_phases::Phase;
 use hg_replica::Replica;
 use hg_view::Kept;
 use std::alloc::Global;
 use std::process::Abort;
 
-// Ids under which nothing is held.
+// An id under which nothing is held.
 const ELSEWHERE: Node = Node([0x11; 20]);
 
-const NOWHERE: Node = Node([0x22; 20]);
+// How histories are drawn.
+const VISIBLE: Look = Look {
+    shows_hidden: false,
+    is_coloured: false,
+};
+
+const WHOLE: Look = Look {
+    shows_hidden: true,
+    is_coloured: false,
+};
+
+const COLOURED: Look = Look {
+    shows_hidden: true,
+    is_coloured: true,
+};
 
 // Takes in a draft on another changeset.
 fn draft(alloc: Global, replica: &mut Replica, parent: Node, label: &[u8]) -> Option<Node> {
@@ -25,10 +39,10 @@ fn mark(alloc: Global, replica: &mut Replica, by: &[u8], old: Node, new: &[Node]
 }
 
 // The history is drawn so.
-fn expect(rt: &impl Abort, alloc: Global, replica: Replica, shows_hidden: bool, picture: &[u8]) {
+fn expect(rt: &impl Abort, alloc: Global, replica: Replica, look: Look, picture: &[u8]) {
     let kept = Kept::new(alloc, replica).expect(rt, "memory");
     let mut drawn = Vec::new(alloc);
-    draw_log(alloc, &kept, shows_hidden, &mut drawn).expect(rt, "memory");
+    draw_log(alloc, &kept, look, &mut drawn).expect(rt, "memory");
     assert!(rt; drawn.as_slice() == picture);
 }
 
@@ -62,7 +76,7 @@ fn what_became_of_one_changeset_takes_a_line_for_each_marker(rt: HostRuntime) {
             /\n\
             o  9432a39b05bc q draft\n\
             \n";
-    expect(&rt, alloc, replica, false, picture);
+    expect(&rt, alloc, replica, VISIBLE, picture);
 }
 
 // One that was amended twice, and rewritten by something else.
@@ -91,7 +105,25 @@ fn columns_go_on_beside_a_tall_text(rt: HostRuntime) {
             |    rewritten as 111111111111\n\
             o  047b75c6d7a3 a draft\n\
             \n";
-    expect(&rt, alloc, replica, true, picture);
+    expect(&rt, alloc, replica, WHOLE, picture);
+}
+
+#[test]
+fn ids_are_yellow_and_what_is_unstable_is_red(rt: HostRuntime) {
+    let alloc = rt.alloc();
+    let mut replica = Replica::new(alloc);
+    divergent(alloc, &mut replica).expect(&rt, "memory");
+    let picture = b"*  \x1b[0;33m5a152ad92850\x1b[0m y draft \x1b[0;31mcontent-divergent\x1b[0m\n\
+            |\n\
+            | *  \x1b[0;33m9cfa07613306\x1b[0m x draft \x1b[0;31mcontent-divergent\x1b[0m\n\
+            |/\n\
+            | #  \x1b[0;33m544d83e6863f\x1b[0m b draft\n\
+            |/   amended as x\n\
+            |    amended as y\n\
+            |    rewritten as \x1b[0;33m111111111111\x1b[0m\n\
+            o  \x1b[0;33m047b75c6d7a3\x1b[0m a draft\n\
+            \n";
+    expect(&rt, alloc, replica, COLOURED, picture);
 }
 
 #[test]
@@ -101,19 +133,27 @@ fn what_isnt_printed_of_a_label_is_escaped(rt: HostRuntime) {
     draft(alloc, &mut replica, Node::NULL, b"first\n\"\\\t\xff").expect(&rt, "memory");
     let picture = b"o  e92259e19409 \\\"\\\\\\t\\xff draft\n\
             \n";
-    expect(&rt, alloc, replica, false, picture);
+    expect(&rt, alloc, replica, VISIBLE, picture);
 }
 
-// One whose label is hard to quote was pruned, and of another rewrite nothing is held.
-fn pruned(alloc: Global) -> Option<Kept> {
+// One whose label is hard to quote was pruned, and what isn't held was rewritten to another that isn't either.
+fn pruned(alloc: Global, other: Node) -> Option<Kept> {
     let mut replica = Replica::new(alloc);
     let old = draft(alloc, &mut replica, Node::NULL, b"first\n\"\\\t\xff")?;
     mark(alloc, &mut replica, b"prune", old, &[])?;
-    mark(alloc, &mut replica, b"amend", ELSEWHERE, &[NOWHERE])?;
+    mark(alloc, &mut replica, b"amend", ELSEWHERE, &[other])?;
     Kept::new(alloc, replica).ok()
 }
 
-// Its graph, up to the end of the cluster.
+// What holds only one changeset.
+fn single(alloc: Global) -> Option<(Node, Kept)> {
+    let mut replica = Replica::new(alloc);
+    let only = draft(alloc, &mut replica, Node::NULL, b"q")?;
+    let kept = Kept::new(alloc, replica).ok()?;
+    Some((only, kept))
+}
+
+// The graph of the first, where the other node is known, up to the end of the cluster.
 const QUOTED: &[u8] = b"digraph fleet {
     node [shape=box];
     subgraph \"cluster_A\" {
@@ -121,20 +161,25 @@ const QUOTED: &[u8] = b"digraph fleet {
         \"A e92259e19409\" [label=\"e92259e19409\\n\\\\\\\"\\\\\\\\\\\\t\\\\xff\\ndraft\", \
             color=gray, style=\"dashed,diagonals\"];
         \"A 111111111111\" [label=\"111111111111\\nnot held\", style=dotted];
-        \"A 222222222222\" [label=\"222222222222\\nnot held\", style=dotted];
-        \"A 111111111111\" -> \"A 222222222222\" [style=dashed, constraint=false, label=\"amended\"];
+        \"A 9432a39b05bc\" [label=\"9432a39b05bc\\nq\\nnot held\", style=dotted];
+        \"A 111111111111\" -> \"A 9432a39b05bc\" [style=dashed, constraint=false, label=\"amended\"];
     }
 ";
 
 #[test]
 fn what_isnt_held_is_dotted_and_labels_are_quoted(rt: HostRuntime) {
     let alloc = rt.alloc();
-    let kept = pruned(alloc).expect(&rt, "memory");
+    let (other, holder) = single(alloc).expect(&rt, "memory");
+    let kept = pruned(alloc, other).expect(&rt, "memory");
     let nodes = [NamedNode {
         name: b"A",
         kept: &kept,
     }];
+    let known = [NamedNode {
+        name: b"B",
+        kept: &holder,
+    }];
     let mut drawn = Vec::new(alloc);
-    draw_graphs(alloc, &nodes, true, &mut drawn).expect(&rt, "memory");
+    draw_graphs(alloc, &nodes, &known, true, &mut drawn).expect(&rt, "memory");
     assert!(rt; drawn.starts_with(QUOTED));
 }

@@ -10,6 +10,7 @@ use crate::line::{print_line, push_escaped, push_node, push_nodes, push_shown};
 use crate::roots::push_root;
 use crate::store::print_markers;
 use hg_changeset::{Changeset, Node};
+use hg_log::title_of;
 use hg_marker::ReadError;
 use hg_message::{Message, Scope};
 use hg_phases::Phase;
@@ -119,7 +120,7 @@ fn push_details(alloc: Global, line: &mut Vec<u8>, changeset: &Changeset) -> Res
     push_parents(line, changeset.parents())?;
     let len = changeset.text().len();
     push_shown(alloc, line, format_args!(" {len} bytes"))?;
-    push_summary(line, changeset.text())
+    push_summary(line, changeset)
 }
 
 // Appends those of the parents that aren't absent. A null id, which stands for an absent one, is last.
@@ -137,25 +138,15 @@ fn push_parents(line: &mut Vec<u8>, parents: (Node, Node)) -> Result<(), AllocEr
 }
 
 // Appends a colon, a space and the first line of the description, where the text is that of an entry.
-fn push_summary(line: &mut Vec<u8>, text: &[u8]) -> Result<(), AllocError>
+fn push_summary(line: &mut Vec<u8>, changeset: &Changeset) -> Result<(), AllocError>
     ensures { OnOk result ((text : Text) × (line.new.items ≡ line.old.items ++ text)) }
 {
-    match summary(text) {
-        Some(summary) => {
+    match title_of(changeset) {
+        Some(title) => {
             line.extend_from_slice(b": ")?;
-            push_escaped(line, summary, None)
+            push_escaped(line, title, None)
         }
         None => Ok(()),
-    }
-}
-
-// The first line of the description of an entry: what follows its first empty line. The text of an entry begins with a
-// line of 40 hexadecimal digits, the id of its manifest.
-fn summary(text: &[u8]) -> Option<&[u8]> {
-    let mut lines = text.split(|byte| *byte == b'\n');
-    match Node::from_hex(lines.next()?) {
-        Ok(_) => lines.skip_while(|line| !line.is_empty()).nth(1),
-        Err(_) => None,
     }
 }
 

@@ -1,8 +1,8 @@
 use Rattle.hg_log.specs.Objects.{WritesEntries, named}
-use Rattle.hg_log.proofs.EntryLemmas.{AreToldFrom}
+use Rattle.hg_log.proofs.EntryLemmas.{AreEntriesAt}
 use Rattle.hg_log.proofs.objects.draw_node.Given as goal
 
 abbrev pub invariant-loop-place : goal.invariant-loop-place
 invariant-loop-place g l =
-    WritesEntries (AreToldFrom (named l.node) l.shows_hidden l.place) l.initial.is_behind l.is_behind
+    WritesEntries (AreEntriesAt (named l.node) l.shows_hidden l.place) l.initial.is_behind l.is_behind
     (g.W.Write.contents l.initial.writer) (g.W.Write.contents l.writer)
