@@ -4,7 +4,7 @@ use hg_changeset::{Node, entry_text};
 use hg_phases::Phase;
 use hg_replica::Replica;
 use hg_view::Kept;
-use hg_why::{Fate, Reason, fate_of, reasons, write_why};
+use hg_why::{Fate, Reason, Remedy, fate_of, knows, reasons, write_fate, write_why};
 use std::alloc::Global;
 
 // An id under which nothing is held.
@@ -85,7 +85,7 @@ fn each_unstable_changeset_has_a_block(rt: HostRuntime) {
             g2 cb42ccb0580a\n  \
             content-divergent with g1 81828835c3e5: both lead back to 111111111111, which alice doesn't hold\n";
     let mut written = Vec::new(alloc);
-    write_why(alloc, b"alice", &kept, &mut written).expect(&rt, "memory");
+    write_why(alloc, b"alice", &kept, Remedy::ScriptLine, &mut written).expect(&rt, "memory");
     assert!(rt; written.as_slice() == blocks.as_slice());
 }
 
@@ -101,4 +101,18 @@ fn what_is_obsolete_has_a_fate_and_no_reasons(rt: HostRuntime) {
     let alloc = rt.alloc();
     let (kept, feature) = scene(alloc).expect(&rt, "memory");
     assert!(rt; rewritten(alloc, &kept, feature) == Some((2, true)));
+}
+
+#[test]
+fn a_line_has_what_became_of_a_changeset(rt: HostRuntime) {
+    let alloc = rt.alloc();
+    let (kept, feature) = scene(alloc).expect(&rt, "memory");
+    let lines = b"fate of feature at alice: {feature-bob} or {feature-alice}\n\
+            fate of \\\"g\\\" at alice: {g1} or {g2}\n";
+    let mut written = Vec::new(alloc);
+    write_fate(alloc, b"feature", b"alice", &kept, feature, &mut written).expect(&rt, "memory");
+    write_fate(alloc, b"\"g\"", b"alice", &kept, ELSEWHERE, &mut written).expect(&rt, "memory");
+    assert!(rt; written.as_slice() == lines.as_slice());
+    assert!(rt; knows(&kept, ELSEWHERE));
+    assert!(rt; !knows(&kept, Node([0x22; 20])));
 }

@@ -1,3 +1,6 @@
 pub mod BeforeLemmas
 pub mod CauseLemmas
 pub mod BlockLemmas
+pub mod DividerLemmas
+pub mod NameLemmas
+pub mod FateLemmas

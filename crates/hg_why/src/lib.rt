@@ -4,7 +4,8 @@
 //! phase-divergent, and each id by which it is content-divergent, with that id's successors sets. It tells all of them,
 //! and nothing else, so there is a reason of a kind exactly where the changeset has that instability. [`fate_of`] tells
 //! which markers rewrote an obsolete changeset, and its successors sets. [`write_why`] writes the reasons of all
-//! unstable changesets of a replica, as Mercurial's `evolve --list` does.
+//! unstable changesets of a replica, as Mercurial's `evolve --list` does, and [`write_fate`] a line with the successors
+//! sets of one changeset.
 //!
 //! # Example
 //!
@@ -24,20 +25,25 @@
 //!
 //! # Modules
 //!
-//! `before` has the walk over markers to what precedes an id, `causes` the reasons, `fate` what became of a changeset.
-//! `named` and `told` write what changesets are called and what a reason says, `why` the blocks.
+//! `before` has the walk over markers to what precedes an id, `causes` the reasons, `fate` what became of a changeset,
+//! and `fate_line` writes that. `named` and `told` write what changesets are called and what a reason says, `why` the
+//! blocks.
 #![tactic(auto)]
 
 mod before;
 mod causes;
 mod fate;
+mod fate_line;
 mod named;
 mod reason;
+mod remedy;
 mod told;
 mod why;
 
 pub use causes::reasons;
 pub use fate::{Fate, fate_of};
+pub use fate_line::{knows, write_fate};
 pub use named::push_named;
 pub use reason::Reason;
+pub use remedy::Remedy;
 pub use why::write_why;

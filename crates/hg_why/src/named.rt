@@ -1,6 +1,8 @@
 //! What changesets are called.
-ghost use Rattle.std.specs.Prelude.{◌≡◌, ◌++◌, OnOk};
-ghost use Rattle.hg_log.specs.Drawings.{Extends, HasId};
+ghost use Rattle.std.specs.Prelude.{◌≡◌, ◌++◌, OnOk, option_map};
+ghost use Rattle.hg_replica.specs.Content.{content_of};
+ghost use Rattle.hg_log.specs.Drawings.{HasId};
+ghost use Rattle.hg_why.specs.Names.{name_of, title_at};
 
 use hg_changeset::Node;
 use hg_log::{push_label, push_short_id, title_of};
@@ -28,11 +30,9 @@ fn push_title(line: &mut Vec<u8>, replica: &Replica, node: Node) -> Result<(), A
 }
 
 /// Appends what a changeset is called, or else its short id.
-pub(crate) fn push_name(
-    line: &mut Vec<u8>,
-    replica: &Replica,
-    node: Node,
-) -> Result<(), AllocError> {
+pub(crate) fn push_name(line: &mut Vec<u8>, replica: &Replica, node: Node) -> Result<(), AllocError>
+    ensures { OnOk result (line.new.items ≡ line.old.items ++ name_of (content_of replica.now) node) }
+{
     match title_at(replica, node) {
         Some(title) => push_label(line, title),
         None => push_short_id(line, node),
@@ -70,7 +70,9 @@ pub(crate) fn push_successors(
 }
 
 // The first line of a changeset's description, where it is held and its text is that of an entry.
-fn title_at(replica: &Replica, node: Node) -> Option<&[u8]> {
+fn title_at(replica: &Replica, node: Node) -> Option<&[u8]>
+    ensures { option_map (λ s. s.now) result ≡ title_at (content_of replica.now) node }
+{
     match replica.graph().changeset(node) {
         Some(changeset) => title_of(changeset),
         None => None,

@@ -5,6 +5,7 @@ ghost use Rattle.hg_log.specs.Drawings.{Grows};
 
 use crate::named::{push_each_named, push_name, push_named, push_successors};
 use crate::reason::Reason;
+use crate::remedy::Remedy;
 use hg_changeset::Node;
 use hg_log::{DrawFault, push_short_id, rewriting_word, write_line};
 use hg_marker::Marker;
@@ -14,12 +15,13 @@ use hg_view::Kept;
 use std::alloc::{AllocError, Global};
 use std::io::Write;
 
-/// Of what reasons are told, and what that is called.
+/// Of what reasons are told, what that is called, and what is told of a remedy.
 #[derive(Clone, Copy)]
 pub(crate) struct Telling<'a> {
     pub(crate) alloc: Global,
     pub(crate) name: &'a [u8],
     pub(crate) kept: &'a Kept,
+    pub(crate) remedy: Remedy,
 }
 
 impl<'a> Telling<'a> {
@@ -70,7 +72,23 @@ impl<'a> Telling<'a> {
         line.extend_from_slice(b" is obsolete,")?;
         push_ways(line, replica, parent)?;
         write_line(line, writer)?;
-        self.write_move(node, parent, line, writer)
+        self.write_remedy(node, parent, line, writer)
+    }
+
+    // Writes to where an orphan is moved, if a remedy is told.
+    fn write_remedy<W: Write>(
+        &self,
+        node: Node,
+        parent: Node,
+        line: &mut Vec<u8>,
+        writer: &mut W,
+    ) -> Result<(), DrawFault>
+        ensures { OnOk result (Grows (W.contents writer.old) (W.contents writer.new)) }
+    {
+        match self.remedy {
+            Remedy::ScriptLine => self.write_move(node, parent, line, writer),
+            Remedy::Untold => Ok(()),
+        }
     }
 
     // Writes to where an orphan is moved, if its parent's successors sets tell a changeset.

@@ -8,6 +8,7 @@ ghost use Rattle.hg_why.specs.Blocks.{IsBlockAt, IsWhy};
 use crate::causes::reasons;
 use crate::named::push_named;
 use crate::reason::Reason;
+use crate::remedy::Remedy;
 use crate::told::Telling;
 use hg_changeset::Node;
 use hg_log::{DrawFault, node_at, write_line};
@@ -18,7 +19,8 @@ use std::io::Write;
 /// Writes why changesets of a replica are unstable: a line with what the replica is called, and for each unstable
 /// changeset, in the graph's order, a block. Its first line has what the changeset is called and the first 12 digits of
 /// its id, each further line a reason, and below that an orphan's parent was rewritten, how the orphan is moved where
-/// that went. Say `b` stood on `a` when `a` was amended, and amended elsewhere in another way:
+/// that went, unless remedies are to be untold. Say `b` stood on `a` when `a` was amended, and amended elsewhere in
+/// another way:
 ///
 /// ```text
 /// why alice
@@ -40,6 +42,7 @@ pub fn write_why<W: Write>(
     alloc: Global,
     name: &[u8],
     kept: &Kept,
+    remedy: Remedy,
     writer: &mut W,
 ) -> Result<(), DrawFault>
     ensures { OnOk result ((text : Text) × IsWhy name.now kept.now text
@@ -49,7 +52,12 @@ pub fn write_why<W: Write>(
     line.extend_from_slice(b"why ")?;
     line.extend_from_slice(name)?;
     write_line(&mut line, writer)?;
-    let telling = Telling { alloc, name, kept };
+    let telling = Telling {
+        alloc,
+        name,
+        kept,
+        remedy,
+    };
     let len = kept.replica().graph().len();
     for place in 0..len {
         write_at(&telling, place, &mut line, writer)?;

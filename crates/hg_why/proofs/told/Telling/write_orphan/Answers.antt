@@ -8,4 +8,4 @@ returns g c =
     let written = c.in_ok-write_line-2.ensures.written in
     let first : Grows (g.W.Write.contents c.args.writer.now) (g.W.Write.contents c.write_line-2.new.writer) =
     (written.0, written.2) in
-    on_ok_weaker c.write_move.result (λ more. Grows-trans _ _ _ first more) c.write_move.ensures
+    on_ok_weaker c.write_remedy.result (λ more. Grows-trans _ _ _ first more) c.write_remedy.ensures
