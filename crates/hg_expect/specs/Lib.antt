@@ -1,2 +1,3 @@
 pub mod Expectations
 pub mod Filled
+pub mod Fronts

@@ -5,7 +5,7 @@ ghost use Rattle.hg_expect.specs.Expectations.{expected, is_head, marked, marked
 ghost use Rattle.hg_expect.specs.Filled.{differing_line, filled_line, hunk_head, hunk_of, under};
 
 use crate::expectation::{cut_expected, is_head, is_met};
-use crate::lines::cut_line;
+use crate::lines::{count_lines, cut_line};
 use std::alloc::{AllocError, Global};
 
 /// Appends a line, with this in front.
@@ -62,21 +62,6 @@ fn count_expected(text: &[u8]) -> usize
     let mut count = 0;
     let mut rest = text;
     while let Some((_, after)) = cut_expected(rest) {
-        count += 1;
-        rest = after;
-    }
-    count
-}
-
-// How many lines the text has.
-fn count_lines(text: &[u8]) -> usize
-    ensures count { result ≡ length (lines text.now) }
-    ensures few { result ≤ length text.now }
-{
-    let mut count = 0;
-    let mut rest = text;
-    while !rest.is_empty() {
-        let (_, after) = cut_line(rest);
         count += 1;
         rest = after;
     }

@@ -36,4 +36,4 @@ mod filling;
 mod lines;
 
 pub use checking::{Checked, check_script};
-pub use lines::cut_line;
+pub use lines::{count_lines, cut_line, first_lines};
