@@ -7,4 +7,5 @@ pub mod NameLemmas
 pub mod NoteLemmas
 pub mod ReportLemmas
 pub mod ScriptLemmas
+pub mod UnstableLemmas
 pub mod WordLemmas

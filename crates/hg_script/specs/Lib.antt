@@ -11,4 +11,5 @@ pub mod Reports
 pub mod Scripts
 pub mod Stops
 pub mod Told
+pub mod Unstable
 pub mod Words

@@ -128,8 +128,10 @@ impl Fleet {
         bound(&self.messages, name)
     }
 
-    /// The changeset that the label names.
-    pub(crate) fn node_of(&self, label: &[u8]) -> Option<Node> {
+    /// The id of the changeset with this label, if one was made: the same at each node.
+    pub fn node_of(&self, label: &[u8]) -> Option<Node>
+        ensures { result ≡ ids self.now label.now }
+    {
         self.labels.get(label)
     }
 

@@ -54,10 +54,12 @@ mod steps;
 mod telling;
 mod told;
 mod tracing;
+mod turned;
 
 pub use by_line::{PrintedScript, run_by_line};
 pub use fault::{LineFault, RunFault};
 pub use fleet::Fleet;
+pub use input::read_script;
 pub use limits::{LINE_LIMIT, NAME_LIMIT, SCRIPT_LIMIT, limits_are_those_of_the_format};
 pub use output::printed_lines_are_those_of_the_format;
 pub use script::{run_fleet, run_script};

@@ -29,7 +29,8 @@ use crate::output::LineName;
 use crate::script::run_line;
 use crate::spare::Spare;
 use crate::told::{Told, print_told};
-use crate::tracing::trace;
+use crate::tracing::{Done, trace};
+use crate::turned::unstable_before;
 use hg_expect::cut_line;
 use hg_node_set::IdKeys;
 use hg_peer::Peer;
@@ -284,12 +285,18 @@ fn tell_words<W: Write>(
     ensures stopped { IfErr result (λ told. (told.fault ≡ NoMemory) ⊎ EndsAt number fleet.old line.now told.fault) }
     ensures unwritten { IfErr result (λ told. IsOfLine told.fault → W.contents writer.new ≡ W.contents writer.old) }
 {
+    let before = unstable_before(fleet, words, notes.traces)?;
     let mut text = Vec::new(alloc);
     match show_line(alloc, fleet, number, line, notes, &mut text) {
         Ok(told) => {
-            push_notes(alloc, fleet, number, words, &told, notes, &mut text)?;
+            let done = Done {
+                number,
+                told,
+                before,
+            };
+            push_notes(alloc, fleet, words, &done, notes, &mut text)?;
             write_text(&text, writer)?;
-            Ok(told.refusals())
+            Ok(done.told.refusals())
         }
         Err(fault) => {
             keep_printed(&text, writer);
@@ -392,20 +399,19 @@ fn keep_printed<W: Write>(text: &[u8], writer: &mut W)
     }
 }
 
-// Appends to what the line with this number printed what is told of it.
+// Appends to what the line of these words printed what is told of it.
 fn push_notes(
     alloc: Global,
     fleet: &Fleet,
-    number: usize,
     words: &[&[u8]],
-    told: &Told,
+    done: &Done,
     notes: Notes,
     text: &mut Vec<u8>,
 ) -> Result<(), AllocError>
     ensures { OnOk result (IsAnnotated notes text.old.items text.new.items) }
 {
-    explain(alloc, fleet, words, told, notes.explains, text)?;
-    trace(alloc, fleet, number, words, told, notes.traces, text)
+    explain(alloc, fleet, words, &done.told, notes.explains, text)?;
+    trace(alloc, fleet, words, done, notes.traces, text)
 }
 
 // The fault that ended the script, with the word that it is about where that is asked for.

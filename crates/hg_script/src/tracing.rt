@@ -8,6 +8,7 @@ use crate::fleet::Fleet;
 use crate::marking::Marking;
 use crate::reading::read_command;
 use crate::told::Told;
+use crate::turned::{Unstable, push_turned};
 use hg_changeset::Node;
 use hg_peer::Scope;
 use hg_phases::Phase;
@@ -15,14 +16,22 @@ use hg_replica::Change;
 use hg_world::Answer;
 use std::alloc::{AllocError, Global};
 
-/// Appends a line of what the line with this number did, where lines are traced, and it was accepted and asked for an
+/// A line that was done.
+#[derive(Drop)]
+pub struct Done {
+    pub number: usize,
+    pub told: Told,
+    /// What was unstable before it at the node that it changed, where lines are traced.
+    pub before: Option<Unstable>,
+}
+
+/// Appends a line of what the line of these words did, where lines are traced, and it was accepted and asked for an
 /// event.
 pub fn trace(
     alloc: Global,
     fleet: &Fleet,
-    number: usize,
     words: &[&[u8]],
-    told: &Told,
+    done: &Done,
     traces: bool,
     text: &mut Vec<u8>,
 ) -> Result<(), AllocError>
@@ -31,7 +40,7 @@ pub fn trace(
     if !traces {
         return Ok(());
     }
-    let note = note_of(alloc, fleet, number, words, told)?;
+    let note = note_of(alloc, fleet, words, done)?;
     if note.is_empty() {
         return Ok(());
     }
@@ -43,13 +52,12 @@ pub fn trace(
 fn note_of(
     alloc: Global,
     fleet: &Fleet,
-    number: usize,
     words: &[&[u8]],
-    told: &Told,
+    done: &Done,
 ) -> Result<Vec<u8>, AllocError> {
     let mut note = Vec::new(alloc);
     match read_command(words) {
-        Ok(Some(command)) => push_note(alloc, fleet, number, command, told, &mut note)?,
+        Ok(Some(command)) => push_note(alloc, fleet, done, command, &mut note)?,
         Ok(None) | Err(_) => {}
     }
     Ok(note)
@@ -58,31 +66,31 @@ fn note_of(
 fn push_note(
     alloc: Global,
     fleet: &Fleet,
-    number: usize,
+    done: &Done,
     command: Command<'_>,
-    told: &Told,
     text: &mut Vec<u8>,
 ) -> Result<(), AllocError> {
-    match told {
+    match &done.told {
         Told::Nothing => Ok(()),
         Told::Event { at, answer } => match answer {
-            Answer::Accepted(change) => trace_change(alloc, fleet, number, *at, change, text),
+            Answer::Accepted(change) => trace_change(alloc, fleet, done, *at, change, text),
             Answer::Offered(message) => {
-                push_number(alloc, number, text)?;
+                push_number(alloc, done.number, text)?;
                 push_message(alloc, fleet, *message, text)
             }
-            Answer::Marked => trace_mark(alloc, number, command, text),
+            Answer::Marked => trace_mark(alloc, done.number, command, text),
             Answer::Refused(_) => Ok(()),
         },
         Told::Taken { at, answer, .. } => match answer {
-            Answer::Accepted(change) => trace_change(alloc, fleet, number, *at, change, text),
+            Answer::Accepted(change) => trace_change(alloc, fleet, done, *at, change, text),
             Answer::Offered(_) | Answer::Marked | Answer::Refused(_) => Ok(()),
         },
         Told::Pulled { at, pulled } => match (&pulled.offered, &pulled.taken) {
             (Answer::Offered(message), Some(Answer::Accepted(change))) => {
-                push_number(alloc, number, text)?;
+                push_number(alloc, done.number, text)?;
                 push_sides(command, text)?;
                 push_change(alloc, fleet, *at, change, text)?;
+                push_turned(alloc, fleet, *at, done.before.as_ref(), text)?;
                 push_size(alloc, fleet, *message, text)
             }
             _ => Ok(()),
@@ -94,13 +102,14 @@ fn push_note(
 fn trace_change(
     alloc: Global,
     fleet: &Fleet,
-    number: usize,
+    done: &Done,
     at: usize,
     change: &Change,
     text: &mut Vec<u8>,
 ) -> Result<(), AllocError> {
-    push_number(alloc, number, text)?;
-    push_change(alloc, fleet, at, change, text)
+    push_number(alloc, done.number, text)?;
+    push_change(alloc, fleet, at, change, text)?;
+    push_turned(alloc, fleet, at, done.before.as_ref(), text)
 }
 
 // Appends the trace of a mark.
@@ -239,9 +248,7 @@ fn push_lowered(
     }
     push_comma(start, text)?;
     text.extend_from_slice(b" lowered")?;
-    for name in &names {
-        text.extend_from_slice(name)?;
-    }
+    push_names(&names, text)?;
     text.extend_from_slice(match phase {
         Phase::Public => b" to public".as_slice(),
         Phase::Draft => b" to draft".as_slice(),
@@ -260,13 +267,33 @@ fn names_in_phase(
     let mut names = Vec::new(alloc);
     for node in nodes {
         if phase_of(fleet, at, *node) == Some(phase) {
-            let mut name = Vec::new(alloc);
-            push_node_at(fleet, at, *node, &mut name)?;
-            names.push(name)?;
+            add_name(alloc, fleet, at, *node, &mut names)?;
         }
     }
     names.sort_unstable();
     Ok(names)
+}
+
+/// Puts what a changeset is called behind the names.
+pub fn add_name(
+    alloc: Global,
+    fleet: &Fleet,
+    at: usize,
+    node: Node,
+    names: &mut Vec<Vec<u8>>,
+) -> Result<(), AllocError> {
+    let mut name = Vec::new(alloc);
+    push_node_at(fleet, at, node, &mut name)?;
+    names.push(name)?;
+    Ok(())
+}
+
+/// Appends the names.
+pub fn push_names(names: &[Vec<u8>], text: &mut Vec<u8>) -> Result<(), AllocError> {
+    for name in names {
+        text.extend_from_slice(name)?;
+    }
+    Ok(())
 }
 
 // The phase of a changeset at the node of a place.

@@ -19,8 +19,8 @@ returns-in_err-write_text-in-Ok-clause-unwritten g c =
     c.from_residual-in_err-write_text-in-Ok.ensures.1 in
     rw (p.1, p.2, c.in_err-write_text-in-Ok.ensures.err) (λ own. absurd own)
 
-pub returns-in-Ok-clause-done : goal.returns-in-Ok-clause-done
-returns-in-Ok-clause-done g c =
+pub returns-in_ok-write_text-in-Ok-clause-done : goal.returns-in_ok-write_text-in-Ok-clause-done
+returns-in_ok-write_text-in-Ok-clause-done g c =
     let (t, output, does, prints, shows, is) = c.in-Ok.ensures.done in (
       t,
       c.push_notes.new.text.items,
@@ -29,8 +29,8 @@ returns-in-Ok-clause-done g c =
       c.refusals.ensures.count ∙ ap (count_by is_refusal) is,
     )
 
-pub returns-clause-stopped : goal.returns-clause-stopped
-returns-clause-stopped g c =
+pub returns-in-Err-clause-stopped : goal.returns-in-Err-clause-stopped
+returns-in-Err-clause-stopped g c =
     let number = c.args.number in
     let fleet = c.args.fleet.now in
     let line = c.args.line.now in
@@ -39,8 +39,8 @@ returns-clause-stopped g c =
       | inr ends ↦ told_of number fleet line _ _ c.blamed.ensures ends
     ]
 
-pub returns-clause-unwritten : goal.returns-clause-unwritten
-returns-clause-unwritten g c = λ own.
+pub returns-in-Err-clause-unwritten : goal.returns-in-Err-clause-unwritten
+returns-in-Err-clause-unwritten g c = λ own.
     let same = own_told _ _ c.blamed.ensures own in
     let own_text = subst IsOfLine same own in
     let own_line = subst IsOfLine (own_told _ _ c.in_text.ensures own_text) own_text in
