@@ -13,8 +13,8 @@ use Rattle.hgfleet.specs.Arguments.{ArgumentsAnswer, IsRun, IsWithinBounds, Name
 use Rattle.hgfleet.specs.Arguments.{program_at, race_numbers, reference}
 use Rattle.hgfleet.specs.declared.arguments.ArgumentFault.{ArgumentFault}
 use Rattle.hgfleet.specs.declared.arguments.Wanted.{Wanted}
-use Rattle.hgfleet.specs.declared.arguments.Wanted.TheVariants.{Run, RunTold, Race, Log, Show, Write, Why, Help}
-use Rattle.hgfleet.specs.declared.arguments.Wanted.TheVariants.{Version, Try, Compare, Check}
+use Rattle.hgfleet.specs.declared.arguments.Wanted.TheVariants.{Run, RunTold, Race, Log, Show, Write, Why, Fate}
+use Rattle.hgfleet.specs.declared.arguments.Wanted.TheVariants.{Help, Version, Try, Compare, Check}
 
 pub at_help : (name : Text) → faults_at (name ∷ codes "--help" ∷ []) ≡ DisplayHelp ∷ []
 unfolding clap_on_literals faults_at
@@ -139,10 +139,11 @@ pub answer_within : (words : List Text) (r : Result Wanted ArgumentFault) → Ar
 answer_within words (Ok Run) h = tt
 answer_within words (Ok (RunTold explains traces is_strict)) h = tt
 answer_within words (Ok (Race nodes rounds)) h = h.2
-answer_within words (Ok (Log nodes shows_hidden picture)) h = tt
+answer_within words (Ok (Log nodes shows_hidden picture line)) h = tt
 answer_within words (Ok (Show form)) h = tt
 answer_within words (Ok (Write form name)) h = tt
 answer_within words (Ok (Why nodes)) h = tt
+answer_within words (Ok (Fate labels)) h = tt
 answer_within words (Ok (Try trial)) h = tt
 answer_within words (Ok (Compare first second)) h = tt
 answer_within words (Ok (Check fills)) h = tt

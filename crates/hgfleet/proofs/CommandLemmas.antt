@@ -4,27 +4,25 @@ use Rattle.std.proofs.Common.{◌∙◌, ap, length, get_or, drop, map, refl, sy
 use Rattle.std.specs.Borrow.{Bor}
 use Rattle.std.specs.declared.alloc.Global.{Global}
 use Rattle.std.proofs.lemmas.List.{append-nil, append_assoc, drop_more, drop_all}
-use Rattle.hg_log.specs.Drawings.{Text}
+use Rattle.hg_log.specs.Drawings.{ArePieces, Text}
 use Rattle.hg_log.specs.Objects.{NodeState}
 use Rattle.hg_script.specs.declared.fleet.Fleet.{Fleet}
-use Rattle.hgfleet.specs.declared.drawing.Drawing.{Drawing}
 use Rattle.hgfleet.specs.Arguments.{texts_of}
-use Rattle.hgfleet.specs.Commands.{AreDrawn, IsDrawn, drawn_names, state_of, states_of}
+use Rattle.hgfleet.specs.Commands.{drawn_names, state_of, states_of}
 
--- the drawing of the next name, and those of the ones after it
-pub next_drawn : (fleet : Fleet) (drawing : Drawing) (names : List (Bor Text)) (i : ℕ) (d : Bor Text)
-    (first rest : Text) → i < length names → IsDrawn fleet drawing (get_or names i d).now first
-    → AreDrawn fleet drawing (map (λ name. name.now) (drop (i + 1) names)) rest
-    → AreDrawn fleet drawing (map (λ name. name.now) (drop i names)) (first ++ rest)
-next_drawn fleet drawing names i d first rest within drawn later =
-    let P : List (Bor Text) → Type 0 = λ ns. AreDrawn fleet drawing (map (λ name. name.now) ns) (first ++ rest) in
-    subst P (sym (drop_more names i d within)) (first, rest, drawn, later, refl)
+-- what the next of these gives, by its text, and what the ones after it give
+pub next_piece : {X : Type 0} (text_of : X → Text) (Gives : Text → Text → Type 0) (xs : List X) (i : ℕ) (d : X)
+    (first rest : Text) → i < length xs → Gives (text_of (get_or xs i d)) first
+    → ArePieces Gives (map text_of (drop (i + 1) xs)) rest → ArePieces Gives (map text_of (drop i xs)) (first ++ rest)
+next_piece {X = X} text_of Gives xs i d first rest within gives later =
+    let P : List X → Type 0 = λ ys. ArePieces Gives (map text_of ys) (first ++ rest) in
+    subst P (sym (drop_more xs i d within)) (first, rest, gives, later, refl)
 
-pub none_drawn : (fleet : Fleet) (drawing : Drawing) (names : List (Bor Text)) (i : ℕ) → length names ≤ i
-    → AreDrawn fleet drawing (map (λ name. name.now) (drop i names)) []
-none_drawn fleet drawing names i end =
-    let P : List (Bor Text) → Type 0 = λ ns. AreDrawn fleet drawing (map (λ name. name.now) ns) [] in
-    subst P (sym (drop_all i names end)) refl
+pub no_piece : {X : Type 0} (text_of : X → Text) (Gives : Text → Text → Type 0) (xs : List X) (i : ℕ)
+    → length xs ≤ i → ArePieces Gives (map text_of (drop i xs)) []
+no_piece {X = X} text_of Gives xs i end =
+    let P : List X → Type 0 = λ ys. ArePieces Gives (map text_of ys) [] in
+    subst P (sym (drop_all i xs end)) refl
 
 -- where names are given, those are drawn
 pub given_drawn : (fleet : Fleet) (nodes : List (String Global)) → (length nodes == 0) ≡ false

@@ -12,7 +12,7 @@ use Rattle.clap.specs.declared.parser.matches.ArgMatches.{ArgMatches}
 use Rattle.clap.proofs.ValueTestLemmas.{Accepts-accepts, accepts-Accepts}
 use Rattle.clap.proofs.WalkLemmas.{one_text-rows}
 use Rattle.hgfleet.specs.Arguments.{IsRaceSize, both_numbers, number_given, number_within, numbers_given}
-use Rattle.hgfleet.specs.Arguments.{program, race_met, race_numbers, wanted_number}
+use Rattle.hgfleet.specs.Arguments.{number_rule, program, race_met, race_numbers, wanted_number}
 
 -- what is given is something
 some_is_given : {X : Type 0} (x : X) → None ≡ Some x → ⊥
@@ -119,13 +119,22 @@ pub race_size : (words : List Text) (n r : ℕ) → race_numbers words ≡ Some 
 unfolding race_numbers
 race_size words n r h = size_met (subcommand_of program words) n r h
 
--- an option that is built step by step
-pub number_rule : (name : Text) (low high : ℕ) (made long named wanted parsed helped : Rule) → made ≡ new_rule name
+-- an option that is built step by step, and one that must be given
+pub number_built : (name : Text) (low high : ℕ) (made long named parsed helped : Rule) → made ≡ new_rule name
+    → long ≡ record made { long = Some name } → named ≡ record long { value_names = 1 }
+    → parsed ≡ record named { parser = Some (Signed (pos low) (pos high)) } → helped ≡ parsed
+    → helped ≡ number_rule name low high
+number_built name low high made long named parsed helped m l n p h =
+    let with_long = l ∙ ap (λ (a : Rule). record a { long = Some name }) m in
+    let with_name = n ∙ ap (λ (a : Rule). record a { value_names = 1 }) with_long in
+    h ∙ p ∙ ap (λ (a : Rule). record a { parser = Some (Signed (pos low) (pos high)) }) with_name
+
+pub wanted_built : (name : Text) (low high : ℕ) (made long named wanted parsed helped : Rule) → made ≡ new_rule name
     → long ≡ record made { long = Some name } → named ≡ record long { value_names = 1 }
     → wanted ≡ record named { required = true }
     → parsed ≡ record wanted { parser = Some (Signed (pos low) (pos high)) } → helped ≡ parsed
     → helped ≡ wanted_number name low high
-number_rule name low high made long named wanted parsed helped m l n w p h =
+wanted_built name low high made long named wanted parsed helped m l n w p h =
     let with_long = l ∙ ap (λ (a : Rule). record a { long = Some name }) m in
     let with_name = n ∙ ap (λ (a : Rule). record a { value_names = 1 }) with_long in
     let with_need = w ∙ ap (λ (a : Rule). record a { required = true }) with_name in

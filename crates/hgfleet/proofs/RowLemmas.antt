@@ -1,11 +1,10 @@
--- What the words of a run with notes, of a log, of what is shown and of what is written ask for, where they are written
--- out.
+-- What the words of a run with notes, of a log, of what is shown, written and told ask for, where they are written out.
 use Rattle.std.proofs.Common.{◌≡◌, ◌∷◌, [], codes, refl, true, false, Some, None}
 use Rattle.clap.specs.Words.{Text}
 use Rattle.clap.specs.declared.error.kind.ErrorKind.TheVariants.{DisplayHelp, InvalidValue, MissingRequiredArgument}
-use Rattle.clap.specs.declared.error.kind.ErrorKind.TheVariants.{UnknownArgument}
+use Rattle.clap.specs.declared.error.kind.ErrorKind.TheVariants.{UnknownArgument, ValueValidation}
 use Rattle.clap.proofs.OnLiterals.{clap_on_literals}
-use Rattle.hgfleet.specs.Arguments.{faults_at, log_options, run_notes, shown_form, why_names, written_form}
+use Rattle.hgfleet.specs.Arguments.{fate_labels, faults_at, log_options, run_notes, shown_form, why_names, written_form}
 use Rattle.hgfleet.specs.declared.arguments.Picture.TheVariants as pictures
 use Rattle.hg_show.specs.declared.form.Form.TheVariants.{Store, Message}
 
@@ -43,7 +42,7 @@ pub at_log : (name : Text) → faults_at (name ∷ codes "log" ∷ []) ≡ []
 unfolding clap_on_literals faults_at
 at_log name = refl
 
-pub at_log_options : (name : Text) → log_options (name ∷ codes "log" ∷ []) ≡ Some ([], false, pictures.Text)
+pub at_log_options : (name : Text) → log_options (name ∷ codes "log" ∷ []) ≡ Some ([], false, pictures.Text, None)
 unfolding clap_on_literals log_options
 at_log_options name = refl
 
@@ -54,18 +53,34 @@ at_log_of_two name = refl
 
 pub at_options_of_two : (name : Text)
     → log_options (name ∷ codes "log" ∷ codes "--hidden" ∷ codes "A" ∷ codes "B" ∷ [])
-    ≡ Some (codes "A" ∷ codes "B" ∷ [], true, pictures.Text)
+    ≡ Some (codes "A" ∷ codes "B" ∷ [], true, pictures.Text, None)
 unfolding clap_on_literals log_options
 at_options_of_two name = refl
 
 pub at_graph : (name : Text)
-    → log_options (name ∷ codes "log" ∷ codes "A" ∷ codes "--dot" ∷ []) ≡ Some (codes "A" ∷ [], false, pictures.Graph)
+    → log_options (name ∷ codes "log" ∷ codes "A" ∷ codes "--dot" ∷ [])
+    ≡ Some (codes "A" ∷ [], false, pictures.Graph, None)
 unfolding clap_on_literals log_options
 at_graph name = refl
 
-pub at_json : (name : Text) → log_options (name ∷ codes "log" ∷ codes "--json" ∷ []) ≡ Some ([], false, pictures.Json)
+pub at_json : (name : Text)
+    → log_options (name ∷ codes "log" ∷ codes "--json" ∷ []) ≡ Some ([], false, pictures.Json, None)
 unfolding clap_on_literals log_options
 at_json name = refl
+
+pub at_line : (name : Text) → faults_at (name ∷ codes "log" ∷ codes "--at" ∷ codes "12" ∷ []) ≡ []
+unfolding clap_on_literals faults_at
+at_line name = refl
+
+pub at_line_given : (name : Text)
+    → log_options (name ∷ codes "log" ∷ codes "--at" ∷ codes "12" ∷ []) ≡ Some ([], false, pictures.Text, Some 12)
+unfolding clap_on_literals log_options
+at_line_given name = refl
+
+pub at_no_line : (name : Text)
+    → faults_at (name ∷ codes "log" ∷ codes "--at" ∷ codes "0" ∷ []) ≡ ValueValidation ∷ []
+unfolding clap_on_literals faults_at
+at_no_line name = refl
 
 pub at_two_pictures : (name : Text) → faults_at (name ∷ codes "log" ∷ codes "--json" ∷ codes "--dot" ∷ []) ≡ []
 unfolding clap_on_literals faults_at
@@ -129,3 +144,16 @@ at_why name = refl
 pub at_why_names : (name : Text) → why_names (name ∷ codes "why" ∷ codes "A" ∷ []) ≡ Some (codes "A" ∷ [])
 unfolding clap_on_literals why_names
 at_why_names name = refl
+
+pub at_fate : (name : Text) → faults_at (name ∷ codes "fate" ∷ codes "b" ∷ codes "a" ∷ []) ≡ []
+unfolding clap_on_literals faults_at
+at_fate name = refl
+
+pub at_fate_labels : (name : Text)
+    → fate_labels (name ∷ codes "fate" ∷ codes "b" ∷ codes "a" ∷ []) ≡ Some (codes "b" ∷ codes "a" ∷ [])
+unfolding clap_on_literals fate_labels
+at_fate_labels name = refl
+
+pub at_fate_of_none : (name : Text) → faults_at (name ∷ codes "fate" ∷ []) ≡ MissingRequiredArgument ∷ []
+unfolding clap_on_literals faults_at
+at_fate_of_none name = refl

@@ -18,23 +18,26 @@ use Rattle.hg_show.specs.declared.form.Form.TheVariants.{Store, Roots, Message}
 use Rattle.hgfleet.specs.declared.arguments.Picture.{Picture}
 use Rattle.hgfleet.specs.declared.arguments.Picture.TheVariants as pictures
 use Rattle.hgfleet.specs.declared.arguments.Wanted.{Wanted}
-use Rattle.hgfleet.specs.declared.arguments.Wanted.TheVariants.{Run, RunTold, Race, Log, Show, Write, Why, Help}
-use Rattle.hgfleet.specs.declared.arguments.Wanted.TheVariants.{Version, Try, Compare, Check}
+use Rattle.hgfleet.specs.declared.arguments.Wanted.TheVariants.{Run, RunTold, Race, Log, Show, Write, Why, Fate}
+use Rattle.hgfleet.specs.declared.arguments.Wanted.TheVariants.{Help, Version, Try, Compare, Check}
 use Rattle.hgfleet.specs.CheckArguments.{check_app}
 use Rattle.hgfleet.specs.TryArguments.{TrialOptions, compare_app, files_compared, flag_given, flag_rule, try_app}
-use Rattle.hgfleet.specs.TryArguments.{try_given, words_given}
+use Rattle.hgfleet.specs.TryArguments.{try_given, words_given, words_rule}
 use Rattle.hgfleet.specs.declared.try_arguments.WantedTrial.{WantedTrial}
 use Rattle.hgfleet.specs.declared.arguments.ArgumentFault.{ArgumentFault}
 use Rattle.hgfleet.specs.declared.arguments.ArgumentFault.TheVariants.{BadArguments, NotText, NoMemory}
 
--- an option `--NAME VALUE` that must be given, whose value is a number between the bounds
-abbrev pub wanted_number : Text → ℕ → ℕ → Rule
-wanted_number name low high = record (new_rule name) {
+-- an option `--NAME VALUE`, whose value is a number between the bounds
+abbrev pub number_rule : Text → ℕ → ℕ → Rule
+number_rule name low high = record (new_rule name) {
   long = Some name;
   value_names = 1;
-  required = true;
   parser = Some (Signed (pos low) (pos high));
 }
+
+-- one that must be given
+abbrev pub wanted_number : Text → ℕ → ℕ → Rule
+wanted_number name low high = record (number_rule name low high) { required = true }
 
 -- `race` with the number of its nodes, 2 to 16, and of its rounds, 1 to 1,000
 abbrev pub race : App
@@ -53,14 +56,30 @@ nodes_rule = record (new_rule (codes "nodes")) {
   value_names = 1;
 }
 
--- `log` with its flags and the names of nodes
+-- a script has no more lines than it may have bytes
+abbrev pub line_limit : ℕ
+line_limit = 1048576
+
+-- an option `--at LINE`
+abbrev pub line_rule : Rule
+line_rule = number_rule (codes "at") 1 line_limit
+
+-- `log` with its flags
+abbrev pub log_flags : App
+log_flags = with_rule (with_rule (with_rule (new_app (codes "log")) (flag_rule (codes "hidden")))
+    (flag_rule (codes "dot"))) (flag_rule (codes "json"))
+
+-- `log` with its flags, the number of a line, and the names of nodes
 abbrev pub log : App
-log = with_rule (with_rule (with_rule (with_rule (new_app (codes "log")) (flag_rule (codes "hidden")))
-    (flag_rule (codes "dot"))) (flag_rule (codes "json"))) nodes_rule
+log = with_rule (with_rule log_flags line_rule) nodes_rule
 
 -- `why` with the names of nodes
 abbrev pub why : App
 why = with_rule (new_app (codes "why")) nodes_rule
+
+-- `fate` with labels
+abbrev pub fate : App
+fate = with_rule (new_app (codes "fate")) (words_rule (codes "labels"))
 
 -- references to words, as the parser has them
 abbrev pub Words : Type 0
@@ -100,8 +119,8 @@ program_at words =
     let with_run = with_subcommand program_alone run.top in
     let with_log = with_subcommand (with_subcommand with_run race.top) log.top in
     let with_write = with_subcommand (with_subcommand with_log (show_at words).top) (write_at words).top in
-    let with_why = with_subcommand with_write why.top in
-    let with_compare = with_subcommand (with_subcommand with_why try_app.top) compare_app.top in
+    let with_fate = with_subcommand (with_subcommand with_write why.top) fate.top in
+    let with_compare = with_subcommand (with_subcommand with_fate try_app.top) compare_app.top in
     with_subcommand with_compare check_app.top
 
 -- a reference to a text; nothing that is said of the program depends on where the text lies
@@ -188,20 +207,25 @@ picture_of true false = Some pictures.Graph
 picture_of false true = Some pictures.Json
 picture_of true true = None
 
--- the names that are given for a log, whether it shows what is hidden, and what it is drawn as
+-- the names that are given for a log, whether it shows what is hidden, what it is drawn as, and behind which line, if
+-- not the last
 abbrev pub LogOptions : Type 0
-LogOptions = List Text × Bool × Picture
+LogOptions = List Text × Bool × Picture × Option ℕ
 
 -- with the picture, where there is one
-abbrev pub options_of : List Text → Bool → Option Picture → Option LogOptions
-options_of names shows_hidden (Some picture) = Some (names, shows_hidden, picture)
-options_of names shows_hidden None = None
+abbrev pub options_of : List Text → Bool → Option Picture → Option ℕ → Option LogOptions
+options_of names shows_hidden (Some picture) line = Some (names, shows_hidden, picture, line)
+options_of names shows_hidden None line = None
+
+-- the number of the line that is given for a log
+abbrev pub line_given : List Row → Option ℕ
+line_given = number_given (codes "at") 1 line_limit
 
 -- what is given for a log, none where two pictures are asked for
 abbrev pub log_given : List Row → Option LogOptions
 log_given rows =
     options_of (names_given rows) (flag_given (codes "hidden") rows)
-    (picture_of (flag_given (codes "dot") rows) (flag_given (codes "json") rows))
+    (picture_of (flag_given (codes "dot") rows) (flag_given (codes "json") rows)) (line_given rows)
 
 -- what is given for a log, where `log` is the command that was met
 abbrev pub log_met : Option (Text × List Row) → Option LogOptions
@@ -220,6 +244,15 @@ why_met (Some met) = if bytes_eq met.0 (codes "why") then Some (names_given met.
 -- the names that words without a fault give to be told why, none where they don't ask for it
 unfoldable pub why_names : List Text → Option (List Text)
 why_names words = why_met (subcommand_of program words)
+
+-- the labels whose fates are told, where `fate` is the command that was met
+abbrev pub fate_met : Option (Text × List Row) → Option (List Text)
+fate_met None = None
+fate_met (Some met) = if bytes_eq met.0 (codes "fate") then Some (words_given (codes "labels") met.1) else None
+
+-- the labels that words without a fault give for that, none where they don't ask for it
+unfoldable pub fate_labels : List Text → Option (List Text)
+fate_labels words = fate_met (subcommand_of program words)
 
 -- what is given for a trial, where `try` is the command that was met
 abbrev pub try_met : Option (Text × List Row) → Option TrialOptions
@@ -311,14 +344,18 @@ IsRunTold notes None = notes ≡ None
 IsRunTold notes _ = ⊥
 
 abbrev pub IsLogOf : Option LogOptions → Option Wanted → Type 0
-IsLogOf options (Some (Log nodes shows_hidden picture)) =
-    options ≡ Some (texts_of nodes.items, shows_hidden, picture)
+IsLogOf options (Some (Log nodes shows_hidden picture line)) =
+    options ≡ Some (texts_of nodes.items, shows_hidden, picture, line)
 IsLogOf options None = options ≡ None
 IsLogOf options _ = ⊥
 
 abbrev pub IsWhyOf : List Text → Option Wanted → Type 0
 IsWhyOf names (Some (Why nodes)) = names ≡ texts_of nodes.items
 IsWhyOf names _ = ⊥
+
+abbrev pub IsFateOf : List Text → Option Wanted → Type 0
+IsFateOf given (Some (Fate labels)) = given ≡ texts_of labels.items
+IsFateOf given _ = ⊥
 
 abbrev pub IsTryOf : Option TrialOptions → Option Wanted → Type 0
 IsTryOf options (Some (Try trial)) = options ≡ Some (options_of_trial trial)
@@ -348,27 +385,28 @@ IsWriteOf given _ = ⊥
 abbrev pub MeetsWanted : Option (Text × List Row) → Option Wanted → Type 0
 MeetsWanted met (Some (RunTold explains traces is_strict)) = run_met met ≡ Some (explains, traces, is_strict)
 MeetsWanted met (Some (Race nodes rounds)) = race_met met ≡ Some (nodes, rounds)
-MeetsWanted met (Some (Log nodes shows_hidden picture)) =
-    log_met met ≡ Some (texts_of nodes.items, shows_hidden, picture)
+MeetsWanted met (Some (Log nodes shows_hidden picture line)) =
+    log_met met ≡ Some (texts_of nodes.items, shows_hidden, picture, line)
 MeetsWanted met (Some (Show form)) = show_met met ≡ Some form
 MeetsWanted met (Some (Write form name)) = write_met met ≡ Some (form, string_bytes name)
 MeetsWanted met (Some (Why nodes)) = why_met met ≡ Some (texts_of nodes.items)
+MeetsWanted met (Some (Fate labels)) = fate_met met ≡ Some (texts_of labels.items)
 MeetsWanted met (Some (Try trial)) = try_met met ≡ Some (options_of_trial trial)
 MeetsWanted met (Some (Compare first second)) = compare_met met ≡ Some (string_bytes first, string_bytes second)
 MeetsWanted met (Some (Check fills)) = check_met met ≡ Some fills
 MeetsWanted met (Some _) = ⊥
 MeetsWanted met None =
     (run_met met ≡ None) × (race_met met ≡ None) × (log_met met ≡ None) × (show_met met ≡ None)
-    × (write_met met ≡ None) × (why_met met ≡ None) × (try_met met ≡ None) × (compare_met met ≡ None)
-    × (check_met met ≡ None)
+    × (write_met met ≡ None) × (why_met met ≡ None) × (fate_met met ≡ None) × (try_met met ≡ None)
+    × (compare_met met ≡ None) × (check_met met ≡ None)
 
--- the words give nothing for a run with notes, a race, a log, what is shown, what is written, what is told, a trial and
--- what is compared
+-- the words give nothing for a run with notes, a race, a log, what is shown, what is written, what is told, a trial,
+-- what is compared and what is checked
 abbrev pub GivesNothing : List Text → Type 0
 GivesNothing words =
     (run_notes words ≡ None) × (race_numbers words ≡ None) × (log_options words ≡ None) × (shown_form words ≡ None)
-    × (written_form words ≡ None) × (why_names words ≡ None) × (trial_options words ≡ None)
-    × (compared_files words ≡ None) × (check_fills words ≡ None)
+    × (written_form words ≡ None) × (why_names words ≡ None) × (fate_labels words ≡ None)
+    × (trial_options words ≡ None) × (compared_files words ≡ None) × (check_fills words ≡ None)
 
 -- the parser finds no fault, and what is wanted is what the command that the words name asks for; or it tells a fault
 -- of the words, or that memory ran out
@@ -383,22 +421,24 @@ IsMistake e = (kind_of e ≢ DisplayHelp) × (kind_of e ≢ DisplayVersion) × (
 -- the words of a run ask for a run, and no others do; a run with notes is asked for by words without a fault that give
 -- its flags; a race is asked for by words without a fault that give its numbers, and these are within their bounds; a
 -- log by words without a fault that give its options, what is shown by such that give a form, what is written by such
--- that give a form and a name, why by such that give names, a trial by such that give its options, and a comparison by
--- such that give files; help and the version are given where the parser says that they are asked for; all else is bad,
--- and is what the parser says, or words that it takes and that give nothing for any of these, as a log that two
--- pictures are asked of, or a trial with flags that exclude each other
+-- that give a form and a name, why by such that give names, fates by such that give labels, a trial by such that give
+-- its options, and a comparison by such that give files; help and the version are given where the parser says that they
+-- are asked for; all else is bad, and is what the parser says, or words that it takes and that give nothing for any of
+-- these, as a log that two pictures are asked of, or a trial with flags that exclude each other
 abbrev pub ArgumentsAnswer : List Text → Result Wanted ArgumentFault → Type 0
 ArgumentsAnswer words (Ok Run) = IsRun words
 ArgumentsAnswer words (Ok (RunTold explains traces is_strict)) =
     (faults_at words ≡ []) × (run_notes words ≡ Some (explains, traces, is_strict))
 ArgumentsAnswer words (Ok (Race nodes rounds)) =
     (faults_at words ≡ []) × (race_numbers words ≡ Some (nodes, rounds)) × IsRaceSize nodes rounds
-ArgumentsAnswer words (Ok (Log nodes shows_hidden picture)) =
-    (faults_at words ≡ []) × (log_options words ≡ Some (texts_of nodes.items, shows_hidden, picture))
+ArgumentsAnswer words (Ok (Log nodes shows_hidden picture line)) =
+    (faults_at words ≡ []) × (log_options words ≡ Some (texts_of nodes.items, shows_hidden, picture, line))
 ArgumentsAnswer words (Ok (Show form)) = (faults_at words ≡ []) × (shown_form words ≡ Some form)
 ArgumentsAnswer words (Ok (Write form name)) =
     (faults_at words ≡ []) × (written_form words ≡ Some (form, string_bytes name))
 ArgumentsAnswer words (Ok (Why nodes)) = (faults_at words ≡ []) × (why_names words ≡ Some (texts_of nodes.items))
+ArgumentsAnswer words (Ok (Fate labels)) =
+    (faults_at words ≡ []) × (fate_labels words ≡ Some (texts_of labels.items))
 ArgumentsAnswer words (Ok (Try trial)) =
     (faults_at words ≡ []) × (trial_options words ≡ Some (options_of_trial trial))
 ArgumentsAnswer words (Ok (Compare first second)) =

@@ -1,11 +1,14 @@
 -- What the program does, and why it ends early.
-use Rattle.std.specs.Prelude.{◌≡◌, ◌⊎◌, ◌≤◌, ◌==◌, ◌++◌, ◌∷◌, [], ℕ, Bool, true, false, List, Option, None, Some, Err}
-use Rattle.std.specs.Prelude.{All, IsSome, MatchOption, String, codes, if◌then◌else◌, string_bytes}
+use Rattle.std.specs.Prelude.{◌≡◌, ◌⊎◌, ◌≤◌, ◌<◌, ◌==◌, ◌++◌, ◌∷◌, [], ℕ, Bool, true, false, List, Option, None, Some}
+use Rattle.std.specs.Prelude.{All, Err, IfSome, IsSome, MatchOption, String, codes, if◌then◌else◌, length, string_bytes}
+use Rattle.std.specs.Prelude.{take}
 use Rattle.std.specs.declared.alloc.Global.{Global}
 use Rattle.std.specs.Io.KnownBytes.{Appends}
 use Rattle.std.specs.List.{Contains}
 use Rattle.std.specs.Option.{option_map_or}
-use Rattle.hg_log.specs.Drawings.{Text}
+use Rattle.std.specs.Str.Lines.{lines}
+use Rattle.hg_changeset.specs.declared.node.Node.{Node}
+use Rattle.hg_log.specs.Drawings.{ArePieces, Text}
 use Rattle.hg_log.specs.Graphs.{IsGraphOf}
 use Rattle.hg_log.specs.Objects.{IsArray, NodeState}
 use Rattle.hg_obsstore.specs.Spelling.{store_spelling}
@@ -15,28 +18,32 @@ use Rattle.hg_phaseroots.specs.Writing.{IsWritten}
 use Rattle.hg_race.specs.Lines.{race_lines}
 use Rattle.hg_race.specs.Pairs.{IsOfPairs}
 use Rattle.hg_script.specs.declared.fault.RunFault.{RunFault}
-use Rattle.hg_script.specs.declared.fault.RunFault.TheVariants.{Read, NoMemory}
+use Rattle.hg_replica.specs.Content.{content_of}
+use Rattle.hg_script.specs.declared.fault.RunFault.TheVariants.{Read, NoMemory, ScriptTooLong}
 use Rattle.hg_script.specs.declared.fault.RunFault.TheVariants as run
 use Rattle.hg_script.specs.declared.fleet.Fleet.{Fleet}
 use Rattle.hg_script.specs.declared.telling.Notes.{Notes}
-use Rattle.hg_script.specs.Scripts.{IsLeftFleet}
-use Rattle.hg_script.specs.Faults.{status_of as run_status}
+use Rattle.hg_script.specs.Faults.{IsInputFault, status_of as run_status}
+use Rattle.hg_script.specs.Limits.{script_limit}
 use Rattle.hg_script.specs.Printing.{WritesCounted, WritesScript, no_notes}
-use Rattle.hg_script.specs.Scripts.{node_named, node_names, message_named}
+use Rattle.hg_script.specs.Scripts.{IsLeftFleet, IsScriptOf, ids, message_named, node_named, node_names}
 use Rattle.hg_script.specs.Stops.{IsStop}
 use Rattle.hg_show.specs.declared.form.Form.{Form}
 use Rattle.hg_show.specs.declared.form.Form.TheVariants.{Store, Roots, Message}
+use Rattle.hg_show.specs.declared.fault.ShowFault.TheVariants as shown
 use Rattle.hg_show.specs.Answers.{EndsInput, IsInput, ShowAnswer, fault_in}
 use Rattle.hg_show.specs.Faults.{status_of as show_status}
 use Rattle.hg_show.specs.Printing.{IsShown}
 use Rattle.hg_view.specs.Kept.{KeptValue}
+use Rattle.hg_why.specs.declared.remedy.Remedy.TheVariants.{ScriptLine}
+use Rattle.hg_why.specs.FateLines.{IsFateLine, IsKnown}
 use Rattle.hg_world.specs.Runs.{Snapshot}
 use Rattle.hgfleet.specs.declared.arguments.Picture.{Picture}
 use Rattle.hgfleet.specs.declared.arguments.Picture.TheVariants as pictures
 use Rattle.hgfleet.specs.declared.arguments.Wanted.{Wanted}
 use Rattle.hgfleet.specs.declared.arguments.Wanted.TheVariants as wanted
-use Rattle.hgfleet.specs.declared.arguments.Wanted.TheVariants.{Run, RunTold, Race, Show, Write, Why, Help, Version}
-use Rattle.hgfleet.specs.declared.arguments.Wanted.TheVariants.{Check, Compare, Try}
+use Rattle.hgfleet.specs.declared.arguments.Wanted.TheVariants.{Run, RunTold, Race, Show, Write, Why, Fate}
+use Rattle.hgfleet.specs.declared.arguments.Wanted.TheVariants.{Check, Compare, Help, Try, Version}
 use Rattle.hgfleet.specs.Trying.{EndsComparison, EndsTrial, IsComparison, IsTakenTrial}
 use Rattle.hgfleet.specs.declared.commands.Overview.{Overview}
 use Rattle.hgfleet.specs.declared.commands.Overview.TheVariants.{Each, Graph, Array}
@@ -46,7 +53,7 @@ use Rattle.hgfleet.specs.declared.drawing.Drawing.TheVariants.{Log}
 use Rattle.hgfleet.specs.declared.failure.Failure.{Failure}
 use Rattle.hgfleet.specs.declared.failure.Failure.TheVariants as failed
 use Rattle.hgfleet.specs.declared.failure.Failure.TheVariants.{Told, Refused, UnknownName, Unread, Differ, File}
-use Rattle.hgfleet.specs.declared.failure.Failure.TheVariants.{NotTaken, Unmet}
+use Rattle.hgfleet.specs.declared.failure.Failure.TheVariants.{FewLines, NotTaken, Unmet}
 use Rattle.hgfleet.specs.Arguments.{texts_of}
 use Rattle.hgfleet.specs.Checking.{EndsCheck, IsCheck}
 use Rattle.hgfleet.specs.Drawings.{IsDrawing}
@@ -60,6 +67,7 @@ failure_status (Told told) = run_status told.fault
 failure_status (Refused count) = 1
 failure_status (failed.Show fault) = show_status fault
 failure_status (UnknownName name) = 1
+failure_status (FewLines count) = 1
 failure_status (File name fault) = 1
 failure_status NotTaken = 1
 failure_status Differ = 1
@@ -70,13 +78,21 @@ failure_status Unread = 1
 abbrev pub IsOutputFailure : Failure → Type 0
 IsOutputFailure failure = (failure ≡ failed.Run run.Write) ⊎ (failure ≡ failed.Run NoMemory)
 
+-- a text couldn't be written
+abbrev pub IsWriteFailure : Failure → Type 0
+IsWriteFailure (failed.Run fault) = fault ≡ run.Write
+IsWriteFailure (Told told) = told.fault ≡ run.Write
+IsWriteFailure (failed.Show fault) = fault ≡ shown.Write
+IsWriteFailure _ = ⊥
+
 -- ---- what is drawn
 
--- what is shown for a picture: a drawing of each node, one graph, or one array
-abbrev pub overview_of : Bool → Picture → Overview
-overview_of shows_hidden pictures.Text = Each (Log shows_hidden)
-overview_of shows_hidden pictures.Graph = Graph shows_hidden
-overview_of shows_hidden pictures.Json = Array shows_hidden
+-- what is shown for a picture: a drawing of each node, one graph, or one array; only a drawing has colours
+abbrev pub overview_of : Bool → Bool → Picture → Overview
+overview_of shows_hidden is_coloured pictures.Text =
+    Each (Log (record { shows_hidden = shows_hidden; is_coloured = is_coloured }))
+overview_of shows_hidden is_coloured pictures.Graph = Graph shows_hidden
+overview_of shows_hidden is_coloured pictures.Json = Array shows_hidden
 
 -- the drawing of the node of this name, none where there is no such node
 abbrev pub IsDrawn : Fleet → Drawing → Text → Text → Type 0
@@ -86,10 +102,7 @@ IsDrawn fleet drawing name text =
 
 -- the drawings of the nodes of these names, in their order
 abbrev pub AreDrawn : Fleet → Drawing → List Text → Text → Type 0
-AreDrawn fleet drawing [] text = text ≡ []
-AreDrawn fleet drawing (name ∷ names) text =
-    (first : Text) × (others : Text) × IsDrawn fleet drawing name first × AreDrawn fleet drawing names others
-    × (text ≡ first ++ others)
+AreDrawn fleet drawing names text = ArePieces (IsDrawn fleet drawing) names text
 
 -- the node of this name with what it holds, if there is one
 abbrev pub state_of : Fleet → Text → List NodeState
@@ -115,6 +128,33 @@ drawn_names fleet (name ∷ names) = name ∷ names
 abbrev pub IsUnknownAmong : List (String Global) → Fleet → Text → Type 0
 IsUnknownAmong given fleet name =
     (s : String Global) × Contains given s × (name ≡ string_bytes s) × (node_named fleet name ≡ None)
+
+-- ---- what is told of fates
+
+-- the line of the node that holds this, where that knows of the changeset, and else nothing
+abbrev pub IsFateIn : Text → Node → Text → KeptValue → Text → Type 0
+IsFateIn label node name kept text =
+    (IsKnown (content_of kept.replica) node × IsFateLine (content_of kept.replica) label name node text)
+    ⊎ (¬ (IsKnown (content_of kept.replica) node) × (text ≡ []))
+
+-- the same of the node of this name, if there is one
+abbrev pub IsFateAt : Fleet → Text → Node → Text → Text → Type 0
+IsFateAt fleet label node name text =
+    MatchOption (node_named fleet name) (text ≡ []) (λ kept. IsFateIn label node name kept text)
+
+-- the lines of the nodes of these names, in their order, if a changeset has the label
+abbrev pub AreFatesAt : Fleet → List Text → Text → Text → Type 0
+AreFatesAt fleet names label text =
+    MatchOption (ids fleet label) (text ≡ []) (λ node. ArePieces (IsFateAt fleet label node) names text)
+
+-- the lines of all nodes, for each of these labels, in their order
+abbrev pub AreFates : Fleet → List Text → Text → Type 0
+AreFates fleet labels text = ArePieces (AreFatesAt fleet (node_names fleet)) labels text
+
+-- the label is given, and no changeset has it
+abbrev pub IsUnlabelledAmong : List (String Global) → Fleet → Text → Type 0
+IsUnlabelledAmong given fleet label =
+    (s : String Global) × Contains given s × (label ≡ string_bytes s) × (ids fleet label ≡ None)
 
 -- ---- what is written
 
@@ -177,41 +217,70 @@ DrawsNodes nodes overview known held holds before after =
     × All (λ name. IsSome (node_named fleet (string_bytes name))) nodes
     × AreShown fleet overview (drawn_names fleet (texts_of nodes)) text × Appends held holds text
 
+-- the front of the text that has so many lines
+abbrev pub IsFrontOf : ℕ → Text → Text → Type 0
+IsFrontOf count text front = (count ≤ length (lines text)) × (lines front ≡ take count (lines text))
+
+-- the same of the front of the script that ends with this line
+abbrev pub DrawsFront : ℕ → List (String Global) → Overview → Option Text → Option Text → Option Text → Text → Text
+    → Type 0
+DrawsFront line nodes overview known held holds before after =
+    (text : Text) × (front : Text) × IsScriptOf known text × IsFrontOf line text front
+    × DrawsNodes nodes overview (Some front) held holds before after
+
+-- the same where a line is given, and else of the script
+abbrev pub DrawsUpTo : Option ℕ → List (String Global) → Overview → Option Text → Option Text → Option Text → Text
+    → Text → Type 0
+DrawsUpTo None nodes overview known held holds before after =
+    DrawsNodes nodes overview known held holds before after
+DrawsUpTo (Some line) nodes overview known held holds before after =
+    DrawsFront line nodes overview known held holds before after
+
+-- of what the script leaves, where changesets have these labels, their fates are told
+abbrev pub TellsFates : List (String Global) → Option Text → Option Text → Option Text → Text → Text → Type 0
+TellsFates labels known held holds before after =
+    (fleet : Fleet) × (text : Text) × IsLeftFleet known fleet × TellsRefused known fleet before after
+    × All (λ label. IsSome (ids fleet (string_bytes label))) labels × AreFates fleet (texts_of labels) text
+    × Appends held holds text
+
 -- of what the script leaves, this form of what has this name is written
 abbrev pub WritesForm : Form → Text → Option Text → Option Text → Option Text → Text → Text → Type 0
 WritesForm form name known held holds before after =
     (fleet : Fleet) × (text : Text) × IsLeftFleet known fleet × TellsRefused known fleet before after
     × IsFormOf fleet form name text × Appends held holds text
 
--- what is wanted is done: the script, or the bytes, is what was to be read, where that is known, and what was held by
--- the writer, where that is known, grew by what came of it; and what is told of refused lines grew from one text to the
--- other
-abbrev pub IsDone : Wanted → Option Text → Option Text → Option Text → Text → Text → Type 0
-IsDone Run known held holds before after =
+-- what is wanted is done, with colours or without: the script, or the bytes, is what was to be read, where that is
+-- known, and what was held by the writer, where that is known, grew by what came of it; and what is told of refused
+-- lines grew from one text to the other
+abbrev pub IsDone : Wanted → Bool → Option Text → Option Text → Option Text → Text → Text → Type 0
+IsDone Run is_coloured known held holds before after =
     (world : Snapshot KeptValue) × WritesScript no_notes known world held holds
-IsDone (RunTold explains traces is_strict) known held holds before after =
+IsDone (RunTold explains traces is_strict) is_coloured known held holds before after =
     IsNoted is_strict (notes_of explains traces) known held holds
-IsDone (Race nodes rounds) known held holds before after =
+IsDone (Race nodes rounds) is_coloured known held holds before after =
     (written : ℕ) × (read_back : ℕ) × (agreeing : ℕ) × IsOfPairs nodes agreeing
     × Appends held holds (race_lines nodes rounds written read_back agreeing)
-IsDone (wanted.Log nodes shows_hidden picture) known held holds before after =
-    DrawsNodes nodes.items (overview_of shows_hidden picture) known held holds before after
-IsDone (Why nodes) known held holds before after =
-    DrawsNodes nodes.items (Each drawn.Why) known held holds before after
-IsDone (Show form) known held holds before after =
+IsDone (wanted.Log nodes shows_hidden picture line) is_coloured known held holds before after =
+    DrawsUpTo line nodes.items (overview_of shows_hidden is_coloured picture) known held holds before after
+IsDone (Why nodes) is_coloured known held holds before after =
+    DrawsNodes nodes.items (Each (drawn.Why ScriptLine)) known held holds before after
+IsDone (Fate labels) is_coloured known held holds before after =
+    TellsFates labels.items known held holds before after
+IsDone (Show form) is_coloured known held holds before after =
     (bytes : Text) × (text : Text) × IsInput known bytes × IsShown form bytes text × Appends held holds text
-IsDone (Write form name) known held holds before after =
+IsDone (Write form name) is_coloured known held holds before after =
     WritesForm form (string_bytes name) known held holds before after
-IsDone (Try trial) known held holds before after = IsTakenTrial trial held holds
-IsDone (Compare first second) known held holds before after = IsComparison (Some true) held holds
-IsDone (Check fills) known held holds before after = IsCheck fills known held holds
-IsDone (Help error) known held holds before after = Unit {0}
-IsDone (Version error) known held holds before after = Unit {0}
+IsDone (Try trial) is_coloured known held holds before after = IsTakenTrial trial held holds
+IsDone (Compare first second) is_coloured known held holds before after = IsComparison (Some true) held holds
+IsDone (Check fills) is_coloured known held holds before after = IsCheck fills known held holds
+IsDone (Help error) is_coloured known held holds before after = Unit {0}
+IsDone (Version error) is_coloured known held holds before after = Unit {0}
 
 -- only of a script whose own lines aren't printed is told why lines were refused
 abbrev pub IsUntold : Wanted → Text → Text → Type 0
-IsUntold (wanted.Log nodes shows_hidden picture) before after = Unit {0}
+IsUntold (wanted.Log nodes shows_hidden picture line) before after = Unit {0}
 IsUntold (Why nodes) before after = Unit {0}
+IsUntold (Fate labels) before after = Unit {0}
 IsUntold (Write form name) before after = Unit {0}
 IsUntold _ before after = after ≡ before
 
@@ -231,14 +300,46 @@ EndsNoted is_strict notes known held holds (Refused count) =
 EndsNoted is_strict notes known held holds _ = ⊥
 
 -- a command over what a script leaves ends so: the script was stopped, and until then it was told why lines were
--- refused; or there are no keys, a write failed or memory was wanting; or the script leaves nothing of a name
-abbrev pub EndsAfterScript : Option Text → (Fleet → Text → Type 0) → Text → Text → Failure → Type 0
-EndsAfterScript known IsUnknown before after (failed.Run fault) = IsStreamFault fault
-EndsAfterScript known IsUnknown before after (Told told) =
-    IsStop refusals_told known told.fault (Some before) (Some after)
-EndsAfterScript known IsUnknown before after (UnknownName name) =
-    (fleet : Fleet) × IsLeftFleet known fleet × TellsRefused known fleet before after × IsUnknown fleet name.now
-EndsAfterScript known IsUnknown before after _ = ⊥
+-- refused; or there are no keys, a write failed or memory was wanting; or the script leaves nothing of a name. Only
+-- where a write failed, or memory was wanting, may something be written
+abbrev pub EndsAfterScript : Option Text → (Fleet → Text → Type 0) → Option Text → Option Text → Text → Text → Failure
+    → Type 0
+EndsAfterScript known IsUnknown held holds before after (failed.Run fault) = IsStreamFault fault
+EndsAfterScript known IsUnknown held holds before after (Told told) =
+    IsStop refusals_told known told.fault (Some before) (Some after) × (holds ≡ held)
+EndsAfterScript known IsUnknown held holds before after (UnknownName name) =
+    ((fleet : Fleet) × IsLeftFleet known fleet × TellsRefused known fleet before after × IsUnknown fleet name.now)
+    × (holds ≡ held)
+EndsAfterScript known IsUnknown held holds before after _ = ⊥
+
+-- the script wasn't read: it is too long, a read failed, or memory was wanting
+abbrev pub IsUnreadScript : Option Text → Failure → Type 0
+IsUnreadScript known (failed.Run fault) =
+    IsInputFault fault × (fault ≡ ScriptTooLong → IfSome known (λ bytes. script_limit < length bytes))
+IsUnreadScript known _ = ⊥
+
+-- the script has so many lines, fewer than this one
+abbrev pub HasFewer : ℕ → Option Text → Failure → Type 0
+HasFewer line known (FewLines count) =
+    (text : Text) × IsScriptOf known text × (count ≡ length (lines text)) × (count < line)
+HasFewer line known _ = ⊥
+
+-- a log of the front of the script that ends with this line ends so: the script wasn't read, or has fewer lines, and
+-- nothing is written or told; or as one of this front
+abbrev pub EndsFront : ℕ → List (String Global) → Option Text → Option Text → Option Text → Text → Text → Failure
+    → Type 0
+EndsFront line nodes known held holds before after failure =
+    ((IsUnreadScript known failure ⊎ HasFewer line known failure) × ((holds ≡ held) × (after ≡ before)))
+    ⊎ ((text : Text) × (front : Text) × IsScriptOf known text × IsFrontOf line text front
+    × EndsAfterScript (Some front) (IsUnknownAmong nodes) held holds before after failure)
+
+-- the same where a line is given, and else as a log of the script
+abbrev pub EndsUpTo : Option ℕ → List (String Global) → Option Text → Option Text → Option Text → Text → Text → Failure
+    → Type 0
+EndsUpTo None nodes known held holds before after failure =
+    EndsAfterScript known (IsUnknownAmong nodes) held holds before after failure
+EndsUpTo (Some line) nodes known held holds before after failure =
+    EndsFront line nodes known held holds before after failure
 
 -- why what is wanted can end early, with so much left to be read, and what the writer holds then: the script was
 -- stopped, or there are no keys for it; lines of a strict run were refused; reading the bytes that are to be shown
@@ -248,15 +349,17 @@ IsFailure Run known left held holds before after (failed.Run fault) = IsStop no_
 IsFailure (RunTold explains traces is_strict) known left held holds before after failure =
     EndsNoted is_strict (notes_of explains traces) known held holds failure
 IsFailure (Race nodes rounds) known left held holds before after (failed.Run fault) = IsStreamFault fault
-IsFailure (wanted.Log nodes shows_hidden picture) known left held holds before after failure =
-    EndsAfterScript known (IsUnknownAmong nodes.items) before after failure
+IsFailure (wanted.Log nodes shows_hidden picture line) known left held holds before after failure =
+    EndsUpTo line nodes.items known held holds before after failure
 IsFailure (Why nodes) known left held holds before after failure =
-    EndsAfterScript known (IsUnknownAmong nodes.items) before after failure
+    EndsAfterScript known (IsUnknownAmong nodes.items) held holds before after failure
+IsFailure (Fate labels) known left held holds before after failure =
+    EndsAfterScript known (IsUnlabelledAmong labels.items) held holds before after failure
 IsFailure (Show form) known left held holds before after (failed.Show fault) =
     EndsInput {A = Unit {0}} known left (Err fault)
     ⊎ ((bytes : Text) × IsInput known bytes × ShowAnswer {A = Unit {0}} (fault_in form bytes) (Err fault))
 IsFailure (Write form name) known left held holds before after failure =
-    EndsAfterScript known (IsUnknownOf form (string_bytes name)) before after failure
+    EndsAfterScript known (IsUnknownOf form (string_bytes name)) held holds before after failure
 IsFailure (Try trial) known left held holds before after failure = EndsTrial trial held holds failure
 IsFailure (Compare first second) known left held holds before after failure =
     EndsComparison (string_bytes first) (string_bytes second) held holds failure

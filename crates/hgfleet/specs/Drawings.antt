@@ -16,5 +16,5 @@ IsHistory shows_hidden name kept text =
 
 -- a history, or why changesets are unstable
 abbrev pub IsDrawing : Drawing → Text → KeptValue → Text → Type 0
-IsDrawing (Log shows_hidden) name kept text = IsHistory shows_hidden name kept text
-IsDrawing Why name kept text = IsWhy name kept text
+IsDrawing (Log look) name kept text = IsHistory look.shows_hidden name kept text
+IsDrawing (Why remedy) name kept text = IsWhy name kept text

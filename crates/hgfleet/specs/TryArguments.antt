@@ -5,9 +5,8 @@ use Rattle.std.specs.Str.{bytes_eq}
 use Rattle.clap.specs.Lexer.{usize_max}
 use Rattle.clap.specs.Words.{App, Row, Rule, Text, all_of, first_of, new_app, new_rule, one_of, with_rule}
 use Rattle.clap.specs.declared.builder.action.ArgAction.TheVariants.{SetTrue}
-use Rattle.hgfleet.specs.declared.drawing.Drawing.TheVariants.{Log, Why}
 use Rattle.hgfleet.specs.declared.try_arguments.Account.{Account}
-use Rattle.hgfleet.specs.declared.try_arguments.Account.TheVariants.{Answers, Drawn, Graph, Array}
+use Rattle.hgfleet.specs.declared.try_arguments.Account.TheVariants.{Answers, Log, Why, Graph, Array}
 
 -- a flag `--NAME`
 abbrev pub flag_rule : Text → Rule
@@ -17,9 +16,9 @@ flag_rule name = record (new_rule name) { long = Some name; action = Some SetTru
 abbrev pub flag_given : Text → List Row → Bool
 flag_given name rows = option_map_or (λ text. bytes_eq text (codes "true")) (one_of name rows) false
 
--- the names of files, one at least
-abbrev pub files_rule : Rule
-files_rule = record (new_rule (codes "files")) {
+-- words, one at least
+abbrev pub words_rule : Text → Rule
+words_rule name = record (new_rule name) {
   range = Some (record { start_inclusive = 1; end_inclusive = usize_max });
   value_names = 1;
   required = true;
@@ -40,7 +39,7 @@ try_flags_app = with_rule (with_rule try_log_app (flag_rule (codes "why"))) (fla
 
 -- `try` with its flags, the file that is written, and the names of files
 abbrev pub try_app : App
-try_app = with_rule (with_rule try_flags_app target_rule) files_rule
+try_app = with_rule (with_rule try_flags_app target_rule) (words_rule (codes "files"))
 
 -- a file, which must be given
 abbrev pub file_rule : Text → Rule
@@ -57,7 +56,7 @@ words_given name rows = unwrap_or (all_of name rows) []
 
 -- what is printed of a trial where a log is asked for, none where something else is too
 abbrev pub account_of_log : Bool → Bool → Bool → Option Account
-account_of_log false shows_hidden false = Some (Drawn (Log shows_hidden))
+account_of_log false shows_hidden false = Some (Log shows_hidden)
 account_of_log false shows_hidden true = Some (Graph shows_hidden)
 account_of_log true shows_hidden is_graph = None
 
@@ -65,7 +64,7 @@ account_of_log true shows_hidden is_graph = None
 -- array has what is hidden anyway
 abbrev pub account_without_log : Bool → Bool → Bool → Bool → Option Account
 account_without_log false false false false = Some Answers
-account_without_log false false false true = Some (Drawn Why)
+account_without_log false false false true = Some Why
 account_without_log false false true tells_why = None
 account_without_log false true shows_hidden false = Some Array
 account_without_log false true shows_hidden true = None

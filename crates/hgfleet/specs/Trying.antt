@@ -20,12 +20,13 @@ use Rattle.hg_trial.specs.declared.tried.Answer.{Answer}
 use Rattle.hg_trial.specs.declared.tried.Answer.TheVariants.{Taken, Refused}
 use Rattle.hg_trial.specs.Trials.{AnswersTo, IsLeastOfTaken}
 use Rattle.hg_view.specs.Kept.{KeptValue}
+use Rattle.hg_why.specs.Blocks.{IsWhy}
 use Rattle.hgfleet.specs.declared.failure.Failure.{Failure}
 use Rattle.hgfleet.specs.declared.failure.Failure.TheVariants.{Differ, File, NotTaken, Run}
 use Rattle.hgfleet.specs.declared.try_arguments.Account.{Account}
-use Rattle.hgfleet.specs.declared.try_arguments.Account.TheVariants.{Answers, Drawn, Graph, Array}
+use Rattle.hgfleet.specs.declared.try_arguments.Account.TheVariants.{Answers, Log, Why, Graph, Array}
 use Rattle.hgfleet.specs.declared.try_arguments.WantedTrial.{WantedTrial}
-use Rattle.hgfleet.specs.Drawings.{IsDrawing}
+use Rattle.hgfleet.specs.Drawings.{IsHistory}
 
 -- 1 GiB
 abbrev pub file_limit : ℕ
@@ -34,6 +35,11 @@ file_limit = 1073741824
 -- no more bytes than a file may have, and what the reader had, where that is known
 abbrev pub IsFileRead : Option Text → Text → Type 0
 IsFileRead known bytes = (length bytes ≤ file_limit) × IfSome known (λ all. all ≡ bytes)
+
+-- the same of the file of this name, or of what the reader had where the name stands for that; what a file had isn't
+-- known
+abbrev pub IsNamedRead : Text → Option Text → Text → Type 0
+IsNamedRead name known bytes = (length bytes ≤ file_limit) × (name ≡ codes "-" → IsFileRead known bytes)
 
 -- the message was taken
 abbrev pub IsTakenOne : Answer → Type 0
@@ -47,7 +53,8 @@ AreTaken = All IsTakenOne
 -- what messages were answered is told but where a graph or an array is all that is printed
 abbrev pub tells_answers : Account → Bool
 tells_answers Answers = true
-tells_answers (Drawn drawing) = true
+tells_answers (Log shows_hidden) = true
+tells_answers Why = true
 tells_answers (Graph shows_hidden) = false
 tells_answers Array = false
 
@@ -66,7 +73,8 @@ standing trial = (codes "trial", record { replica = trial; pins = [] })
 -- what is shown of what stands after a trial
 abbrev pub IsShownOf : Account → ReplicaState → Text → Type 0
 IsShownOf Answers trial text = text ≡ []
-IsShownOf (Drawn drawing) trial text = IsDrawing drawing (standing trial).0 (standing trial).1 text
+IsShownOf (Log shows_hidden) trial text = IsHistory shows_hidden (standing trial).0 (standing trial).1 text
+IsShownOf Why trial text = IsWhy (standing trial).0 (standing trial).1 text
 IsShownOf (Graph shows_hidden) trial text = IsGraphOf shows_hidden (standing trial ∷ []) text
 IsShownOf Array trial text = IsArray true (standing trial ∷ []) text
 

@@ -7,18 +7,19 @@ ghost use Rattle.hgfleet.specs.declared.arguments.ArgumentFault.TheVariants.{NoM
 ghost use Rattle.hg_show.specs.declared.form.Form.TheVariants.{Store, Message};
 ghost use Rattle.hgfleet.specs.Arguments.{ArgumentsAnswer, IsRun, IsMistake, MeetsWanted, ParseAnswer, faults_at};
 ghost use Rattle.hgfleet.specs.Arguments.{program_at, program_alone};
-ghost use Rattle.hgfleet.specs.Arguments.{run, race, log, show_at, write_at, why, form_rule, nodes_rule};
+ghost use Rattle.hgfleet.specs.Arguments.{run, race, show_at, write_at, form_rule};
 ghost use Rattle.hgfleet.specs.Arguments.{IsRunTold, notes_given, run_notes};
 ghost use Rattle.hgfleet.specs.Arguments.{IsRaceOf, number_given, numbers_given, race_numbers};
-ghost use Rattle.hgfleet.specs.Arguments.{IsLogOf, log_given, log_options, names_given, picture_of};
+ghost use Rattle.hgfleet.specs.Arguments.{log_options};
 ghost use Rattle.hgfleet.specs.Arguments.{texts_of};
 ghost use Rattle.hgfleet.specs.Arguments.{IsShowOf, form_given, form_named, shown_form};
 ghost use Rattle.hgfleet.specs.Arguments.{IsWriteOf, write_given, written_form};
-ghost use Rattle.hgfleet.specs.Arguments.{IsWhyOf, why_names};
+ghost use Rattle.hgfleet.specs.Arguments.{fate_labels, why_names};
 ghost use Rattle.hgfleet.specs.TryArguments.{flag_given, flag_rule, words_given};
 ghost use Rattle.hgfleet.specs.Arguments.{argument_fault_number, argument_fault_status, argument_fault_text};
 
 use crate::check_arguments::{check_command, check_of};
+use crate::node_arguments::{fate, fate_of, log, log_of, two_pictures, why, why_of};
 use crate::try_arguments::{
     WantedTrial, compare_command, compare_of, excluding_flags, try_command, try_of,
 };
@@ -56,12 +57,13 @@ pub enum Wanted {
         nodes: u8,
         rounds: u16,
     },
-    /// That the histories of these nodes are drawn as the script of standard input leaves them, those of all nodes
-    /// where none is named; with what is hidden, or without it.
+    /// That the histories of these nodes are drawn as the script of standard input leaves them, or its lines up to the
+    /// one with this number, those of all nodes where none is named; with what is hidden, or without it.
     Log {
         nodes: Vec<String>,
         shows_hidden: bool,
         picture: Picture,
+        line: Option<u32>,
     },
     /// That the bytes of standard input are read in this form and printed as text.
     Show(Form),
@@ -74,6 +76,8 @@ pub enum Wanted {
     /// That it is told why changesets of these nodes are unstable as the script of standard input leaves them, of all
     /// nodes where none is named.
     Why(Vec<String>),
+    /// That it is told what became of the changesets with these labels, as the script of standard input leaves them.
+    Fate(Vec<String>),
     /// That messages are taken one after the other into a repository that holds nothing at first.
     Try(WantedTrial),
     /// That it is told in what the repositories of the messages of two files differ.
@@ -205,24 +209,6 @@ Statuses: 0 done, 1 a text that can't be written, 2 wrong arguments, 3 want of m
 For example:
   hgfleet race --nodes 4 --rounds 3";
 
-// How a node's history is drawn.
-const LOG_HELP: &str = "\
-Does the script of standard input, and then draws the history of each node that is named, as it is at the end; where
-none is named, that of every node. The newest changeset comes first. Each has a line:
-  o  what is neither obsolete nor unstable
-  x  what is obsolete
-  *  what is unstable: an orphan, phase-divergent or content-divergent
-  #  what is hidden, with --hidden alone
-Lines lead from it to its parents. Beside it stand its short id, its label, its phase and its instabilities, and below
-an obsolete one what it was rewritten to. With --dot the same is a graph in the language of Graphviz, with --json an
-array that has an object for each changeset. Lines that were refused are told on standard error.
-
-Statuses: 0 done, 1 a script that ended early or leaves no such name, or a text that
-can't be written, 2 wrong arguments, 3 want of memory.
-
-For example:
-  printf 'node A\\ncommit A a draft\\namend A a b\\n' | hgfleet log --hidden A";
-
 // What bytes can be shown.
 const SHOW_HELP: &str = "\
 Reads the bytes of standard input and prints them as text. What they may be:
@@ -251,31 +237,15 @@ can't be written, 2 wrong arguments, 3 want of memory.
 For example:
   printf 'node A\\ncommit A a draft\\namend A a b\\n' | hgfleet write store A > markers";
 
-// What is told of unstable changesets.
-const WHY_HELP: &str = "\
-Does the script of standard input, and then tells of each node that is named, as it is at the end, why changesets are
-unstable; where none is named, of every node. Each unstable changeset has its name and its short id, and below that
-  orphan                  of which parent, and what became of that
-  phase-divergent         from which public changeset it was made
-  content-divergent       with which changesets, and from which one all of them come
-Below an orphan stands the line of a script that moves it to where its parent went, where there is such a changeset.
-Lines that were refused are told on standard error.
-
-Statuses: 0 done, 1 a script that ended early or leaves no such name, or a text that
-can't be written, 2 wrong arguments, 3 want of memory.
-
-For example:
-  printf 'node A\\ncommit A a draft\\ncommit A b draft a\\namend A a c\\n' | hgfleet why";
-
 // The words that name the forms.
 static FORMS: [&str; 3] = ["store", "roots", "message"];
 
 /// Reads the words of a command line, the program's name first. A run has the word `run` alone, and one with notes some
 /// flags behind it. A race has the number of its nodes, from 2 to 16, and that of its rounds, from 1 to 1,000. A log
-/// may have names of nodes and flags, of which those of two pictures exclude each other. What is shown has a form, what
-/// is written a form and a name, and what is told names of nodes. A trial has names of files and flags, of which those
-/// of two accounts exclude each other, and maybe a file that is written, and a comparison has two names of files.
-/// A check may have a flag.
+/// may have names of nodes, the number of a line, from 1 to 1,048,576, and flags, of which those of two pictures
+/// exclude each other. What is shown has a form, what is written a form and a name, and what is told names of nodes, or
+/// labels, one at least. A trial has names of files and flags, of which those of two accounts exclude each other, and
+/// maybe a file that is written, and a comparison has two names of files. A check may have a flag.
 pub fn read_args(alloc: Global, words: &[&str]) -> Result<Wanted, ArgumentFault>
     ensures { ArgumentsAnswer (map (λ s. s.now) words.now) result }
 {
@@ -329,16 +299,6 @@ fn is_command(words: &[&str], name: &str) -> bool {
     words.len() >= 2 && words[1] == name
 }
 
-// The fault of a log that two pictures are asked of.
-fn two_pictures(alloc: Global) -> Result<Error, AllocError>
-    ensures { IfOk result (λ e. kind_of e ≡ ErrorKind.ArgumentConflict) }
-{
-    log(alloc)?.error(
-        ErrorKind::ArgumentConflict,
-        "the argument '--dot' cannot be used with '--json'",
-    )
-}
-
 // The fault of a run with words that the parser passes over, as `--`.
 fn further_words(alloc: Global) -> Result<Error, AllocError>
     ensures { IfOk result (λ e. kind_of e ≡ ErrorKind.UnknownArgument) }
@@ -378,6 +338,7 @@ fn given_to(alloc: Global, name: &str, given: &ArgMatches<'_>) -> Result<Option<
         "show" => Ok(show_of(given)),
         "write" => write_of(alloc, given),
         "why" => why_of(alloc, given),
+        "fate" => fate_of(alloc, given),
         "try" => try_of(alloc, given),
         "compare" => compare_of(alloc, given),
         "check" => Ok(check_of(given)),
@@ -430,43 +391,6 @@ fn rounds_of(race: &ArgMatches<'_>) -> Option<u16>
         Some(rounds) if 1 <= rounds && rounds <= 1_000 => Some(rounds),
         _ => None,
     }
-}
-
-// The log of these nodes, with these flags, none where they ask for two pictures.
-fn log_of(alloc: Global, log: &ArgMatches<'_>) -> Result<Option<Wanted>, AllocError>
-    ensures { IfOk result (IsLogOf (log_given (rows_of (found_of log.now)))) }
-{
-    match picture_of(flag_of(log, "dot"), flag_of(log, "json")) {
-        Some(picture) => {
-            let nodes = words_of(alloc, log, "nodes")?;
-            let shows_hidden = flag_of(log, "hidden");
-            Ok(Some(Wanted::Log {
-                nodes,
-                shows_hidden,
-                picture,
-            }))
-        }
-        None => Ok(None),
-    }
-}
-
-// The one picture that is asked for: columns of text, where neither other one is.
-fn picture_of(is_graph: bool, is_json: bool) -> Option<Picture>
-    ensures { result ≡ picture_of is_graph is_json }
-{
-    match (is_graph, is_json) {
-        (false, false) => Some(Picture::Text),
-        (true, false) => Some(Picture::Graph),
-        (false, true) => Some(Picture::Json),
-        (true, true) => None,
-    }
-}
-
-// That it is told why of these nodes.
-fn why_of(alloc: Global, why: &ArgMatches<'_>) -> Result<Option<Wanted>, AllocError>
-    ensures { IfOk result (IsWhyOf (names_given (rows_of (found_of why.now)))) }
-{
-    Ok(Some(Wanted::Why(words_of(alloc, why, "nodes")?)))
 }
 
 /// The words that are given for the argument of this name.
@@ -559,6 +483,7 @@ fn program<'a>(alloc: Global, forms: &'a [&'a str]) -> Result<Command<'a>, Alloc
         .subcommand(show(alloc, forms)?)?
         .subcommand(write(alloc, forms)?)?
         .subcommand(why(alloc)?)?
+        .subcommand(fate(alloc)?)?
         .subcommand(try_command(alloc)?)?
         .subcommand(compare_command(alloc)?)?
         .subcommand(check_command(alloc)?)?;
@@ -618,19 +543,6 @@ fn race<'a>(alloc: Global) -> Result<Command<'a>, AllocError>
         .arg(rounds)
 }
 
-fn log<'a>(alloc: Global) -> Result<Command<'a>, AllocError>
-    ensures { IfOk result (λ command. (app_of command ≡ log) × ((out-Command command).has_globals ≡ false)) }
-{
-    Command::new(alloc, "log")
-        .about("Draws the histories of the nodes of a script")
-        .after_help(LOG_HELP)
-        .override_usage("hgfleet log [OPTIONS] [NODE]... < SCRIPT")
-        .arg(flag(alloc, "hidden", "Draws what is hidden, too"))?
-        .arg(flag(alloc, "dot", "Prints a graph in the language of Graphviz"))?
-        .arg(flag(alloc, "json", "Prints an array of JSON"))?
-        .arg(nodes_argument(alloc))
-}
-
 /// A flag `--NAME`.
 pub(crate) fn flag<'a>(alloc: Global, name: &'a str, help: &'a str) -> Arg<'a>
     ensures { (rule_of result ≡ flag_rule name.entry.now) × (result.global ≡ false) }
@@ -639,16 +551,6 @@ pub(crate) fn flag<'a>(alloc: Global, name: &'a str, help: &'a str) -> Arg<'a>
         .long(name)
         .action(ArgAction::SetTrue)
         .help(help)
-}
-
-// The names of nodes, any number of them.
-fn nodes_argument<'a>(alloc: Global) -> Arg<'a>
-    ensures { (rule_of result ≡ nodes_rule) × (result.global ≡ false) }
-{
-    Arg::new(alloc, "nodes")
-        .value_name("NODE")
-        .num_args(0..)
-        .help("The nodes that are meant, all where none is named")
 }
 
 fn show<'a>(alloc: Global, forms: &'a [&'a str]) -> Result<Command<'a>, AllocError>
@@ -676,16 +578,6 @@ fn write<'a>(alloc: Global, forms: &'a [&'a str]) -> Result<Command<'a>, AllocEr
         .override_usage("hgfleet write <FORM> <NAME> < SCRIPT")
         .arg(form_argument(alloc, forms))?
         .arg(name)
-}
-
-fn why<'a>(alloc: Global) -> Result<Command<'a>, AllocError>
-    ensures { IfOk result (λ command. (app_of command ≡ why) × ((out-Command command).has_globals ≡ false)) }
-{
-    Command::new(alloc, "why")
-        .about("Tells why changesets of a script's nodes are unstable")
-        .after_help(WHY_HELP)
-        .override_usage("hgfleet why [NODE]... < SCRIPT")
-        .arg(nodes_argument(alloc))
 }
 
 // The form of bytes, which must be given.
@@ -741,15 +633,20 @@ pub fn what_words_ask_for()
     ensures help_of_race { (name : Text)
         → faults_at (name ∷ codes "race" ∷ codes "--help" ∷ []) ≡ ErrorKind.DisplayHelp ∷ [] }
     ensures log { (name : Text) → faults_at (name ∷ codes "log" ∷ []) ≡ [] }
-    ensures log_options { (name : Text) → log_options (name ∷ codes "log" ∷ []) ≡ Some ([], false, Picture.Text) }
+    ensures log_options { (name : Text) → log_options (name ∷ codes "log" ∷ []) ≡ Some ([], false, Picture.Text, None) }
     ensures log_of_two { (name : Text) → faults_at (name ∷ codes "log" ∷ codes "--hidden" ∷ codes "A" ∷ codes "B" ∷ [])
         ≡ [] }
     ensures options_of_two { (name : Text) → log_options (name ∷ codes "log" ∷ codes "--hidden" ∷ codes "A"
-        ∷ codes "B" ∷ []) ≡ Some (codes "A" ∷ codes "B" ∷ [], true, Picture.Text) }
+        ∷ codes "B" ∷ []) ≡ Some (codes "A" ∷ codes "B" ∷ [], true, Picture.Text, None) }
     ensures graph { (name : Text) → log_options (name ∷ codes "log" ∷ codes "A" ∷ codes "--dot" ∷ [])
-        ≡ Some (codes "A" ∷ [], false, Picture.Graph) }
+        ≡ Some (codes "A" ∷ [], false, Picture.Graph, None) }
     ensures json { (name : Text)
-        → log_options (name ∷ codes "log" ∷ codes "--json" ∷ []) ≡ Some ([], false, Picture.Json) }
+        → log_options (name ∷ codes "log" ∷ codes "--json" ∷ []) ≡ Some ([], false, Picture.Json, None) }
+    ensures line { (name : Text) → faults_at (name ∷ codes "log" ∷ codes "--at" ∷ codes "12" ∷ []) ≡ [] }
+    ensures line_given { (name : Text) → log_options (name ∷ codes "log" ∷ codes "--at" ∷ codes "12" ∷ [])
+        ≡ Some ([], false, Picture.Text, Some 12) }
+    ensures no_line { (name : Text)
+        → faults_at (name ∷ codes "log" ∷ codes "--at" ∷ codes "0" ∷ []) ≡ ErrorKind.ValueValidation ∷ [] }
     ensures two_pictures { (name : Text)
         → faults_at (name ∷ codes "log" ∷ codes "--json" ∷ codes "--dot" ∷ []) ≡ [] }
     ensures no_picture { (name : Text)
@@ -776,4 +673,9 @@ pub fn what_words_ask_for()
         → faults_at (name ∷ codes "write" ∷ codes "--help" ∷ []) ≡ ErrorKind.DisplayHelp ∷ [] }
     ensures why { (name : Text) → faults_at (name ∷ codes "why" ∷ codes "A" ∷ []) ≡ [] }
     ensures why_names { (name : Text) → why_names (name ∷ codes "why" ∷ codes "A" ∷ []) ≡ Some (codes "A" ∷ []) }
+    ensures fate { (name : Text) → faults_at (name ∷ codes "fate" ∷ codes "b" ∷ codes "a" ∷ []) ≡ [] }
+    ensures fate_labels { (name : Text) → fate_labels (name ∷ codes "fate" ∷ codes "b" ∷ codes "a" ∷ [])
+        ≡ Some (codes "b" ∷ codes "a" ∷ []) }
+    ensures fate_of_none { (name : Text)
+        → faults_at (name ∷ codes "fate" ∷ []) ≡ ErrorKind.MissingRequiredArgument ∷ [] }
 {}

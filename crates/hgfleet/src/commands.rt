@@ -2,28 +2,31 @@
 ghost use Rattle.std.specs.Prelude.{◌≡◌, ◌++◌, List, ℕ, Some, string_bytes, MatchOption, IfOk, IfErr, IsSome, OnOk};
 ghost use Rattle.std.specs.Prelude.{All, map};
 ghost use Rattle.std.specs.Io.KnownBytes.{Appends};
-ghost use Rattle.hg_log.specs.Graphs.{IsGraphOf};
-ghost use Rattle.hg_log.specs.Objects.{IsArray, names_and_states};
+ghost use Rattle.hg_log.specs.Objects.{names_and_states};
 ghost use Rattle.hg_script.specs.Scripts.{IsLeftFleet};
 ghost use Rattle.hg_script.specs.Scripts.{node_named};
 ghost use Rattle.hg_script.specs.Stops.{IsStop};
 ghost use Rattle.hgfleet.specs.Arguments.{IsWithinBounds, texts_of};
-ghost use Rattle.hgfleet.specs.Commands.{AreDrawn, AreShown, DrawsNodes, EndsAfterScript, EndsNoted, IsDone};
-ghost use Rattle.hgfleet.specs.Commands.{IsDrawn, IsFailure, IsNoted, IsUnknownAmong, IsUnknownOf, IsUntold};
-ghost use Rattle.hgfleet.specs.Commands.{TellsRefused, WritesForm, closing, drawn_names, notes_of};
+ghost use Rattle.hgfleet.specs.Commands.{AreDrawn, AreShown, DrawsFront, DrawsNodes, DrawsUpTo, EndsAfterScript};
+ghost use Rattle.hgfleet.specs.Commands.{EndsFront, EndsNoted, EndsUpTo, IsDone, IsDrawn, IsFailure, IsNoted, IsUnknownAmong, IsUnknownOf};
+ghost use Rattle.hgfleet.specs.Commands.{IsUnlabelledAmong, IsUntold, TellsFates, TellsRefused, WritesForm, closing};
+ghost use Rattle.hgfleet.specs.Commands.{drawn_names, notes_of};
 ghost use Rattle.hgfleet.specs.Commands.{overview_of, refusals_told, state_of, states_of};
 
 use crate::arguments::{Picture, Wanted};
 use crate::checking::check_lines;
 use crate::drawing::{Drawing, draw};
 use crate::failure::Failure;
+use crate::fates::{unknown_label, write_fates};
 use crate::trying::{compare_files, try_files};
 use clap::Error;
-use hg_log::{DrawFault, NamedNode, draw_graphs, draw_objects};
+use hg_expect::{count_lines, first_lines};
+use hg_log::{DrawFault, Look, NamedNode, draw_graphs, draw_objects};
 use hg_node_set::IdKeys;
 use hg_race::run_race;
-use hg_script::{Fleet, Notes, Outcome, RunFault, ToldFault, run_script, run_told};
+use hg_script::{Fleet, Notes, Outcome, RunFault, ToldFault, read_script, run_script, run_told};
 use hg_show::{Form, show, write_bytes, write_roots, write_store};
+use hg_why::Remedy;
 use std::alloc::{AllocError, Global};
 use std::io::{BufRead, Read, Write};
 use std::random::RandomSource;
@@ -31,9 +34,10 @@ use std::rt::Files;
 use std::sync::Wait;
 use std::thread::Threads;
 
-/// Does what is wanted with the script, or the bytes, that the reader has, and writes what comes of it. What was
-/// written before a fault stays, and may be in a buffer of the writer. Of a script whose own lines aren't printed it
-/// puts into the text why lines were refused, and that what is shown is without them.
+/// Does what is wanted with the script, or the bytes, that the reader has, and writes what comes of it, with codes for
+/// colours where a text is drawn and the writer takes them. What was written before a fault stays, and may be in a
+/// buffer of the writer. Of a script whose own lines aren't printed it puts into the text why lines were refused, and
+/// that what is shown is without them. Histories that are drawn behind a line are those of the script cut behind it.
 pub fn perform<
     'a,
     H: AllocGlobal + RandomSource + Files + Threads + Wait + Sync,
@@ -42,13 +46,14 @@ pub fn perform<
 >(
     rt: &H,
     wanted: &'a Wanted,
+    is_coloured: bool,
     reader: &mut R,
     writer: &mut W,
     told: &mut Vec<u8>,
 ) -> Result<(), Failure<'a>>
     requires { IsWithinBounds wanted.now }
     ensures done { OnOk result
-        (IsDone wanted.now (R.remaining reader.old) (W.contents writer.old) (W.contents writer.new)
+        (IsDone wanted.now is_coloured (R.remaining reader.old) (W.contents writer.old) (W.contents writer.new)
         told.old.items told.new.items) }
     ensures failed { IfErr result (IsFailure wanted.now (R.remaining reader.old) (R.remaining reader.new)
         (W.contents writer.old) (W.contents writer.new) told.old.items told.new.items) }
@@ -69,19 +74,23 @@ pub fn perform<
             nodes,
             shows_hidden,
             picture,
+            line,
         } => {
-            let overview = overview_of(*shows_hidden, *picture);
-            return draw_script(rt, reader, writer, told, nodes, overview);
+            let overview = overview_of(*shows_hidden, is_coloured, *picture);
+            return draw_up_to(rt, *line, reader, writer, told, nodes, overview);
         }
         Wanted::Why(nodes) => {
-            let overview = Overview::Each(Drawing::Why);
+            let overview = Overview::Each(Drawing::Why(Remedy::ScriptLine));
             return draw_script(rt, reader, writer, told, nodes, overview);
         }
+        Wanted::Fate(labels) => return tell_fates(rt, reader, writer, told, labels),
         Wanted::Show(form) => return Ok(show(alloc, *form, reader, writer)?),
         Wanted::Write { form, name } => {
             return write(rt, reader, writer, told, *form, name);
         }
-        Wanted::Try(trial) => return try_files(rt, secret_keys(rt)?, trial, reader, writer),
+        Wanted::Try(trial) => {
+            return try_files(rt, secret_keys(rt)?, trial, is_coloured, reader, writer);
+        }
         Wanted::Compare { first, second } => {
             return compare_files(rt, secret_keys(rt)?, first, second, reader, writer);
         }
@@ -198,13 +207,62 @@ enum Overview {
     Array { shows_hidden: bool },
 }
 
-fn overview_of(shows_hidden: bool, picture: Picture) -> Overview
-    ensures { result ≡ overview_of shows_hidden picture }
+fn overview_of(shows_hidden: bool, is_coloured: bool, picture: Picture) -> Overview
+    ensures { result ≡ overview_of shows_hidden is_coloured picture }
 {
     match picture {
-        Picture::Text => Overview::Each(Drawing::Log { shows_hidden }),
+        Picture::Text => Overview::Each(Drawing::Log(Look {
+            shows_hidden,
+            is_coloured,
+        })),
         Picture::Graph => Overview::Graph { shows_hidden },
         Picture::Json => Overview::Array { shows_hidden },
+    }
+}
+
+// [`draw_script`] of the front of the script that ends with this line, or of all where none is given.
+fn draw_up_to<'a, R: Read, W: Write>(
+    rt: &(impl AllocGlobal + RandomSource),
+    line: Option<u32>,
+    reader: &mut R,
+    writer: &mut W,
+    told: &mut Vec<u8>,
+    nodes: &'a [String],
+    overview: Overview,
+) -> Result<(), Failure<'a>>
+    ensures drawn { OnOk result (DrawsUpTo line nodes.entry.now overview (R.remaining reader.old)
+        (W.contents writer.old) (W.contents writer.new) told.old.items told.new.items) }
+    ensures failed { IfErr result (EndsUpTo line nodes.entry.now (R.remaining reader.old)
+        (W.contents writer.old) (W.contents writer.new) told.old.items told.new.items) }
+{
+    match line {
+        Some(line) => draw_front(rt, line, reader, writer, told, nodes, overview),
+        None => draw_script(rt, reader, writer, told, nodes, overview),
+    }
+}
+
+// [`draw_script`] of the front of the script that ends with this line. Nothing is shown where the script has fewer.
+fn draw_front<'a, R: Read, W: Write>(
+    rt: &(impl AllocGlobal + RandomSource),
+    line: u32,
+    reader: &mut R,
+    writer: &mut W,
+    told: &mut Vec<u8>,
+    nodes: &'a [String],
+    overview: Overview,
+) -> Result<(), Failure<'a>>
+    ensures drawn { OnOk result (DrawsFront line nodes.entry.now overview (R.remaining reader.old)
+        (W.contents writer.old) (W.contents writer.new) told.old.items told.new.items) }
+    ensures failed { IfErr result (EndsFront line nodes.entry.now (R.remaining reader.old)
+        (W.contents writer.old) (W.contents writer.new) told.old.items told.new.items) }
+{
+    let text = read_script(rt.alloc(), reader)?;
+    match first_lines(&text, line as usize) {
+        Some(front) => {
+            let mut rest = front;
+            draw_script(rt, &mut rest, writer, told, nodes, overview)
+        }
+        None => Err(Failure::FewLines(count_lines(&text))),
     }
 }
 
@@ -221,7 +279,7 @@ fn draw_script<'a, R: Read, W: Write>(
     ensures drawn { OnOk result (DrawsNodes nodes.entry.now overview (R.remaining reader.old)
         (W.contents writer.old) (W.contents writer.new) told.old.items told.new.items) }
     ensures failed { IfErr result (EndsAfterScript (R.remaining reader.old) (IsUnknownAmong nodes.entry.now)
-        told.old.items told.new.items) }
+        (W.contents writer.old) (W.contents writer.new) told.old.items told.new.items) }
 {
     let alloc = rt.alloc();
     let fleet = run_apart(alloc, secret_keys(rt)?, reader, told)?;
@@ -281,49 +339,16 @@ fn draw_named<W: Write>(
 {
     match overview {
         Overview::Each(drawing) => draw_all(alloc, fleet, names, drawing, writer),
-        Overview::Graph { shows_hidden } => draw_graph(alloc, fleet, names, shows_hidden, writer),
-        Overview::Array { shows_hidden } => draw_array(alloc, fleet, names, shows_hidden, writer),
+        Overview::Graph { shows_hidden } => {
+            let known = named_nodes(alloc, fleet, &fleet.node_names()?)?;
+            let nodes = named_nodes(alloc, fleet, names)?;
+            draw_graphs(alloc, &nodes, &known, shows_hidden, writer)
+        }
+        Overview::Array { shows_hidden } => {
+            let nodes = named_nodes(alloc, fleet, names)?;
+            draw_objects(alloc, &nodes, shows_hidden, writer)
+        }
     }
-}
-
-fn draw_graph<W: Write>(
-    alloc: Global,
-    fleet: &Fleet,
-    names: &[&[u8]],
-    shows_hidden: bool,
-    writer: &mut W,
-) -> Result<(), DrawFault>
-    ensures { OnOk result ((text : List ℕ)
-        × IsGraphOf shows_hidden (states_of fleet.now (map (λ name. name.now) names.now)) text
-        × Appends (W.contents writer.old) (W.contents writer.new) text) }
-{
-    draw_graphs(
-        alloc,
-        &named_nodes(alloc, fleet, names)?,
-        shows_hidden,
-        writer,
-    )?;
-    Ok(())
-}
-
-fn draw_array<W: Write>(
-    alloc: Global,
-    fleet: &Fleet,
-    names: &[&[u8]],
-    shows_hidden: bool,
-    writer: &mut W,
-) -> Result<(), DrawFault>
-    ensures { OnOk result ((text : List ℕ)
-        × IsArray shows_hidden (states_of fleet.now (map (λ name. name.now) names.now)) text
-        × Appends (W.contents writer.old) (W.contents writer.new) text) }
-{
-    draw_objects(
-        alloc,
-        &named_nodes(alloc, fleet, names)?,
-        shows_hidden,
-        writer,
-    )?;
-    Ok(())
 }
 
 // The nodes of these names, those that there are.
@@ -403,6 +428,31 @@ fn draw_node<W: Write>(
     }
 }
 
+// Tells what became of the changesets with these labels at the nodes, as the script that the reader has leaves them.
+// Nothing is told where one of the labels is unknown.
+fn tell_fates<'a, R: Read, W: Write>(
+    rt: &(impl AllocGlobal + RandomSource),
+    reader: &mut R,
+    writer: &mut W,
+    told: &mut Vec<u8>,
+    labels: &'a [String],
+) -> Result<(), Failure<'a>>
+    ensures fates { OnOk result (TellsFates labels.entry.now (R.remaining reader.old)
+        (W.contents writer.old) (W.contents writer.new) told.old.items told.new.items) }
+    ensures failed { IfErr result (EndsAfterScript (R.remaining reader.old) (IsUnlabelledAmong labels.entry.now)
+        (W.contents writer.old) (W.contents writer.new) told.old.items told.new.items) }
+{
+    let alloc = rt.alloc();
+    let fleet = run_apart(alloc, secret_keys(rt)?, reader, told)?;
+    match unknown_label(&fleet, labels) {
+        Some(label) => Err(Failure::UnknownName(label)),
+        None => {
+            write_fates(alloc, &fleet, labels, writer)?;
+            Ok(())
+        }
+    }
+}
+
 // Writes the store or the roots of the node of this name, or the message of this name, as the script that the reader
 // has leaves them.
 fn write<'a, R: Read, W: Write>(
@@ -416,7 +466,7 @@ fn write<'a, R: Read, W: Write>(
     ensures written { OnOk result (WritesForm form name.entry.now (R.remaining reader.old)
         (W.contents writer.old) (W.contents writer.new) told.old.items told.new.items) }
     ensures failed { IfErr result (EndsAfterScript (R.remaining reader.old) (IsUnknownOf form name.entry.now)
-        told.old.items told.new.items) }
+        (W.contents writer.old) (W.contents writer.new) told.old.items told.new.items) }
 {
     let fleet = run_apart(rt.alloc(), secret_keys(rt)?, reader, told)?;
     match form {

@@ -3,19 +3,19 @@ ghost use Rattle.std.specs.Prelude.{List, ℕ, OnOk};
 ghost use Rattle.std.specs.Io.KnownBytes.{Appends};
 ghost use Rattle.hgfleet.specs.Drawings.{IsDrawing, IsHistory, heading};
 
-use hg_log::{DrawFault, draw_log};
+use hg_log::{DrawFault, Look, draw_log};
 use hg_view::Kept;
-use hg_why::write_why;
+use hg_why::{Remedy, write_why};
 use std::alloc::Global;
 use std::io::Write;
 
 /// What is drawn, or told, of a node.
 #[derive(Clone, Copy)]
 pub enum Drawing {
-    /// Its history as a text.
-    Log { shows_hidden: bool },
-    /// Why changesets are unstable.
-    Why,
+    /// Its history as a text, which looks so.
+    Log(Look),
+    /// Why changesets are unstable, and this of a remedy.
+    Why(Remedy),
 }
 
 /// Draws what is asked for of a node of this name.
@@ -30,8 +30,8 @@ pub fn draw<W: Write>(
         × Appends (W.contents writer.old) (W.contents writer.new) text) }
 {
     match drawing {
-        Drawing::Log { shows_hidden } => draw_below(alloc, name, kept, shows_hidden, writer),
-        Drawing::Why => write_why(alloc, name, kept, writer),
+        Drawing::Log(look) => draw_below(alloc, name, kept, look, writer),
+        Drawing::Why(remedy) => write_why(alloc, name, kept, remedy, writer),
     }
 }
 
@@ -40,14 +40,14 @@ fn draw_below<W: Write>(
     alloc: Global,
     name: &[u8],
     kept: &Kept,
-    shows_hidden: bool,
+    look: Look,
     writer: &mut W,
 ) -> Result<(), DrawFault>
-    ensures { OnOk result ((text : List ℕ) × IsHistory shows_hidden name.now kept.now text
+    ensures { OnOk result ((text : List ℕ) × IsHistory look.shows_hidden name.now kept.now text
         × Appends (W.contents writer.old) (W.contents writer.new) text) }
 {
     write_heading(alloc, name, writer)?;
-    draw_log(alloc, kept, shows_hidden, writer)
+    draw_log(alloc, kept, look, writer)
 }
 
 // Writes the line with a node's name.

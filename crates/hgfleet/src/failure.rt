@@ -1,6 +1,6 @@
 //! Why a command ended early.
-ghost use Rattle.std.specs.Prelude.{◌≡◌};
-ghost use Rattle.hgfleet.specs.Commands.{failure_status};
+ghost use Rattle.std.specs.Prelude.{◌≡◌, ◌↔◌, IsTrue};
+ghost use Rattle.hgfleet.specs.Commands.{IsWriteFailure, failure_status};
 
 use crate::files::FileFault;
 use hg_log::DrawFault;
@@ -23,6 +23,8 @@ pub enum Failure<'a> {
     Show(ShowFault),
     /// The script leaves no node, or no message, of this name.
     UnknownName(&'a str),
+    /// The script has so many lines, and not the one behind which it is shown.
+    FewLines(usize),
     /// The file of this name wasn't read, or written.
     File(&'a str, FileFault),
     /// A message of files was refused.
@@ -46,6 +48,7 @@ impl Failure<'_> {
             Failure::Refused(_) => 1,
             Failure::Show(fault) => fault.status(),
             Failure::UnknownName(_) => 1,
+            Failure::FewLines(_) => 1,
             Failure::File(_, _) => 1,
             Failure::NotTaken => 1,
             Failure::Differ => 1,
@@ -55,7 +58,9 @@ impl Failure<'_> {
     }
 
     /// Whether a text couldn't be written.
-    pub fn is_unwritten(&self) -> bool {
+    pub fn is_unwritten(&self) -> bool
+        ensures { IsTrue result ↔ IsWriteFailure self.now }
+    {
         match self {
             Failure::Run(fault) => *fault == RunFault::Write,
             Failure::Told(told) => told.fault == RunFault::Write,
@@ -78,6 +83,8 @@ impl fmt::Display for Failure<'_> {
             }
             Failure::Show(fault) => write!(f, "{fault}"),
             Failure::UnknownName(name) => write!(f, "unknown name: {name}"),
+            Failure::FewLines(1) => write!(f, "hgfleet: the script has 1 line"),
+            Failure::FewLines(count) => write!(f, "hgfleet: the script has {count} lines"),
             Failure::File(name, fault) => write!(f, "{name}: {fault}"),
             Failure::NotTaken => write!(f, "hgfleet: a message was refused"),
             Failure::Differ => write!(f, "hgfleet: the repositories differ"),

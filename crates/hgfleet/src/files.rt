@@ -1,6 +1,6 @@
 //! Files, which are read and written whole.
-ghost use Rattle.std.specs.Prelude.{◌≡◌, ◌≤◌, IfOk, length};
-ghost use Rattle.hgfleet.specs.Trying.{IsFileRead, file_limit};
+ghost use Rattle.std.specs.Prelude.{◌≡◌, ◌≤◌, ◌↔◌, IfOk, IsTrue, codes, length};
+ghost use Rattle.hgfleet.specs.Trying.{IsFileRead, IsNamedRead, file_limit};
 
 use std::alloc::Global;
 use std::io::{ErrorKind, Read};
@@ -43,8 +43,10 @@ pub fn read_file<F: Files, R: Read>(
     files: &F,
     name: &str,
     input: &mut R,
-) -> Result<Vec<u8>, FileFault> {
-    if name == "-" {
+) -> Result<Vec<u8>, FileFault>
+    ensures { IfOk result (λ bytes. IsNamedRead name.now (R.remaining input.old) bytes.items) }
+{
+    if names_input(name) {
         return read_bytes(alloc, input);
     }
     match fs::open(files, name) {
@@ -53,7 +55,14 @@ pub fn read_file<F: Files, R: Read>(
     }
 }
 
-/// Reads to the end, and no further than to the first byte beyond the limit.
+// Whether the name stands for standard input.
+fn names_input(name: &str) -> bool
+    ensures { IsTrue result ↔ (name.now ≡ codes "-") }
+{
+    name == "-"
+}
+
+// Reads to the end, and no further than to the first byte beyond the limit.
 fn read_bytes<R: Read>(alloc: Global, reader: &mut R) -> Result<Vec<u8>, FileFault>
     ensures { IfOk result (λ bytes. IsFileRead (R.remaining reader.old) bytes.items) }
 {

@@ -17,7 +17,9 @@ mod checking;
 mod commands;
 mod drawing;
 mod failure;
+mod fates;
 mod files;
+mod node_arguments;
 mod terminal;
 mod try_arguments;
 mod trying;
@@ -26,7 +28,7 @@ use arguments::{ArgumentFault, Wanted, read_args};
 use commands::perform;
 use failure::Failure;
 use hg_script::RunFault;
-use std::env::Env;
+use std::env::{Env, VarError};
 use std::io::{BufWriter, ErrorKind, IsTerminal, Write};
 use std::process::ExitCode;
 use std::random::RandomSource;
@@ -47,8 +49,9 @@ fn main(rt: HostRuntime) -> ExitCode {
                 if rt.stdin().is_terminal() {
                     invite(&rt, &wanted);
                 }
+                let is_coloured = takes_colours(&rt, rt.stdout().is_terminal());
                 let mut told = Vec::new(rt.alloc());
-                let done = answer(&rt, &wanted, &mut told);
+                let done = answer(&rt, &wanted, is_coloured, &mut told);
                 // What is shown stands where it can't be told what it is without.
                 let _ = rt.stderr().write_all(&told);
                 finish(&rt, done)
@@ -69,10 +72,26 @@ fn invite(rt: &impl Eprint, wanted: &Wanted) {
     }
 }
 
+// Whether colours may be sent to standard output: to a terminal, or to what hands it on to one and says so, where the
+// environment doesn't forbid them.
+fn takes_colours(rt: &(impl Env + AllocGlobal), is_terminal: bool) -> bool {
+    (is_terminal || is_set(rt, "CLICOLOR_FORCE")) && !is_set(rt, "NO_COLOR")
+}
+
+// Whether the environment has a variable of this name that isn't empty.
+fn is_set(rt: &(impl Env + AllocGlobal), name: &str) -> bool {
+    match env::var(rt, name) {
+        Ok(text) => !text.is_empty(),
+        Err(VarError::NotUnicode) => true,
+        Err(_) => false,
+    }
+}
+
 // Does what is wanted, from standard input to standard output. What is told of refused lines is put into the text.
 fn answer<'a>(
     rt: &(impl Print + Input + AllocGlobal + RandomSource + Files + Threads + Wait + Sync),
     wanted: &'a Wanted,
+    is_coloured: bool,
     told: &mut Vec<u8>,
 ) -> Result<(), Failure<'a>>
     requires { IsWithinBounds wanted.now }
@@ -81,7 +100,7 @@ fn answer<'a>(
         Ok(writer) => writer,
         Err(_) => return Err(Failure::Run(RunFault::NoMemory)),
     };
-    let done = perform(rt, wanted, &mut rt.reader(), &mut writer, told);
+    let done = perform(rt, wanted, is_coloured, &mut rt.reader(), &mut writer, told);
     match writer.flush() {
         Ok(()) => done,
         Err(error) => {

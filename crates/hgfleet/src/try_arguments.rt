@@ -4,11 +4,10 @@ ghost use Rattle.clap.specs.Words.{app_of, found_of, kind_of, rows_of, rule_of};
 ghost use Rattle.clap.specs.declared.builder.command.Command.TheViews.{out-Command};
 ghost use Rattle.hgfleet.specs.Arguments.{IsCompareOf, IsTryOf};
 ghost use Rattle.hgfleet.specs.TryArguments.{account_given, account_of_log, account_without_log, compare_app};
-ghost use Rattle.hgfleet.specs.TryArguments.{file_rule, files_compared, files_rule, is_hyphen, target_rule, try_app};
-ghost use Rattle.hgfleet.specs.TryArguments.{try_given};
+ghost use Rattle.hgfleet.specs.TryArguments.{file_rule, files_compared, is_hyphen, target_rule, try_app, try_given};
+ghost use Rattle.hgfleet.specs.TryArguments.{words_rule};
 
 use crate::arguments::{Wanted, flag, flag_of, words_of};
-use crate::drawing::Drawing;
 use clap::error::ErrorKind;
 use clap::{Arg, ArgMatches, Command, Error};
 use std::alloc::{AllocError, Global};
@@ -18,8 +17,10 @@ use std::alloc::{AllocError, Global};
 pub enum Account {
     /// What each message was answered.
     Answers,
-    /// The same, and below it a drawing of what stands then.
-    Drawn(Drawing),
+    /// The same, and below it the history of what stands then.
+    Log { shows_hidden: bool },
+    /// The same, and below it why changesets are unstable then.
+    Why,
     /// A graph for Graphviz of what stands then, and nothing else.
     Graph { shows_hidden: bool },
     /// An array of JSON of all that stands then, and nothing else.
@@ -49,9 +50,9 @@ answered is printed, as
 or why it is refused; the next ones are taken all the same. The file - is standard input.
 
 What stands then is shown below, where that is asked for, under the name trial: with --log its history, as `hgfleet log`
-draws that of a node, and with --why what is unstable, as `hgfleet why` tells it. With --log --dot a graph in the
-language of Graphviz is all that is printed, and with --json an array of all changesets, hidden or not; what messages
-were answered is then told by the status alone.
+draws that of a node, and with --why what is unstable, as `hgfleet why` tells it, but without lines of a script. With
+--log --dot a graph in the language of Graphviz is all that is printed, and with --json an array of all changesets,
+hidden or not; what messages were answered is then told by the status alone.
 
 With --write TARGET a message of all that stands then goes to the file TARGET, whichever else is printed, also where a
 message was refused; other trials and comparisons take it in.
@@ -102,7 +103,7 @@ pub(crate) fn try_command<'a>(alloc: Global) -> Result<Command<'a>, AllocError>
             "Prints an array of JSON of what stands then, and nothing else",
         ))?
         .arg(target_argument(alloc))?
-        .arg(files_argument(alloc))
+        .arg(words_argument(alloc, "files", "FILE", "The messages, yours first"))
 }
 
 // The file that is written.
@@ -115,15 +116,20 @@ fn target_argument<'a>(alloc: Global) -> Arg<'a>
         .help("Writes a message of all that stands then to the file TARGET")
 }
 
-// The names of files, one at least.
-fn files_argument<'a>(alloc: Global) -> Arg<'a>
-    ensures { (rule_of result ≡ files_rule) × (result.global ≡ false) }
+/// Words, one at least.
+pub(crate) fn words_argument<'a>(
+    alloc: Global,
+    name: &'a str,
+    shown: &'a str,
+    help: &'a str,
+) -> Arg<'a>
+    ensures { (rule_of result ≡ words_rule name.entry.now) × (result.global ≡ false) }
 {
-    Arg::new(alloc, "files")
-        .value_name("FILE")
+    Arg::new(alloc, name)
+        .value_name(shown)
         .num_args(1..)
         .required(true)
-        .help("The messages, yours first")
+        .help(help)
 }
 
 /// The command that compares the repositories of two messages.
@@ -213,7 +219,7 @@ fn account_of_log(has_others: bool, shows_hidden: bool, is_graph: bool) -> Optio
     ensures { result ≡ account_of_log has_others shows_hidden is_graph }
 {
     match (has_others, is_graph) {
-        (false, false) => Some(Account::Drawn(Drawing::Log { shows_hidden })),
+        (false, false) => Some(Account::Log { shows_hidden }),
         (false, true) => Some(Account::Graph { shows_hidden }),
         (true, _) => None,
     }
@@ -231,7 +237,7 @@ fn account_without_log(
 {
     match (is_graph, is_array, shows_hidden, tells_why) {
         (false, false, false, false) => Some(Account::Answers),
-        (false, false, false, true) => Some(Account::Drawn(Drawing::Why)),
+        (false, false, false, true) => Some(Account::Why),
         (false, false, true, _) => None,
         (false, true, _, false) => Some(Account::Array),
         (false, true, _, true) => None,

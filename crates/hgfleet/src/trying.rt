@@ -9,29 +9,32 @@ ghost use Rattle.hgfleet.specs.Trying.{AreTaken, AreTold, EndsCompared, EndsComp
 ghost use Rattle.hgfleet.specs.Trying.{IsComparison, IsShownOf, IsTakenOne, IsTakenTrial, IsUnread, IsUnreadAmong};
 ghost use Rattle.hgfleet.specs.Trying.{IsTargetUnwritten, IsUnwritten, WholeAnswer, standing, tells_answers};
 
-use crate::drawing::draw;
+use crate::drawing::{Drawing, draw};
 use crate::failure::Failure;
 use crate::files::{FileFault, read_file};
 use crate::try_arguments::{Account, WantedTrial};
-use hg_log::{DrawFault, NamedNode, draw_graphs, draw_objects};
+use hg_log::{DrawFault, Look, NamedNode, draw_graphs, draw_objects};
 use hg_message::{OfferRefusal, Outgoing, Scope};
 use hg_node_set::IdKeys;
 use hg_preview::{NamedMessage, compare_messages, write_trial};
 use hg_script::RunFault;
 use hg_trial::{Answer, Trial, Tried};
 use hg_view::Kept;
+use hg_why::Remedy;
 use std::alloc::{AllocError, Global};
 use std::fs;
 use std::io::{Read, Write, sink};
 use std::rt::Files;
 
-/// Takes the messages of files one after the other into what holds nothing, and writes the account that is wanted. All
-/// files are read before anything is written; the name `-` stands for what the reader has. Where a target is named, a
-/// message of all that stands then is written to the file of that name, also where a message was refused.
+/// Takes the messages of files one after the other into what holds nothing, and writes the account that is wanted, a
+/// history with colours where the writer takes them. All files are read before anything is written; the name `-` stands
+/// for what the reader has. Where a target is named, a message of all that stands then is written to the file of that
+/// name, also where a message was refused.
 pub fn try_files<'a, H: AllocGlobal + Files, R: Read, W: Write>(
     rt: &H,
     keys: IdKeys,
     wanted: &'a WantedTrial,
+    is_coloured: bool,
     reader: &mut R,
     writer: &mut W,
 ) -> Result<(), Failure<'a>>
@@ -39,7 +42,7 @@ pub fn try_files<'a, H: AllocGlobal + Files, R: Read, W: Write>(
     ensures failed { IfErr result (EndsTrial wanted.entry.now (W.contents writer.old) (W.contents writer.new)) }
 {
     match read_files(rt.alloc(), rt, &wanted.files, reader) {
-        Ok(contents) => try_contents(rt, keys, wanted, &contents, writer),
+        Ok(contents) => try_contents(rt, keys, wanted, &contents, is_coloured, writer),
         Err(failure) => Err(failure),
     }
 }
@@ -51,6 +54,7 @@ fn try_contents<'a, H: AllocGlobal + Files, W: Write>(
     keys: IdKeys,
     wanted: &'a WantedTrial,
     contents: &[Vec<u8>],
+    is_coloured: bool,
     writer: &mut W,
 ) -> Result<(), Failure<'a>>
     requires { length wanted.now.files.items ≡ length contents.now }
@@ -59,7 +63,7 @@ fn try_contents<'a, H: AllocGlobal + Files, W: Write>(
 {
     let alloc = rt.alloc();
     let messages = messages_of(alloc, &wanted.files, contents)?;
-    let tried = write_account(alloc, keys, &messages, wanted.account, writer)?;
+    let tried = write_account(alloc, keys, &messages, wanted.account, is_coloured, writer)?;
     match write_target(alloc, rt, tried.trial.kept(), &wanted.target) {
         Ok(()) => {}
         Err(failure) => return Err(failure),
@@ -77,6 +81,7 @@ fn write_account<W: Write>(
     keys: IdKeys,
     messages: &[NamedMessage<'_>],
     account: Account,
+    is_coloured: bool,
     writer: &mut W,
 ) -> Result<Tried, DrawFault>
     ensures answers { IfOk result (λ tried. AnswersTo nothing_held (texts_of messages.now) tried.answers.items
@@ -86,7 +91,7 @@ fn write_account<W: Write>(
         × Appends (W.contents writer.old) (W.contents writer.new) text) }
 {
     let tried = take_messages(alloc, keys, messages, account, writer)?;
-    show_standing(alloc, &tried.trial, account, writer)?;
+    show_standing(alloc, &tried.trial, account, is_coloured, writer)?;
     Ok(tried)
 }
 
@@ -116,7 +121,7 @@ fn tells_answers(account: Account) -> bool
     ensures { result ≡ tells_answers account }
 {
     match account {
-        Account::Answers | Account::Drawn(_) => true,
+        Account::Answers | Account::Log { .. } | Account::Why => true,
         Account::Graph { .. } | Account::Array => false,
     }
 }
@@ -126,6 +131,7 @@ fn show_standing<W: Write>(
     alloc: Global,
     trial: &Trial,
     account: Account,
+    is_coloured: bool,
     writer: &mut W,
 ) -> Result<(), DrawFault>
     ensures { OnOk result ((text : List ℕ) × IsShownOf account trial.now text
@@ -134,8 +140,20 @@ fn show_standing<W: Write>(
     let node = standing(trial);
     match account {
         Account::Answers => Ok(()),
-        Account::Drawn(drawing) => draw(alloc, node.name, node.kept, drawing, writer),
-        Account::Graph { shows_hidden } => draw_graphs(alloc, &[node], shows_hidden, writer),
+        Account::Log { shows_hidden } => {
+            let look = Look {
+                shows_hidden,
+                is_coloured,
+            };
+            draw(alloc, node.name, node.kept, Drawing::Log(look), writer)
+        }
+        Account::Why => {
+            let drawing = Drawing::Why(Remedy::Untold);
+            draw(alloc, node.name, node.kept, drawing, writer)
+        }
+        Account::Graph { shows_hidden } => {
+            draw_graphs(alloc, &[node], &[node], shows_hidden, writer)
+        }
         Account::Array => draw_objects(alloc, &[node], true, writer),
     }
 }

@@ -1,6 +1,6 @@
 use Rattle.std.proofs.Common.{ap, ap₂, ◌≡◌, ◌∙◌}
 use Rattle.clap.specs.Words.{App, Shape, app_of, with_subcommand}
-use Rattle.hgfleet.specs.Arguments.{Words, log, program_alone, race, run, show_at, why, write_at}
+use Rattle.hgfleet.specs.Arguments.{Words, fate, log, program_alone, race, run, show_at, why, write_at}
 use Rattle.hgfleet.specs.TryArguments.{compare_app, try_app}
 use Rattle.hgfleet.proofs.arguments.program.Goals as goal
 
@@ -19,6 +19,9 @@ with_log = with_subcommand with_race log.top
 abbrev with_why : Words → App
 with_why forms =
     with_subcommand (with_subcommand (with_subcommand with_log (show_at forms).top) (write_at forms).top) why.top
+
+abbrev with_fate : Words → App
+with_fate forms = with_subcommand (with_why forms) fate.top
 
 pub returns : goal.returns
 returns c =
@@ -41,12 +44,15 @@ returns c =
     let why_in : app_of c.in_ok-subcommand-6.field-0 ≡ with_why c.args.forms =
     c.in_ok-subcommand-6.ensures.shape c.in_ok-why.ensures.1
     ∙ ap₂ with_subcommand write_in (ap top_of c.in_ok-why.ensures.0) in
-    let try_in : app_of c.in_ok-subcommand-7.field-0 ≡ with_subcommand (with_why c.args.forms) try_app.top =
-    c.in_ok-subcommand-7.ensures.shape c.in_ok-try_command.ensures.1
-    ∙ ap₂ with_subcommand why_in (ap top_of c.in_ok-try_command.ensures.0) in
-    let compare_in : app_of c.in_ok-subcommand-8.field-0
-    ≡ with_subcommand (with_subcommand (with_why c.args.forms) try_app.top) compare_app.top =
-    c.in_ok-subcommand-8.ensures.shape c.in_ok-compare_command.ensures.1
+    let fate_in : app_of c.in_ok-subcommand-7.field-0 ≡ with_fate c.args.forms =
+    c.in_ok-subcommand-7.ensures.shape c.in_ok-fate.ensures.1
+    ∙ ap₂ with_subcommand why_in (ap top_of c.in_ok-fate.ensures.0) in
+    let try_in : app_of c.in_ok-subcommand-8.field-0 ≡ with_subcommand (with_fate c.args.forms) try_app.top =
+    c.in_ok-subcommand-8.ensures.shape c.in_ok-try_command.ensures.1
+    ∙ ap₂ with_subcommand fate_in (ap top_of c.in_ok-try_command.ensures.0) in
+    let compare_in : app_of c.in_ok-subcommand-9.field-0
+    ≡ with_subcommand (with_subcommand (with_fate c.args.forms) try_app.top) compare_app.top =
+    c.in_ok-subcommand-9.ensures.shape c.in_ok-compare_command.ensures.1
     ∙ ap₂ with_subcommand try_in (ap top_of c.in_ok-compare_command.ensures.0) in
     c.in_ok-command.ensures.shape c.in_ok-check_command.ensures.1
     ∙ ap₂ with_subcommand compare_in (ap top_of c.in_ok-check_command.ensures.0)

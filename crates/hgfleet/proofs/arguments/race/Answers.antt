@@ -6,7 +6,7 @@ use Rattle.clap.specs.Words.{app_of, new_app, rule_of, with_rule}
 use Rattle.clap.specs.declared.builder.value_parser.ValueParser.{ValueParser}
 use Rattle.clap.specs.declared.builder.value_parser.ValueParser.TheVariants.{Signed}
 use Rattle.hgfleet.proofs.BuilderLemmas.{either, has_globals, is_global}
-use Rattle.hgfleet.proofs.NumberLemmas.{number_rule}
+use Rattle.hgfleet.proofs.NumberLemmas.{wanted_built}
 use Rattle.hgfleet.specs.Arguments.{wanted_number}
 use Rattle.hgfleet.proofs.arguments.race.Goals as goal
 
@@ -20,13 +20,13 @@ returns c =
     let rounds_parser = c.value_parser-4.ensures.given in
     let rounds_parses : c.value_parser-4.result.value_parser ≡ Some (Signed (pos 1) (pos 1000)) =
     rounds_parser.1 ∙ ap Some (rounds_parser.2 ∙ rounds_range) in
-    let nodes_is = number_rule (codes "nodes") 2 16 (rule_of c.new.result) (rule_of c.long.result)
+    let nodes_is = wanted_built (codes "nodes") 2 16 (rule_of c.new.result) (rule_of c.long.result)
     (rule_of c.value_name.result) (rule_of c.required.result) (rule_of c.value_parser-2.result)
     (rule_of c.help-nodes.result) c.new.ensures.rule (ap rule_of c.long.ensures) (ap rule_of c.value_name.ensures)
     (ap rule_of c.required.ensures) (ap rule_of c.value_parser-2.ensures.others
     ∙ ap (λ (p : Option ValueParser). record (rule_of c.required.result) { parser = p }) nodes_parses)
     (ap rule_of c.help-nodes.ensures) in
-    let rounds_is = number_rule (codes "rounds") 1 1000 (rule_of c.new-3.result) (rule_of c.long-2.result)
+    let rounds_is = wanted_built (codes "rounds") 1 1000 (rule_of c.new-3.result) (rule_of c.long-2.result)
     (rule_of c.value_name-2.result) (rule_of c.required-2.result) (rule_of c.value_parser-4.result)
     (rule_of c.help-rounds.result) c.new-3.ensures.rule (ap rule_of c.long-2.ensures)
     (ap rule_of c.value_name-2.ensures) (ap rule_of c.required-2.ensures) (ap rule_of c.value_parser-4.ensures.others

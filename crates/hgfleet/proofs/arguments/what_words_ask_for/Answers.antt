@@ -8,7 +8,8 @@ use Rattle.hgfleet.proofs.RowLemmas.{at_show_alone, at_help_of_show, at_write_st
 use Rattle.hgfleet.proofs.RowLemmas.{at_written_message, at_write_no_name, at_help_of_write}
 use Rattle.hgfleet.proofs.RowLemmas.{at_no_notes, at_explain, at_explained, at_traced, at_both_notes}
 use Rattle.hgfleet.proofs.RowLemmas.{at_explain_more, at_why, at_why_names, at_strict, at_json}
-use Rattle.hgfleet.proofs.RowLemmas.{at_two_pictures, at_no_picture}
+use Rattle.hgfleet.proofs.RowLemmas.{at_two_pictures, at_no_picture, at_line, at_line_given, at_no_line}
+use Rattle.hgfleet.proofs.RowLemmas.{at_fate, at_fate_labels, at_fate_of_none}
 use Rattle.hgfleet.proofs.arguments.what_words_ask_for.Goals as goal
 
 pub returns-clause-help : goal.returns-clause-help
@@ -145,3 +146,21 @@ returns-clause-why c = at_why
 
 pub returns-clause-why_names : goal.returns-clause-why_names
 returns-clause-why_names c = at_why_names
+
+pub returns-clause-line : goal.returns-clause-line
+returns-clause-line c = at_line
+
+pub returns-clause-line_given : goal.returns-clause-line_given
+returns-clause-line_given c = at_line_given
+
+pub returns-clause-no_line : goal.returns-clause-no_line
+returns-clause-no_line c = at_no_line
+
+pub returns-clause-fate : goal.returns-clause-fate
+returns-clause-fate c = at_fate
+
+pub returns-clause-fate_labels : goal.returns-clause-fate_labels
+returns-clause-fate_labels c = at_fate_labels
+
+pub returns-clause-fate_of_none : goal.returns-clause-fate_of_none
+returns-clause-fate_of_none c = at_fate_of_none

@@ -28,7 +28,7 @@ returns c =
     let why = c.flag-4.ensures in
     let json = c.flag-5.ensures in
     let target = c.target_argument.ensures in
-    let files = c.files_argument.ensures in
+    let files = c.words_argument.ensures in
     let log_in : app_of c.in_ok-arg.field-0 ≡ with_log =
     c.in_ok-arg.ensures.shape log.1 ∙ ap₂ with_rule bare log.0 in
     let log_local = c.in_ok-arg.ensures.globals ∙ ap₂ either local log.1 in

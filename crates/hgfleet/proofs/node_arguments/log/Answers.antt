@@ -2,9 +2,10 @@ use Rattle.std.proofs.Common.{ap, ap₂, codes, ◌≡◌, ◌∙◌}
 use Rattle.std.proofs.lemmas.Result.{IfOk-weaker}
 use Rattle.clap.specs.Simple.{app_of_fields}
 use Rattle.clap.specs.Words.{app_of, new_app, with_rule}
+use Rattle.hgfleet.specs.Arguments.{line_rule, log_flags}
 use Rattle.hgfleet.specs.TryArguments.{flag_rule}
 use Rattle.hgfleet.proofs.BuilderLemmas.{either, has_globals}
-use Rattle.hgfleet.proofs.arguments.log.Goals as goal
+use Rattle.hgfleet.proofs.node_arguments.log.Goals as goal
 
 pub returns : goal.returns
 returns c =
@@ -16,6 +17,7 @@ returns c =
     let hidden = c.flag.ensures in
     let dot = c.flag-2.ensures in
     let json = c.flag-3.ensures in
+    let line = c.line_argument.ensures in
     let nodes = c.nodes_argument.ensures in
     let with_hidden : app_of c.in_ok-arg.field-0 ≡ with_rule (new_app (codes "log")) (flag_rule (codes "hidden")) =
     c.in_ok-arg.ensures.shape hidden.1 ∙ ap₂ with_rule bare hidden.0 in
@@ -24,14 +26,15 @@ returns c =
     ≡ with_rule (with_rule (new_app (codes "log")) (flag_rule (codes "hidden"))) (flag_rule (codes "dot")) =
     c.in_ok-arg-2.ensures.shape dot.1 ∙ ap₂ with_rule with_hidden dot.0 in
     let dot_local = c.in_ok-arg-2.ensures.globals ∙ ap₂ either hidden_local dot.1 in
-    let with_json : app_of c.in_ok-arg-3.field-0
-    ≡ with_rule (with_rule (with_rule (new_app (codes "log")) (flag_rule (codes "hidden"))) (flag_rule (codes "dot")))
-    (flag_rule (codes "json")) =
+    let with_json : app_of c.in_ok-arg-3.field-0 ≡ log_flags =
     c.in_ok-arg-3.ensures.shape json.1 ∙ ap₂ with_rule with_dot json.0 in
     let json_local = c.in_ok-arg-3.ensures.globals ∙ ap₂ either dot_local json.1 in
-    IfOk-weaker c.arg-4.result _ _
+    let with_line : app_of c.in_ok-arg-4.field-0 ≡ with_rule log_flags line_rule =
+    c.in_ok-arg-4.ensures.shape line.1 ∙ ap₂ with_rule with_json line.0 in
+    let line_local = c.in_ok-arg-4.ensures.globals ∙ ap₂ either json_local line.1 in
+    IfOk-weaker c.arg-5.result _ _
     (λ command h. (
-      h.shape nodes.1 ∙ ap₂ with_rule with_json nodes.0,
-      h.globals ∙ ap₂ either json_local nodes.1,
+      h.shape nodes.1 ∙ ap₂ with_rule with_line nodes.0,
+      h.globals ∙ ap₂ either line_local nodes.1,
     ))
-    c.arg-4.ensures
+    c.arg-5.ensures

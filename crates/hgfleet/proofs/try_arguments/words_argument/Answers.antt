@@ -3,7 +3,7 @@ use Rattle.clap.specs.Lexer.{usize_max}
 use Rattle.clap.specs.Words.{Rule, rule_of}
 use Rattle.clap.specs.declared.builder.range.ValueRange.{ValueRange}
 use Rattle.hgfleet.proofs.BuilderLemmas.{is_global, wanted, with_value_name}
-use Rattle.hgfleet.proofs.try_arguments.files_argument.Goals as goal
+use Rattle.hgfleet.proofs.try_arguments.words_argument.Goals as goal
 
 abbrev some_or_more : Option ValueRange
 some_or_more = Some (record { start_inclusive = 1; end_inclusive = usize_max })

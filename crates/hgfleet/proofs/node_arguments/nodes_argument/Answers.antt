@@ -3,7 +3,7 @@ use Rattle.clap.specs.Lexer.{usize_max}
 use Rattle.clap.specs.Words.{Rule, rule_of}
 use Rattle.clap.specs.declared.builder.range.ValueRange.{ValueRange}
 use Rattle.hgfleet.proofs.BuilderLemmas.{is_global, with_value_name}
-use Rattle.hgfleet.proofs.arguments.nodes_argument.Goals as goal
+use Rattle.hgfleet.proofs.node_arguments.nodes_argument.Goals as goal
 
 abbrev any : Option ValueRange
 any = Some (record { start_inclusive = 0; end_inclusive = usize_max })

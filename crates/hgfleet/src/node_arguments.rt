@@ -1,0 +1,188 @@
+//! The arguments of what is drawn and told of the nodes that a script leaves.
+ghost use Rattle.std.specs.Prelude.{◌≡◌, IfOk, codes, false};
+ghost use Rattle.clap.specs.Words.{app_of, found_of, kind_of, rows_of, rule_of};
+ghost use Rattle.clap.specs.declared.builder.command.Command.TheViews.{out-Command};
+ghost use Rattle.hgfleet.specs.Arguments.{IsFateOf, IsLogOf, IsWhyOf, fate, line_limit, line_rule, log, log_given};
+ghost use Rattle.hgfleet.specs.Arguments.{names_given, nodes_rule, number_given, picture_of, why};
+ghost use Rattle.hgfleet.specs.TryArguments.{words_given};
+
+use crate::arguments::{Picture, Wanted, flag, flag_of, words_of};
+use crate::try_arguments::words_argument;
+use clap::error::ErrorKind;
+use clap::{Arg, ArgMatches, Command, Error, value_parser};
+use std::alloc::{AllocError, Global};
+
+// How a node's history is drawn.
+const LOG_HELP: &str = "\
+Does the script of standard input, and then draws the history of each node that is named, as it is at the end; where
+none is named, that of every node. The newest changeset comes first. Each has a line:
+  o  what is neither obsolete nor unstable
+  x  what is obsolete
+  *  what is unstable: an orphan, phase-divergent or content-divergent
+  #  what is hidden, with --hidden alone
+Lines lead from it to its parents. Beside it stand its short id, its label, its phase and its instabilities, and below
+an obsolete one what it was rewritten to. With --dot the same is a graph in the language of Graphviz, with --json an
+array that has an object for each changeset. With --at it is drawn as it is behind that line of the script, and what
+stands below isn't done. At a terminal ids and instabilities have colours, unless NO_COLOR is set. Lines that were
+refused are told on standard error.
+
+Statuses: 0 done, 1 a script that ended early, leaves no such name or has fewer lines,
+or a text that can't be written, 2 wrong arguments, 3 want of memory.
+
+For example:
+  printf 'node A\\ncommit A a draft\\namend A a b\\n' | hgfleet log --hidden A
+  printf 'node A\\ncommit A a draft\\namend A a b\\n' | hgfleet log --at 2";
+
+// What is told of unstable changesets.
+const WHY_HELP: &str = "\
+Does the script of standard input, and then tells of each node that is named, as it is at the end, why changesets are
+unstable; where none is named, of every node. Each unstable changeset has its name and its short id, and below that
+  orphan                  of which parent, and what became of that
+  phase-divergent         from which public changeset it was made
+  content-divergent       with which changesets, and from which one all of them come
+Below an orphan stands the line of a script that moves it to where its parent went, where there is such a changeset.
+Lines that were refused are told on standard error.
+
+Statuses: 0 done, 1 a script that ended early or leaves no such name, or a text that
+can't be written, 2 wrong arguments, 3 want of memory.
+
+For example:
+  printf 'node A\\ncommit A a draft\\ncommit A b draft a\\namend A a c\\n' | hgfleet why";
+
+// What is told of the fates of changesets.
+const FATE_HELP: &str = "\
+Does the script of standard input, and then tells of each changeset whose label is given what became of it, at each node
+that knows of it, as it is at the end: a line with the sets of changesets that stand in its place, as
+  fate of feature at alice: {feature-bob} or {feature-alice}
+A changeset that wasn't rewritten stands in its own place; where none does, it was pruned. A node knows of what it holds
+and of what its markers rewrote. Lines that were refused are told on standard error.
+
+Statuses: 0 done, 1 a script that ended early or gives no such label, or a text that
+can't be written, 2 wrong arguments, 3 want of memory.
+
+For example:
+  printf 'node A\\ncommit A a draft\\namend A a b\\n' | hgfleet fate a b";
+
+/// The command that draws histories, with its flags and the names of nodes.
+pub(crate) fn log<'a>(alloc: Global) -> Result<Command<'a>, AllocError>
+    ensures { IfOk result (λ command. (app_of command ≡ log) × ((out-Command command).has_globals ≡ false)) }
+{
+    Command::new(alloc, "log")
+        .about("Draws the histories of the nodes of a script")
+        .after_help(LOG_HELP)
+        .override_usage("hgfleet log [OPTIONS] [NODE]... < SCRIPT")
+        .arg(flag(alloc, "hidden", "Draws what is hidden, too"))?
+        .arg(flag(alloc, "dot", "Prints a graph in the language of Graphviz"))?
+        .arg(flag(alloc, "json", "Prints an array of JSON"))?
+        .arg(line_argument(alloc))?
+        .arg(nodes_argument(alloc))
+}
+
+// The line behind which histories are drawn.
+fn line_argument<'a>(alloc: Global) -> Arg<'a>
+    ensures { (rule_of result ≡ line_rule) × (result.global ≡ false) }
+{
+    Arg::new(alloc, "at")
+        .long("at")
+        .value_name("LINE")
+        .value_parser(value_parser!(u32).range(1..=1_048_576))
+        .help("Draws what stands behind this line of the script, from 1 on")
+}
+
+// The names of nodes, any number of them.
+fn nodes_argument<'a>(alloc: Global) -> Arg<'a>
+    ensures { (rule_of result ≡ nodes_rule) × (result.global ≡ false) }
+{
+    Arg::new(alloc, "nodes")
+        .value_name("NODE")
+        .num_args(0..)
+        .help("The nodes that are meant, all where none is named")
+}
+
+/// The command that tells why changesets are unstable, with the names of nodes.
+pub(crate) fn why<'a>(alloc: Global) -> Result<Command<'a>, AllocError>
+    ensures { IfOk result (λ command. (app_of command ≡ why) × ((out-Command command).has_globals ≡ false)) }
+{
+    Command::new(alloc, "why")
+        .about("Tells why changesets of a script's nodes are unstable")
+        .after_help(WHY_HELP)
+        .override_usage("hgfleet why [NODE]... < SCRIPT")
+        .arg(nodes_argument(alloc))
+}
+
+/// The command that tells the fates of changesets, with their labels.
+pub(crate) fn fate<'a>(alloc: Global) -> Result<Command<'a>, AllocError>
+    ensures { IfOk result (λ command. (app_of command ≡ fate) × ((out-Command command).has_globals ≡ false)) }
+{
+    Command::new(alloc, "fate")
+        .about("Tells what became of changesets at a script's nodes")
+        .after_help(FATE_HELP)
+        .override_usage("hgfleet fate <LABEL>... < SCRIPT")
+        .arg(words_argument(alloc, "labels", "LABEL", "The changesets that are meant"))
+}
+
+/// The log of these nodes, with these flags, none where they ask for two pictures.
+pub(crate) fn log_of(alloc: Global, log: &ArgMatches<'_>) -> Result<Option<Wanted>, AllocError>
+    ensures { IfOk result (IsLogOf (log_given (rows_of (found_of log.now)))) }
+{
+    match picture_of(flag_of(log, "dot"), flag_of(log, "json")) {
+        Some(picture) => {
+            let nodes = words_of(alloc, log, "nodes")?;
+            let shows_hidden = flag_of(log, "hidden");
+            let line = line_of(log);
+            Ok(Some(Wanted::Log {
+                nodes,
+                shows_hidden,
+                picture,
+                line,
+            }))
+        }
+        None => Ok(None),
+    }
+}
+
+// The line behind which histories are drawn. The parser has refused the numbers out of range before.
+fn line_of(log: &ArgMatches<'_>) -> Option<u32>
+    ensures { result ≡ number_given (codes "at") 1 line_limit (rows_of (found_of log.now)) }
+{
+    match log.get_one::<u32>("at") {
+        Some(line) if 1 <= line && line <= 1_048_576 => Some(line),
+        _ => None,
+    }
+}
+
+// The one picture that is asked for: columns of text, where neither other one is.
+fn picture_of(is_graph: bool, is_json: bool) -> Option<Picture>
+    ensures { result ≡ picture_of is_graph is_json }
+{
+    match (is_graph, is_json) {
+        (false, false) => Some(Picture::Text),
+        (true, false) => Some(Picture::Graph),
+        (false, true) => Some(Picture::Json),
+        (true, true) => None,
+    }
+}
+
+/// That it is told why of these nodes.
+pub(crate) fn why_of(alloc: Global, why: &ArgMatches<'_>) -> Result<Option<Wanted>, AllocError>
+    ensures { IfOk result (IsWhyOf (names_given (rows_of (found_of why.now)))) }
+{
+    Ok(Some(Wanted::Why(words_of(alloc, why, "nodes")?)))
+}
+
+/// That the fates are told of the changesets with these labels.
+pub(crate) fn fate_of(alloc: Global, fate: &ArgMatches<'_>) -> Result<Option<Wanted>, AllocError>
+    ensures { IfOk result (IsFateOf (words_given (codes "labels") (rows_of (found_of fate.now)))) }
+{
+    Ok(Some(Wanted::Fate(words_of(alloc, fate, "labels")?)))
+}
+
+/// The fault of a log that two pictures are asked of.
+pub(crate) fn two_pictures(alloc: Global) -> Result<Error, AllocError>
+    ensures { IfOk result (λ e. kind_of e ≡ ErrorKind.ArgumentConflict) }
+{
+    log(alloc)?.error(
+        ErrorKind::ArgumentConflict,
+        "the argument '--dot' cannot be used with '--json'",
+    )
+}
