@@ -549,6 +549,12 @@ def lines_of(script):
     return lines + [last] if last else lines
 
 
+def expected(script):
+    """What a script itself says that its lines print, which its first line says of none."""
+    said = [line[3:] for line in lines_of(script)[1:] if line == "#>" or line.startswith("#> ")]
+    return "".join(line + "\n" for line in said)
+
+
 class Outcome(NamedTuple):
     output: str
     errors: str
