@@ -1,18 +1,18 @@
 -- The numbers that are given for a race's options.
 use Rattle.std.proofs.Common.{◌≡◌, ◌∙◌, ◌<◌, ◌≤◌, ◌^◌, ℕ, Bool, true, false, cond, refl, sym, ap, subst, arith}
 use Rattle.std.proofs.Common.{List, codes, Option, Some, None, Result, Ok, Err, true≢false}
-use Rattle.std.specs.Prelude.{is_some, option_and_then, unwrap_or, pos}
+use Rattle.std.specs.Prelude.{is_some, option_and_then, unwrap_or}
 use Rattle.std.specs.Str.{bytes_eq}
 use Rattle.std.specs.Str.Parse.{ParsesUnsigned, digits_value, without_leading_plus}
-use Rattle.clap.specs.Words.{IsUnsignedIn, ReadsOne, Row, Rule, Text, found_of, new_rule}
+use Rattle.clap.specs.Words.{IsUnsignedIn, ReadsOne, Row, Text, found_of}
 use Rattle.clap.specs.Words.{one_of, one_text, rows_of, subcommand_of}
 use Rattle.clap.specs.ValueTests.{is_unsigned_in}
-use Rattle.clap.specs.declared.builder.value_parser.ValueParser.TheVariants.{Signed, Unsigned}
+use Rattle.clap.specs.declared.builder.value_parser.ValueParser.TheVariants.{Unsigned}
 use Rattle.clap.specs.declared.parser.matches.ArgMatches.{ArgMatches}
 use Rattle.clap.proofs.ValueTestLemmas.{Accepts-accepts, accepts-Accepts}
 use Rattle.clap.proofs.WalkLemmas.{one_text-rows}
 use Rattle.hgfleet.specs.Arguments.{IsRaceSize, both_numbers, number_given, number_within, numbers_given}
-use Rattle.hgfleet.specs.Arguments.{number_rule, program, race_met, race_numbers, wanted_number}
+use Rattle.hgfleet.specs.Arguments.{program, race_met, race_numbers}
 
 -- what is given is something
 some_is_given : {X : Type 0} (x : X) → None ≡ Some x → ⊥
@@ -118,24 +118,3 @@ size_met (Some met) n r h = go (bytes_eq met.0 (codes "race")) h
 pub race_size : (words : List Text) (n r : ℕ) → race_numbers words ≡ Some (n, r) → IsRaceSize n r
 unfolding race_numbers
 race_size words n r h = size_met (subcommand_of program words) n r h
-
--- an option that is built step by step, and one that must be given
-pub number_built : (name : Text) (low high : ℕ) (made long named parsed helped : Rule) → made ≡ new_rule name
-    → long ≡ record made { long = Some name } → named ≡ record long { value_names = 1 }
-    → parsed ≡ record named { parser = Some (Signed (pos low) (pos high)) } → helped ≡ parsed
-    → helped ≡ number_rule name low high
-number_built name low high made long named parsed helped m l n p h =
-    let with_long = l ∙ ap (λ (a : Rule). record a { long = Some name }) m in
-    let with_name = n ∙ ap (λ (a : Rule). record a { value_names = 1 }) with_long in
-    h ∙ p ∙ ap (λ (a : Rule). record a { parser = Some (Signed (pos low) (pos high)) }) with_name
-
-pub wanted_built : (name : Text) (low high : ℕ) (made long named wanted parsed helped : Rule) → made ≡ new_rule name
-    → long ≡ record made { long = Some name } → named ≡ record long { value_names = 1 }
-    → wanted ≡ record named { required = true }
-    → parsed ≡ record wanted { parser = Some (Signed (pos low) (pos high)) } → helped ≡ parsed
-    → helped ≡ wanted_number name low high
-wanted_built name low high made long named wanted parsed helped m l n w p h =
-    let with_long = l ∙ ap (λ (a : Rule). record a { long = Some name }) m in
-    let with_name = n ∙ ap (λ (a : Rule). record a { value_names = 1 }) with_long in
-    let with_need = w ∙ ap (λ (a : Rule). record a { required = true }) with_name in
-    h ∙ p ∙ ap (λ (a : Rule). record a { parser = Some (Signed (pos low) (pos high)) }) with_need

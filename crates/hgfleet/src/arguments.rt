@@ -1,8 +1,10 @@
 //! The arguments of the program.
 ghost use Rattle.std.specs.Prelude.{◌≡◌, ◌∷◌, ◌↔◌, [], map, List, ℕ, IsTrue, IfOk, IfErr, MatchResult, codes};
-ghost use Rattle.std.specs.Prelude.{Some, None, true, false};
-ghost use Rattle.clap.specs.Words.{app_of, found_of, kind_of, new_app, rows_of, rule_of, subcommand_rows_of, Text};
+ghost use Rattle.std.specs.Prelude.{Ok, Some, None, true, false, ◌≤◌, IfSome, pos};
+ghost use Rattle.clap.specs.Words.{App, Rule, Text, app_of, found_of, kind_of, new_app, rows_of, rule_of};
+ghost use Rattle.clap.specs.Words.{subcommand_rows_of, with_rule, with_subcommand};
 ghost use Rattle.clap.specs.declared.builder.command.Command.TheViews.{out-Command};
+ghost use Rattle.clap.specs.declared.builder.value_parser.ValueParser.TheVariants.{Signed};
 ghost use Rattle.hgfleet.specs.declared.arguments.ArgumentFault.TheVariants.{NoMemory};
 ghost use Rattle.hg_show.specs.declared.form.Form.TheVariants.{Store, Message};
 ghost use Rattle.hgfleet.specs.Arguments.{ArgumentsAnswer, IsRun, IsMistake, MeetsWanted, ParseAnswer, faults_at};
@@ -10,19 +12,21 @@ ghost use Rattle.hgfleet.specs.Arguments.{program_at, program_alone};
 ghost use Rattle.hgfleet.specs.Arguments.{run, race, show_at, write_at, form_rule};
 ghost use Rattle.hgfleet.specs.Arguments.{IsRunTold, notes_given, run_notes};
 ghost use Rattle.hgfleet.specs.Arguments.{IsRaceOf, number_given, numbers_given, race_numbers};
-ghost use Rattle.hgfleet.specs.Arguments.{log_options};
+ghost use Rattle.hgfleet.specs.Arguments.{log_options, number_rule, wanted_number};
 ghost use Rattle.hgfleet.specs.Arguments.{texts_of};
 ghost use Rattle.hgfleet.specs.Arguments.{IsShowOf, form_given, form_named, shown_form};
 ghost use Rattle.hgfleet.specs.Arguments.{IsWriteOf, write_given, written_form};
 ghost use Rattle.hgfleet.specs.Arguments.{fate_labels, why_names};
+ghost use Rattle.hgfleet.specs.Builders.{IsArgument, IsCommand, IsProgram, value_rule};
 ghost use Rattle.hgfleet.specs.TryArguments.{flag_given, flag_rule, words_given};
 ghost use Rattle.hgfleet.specs.Arguments.{argument_fault_number, argument_fault_status, argument_fault_text};
 
 use crate::check_arguments::{check_command, check_of};
 use crate::node_arguments::{fate, fate_of, log, log_of, two_pictures, why, why_of};
 use crate::try_arguments::{
-    WantedTrial, compare_command, compare_of, excluding_flags, try_command, try_of,
+    WantedTrial, compare_command, compare_of, excluding_flags, needed_argument, try_command, try_of,
 };
+use clap::builder::ValueParser;
 use clap::error::ErrorKind;
 use clap::{Arg, ArgAction, ArgMatches, Command, Error, value_parser};
 use hg_show::Form;
@@ -181,6 +185,15 @@ A script has a command on each line; the words are divided by spaces:
   agree A B           prints whether A and B hold the same in the same phases
 Empty lines and lines that begin with # are skipped.
 
+Behind the phase of a changeset a report says which of these it is:
+  obsolete           rewritten or pruned, and not public
+  suspended          obsolete, and an orphan stands on it
+  extinct            obsolete, and none does
+  orphan             on an obsolete ancestor
+  phase-divergent    made from what is public
+  content-divergent  made from what was rewritten in another way too
+  hidden             not shown, nor given to others
+
 A line that a replica refuses changes nothing. What refused it is printed, as
   7: rewrite 3 Public
 with the line's number, a word, and the refusal's number and name; the script goes on.
@@ -281,7 +294,7 @@ fn names_run(word: &str) -> bool
 }
 
 // The fault of words that the parser takes and that ask for nothing. Those of a log ask for two pictures, and those of
-// a trial have flags that exclude each other.
+// a trial have flags that exclude each other. A run has words that the parser passes over, as `--`.
 fn nothing_asked(alloc: Global, words: &[&str]) -> Result<Error, AllocError>
     ensures { IfOk result IsMistake }
 {
@@ -291,19 +304,16 @@ fn nothing_asked(alloc: Global, words: &[&str]) -> Result<Error, AllocError>
     if is_command(words, "try") {
         return excluding_flags(alloc, words);
     }
-    further_words(alloc)
+    mistake(
+        run(alloc),
+        ErrorKind::UnknownArgument,
+        "a run takes no further words",
+    )
 }
 
 // Whether the words are those of this command.
 fn is_command(words: &[&str], name: &str) -> bool {
     words.len() >= 2 && words[1] == name
-}
-
-// The fault of a run with words that the parser passes over, as `--`.
-fn further_words(alloc: Global) -> Result<Error, AllocError>
-    ensures { IfOk result (λ e. kind_of e ≡ ErrorKind.UnknownArgument) }
-{
-    run(alloc)?.error(ErrorKind::UnknownArgument, "a run takes no further words")
 }
 
 // What the words ask for, where that is more than a run.
@@ -364,31 +374,25 @@ fn run_of(run: &ArgMatches<'_>) -> Option<Wanted>
     }
 }
 
-// The race of these numbers.
+// The race of these numbers, which lie within their bounds, and so fit.
 fn race_of(race: &ArgMatches<'_>) -> Option<Wanted>
     ensures { IsRaceOf (numbers_given (rows_of (found_of race.now))) result }
 {
-    let nodes = nodes_of(race)?;
-    let rounds = rounds_of(race)?;
-    Some(Wanted::Race { nodes, rounds })
+    let nodes = number_of(race, "nodes", 2, 16)?;
+    let rounds = number_of(race, "rounds", 1, 1_000)?;
+    Some(Wanted::Race {
+        nodes: nodes as u8,
+        rounds: rounds as u16,
+    })
 }
 
-// How many nodes race. The parser has refused the numbers out of range before.
-fn nodes_of(race: &ArgMatches<'_>) -> Option<u8>
-    ensures { result ≡ number_given (codes "nodes") 2 16 (rows_of (found_of race.now)) }
+/// The number that is given for the option of this name. The parser has refused the numbers out of range before.
+pub(crate) fn number_of(given: &ArgMatches<'_>, name: &str, low: u32, high: u32) -> Option<u32>
+    ensures given { result ≡ number_given name.now low high (rows_of (found_of given.now)) }
+    ensures within { IfSome result (λ number. (low ≤ number) × (number ≤ high)) }
 {
-    match race.get_one::<u8>("nodes") {
-        Some(nodes) if 2 <= nodes && nodes <= 16 => Some(nodes),
-        _ => None,
-    }
-}
-
-// For how many rounds they race. The parser has refused the numbers out of range before.
-fn rounds_of(race: &ArgMatches<'_>) -> Option<u16>
-    ensures { result ≡ number_given (codes "rounds") 1 1000 (rows_of (found_of race.now)) }
-{
-    match race.get_one::<u16>("rounds") {
-        Some(rounds) if 1 <= rounds && rounds <= 1_000 => Some(rounds),
+    match given.get_one::<u32>(name) {
+        Some(number) if low <= number && number <= high => Some(number),
         _ => None,
     }
 }
@@ -476,18 +480,27 @@ fn form_named(word: &str) -> Option<Form>
 fn program<'a>(alloc: Global, forms: &'a [&'a str]) -> Result<Command<'a>, AllocError>
     ensures { IfOk result (λ command. app_of command ≡ program_at forms.entry) }
 {
-    let command = program_alone(alloc)
-        .subcommand(run(alloc)?)?
-        .subcommand(race(alloc)?)?
-        .subcommand(log(alloc)?)?
-        .subcommand(show(alloc, forms)?)?
-        .subcommand(write(alloc, forms)?)?
-        .subcommand(why(alloc)?)?
-        .subcommand(fate(alloc)?)?
-        .subcommand(try_command(alloc)?)?
-        .subcommand(compare_command(alloc)?)?
-        .subcommand(check_command(alloc)?)?;
-    Ok(command)
+    let program = with_command(Ok(program_alone(alloc)), run(alloc));
+    let program = with_command(program, race(alloc));
+    let program = with_command(program, log(alloc));
+    let program = with_command(program, show(alloc, forms));
+    let program = with_command(program, write(alloc, forms));
+    let program = with_command(program, why(alloc));
+    let program = with_command(program, fate(alloc));
+    let program = with_command(program, try_command(alloc));
+    let program = with_command(program, compare_command(alloc));
+    with_command(program, check_command(alloc))
+}
+
+// The program with this command too, where there was memory for both.
+fn with_command<'a>(
+    program: Result<Command<'a>, AllocError>,
+    command: Result<Command<'a>, AllocError>,
+) -> Result<Command<'a>, AllocError>
+    ensures { (before app : App) → IfOk program.entry (IsProgram before) → IfOk command.entry (IsCommand app)
+        → IfOk result (IsProgram (with_subcommand before app.top)) }
+{
+    program?.subcommand(command?)
 }
 
 // The program without its commands.
@@ -504,47 +517,135 @@ fn program_alone<'a>(alloc: Global) -> Command<'a>
 fn run<'a>(alloc: Global) -> Result<Command<'a>, AllocError>
     ensures { IfOk result (λ command. (app_of command ≡ run) × ((out-Command command).has_globals ≡ false)) }
 {
-    Command::new(alloc, "run")
-        .about("Does the script of standard input and prints its reports")
-        .after_help(SCRIPT_HELP)
-        .override_usage("hgfleet run [OPTIONS] < SCRIPT")
-        .arg(flag(
-            alloc,
-            "explain",
-            "Says what each refusal is about, and which word is at fault",
-        ))?
-        .arg(flag(alloc, "trace", "Says what each accepted line did"))?
-        .arg(flag(
-            alloc,
-            "strict",
-            "Ends with status 1 where a line was refused",
-        ))
+    let run = Ok(command_of(
+        alloc,
+        "run",
+        "Does the script of standard input and prints its reports",
+        SCRIPT_HELP,
+        "hgfleet run [OPTIONS] < SCRIPT",
+    ));
+    let run = with_flag(
+        alloc,
+        run,
+        "explain",
+        "Says what each refusal is about, and which word is at fault",
+    );
+    let run = with_flag(alloc, run, "trace", "Says what each accepted line did");
+    with_flag(
+        alloc,
+        run,
+        "strict",
+        "Ends with status 1 where a line was refused",
+    )
+}
+
+/// A command without its arguments: its name, what it does in a line and at length, and how it is used.
+pub(crate) fn command_of<'a>(
+    alloc: Global,
+    name: &'a str,
+    about: &'a str,
+    help: &'a str,
+    usage: &'a str,
+) -> Command<'a>
+    ensures { IsCommand (new_app name.entry.now) result }
+{
+    Command::new(alloc, name)
+        .about(about)
+        .after_help(help)
+        .override_usage(usage)
+}
+
+/// The command with this argument too, where there was memory for the command.
+pub(crate) fn with_argument<'a>(
+    command: Result<Command<'a>, AllocError>,
+    argument: Arg<'a>,
+) -> Result<Command<'a>, AllocError>
+    ensures { (app : App) (rule : Rule) → IfOk command.entry (IsCommand app) → IsArgument rule argument.entry
+        → IfOk result (IsCommand (with_rule app rule)) }
+{
+    command?.arg(argument)
+}
+
+/// The command with a flag `--NAME` too, where there was memory for the command.
+pub(crate) fn with_flag<'a>(
+    alloc: Global,
+    command: Result<Command<'a>, AllocError>,
+    name: &'a str,
+    help: &'a str,
+) -> Result<Command<'a>, AllocError>
+    ensures { (app : App) → IfOk command.entry (IsCommand app)
+        → IfOk result (IsCommand (with_rule app (flag_rule name.entry.now))) }
+{
+    command?.arg(flag(alloc, name, help))
+}
+
+/// The fault that has this text, of the words that are given to the command, where there was memory for the command.
+pub(crate) fn mistake(
+    command: Result<Command<'_>, AllocError>,
+    kind: ErrorKind,
+    text: &str,
+) -> Result<Error, AllocError>
+    ensures { IfOk result (λ e. kind_of e ≡ kind) }
+{
+    command?.error(kind, text)
 }
 
 fn race<'a>(alloc: Global) -> Result<Command<'a>, AllocError>
     ensures { IfOk result (λ command. (app_of command ≡ race) × ((out-Command command).has_globals ≡ false)) }
 {
-    let nodes = Arg::new(alloc, "nodes")
-        .long("nodes")
-        .value_name("N")
-        .required(true)
-        .value_parser(value_parser!(u8).range(2..=16))
-        .help("How many nodes, 2 to 16");
-    let rounds = Arg::new(alloc, "rounds")
-        .long("rounds")
-        .value_name("R")
-        .required(true)
-        .value_parser(value_parser!(u16).range(1..=1_000))
-        .help("How many rounds, 1 to 1,000");
-    Command::new(alloc, "race")
+    let race = Command::new(alloc, "race")
         .about("Lets threads share nodes, and prints what came of it")
-        .after_help(RACE_HELP)
-        .arg(nodes)?
-        .arg(rounds)
+        .after_help(RACE_HELP);
+    let race = with_argument(Ok(race), race_nodes(alloc));
+    with_argument(race, race_rounds(alloc))
 }
 
-/// A flag `--NAME`.
-pub(crate) fn flag<'a>(alloc: Global, name: &'a str, help: &'a str) -> Arg<'a>
+// The number of a race's nodes.
+fn race_nodes<'a>(alloc: Global) -> Arg<'a>
+    ensures { IsArgument (wanted_number (codes "nodes") 2 16) result }
+{
+    let parser = value_parser!(u32).range(2..=16);
+    number_argument(alloc, "nodes", "N", parser, "How many nodes, 2 to 16").required(true)
+}
+
+// The number of its rounds.
+fn race_rounds<'a>(alloc: Global) -> Arg<'a>
+    ensures { IsArgument (wanted_number (codes "rounds") 1 1000) result }
+{
+    let parser = value_parser!(u32).range(1..=1_000);
+    number_argument(alloc, "rounds", "R", parser, "How many rounds, 1 to 1,000").required(true)
+}
+
+/// An option `--NAME VALUE`, whose value is a number that this parser takes.
+pub(crate) fn number_argument<'a>(
+    alloc: Global,
+    name: &'a str,
+    shown: &'a str,
+    parser: ValueParser<'a>,
+    help: &'a str,
+) -> Arg<'a>
+    ensures { (low high : ℕ) → parser.entry ≡ Signed (pos low) (pos high)
+        → IsArgument (number_rule name.entry.now low high) result }
+{
+    value_argument(alloc, name, shown, help)
+        .long(name)
+        .value_parser(parser)
+}
+
+/// An argument with a value, which help shows by a name.
+pub(crate) fn value_argument<'a>(
+    alloc: Global,
+    name: &'a str,
+    shown: &'a str,
+    help: &'a str,
+) -> Arg<'a>
+    ensures { IsArgument (value_rule name.entry.now) result }
+{
+    Arg::new(alloc, name).value_name(shown).help(help)
+}
+
+// A flag `--NAME`.
+fn flag<'a>(alloc: Global, name: &'a str, help: &'a str) -> Arg<'a>
     ensures { (rule_of result ≡ flag_rule name.entry.now) × (result.global ≡ false) }
 {
     Arg::new(alloc, name)
@@ -557,38 +658,39 @@ fn show<'a>(alloc: Global, forms: &'a [&'a str]) -> Result<Command<'a>, AllocErr
     ensures { IfOk result (λ command.
         (app_of command ≡ show_at forms.entry) × ((out-Command command).has_globals ≡ false)) }
 {
-    Command::new(alloc, "show")
-        .about("Prints the bytes of markers, phase roots or a message as text")
-        .after_help(SHOW_HELP)
-        .override_usage("hgfleet show <FORM> < BYTES")
-        .arg(form_argument(alloc, forms))
+    let show = command_of(
+        alloc,
+        "show",
+        "Prints the bytes of markers, phase roots or a message as text",
+        SHOW_HELP,
+        "hgfleet show <FORM> < BYTES",
+    );
+    with_argument(Ok(show), form_argument(alloc, forms))
 }
 
 fn write<'a>(alloc: Global, forms: &'a [&'a str]) -> Result<Command<'a>, AllocError>
     ensures { IfOk result (λ command.
         (app_of command ≡ write_at forms.entry) × ((out-Command command).has_globals ≡ false)) }
 {
-    let name = Arg::new(alloc, "name")
-        .value_name("NAME")
-        .required(true)
-        .help("The node, or the message");
-    Command::new(alloc, "write")
-        .about("Writes markers, phase roots or a message of a script as bytes")
-        .after_help(WRITE_HELP)
-        .override_usage("hgfleet write <FORM> <NAME> < SCRIPT")
-        .arg(form_argument(alloc, forms))?
-        .arg(name)
+    let write = command_of(
+        alloc,
+        "write",
+        "Writes markers, phase roots or a message of a script as bytes",
+        WRITE_HELP,
+        "hgfleet write <FORM> <NAME> < SCRIPT",
+    );
+    let write = with_argument(Ok(write), form_argument(alloc, forms));
+    with_argument(
+        write,
+        needed_argument(alloc, "name", "NAME", "The node, or the message"),
+    )
 }
 
 // The form of bytes, which must be given.
 fn form_argument<'a>(alloc: Global, forms: &'a [&'a str]) -> Arg<'a>
     ensures { (rule_of result ≡ form_rule forms.entry) × (result.global ≡ false) }
 {
-    Arg::new(alloc, "form")
-        .value_name("FORM")
-        .required(true)
-        .value_parser(forms)
-        .help("What the bytes are")
+    needed_argument(alloc, "form", "FORM", "What the bytes are").value_parser(forms)
 }
 
 /// The words by which help and the version are asked for, and some that ask for nothing.

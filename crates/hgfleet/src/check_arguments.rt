@@ -6,7 +6,7 @@ ghost use Rattle.hgfleet.specs.Arguments.{IsCheckOf};
 ghost use Rattle.hgfleet.specs.CheckArguments.{check_app};
 ghost use Rattle.hgfleet.specs.TryArguments.{flag_given};
 
-use crate::arguments::{Wanted, flag, flag_of};
+use crate::arguments::{Wanted, command_of, flag_of, with_flag};
 use clap::{ArgMatches, Command};
 use std::alloc::{AllocError, Global};
 
@@ -19,7 +19,7 @@ with #> or are that alone, as
 To other commands these are comments. In what the script differs is printed, as a diff that patch takes: where a line
 differs, that line, what stands behind it with -, and what it printed with +. Below that stands how many lines were
 checked, and how many differ. With --write the script is printed in place of that, with what its lines printed behind
-each of them.
+each of them; a file that is read and written at once, as by `< FILE > FILE`, is empty before it is read.
 
 Statuses: 0 done and no line differs, 1 a line that differs, a script that ended early, or a text that can't be written,
 2 wrong arguments, 3 want of memory.
@@ -31,15 +31,19 @@ For example:
 pub(crate) fn check_command<'a>(alloc: Global) -> Result<Command<'a>, AllocError>
     ensures { IfOk result (λ command. (app_of command ≡ check_app) × ((out-Command command).has_globals ≡ false)) }
 {
-    Command::new(alloc, "check")
-        .about("Compares what the lines of a script print with what it says")
-        .after_help(CHECK_HELP)
-        .override_usage("hgfleet check [OPTIONS] < SCRIPT")
-        .arg(flag(
-            alloc,
-            "write",
-            "Prints the script with what its lines print",
-        ))
+    let check = command_of(
+        alloc,
+        "check",
+        "Compares what the lines of a script print with what it says",
+        CHECK_HELP,
+        "hgfleet check [OPTIONS] < SCRIPT",
+    );
+    with_flag(
+        alloc,
+        Ok(check),
+        "write",
+        "Prints the script with what its lines print",
+    )
 }
 
 /// That a script is checked, or filled in where this flag is given.

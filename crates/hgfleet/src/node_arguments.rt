@@ -2,11 +2,15 @@
 ghost use Rattle.std.specs.Prelude.{◌≡◌, IfOk, codes, false};
 ghost use Rattle.clap.specs.Words.{app_of, found_of, kind_of, rows_of, rule_of};
 ghost use Rattle.clap.specs.declared.builder.command.Command.TheViews.{out-Command};
-ghost use Rattle.hgfleet.specs.Arguments.{IsFateOf, IsLogOf, IsWhyOf, fate, line_limit, line_rule, log, log_given};
-ghost use Rattle.hgfleet.specs.Arguments.{names_given, nodes_rule, number_given, picture_of, why};
+ghost use Rattle.hgfleet.specs.Arguments.{IsFateOf, IsLogOf, IsWhyOf, fate, line_rule, log, log_given};
+ghost use Rattle.hgfleet.specs.Arguments.{log_flags, names_given, nodes_rule, picture_of, why};
 ghost use Rattle.hgfleet.specs.TryArguments.{words_given};
+ghost use Rattle.hgfleet.specs.Builders.{IsCommand};
 
-use crate::arguments::{Picture, Wanted, flag, flag_of, words_of};
+use crate::arguments::{
+    Picture, Wanted, command_of, flag_of, mistake, number_argument, number_of, value_argument,
+    with_argument, with_flag, words_of,
+};
 use crate::try_arguments::words_argument;
 use clap::error::ErrorKind;
 use clap::{Arg, ArgMatches, Command, Error, value_parser};
@@ -41,7 +45,7 @@ unstable; where none is named, of every node. Each unstable changeset has its na
   phase-divergent         from which public changeset it was made
   content-divergent       with which changesets, and from which one all of them come
 Below an orphan stands the line of a script that moves it to where its parent went, where there is such a changeset.
-Lines that were refused are told on standard error.
+Divergence ends where all of these changesets but one are pruned. Lines that were refused are told on standard error.
 
 Statuses: 0 done, 1 a script that ended early or leaves no such name, or a text that
 can't be written, 2 wrong arguments, 3 want of memory.
@@ -67,58 +71,86 @@ For example:
 pub(crate) fn log<'a>(alloc: Global) -> Result<Command<'a>, AllocError>
     ensures { IfOk result (λ command. (app_of command ≡ log) × ((out-Command command).has_globals ≡ false)) }
 {
-    Command::new(alloc, "log")
-        .about("Draws the histories of the nodes of a script")
-        .after_help(LOG_HELP)
-        .override_usage("hgfleet log [OPTIONS] [NODE]... < SCRIPT")
-        .arg(flag(alloc, "hidden", "Draws what is hidden, too"))?
-        .arg(flag(alloc, "dot", "Prints a graph in the language of Graphviz"))?
-        .arg(flag(alloc, "json", "Prints an array of JSON"))?
-        .arg(line_argument(alloc))?
-        .arg(nodes_argument(alloc))
+    let log = with_argument(log_with_flags(alloc), line_argument(alloc));
+    with_argument(log, nodes_argument(alloc))
+}
+
+// The same command with its flags alone.
+fn log_with_flags<'a>(alloc: Global) -> Result<Command<'a>, AllocError>
+    ensures { IfOk result (IsCommand log_flags) }
+{
+    let log = Ok(command_of(
+        alloc,
+        "log",
+        "Draws the histories of the nodes of a script",
+        LOG_HELP,
+        "hgfleet log [OPTIONS] [NODE]... < SCRIPT",
+    ));
+    let log = with_flag(alloc, log, "hidden", "Draws what is hidden, too");
+    let log = with_flag(
+        alloc,
+        log,
+        "dot",
+        "Prints a graph in the language of Graphviz",
+    );
+    with_flag(alloc, log, "json", "Prints an array of JSON")
 }
 
 // The line behind which histories are drawn.
 fn line_argument<'a>(alloc: Global) -> Arg<'a>
     ensures { (rule_of result ≡ line_rule) × (result.global ≡ false) }
 {
-    Arg::new(alloc, "at")
-        .long("at")
-        .value_name("LINE")
-        .value_parser(value_parser!(u32).range(1..=1_048_576))
-        .help("Draws what stands behind this line of the script, from 1 on")
+    number_argument(
+        alloc,
+        "at",
+        "LINE",
+        value_parser!(u32).range(1..=1_048_576),
+        "Draws what stands behind this line of the script, from 1 on",
+    )
 }
 
 // The names of nodes, any number of them.
 fn nodes_argument<'a>(alloc: Global) -> Arg<'a>
     ensures { (rule_of result ≡ nodes_rule) × (result.global ≡ false) }
 {
-    Arg::new(alloc, "nodes")
-        .value_name("NODE")
-        .num_args(0..)
-        .help("The nodes that are meant, all where none is named")
+    value_argument(
+        alloc,
+        "nodes",
+        "NODE",
+        "The nodes that are meant, all where none is named",
+    )
+    .num_args(0..)
 }
 
 /// The command that tells why changesets are unstable, with the names of nodes.
 pub(crate) fn why<'a>(alloc: Global) -> Result<Command<'a>, AllocError>
     ensures { IfOk result (λ command. (app_of command ≡ why) × ((out-Command command).has_globals ≡ false)) }
 {
-    Command::new(alloc, "why")
-        .about("Tells why changesets of a script's nodes are unstable")
-        .after_help(WHY_HELP)
-        .override_usage("hgfleet why [NODE]... < SCRIPT")
-        .arg(nodes_argument(alloc))
+    let why = command_of(
+        alloc,
+        "why",
+        "Tells why changesets of a script's nodes are unstable",
+        WHY_HELP,
+        "hgfleet why [NODE]... < SCRIPT",
+    );
+    with_argument(Ok(why), nodes_argument(alloc))
 }
 
 /// The command that tells the fates of changesets, with their labels.
 pub(crate) fn fate<'a>(alloc: Global) -> Result<Command<'a>, AllocError>
     ensures { IfOk result (λ command. (app_of command ≡ fate) × ((out-Command command).has_globals ≡ false)) }
 {
-    Command::new(alloc, "fate")
-        .about("Tells what became of changesets at a script's nodes")
-        .after_help(FATE_HELP)
-        .override_usage("hgfleet fate <LABEL>... < SCRIPT")
-        .arg(words_argument(alloc, "labels", "LABEL", "The changesets that are meant"))
+    let fate = command_of(
+        alloc,
+        "fate",
+        "Tells what became of changesets at a script's nodes",
+        FATE_HELP,
+        "hgfleet fate <LABEL>... < SCRIPT",
+    );
+    with_argument(
+        Ok(fate),
+        words_argument(alloc, "labels", "LABEL", "The changesets that are meant"),
+    )
 }
 
 /// The log of these nodes, with these flags, none where they ask for two pictures.
@@ -129,7 +161,7 @@ pub(crate) fn log_of(alloc: Global, log: &ArgMatches<'_>) -> Result<Option<Wante
         Some(picture) => {
             let nodes = words_of(alloc, log, "nodes")?;
             let shows_hidden = flag_of(log, "hidden");
-            let line = line_of(log);
+            let line = number_of(log, "at", 1, 1_048_576);
             Ok(Some(Wanted::Log {
                 nodes,
                 shows_hidden,
@@ -138,16 +170,6 @@ pub(crate) fn log_of(alloc: Global, log: &ArgMatches<'_>) -> Result<Option<Wante
             }))
         }
         None => Ok(None),
-    }
-}
-
-// The line behind which histories are drawn. The parser has refused the numbers out of range before.
-fn line_of(log: &ArgMatches<'_>) -> Option<u32>
-    ensures { result ≡ number_given (codes "at") 1 line_limit (rows_of (found_of log.now)) }
-{
-    match log.get_one::<u32>("at") {
-        Some(line) if 1 <= line && line <= 1_048_576 => Some(line),
-        _ => None,
     }
 }
 
@@ -181,7 +203,8 @@ pub(crate) fn fate_of(alloc: Global, fate: &ArgMatches<'_>) -> Result<Option<Wan
 pub(crate) fn two_pictures(alloc: Global) -> Result<Error, AllocError>
     ensures { IfOk result (λ e. kind_of e ≡ ErrorKind.ArgumentConflict) }
 {
-    log(alloc)?.error(
+    mistake(
+        log(alloc),
         ErrorKind::ArgumentConflict,
         "the argument '--dot' cannot be used with '--json'",
     )

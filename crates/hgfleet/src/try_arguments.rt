@@ -5,9 +5,12 @@ ghost use Rattle.clap.specs.declared.builder.command.Command.TheViews.{out-Comma
 ghost use Rattle.hgfleet.specs.Arguments.{IsCompareOf, IsTryOf};
 ghost use Rattle.hgfleet.specs.TryArguments.{account_given, account_of_log, account_without_log, compare_app};
 ghost use Rattle.hgfleet.specs.TryArguments.{file_rule, files_compared, is_hyphen, target_rule, try_app, try_given};
-ghost use Rattle.hgfleet.specs.TryArguments.{words_rule};
+ghost use Rattle.hgfleet.specs.TryArguments.{try_log_app, words_rule};
+ghost use Rattle.hgfleet.specs.Builders.{IsCommand};
 
-use crate::arguments::{Wanted, flag, flag_of, words_of};
+use crate::arguments::{
+    Wanted, command_of, flag_of, mistake, value_argument, with_argument, with_flag, words_of,
+};
 use clap::error::ErrorKind;
 use clap::{Arg, ArgMatches, Command, Error};
 use std::alloc::{AllocError, Global};
@@ -72,8 +75,8 @@ Prints in what the repositories of two files of messages differ, and whether the
   mine lacks: 1 markers
   phases differ: a f96ca39738e6: draft/public
   agree: no
-Both hold a changeset whose phases differ: the first one has it in the phase before the slash. The file - is standard
-input.
+Both hold a changeset whose phases differ: the first one has it in the phase before the slash. A message of what is
+served, as of `tools/hg2fleet --served`, lacks all that is hidden there. The file - is standard input.
 
 Statuses: 0 they agree, 1 they differ, a message that is refused, a file that can't be read, or a text that can't be
 written, 2 wrong arguments, 3 want of memory.
@@ -85,35 +88,62 @@ For example:
 pub(crate) fn try_command<'a>(alloc: Global) -> Result<Command<'a>, AllocError>
     ensures { IfOk result (λ command. (app_of command ≡ try_app) × ((out-Command command).has_globals ≡ false)) }
 {
-    Command::new(alloc, "try")
-        .about("Tells what would become of a repository that takes messages in")
-        .after_help(TRY_HELP)
-        .override_usage("hgfleet try [OPTIONS] <FILE>...")
-        .arg(flag(alloc, "log", "Draws what stands then"))?
-        .arg(flag(alloc, "hidden", "With --log: draws what is hidden, too"))?
-        .arg(flag(
-            alloc,
-            "dot",
-            "With --log: prints a graph in the language of Graphviz, and nothing else",
-        ))?
-        .arg(flag(alloc, "why", "Tells why changesets are unstable then"))?
-        .arg(flag(
-            alloc,
-            "json",
-            "Prints an array of JSON of what stands then, and nothing else",
-        ))?
-        .arg(target_argument(alloc))?
-        .arg(words_argument(alloc, "files", "FILE", "The messages, yours first"))
+    let command = with_flag(
+        alloc,
+        try_with_log(alloc),
+        "why",
+        "Tells why changesets are unstable then",
+    );
+    let command = with_flag(
+        alloc,
+        command,
+        "json",
+        "Prints an array of JSON of what stands then, and nothing else",
+    );
+    let command = with_argument(command, target_argument(alloc));
+    with_argument(
+        command,
+        words_argument(alloc, "files", "FILE", "The messages, yours first"),
+    )
+}
+
+// The same command with the flag of a log and those for how it is drawn.
+fn try_with_log<'a>(alloc: Global) -> Result<Command<'a>, AllocError>
+    ensures { IfOk result (IsCommand try_log_app) }
+{
+    let command = Ok(command_of(
+        alloc,
+        "try",
+        "Tells what would become of a repository that takes messages in",
+        TRY_HELP,
+        "hgfleet try [--log [--hidden] [--dot] | --why | --json] [--write <TARGET>] <FILE>...",
+    ));
+    let command = with_flag(alloc, command, "log", "Draws what stands then");
+    let command = with_flag(
+        alloc,
+        command,
+        "hidden",
+        "With --log: draws what is hidden, too",
+    );
+    with_flag(
+        alloc,
+        command,
+        "dot",
+        "With --log: prints a graph in the language of Graphviz, and nothing else",
+    )
 }
 
 // The file that is written.
 fn target_argument<'a>(alloc: Global) -> Arg<'a>
     ensures { (rule_of result ≡ target_rule) × (result.global ≡ false) }
 {
-    Arg::new(alloc, "write")
-        .long("write")
-        .value_name("TARGET")
-        .help("Writes a message of all that stands then to the file TARGET")
+    value_argument(
+        alloc,
+        "write",
+        "TARGET",
+        "Writes a message of all that stands then to the file TARGET",
+    )
+    .long("write")
 }
 
 /// Words, one at least.
@@ -125,32 +155,36 @@ pub(crate) fn words_argument<'a>(
 ) -> Arg<'a>
     ensures { (rule_of result ≡ words_rule name.entry.now) × (result.global ≡ false) }
 {
-    Arg::new(alloc, name)
-        .value_name(shown)
-        .num_args(1..)
-        .required(true)
-        .help(help)
+    needed_argument(alloc, name, shown, help).num_args(1..)
 }
 
 /// The command that compares the repositories of two messages.
 pub(crate) fn compare_command<'a>(alloc: Global) -> Result<Command<'a>, AllocError>
     ensures { IfOk result (λ command. (app_of command ≡ compare_app) × ((out-Command command).has_globals ≡ false)) }
 {
-    Command::new(alloc, "compare")
+    let compare = Command::new(alloc, "compare")
         .about("Tells in what two repositories differ")
-        .after_help(COMPARE_HELP)
-        .arg(file_argument(alloc, "first", "FIRST", "The message of the one"))?
-        .arg(file_argument(alloc, "second", "SECOND", "The message of the other"))
+        .after_help(COMPARE_HELP);
+    let compare = with_argument(
+        Ok(compare),
+        needed_argument(alloc, "first", "FIRST", "The message of the one"),
+    );
+    with_argument(
+        compare,
+        needed_argument(alloc, "second", "SECOND", "The message of the other"),
+    )
 }
 
-// A file, which must be given.
-fn file_argument<'a>(alloc: Global, name: &'a str, shown: &'a str, help: &'a str) -> Arg<'a>
+/// A word, which must be given.
+pub(crate) fn needed_argument<'a>(
+    alloc: Global,
+    name: &'a str,
+    shown: &'a str,
+    help: &'a str,
+) -> Arg<'a>
     ensures { (rule_of result ≡ file_rule name.entry.now) × (result.global ≡ false) }
 {
-    Arg::new(alloc, name)
-        .value_name(shown)
-        .required(true)
-        .help(help)
+    value_argument(alloc, name, shown, help).required(true)
 }
 
 /// That the messages of these files are tried, with this account of it, none where flags exclude each other, or
@@ -249,7 +283,11 @@ fn account_without_log(
 pub(crate) fn excluding_flags(alloc: Global, words: &[&str]) -> Result<Error, AllocError>
     ensures { IfOk result (λ e. kind_of e ≡ ErrorKind.ArgumentConflict) }
 {
-    try_command(alloc)?.error(ErrorKind::ArgumentConflict, exclusion(words))
+    mistake(
+        try_command(alloc),
+        ErrorKind::ArgumentConflict,
+        exclusion(words),
+    )
 }
 
 // What is said of the first two flags that exclude each other, of one that says how a log is drawn, without it, or of

@@ -15,7 +15,7 @@ returns-in_ok-nodes-in-Some c =
     ∙ ap₂ (λ (names : List Text) (shows_hidden : Bool). options_of names shows_hidden (Some c.in-Some.picture)
     (line_given rows)) (sym c.in_ok-nodes-in-Some.ensures) (sym c.flag_of-shows_hidden.ensures)
     ∙ ap (λ (line : Option ℕ). options_of (texts_of c.in_ok-nodes-in-Some.nodes.items) c.flag_of-shows_hidden.result
-    (Some c.in-Some.picture) line) (sym c.line_of-line.ensures)
+    (Some c.in-Some.picture) line) (sym c.number_of-line.ensures.given)
 
 pub returns-in-None : goal.returns-in-None
 returns-in-None c =

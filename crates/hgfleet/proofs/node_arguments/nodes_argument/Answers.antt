@@ -1,20 +1,13 @@
-use Rattle.std.proofs.Common.{rules, ap, ◌≡◌, ◌∙◌, Option, Some}
+use Rattle.std.proofs.Common.{rules, ◌≡◌, Some}
 use Rattle.clap.specs.Lexer.{usize_max}
-use Rattle.clap.specs.Words.{Rule, rule_of}
 use Rattle.clap.specs.declared.builder.range.ValueRange.{ValueRange}
-use Rattle.hgfleet.proofs.BuilderLemmas.{is_global, with_value_name}
+use Rattle.hgfleet.proofs.BuilderLemmas.{with_range}
 use Rattle.hgfleet.proofs.node_arguments.nodes_argument.Goals as goal
 
-abbrev any : Option ValueRange
-any = Some (record { start_inclusive = 0; end_inclusive = usize_max })
+abbrev any : ValueRange
+any = record { start_inclusive = 0; end_inclusive = usize_max }
 
 pub returns : goal.returns
 returns c =
-    let named = ap rule_of c.value_name.ensures ∙ ap with_value_name c.new.ensures.rule in
-    let ranged : c.num_args.result.num_vals ≡ any = search rules in (
-      ap rule_of c.help.ensures ∙ ap rule_of c.num_args.ensures.0
-          ∙ ap (λ (r : Option ValueRange). record (rule_of c.value_name.result) { range = r }) ranged
-          ∙ ap (λ (r : Rule). record r { range = any }) named,
-      ap is_global c.help.ensures ∙ ap is_global c.num_args.ensures.0 ∙ ap is_global c.value_name.ensures
-          ∙ c.new.ensures.optional.1,
-    )
+    let ranged : c.num_args.result.num_vals ≡ Some any = search rules in
+    with_range c.value_argument.result c.num_args.result any _ c.num_args.ensures.0 ranged c.value_argument.ensures
