@@ -55,7 +55,7 @@ impl From<io::Error> for Stop {
 }
 
 fn main(rt: HostRuntime) -> ExitCode {
-    match exchange(&rt) {
+    match run(&rt) {
         Ok(()) => ExitCode::SUCCESS,
         Err(stop) => {
             let _ = eprintln!(rt; "{stop:?}");
@@ -64,7 +64,7 @@ fn main(rt: HostRuntime) -> ExitCode {
     }
 }
 
-fn exchange(rt: &(impl Print + RandomSource + AllocGlobal)) -> Result<(), Stop> {
+fn run(rt: &(impl Print + RandomSource + AllocGlobal)) -> Result<(), Stop> {
     let alloc = rt.alloc();
     // What peers send is bytes of strangers: ids that they choose to meet cost nothing more where keys are secret.
     let keys = match IdKeys::secret(rt) {
@@ -72,12 +72,22 @@ fn exchange(rt: &(impl Print + RandomSource + AllocGlobal)) -> Result<(), Stop> 
         Err(_) => return Err(Stop::Input),
     };
     let mut fleet = Fleet::new(alloc, keys, 2)?;
-    let a = commit(alloc, &mut fleet, ALICE, Node::NULL, b"a")?;
-    let b = commit(alloc, &mut fleet, ALICE, a, b"b")?;
-    pull(&mut fleet, BOB, ALICE)?;
-    amend(alloc, &mut fleet, ALICE, b, b"b2")?;
-    commit(alloc, &mut fleet, BOB, b, b"c")?;
-    pull(&mut fleet, BOB, ALICE)?;
+    exchange(alloc, &mut fleet)?;
+    print_unstable(rt, &fleet)
+}
+
+// What the two commit, pull and amend.
+fn exchange(alloc: Global, fleet: &mut Fleet) -> Result<(), Stop> {
+    let a = commit(alloc, fleet, ALICE, Node::NULL, b"a")?;
+    let b = commit(alloc, fleet, ALICE, a, b"b")?;
+    pull(fleet, BOB, ALICE)?;
+    amend(alloc, fleet, ALICE, b, b"b2")?;
+    commit(alloc, fleet, BOB, b, b"c")?;
+    pull(fleet, BOB, ALICE)
+}
+
+// What Bob holds that is obsolete, and what is an orphan there.
+fn print_unstable(rt: &impl Print, fleet: &Fleet) -> Result<(), Stop> {
     match fleet.kept(BOB) {
         Some(bob) => {
             let sets = bob.instabilities();
