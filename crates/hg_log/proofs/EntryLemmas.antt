@@ -1,9 +1,9 @@
 -- Entries that are written one after the other.
 use Rattle.std.proofs.Common.{◌≡◌, ◌+◌, ◌-◌, ◌<◌, ◌++◌, ◌∷◌, [], ℕ, Bool, true, List, Option, Some, refl, ap, ◌∙◌, sym}
-use Rattle.std.proofs.Common.{subst, append_assoc, append-nil, All, false, get_or, length, inl, inr, take, ◌≤◌}
+use Rattle.std.proofs.Common.{subst, append-nil, All, false, get_or, length, inl, inr, take, ◌≤◌}
 use Rattle.std.specs.Prelude.{Contains, codes, if◌then◌else◌, option_map, slice_get}
 use Rattle.std.specs.Io.KnownBytes.{Appends}
-use Rattle.std.proofs.lemmas.List.{map-append, take_all, take_more}
+use Rattle.std.proofs.lemmas.List.{take_all}
 use Rattle.std.proofs.lemmas.List.Elements.{All-contains_itself, All-weaker}
 use Rattle.std.proofs.lemmas.Option.{slice_get_within, slice_get-map, same_Some}
 use Rattle.std.proofs.KnownBytes.{Appends-trans, Appends-nil}
@@ -120,9 +120,9 @@ joined_written P Q R a b c x y z join first second =
 
 -- one entry
 pub one_written : (node : NodeState) (place : ℕ) (e : Entry) (a c : Bool) (l m : Text) (x y : Option Text)
-    → IsEntryAt node.0 node.1 place e → l ≡ (if a then codes "," else []) → m ≡ l ++ object_text e → Appends x y m
-    → c ≡ true → WritesEntries (IsEntryOf node place) a c x y
-one_written node place e a c l m x y is front line written is_behind =
+    → IsEntryAt node.0 node.1 place e → l ≡ (if a then codes "," else []) → m ≡ l ++ object_text e → c ≡ true
+    → Appends x y m → WritesEntries (IsEntryOf node place) a c x y
+one_written node place e a c l m x y is front line is_behind written =
     let whole : m ≡ objects_text a (e ∷ []) =
     line ∙ ap (λ (t : Text). t ++ object_text e) front
     ∙ ap (λ (t : Text). (if a then codes "," else []) ++ t) (sym (append-nil (object_text e))) in

@@ -1,15 +1,28 @@
 -- Clusters of nodes, one after the other.
-use Rattle.std.proofs.Common.{◌≡◌, ◌+◌, ◌<◌, ◌≤◌, ◌++◌, ◌∷◌, [], ℕ, Bool, List, Option, refl, sym, subst, get_or}
+use Rattle.std.proofs.Common.{◌≡◌, ◌+◌, ◌<◌, ◌≤◌, ◌++◌, [], ℕ, Bool, List, Option, refl, sym, subst, get_or}
 use Rattle.std.proofs.Common.{length, take}
 use Rattle.std.specs.Io.KnownBytes.{Appends}
 use Rattle.std.proofs.lemmas.List.{take_all}
 use Rattle.std.proofs.KnownBytes.{Appends-trans, Appends-nil}
 use Rattle.hg_log.specs.declared.named.NamedNode.{NamedNode}
-use Rattle.hg_log.specs.Drawings.{Text}
+use Rattle.hg_view.specs.Kept.{KeptValue}
+use Rattle.hg_log.specs.Drawings.{AreAllDrawn, Grows, IsGraph, Text}
 use Rattle.hg_log.specs.Graphs.{AreClusters, IsCluster, IsGraphOf}
 use Rattle.hg_log.specs.Objects.{NodeState, named, names_and_states}
-use Rattle.hg_log.proofs.DrawingLemmas.{pieces_more}
+use Rattle.hg_log.proofs.DrawingLemmas.{Grows-trans, pieces_more}
 use Rattle.hg_log.proofs.NamedLemmas.{named_more}
+
+-- the changesets of a node between a heading and other lines
+pub cluster_written : (kept : KeptValue) (shows_hidden : Bool) (v w x y z : Option Text) (end : Text) → Grows v w
+    → ((text : Text) × AreAllDrawn kept shows_hidden text × Appends w x text) → Grows x y → Appends y z end
+    → (text : Text) × IsGraph kept shows_hidden text × Appends v z text
+cluster_written kept shows_hidden v w x y z end first boxes others last =
+    let after = Grows-trans x y z others (end, last) in (
+      first.0 ++ (boxes.0 ++ after.0),
+      (first.0, boxes.0, after.0, boxes.1, refl),
+      Appends-trans v w z first.0 (boxes.0 ++ after.0) first.1
+          (Appends-trans w x z boxes.0 after.0 boxes.2 after.1),
+    )
 
 -- the clusters of these nodes were written
 abbrev pub WritesClusters : Bool → List NodeState → Option Text → Option Text → Type 0

@@ -4,4 +4,5 @@ pub mod GraphLemmas
 pub mod JsonLemmas
 pub mod KindLemmas
 pub mod NamedLemmas
+pub mod TextLemmas
 pub mod TitleLemmas

@@ -6,6 +6,7 @@ ghost use Rattle.hg_log.specs.Drawings.{Extends, HasId};
 use crate::described::{push_short_id, push_unstable};
 use crate::fate::{fates, is_pruned, rewriting_word};
 use crate::kind::{Kind, kind_of};
+use crate::line::push_text;
 use crate::titles::label_of;
 use hg_changeset::{Changeset, Node};
 use hg_marker::Marker;
@@ -13,6 +14,18 @@ use hg_phases::Phase;
 use hg_replica::Replica;
 use hg_view::Kept;
 use std::alloc::AllocError;
+
+// How the line of a box or of an edge begins.
+const BEGIN: &[u8] = b"        \"";
+
+/// Appends how the cluster of this name begins.
+pub(crate) fn push_heading(line: &mut Vec<u8>, cluster: &[u8]) -> Result<(), AllocError> {
+    push_text(line, b"    subgraph \"cluster_")?;
+    push_quoted(line, cluster)?;
+    push_text(line, b"\" {\n        label=\"")?;
+    push_quoted(line, cluster)?;
+    push_text(line, b"\";")
+}
 
 /// Appends the beginning of a changeset's box in the cluster of this name, up to what its label says: the short id and,
 /// where the changeset is known, what it is called.
@@ -24,21 +37,24 @@ pub(crate) fn push_box(
 ) -> Result<(), AllocError>
     ensures { OnOk result (HasId node line.new.items) }
 {
-    push_key(line, cluster, node)?;
-    line.extend_from_slice(b" [label=\"")?;
+    push_key(line, BEGIN, cluster, node)?;
+    push_text(line, b" [label=\"")?;
     push_short_id(line, node)?;
-    push_label_below(line, changeset)?;
-    Ok(())
+    push_label_below(line, changeset)
 }
 
-// Appends what a box is called in edges, below the name of its cluster.
-fn push_key(line: &mut Vec<u8>, cluster: &[u8], node: Node) -> Result<(), AllocError> {
-    line.extend_from_slice(b"        \"")?;
+// Appends what stands before a box's name, up to a quote, and the name.
+fn push_key(
+    line: &mut Vec<u8>,
+    before: &[u8],
+    cluster: &[u8],
+    node: Node,
+) -> Result<(), AllocError> {
+    push_text(line, before)?;
     push_quoted(line, cluster)?;
-    line.push(b' ')?;
+    push_text(line, b" ")?;
     push_short_id(line, node)?;
-    line.push(b'"')?;
-    Ok(())
+    push_text(line, b"\"")
 }
 
 // Appends what a changeset is called below its id, where it is known.
@@ -47,9 +63,8 @@ fn push_label_below(line: &mut Vec<u8>, changeset: Option<&Changeset>) -> Result
 {
     match changeset {
         Some(changeset) => {
-            line.extend_from_slice(b"\\n")?;
-            push_quoted(line, label_of(changeset))?;
-            Ok(())
+            push_text(line, b"\\n")?;
+            push_quoted(line, label_of(changeset))
         }
         None => Ok(()),
     }
@@ -67,18 +82,16 @@ pub(crate) fn push_looks(
 {
     let phase = kept.replica().phase_at(place).unwrap();
     push_state(line, phase, kept, node)?;
-    push_style(line, phase, kept, node)?;
-    Ok(())
+    push_style(line, phase, kept, node)
 }
 
 // Appends the last line of a changeset's label.
 fn push_state(line: &mut Vec<u8>, phase: Phase, kept: &Kept, node: Node) -> Result<(), AllocError>
     ensures { OnOk result (Extends line.old.items line.new.items) }
 {
-    line.extend_from_slice(b"\\n")?;
-    line.extend_from_slice(phase.word().as_bytes())?;
-    push_unstable(line, kept.status(node), false)?;
-    Ok(())
+    push_text(line, b"\\n")?;
+    push_text(line, phase.word().as_bytes())?;
+    push_unstable(line, kept.status(node), false)
 }
 
 // Appends how a changeset's box looks.
@@ -87,10 +100,12 @@ fn push_style(line: &mut Vec<u8>, phase: Phase, kept: &Kept, node: Node) -> Resu
 {
     let replica = kept.replica();
     let kind = kind_of(kept, node);
-    line.extend_from_slice(colour(kind, phase))?;
-    line.extend_from_slice(style(kind, is_pruned(replica, fates(replica, node, kind))))?;
-    line.extend_from_slice(frames(kept.pins().is_pinned(node)))?;
-    Ok(())
+    push_text(line, colour(kind, phase))?;
+    push_text(
+        line,
+        style(kind, is_pruned(replica, fates(replica, node, kind))),
+    )?;
+    push_text(line, frames(kept.pins().is_pinned(node)))
 }
 
 // The colour of a changeset's box.
@@ -130,9 +145,9 @@ pub(crate) fn push_looks_of_other(
     node: Node,
 ) -> Result<(), AllocError> {
     if !replica.graph().contains(node) {
-        line.extend_from_slice(b"\\nnot held")?;
+        push_text(line, b"\\nnot held")?;
     }
-    line.extend_from_slice(other_style(replica, node))
+    push_text(line, other_style(replica, node))
 }
 
 // How the box of an id that isn't drawn as a changeset looks.
@@ -152,8 +167,7 @@ pub(crate) fn push_parent_edge(
     parent: Node,
 ) -> Result<(), AllocError> {
     push_edge(line, cluster, node, parent)?;
-    line.push(b';')?;
-    Ok(())
+    push_text(line, b";")
 }
 
 /// Appends an edge to a successor, with the word for how the marker rewrites.
@@ -164,20 +178,15 @@ pub(crate) fn push_successor_edge(
     successor: Node,
 ) -> Result<(), AllocError> {
     push_edge(line, cluster, marker.predecessor(), successor)?;
-    line.extend_from_slice(b" [style=dashed, constraint=false, label=\"")?;
-    line.extend_from_slice(rewriting_word(marker))?;
-    line.extend_from_slice(b"\"];")
+    push_text(line, b" [style=dashed, constraint=false, label=\"")?;
+    push_text(line, rewriting_word(marker))?;
+    push_text(line, b"\"];")
 }
 
 // Appends an edge from one box to another.
 fn push_edge(line: &mut Vec<u8>, cluster: &[u8], from: Node, to: Node) -> Result<(), AllocError> {
-    push_key(line, cluster, from)?;
-    line.extend_from_slice(b" -> \"")?;
-    push_quoted(line, cluster)?;
-    line.push(b' ')?;
-    push_short_id(line, to)?;
-    line.push(b'"')?;
-    Ok(())
+    push_key(line, BEGIN, cluster, from)?;
+    push_key(line, b" -> \"", cluster, to)
 }
 
 /// Appends a text as it stands between quotes: Graphviz shows what `escape_ascii` makes of it.
@@ -185,10 +194,17 @@ pub(crate) fn push_quoted(line: &mut Vec<u8>, text: &[u8]) -> Result<(), AllocEr
     ensures { OnOk result (Extends line.old.items line.new.items) }
 {
     for byte in text.escape_ascii() {
-        if byte == b'\\' || byte == b'"' {
-            line.push(b'\\')?;
-        }
-        line.push(byte)?;
+        push_between_quotes(line, byte)?;
     }
     Ok(())
+}
+
+// Appends a byte, behind a backslash where it is one, or a quote.
+fn push_between_quotes(line: &mut Vec<u8>, byte: u8) -> Result<(), AllocError>
+    ensures { OnOk result (Extends line.old.items line.new.items) }
+{
+    match byte {
+        b'\\' | b'"' => push_text(line, &[b'\\', byte]),
+        _ => push_text(line, &[byte]),
+    }
 }

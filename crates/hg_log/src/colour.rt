@@ -2,6 +2,7 @@
 ghost use Rattle.std.specs.Prelude.{◌≡◌, ◌++◌, OnOk};
 ghost use Rattle.hg_log.specs.Colours.{in_colour, start_of};
 
+use crate::line::push_text;
 use std::alloc::AllocError;
 
 /// A colour of words in a terminal.
@@ -36,11 +37,9 @@ pub(crate) fn push_coloured(
     ensures { OnOk result (line.new.items ≡ line.old.items ++ in_colour colour is_coloured words.now) }
 {
     if !is_coloured {
-        line.extend_from_slice(words)?;
-        return Ok(());
+        return push_text(line, words);
     }
-    line.extend_from_slice(colour.start())?;
-    line.extend_from_slice(words)?;
-    line.extend_from_slice(END)?;
-    Ok(())
+    push_text(line, colour.start())?;
+    push_text(line, words)?;
+    push_text(line, END)
 }

@@ -7,6 +7,7 @@ ghost use Rattle.hg_log.specs.Drawings.{Extends, short_id};
 ghost use Rattle.hg_log.specs.Titles.{escaped};
 
 use crate::colour::{Colour, push_coloured};
+use crate::line::push_text;
 use crate::titles::label_of;
 use hg_changeset::Node;
 use hg_replica::Replica;
@@ -80,8 +81,7 @@ pub(crate) fn push_unstable(
         status.content_divergent,
         is_coloured,
         b"content-divergent",
-    )?;
-    Ok(())
+    )
 }
 
 fn push_where(
@@ -92,9 +92,9 @@ fn push_where(
 ) -> Result<(), AllocError>
     ensures { OnOk result (Extends line.old.items line.new.items) }
 {
-    if is_so {
-        line.push(b' ')?;
-        push_coloured(line, Colour::Red, is_coloured, word)?;
+    if !is_so {
+        return Ok(());
     }
-    Ok(())
+    push_text(line, b" ")?;
+    push_coloured(line, Colour::Red, is_coloured, word)
 }

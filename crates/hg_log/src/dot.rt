@@ -9,10 +9,10 @@ ghost use Rattle.hg_log.specs.Graphs.{AreClusters, IsGraphOf, IsHeldBy};
 ghost use Rattle.hg_log.specs.Objects.{names_and_states};
 
 use crate::boxes::{
-    push_box, push_looks, push_looks_of_other, push_parent_edge, push_quoted, push_successor_edge,
+    push_box, push_heading, push_looks, push_looks_of_other, push_parent_edge, push_successor_edge,
 };
 use crate::fault::DrawFault;
-use crate::line::{write_bytes, write_line};
+use crate::line::{write_appended, write_bytes};
 use crate::named::NamedNode;
 use crate::shown::{Shown, node_at};
 use hg_changeset::{Changeset, Node};
@@ -118,8 +118,7 @@ pub fn draw_graphs<W: Write>(
 {
     write_bytes(HEAD.as_bytes(), writer)?;
     draw_clusters(alloc, nodes, known, shows_hidden, writer)?;
-    write_bytes(LEGEND.as_bytes(), writer)?;
-    Ok(())
+    write_bytes(LEGEND.as_bytes(), writer)
 }
 
 // Draws the cluster of each node.
@@ -159,25 +158,11 @@ fn draw_cluster<W: Write>(
     ensures { OnOk result ((text : Text) × IsGraph cluster.now.shown.kept.now cluster.now.shown.shows_hidden text
         × Appends (W.contents writer.old) (W.contents writer.new) text) }
 {
-    draw_heading(cluster.name, line, writer)?;
+    let appended = push_heading(line, cluster.name);
+    write_appended(appended, line, writer)?;
     draw_changesets(cluster, line, writer)?;
     draw_markers(alloc, cluster, line, writer)?;
-    line.extend_from_slice(b"    }")?;
-    write_line(line, writer)?;
-    Ok(())
-}
-
-// Draws how a cluster begins.
-fn draw_heading<W: Write>(name: &[u8], line: &mut Vec<u8>, writer: &mut W) -> Result<(), DrawFault>
-    ensures { OnOk result (Grows (W.contents writer.old) (W.contents writer.new)) }
-{
-    line.extend_from_slice(b"    subgraph \"cluster_")?;
-    push_quoted(line, name)?;
-    line.extend_from_slice(b"\" {\n        label=\"")?;
-    push_quoted(line, name)?;
-    line.extend_from_slice(b"\";")?;
-    write_line(line, writer)?;
-    Ok(())
+    write_bytes(b"    }\n", writer)
 }
 
 // Draws the boxes of the changesets with the edges to their parents, from the last place to the first.
@@ -214,12 +199,11 @@ fn draw_changeset<W: Write>(
     let changeset = kept.replica().graph().changeset_at(place).unwrap();
     let node = node_at(kept, place);
     push_box(line, name, node, Some(changeset))?;
-    push_looks(kept, place, node, line)?;
-    write_line(line, writer)?;
+    let appended = push_looks(kept, place, node, line);
+    write_appended(appended, line, writer)?;
     let (first, second) = changeset.parents();
     draw_parent_edge(name, node, first, line, writer)?;
-    draw_parent_edge(name, node, second, line, writer)?;
-    Ok(())
+    draw_parent_edge(name, node, second, line, writer)
 }
 
 // Draws the edge to a parent, where there is one.
@@ -235,9 +219,8 @@ fn draw_parent_edge<W: Write>(
     if parent.is_null() {
         return Ok(());
     }
-    push_parent_edge(line, name, node, parent)?;
-    write_line(line, writer)?;
-    Ok(())
+    let appended = push_parent_edge(line, name, node, parent);
+    write_appended(appended, line, writer)
 }
 
 // Draws what markers say, with a box for each id that isn't drawn.
@@ -274,8 +257,8 @@ fn draw_marker<W: Write>(
     draw_other(cluster, old, others, line, writer)?;
     for new in marker.successors() {
         draw_other(cluster, *new, others, line, writer)?;
-        push_successor_edge(line, cluster.name, marker, *new)?;
-        write_line(line, writer)?;
+        let appended = push_successor_edge(line, cluster.name, marker, *new);
+        write_appended(appended, line, writer)?;
     }
     Ok(())
 }
@@ -294,7 +277,6 @@ fn draw_other<W: Write>(
         return Ok(());
     }
     push_box(line, cluster.name, node, cluster.changeset(node))?;
-    push_looks_of_other(line, cluster.shown.kept.replica(), node)?;
-    write_line(line, writer)?;
-    Ok(())
+    let appended = push_looks_of_other(line, cluster.shown.kept.replica(), node);
+    write_appended(appended, line, writer)
 }

@@ -10,6 +10,7 @@ ghost use Rattle.hg_log.specs.Json.{AreDivided, IsAppended, divided, ids_text, l
 
 use crate::fate::rewriting_word;
 use crate::json::{push_divider, push_id, push_ids, push_string, push_truth};
+use crate::line::push_text;
 use crate::named::NamedNode;
 use crate::titles::label_of;
 use hg_changeset::{Changeset, Node};
@@ -38,8 +39,7 @@ pub(crate) fn push_object(
     push_string_field(line, b"phase", phase.word().as_bytes())?;
     push_string_field(line, b"repository", node.name)?;
     push_markers(line, store, markers)?;
-    push_end(line)?;
-    Ok(())
+    push_text(line, b"\n }")
 }
 
 // Appends the first half of an object: its label, whether it is hidden, what is unstable, its id, and whether it is
@@ -51,35 +51,24 @@ fn push_state(line: &mut Vec<u8>, changeset: &Changeset, status: Status) -> Resu
     push_truth_field(line, b"hidden", !status.visible)?;
     push_unstable(line, status)?;
     push_node(line, changeset.node())?;
-    push_truth_field(line, b"obsolete", status.obsolete)?;
-    Ok(())
+    push_truth_field(line, b"obsolete", status.obsolete)
 }
 
 // Appends the beginning of an object, with its label.
 fn push_label(line: &mut Vec<u8>, label: &[u8]) -> Result<(), AllocError>
     ensures { OnOk result (IsAppended line.old.items (label_text label.now) line.new.items) }
 {
-    line.extend_from_slice(b"\n {\n  \"desc\": ")?;
-    push_string(line, label)?;
-    Ok(())
-}
-
-// Appends the end of an object.
-fn push_end(line: &mut Vec<u8>) -> Result<(), AllocError>
-    ensures { OnOk result (IsAppended line.old.items (codes "\n }") line.new.items) }
-{
-    line.extend_from_slice(b"\n }")?;
-    Ok(())
+    push_text(line, b"\n {\n  \"desc\": ")?;
+    push_string(line, label)
 }
 
 // Appends a key of an object, but for the first.
 fn push_key(line: &mut Vec<u8>, key: &[u8]) -> Result<(), AllocError>
     ensures { OnOk result (line.new.items ≡ line.old.items ++ key_text key.now) }
 {
-    line.extend_from_slice(b",\n  \"")?;
-    line.extend_from_slice(key)?;
-    line.extend_from_slice(b"\": ")?;
-    Ok(())
+    push_text(line, b",\n  \"")?;
+    push_text(line, key)?;
+    push_text(line, b"\": ")
 }
 
 // Appends a key with a string.
@@ -88,8 +77,7 @@ fn push_string_field(line: &mut Vec<u8>, key: &[u8], value: &[u8]) -> Result<(),
         (IsAppended line.old.items (key_text key.now ++ string_text value.now) line.new.items) }
 {
     push_key(line, key)?;
-    push_string(line, value)?;
-    Ok(())
+    push_string(line, value)
 }
 
 // Appends a key with a truth value.
@@ -97,8 +85,7 @@ fn push_truth_field(line: &mut Vec<u8>, key: &[u8], is_so: bool) -> Result<(), A
     ensures { OnOk result (IsAppended line.old.items (key_text key.now ++ truth_text is_so) line.new.items) }
 {
     push_key(line, key)?;
-    push_truth(line, is_so)?;
-    Ok(())
+    push_truth(line, is_so)
 }
 
 // Appends what is unstable about a changeset.
@@ -106,8 +93,7 @@ fn push_unstable(line: &mut Vec<u8>, status: Status) -> Result<(), AllocError>
     ensures { OnOk result (IsAppended line.old.items (unstable_text status) line.new.items) }
 {
     push_key(line, b"instabilities")?;
-    push_unstable_words(line, status)?;
-    Ok(())
+    push_unstable_words(line, status)
 }
 
 // Appends the words for what is unstable about a changeset.
@@ -115,7 +101,7 @@ fn push_unstable_words(line: &mut Vec<u8>, status: Status) -> Result<(), AllocEr
     ensures { OnOk result (line.new.items ≡ line.old.items ++ list_text string_text (unstable_words status)) }
 {
     let mut is_behind = false;
-    line.push(b'[')?;
+    push_text(line, b"[")?;
     push_word_if(line, status.orphan, b"orphan", &mut is_behind)?;
     push_word_if(
         line,
@@ -129,7 +115,7 @@ fn push_unstable_words(line: &mut Vec<u8>, status: Status) -> Result<(), AllocEr
         b"content-divergent",
         &mut is_behind,
     )?;
-    line.push(b']')?;
+    push_text(line, b"]")?;
     Ok(())
 }
 
@@ -155,8 +141,7 @@ fn push_node(line: &mut Vec<u8>, node: Node) -> Result<(), AllocError>
     ensures { OnOk result (IsAppended line.old.items (node_text node) line.new.items) }
 {
     push_key(line, b"node")?;
-    push_id(line, node)?;
-    Ok(())
+    push_id(line, node)
 }
 
 // Appends the parents' ids: that of the null changeset where there is none.
@@ -164,8 +149,7 @@ fn push_parents(line: &mut Vec<u8>, changeset: &Changeset) -> Result<(), AllocEr
     ensures { OnOk result (IsAppended line.old.items (parents_text changeset.now) line.new.items) }
 {
     push_key(line, b"parents")?;
-    push_parent_ids(line, changeset)?;
-    Ok(())
+    push_parent_ids(line, changeset)
 }
 
 fn push_parent_ids(line: &mut Vec<u8>, changeset: &Changeset) -> Result<(), AllocError>
@@ -186,8 +170,7 @@ fn push_markers(line: &mut Vec<u8>, store: &Store, places: &[usize]) -> Result<(
         (IsAppended line.old.items (markers_text (picked store.now places.now)) line.new.items) }
 {
     push_key(line, b"successors")?;
-    push_marker_list(line, store, places)?;
-    Ok(())
+    push_marker_list(line, store, places)
 }
 
 fn push_marker_list(line: &mut Vec<u8>, store: &Store, places: &[usize]) -> Result<(), AllocError>
@@ -195,10 +178,9 @@ fn push_marker_list(line: &mut Vec<u8>, store: &Store, places: &[usize]) -> Resu
     ensures { OnOk result
         (line.new.items ≡ line.old.items ++ list_text marker_text (picked store.now places.now)) }
 {
-    line.push(b'[')?;
+    push_text(line, b"[")?;
     push_each_marker(line, store, places)?;
-    line.push(b']')?;
-    Ok(())
+    push_text(line, b"]")
 }
 
 fn push_each_marker(line: &mut Vec<u8>, store: &Store, places: &[usize]) -> Result<(), AllocError>
@@ -229,16 +211,14 @@ fn push_marker(line: &mut Vec<u8>, store: &Store, place: usize) -> Result<(), Al
 fn push_nodes(line: &mut Vec<u8>, nodes: &[Node]) -> Result<(), AllocError>
     ensures { OnOk result (line.new.items ≡ line.old.items ++ nodes_text nodes.now) }
 {
-    line.extend_from_slice(b"{\"nodes\": ")?;
-    push_ids(line, nodes)?;
-    Ok(())
+    push_text(line, b"{\"nodes\": ")?;
+    push_ids(line, nodes)
 }
 
 fn push_operation(line: &mut Vec<u8>, word: &[u8]) -> Result<(), AllocError>
     ensures { OnOk result (line.new.items ≡ line.old.items ++ operation_text word.now) }
 {
-    line.extend_from_slice(b", \"operation\": ")?;
+    push_text(line, b", \"operation\": ")?;
     push_string(line, word)?;
-    line.push(b'}')?;
-    Ok(())
+    push_text(line, b"}")
 }

@@ -6,6 +6,7 @@ ghost use Rattle.hg_log.specs.Fates.{rewriting_of, word_of};
 
 use crate::described::push_name;
 use crate::kind::Kind;
+use crate::line::push_text;
 use hg_changeset::Node;
 use hg_marker::Marker;
 use hg_replica::Replica;
@@ -29,21 +30,25 @@ pub(crate) fn is_pruned(replica: &Replica, markers: &[usize]) -> bool {
     })
 }
 
-/// Appends what the marker at a place says: how the changeset was rewritten, and to which others. Ids are yellow where
-/// there are to be colours.
+/// Appends what the marker at a place says, where there is one: how the changeset was rewritten, and to which others.
+/// Ids are yellow where there are to be colours.
 pub(crate) fn push_fate(
     line: &mut Vec<u8>,
     replica: &Replica,
-    place: usize,
+    place: Option<usize>,
     is_coloured: bool,
 ) -> Result<(), AllocError> {
-    match replica.store().get(place) {
+    match marker_at(replica, place) {
         Some(marker) => {
-            line.extend_from_slice(rewriting_word(marker))?;
+            push_text(line, rewriting_word(marker))?;
             push_successors(line, replica, marker.successors(), is_coloured)
         }
         None => Ok(()),
     }
+}
+
+fn marker_at(replica: &Replica, place: Option<usize>) -> Option<&Marker> {
+    replica.store().get(place?)
 }
 
 /// The word for how a marker rewrites: as it notes, where one changeset takes the place of its predecessor; else
@@ -98,7 +103,7 @@ fn push_successors(
 ) -> Result<(), AllocError> {
     let mut divider: &[u8] = b" as ";
     for node in successors {
-        line.extend_from_slice(divider)?;
+        push_text(line, divider)?;
         push_name(line, replica, *node, is_coloured)?;
         divider = b", ";
     }

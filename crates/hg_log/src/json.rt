@@ -5,6 +5,7 @@ ghost use Rattle.std.specs.Str.{is_utf8};
 ghost use Rattle.hex.specs.Hex.{encode_lower};
 ghost use Rattle.hg_log.specs.Json.{byte_text, ids_text, id_text, divided, string_text, truth_text};
 
+use crate::line::push_text;
 use hex::encode_to_slice;
 use hg_changeset::Node;
 use std::alloc::AllocError;
@@ -16,9 +17,9 @@ pub(crate) fn push_string(line: &mut Vec<u8>, bytes: &[u8]) -> Result<(), AllocE
     ensures { OnOk result (line.new.items ≡ line.old.items ++ string_text bytes.now) }
 {
     let is_text = is_text(bytes);
-    line.push(b'"')?;
+    push_text(line, b"\"")?;
     push_bytes(line, bytes, is_text)?;
-    line.push(b'"')?;
+    push_text(line, b"\"")?;
     Ok(())
 }
 
@@ -42,23 +43,22 @@ fn push_byte(line: &mut Vec<u8>, byte: u8, is_text: bool) -> Result<(), AllocErr
     ensures { OnOk result (line.new.items ≡ line.old.items ++ byte_text is_text byte) }
 {
     if byte == b'"' || byte == b'\\' {
-        line.extend_from_slice(&[b'\\', byte])?;
+        push_text(line, &[b'\\', byte])
     } else if byte < b' ' || byte == 127 {
-        push_code(line, b"\\u00", byte)?;
+        push_code(line, b"\\u00", byte)
     } else if byte > 127 && !is_text {
-        push_code(line, b"\\udc", byte)?;
+        push_code(line, b"\\udc", byte)
     } else {
-        line.push(byte)?;
+        push_text(line, &[byte])
     }
-    Ok(())
 }
 
 // Appends the code of a character, whose last two digits are the byte's.
 fn push_code(line: &mut Vec<u8>, front: &[u8], byte: u8) -> Result<(), AllocError>
     ensures { OnOk result (line.new.items ≡ line.old.items ++ front.now ++ encode_lower (byte ∷ [])) }
 {
-    line.extend_from_slice(front)?;
-    line.extend_from_slice(&digits_of(byte))?;
+    push_text(line, front)?;
+    push_text(line, &digits_of(byte))?;
     Ok(())
 }
 
@@ -66,8 +66,7 @@ fn push_code(line: &mut Vec<u8>, front: &[u8], byte: u8) -> Result<(), AllocErro
 pub(crate) fn push_truth(line: &mut Vec<u8>, is_so: bool) -> Result<(), AllocError>
     ensures { OnOk result (line.new.items ≡ line.old.items ++ truth_text is_so) }
 {
-    line.extend_from_slice(if is_so { b"true" } else { b"false" })?;
-    Ok(())
+    push_text(line, if is_so { b"true" } else { b"false" })
 }
 
 /// Appends a divider, where something stands before, which is so from then on.
@@ -81,7 +80,7 @@ pub(crate) fn push_divider(
     ensures behind { OnOk result (is_behind.new ≡ true) }
 {
     if *is_behind {
-        line.extend_from_slice(divider)?;
+        push_text(line, divider)?;
     }
     *is_behind = true;
     Ok(())
@@ -91,10 +90,9 @@ pub(crate) fn push_divider(
 pub(crate) fn push_ids(line: &mut Vec<u8>, nodes: &[Node]) -> Result<(), AllocError>
     ensures { OnOk result (line.new.items ≡ line.old.items ++ ids_text nodes.now) }
 {
-    line.push(b'[')?;
+    push_text(line, b"[")?;
     push_each_id(line, nodes)?;
-    line.push(b']')?;
-    Ok(())
+    push_text(line, b"]")
 }
 
 fn push_each_id(line: &mut Vec<u8>, nodes: &[Node]) -> Result<(), AllocError>
@@ -112,9 +110,9 @@ fn push_each_id(line: &mut Vec<u8>, nodes: &[Node]) -> Result<(), AllocError>
 pub(crate) fn push_id(line: &mut Vec<u8>, node: Node) -> Result<(), AllocError>
     ensures { OnOk result (line.new.items ≡ line.old.items ++ id_text node) }
 {
-    line.push(b'"')?;
-    line.extend_from_slice(&node.to_hex())?;
-    line.push(b'"')?;
+    push_text(line, b"\"")?;
+    push_text(line, &node.to_hex())?;
+    push_text(line, b"\"")?;
     Ok(())
 }
 

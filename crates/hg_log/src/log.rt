@@ -11,7 +11,7 @@ use crate::described::{push_id, push_label, push_unstable};
 use crate::fate::{fates, push_fate};
 use crate::fault::DrawFault;
 use crate::kind::kind_of;
-use crate::line::write_line;
+use crate::line::{push_text, write_appended};
 use crate::look::Look;
 use crate::shown::{Shown, node_at};
 use crate::titles::label_of;
@@ -102,10 +102,9 @@ fn draw_changeset<W: Write>(
     let mark = kind.mark();
     let is_tall = fates.len() > 1;
     push_columns(&row, Line::Changeset { mark, is_tall }, line)?;
-    push_description(kept, place, node, is_coloured, line)?;
-    write_line(line, writer)?;
-    draw_below(replica, &row, fates, is_coloured, line, writer)?;
-    Ok(())
+    let appended = push_description(kept, place, node, is_coloured, line);
+    write_appended(appended, line, writer)?;
+    draw_below(replica, &row, fates, is_coloured, line, writer)
 }
 
 // Appends what a changeset is called, its phase, and what is unstable about it.
@@ -123,12 +122,11 @@ fn push_description(
     let changeset = replica.graph().changeset_at(place).unwrap();
     let phase = replica.phase_at(place).unwrap();
     push_id(line, node, is_coloured)?;
-    line.push(b' ')?;
+    push_text(line, b" ")?;
     push_label(line, label_of(changeset))?;
-    line.push(b' ')?;
-    line.extend_from_slice(phase.word().as_bytes())?;
-    push_unstable(line, kept.status(node), is_coloured)?;
-    Ok(())
+    push_text(line, b" ")?;
+    push_text(line, phase.word().as_bytes())?;
+    push_unstable(line, kept.status(node), is_coloured)
 }
 
 // Draws the lines below a changeset's own, with what became of it beside them.
@@ -199,9 +197,6 @@ fn draw_beside<W: Write>(
     ensures { OnOk result (Grows (W.contents writer.old) (W.contents writer.new)) }
 {
     push_columns(row, columns, line)?;
-    if let Some(fate) = fate {
-        push_fate(line, replica, fate, is_coloured)?;
-    }
-    write_line(line, writer)?;
-    Ok(())
+    let appended = push_fate(line, replica, fate, is_coloured);
+    write_appended(appended, line, writer)
 }

@@ -58,31 +58,30 @@ pub fn draw_objects<W: Write>(
     ensures { OnOk result ((text : Text) × IsArray shows_hidden (names_and_states nodes.now) text
         × Appends (W.contents writer.old) (W.contents writer.new) text) }
 {
-    let mut line = Vec::new(alloc);
     write_bytes(b"[", writer)?;
-    draw_nodes(nodes, shows_hidden, &mut line, writer)?;
-    write_bytes(b"\n]\n", writer)?;
-    Ok(())
+    draw_nodes(alloc, nodes, shows_hidden, writer)?;
+    write_bytes(b"\n]\n", writer)
 }
 
-// Writes the objects of all nodes, by means of the line that is lent.
+// Writes the objects of all nodes.
 fn draw_nodes<W: Write>(
+    alloc: Global,
     nodes: &[NamedNode<'_>],
     shows_hidden: bool,
-    line: &mut Vec<u8>,
     writer: &mut W,
 ) -> Result<(), DrawFault>
     ensures { OnOk result ((es : List Entry) × AreEntries shows_hidden (names_and_states nodes.now) es
         × Appends (W.contents writer.old) (W.contents writer.new) (objects_text false es)) }
 {
+    let mut line = Vec::new(alloc);
     let mut is_behind = false;
     for node in nodes {
-        draw_node(node, shows_hidden, &mut is_behind, line, writer)?;
+        draw_node(node, shows_hidden, &mut is_behind, &mut line, writer)?;
     }
     Ok(())
 }
 
-// Writes the objects of a node, from the last place to the first.
+// Writes the objects of a node, from the last place to the first, by means of the line that is lent.
 fn draw_node<W: Write>(
     node: &NamedNode<'_>,
     shows_hidden: bool,
@@ -121,6 +120,5 @@ fn draw_changeset<W: Write>(
     line.clear();
     push_divider(line, b",", is_behind)?;
     push_object(line, node, place)?;
-    write_bytes(line, writer)?;
-    Ok(())
+    write_bytes(line, writer)
 }

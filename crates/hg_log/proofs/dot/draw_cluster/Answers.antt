@@ -1,19 +1,15 @@
-use Rattle.std.proofs.Common.{◌++◌, refl}
-use Rattle.std.proofs.KnownBytes.{Appends-trans}
+use Rattle.std.proofs.lemmas.Result.{on_ok_weaker}
 use Rattle.hg_log.specs.Drawings.{Grows}
-use Rattle.hg_log.proofs.DrawingLemmas.{Grows-trans}
+use Rattle.hg_log.proofs.GraphLemmas.{cluster_written}
 use Rattle.hg_log.proofs.dot.draw_cluster.Goals as goal
 
 pub returns : goal.returns
 returns g c =
-    let first = c.in_ok-draw_heading.ensures in
-    let boxes = c.in_ok-draw_changesets.ensures in
-    let end = c.in_ok-write_line.ensures.written in
-    let last : Grows (g.W.Write.contents c.draw_markers.new.writer) (g.W.Write.contents c.write_line.new.writer) =
-    (end.0, end.2) in
-    let after = Grows-trans _ _ _ c.in_ok-draw_markers.ensures last in (
-      first.0 ++ (boxes.0 ++ after.0),
-      (first.0, boxes.0, after.0, boxes.1, refl),
-      Appends-trans _ _ _ first.0 (boxes.0 ++ after.0) first.1
-          (Appends-trans _ _ _ boxes.0 after.0 boxes.2 after.1),
-    )
+    let heading = c.in_ok-write_appended.ensures.1 in
+    let shown = c.args.cluster.now.shown in
+    let first : Grows (g.W.Write.contents c.args.writer.now) (g.W.Write.contents c.write_appended.new.writer) =
+    (heading.0, heading.2) in
+    on_ok_weaker c.write_bytes.result
+    (cluster_written shown.kept.now shown.shows_hidden _ _ _ _ _ _ first c.in_ok-draw_changesets.ensures
+    c.in_ok-draw_markers.ensures)
+    c.write_bytes.ensures.ok

@@ -1,10 +1,9 @@
-use Rattle.hg_log.proofs.DrawingLemmas.{drawn_text}
+use Rattle.hg_log.proofs.TextLemmas.{at_ok, last_drawn}
 use Rattle.hg_log.proofs.log.draw_changeset.Goals as goal
 
 pub returns : goal.returns
 returns g c =
-    let n = c.node_at-node.result in
-    let drawn =
-    drawn_text n c.push_description.new.line.items _ _ _ c.in_ok-push_description.ensures
-    c.in_ok-write_line.ensures.written c.in_ok-draw_below.ensures in
-    (n, drawn.0, c.node_at-node.ensures, drawn.1, drawn.2)
+    let written = c.in_ok-write_appended.ensures in
+    let described = c.push_description-appended in
+    last_drawn c.draw_below.result c.args.kept.now c.args.place c.node_at-node.result described.new.line.items _ _ _
+    c.node_at-node.ensures (at_ok described.result written.0 described.ensures) written.1 c.draw_below.ensures

@@ -1,8 +1,11 @@
+use Rattle.std.proofs.lemmas.Result.{on_ok_weaker}
 use Rattle.hg_log.specs.Objects.{names_and_states}
 use Rattle.hg_log.proofs.EntryLemmas.{array_written}
 use Rattle.hg_log.proofs.objects.draw_objects.Goals as goal
 
 pub returns : goal.returns
 returns g c =
-    array_written c.args.shows_hidden (names_and_states c.args.nodes.now) _ _ _ _ c.in_ok-write_bytes.ensures.ok
-    c.in_ok-draw_nodes.ensures c.in_ok-write_bytes-2.ensures.ok
+    on_ok_weaker c.write_bytes-2.result
+    (array_written c.args.shows_hidden (names_and_states c.args.nodes.now) _ _ _ _ c.in_ok-write_bytes.ensures.ok
+    c.in_ok-draw_nodes.ensures)
+    c.write_bytes-2.ensures.ok

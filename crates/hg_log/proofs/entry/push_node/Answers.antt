@@ -1,0 +1,5 @@
+use Rattle.hg_log.proofs.TextLemmas.{last_appended}
+use Rattle.hg_log.proofs.entry.push_node.Goals as goal
+
+pub returns : goal.returns
+returns c = last_appended c.push_id.result _ _ _ _ _ c.in_ok-push_key.ensures c.push_id.ensures

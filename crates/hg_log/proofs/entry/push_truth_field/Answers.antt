@@ -1,0 +1,5 @@
+use Rattle.hg_log.proofs.TextLemmas.{last_appended}
+use Rattle.hg_log.proofs.entry.push_truth_field.Goals as goal
+
+pub returns : goal.returns
+returns c = last_appended c.push_truth.result _ _ _ _ _ c.in_ok-push_key.ensures c.push_truth.ensures
