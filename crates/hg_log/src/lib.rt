@@ -4,7 +4,7 @@
 //! about it, and what became of what was rewritten. [`draw_log`] is the picture that `hg log -G` gives, and
 //! [`draw_graphs`] the input of `dot`. Either is written as it is drawn, a line at a time. What else tells of
 //! changesets takes the same words: [`push_short_id`], [`title_of`], [`push_label`], [`rewriting_word`], and
-//! [`write_line`] for a line.
+//! [`push_text`], [`write_line`] and [`write_appended`] for a line.
 //!
 //! # Example
 //!
@@ -44,7 +44,7 @@ pub use described::{push_label, push_short_id};
 pub use dot::draw_graphs;
 pub use fate::rewriting_word;
 pub use fault::DrawFault;
-pub use line::write_line;
+pub use line::{push_text, write_appended, write_line};
 pub use log::draw_log;
 pub use look::Look;
 pub use named::NamedNode;

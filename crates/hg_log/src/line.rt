@@ -8,7 +8,7 @@ use std::alloc::AllocError;
 use std::io::Write;
 
 /// Appends a text.
-pub(crate) fn push_text(line: &mut Vec<u8>, text: &[u8]) -> Result<(), AllocError>
+pub fn push_text(line: &mut Vec<u8>, text: &[u8]) -> Result<(), AllocError>
     ensures { OnOk result (line.new.items ≡ line.old.items ++ text.now) }
 {
     line.extend_from_slice(text)
@@ -27,7 +27,7 @@ pub fn write_line<W: Write>(line: &mut Vec<u8>, writer: &mut W) -> Result<(), Dr
 }
 
 /// Writes a line, as [`write_line`] does, if there was memory for what was appended to it.
-pub(crate) fn write_appended<W: Write>(
+pub fn write_appended<W: Write>(
     appended: Result<(), AllocError>,
     line: &mut Vec<u8>,
     writer: &mut W,

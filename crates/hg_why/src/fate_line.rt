@@ -12,7 +12,7 @@ ghost use Rattle.hg_why.specs.Names.{name_of};
 
 use crate::named::push_name;
 use hg_changeset::Node;
-use hg_log::{DrawFault, push_label, write_line};
+use hg_log::{DrawFault, push_label, push_text, write_line};
 use hg_replica::Replica;
 use hg_succ::{Sets, successors_sets};
 use hg_view::Kept;
@@ -77,11 +77,11 @@ pub fn write_fate<W: Write>(
 fn push_heading(line: &mut Vec<u8>, label: &[u8], name: &[u8]) -> Result<(), AllocError>
     ensures { OnOk result (line.new.items ≡ line.old.items ++ heading_text label.now name.now) }
 {
-    line.extend_from_slice(b"fate of ")?;
+    push_text(line, b"fate of ")?;
     push_label(line, label)?;
-    line.extend_from_slice(b" at ")?;
-    line.extend_from_slice(name)?;
-    line.extend_from_slice(b": ")?;
+    push_text(line, b" at ")?;
+    push_text(line, name)?;
+    push_text(line, b": ")?;
     Ok(())
 }
 
@@ -93,7 +93,7 @@ fn push_sets(line: &mut Vec<u8>, replica: &Replica, sets: &Sets) -> Result<(), A
     match sets {
         Sets::Family(family) => push_family(line, replica, family),
         Sets::Overfull => {
-            line.extend_from_slice(b"too many to tell")?;
+            push_text(line, b"too many to tell")?;
             Ok(())
         }
     }
@@ -109,7 +109,7 @@ fn push_family(
         ≡ line.old.items ++ family_text (name_of (content_of replica.now)) (sets_of family.now)) }
 {
     if family.is_empty() {
-        line.extend_from_slice(b"pruned")?;
+        push_text(line, b"pruned")?;
         return Ok(());
     }
     push_each_set(line, replica, family)
@@ -125,7 +125,7 @@ fn push_each_set(
 {
     let mut divider: &[u8] = b"";
     for set in family {
-        line.extend_from_slice(divider)?;
+        push_text(line, divider)?;
         push_set(line, replica, set)?;
         divider = b" or ";
     }
@@ -137,10 +137,9 @@ fn push_set(line: &mut Vec<u8>, replica: &Replica, set: &[Node]) -> Result<(), A
     ensures { OnOk result
         (line.new.items ≡ line.old.items ++ set_text (name_of (content_of replica.now)) set.now) }
 {
-    line.push(b'{')?;
+    push_text(line, b"{")?;
     push_each_name(line, replica, set)?;
-    line.push(b'}')?;
-    Ok(())
+    push_text(line, b"}")
 }
 
 fn push_each_name(line: &mut Vec<u8>, replica: &Replica, nodes: &[Node]) -> Result<(), AllocError>
@@ -149,7 +148,7 @@ fn push_each_name(line: &mut Vec<u8>, replica: &Replica, nodes: &[Node]) -> Resu
 {
     let mut divider: &[u8] = b"";
     for node in nodes {
-        line.extend_from_slice(divider)?;
+        push_text(line, divider)?;
         push_name(line, replica, *node)?;
         divider = b" ";
     }

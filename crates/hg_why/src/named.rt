@@ -5,7 +5,7 @@ ghost use Rattle.hg_log.specs.Drawings.{HasId};
 ghost use Rattle.hg_why.specs.Names.{name_of, title_at};
 
 use hg_changeset::Node;
-use hg_log::{push_label, push_short_id, title_of};
+use hg_log::{push_label, push_short_id, push_text, title_of};
 use hg_replica::Replica;
 use std::alloc::AllocError;
 
@@ -22,8 +22,7 @@ fn push_title(line: &mut Vec<u8>, replica: &Replica, node: Node) -> Result<(), A
     match title_at(replica, node) {
         Some(title) => {
             push_label(line, title)?;
-            line.push(b' ')?;
-            Ok(())
+            push_text(line, b" ")
         }
         None => Ok(()),
     }
@@ -47,7 +46,7 @@ pub(crate) fn push_each_named(
 ) -> Result<(), AllocError> {
     let mut divider: &[u8] = b"";
     for node in nodes {
-        line.extend_from_slice(divider)?;
+        push_text(line, divider)?;
         push_named(line, replica, *node)?;
         divider = b", ";
     }
@@ -62,7 +61,7 @@ pub(crate) fn push_successors(
 ) -> Result<(), AllocError> {
     let mut divider: &[u8] = b" as ";
     for node in nodes {
-        line.extend_from_slice(divider)?;
+        push_text(line, divider)?;
         push_name(line, replica, *node)?;
         divider = b", ";
     }

@@ -7,13 +7,19 @@ use crate::named::{push_each_named, push_name, push_named, push_successors};
 use crate::reason::Reason;
 use crate::remedy::Remedy;
 use hg_changeset::Node;
-use hg_log::{DrawFault, push_short_id, rewriting_word, write_line};
+use hg_log::{DrawFault, push_short_id, push_text, rewriting_word, write_appended};
 use hg_marker::Marker;
 use hg_replica::Replica;
 use hg_succ::{Sets, successors_sets};
 use hg_view::Kept;
 use std::alloc::{AllocError, Global};
 use std::io::Write;
+
+// What is said of an id that leads to more changesets than are told.
+const OVERFULL: &[u8] = b"  content-divergent: too many changesets are successors of ";
+
+// What is said of an id that became different changesets, with the same one in each way.
+const SHARED: &[u8] = b"  content-divergent: it is in each successors set of ";
 
 /// Of what reasons are told, what that is called, and what is told of a remedy.
 #[derive(Clone, Copy)]
@@ -61,17 +67,11 @@ impl<'a> Telling<'a> {
     ) -> Result<(), DrawFault>
         ensures { OnOk result (Grows (W.contents writer.old) (W.contents writer.new)) }
     {
-        let replica = self.kept.replica();
-        line.extend_from_slice(b"  orphan: its parent ")?;
-        push_named(line, replica, parent)?;
+        let appended = push_orphan(line, self.kept.replica(), parent, is_obsolete);
+        write_appended(appended, line, writer)?;
         if !is_obsolete {
-            line.extend_from_slice(b" is an orphan")?;
-            write_line(line, writer)?;
             return Ok(());
         }
-        line.extend_from_slice(b" is obsolete,")?;
-        push_ways(line, replica, parent)?;
-        write_line(line, writer)?;
         self.write_remedy(node, parent, line, writer)
     }
 
@@ -102,25 +102,43 @@ impl<'a> Telling<'a> {
         ensures { OnOk result (Grows (W.contents writer.old) (W.contents writer.new)) }
     {
         let sets = successors_sets(self.alloc, self.kept.replica(), parent)?;
-        match target_of(&sets) {
+        self.write_move_by(node, &sets, line, writer)
+    }
+
+    // Writes to where an orphan is moved, if these successors sets of its parent tell a changeset.
+    fn write_move_by<W: Write>(
+        &self,
+        node: Node,
+        sets: &Sets,
+        line: &mut Vec<u8>,
+        writer: &mut W,
+    ) -> Result<(), DrawFault>
+        ensures { OnOk result (Grows (W.contents writer.old) (W.contents writer.new)) }
+    {
+        match target_of(sets) {
             Some(target) => {
-                self.push_move(line, node, target)?;
-                line.extend_from_slice(choice(&sets))?;
-                write_line(line, writer)?;
-                Ok(())
+                let appended = self.push_move(line, node, target, choice(sets));
+                write_appended(appended, line, writer)
             }
             None => Ok(()),
         }
     }
 
-    // Appends the command by which a changeset is moved.
-    fn push_move(&self, line: &mut Vec<u8>, node: Node, target: Node) -> Result<(), AllocError> {
-        line.extend_from_slice(b"  relocate ")?;
-        line.extend_from_slice(self.name)?;
-        line.push(b' ')?;
+    // Appends the command by which a changeset is moved, and what is said of a choice.
+    fn push_move(
+        &self,
+        line: &mut Vec<u8>,
+        node: Node,
+        target: Node,
+        choice: &[u8],
+    ) -> Result<(), AllocError> {
+        push_text(line, b"  relocate ")?;
+        push_text(line, self.name)?;
+        push_text(line, b" ")?;
         push_name(line, self.kept.replica(), node)?;
-        line.extend_from_slice(b" NEW ")?;
-        push_name(line, self.kept.replica(), target)
+        push_text(line, b" NEW ")?;
+        push_name(line, self.kept.replica(), target)?;
+        push_text(line, choice)
     }
 
     // Writes from which public changeset it comes.
@@ -133,12 +151,8 @@ impl<'a> Telling<'a> {
     ) -> Result<(), DrawFault>
         ensures { OnOk result (Grows (W.contents writer.old) (W.contents writer.new)) }
     {
-        line.extend_from_slice(b"  phase-divergent: it ")?;
-        push_way_from(line, self.kept.replica(), predecessor, node)?;
-        push_named(line, self.kept.replica(), predecessor)?;
-        line.extend_from_slice(b", which is public")?;
-        write_line(line, writer)?;
-        Ok(())
+        let appended = push_phase_divergent(line, self.kept.replica(), predecessor, node);
+        write_appended(appended, line, writer)
     }
 
     // Writes from what it comes that became other changesets too, a line for each of the sets without it, unless an
@@ -156,38 +170,45 @@ impl<'a> Telling<'a> {
     {
         match sets {
             Sets::Family(family) => {
-                if are_all_with(family, node) {
-                    return self.write_shared(predecessor, line, writer);
-                }
-                for set in family {
-                    self.write_set(node, predecessor, set, earlier, line, writer)?;
-                }
-                Ok(())
+                self.write_family(node, predecessor, family, earlier, line, writer)
             }
-            Sets::Overfull => {
-                line.extend_from_slice(
-                    b"  content-divergent: too many changesets are successors of ",
-                )?;
-                push_named(line, self.kept.replica(), predecessor)?;
-                write_line(line, writer)?;
-                Ok(())
-            }
+            Sets::Overfull => self.write_about(OVERFULL, predecessor, line, writer),
         }
     }
 
-    // Writes from what it comes that became different changesets with it in each way.
-    fn write_shared<W: Write>(
+    // Writes from what it comes that became other changesets too, by the successors sets of that.
+    fn write_family<W: Write>(
         &self,
+        node: Node,
+        predecessor: Node,
+        family: &[Vec<Node>],
+        earlier: &[Reason],
+        line: &mut Vec<u8>,
+        writer: &mut W,
+    ) -> Result<(), DrawFault>
+        ensures { OnOk result (Grows (W.contents writer.old) (W.contents writer.new)) }
+    {
+        if are_all_with(family, node) {
+            return self.write_about(SHARED, predecessor, line, writer);
+        }
+        for set in family {
+            self.write_set(node, predecessor, set, earlier, line, writer)?;
+        }
+        Ok(())
+    }
+
+    // Writes this of what it comes from.
+    fn write_about<W: Write>(
+        &self,
+        words: &[u8],
         predecessor: Node,
         line: &mut Vec<u8>,
         writer: &mut W,
     ) -> Result<(), DrawFault>
         ensures { OnOk result (Grows (W.contents writer.old) (W.contents writer.new)) }
     {
-        line.extend_from_slice(b"  content-divergent: it is in each successors set of ")?;
-        push_named(line, self.kept.replica(), predecessor)?;
-        write_line(line, writer)?;
-        Ok(())
+        let appended = push_about(line, words, self.kept.replica(), predecessor);
+        write_appended(appended, line, writer)
     }
 
     // Writes from what it comes that became these changesets too, unless it is one of them, or an earlier reason has
@@ -206,38 +227,76 @@ impl<'a> Telling<'a> {
         if set.contains(&node) || is_told(earlier, set) {
             return Ok(());
         }
-        self.write_other(node, predecessor, set, line, writer)
+        let appended = self.push_other(line, node, predecessor, set);
+        write_appended(appended, line, writer)
     }
 
-    // Writes from what it comes that became these changesets too.
-    fn write_other<W: Write>(
+    // Appends from what it comes that became these changesets too.
+    fn push_other(
         &self,
+        line: &mut Vec<u8>,
         node: Node,
         predecessor: Node,
         others: &[Node],
-        line: &mut Vec<u8>,
-        writer: &mut W,
-    ) -> Result<(), DrawFault>
-        ensures { OnOk result (Grows (W.contents writer.old) (W.contents writer.new)) }
-    {
+    ) -> Result<(), AllocError> {
         let replica = self.kept.replica();
-        line.extend_from_slice(b"  content-divergent with ")?;
+        push_text(line, b"  content-divergent with ")?;
         push_each_named(line, replica, others)?;
-        line.extend_from_slice(all_of(others))?;
-        if replica.graph().contains(predecessor) {
-            line.extend_from_slice(b" are successors of ")?;
-            push_named(line, replica, predecessor)?;
-            push_both_ways(line, replica, predecessor, node, others)?;
-        } else {
-            line.extend_from_slice(b" lead back to ")?;
-            push_short_id(line, predecessor)?;
-            line.extend_from_slice(b", which ")?;
-            line.extend_from_slice(self.name)?;
-            line.extend_from_slice(b" doesn't hold")?;
+        push_text(line, all_of(others))?;
+        if !replica.graph().contains(predecessor) {
+            return self.push_unheld(line, predecessor);
         }
-        write_line(line, writer)?;
-        Ok(())
+        push_about(line, b" are successors of ", replica, predecessor)?;
+        push_both_ways(line, replica, predecessor, node, others)
     }
+
+    // Appends from what it comes, where that isn't held.
+    fn push_unheld(&self, line: &mut Vec<u8>, predecessor: Node) -> Result<(), AllocError> {
+        push_text(line, b" lead back to ")?;
+        push_short_id(line, predecessor)?;
+        push_text(line, b", which ")?;
+        push_text(line, self.name)?;
+        push_text(line, b" doesn't hold")
+    }
+}
+
+// Appends words, and what a changeset is called.
+fn push_about(
+    line: &mut Vec<u8>,
+    words: &[u8],
+    replica: &Replica,
+    node: Node,
+) -> Result<(), AllocError> {
+    push_text(line, words)?;
+    push_named(line, replica, node)
+}
+
+// Appends by which parent a changeset is an orphan.
+fn push_orphan(
+    line: &mut Vec<u8>,
+    replica: &Replica,
+    parent: Node,
+    is_obsolete: bool,
+) -> Result<(), AllocError> {
+    push_about(line, b"  orphan: its parent ", replica, parent)?;
+    if !is_obsolete {
+        return push_text(line, b" is an orphan");
+    }
+    push_text(line, b" is obsolete,")?;
+    push_ways(line, replica, parent)
+}
+
+// Appends from which public changeset another one comes.
+fn push_phase_divergent(
+    line: &mut Vec<u8>,
+    replica: &Replica,
+    predecessor: Node,
+    node: Node,
+) -> Result<(), AllocError> {
+    push_text(line, b"  phase-divergent: it ")?;
+    push_way_from(line, replica, predecessor, node)?;
+    push_named(line, replica, predecessor)?;
+    push_text(line, b", which is public")
 }
 
 // Whether each of the successors sets has the changeset.
@@ -309,7 +368,7 @@ fn push_ways(line: &mut Vec<u8>, replica: &Replica, node: Node) -> Result<(), Al
         match replica.store().get(*place) {
             Some(marker) => {
                 let word = rewriting_word(marker);
-                line.extend_from_slice(divider)?;
+                push_text(line, divider)?;
                 push_other_word(line, word, before)?;
                 push_successors(line, replica, marker.successors())?;
                 before = word;
@@ -323,11 +382,11 @@ fn push_ways(line: &mut Vec<u8>, replica: &Replica, node: Node) -> Result<(), Al
 
 // Appends a word behind a blank, unless it is that of before.
 fn push_other_word(line: &mut Vec<u8>, word: &[u8], before: &[u8]) -> Result<(), AllocError> {
-    if word != before {
-        line.push(b' ')?;
-        line.extend_from_slice(word)?;
+    if word == before {
+        return Ok(());
     }
-    Ok(())
+    push_text(line, b" ")?;
+    push_text(line, word)
 }
 
 // Appends how a changeset was rewritten from the other, where one marker says that.
@@ -339,15 +398,11 @@ fn push_way_from(
 ) -> Result<(), AllocError> {
     match marker_between(replica, predecessor, node) {
         Some(marker) => {
-            line.extend_from_slice(b"was ")?;
-            line.extend_from_slice(rewriting_word(marker))?;
-            line.extend_from_slice(b" from ")?;
-            Ok(())
+            push_text(line, b"was ")?;
+            push_text(line, rewriting_word(marker))?;
+            push_text(line, b" from ")
         }
-        None => {
-            line.extend_from_slice(b"comes from ")?;
-            Ok(())
-        }
+        None => push_text(line, b"comes from "),
     }
 }
 
@@ -368,12 +423,11 @@ fn push_both_ways(
     let Some(another) = marker_between(replica, predecessor, other) else {
         return Ok(());
     };
-    line.extend_from_slice(b" (")?;
-    line.extend_from_slice(rewriting_word(marker))?;
-    line.extend_from_slice(b", ")?;
-    line.extend_from_slice(rewriting_word(another))?;
-    line.push(b')')?;
-    Ok(())
+    push_text(line, b" (")?;
+    push_text(line, rewriting_word(marker))?;
+    push_text(line, b", ")?;
+    push_text(line, rewriting_word(another))?;
+    push_text(line, b")")
 }
 
 // The first marker that rewrote the one to the other.

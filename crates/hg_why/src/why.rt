@@ -1,5 +1,5 @@
 //! The unstable changesets of a replica, each with what it is unstable by.
-ghost use Rattle.std.specs.Prelude.{◌<◌, OnOk, length};
+ghost use Rattle.std.specs.Prelude.{◌≡◌, ◌<◌, ◌++◌, OnOk, codes, length};
 ghost use Rattle.std.specs.Io.KnownBytes.{Appends};
 ghost use Rattle.hg_phases.specs.State.{changesets};
 ghost use Rattle.hg_log.specs.Drawings.{Grows, IsDrawnText, Text};
@@ -11,9 +11,9 @@ use crate::reason::Reason;
 use crate::remedy::Remedy;
 use crate::told::Telling;
 use hg_changeset::Node;
-use hg_log::{DrawFault, node_at, write_line};
+use hg_log::{DrawFault, node_at, push_text, write_appended};
 use hg_view::Kept;
-use std::alloc::Global;
+use std::alloc::{AllocError, Global};
 use std::io::Write;
 
 /// Writes why changesets of a replica are unstable: a line with what the replica is called, and for each unstable
@@ -49,9 +49,8 @@ pub fn write_why<W: Write>(
         × Appends (W.contents writer.old) (W.contents writer.new) text) }
 {
     let mut line = Vec::new(alloc);
-    line.extend_from_slice(b"why ")?;
-    line.extend_from_slice(name)?;
-    write_line(&mut line, writer)?;
+    let appended = push_heading(&mut line, name);
+    write_appended(appended, &mut line, writer)?;
     let telling = Telling {
         alloc,
         name,
@@ -63,6 +62,14 @@ pub fn write_why<W: Write>(
         write_at(&telling, place, &mut line, writer)?;
     }
     Ok(())
+}
+
+// Appends what the replica is called.
+fn push_heading(line: &mut Vec<u8>, name: &[u8]) -> Result<(), AllocError>
+    ensures { OnOk result (line.new.items ≡ line.old.items ++ (codes "why " ++ name.now)) }
+{
+    push_text(line, b"why ")?;
+    push_text(line, name)
 }
 
 // Writes the block of a place, by means of the empty line that is lent.
@@ -96,8 +103,8 @@ fn write_block<W: Write>(
     ensures { OnOk result ((text : Text) × IsDrawnText node text
         × Appends (W.contents writer.old) (W.contents writer.new) text) }
 {
-    push_named(line, telling.kept.replica(), node)?;
-    write_line(line, writer)?;
+    let appended = push_named(line, telling.kept.replica(), node);
+    write_appended(appended, line, writer)?;
     write_reasons(telling, node, reasons, line, writer)
 }
 

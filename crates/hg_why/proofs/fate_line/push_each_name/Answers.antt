@@ -10,4 +10,4 @@ loop-node-init c = none_appended (codes " ") (name_of (content_of c.args.replica
 pub loop-node-preserved : goal.loop-node-preserved
 loop-node-preserved c = next_appended (codes " ") (name_of (content_of c.args.replica.now)) c.args.nodes.now
     c.loop-node.node-index _ _ _ _ _ _ c.loop-node-test.true c.loop-node.invariant
-    c.in_ok-extend_from_slice.ensures.items c.in_ok-push_name.ensures
+    c.in_ok-push_text.ensures c.in_ok-push_name.ensures

@@ -20,12 +20,12 @@ pub loop-set-preserved : goal.loop-set-preserved
 loop-set-preserved c =
     let set : List Node → Text = set_text (name_of (content_of c.args.replica.now)) in
     let made : Vec Node Global → Text = λ v. set v.items in
-    let front = c.extend_from_slice.new.self.items in
+    let front = c.push_text.new.line.items in
     let item = c.set-item.result in
     let same = ap (λ (v : Vec Node Global). front ++ made v) c.set-item.is in
     let appended = c.in_ok-push_set.ensures ∙ ap (λ (ns : List Node). front ++ set ns) c.deref.ensures.value ∙ same in
     next_appended (codes " or ") made c.args.family.now c.loop-set.set-index item _ _ _ _ _ c.loop-set-test.true
-    c.loop-set.invariant c.in_ok-extend_from_slice.ensures.items appended
+    c.loop-set.invariant c.in_ok-push_text.ensures appended
 
 pub returns : goal.returns
 returns c =

@@ -1,8 +1,12 @@
 use Rattle.std.proofs.lemmas.Result.{on_ok_weaker}
 use Rattle.hg_log.proofs.DrawingLemmas.{drawn_text}
+use Rattle.hg_log.proofs.TextLemmas.{at_ok}
 use Rattle.hg_why.proofs.why.write_block.Goals as goal
 
 pub returns : goal.returns
-returns g c = on_ok_weaker c.write_reasons.result
-    (λ more. drawn_text c.args.node c.push_named.new.line.items _ _ _ c.in_ok-push_named.ensures
-    c.in_ok-write_line.ensures.written more) c.write_reasons.ensures
+returns g c =
+    let named = c.push_named-appended in
+    let written = c.in_ok-write_appended.ensures in
+    on_ok_weaker c.write_reasons.result
+    (drawn_text c.args.node named.new.line.items _ _ _ (at_ok named.result written.0 named.ensures) written.1)
+    c.write_reasons.ensures
